@@ -1,0 +1,13 @@
+pub mod Complete
+pub mod OneFault
+pub mod NoFault
+pub mod PrintedNames
+pub mod OneName
+pub mod Reading
+pub mod Faults
+pub mod Wholes
+pub mod Places
+pub mod Symbols
+pub mod PrintedLabels
+pub mod PrintedBytes
+pub mod WireLabels

@@ -1,0 +1,78 @@
+//! Algorithm numbers of DNSSEC.
+ghost use Rattle.std.specs.Prelude.{◌≡◌};
+
+use std::marker::Model;
+
+/// The algorithm of a key, by its number in IANA's registry of DNSSEC algorithms.
+///
+/// Every number is accepted, also one that the registry leaves free.
+#[derive(Clone, Copy, Debug, PartialEq, Eq, Hash)]
+pub struct SecurityAlgorithm {
+    number: u8,
+}
+
+impl Model for SecurityAlgorithm {
+    ghost use Rattle.std.specs.Prelude.{ℕ};
+
+    ghost Value = { ℕ };
+
+    ghost view = { λ algorithm. algorithm.number };
+
+    ghost inverse = { λ number. record { number = number } };
+}
+
+impl SecurityAlgorithm {
+    /// RSA with SHA-256 (RFC 5702).
+    pub const RSASHA256: SecurityAlgorithm = SecurityAlgorithm { number: 8 };
+
+    /// RSA with SHA-512 (RFC 5702).
+    pub const RSASHA512: SecurityAlgorithm = SecurityAlgorithm { number: 10 };
+
+    /// The curve P-256 with SHA-256 (RFC 6605).
+    pub const ECDSAP256SHA256: SecurityAlgorithm = SecurityAlgorithm { number: 13 };
+
+    /// The curve P-384 with SHA-384 (RFC 6605).
+    pub const ECDSAP384SHA384: SecurityAlgorithm = SecurityAlgorithm { number: 14 };
+
+    /// The Edwards curve Ed25519 (RFC 8080).
+    pub const ED25519: SecurityAlgorithm = SecurityAlgorithm { number: 15 };
+
+    /// The Edwards curve Ed448 (RFC 8080).
+    pub const ED448: SecurityAlgorithm = SecurityAlgorithm { number: 16 };
+
+    /// The algorithm with this number.
+    pub fn from_int(number: u8) -> Self
+        ensures { result ≡ number }
+    {
+        SecurityAlgorithm { number }
+    }
+
+    /// The number of the algorithm.
+    pub fn to_int(self) -> u8
+        ensures { result ≡ self }
+    {
+        self.number
+    }
+}
+
+#[cfg(test)]
+mod tests {
+    use super::*;
+
+    // The numbers are those of IANA's registry.
+    #[test]
+    fn has_the_registered_numbers(rt: HostRuntime) {
+        let registered = [
+            (SecurityAlgorithm::RSASHA256, 8),
+            (SecurityAlgorithm::RSASHA512, 10),
+            (SecurityAlgorithm::ECDSAP256SHA256, 13),
+            (SecurityAlgorithm::ECDSAP384SHA384, 14),
+            (SecurityAlgorithm::ED25519, 15),
+            (SecurityAlgorithm::ED448, 16),
+        ];
+        for (algorithm, number) in registered {
+            assert_eq!(rt; algorithm.to_int(), number);
+            assert_eq!(rt; SecurityAlgorithm::from_int(number), algorithm);
+        }
+    }
+}

@@ -1,0 +1,37 @@
+//! The labels of a name, printed.
+ghost use Rattle.std.specs.Prelude.{Some, flat_map};
+ghost use Rattle.dnssec_base.specs.NameText.{printed_byte};
+
+use std::fmt;
+
+/// A label that prints its bytes.
+#[derive(Clone, Copy)]
+pub struct Label<'a>(pub &'a [u8]);
+
+impl<'a> fmt::Display for Label<'a> {
+    ghost output = { λ label. Some (flat_map printed_byte label.0.now) };
+
+    fn fmt<W: fmt::Write>(&self, f: &mut fmt::Formatter<W>) -> fmt::Result {
+        for byte in self.0 {
+            write!(f, "{}", LabelByte(*byte))?;
+        }
+        Ok(())
+    }
+}
+
+/// A byte of a label, printed so that it reads back.
+#[derive(Clone, Copy)]
+struct LabelByte(u8);
+
+impl fmt::Display for LabelByte {
+    ghost output = { λ byte. Some (printed_byte byte.0) };
+
+    fn fmt<W: fmt::Write>(&self, f: &mut fmt::Formatter<W>) -> fmt::Result {
+        let byte = self.0;
+        match byte {
+            b'.' | b'\\' => write!(f, "\\{}", char::from(byte)),
+            b'!'..=b'~' => write!(f, "{}", char::from(byte)),
+            _ => write!(f, "\\{byte:03}"),
+        }
+    }
+}

@@ -1,0 +1,46 @@
+//! Names on the wire.
+ghost use Rattle.std.specs.Prelude.{◌≡◌, ◌↔◌, [], ◌∷◌, ◌++◌, IsTrue, IsNone, IfSome};
+ghost use Rattle.dnssec_base.specs.WireName.{IsWireName, AreLabels, IsLabel, wire_label};
+
+/// The most bytes of a label (RFC 1035, section 2.3.4).
+pub const MAX_LABEL: usize = 63;
+
+/// The most bytes of a name on the wire (RFC 1035, section 2.3.4).
+pub const MAX_NAME: usize = 255;
+
+/// Whether these bytes are a name on the wire.
+pub fn is_wire_name(octets: &[u8]) -> bool
+    ensures { IsTrue result ↔ IsWireName octets.now }
+{
+    octets.len() <= MAX_NAME && are_labels(octets)
+}
+
+/// Whether these bytes are whole labels up to the root, which ends them.
+#[tactic(auto, using(crate::proofs::WireLabels::label_front))]
+fn are_labels(octets: &[u8]) -> bool
+    ensures { IsTrue result ↔ AreLabels 0 octets.now }
+{
+    let mut rest = octets;
+    'labels: while let Some((_, after)) = split_label(rest) {
+        rest = after;
+    }
+    matches!(rest, [0])
+}
+
+/// The label at the front, without its length byte, and the bytes after it.
+#[tactic(auto, using(crate::proofs::WireLabels::front))]
+pub fn split_label(octets: &[u8]) -> Option<(&[u8], &[u8])>
+    ensures label { IfSome result (λ split. IsLabel split.0.now) }
+    ensures split { IfSome result (λ split.
+        octets.now ≡ wire_label split.0.now ++ split.1.now) }
+
+    // The root alone has no label at its front.
+    ensures root { IsNone result → AreLabels 0 octets.now → octets.now ≡ 0 ∷ [] }
+{
+    let (&length, after) = octets.split_first()?;
+    let length = usize::from(length);
+    if length == 0 || length > MAX_LABEL {
+        return None;
+    }
+    after.split_at_checked(length)
+}

@@ -1,0 +1,51 @@
+//! Timestamps of DNSSEC records.
+ghost use Rattle.std.specs.Prelude.{◌≡◌};
+
+use std::marker::Model;
+
+/// A timestamp as DNSSEC records hold it: whole seconds since the start of 1970 (RFC 4034, 3.1.5).
+#[derive(Clone, Copy, Debug, PartialEq, Eq)]
+pub struct Timestamp {
+    seconds: u32,
+}
+
+impl Model for Timestamp {
+    ghost use Rattle.std.specs.Prelude.{ℕ};
+
+    ghost Value = { ℕ };
+
+    ghost view = { λ timestamp. timestamp.seconds };
+
+    ghost inverse = { λ seconds. record { seconds = seconds } };
+}
+
+impl From<u32> for Timestamp {
+    ghost use Rattle.std.specs.Prelude.{◌≡◌};
+
+    ghost from_gives = { λ seconds timestamp. timestamp ≡ seconds };
+
+    fn from(seconds: u32) -> Self {
+        Timestamp { seconds }
+    }
+}
+
+impl Timestamp {
+    /// The seconds since the start of 1970.
+    pub fn into_int(self) -> u32
+        ensures { result ≡ self }
+    {
+        self.seconds
+    }
+}
+
+#[cfg(test)]
+mod tests {
+    use super::*;
+
+    #[test]
+    fn gives_its_number_back(rt: HostRuntime) {
+        for number in [0, 1, 0x8000_0000, u32::MAX] {
+            assert_eq!(rt; Timestamp::from(number).into_int(), number);
+        }
+    }
+}
