@@ -1,0 +1,16 @@
+pub mod Shown
+pub mod Walks
+pub mod Phases
+pub mod Quantified
+pub mod Lists
+pub mod Starts
+pub mod Marks
+pub mod Waits
+pub mod Steps
+pub mod Decimals
+pub mod Words
+pub mod After
+pub mod Allowed
+pub mod Laws
+pub mod Sides
+pub mod Exchange

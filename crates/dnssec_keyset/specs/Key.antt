@@ -1,0 +1,130 @@
+-- What a contract sees of a key, and which of its roles a sentence speaks of.
+use Rattle.std.specs.Prelude.{ℕ, List, Bool, true, false, not, ◌&&◌, ◌||◌, Option, None, Some}
+use Rattle.std.specs.Option.{option_map_or}
+use Rattle.dnssec_keyset.specs.declared.key.KeyType.{KeyType}
+use Rattle.dnssec_keyset.specs.declared.key.KeyType.TheVariants.{Ksk, Zsk, Csk, Include}
+use Rattle.dnssec_keyset.specs.declared.key.Available.{Available as Availability}
+use Rattle.dnssec_keyset.specs.declared.key.Available.TheVariants.{Available, NotAvailable}
+use Rattle.dnssec_keyset.specs.State.{Flags, Stamps, no_stamps}
+
+-- the parts of a key; a private reference is its bytes
+pub record KeyParts : Type 0 where
+  pub privref : Option (List ℕ)
+  pub decoupled : Bool
+  pub keytype : KeyType
+  pub algorithm : ℕ
+  pub key_tag : ℕ
+  pub timestamps : Stamps
+
+-- ---- the roles of a key (RFC 6781, section 3.1)
+
+-- the role of a KSK
+abbrev pub ksk_state : KeyType → Option Flags
+ksk_state (Ksk s) = Some s
+ksk_state (Zsk s) = None
+ksk_state (Csk s t) = None
+ksk_state (Include s) = None
+
+-- the role of a ZSK
+abbrev pub zsk_state : KeyType → Option Flags
+zsk_state (Ksk s) = None
+zsk_state (Zsk s) = Some s
+zsk_state (Csk s t) = None
+zsk_state (Include s) = None
+
+-- the KSK role of a KSK or a CSK
+abbrev pub ksk_role_state : KeyType → Option Flags
+ksk_role_state (Ksk s) = Some s
+ksk_role_state (Zsk s) = None
+ksk_role_state (Csk s t) = Some s
+ksk_role_state (Include s) = None
+
+-- the ZSK role of a ZSK or a CSK
+abbrev pub zsk_role_state : KeyType → Option Flags
+zsk_role_state (Ksk s) = None
+zsk_role_state (Zsk s) = Some s
+zsk_role_state (Csk s t) = Some t
+zsk_role_state (Include s) = None
+
+-- the state by which a key of the set is in the DNSKEY set or not: of a CSK that of its KSK role
+abbrev pub key_state : KeyType → Option Flags
+key_state (Ksk s) = Some s
+key_state (Zsk s) = Some s
+key_state (Csk s t) = Some s
+key_state (Include s) = None
+
+-- the same of the keys that can sign the zone
+abbrev pub zone_key_state : KeyType → Option Flags
+zone_key_state (Ksk s) = None
+zone_key_state (Zsk s) = Some s
+zone_key_state (Csk s t) = Some s
+zone_key_state (Include s) = None
+
+-- a key that has the role, in a state that passes
+abbrev pub ksk : (Flags → Bool) → KeyType → Bool
+ksk p k = option_map_or p (ksk_state k) false
+
+abbrev pub zsk : (Flags → Bool) → KeyType → Bool
+zsk p k = option_map_or p (zsk_state k) false
+
+abbrev pub ksk_role : (Flags → Bool) → KeyType → Bool
+ksk_role p k = option_map_or p (ksk_role_state k) false
+
+abbrev pub zsk_role : (Flags → Bool) → KeyType → Bool
+zsk_role p k = option_map_or p (zsk_role_state k) false
+
+abbrev pub any_key : (Flags → Bool) → KeyType → Bool
+any_key p k = option_map_or p (key_state k) false
+
+abbrev pub zone_key : (Flags → Bool) → KeyType → Bool
+zone_key p k = option_map_or p (zone_key_state k) false
+
+abbrev pub every_key : KeyType → Bool
+every_key k = true
+
+abbrev pub no_key : KeyType → Bool
+no_key k = false
+
+abbrev pub either : (KeyType → Bool) → (KeyType → Bool) → KeyType → Bool
+either p q k = p k || q k
+
+-- each state of the key passes, also that of another signer's key
+abbrev pub all_states : (Flags → Bool) → KeyType → Bool
+all_states p (Ksk s) = p s
+all_states p (Zsk s) = p s
+all_states p (Csk s t) = p s && p t
+all_states p (Include s) = p s
+
+-- the only state of a key, or that of its KSK role
+abbrev pub first_state : KeyType → Flags
+first_state (Ksk s) = s
+first_state (Zsk s) = s
+first_state (Csk s t) = s
+first_state (Include s) = s
+
+-- ---- a new key
+
+abbrev pub is_available : Availability → Bool
+is_available Available = true
+is_available NotAvailable = false
+
+-- no flag but the one that lets it come in
+abbrev pub new_state : Bool → Flags
+new_state available = record {
+  available = available;
+  old = false;
+  signer = false;
+  present = false;
+  at_parent = false;
+}
+
+-- a key that was only made
+abbrev pub new_key : Option (List ℕ) → KeyType → ℕ → ℕ → ℕ → KeyParts
+new_key privref keytype algorithm key_tag created = record {
+  privref = privref;
+  decoupled = false;
+  keytype = keytype;
+  algorithm = algorithm;
+  key_tag = key_tag;
+  timestamps = record no_stamps { creation = Some created };
+}

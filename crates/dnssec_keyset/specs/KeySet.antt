@@ -1,0 +1,126 @@
+-- What a contract sees of a key set: its name, its keys by reference, and its rolls in progress.
+use Rattle.std.specs.Prelude.{◌≡◌, ℕ, List, map, Bool, not, ◌&&◌, Option, None, if◌then◌else◌}
+use Rattle.std.specs.Prelude.{nat_eq, string_bytes}
+use Rattle.std.specs.declared.string.String.{String}
+use Rattle.std.specs.Ordering.{nat_cmp}
+use Rattle.std.specs.Cmp.Lexicographic.{slice_cmp}
+use Rattle.std.specs.FinMap.{FinMap, from_entries, entries, values, empty, get, code}
+use Rattle.std.specs.List.{list_any}
+use Rattle.std.specs.Option.{option_map}
+use Rattle.std.specs.Str.{bytes_eq}
+use Rattle.std.specs.Coded.{Coded, coded_list, coded_ℕ}
+use Rattle.std.specs.HashMap.{HashMap}
+use Rattle.std.specs.Map.{lookup}
+use Rattle.dnssec_keyset.specs.declared.roll.RollType.{RollType}
+use Rattle.dnssec_keyset.specs.declared.roll.RollType.TheVariants.{KskRoll, KskDoubleDsRoll}
+use Rattle.dnssec_keyset.specs.declared.roll.RollType.TheVariants.{ZskRoll, ZskDoubleSignatureRoll}
+use Rattle.dnssec_keyset.specs.declared.roll.RollType.TheVariants.{CskRoll, AlgorithmRoll}
+use Rattle.dnssec_keyset.specs.declared.roll.RollState.{RollState}
+use Rattle.dnssec_keyset.specs.Key.{KeyParts}
+
+-- the keys by the bytes of their references
+abbrev pub Keys : Type 0
+Keys = FinMap (slice_cmp nat_cmp) KeyParts
+
+-- how they are stored, from how a key is
+abbrev pub keys_code : Coded KeyParts → Coded Keys
+keys_code c = code (coded_list coded_ℕ) c
+
+-- some key passes
+abbrev pub some_key : (KeyParts → Bool) → Keys → Bool
+some_key p keys = list_any p (values keys)
+
+-- some key passes, read with its reference
+abbrev pub some_entry : (List ℕ → KeyParts → Bool) → Keys → Bool
+some_entry p keys = list_any (λ e. p e.0 e.1) (entries keys)
+
+-- ---- rolls
+
+-- the phase of each roll, where it is in progress
+pub record Rolls : Type 0 where
+  pub ksk_roll : Option RollState
+  pub ksk_double_ds_roll : Option RollState
+  pub zsk_roll : Option RollState
+  pub zsk_double_signature_roll : Option RollState
+  pub csk_roll : Option RollState
+  pub algorithm_roll : Option RollState
+
+-- the phase of one roll, where it is in progress
+abbrev pub phase_of : Rolls → RollType → Option RollState
+phase_of r KskRoll = r.ksk_roll
+phase_of r KskDoubleDsRoll = r.ksk_double_ds_roll
+phase_of r ZskRoll = r.zsk_roll
+phase_of r ZskDoubleSignatureRoll = r.zsk_double_signature_roll
+phase_of r CskRoll = r.csk_roll
+phase_of r AlgorithmRoll = r.algorithm_roll
+
+-- the rolls whose phases f tells
+abbrev pub rolls_by : (RollType → Option RollState) → Rolls
+rolls_by f = record {
+  ksk_roll = f KskRoll;
+  ksk_double_ds_roll = f KskDoubleDsRoll;
+  zsk_roll = f ZskRoll;
+  zsk_double_signature_roll = f ZskDoubleSignatureRoll;
+  csk_roll = f CskRoll;
+  algorithm_roll = f AlgorithmRoll;
+}
+
+-- no roll is in progress
+abbrev pub no_rolls : Rolls
+no_rolls = rolls_by (λ roll. None)
+
+abbrev pub roll_number : RollType → ℕ
+roll_number KskRoll = 0
+roll_number KskDoubleDsRoll = 1
+roll_number ZskRoll = 2
+roll_number ZskDoubleSignatureRoll = 3
+roll_number CskRoll = 4
+roll_number AlgorithmRoll = 5
+
+abbrev pub same_roll : RollType → RollType → Bool
+same_roll a b = nat_eq (roll_number a) (roll_number b)
+
+-- the rolls with one of them put into a phase, or taken out
+abbrev pub with_phase : Rolls → RollType → Option RollState → Rolls
+with_phase r roll phase =
+    rolls_by (λ other. if same_roll roll other then phase else phase_of r other)
+
+-- ---- the whole set
+
+pub record KeySetParts : Type 0 where
+  pub name : List ℕ  -- the zone's name on the wire
+  pub keys : Keys
+  pub rolls : Rolls
+
+-- a set without keys and rolls
+abbrev pub new_set : List ℕ → KeySetParts
+new_set name = record { name = name; keys = empty; rolls = no_rolls }
+
+-- only the key at the reference is another one, or none
+pub record PutsKey (old new : KeySetParts) (reference : List ℕ) (key : Option KeyParts)
+    : Type 0 where
+  pub name : new.name ≡ old.name
+  pub rolls : new.rolls ≡ old.rolls
+  pub keys : (q : List ℕ) → get new.keys q ≡ (if bytes_eq reference q then key else get old.keys q)
+
+-- every key goes by f, none comes or goes, and the roll is in the phase, or no longer in progress
+pub record MovesOn (old new : KeySetParts) (roll : RollType) (phase : Option RollState)
+    (f : List ℕ → KeyParts → KeyParts) : Type 0 where
+  pub name : new.name ≡ old.name
+  pub rolls : new.rolls ≡ with_phase old.rolls roll phase
+  pub keys : (q : List ℕ) → get new.keys q ≡ option_map (f q) (get old.keys q)
+
+-- ---- the hash maps that a key set holds
+
+module _ {Y S : Type 0} where
+  abbrev pub entries_by_bytes : HashMap (String Y) KeyParts S → List (List ℕ × KeyParts)
+  entries_by_bytes m = map (λ e. (string_bytes e.0, e.1)) m.entries
+
+  -- the keys of a hash map, in the order of their references
+  abbrev pub keys_shown : HashMap (String Y) KeyParts S → Keys
+  keys_shown m = from_entries (entries_by_bytes m)
+
+module _ {S : Type 0} where
+  -- the phases of a hash map
+  abbrev pub rolls_shown : HashMap RollType RollState S → Rolls
+  rolls_shown m = rolls_by (λ r. lookup (same_roll r) m.entries)

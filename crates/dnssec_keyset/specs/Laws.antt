@@ -1,0 +1,56 @@
+-- What holds of a key set after any calls, and of calls on different sides.
+use Rattle.std.specs.Prelude.{◌≡◌, ◌≢◌, ℕ, Bool, true, false, List, Option, None, Some, ◌⊎◌}
+use Rattle.std.specs.Prelude.{is_some}
+use Rattle.std.specs.FinMap.{get}
+use Rattle.dnssec_keyset.specs.declared.roll.RollType.{RollType}
+use Rattle.dnssec_keyset.specs.Key.{KeyParts}
+use Rattle.dnssec_keyset.specs.declared.error.Error.TheVariants.{OutOfMemory}
+use Rattle.dnssec_keyset.specs.KeySet.{Keys, KeySetParts, Rolls, phase_of, same_roll}
+use Rattle.dnssec_keyset.specs.Start.{lists_kind, side_of, together}
+use Rattle.dnssec_keyset.specs.Step.{Call, StartRoll, Report, Wait, RollDone, Reply, Refused, Step}
+
+-- no two keys have one tag
+abbrev pub TagsApart : Keys → Type 0
+TagsApart keys = (q r : List ℕ) (k l : KeyParts) →
+    get keys q ≡ Some k → get keys r ≡ Some l → k.key_tag ≡ l.key_tag → q ≡ r
+
+abbrev pub in_progress : Rolls → RollType → Bool
+in_progress rolls roll = is_some (phase_of rolls roll)
+
+-- any two rolls in progress may be so together: one changes KSKs alone, and the other ZSKs alone
+abbrev pub RollsTogether : Rolls → Type 0
+RollsTogether rolls = (a b : RollType) → in_progress rolls a ≡ true → in_progress rolls b ≡ true →
+    (same_roll a b ≡ true) ⊎ (together a b ≡ true)
+
+-- the roll that a call is on, if any
+abbrev pub roll_of : Call → Option RollType
+roll_of (StartRoll roll olds news now) = Some roll
+roll_of (Report roll half ttl now) = Some roll
+roll_of (Wait roll half now) = Some roll
+roll_of (RollDone roll) = Some roll
+roll_of _ = None
+
+-- a call on a roll leaves every key as it was that the roll doesn't change: one of KSKs alone each
+-- key that isn't a KSK, one of ZSKs alone each key that isn't a ZSK, and any roll each key of
+-- another signer
+abbrev pub LeavesOthers : KeySetParts → Call → KeySetParts → Type 0
+LeavesOthers old call new = (roll : RollType) (q : List ℕ) (k : KeyParts) →
+    roll_of call ≡ Some roll →
+    get old.keys q ≡ Some k → lists_kind (side_of roll) k.keytype ≡ false → get new.keys q ≡ Some k
+
+-- two calls, of rolls that may be in progress together, are each answered, and with memory
+pub record AreApart (first second : Call) (reply_first reply_second : Reply) : Type 0 where
+  pub roll_first : RollType
+  pub roll_second : RollType
+  pub first_is : roll_of first ≡ Some roll_first
+  pub second_is : roll_of second ≡ Some roll_second
+  pub apart : together roll_first roll_second ≡ true
+  pub memory_first : reply_first ≢ Refused OutOfMemory
+  pub memory_second : reply_second ≢ Refused OutOfMemory
+
+-- the two calls may be made in the other order, with the same replies, and end in the same set
+pub record MayBeExchanged (before after : KeySetParts) (first second : Call)
+    (reply_first reply_second : Reply) : Type 0 where
+  pub between : KeySetParts
+  pub second_step : Step before second reply_second between
+  pub first_step : Step between first reply_first after

@@ -1,0 +1,11 @@
+pub mod Moment
+pub mod State
+pub mod Key
+pub mod KeySet
+pub mod RollTable
+pub mod Start
+pub mod Setters
+pub mod Wait
+pub mod Step
+pub mod Laws
+pub mod Texts

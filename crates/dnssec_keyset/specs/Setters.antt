@@ -1,0 +1,125 @@
+-- The calls on single keys: what each setter changes, and what it is refused for; and deletion.
+use Rattle.std.specs.Prelude.{◌≡◌, ℕ, Bool, true, false, ◌||◌, Option, None, Some, List}
+use Rattle.std.specs.Prelude.{if◌then◌else◌, is_some}
+use Rattle.std.specs.Option.{option_map}
+use Rattle.std.specs.Str.{bytes_eq}
+use Rattle.std.specs.FinMap.{get}
+use Rattle.dnssec_keyset.specs.declared.key.KeyType.{KeyType}
+use Rattle.dnssec_keyset.specs.declared.key.KeyType.TheVariants.{Ksk, Zsk, Csk, Include}
+use Rattle.dnssec_keyset.specs.declared.key.Setting.{Setting as SettingOfCode}
+use Rattle.dnssec_keyset.specs.declared.key.Setting.TheVariants as code
+use Rattle.dnssec_keyset.specs.declared.error.Error.{Error}
+use Rattle.dnssec_keyset.specs.declared.error.Error.TheVariants.{KeyNotFound, KeyNotOld}
+use Rattle.dnssec_keyset.specs.declared.error.Error.TheVariants.{WrongKeyType}
+use Rattle.dnssec_keyset.specs.State.{Flags, is_any, is_stale}
+use Rattle.dnssec_keyset.specs.Key.{KeyParts, all_states, ksk_role, any_key}
+use Rattle.dnssec_keyset.specs.KeySet.{KeySetParts}
+
+-- what a setter sets
+pub data Setting : Type 0 where
+  Decoupled : Bool → Setting
+  Present : Bool → ℕ → Setting  -- at this moment
+  Signer : Bool → Setting
+  AtParent : Bool → Setting
+  Stale : Setting
+  VisibleAt : ℕ → Setting
+  DsVisibleAt : ℕ → Setting
+  RrsigVisibleAt : ℕ → Setting
+
+-- the setting that the code means
+abbrev pub meant : SettingOfCode → Setting
+meant (code.Decoupled value) = Decoupled value
+meant (code.Present value now) = Present value now
+meant (code.Signer value) = Signer value
+meant (code.AtParent value) = AtParent value
+meant code.Stale = Stale
+meant (code.VisibleAt time) = VisibleAt time
+meant (code.DsVisibleAt time) = DsVisibleAt time
+meant (code.RrsigVisibleAt time) = RrsigVisibleAt time
+
+-- ---- what a setter changes
+
+-- f at each state of the key, also at that of another signer's key
+abbrev pub at_states : (Flags → Flags) → KeyType → KeyType
+at_states f (Ksk s) = Ksk (f s)
+at_states f (Zsk s) = Zsk (f s)
+at_states f (Csk s t) = Csk (f s) (f t)
+at_states f (Include s) = Include (f s)
+
+-- f at the KSK role alone
+abbrev pub at_ksk_role : (Flags → Flags) → KeyType → KeyType
+at_ksk_role f (Ksk s) = Ksk (f s)
+at_ksk_role f (Zsk s) = Zsk s
+at_ksk_role f (Csk s t) = Csk (f s) t
+at_ksk_role f (Include s) = Include s
+
+abbrev pub with_present : Bool → Flags → Flags
+with_present value s = record s { present = value }
+
+abbrev pub with_signer : Bool → Flags → Flags
+with_signer value s = record s { signer = value }
+
+abbrev pub with_at_parent : Bool → Flags → Flags
+with_at_parent value s = record s { at_parent = value }
+
+abbrev pub turned_stale : Flags → Flags
+turned_stale s = record s { old = true; signer = false; present = false; at_parent = false }
+
+-- a key that is put into the DNSKEY set was published then, unless it was before
+abbrev pub first_published : Bool → ℕ → Option ℕ → Option ℕ
+first_published true now None = Some now
+first_published true now (Some before) = Some before
+first_published false now before = before
+
+-- a key after a setter
+abbrev pub set_by : Setting → KeyParts → KeyParts
+set_by (Decoupled value) k = record k { decoupled = value }
+set_by (Present value now) k = record k {
+  keytype = at_states (with_present value) k.keytype;
+  timestamps = record k.timestamps { published = first_published value now k.timestamps.published };
+}
+set_by (Signer value) k = record k { keytype = at_states (with_signer value) k.keytype }
+set_by (AtParent value) k = record k { keytype = at_ksk_role (with_at_parent value) k.keytype }
+set_by Stale k = record k { keytype = at_states turned_stale k.keytype }
+set_by (VisibleAt time) k = record k { timestamps = record k.timestamps { visible = Some time } }
+set_by (DsVisibleAt time) k = record k {
+  timestamps = record k.timestamps
+      { ds_visible = Some time };
+}
+set_by (RrsigVisibleAt time) k =
+    record k { timestamps = record k.timestamps { rrsig_visible = Some time } }
+
+-- ---- what it is refused for
+
+-- another signer's key signs nothing here, and only a KSK role has a DS record
+abbrev pub suits_kind : Setting → KeyType → Bool
+suits_kind (Decoupled value) k = true
+suits_kind (Present value now) k = true
+suits_kind (Signer value) k = any_key is_any k
+suits_kind (AtParent value) k = ksk_role is_any k
+suits_kind Stale k = true
+suits_kind (VisibleAt time) k = true
+suits_kind (DsVisibleAt time) k = true
+suits_kind (RrsigVisibleAt time) k = true
+
+-- why a key refuses a setter
+abbrev pub kind_refusal : Setting → KeyType → Option Error
+kind_refusal setting k = if suits_kind setting k then None else Some WrongKeyType
+
+-- why a setter is refused, with the key that it names
+abbrev pub setting_refusal : Setting → Option KeyParts → Option Error
+setting_refusal setting None = Some KeyNotFound
+setting_refusal setting (Some k) = kind_refusal setting k.keytype
+
+-- why a deletion is refused: only a key that has left in every role may go
+abbrev pub deletion_refusal : Option KeyParts → Option Error
+deletion_refusal None = Some KeyNotFound
+deletion_refusal (Some k) = if all_states is_stale k.keytype then None else Some KeyNotOld
+
+-- only the key at the reference is changed, by f
+pub record ChangesKey (old new : KeySetParts) (reference : List ℕ) (f : KeyParts → KeyParts)
+    : Type 0 where
+  pub name : new.name ≡ old.name
+  pub rolls : new.rolls ≡ old.rolls
+  pub keys : (q : List ℕ) →
+      get new.keys q ≡ option_map (λ k. if bytes_eq reference q then f k else k) (get old.keys q)

@@ -1,0 +1,96 @@
+-- What a contract sees of one role of a key, and of its stamps. The words for a role are the
+-- operator's.
+use Rattle.std.specs.Prelude.{ℕ, Bool, true, false, not, ◌&&◌, ◌||◌, Option, None}
+
+-- the flags of one role of a key (RFC 6781, section 3.1: KSK, ZSK and both in one)
+pub record Flags : Type 0 where
+  pub available : Bool  -- may come in by a roll
+  pub old : Bool  -- is on its way out
+  pub signer : Bool  -- signs the DNSKEY set, or the zone
+  pub present : Bool  -- is in the DNSKEY set
+  pub at_parent : Bool  -- has a DS record at the parent
+
+-- in use in some way (nothing of it is left in the zone or at the parent, where this fails)
+abbrev pub is_used : Flags → Bool
+is_used s = s.signer || s.present || s.at_parent
+
+-- may come in, and has not begun to
+abbrev pub is_fresh : Flags → Bool
+is_fresh s = s.available && not s.old && not (is_used s)
+
+-- has not begun to come in
+abbrev pub is_future : Flags → Bool
+is_future s = not s.old && not (is_used s)
+
+-- a ZSK role that does its work
+abbrev pub is_active_zsk : Flags → Bool
+is_active_zsk s = not s.old && s.present && s.signer
+
+-- a KSK role that does its work, with its DS at the parent
+abbrev pub is_active_ksk : Flags → Bool
+is_active_ksk s = is_active_zsk s && s.at_parent
+
+-- has left, so that the key may be deleted
+abbrev pub is_stale : Flags → Bool
+is_stale s = s.old && not (is_used s)
+
+-- is leaving, and not yet gone
+abbrev pub is_leaving : Flags → Bool
+is_leaving s = s.old && is_used s
+
+-- ---- tests that the tables of the rolls name: kept is what is not old
+
+abbrev pub is_any : Flags → Bool
+is_any s = true
+
+abbrev pub is_old : Flags → Bool
+is_old s = s.old
+
+abbrev pub is_signer : Flags → Bool
+is_signer s = s.signer
+
+abbrev pub is_present : Flags → Bool
+is_present s = s.present
+
+abbrev pub is_at_parent : Flags → Bool
+is_at_parent s = s.at_parent
+
+abbrev pub kept_present : Flags → Bool
+kept_present s = not s.old && s.present
+
+abbrev pub kept_signing : Flags → Bool
+kept_signing s = not s.old && s.signer
+
+abbrev pub kept_at_parent : Flags → Bool
+kept_at_parent s = not s.old && s.at_parent
+
+abbrev pub old_present : Flags → Bool
+old_present s = s.old && s.present
+
+abbrev pub old_at_parent : Flags → Bool
+old_at_parent s = s.old && s.at_parent
+
+abbrev pub old_silent : Flags → Bool
+old_silent s = s.old && not s.signer
+
+-- ---- stamps
+
+-- when a key passed the stages of its life, where it did (RFC 7583, section 3: the events of a key)
+pub record Stamps : Type 0 where
+  pub creation : Option ℕ  -- made
+  pub published : Option ℕ  -- put into the DNSKEY set
+  pub visible : Option ℕ  -- seen there by all
+  pub ds_visible : Option ℕ  -- its DS seen by all
+  pub rrsig_visible : Option ℕ  -- its signatures seen by all
+  pub withdrawn : Option ℕ  -- taken out
+
+-- no stage passed
+abbrev pub no_stamps : Stamps
+no_stamps = record {
+  creation = None;
+  published = None;
+  visible = None;
+  ds_visible = None;
+  rrsig_visible = None;
+  withdrawn = None;
+}

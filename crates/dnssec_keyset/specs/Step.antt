@@ -1,0 +1,217 @@
+-- The allowed step: from a key set, which reply a call may have and which key set it then leaves. A
+-- cause is answered before anything is changed; without one the call is accepted, or has run out of
+-- memory where it takes some, and then too nothing is changed.
+use Rattle.std.specs.Prelude.{◌≡◌, ◌≢◌, ℕ, Bool, true, false, Option, None, Some, List, [], ◌∷◌}
+use Rattle.std.specs.Prelude.{map, ◌⊎◌, Result, Ok, Err, IsOk, if◌then◌else◌, is_some, nat_eq}
+use Rattle.std.specs.declared.vec.Vec.{Vec}
+use Rattle.std.specs.Global.{Global}
+use Rattle.std.specs.Duration.{as_nanos}
+use Rattle.std.specs.declared.time.Duration.{Duration}
+use Rattle.std.specs.FinMap.{get, insert, remove, entries, from_entries}
+use Rattle.std.specs.Str.{bytes_eq}
+use Rattle.dnssec_keyset.specs.declared.roll.RollType.{RollType}
+use Rattle.dnssec_keyset.specs.declared.roll.RollState.{RollState}
+use Rattle.dnssec_keyset.specs.declared.roll.RollState.TheVariants.{Propagation1, CacheExpire1}
+use Rattle.dnssec_keyset.specs.declared.roll.RollState.TheVariants.{Propagation2, CacheExpire2}
+use Rattle.dnssec_keyset.specs.declared.roll.RollState.TheVariants.{Done as Finishing}
+use Rattle.dnssec_keyset.specs.declared.roll.Action.{Action}
+use Rattle.dnssec_keyset.specs.declared.error.Error.{Error}
+use Rattle.dnssec_keyset.specs.declared.error.Error.TheVariants.{KeyExists, DuplicateKeyTag}
+use Rattle.dnssec_keyset.specs.declared.error.Error.TheVariants.{WrongKeyState}
+use Rattle.dnssec_keyset.specs.declared.error.Error.TheVariants.{WrongStateForRollOperation}
+use Rattle.dnssec_keyset.specs.declared.error.Error.TheVariants.{Wait as WaitFor, OutOfMemory}
+use Rattle.dnssec_keyset.specs.Key.{KeyParts}
+use Rattle.dnssec_keyset.specs.KeySet.{Keys, KeySetParts, PutsKey, MovesOn, phase_of, with_phase}
+use Rattle.dnssec_keyset.specs.KeySet.{some_key}
+use Rattle.dnssec_keyset.specs.RollTable.{Half, First, Second, after_start, after_report}
+use Rattle.dnssec_keyset.specs.RollTable.{after_wait, actions_of, spreading, expiring, behind}
+use Rattle.dnssec_keyset.specs.Setters.{Setting, ChangesKey, set_by, setting_refusal}
+use Rattle.dnssec_keyset.specs.Setters.{deletion_refusal}
+use Rattle.dnssec_keyset.specs.Start.{start_refusal, is_listed}
+use Rattle.dnssec_keyset.specs.Wait.{ttl_in, lacks_stamp, is_early, time_left, IsLongest}
+
+-- ---- verdicts
+
+-- some key has the tag (RFC 4034, appendix B: tags are 16 bits, and two keys may share one; here
+-- they may not)
+abbrev pub has_tag : ℕ → Keys → Bool
+has_tag tag = some_key (λ k. nat_eq k.key_tag tag)
+
+-- why an add of a key is refused: first its tag, then its reference
+abbrev pub add_refusal : Keys → List ℕ → ℕ → Option Error
+add_refusal keys reference tag =
+    if has_tag tag keys then Some DuplicateKeyTag
+    else (if is_some (get keys reference) then Some KeyExists else None)
+
+-- why a report is refused: it belongs to the phase in which its change spreads
+abbrev pub report_refusal : Half → Option RollState → Option Error
+report_refusal First (Some Propagation1) = None
+report_refusal Second (Some Propagation2) = None
+report_refusal half _ = Some WrongStateForRollOperation
+
+-- why the end of a roll is refused: it belongs to its last phase
+abbrev pub end_refusal : Option RollState → Option Error
+end_refusal (Some Finishing) = None
+end_refusal _ = Some WrongStateForRollOperation
+
+-- what a call is told: a cause against it, that it comes too early (with the time left for each
+-- key), or neither
+pub data Verdict : Type 0 where
+  Barred : Error → Verdict
+  Early : (KeyParts → Option ℕ) → Verdict
+  Clear : Verdict
+
+abbrev pub barred_by : Option Error → Verdict
+barred_by None = Clear
+barred_by (Some cause) = Barred cause
+
+-- a wait with this TTL: a missing stamp first, then the time that is left
+abbrev pub wait_in_phase : RollType → Half → Option ℕ → ℕ → Keys → Verdict
+wait_in_phase roll half None now keys = Barred WrongStateForRollOperation
+wait_in_phase roll half (Some ttl) now keys =
+    let left = time_left roll half ttl now in
+    if lacks_stamp left keys then Barred WrongKeyState
+    else (if is_early left keys then Early left else Clear)
+
+abbrev pub wait_verdict : RollType → Half → ℕ → KeySetParts → Verdict
+wait_verdict roll half now set =
+    wait_in_phase roll half (ttl_in half (phase_of set.rolls roll)) now set.keys
+
+-- ---- what a call answers
+
+-- a call that takes no memory answers its cause, and is accepted without one
+abbrev pub AnswersExactly : {T : Type 0} → Option Error → Result T Error → Type 0
+AnswersExactly (Some cause) r = r ≡ Err cause
+AnswersExactly None r = IsOk r
+
+-- a call that takes memory may also run out of it, but only where there is no cause
+abbrev pub Answers : {T : Type 0} → Option Error → Result T Error → Type 0
+Answers (Some cause) r = r ≡ Err cause
+Answers None r = IsOk r ⊎ (r ≡ Err OutOfMemory)
+
+-- the answer is to wait for the longest of the times that are left
+abbrev pub IsToldToWait : {T : Type 0} → (KeyParts → Option ℕ) → Keys → Result T Error → Type 0
+IsToldToWait left keys r = (d : Duration) × (r ≡ Err (WaitFor d)) × IsLongest left keys (as_nanos d)
+
+-- a wait answers its verdict; it takes memory only where it has a list of actions to answer
+abbrev pub AnswersWait : {T : Type 0} → Verdict → Keys → List Action → Result T Error → Type 0
+AnswersWait (Barred cause) keys actions r = r ≡ Err cause
+AnswersWait (Early left) keys actions r = IsToldToWait left keys r
+AnswersWait Clear keys [] r = IsOk r
+AnswersWait Clear keys (action ∷ actions) r = IsOk r ⊎ (r ≡ Err OutOfMemory)
+
+-- ---- the step
+
+-- the calls that can change a key set
+pub data Call : Type 0 where
+  AddKey : List ℕ → KeyParts → Call
+  Set : List ℕ → Setting → Call
+  DeleteKey : List ℕ → Call
+  StartRoll : RollType → List (List ℕ) → List (List ℕ) → ℕ → Call
+  Report : RollType → Half → ℕ → ℕ → Call
+  Wait : RollType → Half → ℕ → Call
+  RollDone : RollType → Call
+
+pub data Reply : Type 0 where
+  Done : Reply
+  Actions : List Action → Reply
+  Refused : Error → Reply
+
+-- what a call of `KeySet` answered, as a reply
+abbrev pub reply_done : Result (Unit {0}) Error → Reply
+reply_done (Ok u) = Done
+reply_done (Err cause) = Refused cause
+
+abbrev pub reply_list : Result (Vec Action Global) Error → Reply
+reply_list (Ok actions) = Actions actions.items
+reply_list (Err cause) = Refused cause
+
+abbrev pub verdict : KeySetParts → Call → Verdict
+verdict set (AddKey reference key) = barred_by (add_refusal set.keys reference key.key_tag)
+verdict set (Set reference setting) = barred_by (setting_refusal setting (get set.keys reference))
+verdict set (DeleteKey reference) = barred_by (deletion_refusal (get set.keys reference))
+verdict set (StartRoll roll olds news now) = barred_by (start_refusal roll set olds news)
+verdict set (Report roll half ttl now) = barred_by (report_refusal half (phase_of set.rolls roll))
+verdict set (Wait roll half now) = wait_verdict roll half now set
+verdict set (RollDone roll) = barred_by (end_refusal (phase_of set.rolls roll))
+
+-- what an accepted call answers: the actions that are due in the phase behind it
+abbrev pub accepted_reply : Call → Reply
+accepted_reply (AddKey reference key) = Done
+accepted_reply (Set reference setting) = Done
+accepted_reply (DeleteKey reference) = Done
+accepted_reply (StartRoll roll olds news now) = Actions (actions_of roll Propagation1)
+accepted_reply (Report roll half ttl now) = Actions []
+accepted_reply (Wait roll half now) = Actions (actions_of roll (behind half))
+accepted_reply (RollDone roll) = Actions []
+
+-- what an accepted call changes
+abbrev pub Changes : KeySetParts → Call → KeySetParts → Type 0
+Changes old (AddKey reference key) new = PutsKey old new reference (Some key)
+Changes old (Set reference setting) new = ChangesKey old new reference (set_by setting)
+Changes old (DeleteKey reference) new = PutsKey old new reference None
+Changes old (StartRoll roll olds news now) new =
+    MovesOn old new roll (Some Propagation1)
+    (λ q. after_start roll now (is_listed olds q) (is_listed news q))
+Changes old (Report roll half ttl now) new =
+    MovesOn old new roll (Some (expiring half ttl)) (λ q. after_report roll half now)
+Changes old (Wait roll half now) new =
+    MovesOn old new roll (Some (behind half)) (λ q. after_wait roll half now)
+Changes old (RollDone roll) new = MovesOn old new roll None (λ q k. k)
+
+-- the calls that take memory: adds, starts, and waits with a list to answer
+abbrev pub TakesMemory : Call → Type 0
+TakesMemory (AddKey reference key) = Unit {0}
+TakesMemory (Set reference setting) = ⊥
+TakesMemory (DeleteKey reference) = ⊥
+TakesMemory (StartRoll roll olds news now) = Unit {0}
+TakesMemory (Report roll half ttl now) = ⊥
+TakesMemory (Wait roll half now) = actions_of roll (behind half) ≢ []
+TakesMemory (RollDone roll) = ⊥
+
+-- a call with this verdict may have the reply and leave new
+abbrev pub StepBy : Verdict → KeySetParts → Call → Reply → KeySetParts → Type 0
+StepBy (Barred cause) old call reply new = (reply ≡ Refused cause) × (new ≡ old)
+StepBy (Early left) old call reply new =
+    ((d : Duration) × (reply ≡ Refused (WaitFor d)) × IsLongest left old.keys (as_nanos d)) ×
+    (new ≡ old)
+StepBy Clear old call reply new =
+    ((reply ≡ accepted_reply call) × Changes old call new)
+    ⊎ (TakesMemory call × (reply ≡ Refused OutOfMemory) × (new ≡ old))
+
+-- from old, the call may have the reply and leave new
+abbrev pub Step : KeySetParts → Call → Reply → KeySetParts → Type 0
+Step old call reply new = StepBy (verdict old call) old call reply new
+
+-- ---- the set afterwards, as a function of the set before, the call and the reply
+
+-- every key by f, under its reference
+abbrev pub keys_by : (List ℕ → KeyParts → KeyParts) → Keys → Keys
+keys_by f keys = from_entries (map (λ (e : List ℕ × KeyParts). (e.0, f e.0 e.1)) (entries keys))
+
+-- the set after an accepted call
+unfoldable pub after : Call → KeySetParts → KeySetParts
+after (AddKey reference key) set = record set { keys = insert set.keys reference key }
+after (Set reference setting) set = record set {
+  keys = keys_by (λ q k. if bytes_eq reference q then set_by setting k else k) set.keys;
+}
+after (DeleteKey reference) set = record set { keys = remove set.keys reference }
+after (StartRoll roll olds news now) set = record set {
+  keys = keys_by (λ q. after_start roll now (is_listed olds q) (is_listed news q)) set.keys;
+  rolls = with_phase set.rolls roll (Some Propagation1);
+}
+after (Report roll half ttl now) set = record set {
+  keys = keys_by (λ q. after_report roll half now) set.keys;
+  rolls = with_phase set.rolls roll (Some (expiring half ttl));
+}
+after (Wait roll half now) set = record set {
+  keys = keys_by (λ q. after_wait roll half now) set.keys;
+  rolls = with_phase set.rolls roll (Some (behind half));
+}
+after (RollDone roll) set = record set { rolls = with_phase set.rolls roll None }
+
+-- the set after a call with this reply
+abbrev pub after_reply : Reply → Call → KeySetParts → KeySetParts
+after_reply Done call set = after call set
+after_reply (Actions actions) call set = after call set
+after_reply (Refused cause) call set = set

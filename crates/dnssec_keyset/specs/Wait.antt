@@ -1,0 +1,63 @@
+-- What a wait is told. A wait checks keys, each by the stamp of the event that it waits on: old
+-- data is gone from the caches once the reported TTL has passed since (RFC 7583, section 3: the
+-- interval is a TTL from the event on).
+use Rattle.std.specs.Prelude.{◌≡◌, ℕ, ◌*◌, ◌-◌, ◌≤◌, Bool, not, Option, None, Some, is_some}
+use Rattle.std.specs.Prelude.{unwrap_or, if◌then◌else◌, nat_lt, List}
+use Rattle.std.specs.Option.{option_map}
+use Rattle.std.specs.FinMap.{get}
+use Rattle.dnssec_keyset.specs.declared.key.Stamp.{Stamp}
+use Rattle.dnssec_keyset.specs.declared.key.Stamp.TheVariants.{Published, Visible, DsVisible}
+use Rattle.dnssec_keyset.specs.declared.key.Stamp.TheVariants.{RrsigVisible, Withdrawn}
+use Rattle.dnssec_keyset.specs.declared.roll.RollType.{RollType}
+use Rattle.dnssec_keyset.specs.declared.roll.RollState.{RollState}
+use Rattle.dnssec_keyset.specs.declared.roll.RollState.TheVariants.{Propagation1, CacheExpire1}
+use Rattle.dnssec_keyset.specs.declared.roll.RollState.TheVariants.{Propagation2, CacheExpire2}
+use Rattle.dnssec_keyset.specs.declared.roll.RollState.TheVariants.{Done}
+use Rattle.dnssec_keyset.specs.State.{Stamps}
+use Rattle.dnssec_keyset.specs.Key.{KeyParts}
+use Rattle.dnssec_keyset.specs.KeySet.{Keys, KeySetParts, phase_of, some_key}
+use Rattle.dnssec_keyset.specs.RollTable.{Half, First, Second, half_of}
+
+-- the moment of a stamp, where it was written
+abbrev pub stamp_at : Stamp → Stamps → Option ℕ
+stamp_at Published t = t.published
+stamp_at Visible t = t.visible
+stamp_at DsVisible t = t.ds_visible
+stamp_at RrsigVisible t = t.rrsig_visible
+stamp_at Withdrawn t = t.withdrawn
+
+-- the TTL of the caches that this half of a roll waits for, in that phase alone
+abbrev pub ttl_in : Half → Option RollState → Option ℕ
+ttl_in First (Some (CacheExpire1 ttl)) = Some ttl
+ttl_in Second (Some (CacheExpire2 ttl)) = Some ttl
+ttl_in half _ = None
+
+-- the stamp that the wait reads of a key
+abbrev pub stamp_read : RollType → Half → KeyParts → Option ℕ
+stamp_read roll half k = stamp_at (half_of roll half).reads k.timestamps
+
+-- what is left of a wait of so many seconds since a stamp, in nanoseconds: nothing once they have
+-- passed
+abbrev pub left_since : ℕ → ℕ → ℕ → ℕ
+left_since ttl now stamp = ttl * 1_000_000_000 - (now - stamp)
+
+-- what is left of the wait for a key: nothing where the wait doesn't check it, and nobody knows
+-- where the stamp that the wait reads is missing
+abbrev pub time_left : RollType → Half → ℕ → ℕ → KeyParts → Option ℕ
+time_left roll half ttl now k =
+    if (half_of roll half).checks k.keytype
+    then option_map (left_since ttl now) (stamp_read roll half k)
+    else Some 0
+
+-- some checked key lacks the stamp
+abbrev pub lacks_stamp : (KeyParts → Option ℕ) → Keys → Bool
+lacks_stamp left keys = some_key (λ k. not (is_some (left k))) keys
+
+-- some key has time left
+abbrev pub is_early : (KeyParts → Option ℕ) → Keys → Bool
+is_early left keys = some_key (λ k. nat_lt 0 (unwrap_or (left k) 0)) keys
+
+-- no key has more time left, and one has so much
+pub record IsLongest (left : KeyParts → Option ℕ) (keys : Keys) (n : ℕ) : Type 0 where
+  pub bound : (q : List ℕ) (k : KeyParts) → get keys q ≡ Some k → unwrap_or (left k) 0 ≤ n
+  pub attained : (q : List ℕ) × (k : KeyParts) × (get keys q ≡ Some k) × (left k ≡ Some n)

@@ -1,0 +1,26 @@
+//! The keys that sign one DNS zone, and the steps of their rollover.
+//!
+//! A [`KeySet`] keeps the keys of a zone by their public references, and the rolls in progress.
+//! Keys are added; a roll is started, each of its changes is reported once all servers have it,
+//! a wait is claimed once old data has left the caches, and the roll ends. Each call answers the
+//! actions that are now due, or a named refusal, and a refusal changes nothing. The rolls are
+//! those of RFC 6781, section 4.1.
+#![tactic(auto)]
+
+mod check;
+mod error;
+mod key;
+mod roll;
+mod set;
+mod table;
+mod text;
+mod time;
+
+pub use error::Error;
+pub use key::{Available, Key, KeyState, KeyTimestamps, KeyType};
+pub use roll::{Action, RollState, RollType};
+pub use set::KeySet;
+pub use time::UnixTime;
+
+#[cfg(test)]
+mod tests;

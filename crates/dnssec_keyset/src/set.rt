@@ -1,0 +1,410 @@
+//! The key set: its keys and its rolls in progress.
+ghost use Rattle.std.specs.Prelude.{◌≡◌, ℕ, List, None, Some, IfOk, IfErr, OnOk, OnErr, nat_eq};
+ghost use Rattle.std.specs.Prelude.{string_bytes};
+ghost use Rattle.std.specs.List.{list_any};
+ghost use Rattle.std.specs.Option.{option_map};
+ghost use Rattle.std.specs.String.{string_eq};
+ghost use Rattle.std.specs.FinMap as map;
+ghost use Rattle.std.specs.HashMap as hash;
+ghost use Rattle.dnssec_keyset.specs.declared.error.Error.TheVariants.{OutOfMemory};
+ghost use Rattle.dnssec_keyset.specs.declared.key.KeyType.TheVariants.{Ksk, Zsk, Csk, Include};
+ghost use Rattle.dnssec_keyset.specs.Setters.{Decoupled, Present, Signer, AtParent, Stale};
+ghost use Rattle.dnssec_keyset.specs.Setters.{VisibleAt, DsVisibleAt, RrsigVisibleAt};
+ghost use Rattle.dnssec_keyset.specs.Key.{new_key, new_state, is_available};
+ghost use Rattle.dnssec_keyset.specs.KeySet.{PutsKey, keys_shown, rolls_shown, new_set};
+ghost use Rattle.dnssec_keyset.specs.Setters.{meant, ChangesKey, deletion_refusal, set_by};
+ghost use Rattle.dnssec_keyset.specs.Setters.{setting_refusal};
+ghost use Rattle.dnssec_keyset.specs.Step.{Answers, AnswersExactly, add_refusal, has_tag};
+
+use crate::error::Error;
+use crate::key::{Available, Key, KeyState, KeyType, Setting};
+use crate::roll::{RollState, RollType};
+use crate::time::UnixTime;
+use dnssec_base::{Name, SecurityAlgorithm};
+use std::alloc::Global;
+use std::collections::HashMap;
+use std::marker::Model;
+
+/// The keys that sign one zone, by their public references, and the rolls in progress.
+///
+/// A call that is refused changes nothing: neither a key, nor a stamp, nor a roll.
+#[derive(Drop)]
+pub struct KeySet {
+    name: Name<Vec<u8>>,
+    pub(crate) keys: HashMap<String, Key>,
+    pub(crate) rollstates: HashMap<RollType, RollState>,
+    pub(crate) alloc: Global,
+}
+
+impl Model for KeySet {
+    ghost use Rattle.std.specs.Coded.{codes};
+    ghost use Rattle.dnssec_keyset.specs.KeySet.{KeySetParts, keys_code, keys_shown, rolls_shown};
+
+    ghost Value = { KeySetParts };
+
+    ghost coded = { Prim.hlevel (codes, keys_code) };
+
+    ghost view = { λ s. record {
+      name = s.name;
+      keys = keys_shown s.keys;
+      rolls = rolls_shown s.rollstates;
+    } };
+}
+
+impl KeySet {
+    /// A key set for the zone of this name, without keys and rolls. It takes its memory from
+    /// `alloc`, and none yet.
+    pub fn new(alloc: Global, name: Name<Vec<u8>>) -> Self
+        ensures { result ≡ new_set name }
+    {
+        KeySet {
+            name,
+            keys: HashMap::new(alloc),
+            rollstates: HashMap::new(alloc),
+            alloc,
+        }
+    }
+
+    /// A key set with equal name, keys and rolls. Refused with `OutOfMemory` alone.
+    pub fn try_clone(&self) -> Result<KeySet, Error>
+        ensures same { IfOk result (λ set. set ≡ self.now) }
+        ensures err { IfErr result (λ e. e ≡ OutOfMemory) }
+    {
+        Ok(KeySet {
+            name: clone_name(&self.name)?,
+            keys: clone_keys(&self.keys)?,
+            rollstates: clone_rolls(&self.rollstates)?,
+            alloc: self.alloc,
+        })
+    }
+
+    /// The name of the zone.
+    pub fn name(&self) -> &Name<Vec<u8>>
+        ensures { result.now ≡ self.now.name }
+    {
+        &self.name
+    }
+
+    /// The keys by their public references, in no order that may be relied on.
+    pub fn keys(&self) -> &HashMap<String, Key>
+        ensures shown { keys_shown result.now ≡ self.now.keys }
+        ensures at { (q : List ℕ) → hash.get_by_text result.now q ≡ map.get self.now.keys q }
+    {
+        &self.keys
+    }
+
+    /// The rolls in progress, each in its phase.
+    pub fn rollstates(&self) -> &HashMap<RollType, RollState>
+        ensures { rolls_shown result.now ≡ self.now.rolls }
+    {
+        &self.rollstates
+    }
+
+    /// Adds a KSK, which may come in by a roll if it is available.
+    ///
+    /// `pubref` names the key from now on, `privref` its private part in the caller's storage.
+    /// It was made at `creation_ts`, and no other stamp is set.
+    ///
+    /// Refused with `DuplicateKeyTag` where a key has the tag, else with `KeyExists` where a key
+    /// has the reference, else with `OutOfMemory` where memory is wanting. The strings are then
+    /// dropped, and nothing is changed.
+    pub fn add_key_ksk(
+        &mut self,
+        pubref: String,
+        privref: Option<String>,
+        algorithm: SecurityAlgorithm,
+        key_tag: u16,
+        creation_ts: UnixTime,
+        available: Available,
+    ) -> Result<(), Error>
+        ensures reply { Answers (add_refusal self.old.keys (string_bytes pubref) key_tag) result }
+        ensures ok { OnOk result (PutsKey self.old self.new (string_bytes pubref) (Some
+            (new_key (option_map string_bytes privref) (Ksk (new_state (is_available available)))
+            algorithm key_tag creation_ts))) }
+        ensures err { OnErr result (self.new ≡ self.old) }
+    {
+        let keytype = KeyType::Ksk(KeyState::new(available));
+        let key = Key::new(privref, keytype, algorithm, key_tag, creation_ts);
+        self.add_key(pubref, key)
+    }
+
+    /// Adds a ZSK, as `add_key_ksk` adds a KSK.
+    pub fn add_key_zsk(
+        &mut self,
+        pubref: String,
+        privref: Option<String>,
+        algorithm: SecurityAlgorithm,
+        key_tag: u16,
+        creation_ts: UnixTime,
+        available: Available,
+    ) -> Result<(), Error>
+        ensures reply { Answers (add_refusal self.old.keys (string_bytes pubref) key_tag) result }
+        ensures ok { OnOk result (PutsKey self.old self.new (string_bytes pubref) (Some
+            (new_key (option_map string_bytes privref) (Zsk (new_state (is_available available)))
+            algorithm key_tag creation_ts))) }
+        ensures err { OnErr result (self.new ≡ self.old) }
+    {
+        let keytype = KeyType::Zsk(KeyState::new(available));
+        let key = Key::new(privref, keytype, algorithm, key_tag, creation_ts);
+        self.add_key(pubref, key)
+    }
+
+    /// Adds a CSK, as `add_key_ksk` adds a KSK. Both its roles are new.
+    pub fn add_key_csk(
+        &mut self,
+        pubref: String,
+        privref: Option<String>,
+        algorithm: SecurityAlgorithm,
+        key_tag: u16,
+        creation_ts: UnixTime,
+        available: Available,
+    ) -> Result<(), Error>
+        ensures reply { Answers (add_refusal self.old.keys (string_bytes pubref) key_tag) result }
+        ensures ok { OnOk result (PutsKey self.old self.new (string_bytes pubref) (Some
+            (new_key (option_map string_bytes privref)
+            (Csk (new_state (is_available available)) (new_state (is_available available)))
+            algorithm key_tag creation_ts))) }
+        ensures err { OnErr result (self.new ≡ self.old) }
+    {
+        let state = KeyState::new(available);
+        let key = Key::new(
+            privref,
+            KeyType::Csk(state, state),
+            algorithm,
+            key_tag,
+            creation_ts,
+        );
+        self.add_key(pubref, key)
+    }
+
+    /// Adds a key of another signer, which may be published beside those of the set. It has no
+    /// private part, and no part in rolls. Refused as `add_key_ksk` is.
+    pub fn add_public_key(
+        &mut self,
+        pubref: String,
+        algorithm: SecurityAlgorithm,
+        key_tag: u16,
+        creation_ts: UnixTime,
+        available: bool,
+    ) -> Result<(), Error>
+        ensures reply { Answers (add_refusal self.old.keys (string_bytes pubref) key_tag) result }
+        ensures ok { OnOk result (PutsKey self.old self.new (string_bytes pubref) (Some
+            (new_key None (Include (new_state available)) algorithm key_tag creation_ts))) }
+        ensures err { OnErr result (self.new ≡ self.old) }
+    {
+        let available = if available {
+            Available::Available
+        } else {
+            Available::NotAvailable
+        };
+        let keytype = KeyType::Include(KeyState::new(available));
+        let key = Key::new(None, keytype, algorithm, key_tag, creation_ts);
+        self.add_key(pubref, key)
+    }
+
+    /// Sets whether a key is decoupled from the caller's storage of keys.
+    ///
+    /// Refused with `KeyNotFound` alone; no memory is taken.
+    pub fn set_decoupled(&mut self, pubref: &str, value: bool) -> Result<(), Error>
+        ensures reply { AnswersExactly
+            (setting_refusal (Decoupled value) (map.get self.old.keys pubref.now)) result }
+        ensures ok { OnOk result (ChangesKey self.old self.new pubref.now
+            (set_by (Decoupled value))) }
+        ensures err { OnErr result (self.new ≡ self.old) }
+    {
+        self.set(pubref, Setting::Decoupled(value))
+    }
+
+    /// Puts a key into the DNSKEY set, or takes it out, by hand, in each of its roles. A key that
+    /// is put in at `now` for the first time is stamped as published then; no other stamp changes.
+    ///
+    /// Refused with `KeyNotFound` alone; no memory is taken.
+    pub fn set_present(&mut self, pubref: &str, value: bool, now: &UnixTime) -> Result<(), Error>
+        ensures reply { AnswersExactly
+            (setting_refusal (Present value now.now) (map.get self.old.keys pubref.now)) result }
+        ensures ok { OnOk result (ChangesKey self.old self.new pubref.now
+            (set_by (Present value now.now))) }
+        ensures err { OnErr result (self.new ≡ self.old) }
+    {
+        self.set(pubref, Setting::Present(value, *now))
+    }
+
+    /// Sets whether a key signs, by hand, in each of its roles.
+    ///
+    /// Refused with `KeyNotFound`, or `WrongKeyType` for a key of another signer; no memory is
+    /// taken.
+    pub fn set_signer(&mut self, pubref: &str, value: bool) -> Result<(), Error>
+        ensures reply { AnswersExactly
+            (setting_refusal (Signer value) (map.get self.old.keys pubref.now)) result }
+        ensures ok { OnOk result (ChangesKey self.old self.new pubref.now (set_by (Signer value))) }
+        ensures err { OnErr result (self.new ≡ self.old) }
+    {
+        self.set(pubref, Setting::Signer(value))
+    }
+
+    /// Sets whether the parent has to have a DS record for a KSK or a CSK, by hand.
+    ///
+    /// Refused with `KeyNotFound`, or `WrongKeyType` for another key; no memory is taken.
+    pub fn set_at_parent(&mut self, pubref: &str, value: bool) -> Result<(), Error>
+        ensures reply { AnswersExactly
+            (setting_refusal (AtParent value) (map.get self.old.keys pubref.now)) result }
+        ensures ok { OnOk result (ChangesKey self.old self.new pubref.now
+            (set_by (AtParent value))) }
+        ensures err { OnErr result (self.new ≡ self.old) }
+    {
+        self.set(pubref, Setting::AtParent(value))
+    }
+
+    /// Makes a key stale by hand: in each role old, and neither signer, present nor at the parent.
+    ///
+    /// Refused with `KeyNotFound` alone; no memory is taken.
+    pub fn set_stale(&mut self, pubref: &str) -> Result<(), Error>
+        ensures reply { AnswersExactly
+            (setting_refusal Stale (map.get self.old.keys pubref.now)) result }
+        ensures ok { OnOk result (ChangesKey self.old self.new pubref.now (set_by Stale)) }
+        ensures err { OnErr result (self.new ≡ self.old) }
+    {
+        self.set(pubref, Setting::Stale)
+    }
+
+    /// Stamps when all servers have the key in the DNSKEY set. Nothing else is checked.
+    ///
+    /// Refused with `KeyNotFound` alone; no memory is taken.
+    pub fn set_visible(&mut self, pubref: &str, time: UnixTime) -> Result<(), Error>
+        ensures reply { AnswersExactly
+            (setting_refusal (VisibleAt time) (map.get self.old.keys pubref.now)) result }
+        ensures ok { OnOk result (ChangesKey self.old self.new pubref.now
+            (set_by (VisibleAt time))) }
+        ensures err { OnErr result (self.new ≡ self.old) }
+    {
+        self.set(pubref, Setting::VisibleAt(time))
+    }
+
+    /// Stamps when all servers of the parent have the key's DS record. Nothing else is checked.
+    ///
+    /// Refused with `KeyNotFound` alone; no memory is taken.
+    pub fn set_ds_visible(&mut self, pubref: &str, time: UnixTime) -> Result<(), Error>
+        ensures reply { AnswersExactly
+            (setting_refusal (DsVisibleAt time) (map.get self.old.keys pubref.now)) result }
+        ensures ok { OnOk result (ChangesKey self.old self.new pubref.now
+            (set_by (DsVisibleAt time))) }
+        ensures err { OnErr result (self.new ≡ self.old) }
+    {
+        self.set(pubref, Setting::DsVisibleAt(time))
+    }
+
+    /// Stamps when all servers have the key's signatures. Nothing else is checked.
+    ///
+    /// Refused with `KeyNotFound` alone; no memory is taken.
+    pub fn set_rrsig_visible(&mut self, pubref: &str, time: UnixTime) -> Result<(), Error>
+        ensures reply { AnswersExactly
+            (setting_refusal (RrsigVisibleAt time) (map.get self.old.keys pubref.now)) result }
+        ensures ok { OnOk result (ChangesKey self.old self.new pubref.now
+            (set_by (RrsigVisibleAt time))) }
+        ensures err { OnErr result (self.new ≡ self.old) }
+    {
+        self.set(pubref, Setting::RrsigVisibleAt(time))
+    }
+
+    /// Deletes a key that has left in each of its roles, whether rolls are in progress or not.
+    ///
+    /// Refused with `KeyNotFound`, or `KeyNotOld` while some role isn't stale; no memory is taken.
+    #[tactic(auto, using(crate::proofs::Shown::shown))]
+    pub fn delete_key(&mut self, pubref: &str) -> Result<(), Error>
+        ensures reply { AnswersExactly
+            (deletion_refusal (map.get self.old.keys pubref.now)) result }
+        ensures ok { OnOk result (PutsKey self.old self.new pubref.now None) }
+        ensures err { OnErr result (self.new ≡ self.old) }
+    {
+        let Some(key) = self.keys.get(pubref) else {
+            return Err(Error::KeyNotFound);
+        };
+        if !key.is_stale() {
+            return Err(Error::KeyNotOld);
+        }
+        self.keys.remove(pubref);
+        Ok(())
+    }
+
+    #[tactic(auto, using(crate::proofs::Shown::shown))]
+    fn set(&mut self, pubref: &str, setting: Setting) -> Result<(), Error>
+        ensures reply { AnswersExactly
+            (setting_refusal (meant setting) (map.get self.old.keys pubref.now)) result }
+        ensures ok { OnOk result
+            (ChangesKey self.old self.new pubref.now (set_by (meant setting))) }
+        ensures err { OnErr result (self.new ≡ self.old) }
+    {
+        let Some(key) = self.keys.get(pubref) else {
+            return Err(Error::KeyNotFound);
+        };
+        key.check_setting(&setting)?;
+        if let Some(key) = self.keys.get_mut(pubref) {
+            key.set(setting);
+        }
+        Ok(())
+    }
+
+    #[tactic(auto, using(crate::proofs::Shown::shown))]
+    fn add_key(&mut self, pubref: String, key: Key) -> Result<(), Error>
+        ensures reply { Answers
+            (add_refusal self.old.keys (string_bytes pubref) key.key_tag) result }
+        ensures ok { OnOk result (PutsKey self.old self.new (string_bytes pubref) (Some key)) }
+        ensures err { OnErr result (self.new ≡ self.old) }
+    {
+        if self.has_tag(key.key_tag()) {
+            return Err(Error::DuplicateKeyTag);
+        }
+        if self.keys.contains_key(pubref.as_str()) {
+            return Err(Error::KeyExists);
+        }
+        match self.keys.insert(pubref, key) {
+            Ok(_) => Ok(()),
+            Err(_) => Err(Error::OutOfMemory),
+        }
+    }
+
+    /// Whether some key has the tag.
+    #[tactic(auto, using(crate::proofs::Walks::walked))]
+    fn has_tag(&self, key_tag: u16) -> bool
+        ensures { result ≡ has_tag key_tag self.now.keys }
+    {
+        any_has_tag(&self.keys, key_tag)
+    }
+}
+
+fn any_has_tag(keys: &HashMap<String, Key>, key_tag: u16) -> bool
+    ensures any { result ≡ list_any (λ k. nat_eq k.key_tag key_tag) (hash.values keys.now) }
+    ensures unique { hash.IsUnique string_eq keys.now }
+{
+    keys.values().any(|key| key.key_tag() == key_tag)
+}
+
+fn clone_keys(keys: &HashMap<String, Key>) -> Result<HashMap<String, Key>, Error>
+    ensures same { IfOk result (λ m. keys_shown m ≡ keys_shown keys.now) }
+    ensures err { IfErr result (λ e. e ≡ OutOfMemory) }
+{
+    match keys.clone() {
+        Ok(made) => Ok(made),
+        Err(_) => Err(Error::OutOfMemory),
+    }
+}
+
+fn clone_rolls(rolls: &HashMap<RollType, RollState>) -> Result<HashMap<RollType, RollState>, Error>
+    ensures same { IfOk result (λ m. rolls_shown m ≡ rolls_shown rolls.now) }
+    ensures err { IfErr result (λ e. e ≡ OutOfMemory) }
+{
+    match rolls.clone() {
+        Ok(made) => Ok(made),
+        Err(_) => Err(Error::OutOfMemory),
+    }
+}
+
+fn clone_name(name: &Name<Vec<u8>>) -> Result<Name<Vec<u8>>, Error>
+    ensures same { IfOk result (λ made. made ≡ name.now) }
+    ensures err { IfErr result (λ e. e ≡ OutOfMemory) }
+{
+    match name.try_clone() {
+        Ok(made) => Ok(made),
+        Err(_) => Err(Error::OutOfMemory),
+    }
+}
