@@ -1,0 +1,35 @@
+-- What is known of the input carries over to the answer to it.
+use Rattle.std.proofs.Common.{◌≡◌, ◌≢◌, ℕ, List, Option, Some, None, IfSome, sym, ◌∙◌, subst}
+use Rattle.dnssec_record.specs.Answer.{Answers, AnswerFault, TakesBeginning}
+use Rattle.dnssec_record.specs.Reading.{TakesFront}
+use Rattle.dnssec_record.specs.Script.{IsScript, lines_of}
+use Rattle.dnssec_record.specs.declared.call.Call.{Call}
+use Rattle.dnssec_record.specs.declared.script.ScriptFault.{ScriptFault}
+use Rattle.dnssec_record.specs.declared.script.ScriptFault.TheVariants.{Malformed, Device}
+use Rattle.dnssec_record.specs.declared.script.ScriptFault.TheVariants.{OutOfMemory}
+use Rattle.dnssec_record.proofs.Judging.{never_malformed}
+
+-- what holds of the bytes that were read holds of those that the input had left
+pub of_input : (left : Option (List ℕ)) (P : List ℕ → Type 0) (shown read : List ℕ)
+    → IfSome left (λ text. read ≡ text) → shown ≡ read → P shown → IfSome left P
+of_input None P shown read whole same holds = tt
+of_input (Some text) P shown read whole same holds = subst P (same ∙ whole) holds
+
+-- a script has no such fault
+pub never_fault : (script : List ℕ) (fault : ScriptFault) → AnswerFault script fault
+    → (name : List ℕ) (calls : List Call) → IsScript script name calls
+    → (n : ℕ) → fault ≢ Malformed n
+never_fault script (Malformed m) first name calls is n same =
+    never_malformed (lines_of script) name calls m is first
+never_fault script Device first name calls is n same = absurd first
+never_fault script OutOfMemory first name calls is n same = cc
+
+-- a front of an answer is a beginning of it
+pub begins : (script : List ℕ) (old new : Option (List ℕ)) (bytes text : List ℕ)
+    → Answers script text → bytes ≡ text → TakesFront old new bytes → TakesBeginning script old new
+begins script old new bytes text answers same taken = (
+  taken.0,
+  taken.1,
+  subst (Answers script) (sym same ∙ taken.2) answers,
+  taken.3,
+)

@@ -1,0 +1,27 @@
+-- A text that is cut at a byte: its first part, and the others (for the fields of a line).
+use Rattle.std.proofs.Common.{◌≡◌, ℕ, ◌+◌, Bool, true, false, cond, Some, None, List, [], ◌∷◌, take}
+use Rattle.std.proofs.Common.{drop, refl, ap, ◌∙◌, arith}
+use Rattle.std.specs.List.{slice_split, position}
+use Rattle.std.proofs.lemmas.Bool.{ltb-true, ltb-false}
+use Rattle.std.proofs.lemmas.Option.{cond_some}
+use Rattle.std.proofs.lemmas.List.Splits.{slice_split_first, slice_split_none}
+use Rattle.std.proofs.lemmas.List.Sums.{fails_before_first}
+
+-- at the first byte that passes there is a cut
+pub cut_at : (p : ℕ → Bool) (xs : List ℕ) (i : ℕ) → position p xs ≡ Some i
+    → slice_split p xs ≡ take i xs ∷ slice_split p (drop (i + 1) xs)
+cut_at p xs i e =
+    let found = cond_some _ _ _ e in
+    let within = ltb-true _ _ found.0 in
+    slice_split_first p xs 0 within
+    ∙ ap (λ n. take n xs ∷ slice_split p (drop (n + 1) xs)) found.1
+
+none_before : (b : Bool) (n i : ℕ) → cond b (Some n) None ≡ None → b ≡ false
+none_before true n i e = cc
+none_before false n i e = refl
+
+-- where none passes the text is one part
+pub no_cut : (p : ℕ → Bool) (xs : List ℕ) → position p xs ≡ None → slice_split p xs ≡ xs ∷ []
+no_cut p xs e =
+    let past = ltb-false _ _ (none_before _ _ 0 e) in
+    slice_split_none p xs (λ k d within. fails_before_first p xs k d (omega arith))

@@ -1,0 +1,12 @@
+pub mod Positions
+pub mod Next
+pub mod Grow
+pub mod Laws
+pub mod Cuts
+pub mod References
+pub mod Zone
+pub mod Rolls
+pub mod Texts
+pub mod Reading
+pub mod Judging
+pub mod Answering

@@ -1,0 +1,40 @@
+-- What a script is answered.
+use Rattle.std.specs.Prelude.{◌≡◌, ◌⊎◌, ℕ, List, ◌++◌, Option, IfSome}
+use Rattle.std.specs.Io.KnownBytes.{Appends, Keeps}
+use Rattle.dnssec_record.specs.Output.{output}
+use Rattle.dnssec_record.specs.Record.{IsRun}
+use Rattle.dnssec_record.specs.Script.{IsScript, IsFirstMalformed}
+use Rattle.dnssec_record.specs.declared.call.Call.{Call}
+use Rattle.dnssec_record.specs.declared.record.Entry.{Entry}
+use Rattle.dnssec_record.specs.declared.script.ScriptFault.{ScriptFault}
+use Rattle.dnssec_record.specs.declared.script.ScriptFault.TheVariants.{Malformed, Device}
+use Rattle.dnssec_record.specs.declared.script.ScriptFault.TheVariants.{OutOfMemory}
+
+-- the text is the output of a run of the calls of this script
+pub record Answers (script text : List ℕ) : Type 0 where
+  pub name : List ℕ
+  pub calls : List Call
+  pub entries : List Entry
+  pub is_script : IsScript script name calls
+  pub is_run : IsRun name calls entries
+  pub is_output : text ≡ output entries
+
+-- a device took, after what it had taken before, a text that answers the script
+abbrev pub TakesAnswer : List ℕ → Option (List ℕ) → Option (List ℕ) → Type 0
+TakesAnswer script old new = (text : List ℕ) × Answers script text × Appends old new text
+
+-- a device took a beginning of such a text
+abbrev pub TakesBeginning : List ℕ → Option (List ℕ) → Option (List ℕ) → Type 0
+TakesBeginning script old new =
+    (text : List ℕ) × (rest : List ℕ) × Answers script (text ++ rest) × Appends old new text
+
+-- it took nothing, or, where the script is known, a beginning of an answer to it
+abbrev pub TakesAtMost : Option (List ℕ) → Option (List ℕ) → Option (List ℕ) → Type 0
+TakesAtMost left old new =
+    Keeps old new ⊎ IfSome left (λ script. TakesBeginning script old new)
+
+-- the fault of these bytes, before anything is written
+abbrev pub AnswerFault : List ℕ → ScriptFault → Type 0
+AnswerFault script (Malformed n) = IsFirstMalformed script n
+AnswerFault script Device = ⊥
+AnswerFault script OutOfMemory = Unit {0}

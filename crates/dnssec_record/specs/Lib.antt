@@ -1,0 +1,12 @@
+pub mod Answer
+pub mod Device
+pub mod Fault
+pub mod NewKey
+pub mod Output
+pub mod Published
+pub mod Reading
+pub mod Record
+pub mod Recorder
+pub mod Script
+pub mod Statement
+pub mod Std

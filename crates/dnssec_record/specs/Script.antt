@@ -1,0 +1,320 @@
+-- The script format: what a line says, which bytes are a script, and which line of other bytes is
+-- the first malformed one.
+use Rattle.std.specs.Prelude.{◌≡◌, ℕ, ◌+◌, ◌-◌, ◌*◌, ◌<◌, ◌≤◌, ◌==◌, nat_le}
+use Rattle.std.specs.Prelude.{Bool, true, false, not, ◌&&◌, if◌then◌else◌, MatchBool}
+use Rattle.std.specs.Prelude.{List, [], ◌∷◌, ◌++◌, length, map, fold, find, slice_index_or, codes}
+use Rattle.std.specs.Prelude.{Option, Some, None, IsSome, option_and_then, string_bytes}
+use denote.Bor.{now}
+use Rattle.std.specs.Option.{option_map}
+use Rattle.std.specs.List.{slice_split, list_all}
+use Rattle.std.specs.Str.{bytes_eq}
+use Rattle.dnssec_base.specs.NameText as names
+use Rattle.dnssec_keyset.specs.declared.roll.RollType.{RollType}
+use Rattle.dnssec_keyset.specs.declared.roll.RollType.TheVariants.{
+  KskRoll,
+  KskDoubleDsRoll,
+  ZskRoll,
+  ZskDoubleSignatureRoll,
+  CskRoll,
+  AlgorithmRoll,
+}
+use Rattle.dnssec_keyset.specs.Key.{is_available}
+use Rattle.dnssec_keyset.specs.Texts.{roll_name}
+use Rattle.dnssec_record.specs.declared.call.Call.{Call}
+use Rattle.dnssec_record.specs.declared.call.Call.TheVariants as call
+use Rattle.dnssec_record.specs.declared.fields.Word.{Word}
+use Rattle.dnssec_record.specs.declared.fields.Word.TheVariants as word
+
+-- ---- lines and fields
+
+-- a text without the line feed at its end
+abbrev pub without_end : List ℕ → List ℕ
+without_end [] = []
+without_end (b ∷ []) = if b == 10 then [] else b ∷ []
+without_end (b ∷ c ∷ bs) = b ∷ without_end (c ∷ bs)
+
+-- the lines, between line feeds: one at the very end only ends the last line
+abbrev pub lines_of : List ℕ → List (List ℕ)
+lines_of script = slice_split (λ b. b == 10) (without_end script)
+
+-- the fields of a line, between single spaces
+abbrev pub fields_of : List ℕ → List (List ℕ)
+fields_of line = slice_split (λ b. b == 32) line
+
+-- ---- what a field says
+
+-- what fields can say; a moment is in nanoseconds
+pub data Value : Type 0 where
+  Reference : List ℕ → Value
+  Private : Option (List ℕ) → Value
+  References : List (List ℕ) → Value
+  Flag : Bool → Value
+  Roll : RollType → Value
+  Number : ℕ → Value
+  Moment : ℕ → Value
+
+-- what a field has to be: the value of each text that is so
+abbrev pub Form : Type 0
+Form = List ℕ → Option Value
+
+-- a visible ASCII character but the comma
+abbrev pub is_reference_byte : ℕ → Bool
+is_reference_byte b = nat_le 0x21 b && nat_le b 0x7E && not (b == 44)
+
+-- such bytes, at least one, and not `-` alone
+unfoldable pub is_reference : List ℕ → Bool
+is_reference text =
+    not (length text == 0) && not (bytes_eq text (codes "-")) && list_all is_reference_byte text
+
+-- a key's reference
+unfoldable pub as_reference : Form
+as_reference text = if is_reference text then Some (Reference text) else None
+
+-- a private reference, or `-` for none
+unfoldable pub as_private : Form
+as_private text =
+    if bytes_eq text (codes "-") then Some (Private None)
+    else (if is_reference text then Some (Private (Some text)) else None)
+
+-- references with single commas between them, or `-` for none
+unfoldable pub as_list : Form
+as_list text =
+    if bytes_eq text (codes "-") then Some (References [])
+    else (if list_all is_reference (slice_split (λ b. b == 44) text)
+    then Some (References (slice_split (λ b. b == 44) text)) else None)
+
+-- `yes` or `no`
+unfoldable pub as_yes_no : Form
+as_yes_no text =
+    if bytes_eq text (codes "yes") then Some (Flag true)
+    else (if bytes_eq text (codes "no") then Some (Flag false) else None)
+
+-- the rolls
+abbrev pub rolls : List RollType
+rolls =
+    KskRoll ∷ KskDoubleDsRoll ∷ ZskRoll ∷ ZskDoubleSignatureRoll ∷ CskRoll ∷ AlgorithmRoll ∷ []
+
+-- a roll, by its name
+unfoldable pub roll_named : List ℕ → Option RollType
+roll_named name = find (λ r. bytes_eq (roll_name r) name) rolls
+
+-- the name of a roll
+unfoldable pub as_roll : Form
+as_roll text = option_map Roll (roll_named text)
+
+-- a decimal digit
+abbrev pub is_digit : ℕ → Bool
+is_digit b = nat_le 48 b && nat_le b 57
+
+-- the number that digits write
+abbrev pub number_of : List ℕ → ℕ
+number_of digits = fold (λ n d. n * 10 + (d - 48)) 0 digits
+
+-- 1 to 20 digits, of a number up to this
+unfoldable pub is_number : ℕ → List ℕ → Bool
+is_number most text =
+    nat_le 1 (length text) && nat_le (length text) 20 && list_all is_digit text
+    && nat_le (number_of text) most
+
+-- a number up to this
+unfoldable pub as_number : ℕ → Form
+as_number most text = if is_number most text then Some (Number (number_of text)) else None
+
+-- the number of an algorithm
+abbrev pub as_algorithm : Form
+as_algorithm = as_number 255
+
+-- a key tag
+abbrev pub as_tag : Form
+as_tag = as_number 65535
+
+-- a TTL, in seconds
+abbrev pub as_ttl : Form
+as_ttl = as_number 4294967295
+
+-- a moment, in whole seconds
+unfoldable pub as_time : Form
+as_time text =
+    if is_number 18446744073709551615 text then Some (Moment (number_of text * 1_000_000_000))
+    else None
+
+-- ---- what a line says
+
+-- a word, and what its fields have to be
+pub record Row : Type 0 where
+  pub name : List ℕ
+  pub fields : List Form
+
+-- what the fields of an add have to be
+abbrev pub key_forms : List Form
+key_forms = as_reference ∷ as_private ∷ as_algorithm ∷ as_tag ∷ as_time ∷ as_yes_no ∷ []
+
+-- the table of the words
+abbrev pub row : Word → Row
+row word.AddKsk = record { name = codes "add-ksk"; fields = key_forms }
+row word.AddZsk = record { name = codes "add-zsk"; fields = key_forms }
+row word.AddCsk = record { name = codes "add-csk"; fields = key_forms }
+row word.AddPublic = record {
+  name = codes "add-public";
+  fields = as_reference ∷ as_algorithm ∷ as_tag ∷ as_time ∷ as_yes_no ∷ [];
+}
+row word.SetDecoupled = record {
+  name = codes "set-decoupled";
+  fields = as_reference ∷ as_yes_no ∷ [];
+}
+row word.SetPresent = record {
+  name = codes "set-present";
+  fields = as_reference ∷ as_yes_no ∷ as_time ∷ [];
+}
+row word.SetSigner = record { name = codes "set-signer"; fields = as_reference ∷ as_yes_no ∷ [] }
+row word.SetAtParent = record {
+  name = codes "set-at-parent";
+  fields = as_reference ∷ as_yes_no ∷ [];
+}
+row word.SetStale = record { name = codes "set-stale"; fields = as_reference ∷ [] }
+row word.SetVisible = record { name = codes "set-visible"; fields = as_reference ∷ as_time ∷ [] }
+row word.SetDsVisible = record {
+  name = codes "set-ds-visible";
+  fields = as_reference ∷ as_time ∷ [];
+}
+row word.SetRrsigVisible = record {
+  name = codes "set-rrsig-visible";
+  fields = as_reference ∷ as_time ∷ [];
+}
+row word.Delete = record { name = codes "delete"; fields = as_reference ∷ [] }
+row word.Start = record {
+  name = codes "start";
+  fields = as_roll ∷ as_list ∷ as_list ∷ as_time ∷ [];
+}
+row word.Report1 = record { name = codes "report1"; fields = as_roll ∷ as_ttl ∷ as_time ∷ [] }
+row word.Report2 = record { name = codes "report2"; fields = as_roll ∷ as_ttl ∷ as_time ∷ [] }
+row word.Wait1 = record { name = codes "wait1"; fields = as_roll ∷ as_time ∷ [] }
+row word.Wait2 = record { name = codes "wait2"; fields = as_roll ∷ as_time ∷ [] }
+row word.Done = record { name = codes "done"; fields = as_roll ∷ [] }
+
+-- all words
+abbrev pub words : List Word
+words =
+    word.AddKsk ∷ word.AddZsk ∷ word.AddCsk ∷ word.AddPublic ∷ word.SetDecoupled ∷ word.SetPresent
+    ∷ word.SetSigner ∷ word.SetAtParent ∷ word.SetStale ∷ word.SetVisible ∷ word.SetDsVisible
+    ∷ word.SetRrsigVisible ∷ word.Delete ∷ word.Start ∷ word.Report1 ∷ word.Report2 ∷ word.Wait1
+    ∷ word.Wait2 ∷ word.Done ∷ []
+
+-- a word, by its name
+unfoldable pub word_named : List ℕ → Option Word
+word_named name = find (λ w. bytes_eq (row w).name name) words
+
+-- the first field, and those after it
+abbrev pub first_field : List (List ℕ) → Option (List ℕ × List (List ℕ))
+first_field [] = None
+first_field (field ∷ fields) = Some (field, fields)
+
+-- what the first field says, and the fields after it
+abbrev pub value_at : Form → List (List ℕ) → Option (Value × List (List ℕ))
+value_at form [] = None
+value_at form (field ∷ fields) = option_map (λ v. (v, fields)) (form field)
+
+-- what the fields say, where they are these forms, one each
+abbrev pub values_of : List Form → List (List ℕ) → Option (List Value)
+values_of [] [] = Some []
+values_of [] (field ∷ fields) = None
+values_of (form ∷ forms) fields =
+    option_and_then (λ x. option_map (λ values. x.0 ∷ values) (values_of forms x.1))
+    (value_at form fields)
+
+-- the word that stands first, and the fields after it
+abbrev pub word_at : List (List ℕ) → Option (Word × List (List ℕ))
+word_at [] = None
+word_at (name ∷ fields) = option_map (λ w. (w, fields)) (word_named name)
+
+-- what fields say behind a word
+abbrev pub says_behind : Word → List (List ℕ) → Option (Word × List Value)
+says_behind w fields = option_map (λ values. (w, values)) (values_of (row w).fields fields)
+
+-- what a line says: its word, and what each field says
+unfoldable pub says : List ℕ → Option (Word × List Value)
+says line = option_and_then (λ x. says_behind x.0 x.1) (word_at (fields_of line))
+
+-- ---- calls
+
+-- what an add says of its key
+abbrev pub key_values : List ℕ → Option (List ℕ) → ℕ → ℕ → ℕ → Bool → List Value
+key_values pubref privref algorithm tag created available =
+    Reference pubref ∷ Private privref ∷ Number algorithm ∷ Number tag ∷ Moment created
+    ∷ Flag available ∷ []
+
+-- a call in the words of a script
+abbrev pub said : Call → Word × List Value
+said (call.AddKeyKsk p q a t c y) =
+    (word.AddKsk, key_values (string_bytes p) (option_map string_bytes q) a t c (is_available y))
+said (call.AddKeyZsk p q a t c y) =
+    (word.AddZsk, key_values (string_bytes p) (option_map string_bytes q) a t c (is_available y))
+said (call.AddKeyCsk p q a t c y) =
+    (word.AddCsk, key_values (string_bytes p) (option_map string_bytes q) a t c (is_available y))
+said (call.AddPublicKey p a t c y) = (
+  word.AddPublic,
+  Reference (string_bytes p) ∷ Number a ∷ Number t ∷ Moment c ∷ Flag y ∷ [],
+)
+said (call.SetDecoupled p y) = (word.SetDecoupled, Reference p.now ∷ Flag y ∷ [])
+said (call.SetPresent p y t) = (word.SetPresent, Reference p.now ∷ Flag y ∷ Moment t ∷ [])
+said (call.SetSigner p y) = (word.SetSigner, Reference p.now ∷ Flag y ∷ [])
+said (call.SetAtParent p y) = (word.SetAtParent, Reference p.now ∷ Flag y ∷ [])
+said (call.SetStale p) = (word.SetStale, Reference p.now ∷ [])
+said (call.SetVisible p t) = (word.SetVisible, Reference p.now ∷ Moment t ∷ [])
+said (call.SetDsVisible p t) = (word.SetDsVisible, Reference p.now ∷ Moment t ∷ [])
+said (call.SetRrsigVisible p t) = (word.SetRrsigVisible, Reference p.now ∷ Moment t ∷ [])
+said (call.DeleteKey p) = (word.Delete, Reference p.now ∷ [])
+said (call.StartRoll r old new t) = (
+  word.Start,
+  Roll r ∷ References (map now old.now) ∷ References (map now new.now) ∷ Moment t ∷ [],
+)
+said (call.Propagation1Complete r ttl t) = (word.Report1, Roll r ∷ Number ttl ∷ Moment t ∷ [])
+said (call.CacheExpired1 r t) = (word.Wait1, Roll r ∷ Moment t ∷ [])
+said (call.Propagation2Complete r ttl t) = (word.Report2, Roll r ∷ Number ttl ∷ Moment t ∷ [])
+said (call.CacheExpired2 r t) = (word.Wait2, Roll r ∷ Moment t ∷ [])
+said (call.RollDone r) = (word.Done, Roll r ∷ [])
+
+-- the line makes this call
+abbrev pub Spells : List ℕ → Call → Type 0
+Spells line call = says line ≡ Some (said call)
+
+-- ---- scripts
+
+-- the line names the zone
+abbrev pub IsZoneLine : List ℕ → List ℕ → Type 0
+IsZoneLine line name = (text : List ℕ) × (line ≡ codes "zone " ++ text) × names.Spells text name
+
+-- each line makes its call
+abbrev pub SpellEach : List (List ℕ) → List Call → Type 0
+SpellEach [] [] = Unit {0}
+SpellEach (line ∷ lines) (call ∷ calls) = Spells line call × SpellEach lines calls
+SpellEach _ _ = ⊥
+
+-- the first line names the zone, and each further line makes its call
+abbrev pub AreScript : List (List ℕ) → List ℕ → List Call → Type 0
+AreScript [] name calls = ⊥
+AreScript (zone ∷ lines) name calls = IsZoneLine zone name × SpellEach lines calls
+
+-- the bytes are a script of this zone and these calls
+abbrev pub IsScript : List ℕ → List ℕ → List Call → Type 0
+IsScript script name calls = AreScript (lines_of script) name calls
+
+-- ---- malformed lines
+
+-- line n, counted from 1, has its form: the first names a zone, every other makes a call
+abbrev pub HasForm : ℕ → List ℕ → Type 0
+HasForm n line = MatchBool (n == 1) ((name : List ℕ) × IsZoneLine line name) (IsSome (says line))
+
+-- line n, counted from 1
+abbrev pub line_of : List (List ℕ) → ℕ → List ℕ
+line_of lines n = slice_index_or lines (n - 1) []
+
+-- line n is the first that hasn't its form
+pub record IsFirstOf (lines : List (List ℕ)) (n : ℕ) : Type 0 where
+  pub number : (0 < n) × (n ≤ length lines)
+  pub malformed : ¬ HasForm n (line_of lines n)
+  pub before : (k : ℕ) → 0 < k → k < n → HasForm k (line_of lines k)
+
+-- line n of the script is its first malformed one
+abbrev pub IsFirstMalformed : List ℕ → ℕ → Type 0
+IsFirstMalformed script n = IsFirstOf (lines_of script) n

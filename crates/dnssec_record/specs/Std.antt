@@ -1,0 +1,11 @@
+-- What a contract sees of a device over a reader or a writer of the standard library.
+use Rattle.std.specs.Prelude.{ℕ}
+use Rattle.dnssec_record.specs.declared.device.Std.{Std}
+
+-- what it was made over
+abbrev pub std_inner : {T : Type 0} → Std T → T
+std_inner device = device.inner
+
+-- how often it has failed
+abbrev pub std_faults : {T : Type 0} → Std T → ℕ
+std_faults device = device.faults

@@ -1,0 +1,128 @@
+//! Devices that a script is read from and its answers are written to.
+ghost use Rattle.std.specs.Prelude.{◌≡◌, ◌≢◌, ℕ, ◌+◌, ◌<◌, ◌≤◌, List, Option, length, IfOk};
+ghost use Rattle.std.specs.Io.KnownBytes.{ReadConsumes, WriteAppends};
+ghost use Rattle.dnssec_record.specs.Device.{Counts, TakesSome};
+
+use std::io::{Read, Write};
+
+/// A device has failed.
+#[derive(Clone, Copy, Debug, PartialEq)]
+pub struct DeviceFault;
+
+/// A device that gives bytes.
+pub trait Source {
+    // The bytes that are left to give, where the device tells them.
+    ghost left: { Self → Option (List ℕ) };
+
+    // How often the device has failed.
+    ghost faults: { Self → ℕ };
+
+    /// Reads the next bytes into the front of `buf`, and answers how many these are.
+    ///
+    /// For a buffer that isn't empty the answer is 0 only at the end. A fault gives nothing, and
+    /// is counted. The caller sees to it that the count has room.
+    fn read(&mut self, buf: &mut [u8]) -> Result<usize, DeviceFault>
+        requires { faults self.old < u64.MAX }
+        ensures bound { IfOk result (λ n. n ≤ length buf.new) }
+        ensures bytes { ReadConsumes (left self.old) (left self.new) result buf.new }
+        ensures counted { Counts result (faults self.old) (faults self.new) };
+
+    /// How often the device has failed.
+    fn faults(&self) -> u64
+        ensures { result ≡ faults self.now };
+}
+
+/// A device that takes bytes.
+pub trait Sink {
+    // The bytes that were taken, where the device tells them.
+    ghost taken: { Self → Option (List ℕ) };
+
+    // How often the device has failed.
+    ghost faults: { Self → ℕ };
+
+    /// Writes first bytes of `buf`, and answers how many were taken: at least one of a piece that
+    /// isn't empty.
+    ///
+    /// A fault takes nothing, and is counted. The caller sees to it that the count has room.
+    fn write(&mut self, buf: &[u8]) -> Result<usize, DeviceFault>
+        requires { faults self.old < u64.MAX }
+        ensures bound { IfOk result (λ n. n ≤ length buf.now) }
+        ensures some { TakesSome result buf.now }
+        ensures bytes { WriteAppends (taken self.old) (taken self.new) result buf.now }
+        ensures counted { Counts result (faults self.old) (faults self.new) };
+
+    /// How often the device has failed.
+    fn faults(&self) -> u64
+        ensures { result ≡ faults self.now };
+}
+
+/// A reader or a writer of the standard library as a device, which counts its errors.
+#[derive(Debug, Drop)]
+pub struct Std<T> {
+    inner: T,
+    faults: u64,
+}
+
+impl<T> Std<T> {
+    ghost use Rattle.dnssec_record.specs.Std.{std_inner, std_faults};
+
+    /// A device over `inner`, which hasn't failed yet.
+    pub fn new(inner: T) -> Self
+        ensures inner { std_inner result ≡ inner }
+        ensures faults { std_faults result ≡ 0 }
+    {
+        Std { inner, faults: 0 }
+    }
+
+    /// Gives back what the device was made over.
+    pub fn into_inner(self) -> T
+        ensures { result ≡ std_inner self }
+    {
+        let Std { inner, faults: _ } = self;
+        inner
+    }
+}
+
+impl<T: Read> Source for Std<T> {
+    ghost use Rattle.dnssec_record.specs.Std.{std_inner, std_faults};
+
+    ghost left = { λ device. T.remaining (std_inner device) };
+
+    ghost faults = { λ device. std_faults device };
+
+    fn read(&mut self, buf: &mut [u8]) -> Result<usize, DeviceFault> {
+        match self.inner.read(buf) {
+            Ok(count) => Ok(count),
+            Err(_) => {
+                self.faults += 1;
+                Err(DeviceFault)
+            }
+        }
+    }
+
+    fn faults(&self) -> u64 {
+        self.faults
+    }
+}
+
+impl<T: Write> Sink for Std<T> {
+    ghost use Rattle.dnssec_record.specs.Std.{std_inner, std_faults};
+
+    ghost taken = { λ device. T.contents (std_inner device) };
+
+    ghost faults = { λ device. std_faults device };
+
+    fn write(&mut self, buf: &[u8]) -> Result<usize, DeviceFault> {
+        match self.inner.write(buf) {
+            Ok(count) if count > 0 || buf.is_empty() => Ok(count),
+            _ => {
+                self.faults += 1;
+                Err(DeviceFault)
+            }
+        }
+    }
+
+    fn faults(&self) -> u64 {
+        self.faults
+    }
+}

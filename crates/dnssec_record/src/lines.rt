@@ -1,0 +1,116 @@
+//! The lines of a script.
+ghost use Rattle.std.specs.Prelude.{◌≡◌, ℕ, List, map, IfOk, IfErr, IfSome, IfNone, Some};
+ghost use denote.Bor.{now};
+ghost use Rattle.dnssec_base.specs.NameText as names;
+ghost use Rattle.dnssec_record.specs.Script.{IsZoneLine, lines_of, said, says, without_end};
+ghost use Rattle.dnssec_record.specs.Statement.{statement_said};
+ghost use Rattle.dnssec_record.specs.Reading.{CallsFault, all_said};
+
+use crate::call::Call;
+use crate::fields::parts;
+use crate::script::ScriptFault;
+use crate::statement::{Lists, Statement, read_line};
+use dnssec_base::{Name, NameError};
+use std::alloc::{AllocError, Global};
+
+/// The lines of a script.
+pub(crate) fn lines(alloc: Global, script: &[u8]) -> Result<Vec<&[u8]>, AllocError>
+    ensures { IfOk result (λ lines. map now lines.items ≡ lines_of script.now) }
+{
+    parts(alloc, without_end(script), b'\n')
+}
+
+/// The script without a line feed at its end.
+fn without_end(script: &[u8]) -> &[u8]
+    ensures { result.now ≡ without_end script.now }
+{
+    match script.split_last() {
+        Some((last, text)) => { if *last == b'\n' { text } else { script } }
+        None => script,
+    }
+}
+
+/// The name that the first line gives.
+pub(crate) fn zone(alloc: Global, line: &[u8]) -> Result<Option<Name<Vec<u8>>>, AllocError>
+    ensures found { IfOk result (λ found. IfSome found (IsZoneLine line.now)) }
+    ensures none { IfOk result (λ found.
+        IfNone found ((name : List ℕ) → ¬ IsZoneLine line.now name)) }
+{
+    match line.strip_prefix(b"zone ".as_slice()) {
+        Some(text) => zone_name(alloc, text),
+        None => Ok(None),
+    }
+}
+
+/// The name that the text spells.
+fn zone_name(alloc: Global, text: &[u8]) -> Result<Option<Name<Vec<u8>>>, AllocError>
+    ensures found { IfOk result (λ found. IfSome found (names.Spells text.now)) }
+    ensures none { IfOk result (λ found.
+        IfNone found ((name : List ℕ) → ¬ names.Spells text.now name)) }
+{
+    let Ok(text) = str::from_utf8(text) else {
+        return Ok(None);
+    };
+    match Name::from_str(alloc, text) {
+        Ok(name) => Ok(Some(name)),
+        Err(NameError::OutOfMemory) => Err(AllocError),
+        Err(_) => Ok(None),
+    }
+}
+
+/// The calls that the lines make.
+pub(crate) fn read_calls<'a>(
+    alloc: Global,
+    lines: &'a [&'a [u8]],
+) -> Result<(Vec<Statement<'a>>, Vec<Lists<'a>>), ScriptFault>
+    ensures ok { IfOk result (λ read.
+        all_said read.0.items read.1.items ≡ map says (map now lines.now)) }
+    ensures err { IfErr result (CallsFault (map now lines.now)) }
+{
+    let mut statements = Vec::new(alloc);
+    let mut lists = Vec::new(alloc);
+    for (index, line) in lines.iter().enumerate() {
+        match read_line(alloc, line)? {
+            Some((statement, own)) => {
+                statements.push(statement)?;
+                lists.push(own)?;
+            }
+            None => return Err(ScriptFault::Malformed(index + 2)),
+        }
+    }
+    Ok((statements, lists))
+}
+
+/// The calls, each with its lists.
+pub(crate) fn with_lists<'a, 's: 'a>(
+    alloc: Global,
+    statements: Vec<Statement<'s>>,
+    lists: &'a [Lists<'s>],
+) -> Result<Vec<Call<'a>>, AllocError>
+    ensures { IfOk result (λ calls. map (λ c. Some (said c)) calls.items
+        ≡ all_said statements.entry.items lists.now) }
+{
+    let mut calls = Vec::new(alloc);
+    let mut statements = statements.into_iter();
+    for own in lists {
+        if let Some(statement) = statements.next() {
+            calls.push(with_own(statement, own))?;
+        }
+    }
+    Ok(calls)
+}
+
+/// The call of a statement with its lists.
+fn with_own<'a, 's: 'a>(statement: Statement<'s>, lists: &'a Lists<'s>) -> Call<'a>
+    ensures { said result ≡ statement_said statement.entry lists.now }
+{
+    match statement {
+        Statement::Call(call) => call,
+        Statement::Start { rolltype, now } => Call::StartRoll {
+            rolltype,
+            old: &lists.old,
+            new: &lists.new,
+            now,
+        },
+    }
+}

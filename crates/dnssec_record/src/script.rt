@@ -1,0 +1,195 @@
+//! Scripts: calls in a text, and the answers to them.
+ghost use Rattle.std.specs.Prelude.{◌≡◌, ◌≢◌, ◌⊎◌, ◌↔◌, ℕ, ◌<◌, List, Some, IfOk, IfErr, IfSome};
+ghost use Rattle.std.specs.Prelude.{OnOk, OnErr, Err, string_bytes};
+ghost use Rattle.std.specs.Io.KnownBytes.{Appends, IsAtEnd, Keeps};
+ghost use Rattle.dnssec_record.specs.Answer.{Answers, AnswerFault, TakesAnswer, TakesAtMost};
+ghost use Rattle.dnssec_record.specs.Device.{Counts};
+ghost use Rattle.dnssec_record.specs.Fault.{fault_status, fault_text};
+ghost use Rattle.dnssec_record.specs.Reading.{ReadFault, TakesFront};
+ghost use Rattle.dnssec_record.specs.Script.{IsFirstMalformed, IsScript};
+ghost use Rattle.dnssec_record.specs.declared.call.Call.{Call};
+ghost use Rattle.dnssec_record.specs.declared.script.ScriptFault.TheVariants.{Device, OutOfMemory};
+
+use crate::answers::answer;
+use crate::device::{DeviceFault, Sink, Source};
+use crate::lines::{lines, read_calls, with_lists, zone};
+use crate::running::run;
+use std::alloc::{AllocError, AllocFailed, Global};
+use std::fmt;
+
+/// How many bytes are asked of the input at once.
+const PIECE: usize = 4096;
+
+/// Runs the script that `input` gives, and writes its answers to `output`.
+///
+/// The whole input is read and judged before anything is run. Each call is answered on a line:
+/// `ok` with the actions that are due, or `refused: ` and the reason. The last line is that of
+/// the sets that are published at the end. A call that is refused doesn't stop the script.
+///
+/// `alloc` is where the script, its calls and the answers get their memory.
+///
+/// # Errors
+///
+/// - `Malformed` with the number of the first line that hasn't its form. Nothing was written.
+/// - `Device` where `input` or `output` has failed. What was written is a beginning of the
+///   answers.
+/// - `OutOfMemory` where memory is wanting. Nothing was written.
+pub fn run_script<R: Source, W: Sink>(
+    alloc: Global,
+    input: &mut R,
+    output: &mut W,
+) -> Result<(), ScriptFault>
+    requires input_counts { R.faults input.old < u64.MAX }
+    requires output_counts { W.faults output.old < u64.MAX }
+
+    // An accepted input is a script, and what was taken is the output of a run of its calls.
+    ensures ok { OnOk result (IfSome (R.left input.old)
+        (λ script. TakesAnswer script (W.taken output.old) (W.taken output.new))) }
+    ensures ok_end { OnOk result (IsAtEnd (R.left input.new)) }
+
+    // A malformed input is told by its first malformed line, and nothing is written.
+    ensures malformed { (n : ℕ) → result ≡ Err (ScriptFault.Malformed n) →
+        IfSome (R.left input.old) (λ script. IsFirstMalformed script n) }
+    ensures malformed_end { (n : ℕ) → result ≡ Err (ScriptFault.Malformed n) →
+        IsAtEnd (R.left input.new) }
+    ensures malformed_silent { (n : ℕ) → result ≡ Err (ScriptFault.Malformed n) →
+        Keeps (W.taken output.old) (W.taken output.new) }
+
+    // A script is never called malformed.
+    ensures well_formed { IfSome (R.left input.old)
+        (λ script. (name : List ℕ) (calls : List Call) → IsScript script name calls →
+        (n : ℕ) → result ≢ Err (ScriptFault.Malformed n)) }
+
+    // A device is blamed exactly where one has failed.
+    ensures device { (result ≡ Err ScriptFault.Device)
+        ↔ (R.faults input.old < R.faults input.new ⊎ W.faults output.old < W.faults output.new) }
+
+    // After a fault what was taken is at most a beginning of an answer.
+    ensures begun { OnErr result
+        (TakesAtMost (R.left input.old) (W.taken output.old) (W.taken output.new)) }
+{
+    let script = read_to_end(alloc, input)?;
+    let text = answer_to(alloc, &script)?;
+    write_all(output, text.as_str().as_bytes())?;
+    Ok(())
+}
+
+/// Reads all that the input has left.
+fn read_to_end<R: Source>(alloc: Global, input: &mut R) -> Result<Vec<u8>, ScriptFault>
+    requires { R.faults input.old < u64.MAX }
+    ensures whole { IfOk result (λ script.
+        IfSome (R.left input.old) (λ text. script.items ≡ text)) }
+    ensures end { OnOk result (IsAtEnd (R.left input.new)) }
+    ensures counted { OnOk result (R.faults input.new ≡ R.faults input.old) }
+    ensures err { IfErr result (ReadFault (R.faults input.old) (R.faults input.new)) }
+{
+    let mut script = Vec::new(alloc);
+    let mut piece = [0; PIECE];
+    loop {
+        let count = input.read(&mut piece)?;
+        if count == 0 {
+            return Ok(script);
+        }
+        script.extend_from_slice(&piece[..count])?;
+    }
+}
+
+/// The answers to a script.
+fn answer_to(alloc: Global, script: &[u8]) -> Result<String, ScriptFault>
+    ensures ok { IfOk result (λ text. Answers script.now (string_bytes text)) }
+    ensures err { IfErr result (AnswerFault script.now) }
+{
+    let lines = lines(alloc, script)?;
+    let Some((first, rest)) = lines.split_first() else {
+        return Err(ScriptFault::Malformed(1));
+    };
+    let Some(name) = zone(alloc, first)? else {
+        return Err(ScriptFault::Malformed(1));
+    };
+    let (statements, lists) = read_calls(alloc, rest)?;
+    let calls = with_lists(alloc, statements, &lists)?;
+    let Ok(run) = run(alloc, name, calls) else {
+        return Err(ScriptFault::OutOfMemory);
+    };
+    let text = answer(alloc, &run.entries)?;
+    Ok(text)
+}
+
+/// Writes all of the bytes, or fails with some of them written.
+fn write_all<W: Sink>(output: &mut W, bytes: &[u8]) -> Result<(), DeviceFault>
+    requires { W.faults output.old < u64.MAX }
+    ensures ok { OnOk result (Appends (W.taken output.old) (W.taken output.new) bytes.now) }
+    ensures err { OnErr result (TakesFront (W.taken output.old) (W.taken output.new) bytes.now) }
+    ensures counted { Counts result (W.faults output.old) (W.faults output.new) }
+{
+    let mut rest = bytes;
+    while !rest.is_empty() {
+        let count = output.write(rest)?;
+        rest = &rest[count..];
+    }
+    Ok(())
+}
+
+/// Why a script was not answered to its end.
+#[derive(Debug, Drop, PartialEq)]
+pub enum ScriptFault {
+    /// The line of this number, counted from 1, is the first that hasn't the form of a script's
+    /// line. Nothing was run, and nothing was written.
+    Malformed(usize),
+    /// The input or the output failed. What was written is a beginning of the answers.
+    Device,
+    /// Memory is wanting. Nothing was written.
+    OutOfMemory,
+}
+
+impl ScriptFault {
+    /// The status that a program ends with after this fault: 1 for a malformed script, 2 for a
+    /// device, 3 for memory.
+    pub fn status(&self) -> u8
+        ensures { result ≡ fault_status self.now }
+    {
+        match self {
+            ScriptFault::Malformed(_) => 1,
+            ScriptFault::Device => 2,
+            ScriptFault::OutOfMemory => 3,
+        }
+    }
+}
+
+impl fmt::Display for ScriptFault {
+    ghost output = { λ fault. Some (fault_text fault) };
+
+    fn fmt<W: fmt::Write>(&self, f: &mut fmt::Formatter<W>) -> fmt::Result {
+        match self {
+            ScriptFault::Malformed(number) => write!(f, "line {number}: malformed"),
+            ScriptFault::Device => f.write_str("input or output fault"),
+            ScriptFault::OutOfMemory => f.write_str("out of memory"),
+        }
+    }
+}
+
+impl std::error::Error for ScriptFault {}
+
+impl From<DeviceFault> for ScriptFault {
+    ghost from_gives = { λ _ fault. fault ≡ Device };
+
+    fn from(_: DeviceFault) -> Self {
+        ScriptFault::Device
+    }
+}
+
+impl From<AllocError> for ScriptFault {
+    ghost from_gives = { λ _ fault. fault ≡ OutOfMemory };
+
+    fn from(_: AllocError) -> Self {
+        ScriptFault::OutOfMemory
+    }
+}
+
+impl<T: Drop> From<AllocFailed<T>> for ScriptFault {
+    ghost from_gives = { λ _ fault. fault ≡ OutOfMemory };
+
+    fn from(_: AllocFailed<T>) -> Self {
+        ScriptFault::OutOfMemory
+    }
+}
