@@ -1,0 +1,21 @@
+# `make run` answers a script, `make test` is the gate.
+
+SCRIPT ?= examples/algorithm-roll.script
+
+.PHONY: run test build memory
+
+# Proves and builds the program, and answers SCRIPT.
+run: build
+	@crates/keyset/out/keyset <"$(SCRIPT)"
+
+build:
+	@mkdir -p crates/keyset/out
+	@cd crates/keyset && rt run <stdin >out/build.log 2>&1 || { cat out/build.log >&2; exit 1; }
+
+# Each allocation of some tests and of a small script fails in turn; then every proof, test and
+# program.
+test: memory
+	@rt ci
+
+memory:
+	@tests/memory.sh

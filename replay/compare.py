@@ -1,0 +1,191 @@
+"""Compares a port of the key set with the original program, script by script.
+
+    python3 compare.py --original PROGRAM [--port PROGRAM] [--seed SEED] [--count N] [--file FILE]
+
+The scripts are those written by hand and N generated ones, or those of a file in the format of
+by_hand.txt. PROGRAM is a command that reads a script on standard input. Without a port the tables
+stand in its place, and are what is compared. The original is run with --canon --alts: of the
+answers that a wait could give by the order of its hashed map it then gives one, the end of the
+program if that is among them, else the longest wait, and it lists them all.
+
+The two are to give the same answers, and the same published sets at the end, up to the first call
+in which they are meant to differ. From there on the original is left out. The port is to answer
+by the tables throughout. Any other difference is a finding, printed with the smallest script that
+shows it. The status is 1 if there is one.
+"""
+
+import argparse
+import collections
+import shlex
+import subprocess
+import sys
+from concurrent.futures import ThreadPoolExecutor
+from pathlib import Path
+
+from make_scripts import by_hand, generated, read_scripts
+from tables import ROLLS, KeySet, answers
+
+# The answer of an original that ends without one.
+ENDED = "panic"
+
+# The intended differences, by their headings in docs/DIFFERENCES.md, and what the original has in
+# the place of cells of the tables, or as its answer for a key without its stamp. The first that
+# explains a call is named.
+BESIDE = "The waits of ksk-roll pass over keys that stand beside the roll"
+UNSUITED = [("Z", "!old | present")]
+DIFFERENCES = [
+    (BESIDE + ": the first", {("ksk-roll", "wait1"): ("visible", "K", "!stale")}, None),
+    (BESIDE + ": the second", {("ksk-roll", "wait2"): ("ds_visible", "K", "!stale")}, None),
+    (
+        'The second wait of ksk-double-ds-roll reads "visible"',
+        {("ksk-double-ds-roll", "wait2"): ("ds_visible", "K", "!old present")},
+        None,
+    ),
+    (
+        "A ZSK roll leaves a ZSK that is present and not old",
+        {
+            ("zsk-roll", "suited"): UNSUITED,
+            ("zsk-double-signature-roll", "suited"): UNSUITED,
+        },
+        None,
+    ),
+    ("A missing stamp is a refusal, and comes before any wait", {}, ENDED),
+]
+# This one is seen in the list of the answers that the original could give.
+LONGEST = "Wait tells the longest time that is left"
+
+
+def with_cells(cells):
+    """The tables with some cells replaced."""
+    rolls = {roll: dict(rule) for roll, rule in ROLLS.items()}
+    for (roll, part), cell in cells.items():
+        rolls[roll][part] = cell
+    return rolls
+
+
+VARIANTS = [(words, with_cells(cells), lacking) for words, cells, lacking in DIFFERENCES]
+ORIGINAL = with_cells({place: cell for _, cells, _ in DIFFERENCES for place, cell in cells.items()})
+
+
+def answer_of(keyset, line, rolls, lacking):
+    """The refusal that another table would give in this state; None where it accepts."""
+    usual = keyset.rolls, keyset.lacking
+    keyset.rolls, keyset.lacking = rolls, lacking or keyset.lacking
+    answer = keyset.refusal(line)
+    keyset.rolls, keyset.lacking = usual
+    return answer
+
+
+def intended(keyset, line):
+    """The difference that this call of a script falls into, by its words, and whether the
+    original accepts the call or how it refuses it; else None."""
+    if line.split(" ")[0] not in ("start", "wait1", "wait2"):
+        return None
+    by_tables = keyset.refusal(line)
+    original = answer_of(keyset, line, ORIGINAL, ENDED)
+    if original == by_tables:
+        return None
+    for words, rolls, lacking in VARIANTS:
+        if answer_of(keyset, line, rolls, lacking) != by_tables:
+            return words, original
+    raise AssertionError("no difference explains " + line)
+
+
+def run(command, script):
+    """The lines that a program writes for a script, and its status; without one the tables'."""
+    if not command:
+        return answers(script), 0
+    text = "\n".join(script) + "\n"
+    done = subprocess.run(command, input=text, capture_output=True, text=True)
+    return done.stdout.splitlines(), done.returncode
+
+
+def compare(original, port, script):
+    """The intended differences that a script shows, by their words, how many answers of the two
+    were compared, and the finding or None."""
+    seen, there, same = set(), [], 0
+    lines, status = run(original, script)
+    if status not in (0, 5):
+        return seen, same, f"the original ends with status {status}"
+    for line in lines:
+        if not line.startswith("#"):
+            there.append(line)
+        elif ENDED not in line:
+            seen.add(LONGEST)
+    here, status = run(port, script)
+    if here and here[-1].startswith("chain "):
+        here.pop()
+    if status != 0 or len(here) != len(script):
+        return seen, same, f"the port ends with status {status} after {len(here)} answers"
+    keyset, together = KeySet(), True
+    for index, line in enumerate(script[1:]):
+        difference = intended(keyset, line) if together else None
+        answer = keyset.call(line)
+        if difference:
+            together = False
+            seen.add(difference[0])
+            refused = difference[1]
+            if there[index] != refused and (refused or not there[index].startswith("ok")):
+                both = f"  original: {there[index]}\n  meant to be: {refused}"
+                return seen, same, f"{line}\n{both}"
+        elif together and there[index] != here[index]:
+            both = f"  original: {there[index]}\n  port: {here[index]}"
+            return seen, same, f"{line}\n{both}\n  by the tables: {answer}"
+        if here[index] != answer:
+            return seen, same, f"{line}\n  port: {here[index]}\n  by the tables: {answer}"
+        same += together
+    sets = keyset.published()
+    if together and there[-1] != here[-1]:
+        return seen, same, f"published sets\n  original: {there[-1]}\n  port: {here[-1]}"
+    if here[-1] != sets:
+        return seen, same, f"published sets\n  port: {here[-1]}\n  by the tables: {sets}"
+    return seen, same, None
+
+
+def smallest(original, port, script):
+    """A script of which no line can be left out, with the finding that it still shows."""
+    shorter = True
+    while shorter:
+        shorter = False
+        for index in range(len(script) - 1, 0, -1):
+            tried = script[:index] + script[index + 1:]
+            if compare(original, port, tried)[2]:
+                script, shorter = tried, True
+    return script, compare(original, port, script)[2]
+
+
+def main():
+    parser = argparse.ArgumentParser()
+    parser.add_argument("--original", required=True)
+    parser.add_argument("--port", default="")
+    parser.add_argument("--seed", default="1")
+    parser.add_argument("--count", type=int, default=1000)
+    parser.add_argument("--file")
+    given = parser.parse_args()
+    original = [*shlex.split(given.original), "--canon", "--alts"]
+    port = shlex.split(given.port)
+    if given.file:
+        scripts = read_scripts(Path(given.file).read_text())
+    else:
+        scripts = {**by_hand(), **generated(given.seed, given.count)}
+    tally, findings, compared = collections.Counter(), [], 0
+    with ThreadPoolExecutor(3) as pool:
+        results = pool.map(lambda lines: compare(original, port, lines), scripts.values())
+        for name, (seen, same, finding) in zip(scripts, results):
+            compared += same
+            tally.update(seen or ["no difference"])
+            if finding:
+                findings.append(name)
+    calls = sum(len(lines) - 1 for lines in scripts.values())
+    print(f"{len(scripts)} scripts with {calls} calls, {len(findings)} with a finding")
+    print(f"{compared} answers are those of the original, all others those of the tables")
+    for words, count in sorted(tally.items()):
+        print(f"{count:7}  {words}")
+    for name in findings[:5]:
+        script, finding = smallest(original, port, scripts[name])
+        print("\n".join(["", f"== {name}", *script, f"-- {finding}"]))
+    sys.exit(1 if findings else 0)
+
+
+if __name__ == "__main__":
+    main()

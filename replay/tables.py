@@ -1,0 +1,367 @@
+"""What the calls of a script answer, by the tables of the rolls.
+
+    python3 tables.py < SCRIPT
+
+This is written from the tables alone and shares no text with the key set that is proved or with
+the original. A roll is one entry of ROLLS, and the code below has no case for any roll.
+
+A role is one of a key's states. A KSK and a ZSK have one, a CSK has two: the first as KSK, the
+second as ZSK. The tables pick roles by these words:
+
+    K, Z     the state of a KSK, of a ZSK
+    KSK      the state of a KSK, the first state of a CSK
+    ZSK      the state of a ZSK, the second state of a CSK
+    first    the first state of a KSK, a ZSK or a CSK
+    zone     the first state of a ZSK or a CSK
+    whole    as first, but what is written goes to all states of the key
+    any      the first state of a key of any kind, a public key included
+
+and of these by a condition on the flags before the call: 'old !present' is old and not present,
+and a bar stands between two conditions of which one is enough.
+"""
+
+import sys
+
+# For each roll: the kinds of key that its lists may name; the flags and the stamp that the start
+# gives a new key; what suits the start; which stamps the reports set; which stamp of which keys
+# the waits read; what an accepted wait writes; and the actions of the phases.
+ROLLS = {
+    "ksk-roll": {
+        "kinds": "ksk",
+        "tolerates": "zsk-roll zsk-double-signature-roll",
+        "same algorithms": True,
+        "new": [("K", "+present +signer published")],
+        "suited": [("K", "!old present")],
+        "report1": [("K", "!old present", "visible")],
+        "report2": [("K", "!old at_parent", "ds_visible")],
+        "wait1": ("visible", "K", "old !stale | !old present"),
+        "wait2": ("ds_visible", "K", "old !stale | !old at_parent"),
+        "change1": [("K", "old present", "-at_parent"), ("K", "!old present", "+at_parent")],
+        "change2": [("K", "old present", "-signer -present withdrawn")],
+        "started": "UpdateDnskeyRrset ReportDnskeyPropagated",
+        "halfway": "CreateCdsRrset UpdateDsRrset ReportDsPropagated",
+        "ended": "RemoveCdsRrset UpdateDnskeyRrset WaitDnskeyPropagated",
+    },
+    "ksk-double-ds-roll": {
+        "kinds": "ksk",
+        "tolerates": "zsk-roll zsk-double-signature-roll",
+        "same algorithms": True,
+        "new": [("K", "+at_parent")],
+        "suited": [("K", "!old at_parent")],
+        "report1": [("K", "!old at_parent", "ds_visible")],
+        "report2": [("K", "!old present", "visible")],
+        "wait1": ("ds_visible", "K", "!old at_parent"),
+        "wait2": ("visible", "K", "!old present"),
+        "change1": [
+            ("K", "old present", "-present -signer"),
+            ("K", "!old at_parent", "+present +signer published"),
+        ],
+        "change2": [("K", "old at_parent", "-at_parent withdrawn")],
+        "started": "CreateCdsRrset UpdateDsRrset ReportDsPropagated",
+        "halfway": "RemoveCdsRrset UpdateDnskeyRrset ReportDnskeyPropagated",
+        "ended": "CreateCdsRrset UpdateDsRrset WaitDsPropagated",
+    },
+    "zsk-roll": {
+        "kinds": "zsk",
+        "tolerates": "ksk-roll ksk-double-ds-roll",
+        "same algorithms": True,
+        "new": [("Z", "+present published")],
+        "suited": [("Z", "!old present")],
+        "report1": [("Z", "!old present", "visible")],
+        "report2": [("Z", "!old signer", "rrsig_visible")],
+        "wait1": ("visible", "Z", "!old present"),
+        "wait2": ("rrsig_visible", "Z", "!old signer"),
+        "change1": [("Z", "!old present", "+signer"), ("Z", "old", "-signer")],
+        "change2": [("Z", "old !signer", "-present withdrawn")],
+        "started": "UpdateDnskeyRrset ReportDnskeyPropagated",
+        "halfway": "UpdateRrsig ReportRrsigPropagated",
+        "ended": "UpdateDnskeyRrset WaitDnskeyPropagated",
+    },
+    "zsk-double-signature-roll": {
+        "kinds": "zsk",
+        "tolerates": "ksk-roll ksk-double-ds-roll",
+        "same algorithms": True,
+        "new": [("Z", "+present +signer published")],
+        "suited": [("Z", "!old present")],
+        "report1": [("Z", "!old present", "visible rrsig_visible")],
+        "report2": [],
+        "wait1": ("visible", "Z", "!old present"),
+        "wait2": ("rrsig_visible", "Z", "!old signer"),
+        "change1": [("Z", "old", "-present -signer withdrawn")],
+        "change2": [],
+        "started": "UpdateDnskeyRrset UpdateRrsig ReportDnskeyPropagated ReportRrsigPropagated",
+        "halfway": "UpdateDnskeyRrset UpdateRrsig ReportDnskeyPropagated ReportRrsigPropagated",
+        "ended": "",
+    },
+    "csk-roll": {
+        "kinds": "ksk zsk csk",
+        "tolerates": "",
+        "same algorithms": True,
+        "new": [("KSK", "+present +signer published"), ("ZSK", "+present published")],
+        "suited": [("KSK", "!old present"), ("ZSK", "!old present")],
+        "report1": [("first", "!old present", "visible")],
+        "report2": [
+            ("KSK", "!old present", "ds_visible"),
+            ("ZSK", "!old signer", "rrsig_visible"),
+        ],
+        "wait1": ("visible", "first", "!old present"),
+        "wait2": ("rrsig_visible", "ZSK", "!old signer"),
+        "change1": [
+            ("KSK", "old present", "-at_parent"),
+            ("KSK", "!old present", "+at_parent"),
+            ("ZSK", "!old present", "+signer"),
+            ("ZSK", "old", "-signer"),
+        ],
+        "change2": [
+            ("KSK", "old present", "-signer -present withdrawn"),
+            ("ZSK", "old !signer", "-present withdrawn"),
+        ],
+        "started": "UpdateDnskeyRrset ReportDnskeyPropagated",
+        "halfway": "CreateCdsRrset UpdateDsRrset UpdateRrsig"
+        " ReportDsPropagated ReportRrsigPropagated",
+        "ended": "RemoveCdsRrset UpdateDnskeyRrset WaitDnskeyPropagated",
+    },
+    "algorithm-roll": {
+        "kinds": "ksk zsk csk",
+        "tolerates": "",
+        "same algorithms": False,
+        "new": [("KSK", "+present +signer published"), ("ZSK", "+present +signer published")],
+        "suited": [("KSK", "!old present"), ("ZSK", "!old present")],
+        "report1": [
+            ("first", "!old present", "visible"),
+            ("zone", "!old present", "rrsig_visible"),
+        ],
+        "report2": [("KSK", "!old present", "ds_visible")],
+        "wait1": ("visible", "first", "!old present"),
+        "wait2": ("ds_visible", "KSK", "!old signer"),
+        "change1": [("KSK", "old present", "-at_parent"), ("KSK", "!old present", "+at_parent")],
+        "change2": [("whole", "old present", "-signer -present withdrawn")],
+        "started": "UpdateDnskeyRrset UpdateRrsig ReportDnskeyPropagated ReportRrsigPropagated",
+        "halfway": "CreateCdsRrset UpdateDsRrset ReportDsPropagated",
+        "ended": "RemoveCdsRrset UpdateDnskeyRrset UpdateRrsig"
+        " WaitDnskeyPropagated WaitRrsigPropagated",
+    },
+}
+
+# Which state a word picks, by the kind of key.
+ROLES = {
+    "ksk": {"K": 0, "KSK": 0, "first": 0, "whole": 0, "any": 0},
+    "zsk": {"Z": 0, "ZSK": 0, "first": 0, "zone": 0, "whole": 0, "any": 0},
+    "csk": {"KSK": 0, "ZSK": 1, "first": 0, "zone": 0, "whole": 0, "any": 0},
+    "include": {"any": 0},
+}
+
+# Which call a phase waits for, and the phase after it.
+PHASES = {"report1": "wait1", "wait1": "report2", "report2": "wait2", "wait2": "done"}
+
+WRONG_STATE = "key is in the wrong state"
+NOT_SUITED = "no suitable key present after key roll"
+
+
+class Key:
+    """A key: its kind, its states as sets of flags, and its stamps by name."""
+
+    def __init__(self, kind, algorithm, tag, available):
+        self.kind, self.algorithm, self.tag, self.available = kind, algorithm, tag, available
+        self.states = [set(), set()] if kind == "csk" else [set()]
+        self.stamps = {}
+
+    def role(self, word):
+        """The state that the word picks, by its number; None where it picks none."""
+        return ROLES[self.kind].get(word)
+
+
+def is_stale(state):
+    return state == {"old"}
+
+
+def meets(state, condition):
+    """Whether a state meets a condition."""
+    flags = state | ({"stale"} if is_stale(state) else set())
+    return any(
+        all((word.lstrip("!") in flags) != word.startswith("!") for word in part.split())
+        for part in condition.split("|")
+    )
+
+
+class KeySet:
+    """Keys and rolls; `rolls` is the table that it follows, `lacking` what a wait answers for a
+    key without its stamp."""
+
+    def __init__(self, rolls=None, lacking="refused: " + WRONG_STATE):
+        self.keys, self.phases = {}, {}
+        self.rolls, self.lacking = rolls or ROLLS, lacking
+
+    def picked(self, word, condition):
+        """The roles that a word and a condition pick, each as a key and a number."""
+        roles = [(key, key.role(word)) for key in self.keys.values()]
+        return [
+            (key, number)
+            for key, number in roles
+            if number is not None and meets(key.states[number], condition)
+        ]
+
+    def call(self, line):
+        """The answer to a line of a script, with its effect."""
+        refusal = self.refusal(line)
+        return refusal if refusal else self.accepted(line)
+
+    def refusal(self, line):
+        """The answer to a line that is refused, else None. Nothing changes."""
+        word, *fields = line.split(" ")
+        if word.startswith("add-"):
+            tag, name = int(fields[-3]), fields[0]
+            if any(key.tag == tag for key in self.keys.values()):
+                return "refused: Key tag already present"
+            return "refused: key already exists" if name in self.keys else None
+        if word == "start":
+            cause = self.start_refusal(*fields[:3])
+            return "refused: " + cause if cause else None
+        if word in ("report1", "wait1", "report2", "wait2", "done"):
+            phase, ttl = self.phases.get(fields[0], (None, 0))
+            if phase != word:
+                return "refused: wrong roll state for operation"
+            return self.waits(word, fields[0], ttl, int(fields[1])) if "wait" in word else None
+        return self.setter_refusal(word, self.keys.get(fields[0]))
+
+    def setter_refusal(self, word, key):
+        if key is None:
+            return "refused: key not found"
+        if word in ("set-signer", "set-at-parent") and key.kind == "include":
+            return "refused: key has the wrong type"
+        if word == "set-at-parent" and key.kind == "zsk":
+            return "refused: key has the wrong type"
+        if word == "delete" and not all(is_stale(state) for state in key.states):
+            return "refused: key is still in use, not old"
+        return None
+
+    def start_refusal(self, roll, old, new):
+        rule = self.rolls[roll]
+        old, new = ([] if names == "-" else names.split(",") for names in (old, new))
+        if roll in self.phases:
+            return "wrong roll state for operation"
+        if any(other not in rule["tolerates"].split() for other in self.phases):
+            return "conflicting roll is in progress"
+        for number, name in enumerate(old + new):
+            key = self.keys.get(name)
+            if key is None:
+                return "key not found"
+            if key.kind not in rule["kinds"].split():
+                return "key has the wrong type"
+            fresh = key.available and not any(key.states)
+            if number >= len(old) and (not fresh or name in (old + new)[:number]):
+                return WRONG_STATE
+        algorithms = [{self.keys[name].algorithm for name in names} for names in (old, new)]
+        if rule["same algorithms"] and algorithms[0] != algorithms[1]:
+            return "algorithm set mismatch for non-algorithm key roll"
+        before = {name: [set(state) for state in self.keys[name].states] for name in old + new}
+        self.mark(rule, old, new, None)
+        suited = all(self.picked(*wanted) for wanted in rule["suited"])
+        for name, states in before.items():
+            self.keys[name].states = states
+        return None if suited else NOT_SUITED
+
+    def mark(self, rule, old, new, now):
+        """Marks the keys of a start; without a moment only their flags."""
+        for name in old:
+            for state in self.keys[name].states:
+                state.add("old")
+        for name in new:
+            for word, change in rule["new"]:
+                number = self.keys[name].role(word)
+                if number is not None:
+                    write(self.keys[name], number, change, now)
+
+    def checked(self, word, roll):
+        """The stamps that a wait reads, None where a key lacks it."""
+        stamp, roles, condition = self.rolls[roll][word]
+        return [key.stamps.get(stamp) for key, _ in self.picked(roles, condition)]
+
+    def waits(self, word, roll, ttl, now):
+        stamps = self.checked(word, roll)
+        if None in stamps:
+            return self.lacking
+        left = max((ttl - max(0, now - stamp) for stamp in stamps), default=0)
+        return f"refused: wait for duration {left}s" if left > 0 else None
+
+    def accepted(self, line):
+        """Does what an accepted line does, and gives its answer."""
+        word, *fields = line.split(" ")
+        if word.startswith("add-"):
+            algorithm, tag, _, available = fields[-4:]
+            kind = "include" if word == "add-public" else word[4:]
+            self.keys[fields[0]] = Key(kind, int(algorithm), int(tag), available == "yes")
+        elif word == "delete":
+            del self.keys[fields[0]]
+        elif word.startswith("set-"):
+            self.set(word, self.keys[fields[0]], fields[1:])
+        elif word == "done":
+            del self.phases[fields[0]]
+        else:
+            return self.step(word, fields[0], fields[1:])
+        return "ok"
+
+    def set(self, word, key, fields):
+        flag = word[4:].replace("-", "_")
+        if word == "set-stale":
+            key.states = [{"old"} for _ in key.states]
+        elif word in ("set-visible", "set-ds-visible", "set-rrsig-visible"):
+            key.stamps[flag] = int(fields[0])
+        elif word != "set-decoupled":
+            for state in key.states[:1] if flag == "at_parent" else key.states:
+                state.add(flag) if fields[0] == "yes" else state.discard(flag)
+            if flag == "present" and fields[0] == "yes":
+                key.stamps.setdefault("published", int(fields[1]))
+
+    def step(self, word, roll, fields):
+        rule, now = self.rolls[roll], int(fields[-1])
+        if word == "start":
+            old, new = ([] if names == "-" else names.split(",") for names in fields[:2])
+            self.mark(rule, old, new, now)
+            self.phases[roll] = ("report1", 0)
+            return " ".join(["ok", rule["started"]])
+        ttl = int(fields[0]) if word.startswith("report") else 0
+        self.phases[roll] = (PHASES[word], ttl)
+        changes = rule[word.replace("wait", "change")]
+        writes = [
+            (key, target, change)
+            for picked, condition, change in changes
+            for key, number in self.picked(picked, condition)
+            for target in (range(len(key.states)) if picked == "whole" else [number])
+        ]
+        for key, target, change in writes:
+            write(key, target, change, now)
+        actions = {"wait1": rule["halfway"], "wait2": rule["ended"]}.get(word, "")
+        return " ".join(["ok", *actions.split()])
+
+    def published(self):
+        """The line of the published sets."""
+        sets = {"ds": ("KSK", "at_parent"), "dnskey": ("any", "present")}
+        sets |= {"signers": ("KSK", "signer"), "zone": ("ZSK", "signer")}
+        return " ".join(f"{label}={self.names(*sets[label])}" for label in sets)
+
+    def names(self, word, flag):
+        """The references of the keys that a word and a flag pick."""
+        keys = [key for key, _ in self.picked(word, flag)]
+        return ",".join(sorted(name for name in self.keys if self.keys[name] in keys)) or "-"
+
+
+def write(key, number, change, now):
+    """Writes the flags and stamps of a change."""
+    for word in change.split():
+        if word[0] == "+":
+            key.states[number].add(word[1:])
+        elif word[0] == "-":
+            key.states[number].discard(word[1:])
+        elif now is not None:
+            key.stamps[word] = now
+
+
+def answers(script, keyset=None):
+    """The answers to a script's lines, the line of its published sets last."""
+    keyset = keyset or KeySet()
+    return [keyset.call(line) for line in script[1:]] + [keyset.published()]
+
+
+if __name__ == "__main__":
+    print("\n".join(answers(sys.stdin.read().removesuffix("\n").split("\n"))))
