@@ -14,3 +14,4 @@ pub mod Allowed
 pub mod Laws
 pub mod Sides
 pub mod Exchange
+pub mod Alike

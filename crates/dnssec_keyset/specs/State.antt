@@ -49,9 +49,6 @@ is_old s = s.old
 abbrev pub is_signer : Flags → Bool
 is_signer s = s.signer
 
-abbrev pub is_present : Flags → Bool
-is_present s = s.present
-
 abbrev pub is_at_parent : Flags → Bool
 is_at_parent s = s.at_parent
 

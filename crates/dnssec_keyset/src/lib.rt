@@ -8,6 +8,7 @@
 #![tactic(auto)]
 
 mod check;
+mod comparisons;
 mod error;
 mod key;
 mod roll;
@@ -16,6 +17,10 @@ mod table;
 mod text;
 mod time;
 
+pub use comparisons::{
+    equal_errors_are_one, equal_kinds_are_one, equal_moments_are_one, equal_phases_are_one,
+    equal_states_are_one, moments_are_in_order_of_time,
+};
 pub use error::Error;
 pub use key::{Available, Key, KeyState, KeyTimestamps, KeyType};
 pub use roll::{Action, RollState, RollType};

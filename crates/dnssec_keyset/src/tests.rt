@@ -8,6 +8,7 @@ mod memory;
 mod side_by_side;
 mod starts;
 mod support;
+mod texts;
 mod values;
 mod whole_path;
 mod zsk_rolls;
