@@ -1,67 +1,109 @@
 #!/bin/sh
 # Lets each allocation fail in turn: the first, then the second, until there is none left to fail.
-# First those of the key set's tests of memory, then those of the program on a small script.
+# First those of the tests of memory of two crates, then those of the program on a small script.
+# Two runs go side by side.
 set -u
 cd "$(dirname "$0")"
 
-tests_crate=../crates/dnssec_keyset
-program_crate=../crates/keyset
 script=$PWD/memory.script
+crates=$(cd ../crates && pwd)
 
 # The test that asks for ample memory fails as long as a call's allocation did. The requests of the
 # tests themselves are made again, so it has to pass some times in a row.
 ample=no_call_is_refused_with_ample_memory
-in_a_row=10
+in_a_row=12
 
 most=300
 
+answers=$(mktemp -d)
+trap 'rm -rf "$answers"' EXIT
+
 fail() {
-    printf '%s\n' "$answers"
+    cat "$answers/$n"
     echo "allocation $n failing: $1"
     exit 1
 }
 
-n=1
-passed=0
-while [ "$passed" -lt "$in_a_row" ]; do
+# Runs allocation n failing and the one after it, each into a file of its own: $1 runs one.
+run_two() {
     [ "$n" -le "$most" ] || fail 'there is still one left'
-    answers=$(cd "$tests_crate" && rt try --test --fail-alloc "$n" 2>&1)
-    memory=$(printf '%s\n' "$answers" | grep '^test .*memory::.* \.\.\. ')
-    [ -n "$memory" ] || fail 'no test of memory has run'
-    if printf '%s\n' "$memory" | grep -v "$ample" | grep -qv ' ok$'; then
-        fail 'a test of memory failed'
-    fi
-    if printf '%s\n' "$memory" | grep "$ample" | grep -q ' ok$'; then
-        passed=$((passed + 1))
-    else
-        passed=0
-    fi
-    n=$((n + 1))
-done
-echo "calls: $((n - 1 - in_a_row)) allocations, each failed in turn"
-
-# Either no answer is written and the status is that of memory, or a call is refused, or all is
-# answered: since none was left to fail, or since the library made do with a smaller request.
-answered() {
-    printf '%s\n' "$answers" | grep -q '^ds=- dnskey=C1 signers=C1 zone=C1$'
+    [ -f "$answers/$n" ] && return
+    "$1" "$n" >"$answers/$n" 2>&1 &
+    "$1" $((n + 1)) >"$answers/$((n + 1))" 2>&1
+    wait
 }
-n=1
-while :; do
-    [ "$n" -le "$most" ] || fail 'there is still one left'
-    answers=$(cd "$program_crate" && rt try --fail-alloc "$n" <"$script" 2>&1)
-    made=$(printf '%s\n' "$answers" | sed -n 's/^allocations: //p' | head -n 1)
-    [ -n "$made" ] || fail 'the program has not run'
-    if [ "$made" -lt "$n" ]; then
-        answered || fail 'the script is not answered'
-        break
-    elif printf '%s\n' "$answers" | grep -q '^run=ended status=3 '; then
-        printf '%s\n' "$answers" | grep -q '^ok' && fail 'answers were written'
-    elif printf '%s\n' "$answers" | grep -q '^run=ended status=0 '; then
-        printf '%s\n' "$answers" | grep -q '^refused: out of memory$' || answered ||
-            fail 'neither refused nor answered'
-    else
-        fail "the program ended otherwise"
-    fi
-    n=$((n + 1))
-done
-echo "script: $((n - 1)) allocations, each failed in turn"
+
+run_tests() {
+    cd "$crates/$crate" && rt try --test --fail-alloc "$1" -- memory
+}
+
+tests_in_turn() {
+    crate=$1
+    rm -f "$answers"/*
+    n=1
+    passed=0
+    while [ "$passed" -lt "$in_a_row" ]; do
+        run_two run_tests
+        grep -q "^test .*memory::$ample \.\.\. " "$answers/$n" || fail 'no test of memory has run'
+        if grep '^test .*memory::.* \.\.\. ' "$answers/$n" | grep -v "$ample" | grep -qv ' ok$'; then
+            fail 'a test of memory failed'
+        fi
+        if grep "^test .*memory::$ample" "$answers/$n" | grep -q ' ok$'; then
+            passed=$((passed + 1))
+        else
+            passed=0
+        fi
+        n=$((n + 1))
+    done
+    echo "$crate: $((n - 1 - in_a_row)) allocations, each failed in turn"
+}
+
+run_program() {
+    cd "$crates/keyset" && rt try --fail-alloc "$1" <"$script"
+}
+
+whole='ok
+ok UpdateDnskeyRrset UpdateRrsig ReportDnskeyPropagated ReportRrsigPropagated
+ds=- dnskey=C1 signers=C1 zone=C1'
+
+# The lines that the program wrote.
+written() {
+    grep '^ok\|^refused: \|^ds=' "$answers/$n"
+}
+
+# Either no answer is written and the status is that of memory; or a call is refused, and what
+# stands before is a beginning of the answers; or all is answered, since none was left to fail, or
+# since the library made do with a smaller request.
+script_in_turn() {
+    rm -f "$answers"/*
+    n=1
+    while :; do
+        run_two run_program
+        made=$(sed -n 's/^allocations: //p' "$answers/$n" | head -n 1)
+        [ -n "$made" ] || fail 'the program has not run'
+        if [ "$made" -lt "$n" ]; then
+            [ "$(written)" = "$whole" ] || fail 'the script is not answered'
+            break
+        elif grep -q '^run=ended status=3 ' "$answers/$n"; then
+            [ -z "$(written)" ] || fail 'answers were written'
+        elif grep -q '^run=ended status=0 ' "$answers/$n"; then
+            if written | grep -q '^refused: '; then
+                before=$(written | sed '/^refused: out of memory$/,$d')
+                case $whole in
+                "$before"*) ;;
+                *) fail 'what stands before the refusal is no beginning' ;;
+                esac
+            else
+                [ "$(written)" = "$whole" ] || fail 'neither refused nor answered'
+            fi
+        else
+            fail 'the program ended otherwise'
+        fi
+        n=$((n + 1))
+    done
+    echo "script: $((n - 1)) allocations, each failed in turn"
+}
+
+tests_in_turn dnssec_base
+tests_in_turn dnssec_keyset
+script_in_turn

@@ -1,5 +1,5 @@
 //! Algorithm numbers of DNSSEC.
-ghost use Rattle.std.specs.Prelude.{◌≡◌};
+ghost use Rattle.std.specs.Prelude.{◌≡◌, ◌↔◌, IsTrue};
 
 use std::marker::Model;
 
@@ -54,6 +54,11 @@ impl SecurityAlgorithm {
         self.number
     }
 }
+
+/// Algorithms are equal where their numbers are. The function does nothing: its contract is a law.
+pub fn equal_algorithms_are_one(a: &SecurityAlgorithm, b: &SecurityAlgorithm)
+    ensures { IsTrue (⟦<SecurityAlgorithm as PartialEq>⟧.eq a.now b.now) ↔ (a.now ≡ b.now) }
+{}
 
 #[cfg(test)]
 mod tests {

@@ -9,7 +9,7 @@ mod algorithm;
 mod name;
 mod timestamp;
 
-pub use algorithm::SecurityAlgorithm;
+pub use algorithm::{SecurityAlgorithm, equal_algorithms_are_one};
 pub use name::{
     Name, NameError, one_fault_stands_first, prints_its_spelling, spells_no_fault, spells_one_name,
     spells_unless_fault,

@@ -24,6 +24,7 @@ impl From<u32> for Timestamp {
 
     ghost from_gives = { λ seconds timestamp. timestamp ≡ seconds };
 
+    /// The timestamp of so many seconds since the start of 1970.
     fn from(seconds: u32) -> Self {
         Timestamp { seconds }
     }

@@ -60,31 +60,39 @@ zone_key_state (Zsk s) = Some s
 zone_key_state (Csk s t) = Some s
 zone_key_state (Include s) = None
 
--- a key that has the role, in a state that passes
+-- a KSK, and no CSK, whose state passes
 abbrev pub ksk : (Flags → Bool) → KeyType → Bool
 ksk p k = option_map_or p (ksk_state k) false
 
+-- a ZSK, and no CSK, whose state passes
 abbrev pub zsk : (Flags → Bool) → KeyType → Bool
 zsk p k = option_map_or p (zsk_state k) false
 
+-- a KSK or a CSK whose KSK role passes
 abbrev pub ksk_role : (Flags → Bool) → KeyType → Bool
 ksk_role p k = option_map_or p (ksk_role_state k) false
 
+-- a ZSK or a CSK whose ZSK role passes
 abbrev pub zsk_role : (Flags → Bool) → KeyType → Bool
 zsk_role p k = option_map_or p (zsk_role_state k) false
 
+-- a key that isn't another signer's, whose state passes: of a CSK that of its KSK role
 abbrev pub any_key : (Flags → Bool) → KeyType → Bool
 any_key p k = option_map_or p (key_state k) false
 
+-- a ZSK or a CSK whose state passes: of a CSK that of its KSK role
 abbrev pub zone_key : (Flags → Bool) → KeyType → Bool
 zone_key p k = option_map_or p (zone_key_state k) false
 
+-- every key, also another signer's
 abbrev pub every_key : KeyType → Bool
 every_key k = true
 
+-- no key
 abbrev pub no_key : KeyType → Bool
 no_key k = false
 
+-- a key that passes one test or the other
 abbrev pub either : (KeyType → Bool) → (KeyType → Bool) → KeyType → Bool
 either p q k = p k || q k
 
@@ -104,6 +112,7 @@ first_state (Include s) = s
 
 -- ---- a new key
 
+-- the new key may come in by a roll
 abbrev pub is_available : Availability → Bool
 is_available Available = true
 is_available NotAvailable = false

@@ -36,7 +36,7 @@ some_entry p keys = list_any (λ e. p e.0 e.1) (entries keys)
 
 -- ---- rolls
 
--- the phase of each roll, where it is in progress
+-- the phase of each roll, where it is in progress (RFC 6781, section 4.1)
 pub record Rolls : Type 0 where
   pub ksk_roll : Option RollState
   pub ksk_double_ds_roll : Option RollState
@@ -69,6 +69,7 @@ rolls_by f = record {
 abbrev pub no_rolls : Rolls
 no_rolls = rolls_by (λ roll. None)
 
+-- a number for each roll, by which rolls are told apart
 abbrev pub roll_number : RollType → ℕ
 roll_number KskRoll = 0
 roll_number KskDoubleDsRoll = 1
@@ -77,6 +78,7 @@ roll_number ZskDoubleSignatureRoll = 3
 roll_number CskRoll = 4
 roll_number AlgorithmRoll = 5
 
+-- both are the same roll
 abbrev pub same_roll : RollType → RollType → Bool
 same_roll a b = nat_eq (roll_number a) (roll_number b)
 
@@ -87,6 +89,7 @@ with_phase r roll phase =
 
 -- ---- the whole set
 
+-- the parts of a key set
 pub record KeySetParts : Type 0 where
   pub name : List ℕ  -- the zone's name on the wire
   pub keys : Keys
@@ -113,6 +116,7 @@ pub record MovesOn (old new : KeySetParts) (roll : RollType) (phase : Option Rol
 -- ---- the hash maps that a key set holds
 
 module _ {Y S : Type 0} where
+  -- the keys of a hash map, each with the bytes of its reference
   abbrev pub entries_by_bytes : HashMap (String Y) KeyParts S → List (List ℕ × KeyParts)
   entries_by_bytes m = map (λ e. (string_bytes e.0, e.1)) m.entries
 

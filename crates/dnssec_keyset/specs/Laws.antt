@@ -14,6 +14,7 @@ abbrev pub TagsApart : Keys → Type 0
 TagsApart keys = (q r : List ℕ) (k l : KeyParts) →
     get keys q ≡ Some k → get keys r ≡ Some l → k.key_tag ≡ l.key_tag → q ≡ r
 
+-- the roll is in progress
 abbrev pub in_progress : Rolls → RollType → Bool
 in_progress rolls roll = is_some (phase_of rolls roll)
 
@@ -38,7 +39,8 @@ LeavesOthers old call new = (roll : RollType) (q : List ℕ) (k : KeyParts) →
     roll_of call ≡ Some roll →
     get old.keys q ≡ Some k → lists_kind (side_of roll) k.keytype ≡ false → get new.keys q ≡ Some k
 
--- two calls, of rolls that may be in progress together, are each answered, and with memory
+-- two calls are of rolls that may be in progress together, and neither is answered with want of
+-- memory
 pub record AreApart (first second : Call) (reply_first reply_second : Reply) : Type 0 where
   pub roll_first : RollType
   pub roll_second : RollType

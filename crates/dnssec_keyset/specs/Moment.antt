@@ -15,9 +15,11 @@ IsMoment t = t.nanos < 1_000_000_000
 abbrev pub inside_of : ℕ → Inside
 inside_of n = record { secs = n / 1_000_000_000; nanos = n % 1_000_000_000 }
 
+-- the whole seconds of a moment that is so kept
 secs_of : (s r : ℕ) → r < 1_000_000_000 → (s * 1_000_000_000 + r) / 1_000_000_000 ≡ s
 secs_of s r h = omega arith
 
+-- and the nanoseconds beyond them
 nanos_of : (s r : ℕ) → r < 1_000_000_000 → (s * 1_000_000_000 + r) % 1_000_000_000 ≡ r
 nanos_of s r h = omega arith
 

@@ -77,6 +77,7 @@ leaves_parent s = record s { at_parent = false }
 abbrev pub leaves_silently : Flags → Flags
 leaves_silently s = record s { present = false }
 
+-- nothing happens to it
 abbrev pub stays : Flags → Flags
 stays s = s
 
@@ -114,6 +115,7 @@ at_whole_keys p f (Zsk s) = Zsk (only p f s)
 at_whole_keys p f (Csk s t) = if p s then Csk (f s) (f t) else Csk s t
 at_whole_keys p f (Include s) = Include s
 
+-- at no role
 abbrev pub at_none : KeyType → KeyType
 at_none k = k
 
@@ -148,7 +150,7 @@ which code.First = First
 which code.Second = Second
 
 -- half of a roll: a change spreads, is reported, and is waited for until old data has left the
--- caches
+-- caches (RFC 6781, section 4.1; RFC 7583, section 3)
 pub record HalfRoll : Type 0 where
   pub report : Stamping  -- what the report stamps
   pub checks : KeyType → Bool  -- the keys that the wait checks
@@ -156,6 +158,7 @@ pub record HalfRoll : Type 0 where
   pub moves : KeyType → KeyType  -- what happens once the wait is over
   pub stamps : Stamping  -- and what is stamped then
 
+-- a roll: its start, its two halves, and what is asked of the operator (RFC 6781, section 4.1)
 pub record Column : Type 0 where
   pub comes : KeyType → KeyType  -- what a start puts on a new key
   pub stamps : Stamping  -- and what it stamps
@@ -321,6 +324,7 @@ algorithm_roll = record {
       WaitRrsigPropagated ∷ [];
 }
 
+-- the column of each roll (RFC 6781, section 4.1)
 unfoldable pub column : RollType → Column
 column KskRoll = ksk_double_signature
 column KskDoubleDsRoll = ksk_double_ds
@@ -329,6 +333,7 @@ column ZskDoubleSignatureRoll = zsk_double_signature
 column CskRoll = csk_roll
 column AlgorithmRoll = algorithm_roll
 
+-- a half of a roll, by its column
 abbrev pub half_of : RollType → Half → HalfRoll
 half_of roll First = (column roll).first
 half_of roll Second = (column roll).second
@@ -345,6 +350,7 @@ written stamps k = record {
   withdrawn = stamps.withdrawn k;
 }
 
+-- a stamp that is written at now, or stays as it was
 abbrev pub stamp_if : Bool → ℕ → Option ℕ → Option ℕ
 stamp_if b now before = if b then Some now else before
 
@@ -366,6 +372,7 @@ changed moves stamps now k = record k {
   timestamps = with_stamps (written stamps k.keytype) now k.timestamps;
 }
 
+-- it is on its way out from now on
 abbrev pub turns_old : Flags → Flags
 turns_old s = record s { old = true }
 
@@ -377,28 +384,23 @@ marked_old k = record k { keytype = at_roles turns_old turns_old k.keytype }
 abbrev pub marked_new : RollType → ℕ → KeyParts → KeyParts
 marked_new roll = changed (column roll).comes (column roll).stamps
 
--- a key after a start, by whether it is listed as old, and whether as new
+-- a key after a start, by whether it is listed as old, and whether as new (RFC 6781, section 4.1)
 abbrev pub after_start : RollType → ℕ → Bool → Bool → KeyParts → KeyParts
 after_start roll now is_old is_new k =
     let old = (if is_old then marked_old k else k) in
     if is_new then marked_new roll now old else old
 
--- a key after a report
+-- a key after a report (RFC 6781, section 4.1)
 abbrev pub after_report : RollType → Half → ℕ → KeyParts → KeyParts
 after_report roll half = changed at_none (half_of roll half).report
 
--- a key after an accepted wait
+-- a key after an accepted wait (RFC 6781, section 4.1)
 abbrev pub after_wait : RollType → Half → ℕ → KeyParts → KeyParts
 after_wait roll half = changed (half_of roll half).moves (half_of roll half).stamps
 
 -- ---- phases, and what is asked in them
 
--- a change spreads
-abbrev pub spreading : Half → RollState
-spreading First = Propagation1
-spreading Second = Propagation2
-
--- old data with this TTL leaves the caches
+-- old data with this TTL leaves the caches (RFC 6781, section 4.1)
 abbrev pub expiring : Half → ℕ → RollState
 expiring First ttl = CacheExpire1 ttl
 expiring Second ttl = CacheExpire2 ttl

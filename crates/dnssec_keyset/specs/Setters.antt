@@ -53,15 +53,19 @@ at_ksk_role f (Zsk s) = Zsk s
 at_ksk_role f (Csk s t) = Csk (f s) t
 at_ksk_role f (Include s) = Include s
 
+-- it is in the DNSKEY set, or not
 abbrev pub with_present : Bool → Flags → Flags
 with_present value s = record s { present = value }
 
+-- it signs, or not
 abbrev pub with_signer : Bool → Flags → Flags
 with_signer value s = record s { signer = value }
 
+-- it has to have a DS record at the parent, or not
 abbrev pub with_at_parent : Bool → Flags → Flags
 with_at_parent value s = record s { at_parent = value }
 
+-- it has left: old, and in use in no way
 abbrev pub turned_stale : Flags → Flags
 turned_stale s = record s { old = true; signer = false; present = false; at_parent = false }
 

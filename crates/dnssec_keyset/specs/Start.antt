@@ -31,7 +31,7 @@ use Rattle.dnssec_keyset.specs.KeySet.{Keys, Rolls, KeySetParts, phase_of, some_
 
 -- ---- rolls side by side
 
--- which keys a roll changes: KSKs alone, ZSKs alone, or keys of every kind (RFC 6781, section 4.1)
+-- which keys a roll changes: KSKs alone, ZSKs alone, or KSKs, ZSKs and CSKs (RFC 6781, section 4.1)
 abbrev pub side_of : RollType → Side
 side_of KskRoll = KskSide
 side_of KskDoubleDsRoll = KskSide
@@ -40,6 +40,7 @@ side_of ZskDoubleSignatureRoll = ZskSide
 side_of CskRoll = BothSides
 side_of AlgorithmRoll = BothSides
 
+-- one side is that of KSKs alone, and the other that of ZSKs alone
 abbrev pub are_apart : Side → Side → Bool
 are_apart KskSide ZskSide = true
 are_apart ZskSide KskSide = true
@@ -53,6 +54,7 @@ are_apart BothSides _ = false
 abbrev pub together : RollType → RollType → Bool
 together roll other = are_apart (side_of roll) (side_of other)
 
+-- the six rolls
 abbrev pub all_rolls : List RollType
 all_rolls =
     KskRoll ∷ KskDoubleDsRoll ∷ ZskRoll ∷ ZskDoubleSignatureRoll ∷ CskRoll ∷ AlgorithmRoll ∷ []
@@ -74,6 +76,7 @@ conflict roll rolls =
 abbrev pub texts : List (Bor (List ℕ)) → List (List ℕ)
 texts rs = map (λ (r : Bor (List ℕ)). r.now) rs
 
+-- the reference stands in the list
 abbrev pub is_listed : List (List ℕ) → List ℕ → Bool
 is_listed qs q = list_any (bytes_eq q) qs
 
@@ -132,6 +135,7 @@ may_change_algorithms ZskDoubleSignatureRoll = false
 may_change_algorithms CskRoll = false
 may_change_algorithms AlgorithmRoll = true
 
+-- the two lists differ in algorithms that the roll may not change (RFC 6781, section 4.1.4)
 abbrev pub algorithm_fault : RollType → (List ℕ → Option KeyParts) → List (List ℕ) → List (List ℕ)
     → Option Error
 algorithm_fault roll at olds news =
@@ -174,10 +178,12 @@ some_listed p at qs = list_any (λ q. option_map_or (λ k. p k.keytype) (at q) f
 abbrev pub some_kept : (KeyType → Bool) → Keys → List (List ℕ) → Bool
 some_kept p keys olds = some_entry (λ q k. p k.keytype && not (is_listed olds q)) keys
 
+-- a new key serves so, or a key that isn't listed as old
 abbrev pub is_met : Keys → List (List ℕ) → List (List ℕ) → Want → Bool
 is_met keys olds news want =
     some_listed (serves_as_new want) (get keys) news || some_kept (serves_as_kept want) keys olds
 
+-- the start would leave no key to go on with (RFC 6781, section 4.1)
 abbrev pub suitability_fault : RollType → Keys → List (List ℕ) → List (List ℕ) → Option Error
 suitability_fault roll keys olds news =
     if list_all (is_met keys olds news) (wants roll) then None else Some NoSuitableKeyPresent
@@ -189,7 +195,7 @@ abbrev pub first_of_causes : List (Option Error) → Option Error
 first_of_causes [] = None
 first_of_causes (cause ∷ causes) = option_or cause (first_of_causes causes)
 
--- why a start is refused
+-- why a start is refused: the first cause, in this order (RFC 6781, section 4.1)
 abbrev pub start_refusal : RollType → KeySetParts → List (List ℕ) → List (List ℕ) → Option Error
 start_refusal roll set olds news = first_of_causes (
     conflict roll set.rolls

@@ -24,7 +24,7 @@ use Rattle.dnssec_keyset.specs.Key.{KeyParts}
 use Rattle.dnssec_keyset.specs.KeySet.{Keys, KeySetParts, PutsKey, MovesOn, phase_of, with_phase}
 use Rattle.dnssec_keyset.specs.KeySet.{some_key}
 use Rattle.dnssec_keyset.specs.RollTable.{Half, First, Second, after_start, after_report}
-use Rattle.dnssec_keyset.specs.RollTable.{after_wait, actions_of, spreading, expiring, behind}
+use Rattle.dnssec_keyset.specs.RollTable.{after_wait, actions_of, expiring, behind}
 use Rattle.dnssec_keyset.specs.Setters.{Setting, ChangesKey, set_by, setting_refusal}
 use Rattle.dnssec_keyset.specs.Setters.{deletion_refusal}
 use Rattle.dnssec_keyset.specs.Start.{start_refusal, is_listed}
@@ -49,7 +49,7 @@ report_refusal First (Some Propagation1) = None
 report_refusal Second (Some Propagation2) = None
 report_refusal half _ = Some WrongStateForRollOperation
 
--- why the end of a roll is refused: it belongs to its last phase
+-- why the end of a roll is refused: it belongs to its last phase (RFC 6781, section 4.1)
 abbrev pub end_refusal : Option RollState → Option Error
 end_refusal (Some Finishing) = None
 end_refusal _ = Some WrongStateForRollOperation
@@ -61,6 +61,7 @@ pub data Verdict : Type 0 where
   Early : (KeyParts → Option ℕ) → Verdict
   Clear : Verdict
 
+-- barred by the cause, or clear where there is none
 abbrev pub barred_by : Option Error → Verdict
 barred_by None = Clear
 barred_by (Some cause) = Barred cause
@@ -73,6 +74,7 @@ wait_in_phase roll half (Some ttl) now keys =
     if lacks_stamp left keys then Barred WrongKeyState
     else (if is_early left keys then Early left else Clear)
 
+-- what a wait is told in the phase that its roll is in (RFC 6781, section 4.1)
 abbrev pub wait_verdict : RollType → Half → ℕ → KeySetParts → Verdict
 wait_verdict roll half now set =
     wait_in_phase roll half (ttl_in half (phase_of set.rolls roll)) now set.keys
@@ -112,6 +114,7 @@ pub data Call : Type 0 where
   Wait : RollType → Half → ℕ → Call
   RollDone : RollType → Call
 
+-- what a call answers: done, actions for the operator, or why it is refused
 pub data Reply : Type 0 where
   Done : Reply
   Actions : List Action → Reply
@@ -122,10 +125,12 @@ abbrev pub reply_done : Result (Unit {0}) Error → Reply
 reply_done (Ok u) = Done
 reply_done (Err cause) = Refused cause
 
+-- the same of a call that answers actions
 abbrev pub reply_list : Result (Vec Action Global) Error → Reply
 reply_list (Ok actions) = Actions actions.items
 reply_list (Err cause) = Refused cause
 
+-- what each call is told
 abbrev pub verdict : KeySetParts → Call → Verdict
 verdict set (AddKey reference key) = barred_by (add_refusal set.keys reference key.key_tag)
 verdict set (Set reference setting) = barred_by (setting_refusal setting (get set.keys reference))
@@ -179,7 +184,7 @@ StepBy Clear old call reply new =
     ((reply ≡ accepted_reply call) × Changes old call new)
     ⊎ (TakesMemory call × (reply ≡ Refused OutOfMemory) × (new ≡ old))
 
--- from old, the call may have the reply and leave new
+-- from old, the call may have the reply and leave new (RFC 6781, section 4.1)
 abbrev pub Step : KeySetParts → Call → Reply → KeySetParts → Type 0
 Step old call reply new = StepBy (verdict old call) old call reply new
 

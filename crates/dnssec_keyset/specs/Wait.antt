@@ -1,6 +1,7 @@
 -- What a wait is told. A wait checks keys, each by the stamp of the event that it waits on: old
--- data is gone from the caches once the reported TTL has passed since (RFC 7583, section 3: the
--- interval is a TTL from the event on).
+-- data is gone from the caches once the reported TTL has passed since (RFC 6781, section 4.1: data
+-- of earlier versions of the zone lives on in caches; RFC 7583, section 3: the interval is a TTL
+-- from the event on).
 use Rattle.std.specs.Prelude.{◌≡◌, ℕ, ◌*◌, ◌-◌, ◌≤◌, Bool, not, Option, None, Some, is_some}
 use Rattle.std.specs.Prelude.{unwrap_or, if◌then◌else◌, nat_lt, List}
 use Rattle.std.specs.Option.{option_map}
@@ -26,7 +27,7 @@ stamp_at DsVisible t = t.ds_visible
 stamp_at RrsigVisible t = t.rrsig_visible
 stamp_at Withdrawn t = t.withdrawn
 
--- the TTL of the caches that this half of a roll waits for, in that phase alone
+-- the TTL that this half of a roll waits for, in that phase alone (RFC 6781, section 4.1)
 abbrev pub ttl_in : Half → Option RollState → Option ℕ
 ttl_in First (Some (CacheExpire1 ttl)) = Some ttl
 ttl_in Second (Some (CacheExpire2 ttl)) = Some ttl

@@ -42,6 +42,8 @@ impl std::error::Error for Error {}
 impl fmt::Display for Error {
     ghost output = { λ e. Some (error_text e) };
 
+    /// Writes the reason, with the time that is left where it is to wait, as
+    /// `wait for duration 1.5s`.
     fn fmt<W: fmt::Write>(&self, f: &mut fmt::Formatter<W>) -> fmt::Result {
         match self {
             Error::KeyExists => f.write_str("key already exists"),

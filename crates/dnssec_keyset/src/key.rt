@@ -30,8 +30,9 @@ pub enum Available {
 
 /// The state of a key in one of its roles.
 ///
-/// A role is fresh before a roll takes it in; then it is in use, as signer, in the DNSKEY set or
-/// with a DS at the parent; then old, and stale once nothing of it is left.
+/// Before a roll takes it in, a role of an available key is fresh; then it is in use, as signer, in
+/// the DNSKEY set or with a DS that has to be at the parent; then old, and stale once nothing of it
+/// is left.
 #[derive(Clone, Copy, Debug, Default, PartialEq)]
 pub struct KeyState {
     pub(crate) available: bool,
@@ -119,6 +120,8 @@ impl KeyState {
 impl fmt::Display for KeyState {
     ghost output = { λ s. Some (state_text s) };
 
+    /// Writes the flags that are set, and the part that such a key plays in a roll, as
+    /// `Signer, Present (Active)`.
     fn fmt<W: fmt::Write>(&self, f: &mut fmt::Formatter<W>) -> fmt::Result {
         let words = [
             (self.old, "Old"),
@@ -163,7 +166,7 @@ pub enum KeyType {
     Zsk(KeyState),
     /// Both in one: its KSK role, then its ZSK role.
     Csk(KeyState, KeyState),
-    /// A key of another signer, which is published beside those of the set.
+    /// A key of another signer, which may be published beside those of the set.
     Include(KeyState),
 }
 
@@ -230,7 +233,7 @@ impl KeyTimestamps {
         self.creation
     }
 
-    /// When the key was put into the DNSKEY set: by the last roll that did, or first by hand.
+    /// When a roll last stamped the key as put into the DNSKEY set, or `set_present` did first.
     pub fn published(&self) -> Option<UnixTime>
         ensures { result ≡ self.now.published }
     {
@@ -258,7 +261,8 @@ impl KeyTimestamps {
         self.rrsig_visible
     }
 
-    /// When the key was last taken out.
+    /// When a roll last stamped the key as withdrawn: from the DNSKEY set, or by `KskDoubleDsRoll`
+    /// its DS record from the parent.
     pub fn withdrawn(&self) -> Option<UnixTime>
         ensures { result ≡ self.now.withdrawn }
     {
@@ -523,7 +527,11 @@ impl Key {
         }
     }
 
-    /// A key with equal parts. Refused with `OutOfMemory` alone.
+    /// A key with equal parts.
+    ///
+    /// # Errors
+    ///
+    /// `OutOfMemory` alone, where memory is wanting for the copy.
     pub fn try_clone(&self) -> Result<Key, Error>
         ensures same { IfOk result (λ key. key ≡ self.now) }
         ensures err { IfErr result (λ e. e ≡ OutOfMemory) }
@@ -724,6 +732,7 @@ mod tests {
             };
             let got = state.to_string(rt.alloc())?;
             assert_eq!(rt; got.as_str(), want);
+            assert_eq!(rt; state.stale(), want == "Old (Stale)", "{want}");
         }
         Ok(())
     }

@@ -21,6 +21,7 @@ pub use comparisons::{
     equal_errors_are_one, equal_kinds_are_one, equal_moments_are_one, equal_phases_are_one,
     equal_states_are_one, moments_are_in_order_of_time,
 };
+pub use dnssec_base::{Name, NameError, SecurityAlgorithm, Timestamp};
 pub use error::Error;
 pub use key::{Available, Key, KeyState, KeyTimestamps, KeyType};
 pub use roll::{Action, RollState, RollType};

@@ -34,7 +34,8 @@ pub enum RollType {
     ZskRoll,
     /// A Double-Signature ZSK roll (section 4.1.1.2).
     ZskDoubleSignatureRoll,
-    /// A roll of CSKs, or between a CSK and keys of both kinds.
+    /// A roll of CSKs, or between a CSK and keys of both kinds: the DNSKEY set first, then the DS
+    /// and the signatures at once (neither of the two ways of section 4.1.3).
     CskRoll,
     /// A roll to other algorithms, by the liberal approach (section 4.1.4). It also brings a zone
     /// its first keys.
@@ -107,18 +108,19 @@ pub enum Action {
     UpdateRrsig,
     /// Report once all secondaries of the zone have the DNSKEY set, with its TTL.
     ReportDnskeyPropagated,
-    /// Wait for that. A correct roll doesn't need it, but without it the key set may run ahead
-    /// of what is published.
+    /// Wait until all secondaries of the zone have the DNSKEY set. A correct roll doesn't need it,
+    /// but without it the key set may run ahead of what is published.
     WaitDnskeyPropagated,
     /// Report once all secondaries of the parent zone have the DS records, with their TTL.
     ReportDsPropagated,
-    /// Wait for that, so that the CDS and CDNSKEY sets aren't removed too soon.
+    /// Wait until all secondaries of the parent zone have the DS records. This is needed, so that
+    /// the CDS and CDNSKEY sets aren't removed too soon.
     WaitDsPropagated,
     /// Report once all secondaries of the zone have the signatures (those of the SOA record tell
     /// enough), with the highest TTL of all signatures.
     ReportRrsigPropagated,
-    /// Wait for that. A correct roll doesn't need it, but without it the key set may run ahead
-    /// of what is published.
+    /// Wait until all secondaries of the zone have the signatures. A correct roll doesn't need it,
+    /// but without it the key set may run ahead of what is published.
     WaitRrsigPropagated,
 }
 
@@ -147,17 +149,25 @@ impl Half {
 impl KeySet {
     /// Starts a roll from the keys of `old` to those of `new`, at the moment `now`.
     ///
-    /// Answers what is asked of the operator now. An old key may be one that has not come in yet
-    /// or has left already, and may be named twice.
+    /// Both lists are of public references. Answers what is asked of the operator now. An old key
+    /// may be one that has not come in yet or has left already, and may be listed twice.
     ///
-    /// Refused for the first cause that stands, and then nothing is changed:
-    /// `WrongStateForRollOperation` where this roll is in progress, or
-    /// `ConflictingRollInProgress` where one is that doesn't go with it (only a roll of KSKs goes
-    /// with one of ZSKs); for each old key in turn `KeyNotFound`, or `WrongKeyType` for a key that
-    /// the roll doesn't change; for each new key in turn the same, or `WrongKeyState` unless it is
-    /// available and unused, isn't old, and stands once; `AlgorithmSetsMismatch` where old and new
-    /// keys differ in their algorithms, which only an algorithm roll allows;
-    /// `NoSuitableKeyPresent` where no key would be left to sign; `OutOfMemory`.
+    /// # Errors
+    ///
+    /// The first of these that stands, and then nothing is changed:
+    ///
+    /// - `WrongStateForRollOperation` where this roll is in progress.
+    /// - `ConflictingRollInProgress` where one is that doesn't go with it: only a roll of KSKs goes
+    ///   with one of ZSKs.
+    /// - `KeyNotFound`, or `WrongKeyType` for a key that the roll doesn't change: of each old key
+    ///   in turn, then of each new one. `WrongKeyState` for a new key that isn't available and
+    ///   unused, or is listed as old too or a second time.
+    /// - `AlgorithmSetsMismatch` where old and new keys differ in their algorithms, which only an
+    ///   algorithm roll allows.
+    /// - `NoSuitableKeyPresent` where the roll would leave no KSK (or ZSK; for `CskRoll` and
+    ///   `AlgorithmRoll` no KSK role or no ZSK role) that is present and not old.
+    ///   `KskDoubleDsRoll` asks at the parent in place of present.
+    /// - `OutOfMemory` where memory is wanting.
     #[tactic(auto, using(crate::proofs::Steps::steps))]
     pub fn start_roll(
         &mut self,
@@ -189,7 +199,10 @@ impl KeySet {
     /// `ttl` is the highest TTL, in seconds, of what the actions asked to report. Nothing new is
     /// asked of the operator, so the answer is empty; no memory is taken.
     ///
-    /// Refused with `WrongStateForRollOperation` where the roll isn't waiting for this report.
+    /// # Errors
+    ///
+    /// `WrongStateForRollOperation` where the roll isn't waiting for this report. Nothing is then
+    /// changed.
     pub fn propagation1_complete(
         &mut self,
         rolltype: RollType,
@@ -211,10 +224,14 @@ impl KeySet {
     ///
     /// Answers what is asked of the operator now.
     ///
-    /// Refused for the first cause that stands, and then nothing is changed:
-    /// `WrongStateForRollOperation` where the roll isn't waiting for the caches;
-    /// `WrongKeyState` where a key that the wait checks lacks the stamp that it reads; `Wait` with
-    /// the longest time that is left for such a key; `OutOfMemory`.
+    /// # Errors
+    ///
+    /// The first of these that stands, and then nothing is changed:
+    ///
+    /// - `WrongStateForRollOperation` where the roll isn't waiting for the caches.
+    /// - `WrongKeyState` where a key that the wait checks lacks the stamp that it reads.
+    /// - `Wait` with the longest time that is left for such a key, while there is some.
+    /// - `OutOfMemory` where memory is wanting for the answer.
     pub fn cache_expired1(
         &mut self,
         rolltype: RollType,
@@ -231,8 +248,8 @@ impl KeySet {
         self.go_on(rolltype, Half::First, now)
     }
 
-    /// Reports that what the first wait changed has reached all servers, as
-    /// `propagation1_complete` does for the start.
+    /// Reports that what the first wait changed has reached all servers, at the moment `now`, as
+    /// `propagation1_complete` does for the start. It is refused in the same way.
     pub fn propagation2_complete(
         &mut self,
         rolltype: RollType,
@@ -251,7 +268,8 @@ impl KeySet {
     }
 
     /// Goes on to the end of a roll, once old data has left the caches at `now`. It answers and
-    /// is refused as `cache_expired1` is. Where nothing is asked, no memory is taken.
+    /// is refused as `cache_expired1` is. Where nothing is asked, which is so for
+    /// `ZskDoubleSignatureRoll`, no memory is taken.
     pub fn cache_expired2(
         &mut self,
         rolltype: RollType,
@@ -270,7 +288,10 @@ impl KeySet {
 
     /// Ends a roll whose last actions are performed. The answer is empty; no memory is taken.
     ///
-    /// Refused with `WrongStateForRollOperation` where the roll isn't in its last phase.
+    /// # Errors
+    ///
+    /// `WrongStateForRollOperation` where the roll isn't in its last phase. Nothing is then
+    /// changed.
     #[tactic(auto, using(crate::proofs::Steps::steps))]
     pub fn roll_done(&mut self, rolltype: RollType) -> Result<Vec<Action>, Error>
         ensures reply { AnswersExactly (end_refusal (phase_of self.old.rolls rolltype)) result }
@@ -287,8 +308,12 @@ impl KeySet {
 
     /// What a roll asks of the operator in its phase: what the accepted call before answered.
     ///
-    /// Empty for a roll that isn't in progress, and then no memory is taken. Refused with
-    /// `OutOfMemory` alone.
+    /// Empty for a roll that isn't in progress, while caches expire, and at the end of
+    /// `ZskDoubleSignatureRoll`. An empty list takes no memory.
+    ///
+    /// # Errors
+    ///
+    /// `OutOfMemory` alone, where memory is wanting for the list.
     pub fn actions(&self, rolltype: RollType) -> Result<Vec<Action>, Error>
         ensures list { IfOk result (λ actions.
             actions.items ≡ actions_at rolltype (phase_of self.now.rolls rolltype)) }

@@ -65,7 +65,11 @@ impl KeySet {
         }
     }
 
-    /// A key set with equal name, keys and rolls. Refused with `OutOfMemory` alone.
+    /// A key set with equal name, keys and rolls.
+    ///
+    /// # Errors
+    ///
+    /// `OutOfMemory` alone, where memory is wanting for the copy.
     pub fn try_clone(&self) -> Result<KeySet, Error>
         ensures same { IfOk result (λ set. set ≡ self.now) }
         ensures err { IfErr result (λ e. e ≡ OutOfMemory) }
@@ -103,11 +107,16 @@ impl KeySet {
     /// Adds a KSK, which may come in by a roll if it is available.
     ///
     /// `pubref` names the key from now on, `privref` its private part in the caller's storage.
-    /// It was made at `creation_ts`, and no other stamp is set.
+    /// `algorithm` and `key_tag` are those of its DNSKEY record (RFC 4034, section 2 and appendix
+    /// B). It was made at `creation_ts`, and no other stamp is set.
     ///
-    /// Refused with `DuplicateKeyTag` where a key has the tag, else with `KeyExists` where a key
-    /// has the reference, else with `OutOfMemory` where memory is wanting. The strings are then
-    /// dropped, and nothing is changed.
+    /// # Errors
+    ///
+    /// The first of these that stands. The strings are then dropped, and nothing is changed:
+    ///
+    /// - `DuplicateKeyTag` where a key has the tag.
+    /// - `KeyExists` where a key has the reference.
+    /// - `OutOfMemory` where memory is wanting.
     pub fn add_key_ksk(
         &mut self,
         pubref: String,
@@ -178,7 +187,8 @@ impl KeySet {
     }
 
     /// Adds a key of another signer, which may be published beside those of the set. It has no
-    /// private part, and no part in rolls. Refused as `add_key_ksk` is.
+    /// private part. `available` is kept, but no roll takes such a key. Refused as `add_key_ksk`
+    /// is.
     pub fn add_public_key(
         &mut self,
         pubref: String,
@@ -202,9 +212,11 @@ impl KeySet {
         self.add_key(pubref, key)
     }
 
-    /// Sets whether a key is decoupled from the caller's storage of keys.
+    /// Sets whether a key is decoupled from the caller's storage of keys. No memory is taken.
     ///
-    /// Refused with `KeyNotFound` alone; no memory is taken.
+    /// # Errors
+    ///
+    /// `KeyNotFound` where no key has the reference. Nothing is then changed.
     pub fn set_decoupled(&mut self, pubref: &str, value: bool) -> Result<(), Error>
         ensures reply { AnswersExactly
             (setting_refusal (Decoupled value) (map.get self.old.keys pubref.now)) result }
@@ -217,8 +229,11 @@ impl KeySet {
 
     /// Puts a key into the DNSKEY set, or takes it out, by hand, in each of its roles. A key that
     /// is put in at `now` for the first time is stamped as published then; no other stamp changes.
+    /// No memory is taken.
     ///
-    /// Refused with `KeyNotFound` alone; no memory is taken.
+    /// # Errors
+    ///
+    /// `KeyNotFound` where no key has the reference. Nothing is then changed.
     pub fn set_present(&mut self, pubref: &str, value: bool, now: &UnixTime) -> Result<(), Error>
         ensures reply { AnswersExactly
             (setting_refusal (Present value now.now) (map.get self.old.keys pubref.now)) result }
@@ -229,10 +244,12 @@ impl KeySet {
         self.set(pubref, Setting::Present(value, *now))
     }
 
-    /// Sets whether a key signs, by hand, in each of its roles.
+    /// Sets whether a key signs, by hand, in each of its roles. No memory is taken.
     ///
-    /// Refused with `KeyNotFound`, or `WrongKeyType` for a key of another signer; no memory is
-    /// taken.
+    /// # Errors
+    ///
+    /// `KeyNotFound` where no key has the reference, `WrongKeyType` for a key of another signer.
+    /// Nothing is then changed.
     pub fn set_signer(&mut self, pubref: &str, value: bool) -> Result<(), Error>
         ensures reply { AnswersExactly
             (setting_refusal (Signer value) (map.get self.old.keys pubref.now)) result }
@@ -242,9 +259,13 @@ impl KeySet {
         self.set(pubref, Setting::Signer(value))
     }
 
-    /// Sets whether the parent has to have a DS record for a KSK or a CSK, by hand.
+    /// Sets whether the parent has to have a DS record for a KSK or a CSK, by hand. No memory is
+    /// taken.
     ///
-    /// Refused with `KeyNotFound`, or `WrongKeyType` for another key; no memory is taken.
+    /// # Errors
+    ///
+    /// `KeyNotFound` where no key has the reference, `WrongKeyType` for a key of another kind.
+    /// Nothing is then changed.
     pub fn set_at_parent(&mut self, pubref: &str, value: bool) -> Result<(), Error>
         ensures reply { AnswersExactly
             (setting_refusal (AtParent value) (map.get self.old.keys pubref.now)) result }
@@ -256,8 +277,11 @@ impl KeySet {
     }
 
     /// Makes a key stale by hand: in each role old, and neither signer, present nor at the parent.
+    /// No memory is taken.
     ///
-    /// Refused with `KeyNotFound` alone; no memory is taken.
+    /// # Errors
+    ///
+    /// `KeyNotFound` where no key has the reference. Nothing is then changed.
     pub fn set_stale(&mut self, pubref: &str) -> Result<(), Error>
         ensures reply { AnswersExactly
             (setting_refusal Stale (map.get self.old.keys pubref.now)) result }
@@ -267,9 +291,11 @@ impl KeySet {
         self.set(pubref, Setting::Stale)
     }
 
-    /// Stamps when all servers have the key in the DNSKEY set. Nothing else is checked.
+    /// Stamps the key as seen in the DNSKEY set by all servers from `time` on. No memory is taken.
     ///
-    /// Refused with `KeyNotFound` alone; no memory is taken.
+    /// # Errors
+    ///
+    /// `KeyNotFound` where no key has the reference. Nothing is then changed.
     pub fn set_visible(&mut self, pubref: &str, time: UnixTime) -> Result<(), Error>
         ensures reply { AnswersExactly
             (setting_refusal (VisibleAt time) (map.get self.old.keys pubref.now)) result }
@@ -280,9 +306,12 @@ impl KeySet {
         self.set(pubref, Setting::VisibleAt(time))
     }
 
-    /// Stamps when all servers of the parent have the key's DS record. Nothing else is checked.
+    /// Stamps the key's DS record as seen by all servers of the parent from `time` on. No memory is
+    /// taken.
     ///
-    /// Refused with `KeyNotFound` alone; no memory is taken.
+    /// # Errors
+    ///
+    /// `KeyNotFound` where no key has the reference. Nothing is then changed.
     pub fn set_ds_visible(&mut self, pubref: &str, time: UnixTime) -> Result<(), Error>
         ensures reply { AnswersExactly
             (setting_refusal (DsVisibleAt time) (map.get self.old.keys pubref.now)) result }
@@ -293,9 +322,11 @@ impl KeySet {
         self.set(pubref, Setting::DsVisibleAt(time))
     }
 
-    /// Stamps when all servers have the key's signatures. Nothing else is checked.
+    /// Stamps the key's signatures as seen by all servers from `time` on. No memory is taken.
     ///
-    /// Refused with `KeyNotFound` alone; no memory is taken.
+    /// # Errors
+    ///
+    /// `KeyNotFound` where no key has the reference. Nothing is then changed.
     pub fn set_rrsig_visible(&mut self, pubref: &str, time: UnixTime) -> Result<(), Error>
         ensures reply { AnswersExactly
             (setting_refusal (RrsigVisibleAt time) (map.get self.old.keys pubref.now)) result }
@@ -306,9 +337,13 @@ impl KeySet {
         self.set(pubref, Setting::RrsigVisibleAt(time))
     }
 
-    /// Deletes a key that has left in each of its roles, whether rolls are in progress or not.
+    /// Deletes a key that has left in each of its roles, whether rolls are in progress or not. No
+    /// memory is taken.
     ///
-    /// Refused with `KeyNotFound`, or `KeyNotOld` while some role isn't stale; no memory is taken.
+    /// # Errors
+    ///
+    /// `KeyNotFound` where no key has the reference, `KeyNotOld` while some role isn't stale.
+    /// Nothing is then changed.
     #[tactic(auto, using(crate::proofs::Shown::shown))]
     pub fn delete_key(&mut self, pubref: &str) -> Result<(), Error>
         ensures reply { AnswersExactly

@@ -2,6 +2,7 @@
 //! here come from worked examples.
 mod algorithm_roll;
 mod csk_roll;
+mod guide;
 mod keys;
 mod ksk_rolls;
 mod memory;

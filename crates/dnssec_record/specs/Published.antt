@@ -13,12 +13,13 @@ use Rattle.dnssec_record.specs.declared.record.PublishedKey.{PublishedKey}
 abbrev pub Id : Type 0
 Id = List ℕ × ℕ
 
+-- which key a published one is
 abbrev pub id_of : PublishedKey → Id
 id_of k = (string_bytes k.reference, k.added)
 
 -- ---- which keys are in which set (RFC 4034, sections 2 and 5; RFC 4035, section 2)
 
--- a KSK role with a DS record at the parent
+-- a KSK role that has to have a DS record at the parent
 abbrev pub in_ds : KeyType → Bool
 in_ds = ksk_role is_at_parent
 

@@ -32,6 +32,7 @@ use Rattle.dnssec_record.specs.Published.{World, IsPublished}
 
 -- ---- calls and replies, as the key set sees them
 
+-- a call, as the key set sees it
 abbrev pub call_of : Call → keyset.Call
 call_of (AddKeyKsk pubref privref algorithm key_tag created available) =
     let state = new_state (is_available available) in
@@ -64,6 +65,7 @@ call_of (Propagation2Complete roll ttl now) = keyset.Report roll Second ttl now
 call_of (CacheExpired2 roll now) = keyset.Wait roll Second now
 call_of (RollDone roll) = keyset.RollDone roll
 
+-- a reply, as the key set gave it
 abbrev pub reply_of : Reply → keyset.Reply
 reply_of Done = keyset.Done
 reply_of (Actions actions) = keyset.Actions actions.items
@@ -82,7 +84,8 @@ moment_of (Propagation2Complete roll ttl now) = Some now
 moment_of (CacheExpired2 roll now) = Some now
 moment_of _ = None
 
--- what a call means for the caches once it is accepted
+-- what an accepted call means for the caches: a start or a first wait of a roll is what its next
+-- report counts from, and a report tells for how long older data may be held
 abbrev pub mark_of : Call → Mark
 mark_of (StartRoll roll old new now) = Step roll
 mark_of (CacheExpired1 roll now) = Step roll
@@ -90,7 +93,7 @@ mark_of (Propagation1Complete roll ttl now) = Report roll false ttl
 mark_of (Propagation2Complete roll ttl now) = Report roll true ttl
 mark_of _ = Other
 
--- a refused call means nothing for the caches
+-- and a refused one means nothing for them
 abbrev pub mark_after : Call → Reply → Mark
 mark_after call Done = mark_of call
 mark_after call (Actions actions) = mark_of call
@@ -103,6 +106,7 @@ abbrev pub reference_added : keyset.Call → Option (List ℕ)
 reference_added (keyset.AddKey reference key) = Some reference
 reference_added _ = None
 
+-- the call was accepted
 abbrev pub is_accepted : Reply → Bool
 is_accepted Done = true
 is_accepted (Actions actions) = true
@@ -125,6 +129,7 @@ stepped n w call reply = record {
   added = added_by n call reply w.added;
 }
 
+-- the same with the entry of the call, where both are there
 abbrev pub stepped_by : ℕ → World → Option Call → Option Entry → World
 stepped_by n w (Some call) (Some entry) = stepped n w call entry.reply
 stepped_by n w _ _ = w
@@ -163,6 +168,7 @@ pub record IsSound (w : World) : Type 0 where
   pub tags : TagsApart w.set.keys
   pub rolls : RollsTogether w.set.rolls
 
+-- the key set is sound at every position
 abbrev pub StaysSound : List ℕ → List Call → List Entry → Type 0
 StaysSound name calls entries =
     (n : ℕ) → n ≤ length entries → IsSound (world_at name calls entries n)
@@ -174,8 +180,9 @@ KeepsSidesApart name calls entries = (n : ℕ) (call : Call) (entry : Entry) →
     LeavesOthers (world_at name calls entries n).set (call_of call)
     (world_at name calls entries (suc n)).set
 
--- two neighbouring calls of rolls that go together may be exchanged: the second with its reply and
--- then the first with its reply are allowed steps too, and end in the same set
+-- two neighbouring calls of rolls that go together, neither answered with want of memory, may be
+-- exchanged: the second with its reply and then the first with its reply are allowed steps too, and
+-- end in the same set
 abbrev pub NeighboursMayBeExchanged : List ℕ → List Call → List Entry → Type 0
 NeighboursMayBeExchanged name calls entries = (n : ℕ) (first second : Call) (e f : Entry) →
     slice_get calls n ≡ Some first → slice_get entries n ≡ Some e →

@@ -149,48 +149,35 @@ pub record Row : Type 0 where
 abbrev pub key_forms : List Form
 key_forms = as_reference ∷ as_private ∷ as_algorithm ∷ as_tag ∷ as_time ∷ as_yes_no ∷ []
 
+-- the same of an add of another signer's key
+abbrev pub public_key_forms : List Form
+public_key_forms = as_reference ∷ as_algorithm ∷ as_tag ∷ as_time ∷ as_yes_no ∷ []
+
+-- a word that takes such fields
+abbrev pub takes : List ℕ → List Form → Row
+takes name forms = record { name = name; fields = forms }
+
 -- the table of the words
 abbrev pub row : Word → Row
-row word.AddKsk = record { name = codes "add-ksk"; fields = key_forms }
-row word.AddZsk = record { name = codes "add-zsk"; fields = key_forms }
-row word.AddCsk = record { name = codes "add-csk"; fields = key_forms }
-row word.AddPublic = record {
-  name = codes "add-public";
-  fields = as_reference ∷ as_algorithm ∷ as_tag ∷ as_time ∷ as_yes_no ∷ [];
-}
-row word.SetDecoupled = record {
-  name = codes "set-decoupled";
-  fields = as_reference ∷ as_yes_no ∷ [];
-}
-row word.SetPresent = record {
-  name = codes "set-present";
-  fields = as_reference ∷ as_yes_no ∷ as_time ∷ [];
-}
-row word.SetSigner = record { name = codes "set-signer"; fields = as_reference ∷ as_yes_no ∷ [] }
-row word.SetAtParent = record {
-  name = codes "set-at-parent";
-  fields = as_reference ∷ as_yes_no ∷ [];
-}
-row word.SetStale = record { name = codes "set-stale"; fields = as_reference ∷ [] }
-row word.SetVisible = record { name = codes "set-visible"; fields = as_reference ∷ as_time ∷ [] }
-row word.SetDsVisible = record {
-  name = codes "set-ds-visible";
-  fields = as_reference ∷ as_time ∷ [];
-}
-row word.SetRrsigVisible = record {
-  name = codes "set-rrsig-visible";
-  fields = as_reference ∷ as_time ∷ [];
-}
-row word.Delete = record { name = codes "delete"; fields = as_reference ∷ [] }
-row word.Start = record {
-  name = codes "start";
-  fields = as_roll ∷ as_list ∷ as_list ∷ as_time ∷ [];
-}
-row word.Report1 = record { name = codes "report1"; fields = as_roll ∷ as_ttl ∷ as_time ∷ [] }
-row word.Report2 = record { name = codes "report2"; fields = as_roll ∷ as_ttl ∷ as_time ∷ [] }
-row word.Wait1 = record { name = codes "wait1"; fields = as_roll ∷ as_time ∷ [] }
-row word.Wait2 = record { name = codes "wait2"; fields = as_roll ∷ as_time ∷ [] }
-row word.Done = record { name = codes "done"; fields = as_roll ∷ [] }
+row word.AddKsk = takes (codes "add-ksk") key_forms
+row word.AddZsk = takes (codes "add-zsk") key_forms
+row word.AddCsk = takes (codes "add-csk") key_forms
+row word.AddPublic = takes (codes "add-public") public_key_forms
+row word.SetDecoupled = takes (codes "set-decoupled") (as_reference ∷ as_yes_no ∷ [])
+row word.SetPresent = takes (codes "set-present") (as_reference ∷ as_yes_no ∷ as_time ∷ [])
+row word.SetSigner = takes (codes "set-signer") (as_reference ∷ as_yes_no ∷ [])
+row word.SetAtParent = takes (codes "set-at-parent") (as_reference ∷ as_yes_no ∷ [])
+row word.SetStale = takes (codes "set-stale") (as_reference ∷ [])
+row word.SetVisible = takes (codes "set-visible") (as_reference ∷ as_time ∷ [])
+row word.SetDsVisible = takes (codes "set-ds-visible") (as_reference ∷ as_time ∷ [])
+row word.SetRrsigVisible = takes (codes "set-rrsig-visible") (as_reference ∷ as_time ∷ [])
+row word.Delete = takes (codes "delete") (as_reference ∷ [])
+row word.Start = takes (codes "start") (as_roll ∷ as_list ∷ as_list ∷ as_time ∷ [])
+row word.Report1 = takes (codes "report1") (as_roll ∷ as_ttl ∷ as_time ∷ [])
+row word.Wait1 = takes (codes "wait1") (as_roll ∷ as_time ∷ [])
+row word.Report2 = takes (codes "report2") (as_roll ∷ as_ttl ∷ as_time ∷ [])
+row word.Wait2 = takes (codes "wait2") (as_roll ∷ as_time ∷ [])
+row word.Done = takes (codes "done") (as_roll ∷ [])
 
 -- all words
 abbrev pub words : List Word

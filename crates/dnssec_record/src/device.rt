@@ -56,7 +56,8 @@ pub trait Sink {
         ensures { result ≡ faults self.now };
 }
 
-/// A reader or a writer of the standard library as a device, which counts its errors.
+/// A reader or a writer of the standard library as a device, which counts its errors. A write that
+/// takes nothing of a piece that isn't empty is one too.
 #[derive(Debug, Drop)]
 pub struct Std<T> {
     inner: T,
@@ -81,6 +82,13 @@ impl<T> Std<T> {
         let Std { inner, faults: _ } = self;
         inner
     }
+
+    /// How often an operation of the inner device has failed.
+    fn count(&self) -> u64
+        ensures { result ≡ std_faults self.now }
+    {
+        self.faults
+    }
 }
 
 impl<T: Read> Source for Std<T> {
@@ -101,7 +109,7 @@ impl<T: Read> Source for Std<T> {
     }
 
     fn faults(&self) -> u64 {
-        self.faults
+        self.count()
     }
 }
 
@@ -123,6 +131,6 @@ impl<T: Write> Sink for Std<T> {
     }
 
     fn faults(&self) -> u64 {
-        self.faults
+        self.count()
     }
 }

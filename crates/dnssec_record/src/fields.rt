@@ -291,7 +291,6 @@ impl<'a> Fields<'a> {
     }
 
     /// The next field, and those after it.
-
     fn next(self) -> Option<(&'a [u8], Fields<'a>)>
         ensures { option_map (λ x. (x.0.now, x.1)) result ≡ first_field self.entry }
     {

@@ -31,6 +31,7 @@ impl Reply {
 #[derive(Debug, Drop, PartialEq)]
 pub struct PublishedKey {
     pub reference: String,
+    /// The position of its add, counted from 1.
     pub added: usize,
 }
 
@@ -38,7 +39,7 @@ pub struct PublishedKey {
 /// twice.
 #[derive(Debug, Drop, PartialEq)]
 pub struct Published {
-    /// The keys with a DS record at the parent.
+    /// The keys that have to have a DS record at the parent.
     pub ds: Vec<PublishedKey>,
     /// The keys of the DNSKEY set.
     pub dnskey: Vec<PublishedKey>,
@@ -51,11 +52,13 @@ pub struct Published {
 /// What an accepted call means for the caches that hold what was published before.
 #[derive(Clone, Copy, Debug, PartialEq)]
 pub enum Mark {
-    /// Nothing.
+    /// Any other call, and each that is refused. It may change what is published, as a second wait
+    /// or a setter does.
     Other,
-    /// A start or a first wait: what is published changes.
+    /// A start or a first wait of the roll: what its next report counts from.
     Step(RollType),
-    /// A report that the last change has spread, with the TTL, in seconds, of what it replaced.
+    /// A report of the roll, with the TTL in seconds that it was given. Where it is true, no cache
+    /// holds older data for longer than that.
     Report {
         roll: RollType,
         /// Whether it is the second report of the roll.
@@ -68,13 +71,14 @@ pub enum Mark {
 #[derive(Debug, Drop, PartialEq)]
 pub struct Entry {
     pub reply: Reply,
-    /// The moment that the call was given as `now`, whether it was accepted or refused.
+    /// The moment that the call was given as `now`, whether it was accepted or refused. When a key
+    /// was made, or is stamped by hand as seen, is no such moment.
     pub moment: Option<UnixTime>,
     pub mark: Mark,
     pub published: Published,
 }
 
-/// A key set after its calls, with one entry for each.
+/// A key set after its calls, with one entry for each: `entries[i]` is that of position `i + 1`.
 #[derive(Drop)]
 pub struct Run {
     pub keyset: KeySet,

@@ -190,10 +190,14 @@ fn record(
     })
 }
 
-/// Makes the calls in turn on a new key set, and records each.
+/// Makes the calls in turn on a new key set for the zone of this name, and records each.
 ///
-/// A call that is refused, also for want of memory, is recorded, and the run goes on. Refused
-/// itself with `OutOfMemory` alone, where the record can't be stored; nothing is then handed out.
+/// The key set and the record take their memory from `alloc`. A call that is refused, also for want
+/// of memory, is recorded, and the run goes on.
+///
+/// # Errors
+///
+/// `OutOfMemory` alone, where the record can't be stored. Nothing is then handed out.
 pub fn run<'a>(alloc: Global, name: Name<Vec<u8>>, calls: Vec<Call<'a>>) -> Result<Run, Error>
     ensures run { IfOk result (λ run. IsRun name calls.entry.items run.entries.items) }
     ensures keyset { IfOk result (λ run. run.keyset

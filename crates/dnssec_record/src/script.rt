@@ -26,7 +26,8 @@ const PIECE: usize = 4096;
 /// `ok` with the actions that are due, or `refused: ` and the reason. The last line is that of
 /// the sets that are published at the end. A call that is refused doesn't stop the script.
 ///
-/// `alloc` is where the script, its calls and the answers get their memory.
+/// `alloc` is where the script, its calls and the answers get their memory. The caller sees to it
+/// that the counts of faults of both devices have room for one more.
 ///
 /// # Errors
 ///
@@ -53,6 +54,10 @@ pub fn run_script<R: Source, W: Sink>(
     ensures malformed_end { (n : ℕ) → result ≡ Err (ScriptFault.Malformed n) →
         IsAtEnd (R.left input.new) }
     ensures malformed_silent { (n : ℕ) → result ≡ Err (ScriptFault.Malformed n) →
+        Keeps (W.taken output.old) (W.taken output.new) }
+
+    // Want of memory is told before anything is written.
+    ensures memory_silent { result ≡ Err OutOfMemory →
         Keeps (W.taken output.old) (W.taken output.new) }
 
     // A script is never called malformed.
@@ -159,6 +164,7 @@ impl ScriptFault {
 impl fmt::Display for ScriptFault {
     ghost output = { λ fault. Some (fault_text fault) };
 
+    /// Writes what a program tells its user, as `line 3: malformed`.
     fn fmt<W: fmt::Write>(&self, f: &mut fmt::Formatter<W>) -> fmt::Result {
         match self {
             ScriptFault::Malformed(number) => write!(f, "line {number}: malformed"),

@@ -28,6 +28,7 @@ pub enum NameError {
 impl fmt::Display for NameError {
     ghost output = { λ error. Some (fault_text error) };
 
+    /// Writes the reason in a few words.
     fn fmt<W: fmt::Write>(&self, f: &mut fmt::Formatter<W>) -> fmt::Result {
         f.write_str(match self {
             NameError::EmptyLabel => "empty label",

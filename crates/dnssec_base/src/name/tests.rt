@@ -4,6 +4,8 @@ use std::alloc::AllocError;
 use std::process::Abort;
 use std::test::Fail;
 
+mod memory;
+
 /// Texts that spell a name, its wire bytes, and what it prints.
 fn spelled() -> [(&'static str, &'static [u8], &'static str); 13] {
     [
@@ -187,8 +189,20 @@ fn answers_each_beginning(rt: HostRuntime) -> Result<(), Fail> {
     for (text, _) in faulty() {
         reads_each_beginning(&rt, text)?;
     }
-    let long = letters(rt.alloc(), &[63, 63, 61, 64], "")?;
-    reads_each_beginning(&rt, long.as_str())
+    let long: [(&[usize], &str); 7] = [
+        (&[64], ""),
+        (&[63, 63, 63, 61], ".a"),
+        (&[63, 63, 63, 62], ""),
+        (&[63, 63, 61, 63], ""),
+        (&[63, 63, 61, 64], ""),
+        (&[63], "\\300"),
+        (&[63], " "),
+    ];
+    for (lengths, end) in long {
+        let text = letters(rt.alloc(), lengths, end)?;
+        reads_each_beginning(&rt, text.as_str())?;
+    }
+    Ok(())
 }
 
 #[test]

@@ -2,7 +2,9 @@
 use super::support::Call::{Add, Delete, Finish, Report1, Report2, Start, Wait1, Wait2};
 use super::support::Kind::{Csk, Ksk, Zsk};
 use super::support::Told::{Accepted, Refused, Wait};
-use super::support::{NEVER, NOTHING, SAME, assert_stamps, follow, new_set, signed_zone};
+use super::support::{
+    NEVER, NOTHING, SAME, assert_roles, assert_stamps, follow, new_set, signed_zone,
+};
 use crate::Error;
 use crate::RollType::AlgorithmRoll;
 use std::test::Fail;
@@ -97,6 +99,7 @@ fn csk_comes_and_goes(rt: HostRuntime) -> Result<(), Fail> {
     assert_stamps(&rt, &set, "C", [150, 200, 210, 280, 210, 540]);
     assert_stamps(&rt, &set, "K5", [360, 400, 410, 480, NEVER, NEVER]);
     assert_stamps(&rt, &set, "Z5", [360, 400, 410, NEVER, 410, NEVER]);
+    assert_roles(&rt, &set, "C", "o---", "o---");
     let rows = [
         (540, Delete("C"), Accepted, "K5,Z5 | K5 | Z5 | K5"),
         (540, Delete("C"), Refused(Error::KeyNotFound), SAME),

@@ -7,8 +7,8 @@ use super::support::Told::{Accepted, Refused, Wait};
 use super::support::{
     NEVER, NOTHING, SAME, assert_stamps, follow, new_set, roll_over, signed_zone,
 };
-use crate::Error;
 use crate::RollType::{AlgorithmRoll, KskDoubleDsRoll, KskRoll};
+use crate::{Error, KeyType};
 use std::test::Fail;
 
 /// A KSK for later stands beside the roll, and neither wait asks after it.
@@ -197,7 +197,12 @@ fn old_key_never_came_in(rt: HostRuntime) -> Result<(), Fail> {
         (0, Add(Ksk, "K", 1, 13), Accepted, SAME),
         (0, Delete("F"), Refused(Error::KeyNotOld), SAME),
         (0, Start(KskRoll, "F", "K"), Accepted, "K | K | - | -"),
-        (0, Start(AlgorithmRoll, "-", "-"), conflict, SAME),
+    ];
+    follow(&rt, rt.alloc(), &mut set, &rows)?;
+    let key = set.keys().get("F").ok_or("no F")?;
+    assert!(rt; matches!(key.keytype(), KeyType::Ksk(state) if state.stale()));
+    let rows = [
+        (0, Start(AlgorithmRoll, "-", "-"), conflict, "K | K | - | -"),
         (10, Report1(KskRoll, 60), Accepted, SAME),
         (70, Wait1(KskRoll), Accepted, "K | K | - | K"),
         (70, Delete("F"), Accepted, SAME),

@@ -4,7 +4,7 @@ use super::support::Call::{
 };
 use super::support::Kind::{Csk, Ksk, Public, Zsk};
 use super::support::Told::{Accepted, Refused, Wait};
-use super::support::{Memory, NOTHING, Row, SAME, follow_with, new_set};
+use super::support::{Memory, NOTHING, Row, SAME, are_alike, follow_with, new_set};
 use crate::Error;
 use crate::RollType::{AlgorithmRoll, ZskDoubleSignatureRoll};
 use std::test::Fail;
@@ -35,35 +35,14 @@ fn first_roll() -> [Row; 10] {
     ]
 }
 
-/// Whichever request for memory is refused, the call that made it answers so and changes nothing,
-/// and the same call is then accepted.
-#[test]
-fn refused_calls_succeed_when_repeated(rt: HostRuntime) -> Result<(), Fail> {
-    let mut set = new_set(rt.alloc())?;
-    follow_with(&rt, rt.alloc(), &mut set, &first_roll(), Memory::MayFail)
-}
-
-/// With none refused, no call runs out of memory. Where requests are refused in turn, this fails
-/// until there is none left to refuse: so it tells when each was refused.
-#[test]
-fn no_call_is_refused_with_ample_memory(rt: HostRuntime) -> Result<(), Fail> {
-    let mut set = new_set(rt.alloc())?;
-    follow_with(&rt, rt.alloc(), &mut set, &first_roll(), Memory::Ample)
-}
-
-/// The same for calls on more keys, and for another roll.
-#[test]
-fn later_calls_succeed_when_repeated(rt: HostRuntime) -> Result<(), Fail> {
-    let mut set = new_set(rt.alloc())?;
-    follow_with(&rt, rt.alloc(), &mut set, &first_roll(), Memory::MayFail)?;
-    let rows = [
-        // the map of the keys grows a few times
+/// Calls on more keys, and another roll.
+fn later_rows() -> [Row; 14] {
+    [
+        // the map of the keys grows twice
         (150, Add(Public, "I", 9, 8), Accepted, SAME),
         (150, Add(Csk, "C", 2, 13), Accepted, SAME),
-        (150, Add(Csk, "C1", 3, 13), Accepted, SAME),
         (150, Add(Ksk, "K2", 4, 13), Accepted, SAME),
         (150, Add(Ksk, "K3", 5, 13), Accepted, SAME),
-        (150, Add(Ksk, "K5", 6, 13), Accepted, SAME),
         (150, Add(Zsk, "Z3", 7, 13), Accepted, SAME),
         (150, Add(Zsk, "Z2", 8, 13), Accepted, SAME),
         // a roll whose second wait asks nothing, so that it takes no memory
@@ -90,8 +69,25 @@ fn later_calls_succeed_when_repeated(rt: HostRuntime) -> Result<(), Fail> {
             "I,K1,Z2 | K1 | Z2 | K1",
         ),
         (340, Delete("Z1"), Accepted, SAME),
-    ];
-    follow_with(&rt, rt.alloc(), &mut set, &rows, Memory::MayFail)
+    ]
+}
+
+/// Whichever request for memory is refused, the call that made it answers so and changes nothing,
+/// and the same call is then accepted.
+#[test]
+fn refused_calls_succeed_when_repeated(rt: HostRuntime) -> Result<(), Fail> {
+    let mut set = new_set(rt.alloc())?;
+    follow_with(&rt, rt.alloc(), &mut set, &first_roll(), Memory::MayFail)?;
+    follow_with(&rt, rt.alloc(), &mut set, &later_rows(), Memory::MayFail)
+}
+
+/// With none refused, no call runs out of memory. Where requests are refused in turn, this fails
+/// until there is none left to refuse: so it tells when each was refused.
+#[test]
+fn no_call_is_refused_with_ample_memory(rt: HostRuntime) -> Result<(), Fail> {
+    let mut set = new_set(rt.alloc())?;
+    follow_with(&rt, rt.alloc(), &mut set, &first_roll(), Memory::Ample)?;
+    follow_with(&rt, rt.alloc(), &mut set, &later_rows(), Memory::Ample)
 }
 
 /// A copy of a key tells what the key tells. Where memory runs out there is no copy, and asking
@@ -112,5 +108,22 @@ fn copies_keys(rt: HostRuntime) -> Result<(), Fail> {
     assert_eq!(rt; copy.algorithm(), key.algorithm());
     assert_eq!(rt; copy.decoupled(), key.decoupled());
     assert_eq!(rt; copy.timestamps().creation(), key.timestamps().creation());
+    Ok(())
+}
+
+/// A copy of a key set in the middle of a roll tells what the set tells, and goes its own way.
+#[test]
+fn copies_sets(rt: HostRuntime) -> Result<(), Fail> {
+    let mut set = new_set(rt.alloc())?;
+    let rows = first_roll();
+    follow_with(&rt, rt.alloc(), &mut set, &rows[..5], Memory::MayFail)?;
+    let mut copy = match set.try_clone() {
+        Err(Error::OutOfMemory) => set.try_clone()?,
+        answer => answer?,
+    };
+    assert_eq!(rt; copy.name().as_slice(), set.name().as_slice());
+    assert!(rt; are_alike(&set, &copy));
+    follow_with(&rt, rt.alloc(), &mut copy, &rows[5..], Memory::MayFail)?;
+    assert!(rt; !are_alike(&set, &copy));
     Ok(())
 }

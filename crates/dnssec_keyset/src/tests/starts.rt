@@ -9,8 +9,8 @@ use crate::RollType::{
 };
 use std::test::Fail;
 
-/// A zone with a public key and a KSK of another algorithm. A start names the first cause: the old
-/// entries, then the new ones, then the algorithms, then the keys that would be left.
+/// A zone with a public key and a KSK of another algorithm. A start names the first cause: the rolls
+/// in progress, then the old entries, the new ones, the algorithms, and the keys that would be left.
 #[test]
 fn first_cause_is_named(rt: HostRuntime) -> Result<(), Fail> {
     let mut set = signed_zone(&rt, rt.alloc())?;
@@ -19,6 +19,8 @@ fn first_cause_is_named(rt: HostRuntime) -> Result<(), Fail> {
     let state = Refused(Error::WrongKeyState);
     let algorithms = Refused(Error::AlgorithmSetsMismatch);
     let no_key = Refused(Error::NoSuitableKeyPresent);
+    let running = Refused(Error::WrongStateForRollOperation);
+    let conflict = Refused(Error::ConflictingRollInProgress);
     let rows = [
         (150, Add(Public, "I", 9, 13), Accepted, SAME),
         (150, Add(Ksk, "K8", 4, 8), Accepted, SAME),
@@ -38,12 +40,15 @@ fn first_cause_is_named(rt: HostRuntime) -> Result<(), Fail> {
         (200, Start(KskDoubleDsRoll, "K1", "K2,K2"), state, SAME),
         (200, Start(KskRoll, "K1", "K2,K2"), state, SAME),
         (200, Start(KskRoll, "K1,K2", "K2"), state, SAME),
+        (200, Start(KskRoll, "K1", "K8,K8"), state, SAME),
         (
             200,
             Start(KskRoll, "K1,K1", "K2"),
             Accepted,
             "K1,K2,Z1 | K1,K2 | Z1 | K1",
         ),
+        (201, Start(KskRoll, "nope", "nope"), running, SAME),
+        (201, Start(CskRoll, "nope", "I"), conflict, SAME),
     ];
     follow(&rt, rt.alloc(), &mut set, &rows)
 }

@@ -1,7 +1,6 @@
-//! Moments, and the names of rolls.
+//! Moments, and the names of zones and of rolls.
 use super::support::at;
-use crate::{Error, RollType, UnixTime};
-use dnssec_base::Timestamp;
+use crate::{Error, KeySet, Name, RollType, Timestamp, UnixTime};
 use std::test::Fail;
 use std::time::Duration;
 
@@ -24,6 +23,16 @@ fn moments(rt: HostRuntime) {
     // the moment lies ahead
     assert_eq!(rt; at(9).elapsed(&at(5)), Duration::ZERO);
     assert!(rt; at(10) < moment && moment < at(11));
+}
+
+/// A set lends the name that it was made with.
+#[test]
+fn name_of_the_zone(rt: HostRuntime) -> Result<(), Fail> {
+    let name = Name::<Vec<u8>>::from_str(rt.alloc(), "example.com")?;
+    let set = KeySet::new(rt.alloc(), name);
+    let text = set.name().to_string(rt.alloc())?;
+    assert_eq!(rt; text.as_str(), "example.com");
+    Ok(())
 }
 
 /// A roll is named as an operator writes it, and in no other way.

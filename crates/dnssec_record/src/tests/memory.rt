@@ -1,4 +1,4 @@
-//! Memory runs out. Run these with each request for memory refused in turn.
+//! Memory runs out: these hold whichever request for memory is refused.
 use super::scripts::{CSK_ANSWERS, CSK_COMES_AND_GOES, FIRST_ANSWERS, FIRST_KEYS};
 use super::support::{WHOLE, assert_written, attempt, wanted_memory};
 use std::process::Abort;

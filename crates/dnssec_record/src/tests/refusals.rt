@@ -2,6 +2,30 @@
 use super::support::assert_answers;
 use std::test::Fail;
 
+/// The operator forgets the ZSK, names the KSK twice, starts twice, and ends too early.
+#[test]
+fn first_keys_are_refused(rt: HostRuntime) -> Result<(), Fail> {
+    let script = "zone example.com
+add-ksk K1 - 13 0 0 yes
+add-zsk Z1 - 13 1 0 yes
+start algorithm-roll - K1 0
+start algorithm-roll - K1,Z1,K1 0
+start algorithm-roll - K1,Z1 0
+start algorithm-roll - K1,Z1 0
+done algorithm-roll
+";
+    let want = "ok
+ok
+refused: no suitable key present after key roll
+refused: key is in the wrong state
+ok UpdateDnskeyRrset UpdateRrsig ReportDnskeyPropagated ReportRrsigPropagated
+refused: wrong roll state for operation
+refused: wrong roll state for operation
+ds=- dnskey=K1,Z1 signers=K1 zone=Z1
+";
+    assert_answers(&rt, rt.alloc(), script, want)
+}
+
 /// A reference and a tag that are there, a new key named twice, no ZSK, keys that aren't there,
 /// reports, waits and ends of another phase or of a roll that isn't there, rolls that may not stand
 /// beside another, early waits, and deletions of a key in use and of none.

@@ -305,7 +305,7 @@ fn a_reference_can_be_added_again(rt: HostRuntime) -> Result<(), Fail> {
     Ok(())
 }
 
-/// A KSK and a ZSK, and each setter on them.
+/// A KSK, each setter on it, and two on a key that isn't there.
 fn setters(alloc: Global) -> Result<Vec<Call<'static>>, AllocError> {
     let (pubref, value, time) = ("K1", true, at(5));
     let mut calls = Vec::new(alloc);
@@ -322,10 +322,15 @@ fn setters(alloc: Global) -> Result<Vec<Call<'static>>, AllocError> {
     calls.push(Call::SetDsVisible { pubref, time })?;
     calls.push(Call::SetRrsigVisible { pubref, time })?;
     calls.push(Call::SetStale { pubref: "K2" })?;
+    calls.push(Call::SetPresent {
+        pubref: "K2",
+        value,
+        now: at(3),
+    })?;
     Ok(calls)
 }
 
-/// Of the setters only that of presence is given a moment as its `now`.
+/// Of the setters only that of presence is given a moment as its `now`, refused or not.
 #[test]
 fn setters_are_recorded(rt: HostRuntime) -> Result<(), Fail> {
     let alloc = rt.alloc();
@@ -347,6 +352,7 @@ fn setters_are_recorded(rt: HostRuntime) -> Result<(), Fail> {
         (Told::Done, None, Mark::Other, present),
         (Told::Done, None, Mark::Other, present),
         (gone, None, Mark::Other, present),
+        (gone, Some(3), Mark::Other, present),
     ];
     assert_entries(&rt, &run, &rows);
     Ok(())
