@@ -1,7 +1,5 @@
 //! The example of docs/GUIDE.md.
-use crate::{
-    Action, Available, Error, KeySet, Name, RollType, SecurityAlgorithm, UnixTime,
-};
+use crate::{Action, Available, Error, KeySet, Name, RollType, SecurityAlgorithm, UnixTime};
 use std::test::Fail;
 use std::time::Duration;
 

@@ -2,7 +2,7 @@
 use super::support::Call::{
     Add, Delete, Finish, Report1, Report2, SetPresent, Start, Wait1, Wait2,
 };
-use super::support::Kind::{Csk, Ksk, Public, Zsk};
+use super::support::Kind::{Ksk, Public, Zsk};
 use super::support::Told::{Accepted, Refused, Wait};
 use super::support::{Memory, NOTHING, Row, SAME, are_alike, follow_with, new_set};
 use crate::Error;
@@ -36,15 +36,17 @@ fn first_roll() -> [Row; 10] {
 }
 
 /// Calls on more keys, and another roll.
-fn later_rows() -> [Row; 14] {
+fn later_rows() -> [Row; 16] {
     [
-        // the map of the keys grows twice
-        (150, Add(Public, "I", 9, 8), Accepted, SAME),
-        (150, Add(Csk, "C", 2, 13), Accepted, SAME),
-        (150, Add(Ksk, "K2", 4, 13), Accepted, SAME),
-        (150, Add(Ksk, "K3", 5, 13), Accepted, SAME),
-        (150, Add(Zsk, "Z3", 7, 13), Accepted, SAME),
+        // enough keys for their map to grow once more
         (150, Add(Zsk, "Z2", 8, 13), Accepted, SAME),
+        (150, Add(Public, "I", 9, 8), Accepted, SAME),
+        (150, Add(Public, "A", 10, 8), Accepted, SAME),
+        (150, Add(Public, "B", 11, 8), Accepted, SAME),
+        (150, Add(Public, "C", 12, 8), Accepted, SAME),
+        (150, Add(Public, "F", 13, 8), Accepted, SAME),
+        (150, Add(Public, "K", 14, 8), Accepted, SAME),
+        (150, Add(Public, "K8", 15, 8), Accepted, SAME),
         // a roll whose second wait asks nothing, so that it takes no memory
         (
             200,

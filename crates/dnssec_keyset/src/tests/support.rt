@@ -272,7 +272,10 @@ fn attempt(
     let answer = match call {
         Call::Add(kind, reference, tag, algorithm) => {
             let pubref = text(alloc, reference)?;
-            let privref = text(alloc, reference)?;
+            let privref = match kind {
+                Kind::Public => None,
+                Kind::Ksk | Kind::Zsk | Kind::Csk => Some(text(alloc, reference)?),
+            };
             add(set, kind, pubref, privref, tag, algorithm, *now)
         }
         Call::Start(roll, old, new) => {
@@ -314,7 +317,7 @@ fn add(
     set: &mut KeySet,
     kind: Kind,
     pubref: String,
-    privref: String,
+    privref: Option<String>,
     tag: u16,
     algorithm: u8,
     now: UnixTime,
@@ -322,9 +325,9 @@ fn add(
     let algorithm = SecurityAlgorithm::from_int(algorithm);
     let available = Available::Available;
     match kind {
-        Kind::Ksk => set.add_key_ksk(pubref, Some(privref), algorithm, tag, now, available),
-        Kind::Zsk => set.add_key_zsk(pubref, Some(privref), algorithm, tag, now, available),
-        Kind::Csk => set.add_key_csk(pubref, Some(privref), algorithm, tag, now, available),
+        Kind::Ksk => set.add_key_ksk(pubref, privref, algorithm, tag, now, available),
+        Kind::Zsk => set.add_key_zsk(pubref, privref, algorithm, tag, now, available),
+        Kind::Csk => set.add_key_csk(pubref, privref, algorithm, tag, now, available),
         Kind::Public => set.add_public_key(pubref, algorithm, tag, now, true),
     }
 }
