@@ -200,7 +200,10 @@ fn old_key_never_came_in(rt: HostRuntime) -> Result<(), Fail> {
     ];
     follow(&rt, rt.alloc(), &mut set, &rows)?;
     let key = set.keys().get("F").ok_or("no F")?;
-    assert!(rt; matches!(key.keytype(), KeyType::Ksk(state) if state.stale()));
+    let KeyType::Ksk(state) = key.keytype() else {
+        panic!(rt; "F is no KSK");
+    };
+    assert!(rt; state.stale());
     let rows = [
         (0, Start(AlgorithmRoll, "-", "-"), conflict, "K | K | - | -"),
         (10, Report1(KskRoll, 60), Accepted, SAME),
