@@ -12,7 +12,7 @@ build:
 	@mkdir -p crates/keyset/out
 	@cd crates/keyset && rt run <stdin >out/build.log 2>&1 || { cat out/build.log >&2; exit 1; }
 
-# Each allocation of some tests and of a small script fails in turn; then every proof, test and
+# Each allocation of some tests and of the stored script fails in turn; then every proof, test and
 # program.
 test: memory
 	@rt ci

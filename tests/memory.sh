@@ -1,17 +1,19 @@
 #!/bin/sh
 # Lets each allocation fail in turn: the first, then the second, until there is none left to fail.
-# First those of the tests of memory of two crates, then those of the program on a small script.
-# Two runs go side by side.
+# First those of the tests of memory of two crates, then those of the program on its stored script.
+# As many runs as there are processors go side by side, but no more than four.
 set -u
 cd "$(dirname "$0")"
 
-script=$PWD/memory.script
 crates=$(cd ../crates && pwd)
 
 # The test that asks for ample memory fails as long as a call's allocation did.
 ample=no_call_is_refused_with_ample_memory
 
 most=300
+
+side_by_side=$(nproc)
+[ "$side_by_side" -le 4 ] || side_by_side=4
 
 answers=$(mktemp -d)
 trap 'rm -rf "$answers"' EXIT
@@ -22,12 +24,15 @@ fail() {
     exit 1
 }
 
-# Runs allocation n failing and the one after it, each into a file of its own: $1 runs one.
-run_two() {
+# Runs allocation n failing and those after it, each into a file of its own: $1 runs one.
+run_some() {
     [ "$n" -le "$most" ] || fail 'there is still one left'
     [ -f "$answers/$n" ] && return
-    "$1" "$n" >"$answers/$n" 2>&1 &
-    "$1" $((n + 1)) >"$answers/$((n + 1))" 2>&1
+    i=$n
+    while [ "$i" -lt $((n + side_by_side)) ]; do
+        "$1" "$i" >"$answers/$i" 2>&1 &
+        i=$((i + 1))
+    done
     wait
 }
 
@@ -44,7 +49,7 @@ tests_in_turn() {
     n=1
     passed=0
     while [ "$passed" -lt "$in_a_row" ]; do
-        run_two run_tests
+        run_some run_tests
         grep -q "^test .*memory::$ample \.\.\. " "$answers/$n" || fail 'no test of memory has run'
         if grep '^test .*memory::.* \.\.\. ' "$answers/$n" | grep -v "$ample" | grep -qv ' ok$'; then
             fail 'a test of memory failed'
@@ -60,12 +65,10 @@ tests_in_turn() {
 }
 
 run_program() {
-    cd "$crates/keyset" && rt try --fail-alloc "$1" <"$script"
+    cd "$crates/keyset" && rt try --fail-alloc "$1" <stdin
 }
 
-whole='ok
-ok UpdateDnskeyRrset UpdateRrsig ReportDnskeyPropagated ReportRrsigPropagated
-ds=- dnskey=C1 signers=C1 zone=C1'
+whole=$(cat "$crates/keyset/stdout")
 
 # The lines that the program wrote.
 written() {
@@ -79,7 +82,7 @@ script_in_turn() {
     rm -f "$answers"/*
     n=1
     while :; do
-        run_two run_program
+        run_some run_program
         made=$(sed -n 's/^allocations: //p' "$answers/$n" | head -n 1)
         [ -n "$made" ] || fail 'the program has not run'
         if [ "$made" -lt "$n" ]; then
@@ -88,7 +91,7 @@ script_in_turn() {
         elif grep -q '^run=ended status=3 ' "$answers/$n"; then
             [ -z "$(written)" ] || fail 'answers were written'
         elif grep -q '^run=ended status=0 ' "$answers/$n"; then
-            if written | grep -q '^refused: '; then
+            if written | grep -q '^refused: out of memory$'; then
                 before=$(written | sed '/^refused: out of memory$/,$d')
                 case $whole in
                 "$before"*) ;;
