@@ -205,25 +205,93 @@ fn answers_each_beginning(rt: HostRuntime) -> Result<(), Fail> {
     Ok(())
 }
 
+/// A letter for what the reader answers: `o` for a name, and one for each fault.
+fn letter(answer: &Result<Name<Vec<u8>>, NameError>) -> char {
+    match answer {
+        Ok(_) => 'o',
+        Err(NameError::EmptyLabel) => 'e',
+        Err(NameError::LongLabel) => 'l',
+        Err(NameError::LongName) => 'n',
+        Err(NameError::BadEscape) => 's',
+        Err(NameError::BadByte) => 'b',
+        Err(NameError::OutOfMemory) => 'm',
+    }
+}
+
+/// Texts with the letters of what their beginnings are answered, from the empty one on; `-` where a
+/// character is cut.
+fn beginnings() -> [(&'static str, &'static str); 34] {
+    [
+        (".", "eo"),
+        ("example.com.", "eoooooooooooo"),
+        ("eXample.COM", "eooooooooooo"),
+        ("a\\.b", "eosoo"),
+        ("a\\ b", "eosoo"),
+        ("a\\032b", "eosssoo"),
+        ("\\.", "eso"),
+        ("\\\\", "eso"),
+        ("a\\\"b", "eosoo"),
+        ("\\025", "essso"),
+        ("\\255", "essso"),
+        ("0/25.2.0.192.in-addr.arpa", "eooooooooooooooooooooooooo"),
+        ("..", "eoe"),
+        (".a", "eoe"),
+        ("a..b", "eooee"),
+        ("a.. ", "eooee"),
+        ("a b", "eobb"),
+        (" ", "eb"),
+        ("a\x7F", "eob"),
+        ("ü", "e-b"),
+        ("a b..", "eobbbb"),
+        ("\\300", "essss"),
+        ("\\256", "essss"),
+        ("\\25", "esss"),
+        ("\\2a5", "essss"),
+        ("\\2", "ess"),
+        ("a\\", "eos"),
+        ("\\\x7F", "ess"),
+        ("\\\x1F", "ess"),
+        ("\\ü", "es-s"),
+        ("\\300 ", "esssss"),
+        ("a.\\25.b", "eoosssss"),
+        ("a\\032.b..", "eosssooooe"),
+        ("", "e"),
+    ]
+}
+
 #[test]
 fn names_the_fault_of_each_beginning(rt: HostRuntime) -> Result<(), Fail> {
-    let text = "a\\032.b..";
-    let answers = [
-        Some(NameError::EmptyLabel),
-        None,
-        Some(NameError::BadEscape),
-        Some(NameError::BadEscape),
-        Some(NameError::BadEscape),
-        None,
-        None,
-        None,
-        None,
-        Some(NameError::EmptyLabel),
+    for (text, letters) in beginnings() {
+        assert!(rt; text.len() < letters.len(), "not all beginnings of {text}");
+        for (end, wanted) in letters.chars().enumerate() {
+            if let Some(front) = text.get(..end) {
+                let answer = name_of(&rt, rt.alloc(), front);
+                assert_eq!(rt; letter(&answer), wanted, "the answer to {front}");
+            }
+        }
+    }
+    Ok(())
+}
+
+#[test]
+fn names_the_fault_of_each_long_beginning(rt: HostRuntime) -> Result<(), Fail> {
+    // Of each text, how many bytes still are a name, and the fault of each longer beginning.
+    let rows: [(&[usize], &str, usize, NameError); 6] = [
+        (&[64], "", 63, NameError::LongLabel),
+        (&[63], "\\300", 63, NameError::BadEscape),
+        (&[63], " ", 63, NameError::BadByte),
+        (&[63, 63, 63, 61], ".a", 254, NameError::LongName),
+        (&[63, 63, 63, 62], "", 253, NameError::LongName),
+        (&[63, 63, 61, 64], "", 253, NameError::LongLabel),
     ];
-    for (end, answer) in answers.iter().enumerate() {
-        let front = text.get(..end).ok_or("no beginning")?;
-        let fault = name_of(&rt, rt.alloc(), front).err();
-        assert_eq!(rt; fault, *answer, "the fault of {front}");
+    for (lengths, end, name, fault) in rows {
+        let text = letters(rt.alloc(), lengths, end)?;
+        for length in 1..=text.len() {
+            let front = text.as_str().get(..length).ok_or("no beginning")?;
+            let answer = name_of(&rt, rt.alloc(), front).err();
+            let wanted = if length <= name { None } else { Some(fault) };
+            assert_eq!(rt; answer, wanted, "the fault of {front}");
+        }
     }
     Ok(())
 }

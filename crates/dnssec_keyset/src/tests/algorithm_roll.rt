@@ -1,11 +1,13 @@
 //! A zone gets its first keys, and goes to other algorithms.
 use super::support::Call::{Add, Delete, Finish, Report1, Report2, Start, Wait1, Wait2};
 use super::support::Kind::{Csk, Ksk, Zsk};
+use super::support::Memory::Ample;
 use super::support::Told::{Accepted, Refused, Wait};
 use super::support::{
-    NEVER, NOTHING, SAME, assert_roles, assert_stamps, follow, new_set, signed_zone,
+    NEVER, NOTHING, SAME, assert_roles, assert_stamps, follow, make, new_set, signed_zone,
 };
 use crate::Error;
+use crate::RollState::{CacheExpire1, CacheExpire2, Done, Propagation1, Propagation2};
 use crate::RollType::AlgorithmRoll;
 use std::test::Fail;
 
@@ -26,6 +28,30 @@ fn first_keys_come_in(rt: HostRuntime) -> Result<(), Fail> {
     follow(&rt, rt.alloc(), &mut set, &rows)?;
     assert_stamps(&rt, &set, "K1", [0, 0, 100, NEVER, NEVER, NEVER]);
     assert_stamps(&rt, &set, "Z1", [0, 0, 100, NEVER, 100, NEVER]);
+    Ok(())
+}
+
+/// The key set tells the phase of a roll in progress, with the TTL of the report that is waited for.
+#[test]
+fn phases_are_told(rt: HostRuntime) -> Result<(), Fail> {
+    let mut set = new_set(rt.alloc())?;
+    let rows = [
+        (0, Add(Ksk, "K1", 0, 13), None),
+        (0, Add(Zsk, "Z1", 1, 13), None),
+        (0, Start(AlgorithmRoll, "-", "K1,Z1"), Some(Propagation1)),
+        (1, Report1(AlgorithmRoll, 3600), Some(CacheExpire1(3600))),
+        (3601, Wait1(AlgorithmRoll), Some(Propagation2)),
+        (3602, Report2(AlgorithmRoll, 60), Some(CacheExpire2(60))),
+        (3662, Wait2(AlgorithmRoll), Some(Done)),
+        (3662, Finish(AlgorithmRoll), None),
+    ];
+    for (now, call, phase) in rows {
+        let told = make(&rt, rt.alloc(), &mut set, call, now, Ample)?;
+        assert_eq!(rt; told, Accepted, "at {now}: {call:?}");
+        let rolls = set.rollstates();
+        assert_eq!(rt; rolls.get(&AlgorithmRoll).copied(), phase, "after {call:?}");
+        assert_eq!(rt; rolls.len(), usize::from(phase.is_some()), "after {call:?}");
+    }
     Ok(())
 }
 

@@ -1,12 +1,12 @@
 //! Scripts with a line that hasn't its form.
-use super::support::{WHOLE, follow};
+use super::support::{WHOLE, assert_written, follow};
 use crate::ScriptFault;
 use std::alloc::{AllocError, Global};
 use std::process::Abort;
 use std::test::Fail;
 
 /// A script, and the number of the first line that hasn't its form.
-type Row = (&'static [u8], usize);
+type Row<'a> = (&'a [u8], usize);
 
 /// Each script is refused by the number of this line, and nothing is written.
 fn assert_malformed(rt: &impl Abort, alloc: Global, scripts: &[Row]) -> Result<(), Fail> {
@@ -46,6 +46,27 @@ fn zone_lines(rt: HostRuntime) -> Result<(), Fail> {
         (b"delete K1\nzone a\n", 1),
     ];
     assert_malformed(&rt, rt.alloc(), &scripts)
+}
+
+/// A beginning of a script that is a zone line alone is a script where its name stands.
+#[test]
+fn beginnings_of_zone_lines(rt: HostRuntime) -> Result<(), Fail> {
+    let rows: [(&[u8], &[usize]); 2] = [
+        (b"zone a\\.b\n", &[6, 8, 9, 10]),
+        (b"zone a..b\n", &[6, 7]),
+    ];
+    for (script, scripts) in rows {
+        for end in 0..=script.len() {
+            let front = script.get(..end).ok_or("no beginning")?;
+            if scripts.contains(&end) {
+                let answer = follow(&rt, rt.alloc(), front, WHOLE)?;
+                assert_written(&rt, &answer, "ds=- dnskey=- signers=- zone=-\n");
+            } else {
+                assert_malformed(&rt, rt.alloc(), &[(front, 1)])?;
+            }
+        }
+    }
+    Ok(())
 }
 
 /// The first malformed line is told, and no line before it is run.
