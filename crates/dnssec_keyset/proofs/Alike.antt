@@ -9,10 +9,12 @@ use Rattle.dnssec_keyset.specs.declared.key.KeyType.TheVariants.{Ksk, Zsk, Csk, 
 use Rattle.dnssec_keyset.specs.contracts.key.KeyStatePartialEq.TheImpl as of_states
 use Rattle.dnssec_keyset.specs.contracts.key.KeyTypePartialEq.TheImpl as of_kinds
 
+-- two tests, each of which decides a fact, together decide both facts
 both : {A B : Type 0} → (p q : Bool) → Decides p A → Decides q B → Decides (p && q) (A × B)
 both true q a b = (λ h. (a.0 refl, b.0 h), λ h. b.1 h.1)
 both false q a b = (λ h. absurd (false≢true h), λ h. absurd (false≢true (a.1 h.0)))
 
+-- two states are one exactly where all five flags are
 pub alike_states : (s t : Flags) → Decides (of_states.ghosts.eq s t) (s ≡ t)
 alike_states s t =
     let flags = both _ _ (booleans_Decides s.available t.available)
@@ -46,22 +48,25 @@ kind (Zsk s) = 1
 kind (Csk s t) = 2
 kind (Include s) = 3
 
--- its first state, and its last
+-- its first state
 abbrev first : KeyType → Flags
 first (Ksk s) = s
 first (Zsk s) = s
 first (Csk s t) = s
 first (Include s) = s
 
+-- its last state
 abbrev last : KeyType → Flags
 last (Ksk s) = s
 last (Zsk s) = s
 last (Csk s t) = t
 last (Include s) = s
 
+-- keys of different kinds are not one
 apart : (k l : KeyType) → kind k ≢ kind l → Decides false (k ≡ l)
 apart k l d = (λ h. absurd (false≢true h), λ e. absurd (d (ap kind e)))
 
+-- two keys' kinds are one exactly where the kind and all states are
 pub alike_kinds : (k l : KeyType) → Decides (of_kinds.ghosts.eq k l) (k ≡ l)
 alike_kinds (Ksk s) (Ksk u) = (λ h. ap Ksk ((alike_states s u).0 h), λ e. (alike_states s u).1 (ap first e))
 alike_kinds (Ksk s) (Zsk u) = apart _ _ (λ e. omega arith)

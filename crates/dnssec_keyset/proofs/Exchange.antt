@@ -1,10 +1,9 @@
 -- Two neighbouring calls of rolls that go together may be exchanged: neither sees what the other changes.
-use Rattle.std.proofs.Common.{◌≡◌, ℕ, ◌<◌, ◌≤◌, Bool, true, false, not, cond, List, [], ◌∷◌, ◌++◌, Some, None, refl, inl, inr, sym, ap, subst, ◌∙◌, arith}
+use Rattle.std.proofs.Common.{◌≡◌, ℕ, ◌<◌, ◌≤◌, Bool, true, false, not, List, [], ◌∷◌, ◌++◌, Some, None, refl, inl, inr, sym, ap, subst, ◌∙◌, arith}
 use Rattle.std.specs.Prelude.{Option, ◌⊎◌, ◌||◌, ◌&&◌, ◌≢◌, if◌then◌else◌, nat_eq, nat_lt, is_some, unwrap_or}
-use Rattle.std.specs.List.{list_any, list_all}
+use Rattle.std.specs.List.{list_all}
 use Rattle.std.specs.Option.{option_map, option_map_or, option_or}
 use Rattle.std.specs.Duration.{as_nanos}
-use Rattle.std.specs.declared.time.Duration.{Duration}
 use Rattle.std.specs.FinMap.{get}
 use Rattle.std.proofs.lemmas.Option.{same_Some}
 use Rattle.std.proofs.lemmas.Bool.Decides.{nat_tests}
@@ -19,20 +18,19 @@ use Rattle.dnssec_keyset.specs.declared.roll.RollType.TheVariants.{KskRoll, KskD
 use Rattle.dnssec_keyset.specs.declared.roll.RollState.{RollState}
 use Rattle.dnssec_keyset.specs.declared.roll.RollState.TheVariants.{Propagation1}
 use Rattle.dnssec_keyset.specs.declared.error.Error.{Error}
-use Rattle.dnssec_keyset.specs.declared.error.Error.TheVariants.{WrongKeyType, WrongKeyState, NoSuitableKeyPresent, AlgorithmSetsMismatch, WrongStateForRollOperation, ConflictingRollInProgress, Wait as WaitFor, OutOfMemory}
+use Rattle.dnssec_keyset.specs.declared.error.Error.TheVariants.{WrongKeyType, WrongKeyState, NoSuitableKeyPresent, AlgorithmSetsMismatch, WrongStateForRollOperation, ConflictingRollInProgress, OutOfMemory}
 use Rattle.dnssec_keyset.specs.State.{Flags, is_fresh, old_present}
 use Rattle.dnssec_keyset.specs.Key.{KeyParts, all_states}
-use Rattle.dnssec_keyset.specs.KeySet.{Keys, KeySetParts, MovesOn, Rolls, phase_of, with_phase, same_roll, some_entry, some_key}
+use Rattle.dnssec_keyset.specs.KeySet.{KeySetParts, MovesOn, Rolls, phase_of, with_phase, same_roll, some_entry, some_key}
 use Rattle.dnssec_keyset.specs.RollTable.{Half, First, Second, column, half_of, at_ksk, at_zsk, at_roles, at_whole_keys, turns_old, leaves_dnskey, after_start, after_report, after_wait, behind, expiring}
-use Rattle.dnssec_keyset.specs.Start.{algorithm_fault, algorithms_within, all_rolls, are_apart, conflict, first_of_causes, has_algorithm, has_conflict, is_listed, is_met, lists_kind, may_change_algorithms, new_entry_fault, new_fault, old_entry_fault, old_fault, serves_as_kept, serves_as_new, side_of, some_kept, some_listed, start_refusal, suitability_fault, together, wants}
+use Rattle.dnssec_keyset.specs.Start.{algorithm_fault, algorithms_within, are_apart, conflict, first_of_causes, has_algorithm, has_conflict, is_listed, is_met, lists_kind, may_change_algorithms, new_entry_fault, new_fault, old_entry_fault, old_fault, serves_as_kept, serves_as_new, side_of, some_listed, start_refusal, together, wants}
 use Rattle.dnssec_keyset.specs.Wait.{left_since, stamp_read, IsLongest, is_early, lacks_stamp, time_left, ttl_in}
-use Rattle.dnssec_keyset.specs.Step.{Call, AddKey, Set, DeleteKey, StartRoll, Report, Wait, RollDone, Reply, Refused, Verdict, Barred, Early, Clear, Changes, Step, StepBy, TakesMemory, accepted_reply, after, barred_by, end_refusal, report_refusal, verdict, wait_in_phase}
+use Rattle.dnssec_keyset.specs.Step.{Call, AddKey, Set, DeleteKey, StartRoll, Report, Wait, RollDone, Reply, Refused, Verdict, Barred, Early, Clear, Changes, Step, StepBy, accepted_reply, after, barred_by, end_refusal, report_refusal, verdict, wait_in_phase}
 use Rattle.dnssec_keyset.specs.Laws.{AreApart, MayBeExchanged, roll_of}
-use Rattle.dnssec_keyset.proofs.After.{after-changes, changes-after}
+use Rattle.dnssec_keyset.proofs.After.{after-changes}
 use Rattle.dnssec_keyset.proofs.Laws.{no_cause, same-is}
 use Rattle.dnssec_keyset.proofs.Phases.{phase_of-with_phase, same_rolls}
 use Rattle.dnssec_keyset.proofs.Quantified.{some_key-found, some_key-none, some_entry-found, some_entry-none}
-use Rattle.dnssec_keyset.proofs.Shown.{same_keys}
 use Rattle.dnssec_keyset.proofs.Sides.{after_start-others, after_report-others, after_wait-others, starts-clear}
 
 split : (b : Bool) → (b ≡ true) ⊎ (b ≡ false)

@@ -1,5 +1,5 @@
 -- Laws of every step, and so of every run: no two keys get one tag, and rolls in progress go together.
-use Rattle.std.proofs.Common.{◌≡◌, ℕ, Bool, true, false, not, cond, List, [], ◌∷◌, Some, None, refl, inl, inr, sym, ap, subst, ◌∙◌, arith}
+use Rattle.std.proofs.Common.{◌≡◌, ℕ, Bool, true, false, not, List, Some, None, refl, inl, inr, sym, ap, subst, ◌∙◌, arith}
 use Rattle.std.specs.Prelude.{Option, ◌⊎◌, ◌&&◌, ◌||◌, nat_eq, is_some, if◌then◌else◌}
 use Rattle.std.specs.List.{list_any}
 use Rattle.std.specs.Option.{option_map, option_or, unwrap_or}
@@ -13,14 +13,14 @@ use Rattle.dnssec_keyset.specs.declared.roll.Side.TheVariants.{KskSide, ZskSide,
 use Rattle.dnssec_keyset.specs.declared.roll.RollType.{RollType}
 use Rattle.dnssec_keyset.specs.declared.roll.RollType.TheVariants.{KskRoll, KskDoubleDsRoll, ZskRoll, ZskDoubleSignatureRoll, CskRoll, AlgorithmRoll}
 use Rattle.dnssec_keyset.specs.declared.roll.RollState.{RollState}
-use Rattle.dnssec_keyset.specs.declared.roll.RollState.TheVariants.{Propagation1, CacheExpire1, Propagation2, CacheExpire2, Done as Finishing}
+use Rattle.dnssec_keyset.specs.declared.roll.RollState.TheVariants.{Propagation1}
 use Rattle.dnssec_keyset.specs.declared.error.Error.{Error}
 use Rattle.dnssec_keyset.specs.declared.error.Error.TheVariants.{DuplicateKeyTag, KeyExists, WrongStateForRollOperation, ConflictingRollInProgress}
 use Rattle.dnssec_keyset.specs.Key.{KeyParts}
-use Rattle.dnssec_keyset.specs.KeySet.{Keys, KeySetParts, Rolls, PutsKey, MovesOn, new_set, phase_of, with_phase, same_roll}
+use Rattle.dnssec_keyset.specs.KeySet.{Keys, KeySetParts, Rolls, PutsKey, new_set, phase_of, with_phase, same_roll}
 use Rattle.dnssec_keyset.specs.RollTable.{Half, First, Second, after_start}
-use Rattle.dnssec_keyset.specs.Setters.{ChangesKey, Setting, Decoupled, Present, Signer, AtParent, Stale, VisibleAt, DsVisibleAt, RrsigVisibleAt, set_by}
-use Rattle.dnssec_keyset.specs.Start.{all_rolls, are_apart, conflict, has_conflict, side_of, start_refusal, together}
+use Rattle.dnssec_keyset.specs.Setters.{Setting, Decoupled, Present, Signer, AtParent, Stale, VisibleAt, DsVisibleAt, RrsigVisibleAt, set_by}
+use Rattle.dnssec_keyset.specs.Start.{all_rolls, are_apart, conflict, has_conflict, side_of, together}
 use Rattle.dnssec_keyset.specs.Wait.{ttl_in}
 use Rattle.dnssec_keyset.specs.Step.{Call, AddKey, Set, DeleteKey, StartRoll, Report, Wait, RollDone, Reply, Verdict, Barred, Early, Clear, Changes, Step, StepBy, add_refusal, barred_by, has_tag, report_refusal, verdict, wait_in_phase}
 use Rattle.dnssec_keyset.specs.Laws.{TagsApart, RollsTogether, in_progress}

@@ -1,8 +1,7 @@
 -- A call on a roll leaves the keys alone that the roll doesn't change.
-use Rattle.std.proofs.Common.{◌≡◌, ℕ, Bool, true, false, cond, List, [], ◌∷◌, ◌++◌, Some, None, refl, inl, inr, sym, ap, subst, ◌∙◌}
+use Rattle.std.proofs.Common.{◌≡◌, ℕ, Bool, true, false, List, [], ◌∷◌, ◌++◌, Some, None, refl, inl, inr, sym, ap, ◌∙◌}
 use Rattle.std.specs.Prelude.{Option, ◌⊎◌, ◌||◌, ◌&&◌, not, if◌then◌else◌}
 use Rattle.std.proofs.lemmas.Option.{same_Some}
-use Rattle.std.specs.List.{list_any}
 use Rattle.std.specs.Option.{option_map, option_or}
 use Rattle.std.specs.Str.{bytes_eq}
 use Rattle.std.specs.Cmp.Lexicographic.{bytes_decides}
@@ -18,7 +17,7 @@ use Rattle.dnssec_keyset.specs.Key.{KeyParts, all_states}
 use Rattle.dnssec_keyset.specs.State.{is_fresh}
 use Rattle.dnssec_keyset.specs.KeySet.{KeySetParts}
 use Rattle.dnssec_keyset.specs.RollTable.{Half, First, Second, column, half_of, written, with_stamps, after_start, after_report, after_wait}
-use Rattle.dnssec_keyset.specs.Start.{algorithm_fault, conflict, first_of_causes, is_listed, lists_kind, new_entry_fault, new_fault, old_entry_fault, old_fault, side_of, start_refusal, suitability_fault}
+use Rattle.dnssec_keyset.specs.Start.{algorithm_fault, conflict, is_listed, lists_kind, new_entry_fault, new_fault, old_entry_fault, old_fault, side_of, start_refusal, suitability_fault}
 use Rattle.dnssec_keyset.specs.Step.{Call, AddKey, Set, DeleteKey, StartRoll, Report, Wait, RollDone, Reply, Clear, Changes, Step, verdict}
 use Rattle.dnssec_keyset.specs.Laws.{LeavesOthers, roll_of}
 use Rattle.dnssec_keyset.proofs.Laws.{moved, no_cause}

@@ -1,11 +1,10 @@
 -- What the walk of a wait finds: that a stamp is missing, or the longest time that is left; and so the wait's answer.
-use Rattle.std.proofs.Common.{◌≡◌, ℕ, zero, suc, ◌+◌, ◌<◌, ◌≤◌, Bool, true, false, not, cond, List, [], ◌∷◌, Some, None, Ok, Err, refl, sym, ap, subst, ◌∙◌, inl, inr, max, arith}
-use Rattle.std.specs.Prelude.{Option, Result, IsOk, IsSome, ◌⊎◌, ◌||◌, nat_eq, nat_lt, is_some, unwrap_or}
+use Rattle.std.proofs.Common.{◌≡◌, ℕ, zero, suc, ◌<◌, ◌≤◌, Bool, true, false, not, List, [], ◌∷◌, Some, None, Ok, Err, refl, sym, ap, subst, ◌∙◌, inl, inr, max, arith}
+use Rattle.std.specs.Prelude.{Option, Result, IsOk, ◌⊎◌, ◌||◌, nat_eq, nat_lt, is_some, unwrap_or}
 use Rattle.std.specs.List.{list_any, fold}
 use Rattle.std.specs.Option.{option_map, option_map_or, option_and_then}
 use Rattle.std.specs.Duration.{as_nanos}
 use Rattle.std.specs.declared.time.Duration.{Duration}
-use Rattle.std.specs.FinMap.{get}
 use Rattle.std.specs.String.{string_eq}
 use Rattle.std.specs.HashMap.{IsUnique, values as hash_values}
 use Rattle.std.proofs.lemmas.Bool.Decides.{nat_tests}
@@ -19,7 +18,7 @@ use Rattle.dnssec_keyset.specs.contracts.set.KeySet.{the_view}
 use Rattle.dnssec_keyset.specs.Key.{KeyParts}
 use Rattle.dnssec_keyset.specs.KeySet.{Keys, KeySetParts, phase_of, rolls_shown, some_key}
 use Rattle.dnssec_keyset.specs.Wait.{ttl_in, time_left, lacks_stamp, is_early, IsLongest}
-use Rattle.dnssec_keyset.specs.Step.{Verdict, Barred, Early, Clear, AnswersWait, wait_in_phase, wait_verdict}
+use Rattle.dnssec_keyset.specs.Step.{Verdict, Barred, Early, Clear, AnswersWait, wait_in_phase}
 use Rattle.dnssec_keyset.proofs.Walks.{some_key-view}
 use Rattle.dnssec_keyset.proofs.Quantified.{some_key-found, some_key-none}
 

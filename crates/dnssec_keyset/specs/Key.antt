@@ -1,5 +1,5 @@
 -- What a contract sees of a key, and which of its roles a sentence speaks of.
-use Rattle.std.specs.Prelude.{ℕ, List, Bool, true, false, not, ◌&&◌, ◌||◌, Option, None, Some}
+use Rattle.std.specs.Prelude.{ℕ, List, Bool, true, false, ◌&&◌, ◌||◌, Option, None, Some}
 use Rattle.std.specs.Option.{option_map_or}
 use Rattle.dnssec_keyset.specs.declared.key.KeyType.{KeyType}
 use Rattle.dnssec_keyset.specs.declared.key.KeyType.TheVariants.{Ksk, Zsk, Csk, Include}
@@ -110,7 +110,7 @@ first_state (Zsk s) = s
 first_state (Csk s t) = s
 first_state (Include s) = s
 
--- ---- a new key
+-- ---- a new key (RFC 6781, section 4.1; RFC 7583, section 3.1: a key is generated)
 
 -- the new key may come in by a roll
 abbrev pub is_available : Availability → Bool

@@ -1,5 +1,6 @@
--- What a contract sees of a key set: its name, its keys by reference, and its rolls in progress.
-use Rattle.std.specs.Prelude.{◌≡◌, ℕ, List, map, Bool, not, ◌&&◌, Option, None, if◌then◌else◌}
+-- What a contract sees of a key set: its name, its keys by reference, and its rolls in progress (RFC
+-- 6781, section 3.1: the keys of a zone; section 4.1: their rolls).
+use Rattle.std.specs.Prelude.{◌≡◌, ℕ, List, map, Bool, Option, None, if◌then◌else◌}
 use Rattle.std.specs.Prelude.{nat_eq, string_bytes}
 use Rattle.std.specs.declared.string.String.{String}
 use Rattle.std.specs.Ordering.{nat_cmp}
@@ -34,7 +35,7 @@ some_key p keys = list_any p (values keys)
 abbrev pub some_entry : (List ℕ → KeyParts → Bool) → Keys → Bool
 some_entry p keys = list_any (λ e. p e.0 e.1) (entries keys)
 
--- ---- rolls
+-- ---- rolls (RFC 6781, section 4.1)
 
 -- the phase of each roll, where it is in progress (RFC 6781, section 4.1)
 pub record Rolls : Type 0 where
@@ -87,7 +88,7 @@ abbrev pub with_phase : Rolls → RollType → Option RollState → Rolls
 with_phase r roll phase =
     rolls_by (λ other. if same_roll roll other then phase else phase_of r other)
 
--- ---- the whole set
+-- ---- the whole set (RFC 6781, sections 3.1 and 4.1)
 
 -- the parts of a key set
 pub record KeySetParts : Type 0 where

@@ -1,4 +1,5 @@
--- What holds of a key set after any calls, and of calls on different sides.
+-- What holds of a key set after any calls, and of calls on different sides (RFC 6781, section 3.1:
+-- KSKs and ZSKs are rolled independently of each other).
 use Rattle.std.specs.Prelude.{◌≡◌, ◌≢◌, ℕ, Bool, true, false, List, Option, None, Some, ◌⊎◌}
 use Rattle.std.specs.Prelude.{is_some}
 use Rattle.std.specs.FinMap.{get}
@@ -31,9 +32,7 @@ roll_of (Wait roll half now) = Some roll
 roll_of (RollDone roll) = Some roll
 roll_of _ = None
 
--- a call on a roll leaves every key as it was that the roll doesn't change: one of KSKs alone each
--- key that isn't a KSK, one of ZSKs alone each key that isn't a ZSK, and any roll each key of
--- another signer
+-- a call on a roll leaves every key as it was that the roll doesn't change
 abbrev pub LeavesOthers : KeySetParts → Call → KeySetParts → Type 0
 LeavesOthers old call new = (roll : RollType) (q : List ℕ) (k : KeyParts) →
     roll_of call ≡ Some roll →

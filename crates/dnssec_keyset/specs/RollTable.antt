@@ -2,7 +2,7 @@
 -- half of the roll which stamps its report writes, which keys its wait checks and what the wait
 -- then does, with what is asked of the operator. Tests are on the flags before the call; what a
 -- column doesn't name stays.
-use Rattle.std.specs.Prelude.{ℕ, Bool, true, false, not, ◌&&◌, ◌||◌, if◌then◌else◌, Option, None}
+use Rattle.std.specs.Prelude.{ℕ, Bool, true, false, not, ◌||◌, if◌then◌else◌, Option, None}
 use Rattle.std.specs.Prelude.{Some, List, [], ◌∷◌}
 use Rattle.dnssec_keyset.specs.declared.key.KeyType.{KeyType}
 use Rattle.dnssec_keyset.specs.declared.key.KeyType.TheVariants.{Ksk, Zsk, Csk, Include}
@@ -34,7 +34,7 @@ use Rattle.dnssec_keyset.specs.State.{kept_at_parent, old_present, old_at_parent
 use Rattle.dnssec_keyset.specs.Key.{KeyParts, ksk, zsk, ksk_role, zsk_role, any_key, zone_key}
 use Rattle.dnssec_keyset.specs.Key.{every_key, no_key, either}
 
--- ---- what happens to one role, in the operator's words
+-- ---- what happens to one role, in the operator's words (RFC 6781, section 4.1)
 
 -- the key goes into the DNSKEY set
 abbrev pub comes_in : Flags → Flags
@@ -48,8 +48,7 @@ comes_in_signing s = record s { present = true; signer = true }
 abbrev pub ds_comes_in : Flags → Flags
 ds_comes_in s = record s { at_parent = true }
 
--- of the keys in the DNSKEY set, those that stay have a DS from now on, and those that leave have
--- none
+-- of the keys in the DNSKEY set those that stay have a DS from now on, and no others
 abbrev pub ds_follows : Flags → Flags
 ds_follows s = if s.present then record s { at_parent = not s.old } else s
 
@@ -85,7 +84,7 @@ stays s = s
 abbrev pub only : (Flags → Bool) → (Flags → Flags) → Flags → Flags
 only p f s = if p s then f s else s
 
--- ---- which roles it happens to
+-- ---- which roles it happens to (RFC 6781, section 3.1)
 
 -- at the role of a KSK, and of no CSK
 abbrev pub at_ksk : (Flags → Flags) → KeyType → KeyType
@@ -119,7 +118,7 @@ at_whole_keys p f (Include s) = Include s
 abbrev pub at_none : KeyType → KeyType
 at_none k = k
 
--- ---- the columns
+-- ---- the columns (RFC 6781, section 4.1)
 
 -- on which keys each stamp is written
 pub record Stamping : Type 0 where
@@ -338,7 +337,7 @@ abbrev pub half_of : RollType → Half → HalfRoll
 half_of roll First = (column roll).first
 half_of roll Second = (column roll).second
 
--- ---- the table at one key
+-- ---- the table at one key (RFC 6781, section 4.1)
 
 -- which stamps are written on a key of this kind
 abbrev pub written : Stamping → KeyType → Stamped
@@ -398,7 +397,7 @@ after_report roll half = changed at_none (half_of roll half).report
 abbrev pub after_wait : RollType → Half → ℕ → KeyParts → KeyParts
 after_wait roll half = changed (half_of roll half).moves (half_of roll half).stamps
 
--- ---- phases, and what is asked in them
+-- ---- phases, and what is asked in them (RFC 6781, section 4.1)
 
 -- old data with this TTL leaves the caches (RFC 6781, section 4.1)
 abbrev pub expiring : Half → ℕ → RollState

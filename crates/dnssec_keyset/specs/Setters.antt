@@ -1,6 +1,7 @@
--- The calls on single keys: what each setter changes, and what it is refused for; and deletion.
-use Rattle.std.specs.Prelude.{◌≡◌, ℕ, Bool, true, false, ◌||◌, Option, None, Some, List}
-use Rattle.std.specs.Prelude.{if◌then◌else◌, is_some}
+-- The calls on single keys: what each setter changes, and what it is refused for; and deletion. By a
+-- setter an operator does by hand what a roll does to many keys (RFC 6781, section 4.1).
+use Rattle.std.specs.Prelude.{◌≡◌, ℕ, Bool, true, false, Option, None, Some, List}
+use Rattle.std.specs.Prelude.{if◌then◌else◌}
 use Rattle.std.specs.Option.{option_map}
 use Rattle.std.specs.Str.{bytes_eq}
 use Rattle.std.specs.FinMap.{get}
@@ -37,7 +38,7 @@ meant (code.VisibleAt time) = VisibleAt time
 meant (code.DsVisibleAt time) = DsVisibleAt time
 meant (code.RrsigVisibleAt time) = RrsigVisibleAt time
 
--- ---- what a setter changes
+-- ---- what a setter changes (RFC 6781, section 4.1)
 
 -- f at each state of the key, also at that of another signer's key
 abbrev pub at_states : (Flags → Flags) → KeyType → KeyType
@@ -93,7 +94,7 @@ set_by (DsVisibleAt time) k = record k {
 set_by (RrsigVisibleAt time) k =
     record k { timestamps = record k.timestamps { rrsig_visible = Some time } }
 
--- ---- what it is refused for
+-- ---- what it is refused for (RFC 6781, sections 3.1 and 4.1)
 
 -- another signer's key signs nothing here, and only a KSK role has a DS record
 abbrev pub suits_kind : Setting → KeyType → Bool

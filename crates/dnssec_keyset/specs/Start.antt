@@ -29,7 +29,7 @@ use Rattle.dnssec_keyset.specs.State.{is_any, is_fresh, kept_present, kept_at_pa
 use Rattle.dnssec_keyset.specs.Key.{KeyParts, ksk, zsk, ksk_role, zsk_role, any_key, all_states}
 use Rattle.dnssec_keyset.specs.KeySet.{Keys, Rolls, KeySetParts, phase_of, some_entry}
 
--- ---- rolls side by side
+-- ---- rolls side by side (RFC 6781, section 4.1)
 
 -- which keys a roll changes: KSKs alone, ZSKs alone, or KSKs, ZSKs and CSKs (RFC 6781, section 4.1)
 abbrev pub side_of : RollType → Side
@@ -70,7 +70,7 @@ conflict roll rolls =
     if is_some (phase_of rolls roll) then Some WrongStateForRollOperation
     else (if has_conflict roll rolls then Some ConflictingRollInProgress else None)
 
--- ---- the two lists of references
+-- ---- the two lists of references (RFC 6781, section 4.1)
 
 -- the texts that references point to
 abbrev pub texts : List (Bor (List ℕ)) → List (List ℕ)
@@ -114,7 +114,7 @@ new_fault roll at olds earlier (q ∷ qs) =
     option_or (new_entry_fault roll (at q) (is_listed olds q || is_listed earlier q))
     (new_fault roll at olds (earlier ++ q ∷ []) qs)
 
--- ---- the algorithms
+-- ---- the algorithms (RFC 6781, section 4.1.4)
 
 -- a listed key has the algorithm
 abbrev pub has_algorithm : (List ℕ → Option KeyParts) → List (List ℕ) → ℕ → Bool
@@ -143,7 +143,7 @@ algorithm_fault roll at olds news =
     || (algorithms_within at olds news && algorithms_within at news olds)
     then None else Some AlgorithmSetsMismatch
 
--- ---- the keys to go on with
+-- ---- the keys to go on with (RFC 6781, sections 3.1 and 4.1)
 
 -- what a start has to leave: the key that serves on each side that the roll changes
 abbrev pub wants : RollType → List Want
@@ -188,7 +188,7 @@ abbrev pub suitability_fault : RollType → Keys → List (List ℕ) → List (L
 suitability_fault roll keys olds news =
     if list_all (is_met keys olds news) (wants roll) then None else Some NoSuitableKeyPresent
 
--- ---- the verdict
+-- ---- the verdict (RFC 6781, section 4.1)
 
 -- the first cause that stands, if any
 abbrev pub first_of_causes : List (Option Error) → Option Error

@@ -1,6 +1,6 @@
 -- What a contract sees of one role of a key, and of its stamps. The words for a role are the
 -- operator's.
-use Rattle.std.specs.Prelude.{ℕ, Bool, true, false, not, ◌&&◌, ◌||◌, Option, None}
+use Rattle.std.specs.Prelude.{ℕ, Bool, true, not, ◌&&◌, ◌||◌, Option, None}
 
 -- the flags of one role of a key (RFC 6781, section 3.1: KSK, ZSK and both in one)
 pub record Flags : Type 0 where
@@ -38,7 +38,7 @@ is_stale s = s.old && not (is_used s)
 abbrev pub is_leaving : Flags → Bool
 is_leaving s = s.old && is_used s
 
--- ---- tests that the tables of the rolls name: kept is what is not old
+-- ---- tests that the tables of the rolls name: kept is what is not old (RFC 6781, section 4.1)
 
 -- any state
 abbrev pub is_any : Flags → Bool
@@ -80,7 +80,7 @@ old_at_parent s = s.old && s.at_parent
 abbrev pub old_silent : Flags → Bool
 old_silent s = s.old && not s.signer
 
--- ---- stamps
+-- ---- stamps (RFC 7583, section 3)
 
 -- when a key passed the stages of its life, where it did (RFC 7583, section 3: the events of a key)
 pub record Stamps : Type 0 where

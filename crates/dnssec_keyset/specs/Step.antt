@@ -1,7 +1,7 @@
 -- The allowed step: from a key set, which reply a call may have and which key set it then leaves. A
 -- cause is answered before anything is changed; without one the call is accepted, or has run out of
 -- memory where it takes some, and then too nothing is changed.
-use Rattle.std.specs.Prelude.{◌≡◌, ◌≢◌, ℕ, Bool, true, false, Option, None, Some, List, [], ◌∷◌}
+use Rattle.std.specs.Prelude.{◌≡◌, ◌≢◌, ℕ, Bool, Option, None, Some, List, [], ◌∷◌}
 use Rattle.std.specs.Prelude.{map, ◌⊎◌, Result, Ok, Err, IsOk, if◌then◌else◌, is_some, nat_eq}
 use Rattle.std.specs.declared.vec.Vec.{Vec}
 use Rattle.std.specs.Global.{Global}
@@ -11,8 +11,8 @@ use Rattle.std.specs.FinMap.{get, insert, remove, entries, from_entries}
 use Rattle.std.specs.Str.{bytes_eq}
 use Rattle.dnssec_keyset.specs.declared.roll.RollType.{RollType}
 use Rattle.dnssec_keyset.specs.declared.roll.RollState.{RollState}
-use Rattle.dnssec_keyset.specs.declared.roll.RollState.TheVariants.{Propagation1, CacheExpire1}
-use Rattle.dnssec_keyset.specs.declared.roll.RollState.TheVariants.{Propagation2, CacheExpire2}
+use Rattle.dnssec_keyset.specs.declared.roll.RollState.TheVariants.{Propagation1}
+use Rattle.dnssec_keyset.specs.declared.roll.RollState.TheVariants.{Propagation2}
 use Rattle.dnssec_keyset.specs.declared.roll.RollState.TheVariants.{Done as Finishing}
 use Rattle.dnssec_keyset.specs.declared.roll.Action.{Action}
 use Rattle.dnssec_keyset.specs.declared.error.Error.{Error}
@@ -30,7 +30,7 @@ use Rattle.dnssec_keyset.specs.Setters.{deletion_refusal}
 use Rattle.dnssec_keyset.specs.Start.{start_refusal, is_listed}
 use Rattle.dnssec_keyset.specs.Wait.{ttl_in, lacks_stamp, is_early, time_left, IsLongest}
 
--- ---- verdicts
+-- ---- verdicts (RFC 6781, section 4.1)
 
 -- some key has the tag (RFC 4034, appendix B: tags are 16 bits, and two keys may share one; here
 -- they may not)
@@ -79,7 +79,7 @@ abbrev pub wait_verdict : RollType → Half → ℕ → KeySetParts → Verdict
 wait_verdict roll half now set =
     wait_in_phase roll half (ttl_in half (phase_of set.rolls roll)) now set.keys
 
--- ---- what a call answers
+-- ---- what a call answers (RFC 6781, section 4.1)
 
 -- a call that takes no memory answers its cause, and is accepted without one
 abbrev pub AnswersExactly : {T : Type 0} → Option Error → Result T Error → Type 0
@@ -102,7 +102,7 @@ AnswersWait (Early left) keys actions r = IsToldToWait left keys r
 AnswersWait Clear keys [] r = IsOk r
 AnswersWait Clear keys (action ∷ actions) r = IsOk r ⊎ (r ≡ Err OutOfMemory)
 
--- ---- the step
+-- ---- the step (RFC 6781, section 4.1)
 
 -- the calls that can change a key set
 pub data Call : Type 0 where
@@ -188,7 +188,8 @@ StepBy Clear old call reply new =
 abbrev pub Step : KeySetParts → Call → Reply → KeySetParts → Type 0
 Step old call reply new = StepBy (verdict old call) old call reply new
 
--- ---- the set afterwards, as a function of the set before, the call and the reply
+-- ---- the set afterwards, as a function of the set before, the call and the reply (RFC 6781,
+-- section 4.1)
 
 -- every key by f, under its reference
 abbrev pub keys_by : (List ℕ → KeyParts → KeyParts) → Keys → Keys

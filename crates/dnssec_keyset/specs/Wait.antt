@@ -11,12 +11,11 @@ use Rattle.dnssec_keyset.specs.declared.key.Stamp.TheVariants.{Published, Visibl
 use Rattle.dnssec_keyset.specs.declared.key.Stamp.TheVariants.{RrsigVisible, Withdrawn}
 use Rattle.dnssec_keyset.specs.declared.roll.RollType.{RollType}
 use Rattle.dnssec_keyset.specs.declared.roll.RollState.{RollState}
-use Rattle.dnssec_keyset.specs.declared.roll.RollState.TheVariants.{Propagation1, CacheExpire1}
-use Rattle.dnssec_keyset.specs.declared.roll.RollState.TheVariants.{Propagation2, CacheExpire2}
-use Rattle.dnssec_keyset.specs.declared.roll.RollState.TheVariants.{Done}
+use Rattle.dnssec_keyset.specs.declared.roll.RollState.TheVariants.{CacheExpire1}
+use Rattle.dnssec_keyset.specs.declared.roll.RollState.TheVariants.{CacheExpire2}
 use Rattle.dnssec_keyset.specs.State.{Stamps}
 use Rattle.dnssec_keyset.specs.Key.{KeyParts}
-use Rattle.dnssec_keyset.specs.KeySet.{Keys, KeySetParts, phase_of, some_key}
+use Rattle.dnssec_keyset.specs.KeySet.{Keys, some_key}
 use Rattle.dnssec_keyset.specs.RollTable.{Half, First, Second, half_of}
 
 -- the moment of a stamp, where it was written

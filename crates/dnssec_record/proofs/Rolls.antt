@@ -1,7 +1,7 @@
 -- The roll that a field names, as the key set reads it.
 use Rattle.std.proofs.Common.{◌≡◌, ◌≢◌, ℕ, ◌∙◌, List, [], ◌∷◌, Bool, true, false, refl, ap, sym}
 use Rattle.std.proofs.Common.{subst, cond}
-use Rattle.std.specs.Prelude.{Option, Some, None, Result, Ok, Err, find}
+use Rattle.std.specs.Prelude.{Some, None, Result, Ok, Err, find}
 use Rattle.std.specs.Str.{IsUtf8, bytes_eq}
 use Rattle.std.specs.Cmp.Lexicographic.{bytes_decides}
 use Rattle.std.specs.Result.{result_ok}

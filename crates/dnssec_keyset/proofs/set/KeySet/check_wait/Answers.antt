@@ -1,5 +1,5 @@
 -- The walk over the keys gives the verdict of the wait.
-use Rattle.std.proofs.Common.{◌≡◌, Some, None, refl, sym, ◌∙◌}
+use Rattle.std.proofs.Common.{Some, None, refl, sym, ◌∙◌}
 use Rattle.dnssec_keyset.specs.RollTable.{which}
 use Rattle.dnssec_keyset.specs.Wait.{time_left}
 use Rattle.dnssec_keyset.proofs.Waits.{ttl-shown, walk-found_in, told-missing, told-early, told-over}
