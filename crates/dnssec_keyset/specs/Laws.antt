@@ -10,21 +10,21 @@ use Rattle.dnssec_keyset.specs.KeySet.{Keys, KeySetParts, Rolls, phase_of, same_
 use Rattle.dnssec_keyset.specs.Start.{lists_kind, side_of, together}
 use Rattle.dnssec_keyset.specs.Step.{Call, StartRoll, Report, Wait, RollDone, Reply, Refused, Step}
 
--- no two keys have one tag
+-- no two keys have one tag (RFC 4034, appendix B)
 abbrev pub TagsApart : Keys → Type 0
 TagsApart keys = (q r : List ℕ) (k l : KeyParts) →
     get keys q ≡ Some k → get keys r ≡ Some l → k.key_tag ≡ l.key_tag → q ≡ r
 
--- the roll is in progress
+-- the roll is in progress (RFC 6781, section 4.1)
 abbrev pub in_progress : Rolls → RollType → Bool
 in_progress rolls roll = is_some (phase_of rolls roll)
 
--- any two rolls in progress may be so together: one changes KSKs alone, and the other ZSKs alone
+-- of two rolls in progress one changes KSKs alone, the other ZSKs alone (RFC 6781, section 4.1)
 abbrev pub RollsTogether : Rolls → Type 0
 RollsTogether rolls = (a b : RollType) → in_progress rolls a ≡ true → in_progress rolls b ≡ true →
     (same_roll a b ≡ true) ⊎ (together a b ≡ true)
 
--- the roll that a call is on, if any
+-- the roll that a call is on, if any (RFC 6781, section 4.1)
 abbrev pub roll_of : Call → Option RollType
 roll_of (StartRoll roll olds news now) = Some roll
 roll_of (Report roll half ttl now) = Some roll
@@ -32,14 +32,13 @@ roll_of (Wait roll half now) = Some roll
 roll_of (RollDone roll) = Some roll
 roll_of _ = None
 
--- a call on a roll leaves every key as it was that the roll doesn't change
+-- a call on a roll leaves every key as it was that the roll doesn't change (RFC 6781, section 3.1)
 abbrev pub LeavesOthers : KeySetParts → Call → KeySetParts → Type 0
 LeavesOthers old call new = (roll : RollType) (q : List ℕ) (k : KeyParts) →
     roll_of call ≡ Some roll →
     get old.keys q ≡ Some k → lists_kind (side_of roll) k.keytype ≡ false → get new.keys q ≡ Some k
 
--- two calls are of rolls that may be in progress together, and neither is answered with want of
--- memory
+-- two calls on rolls that go together, neither refused for memory (RFC 6781, section 3.1)
 pub record AreApart (first second : Call) (reply_first reply_second : Reply) : Type 0 where
   pub roll_first : RollType
   pub roll_second : RollType
@@ -49,7 +48,7 @@ pub record AreApart (first second : Call) (reply_first reply_second : Reply) : T
   pub memory_first : reply_first ≢ Refused OutOfMemory
   pub memory_second : reply_second ≢ Refused OutOfMemory
 
--- the two calls may be made in the other order, with the same replies, and end in the same set
+-- in the other order the calls reply the same, and end in the same set (RFC 6781, section 3.1)
 pub record MayBeExchanged (before after : KeySetParts) (first second : Call)
     (reply_first reply_second : Reply) : Type 0 where
   pub between : KeySetParts

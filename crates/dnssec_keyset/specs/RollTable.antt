@@ -34,93 +34,93 @@ use Rattle.dnssec_keyset.specs.State.{kept_at_parent, old_present, old_at_parent
 use Rattle.dnssec_keyset.specs.Key.{KeyParts, ksk, zsk, ksk_role, zsk_role, any_key, zone_key}
 use Rattle.dnssec_keyset.specs.Key.{every_key, no_key, either}
 
--- ---- what happens to one role, in the operator's words (RFC 6781, section 4.1)
+-- ---- what happens to one role, in the operator's words
 
--- the key goes into the DNSKEY set
+-- the key goes into the DNSKEY set (RFC 6781, section 4.1.1.1)
 abbrev pub comes_in : Flags → Flags
 comes_in s = record s { present = true }
 
--- it goes into the DNSKEY set, and signs
+-- it goes into the DNSKEY set, and signs (RFC 6781, section 4.1)
 abbrev pub comes_in_signing : Flags → Flags
 comes_in_signing s = record s { present = true; signer = true }
 
--- its DS goes to the parent, ahead of the key
+-- its DS goes to the parent, ahead of the key (RFC 6781, section 4.1.2)
 abbrev pub ds_comes_in : Flags → Flags
 ds_comes_in s = record s { at_parent = true }
 
--- of the keys in the DNSKEY set those that stay have a DS from now on, and no others
+-- keys in the DNSKEY set that stay have a DS from now on, and no others (RFC 6781, section 4.1.2)
 abbrev pub ds_follows : Flags → Flags
 ds_follows s = if s.present then record s { at_parent = not s.old } else s
 
--- those that leave drop out of the DNSKEY set, and those with a DS that stay come in for them
+-- those that leave drop out, those with a DS that stay come in for them (RFC 6781, section 4.1.2)
 abbrev pub keys_change_places : Flags → Flags
 keys_change_places s =
     if old_present s then record s { present = false; signer = false }
     else (if kept_at_parent s then record s { present = true; signer = true } else s)
 
--- the keys in the DNSKEY set that stay sign the zone from now on, and those that leave don't
+-- published keys that stay sign the zone from now on, old ones don't (RFC 6781, section 4.1.1.1)
 abbrev pub signatures_follow : Flags → Flags
 signatures_follow s =
     if kept_present s then record s { signer = true }
     else (if s.old then record s { signer = false } else s)
 
--- a key that leaves drops out of the DNSKEY set, and signs no more
+-- a key that leaves drops out of the DNSKEY set, and signs no more (RFC 6781, section 4.1)
 abbrev pub leaves_dnskey : Flags → Flags
 leaves_dnskey s = record s { present = false; signer = false }
 
--- the DS of a key that leaves is taken from the parent
+-- the DS of a key that leaves is taken from the parent (RFC 6781, section 4.1.2)
 abbrev pub leaves_parent : Flags → Flags
 leaves_parent s = record s { at_parent = false }
 
--- a key that signs no more drops out of the DNSKEY set
+-- a key that signs no more drops out of the DNSKEY set (RFC 6781, section 4.1.1.1)
 abbrev pub leaves_silently : Flags → Flags
 leaves_silently s = record s { present = false }
 
--- nothing happens to it
+-- nothing happens to it (RFC 6781, section 4.1)
 abbrev pub stays : Flags → Flags
 stays s = s
 
--- it happens to those alone that pass
+-- it happens to those alone that pass (RFC 6781, section 4.1)
 abbrev pub only : (Flags → Bool) → (Flags → Flags) → Flags → Flags
 only p f s = if p s then f s else s
 
--- ---- which roles it happens to (RFC 6781, section 3.1)
+-- ---- which roles it happens to
 
--- at the role of a KSK, and of no CSK
+-- at the role of a KSK, and of no CSK (RFC 6781, section 3.1)
 abbrev pub at_ksk : (Flags → Flags) → KeyType → KeyType
 at_ksk f (Ksk s) = Ksk (f s)
 at_ksk f (Zsk s) = Zsk s
 at_ksk f (Csk s t) = Csk s t
 at_ksk f (Include s) = Include s
 
--- at the role of a ZSK, and of no CSK
+-- at the role of a ZSK, and of no CSK (RFC 6781, section 3.1)
 abbrev pub at_zsk : (Flags → Flags) → KeyType → KeyType
 at_zsk f (Ksk s) = Ksk s
 at_zsk f (Zsk s) = Zsk (f s)
 at_zsk f (Csk s t) = Csk s t
 at_zsk f (Include s) = Include s
 
--- f at each KSK role, g at each ZSK role
+-- f at each KSK role, g at each ZSK role (RFC 6781, section 3.1)
 abbrev pub at_roles : (Flags → Flags) → (Flags → Flags) → KeyType → KeyType
 at_roles f g (Ksk s) = Ksk (f s)
 at_roles f g (Zsk s) = Zsk (g s)
 at_roles f g (Csk s t) = Csk (f s) (g t)
 at_roles f g (Include s) = Include s
 
--- at all roles of a key whose only role, or KSK role, passes
+-- at all roles of a key whose only role, or KSK role, passes (RFC 6781, section 4.1.4)
 abbrev pub at_whole_keys : (Flags → Bool) → (Flags → Flags) → KeyType → KeyType
 at_whole_keys p f (Ksk s) = Ksk (only p f s)
 at_whole_keys p f (Zsk s) = Zsk (only p f s)
 at_whole_keys p f (Csk s t) = if p s then Csk (f s) (f t) else Csk s t
 at_whole_keys p f (Include s) = Include s
 
--- at no role
+-- at no role (RFC 6781, section 3.1)
 abbrev pub at_none : KeyType → KeyType
 at_none k = k
 
--- ---- the columns (RFC 6781, section 4.1)
+-- ---- the columns
 
--- on which keys each stamp is written
+-- on which keys each stamp is written (RFC 7583, section 3)
 pub record Stamping : Type 0 where
   pub published : KeyType → Bool
   pub visible : KeyType → Bool
@@ -128,7 +128,7 @@ pub record Stamping : Type 0 where
   pub rrsig_visible : KeyType → Bool
   pub withdrawn : KeyType → Bool
 
--- no stamp but those that a column names
+-- no stamp but those that a column names (RFC 7583, section 3)
 abbrev pub no_stamp : Stamping
 no_stamp = record {
   published = no_key;
@@ -138,18 +138,17 @@ no_stamp = record {
   withdrawn = no_key;
 }
 
--- the two halves of a roll
+-- the two halves of a roll (RFC 6781, section 4.1)
 pub data Half : Type 0 where
   First : Half
   Second : Half
 
--- the half that the code means
+-- the half that the code means (RFC 6781, section 4.1)
 abbrev pub which : HalfOfCode → Half
 which code.First = First
 which code.Second = Second
 
--- half of a roll: a change spreads, is reported, and is waited for until old data has left the
--- caches (RFC 6781, section 4.1; RFC 7583, section 3)
+-- half of a roll: a change spreads, is reported, and its wait passes (RFC 6781, section 4.1)
 pub record HalfRoll : Type 0 where
   pub report : Stamping  -- what the report stamps
   pub checks : KeyType → Bool  -- the keys that the wait checks
@@ -167,8 +166,7 @@ pub record Column : Type 0 where
   pub second : HalfRoll
   pub asks_last : List Action  -- what is asked after the second wait
 
--- Double-Signature KSK roll: both keys sign the DNSKEY set, then the DS changes (RFC 6781, section
--- 4.1.2)
+-- Double-Signature KSK roll: both sign the DNSKEY set, then the DS moves (RFC 6781, section 4.1.2)
 abbrev pub ksk_double_signature : Column
 ksk_double_signature = record {
   comes = at_ksk comes_in_signing;
@@ -265,8 +263,7 @@ zsk_double_signature = record {
   asks_last = [];
 }
 
--- CSK roll: the DNSKEY set first, then the DS and the signatures at once (neither of the two ways
--- of RFC 6781, section 4.1.3)
+-- CSK roll: the DNSKEY set, then DS and signatures (no way of RFC 6781, section 4.1.3, is like it)
 abbrev pub csk_roll : Column
 csk_roll = record {
   comes = at_roles comes_in_signing comes_in;
@@ -294,8 +291,7 @@ csk_roll = record {
   asks_last = RemoveCdsRrset ∷ UpdateDnskeyRrset ∷ WaitDnskeyPropagated ∷ [];
 }
 
--- algorithm roll, the liberal approach: keys and signatures at once, then the DS (RFC 6781, section
--- 4.1.4)
+-- algorithm roll, liberal: keys and signatures at once, then the DS (RFC 6781, section 4.1.4)
 abbrev pub algorithm_roll : Column
 algorithm_roll = record {
   comes = at_roles comes_in_signing comes_in_signing;
@@ -332,14 +328,14 @@ column ZskDoubleSignatureRoll = zsk_double_signature
 column CskRoll = csk_roll
 column AlgorithmRoll = algorithm_roll
 
--- a half of a roll, by its column
+-- a half of a roll, by its column (RFC 6781, section 4.1)
 abbrev pub half_of : RollType → Half → HalfRoll
 half_of roll First = (column roll).first
 half_of roll Second = (column roll).second
 
--- ---- the table at one key (RFC 6781, section 4.1)
+-- ---- the table at one key
 
--- which stamps are written on a key of this kind
+-- which stamps are written on a key of this kind (RFC 7583, section 3)
 abbrev pub written : Stamping → KeyType → Stamped
 written stamps k = record {
   published = stamps.published k;
@@ -349,11 +345,11 @@ written stamps k = record {
   withdrawn = stamps.withdrawn k;
 }
 
--- a stamp that is written at now, or stays as it was
+-- a stamp that is written at now, or stays as it was (RFC 7583, section 3)
 abbrev pub stamp_if : Bool → ℕ → Option ℕ → Option ℕ
 stamp_if b now before = if b then Some now else before
 
--- the stamps with those that are written at now
+-- the stamps with those that are written at now (RFC 7583, section 3)
 abbrev pub with_stamps : Stamped → ℕ → Stamps → Stamps
 with_stamps w now t = record {
   creation = t.creation;
@@ -364,22 +360,22 @@ with_stamps w now t = record {
   withdrawn = stamp_if w.withdrawn now t.withdrawn;
 }
 
--- a key whose flags go by moves, and whose stamps are written, both by the flags before
+-- a key whose flags move and whose stamps are written, by the flags before (RFC 6781, section 4.1)
 abbrev pub changed : (KeyType → KeyType) → Stamping → ℕ → KeyParts → KeyParts
 changed moves stamps now k = record k {
   keytype = moves k.keytype;
   timestamps = with_stamps (written stamps k.keytype) now k.timestamps;
 }
 
--- it is on its way out from now on
+-- it is on its way out from now on (RFC 6781, section 4.1)
 abbrev pub turns_old : Flags → Flags
 turns_old s = record s { old = true }
 
--- a key that a start lists as old
+-- a key that a start lists as old (RFC 6781, section 4.1)
 abbrev pub marked_old : KeyParts → KeyParts
 marked_old k = record k { keytype = at_roles turns_old turns_old k.keytype }
 
--- a key that a start lists as new
+-- a key that a start lists as new (RFC 6781, section 4.1)
 abbrev pub marked_new : RollType → ℕ → KeyParts → KeyParts
 marked_new roll = changed (column roll).comes (column roll).stamps
 
@@ -397,19 +393,19 @@ after_report roll half = changed at_none (half_of roll half).report
 abbrev pub after_wait : RollType → Half → ℕ → KeyParts → KeyParts
 after_wait roll half = changed (half_of roll half).moves (half_of roll half).stamps
 
--- ---- phases, and what is asked in them (RFC 6781, section 4.1)
+-- ---- phases, and what is asked in them
 
 -- old data with this TTL leaves the caches (RFC 6781, section 4.1)
 abbrev pub expiring : Half → ℕ → RollState
 expiring First ttl = CacheExpire1 ttl
 expiring Second ttl = CacheExpire2 ttl
 
--- the phase behind the wait
+-- the phase behind the wait (RFC 6781, section 4.1)
 abbrev pub behind : Half → RollState
 behind First = Propagation2
 behind Second = Done
 
--- what a roll asks of the operator in a phase
+-- what a roll asks of the operator in a phase (RFC 6781, section 4.1)
 abbrev pub actions_of : RollType → RollState → List Action
 actions_of roll Propagation1 = (column roll).asks
 actions_of roll (CacheExpire1 ttl) = []
@@ -417,7 +413,7 @@ actions_of roll Propagation2 = (column roll).asks_between
 actions_of roll (CacheExpire2 ttl) = []
 actions_of roll Done = (column roll).asks_last
 
--- the same of a roll that may not be in progress
+-- the same of a roll that may not be in progress (RFC 6781, section 4.1)
 abbrev pub actions_at : RollType → Option RollState → List Action
 actions_at roll None = []
 actions_at roll (Some phase) = actions_of roll phase

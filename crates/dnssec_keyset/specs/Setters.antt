@@ -16,7 +16,7 @@ use Rattle.dnssec_keyset.specs.State.{Flags, is_any, is_stale}
 use Rattle.dnssec_keyset.specs.Key.{KeyParts, all_states, ksk_role, any_key}
 use Rattle.dnssec_keyset.specs.KeySet.{KeySetParts}
 
--- what a setter sets
+-- what a setter sets (RFC 6781, section 4.1)
 pub data Setting : Type 0 where
   Decoupled : Bool → Setting
   Present : Bool → ℕ → Setting  -- at this moment
@@ -27,7 +27,7 @@ pub data Setting : Type 0 where
   DsVisibleAt : ℕ → Setting
   RrsigVisibleAt : ℕ → Setting
 
--- the setting that the code means
+-- the setting that the code means (RFC 6781, section 4.1)
 abbrev pub meant : SettingOfCode → Setting
 meant (code.Decoupled value) = Decoupled value
 meant (code.Present value now) = Present value now
@@ -38,45 +38,45 @@ meant (code.VisibleAt time) = VisibleAt time
 meant (code.DsVisibleAt time) = DsVisibleAt time
 meant (code.RrsigVisibleAt time) = RrsigVisibleAt time
 
--- ---- what a setter changes (RFC 6781, section 4.1)
+-- ---- what a setter changes
 
--- f at each state of the key, also at that of another signer's key
+-- f at each state of the key, also at that of another signer's key (RFC 6781, section 3.1)
 abbrev pub at_states : (Flags → Flags) → KeyType → KeyType
 at_states f (Ksk s) = Ksk (f s)
 at_states f (Zsk s) = Zsk (f s)
 at_states f (Csk s t) = Csk (f s) (f t)
 at_states f (Include s) = Include (f s)
 
--- f at the KSK role alone
+-- f at the KSK role alone (RFC 6781, section 3.1)
 abbrev pub at_ksk_role : (Flags → Flags) → KeyType → KeyType
 at_ksk_role f (Ksk s) = Ksk (f s)
 at_ksk_role f (Zsk s) = Zsk s
 at_ksk_role f (Csk s t) = Csk (f s) t
 at_ksk_role f (Include s) = Include s
 
--- it is in the DNSKEY set, or not
+-- it is in the DNSKEY set, or not (RFC 6781, section 4.1)
 abbrev pub with_present : Bool → Flags → Flags
 with_present value s = record s { present = value }
 
--- it signs, or not
+-- it signs, or not (RFC 6781, section 4.1)
 abbrev pub with_signer : Bool → Flags → Flags
 with_signer value s = record s { signer = value }
 
--- it has to have a DS record at the parent, or not
+-- it has to have a DS record at the parent, or not (RFC 6781, section 4.1)
 abbrev pub with_at_parent : Bool → Flags → Flags
 with_at_parent value s = record s { at_parent = value }
 
--- it has left: old, and in use in no way
+-- it has left: old, and in use in no way (RFC 6781, section 4.1)
 abbrev pub turned_stale : Flags → Flags
 turned_stale s = record s { old = true; signer = false; present = false; at_parent = false }
 
--- a key that is put into the DNSKEY set was published then, unless it was before
+-- a key put into the DNSKEY set was published then, unless it was before (RFC 7583, section 3.1)
 abbrev pub first_published : Bool → ℕ → Option ℕ → Option ℕ
 first_published true now None = Some now
 first_published true now (Some before) = Some before
 first_published false now before = before
 
--- a key after a setter
+-- a key after a setter (RFC 6781, section 4.1)
 abbrev pub set_by : Setting → KeyParts → KeyParts
 set_by (Decoupled value) k = record k { decoupled = value }
 set_by (Present value now) k = record k {
@@ -94,9 +94,9 @@ set_by (DsVisibleAt time) k = record k {
 set_by (RrsigVisibleAt time) k =
     record k { timestamps = record k.timestamps { rrsig_visible = Some time } }
 
--- ---- what it is refused for (RFC 6781, sections 3.1 and 4.1)
+-- ---- what it is refused for
 
--- another signer's key signs nothing here, and only a KSK role has a DS record
+-- another signer's key signs nothing here, and only a KSK role has a DS (RFC 6781, section 3.1)
 abbrev pub suits_kind : Setting → KeyType → Bool
 suits_kind (Decoupled value) k = true
 suits_kind (Present value now) k = true
@@ -107,21 +107,21 @@ suits_kind (VisibleAt time) k = true
 suits_kind (DsVisibleAt time) k = true
 suits_kind (RrsigVisibleAt time) k = true
 
--- why a key refuses a setter
+-- why a key refuses a setter (RFC 6781, section 3.1)
 abbrev pub kind_refusal : Setting → KeyType → Option Error
 kind_refusal setting k = if suits_kind setting k then None else Some WrongKeyType
 
--- why a setter is refused, with the key that it names
+-- why a setter is refused, with the key that it names (RFC 6781, section 3.1)
 abbrev pub setting_refusal : Setting → Option KeyParts → Option Error
 setting_refusal setting None = Some KeyNotFound
 setting_refusal setting (Some k) = kind_refusal setting k.keytype
 
--- why a deletion is refused: only a key that has left in every role may go
+-- why a deletion is refused: only a key that has left in every role may go (RFC 6781, section 4.1)
 abbrev pub deletion_refusal : Option KeyParts → Option Error
 deletion_refusal None = Some KeyNotFound
 deletion_refusal (Some k) = if all_states is_stale k.keytype then None else Some KeyNotOld
 
--- only the key at the reference is changed, by f
+-- only the key at the reference is changed, by f (RFC 6781, section 4.1)
 pub record ChangesKey (old new : KeySetParts) (reference : List ℕ) (f : KeyParts → KeyParts)
     : Type 0 where
   pub name : new.name ≡ old.name

@@ -29,7 +29,7 @@ use Rattle.dnssec_keyset.specs.State.{is_any, is_fresh, kept_present, kept_at_pa
 use Rattle.dnssec_keyset.specs.Key.{KeyParts, ksk, zsk, ksk_role, zsk_role, any_key, all_states}
 use Rattle.dnssec_keyset.specs.KeySet.{Keys, Rolls, KeySetParts, phase_of, some_entry}
 
--- ---- rolls side by side (RFC 6781, section 4.1)
+-- ---- rolls side by side
 
 -- which keys a roll changes: KSKs alone, ZSKs alone, or KSKs, ZSKs and CSKs (RFC 6781, section 4.1)
 abbrev pub side_of : RollType → Side
@@ -40,7 +40,7 @@ side_of ZskDoubleSignatureRoll = ZskSide
 side_of CskRoll = BothSides
 side_of AlgorithmRoll = BothSides
 
--- one side is that of KSKs alone, and the other that of ZSKs alone
+-- one side is that of KSKs alone, and the other that of ZSKs alone (RFC 6781, section 4.1)
 abbrev pub are_apart : Side → Side → Bool
 are_apart KskSide ZskSide = true
 are_apart ZskSide KskSide = true
@@ -50,55 +50,54 @@ are_apart ZskSide ZskSide = false
 are_apart ZskSide BothSides = false
 are_apart BothSides _ = false
 
--- two rolls may be in progress together exactly if one changes KSKs alone and the other ZSKs alone
+-- two rolls go together where one changes KSKs alone, the other ZSKs alone (RFC 6781, section 4.1)
 abbrev pub together : RollType → RollType → Bool
 together roll other = are_apart (side_of roll) (side_of other)
 
--- the six rolls
+-- the six rolls (RFC 6781, section 4.1)
 abbrev pub all_rolls : List RollType
 all_rolls =
     KskRoll ∷ KskDoubleDsRoll ∷ ZskRoll ∷ ZskDoubleSignatureRoll ∷ CskRoll ∷ AlgorithmRoll ∷ []
 
--- some roll is in progress beside which this one may not begin
+-- some roll is in progress beside which this one may not begin (RFC 6781, section 4.1)
 abbrev pub has_conflict : RollType → Rolls → Bool
 has_conflict roll rolls =
     list_any (λ other. is_some (phase_of rolls other) && not (together roll other)) all_rolls
 
--- the same roll in progress, or one beside which this may not begin
+-- the same roll in progress, or one beside which this may not begin (RFC 6781, section 4.1)
 unfoldable pub conflict : RollType → Rolls → Option Error
 conflict roll rolls =
     if is_some (phase_of rolls roll) then Some WrongStateForRollOperation
     else (if has_conflict roll rolls then Some ConflictingRollInProgress else None)
 
--- ---- the two lists of references (RFC 6781, section 4.1)
+-- ---- the two lists of references
 
--- the texts that references point to
+-- the texts that references point to (RFC 6781, section 4.1)
 abbrev pub texts : List (Bor (List ℕ)) → List (List ℕ)
 texts rs = map (λ (r : Bor (List ℕ)). r.now) rs
 
--- the reference stands in the list
+-- the reference stands in the list (RFC 6781, section 4.1)
 abbrev pub is_listed : List (List ℕ) → List ℕ → Bool
 is_listed qs q = list_any (bytes_eq q) qs
 
--- a roll may list the keys of its side, and none of another signer
+-- a roll may list the keys of its side, and none of another signer (RFC 6781, section 3.1)
 abbrev pub lists_kind : Side → KeyType → Bool
 lists_kind KskSide = ksk is_any
 lists_kind ZskSide = zsk is_any
 lists_kind BothSides = any_key is_any
 
--- what is wrong with an old entry, with the key that it names
+-- what is wrong with an old entry, with the key that it names (RFC 6781, section 4.1)
 abbrev pub old_entry_fault : RollType → Option KeyParts → Option Error
 old_entry_fault roll None = Some KeyNotFound
 old_entry_fault roll (Some k) =
     if lists_kind (side_of roll) k.keytype then None else Some WrongKeyType
 
--- the first fault among the old entries
+-- the first fault among the old entries (RFC 6781, section 4.1)
 abbrev pub old_fault : RollType → (List ℕ → Option KeyParts) → List (List ℕ) → Option Error
 old_fault roll at [] = None
 old_fault roll at (q ∷ qs) = option_or (old_entry_fault roll (at q)) (old_fault roll at qs)
 
--- what is wrong with a new entry, where taken says that it is an old one too, or stood earlier
--- among the new
+-- what is wrong with a new entry; taken: it stands in a list before (RFC 6781, section 4.1)
 abbrev pub new_entry_fault : RollType → Option KeyParts → Bool → Option Error
 new_entry_fault roll None taken = Some KeyNotFound
 new_entry_fault roll (Some k) taken =
@@ -106,7 +105,7 @@ new_entry_fault roll (Some k) taken =
     then (if all_states is_fresh k.keytype && not taken then None else Some WrongKeyState)
     else Some WrongKeyType
 
--- the first fault among the new entries, those before them given
+-- the first fault among the new entries, those before them given (RFC 6781, section 4.1)
 abbrev pub new_fault : RollType → (List ℕ → Option KeyParts)
     → List (List ℕ) → List (List ℕ) → List (List ℕ) → Option Error
 new_fault roll at olds earlier [] = None
@@ -114,14 +113,14 @@ new_fault roll at olds earlier (q ∷ qs) =
     option_or (new_entry_fault roll (at q) (is_listed olds q || is_listed earlier q))
     (new_fault roll at olds (earlier ++ q ∷ []) qs)
 
--- ---- the algorithms (RFC 6781, section 4.1.4)
+-- ---- the algorithms
 
--- a listed key has the algorithm
+-- a listed key has the algorithm (RFC 6781, section 4.1.4)
 abbrev pub has_algorithm : (List ℕ → Option KeyParts) → List (List ℕ) → ℕ → Bool
 has_algorithm at qs algorithm =
     list_any (λ q. option_map_or (λ k. nat_eq k.algorithm algorithm) (at q) false) qs
 
--- each algorithm of the first list is one of the second
+-- each algorithm of the first list is one of the second (RFC 6781, section 4.1.4)
 abbrev pub algorithms_within : (List ℕ → Option KeyParts) → List (List ℕ) → List (List ℕ) → Bool
 algorithms_within at qs others =
     list_all (λ q. option_map_or (λ k. has_algorithm at others k.algorithm) (at q) true) qs
@@ -143,9 +142,9 @@ algorithm_fault roll at olds news =
     || (algorithms_within at olds news && algorithms_within at news olds)
     then None else Some AlgorithmSetsMismatch
 
--- ---- the keys to go on with (RFC 6781, sections 3.1 and 4.1)
+-- ---- the keys to go on with
 
--- what a start has to leave: the key that serves on each side that the roll changes
+-- what a start has to leave: a key that serves on each side of the roll (RFC 6781, section 4.1)
 abbrev pub wants : RollType → List Want
 wants KskRoll = PresentKsk ∷ []
 wants KskDoubleDsRoll = KskAtParent ∷ []
@@ -154,7 +153,7 @@ wants ZskDoubleSignatureRoll = PresentZsk ∷ []
 wants CskRoll = PresentKskRole ∷ PresentZskRole ∷ []
 wants AlgorithmRoll = PresentKskRole ∷ PresentZskRole ∷ []
 
--- a new key serves as soon as it comes in
+-- a new key serves as soon as it comes in (RFC 6781, section 4.1)
 abbrev pub serves_as_new : Want → KeyType → Bool
 serves_as_new PresentKsk = ksk is_any
 serves_as_new KskAtParent = ksk is_any
@@ -162,7 +161,7 @@ serves_as_new PresentZsk = zsk is_any
 serves_as_new PresentKskRole = ksk_role is_any
 serves_as_new PresentZskRole = zsk_role is_any
 
--- a key that isn't listed as old serves in this state
+-- a key that isn't listed as old serves in this state (RFC 6781, section 4.1)
 abbrev pub serves_as_kept : Want → KeyType → Bool
 serves_as_kept PresentKsk = ksk kept_present
 serves_as_kept KskAtParent = ksk kept_at_parent
@@ -170,15 +169,15 @@ serves_as_kept PresentZsk = zsk kept_present
 serves_as_kept PresentKskRole = ksk_role kept_present
 serves_as_kept PresentZskRole = zsk_role kept_present
 
--- a listed key passes
+-- a listed key passes (RFC 6781, section 4.1)
 abbrev pub some_listed : (KeyType → Bool) → (List ℕ → Option KeyParts) → List (List ℕ) → Bool
 some_listed p at qs = list_any (λ q. option_map_or (λ k. p k.keytype) (at q) false) qs
 
--- a key that isn't listed passes
+-- a key that isn't listed passes (RFC 6781, section 4.1)
 abbrev pub some_kept : (KeyType → Bool) → Keys → List (List ℕ) → Bool
 some_kept p keys olds = some_entry (λ q k. p k.keytype && not (is_listed olds q)) keys
 
--- a new key serves so, or a key that isn't listed as old
+-- a new key serves so, or a key that isn't listed as old (RFC 6781, section 4.1)
 abbrev pub is_met : Keys → List (List ℕ) → List (List ℕ) → Want → Bool
 is_met keys olds news want =
     some_listed (serves_as_new want) (get keys) news || some_kept (serves_as_kept want) keys olds
@@ -188,9 +187,9 @@ abbrev pub suitability_fault : RollType → Keys → List (List ℕ) → List (L
 suitability_fault roll keys olds news =
     if list_all (is_met keys olds news) (wants roll) then None else Some NoSuitableKeyPresent
 
--- ---- the verdict (RFC 6781, section 4.1)
+-- ---- the verdict
 
--- the first cause that stands, if any
+-- the first cause that stands, if any (RFC 6781, section 4.1)
 abbrev pub first_of_causes : List (Option Error) → Option Error
 first_of_causes [] = None
 first_of_causes (cause ∷ causes) = option_or cause (first_of_causes causes)

@@ -10,7 +10,7 @@ pub record Flags : Type 0 where
   pub present : Bool  -- is in the DNSKEY set
   pub at_parent : Bool  -- has to have a DS record at the parent
 
--- in use in some way (nothing of it is left in the zone or at the parent, where this fails)
+-- something of it is in the zone or at the parent (RFC 6781, section 3.1)
 abbrev pub is_used : Flags → Bool
 is_used s = s.signer || s.present || s.at_parent
 
@@ -34,53 +34,53 @@ is_active_ksk s = is_active_zsk s && s.at_parent
 abbrev pub is_stale : Flags → Bool
 is_stale s = s.old && not (is_used s)
 
--- is leaving, and not yet gone: a state prints `(Leaving)` only while it also signs and is present
+-- is leaving, and not yet gone (RFC 6781, section 4.1)
 abbrev pub is_leaving : Flags → Bool
 is_leaving s = s.old && is_used s
 
--- ---- tests that the tables of the rolls name: kept is what is not old (RFC 6781, section 4.1)
+-- ---- tests that the tables of the rolls name: kept is what is not old
 
--- any state
+-- any state (RFC 6781, section 3.1)
 abbrev pub is_any : Flags → Bool
 is_any s = true
 
--- is on its way out, or has left
+-- is on its way out, or has left (RFC 6781, section 4.1)
 abbrev pub is_old : Flags → Bool
 is_old s = s.old
 
--- signs the DNSKEY set, or the zone
+-- signs the DNSKEY set, or the zone (RFC 6781, section 3.1)
 abbrev pub is_signer : Flags → Bool
 is_signer s = s.signer
 
--- has to have a DS record at the parent
+-- has to have a DS record at the parent (RFC 6781, section 3.1)
 abbrev pub is_at_parent : Flags → Bool
 is_at_parent s = s.at_parent
 
--- stays, and is in the DNSKEY set
+-- stays, and is in the DNSKEY set (RFC 6781, section 4.1)
 abbrev pub kept_present : Flags → Bool
 kept_present s = not s.old && s.present
 
--- stays, and signs
+-- stays, and signs (RFC 6781, section 4.1)
 abbrev pub kept_signing : Flags → Bool
 kept_signing s = not s.old && s.signer
 
--- stays, and has to have a DS record at the parent
+-- stays, and has to have a DS record at the parent (RFC 6781, section 4.1)
 abbrev pub kept_at_parent : Flags → Bool
 kept_at_parent s = not s.old && s.at_parent
 
--- is on its way out, and still in the DNSKEY set
+-- is on its way out, and still in the DNSKEY set (RFC 6781, section 4.1)
 abbrev pub old_present : Flags → Bool
 old_present s = s.old && s.present
 
--- is on its way out, and still has to have a DS record at the parent
+-- is on its way out, and still has to have a DS record at the parent (RFC 6781, section 4.1)
 abbrev pub old_at_parent : Flags → Bool
 old_at_parent s = s.old && s.at_parent
 
--- is old, and doesn't sign
+-- is old, and doesn't sign (RFC 6781, section 4.1)
 abbrev pub old_silent : Flags → Bool
 old_silent s = s.old && not s.signer
 
--- ---- stamps (RFC 7583, section 3)
+-- ---- stamps
 
 -- when a key passed the stages of its life, where it did (RFC 7583, section 3: the events of a key)
 pub record Stamps : Type 0 where
@@ -91,7 +91,7 @@ pub record Stamps : Type 0 where
   pub rrsig_visible : Option ℕ  -- its signatures seen by all
   pub withdrawn : Option ℕ  -- taken out
 
--- no stage passed
+-- no stage passed (RFC 7583, section 3)
 abbrev pub no_stamps : Stamps
 no_stamps = record {
   creation = None;

@@ -30,20 +30,19 @@ use Rattle.dnssec_keyset.specs.Setters.{deletion_refusal}
 use Rattle.dnssec_keyset.specs.Start.{start_refusal, is_listed}
 use Rattle.dnssec_keyset.specs.Wait.{ttl_in, lacks_stamp, is_early, time_left, IsLongest}
 
--- ---- verdicts (RFC 6781, section 4.1)
+-- ---- verdicts
 
--- some key has the tag (RFC 4034, appendix B: tags are 16 bits, and two keys may share one; here
--- they may not)
+-- some key has the tag, which no two may share here (RFC 4034, appendix B: two keys may)
 abbrev pub has_tag : ℕ → Keys → Bool
 has_tag tag = some_key (λ k. nat_eq k.key_tag tag)
 
--- why an add of a key is refused: first its tag, then its reference
+-- why an add of a key is refused: first its tag, then its reference (RFC 6781, section 4.1)
 abbrev pub add_refusal : Keys → List ℕ → ℕ → Option Error
 add_refusal keys reference tag =
     if has_tag tag keys then Some DuplicateKeyTag
     else (if is_some (get keys reference) then Some KeyExists else None)
 
--- why a report is refused: it belongs to the phase in which its change spreads
+-- why a report is refused: it belongs to the phase of its change (RFC 6781, section 4.1)
 abbrev pub report_refusal : Half → Option RollState → Option Error
 report_refusal First (Some Propagation1) = None
 report_refusal Second (Some Propagation2) = None
@@ -54,19 +53,18 @@ abbrev pub end_refusal : Option RollState → Option Error
 end_refusal (Some Finishing) = None
 end_refusal _ = Some WrongStateForRollOperation
 
--- what a call is told: a cause against it, that it comes too early (with the time left for each
--- key), or neither
+-- a cause, or too early (with the time left for a key), or neither (RFC 6781, section 4.1)
 pub data Verdict : Type 0 where
   Barred : Error → Verdict
   Early : (KeyParts → Option ℕ) → Verdict
   Clear : Verdict
 
--- barred by the cause, or clear where there is none
+-- barred by the cause, or clear where there is none (RFC 6781, section 4.1)
 abbrev pub barred_by : Option Error → Verdict
 barred_by None = Clear
 barred_by (Some cause) = Barred cause
 
--- a wait with this TTL: a missing stamp first, then the time that is left
+-- a wait with this TTL: a missing stamp first, then the time that is left (RFC 6781, section 4.1)
 abbrev pub wait_in_phase : RollType → Half → Option ℕ → ℕ → Keys → Verdict
 wait_in_phase roll half None now keys = Barred WrongStateForRollOperation
 wait_in_phase roll half (Some ttl) now keys =
@@ -79,32 +77,32 @@ abbrev pub wait_verdict : RollType → Half → ℕ → KeySetParts → Verdict
 wait_verdict roll half now set =
     wait_in_phase roll half (ttl_in half (phase_of set.rolls roll)) now set.keys
 
--- ---- what a call answers (RFC 6781, section 4.1)
+-- ---- what a call answers
 
--- a call that takes no memory answers its cause, and is accepted without one
+-- a call that takes no memory answers its cause, or is accepted (RFC 6781, section 4.1)
 abbrev pub AnswersExactly : {T : Type 0} → Option Error → Result T Error → Type 0
 AnswersExactly (Some cause) r = r ≡ Err cause
 AnswersExactly None r = IsOk r
 
--- a call that takes memory may also run out of it, but only where there is no cause
+-- a call that takes memory may also run out of it, but has no cause then (RFC 6781, section 4.1)
 abbrev pub Answers : {T : Type 0} → Option Error → Result T Error → Type 0
 Answers (Some cause) r = r ≡ Err cause
 Answers None r = IsOk r ⊎ (r ≡ Err OutOfMemory)
 
--- the answer is to wait for the longest of the times that are left
+-- the answer is to wait for the longest of the times that are left (RFC 6781, section 4.1)
 abbrev pub IsToldToWait : {T : Type 0} → (KeyParts → Option ℕ) → Keys → Result T Error → Type 0
 IsToldToWait left keys r = (d : Duration) × (r ≡ Err (WaitFor d)) × IsLongest left keys (as_nanos d)
 
--- a wait answers its verdict; it takes memory only where it has a list of actions to answer
+-- a wait answers its verdict, and takes memory for a list of actions alone (RFC 6781, section 4.1)
 abbrev pub AnswersWait : {T : Type 0} → Verdict → Keys → List Action → Result T Error → Type 0
 AnswersWait (Barred cause) keys actions r = r ≡ Err cause
 AnswersWait (Early left) keys actions r = IsToldToWait left keys r
 AnswersWait Clear keys [] r = IsOk r
 AnswersWait Clear keys (action ∷ actions) r = IsOk r ⊎ (r ≡ Err OutOfMemory)
 
--- ---- the step (RFC 6781, section 4.1)
+-- ---- the step
 
--- the calls that can change a key set
+-- the calls that can change a key set (RFC 6781, section 4.1)
 pub data Call : Type 0 where
   AddKey : List ℕ → KeyParts → Call
   Set : List ℕ → Setting → Call
@@ -114,23 +112,23 @@ pub data Call : Type 0 where
   Wait : RollType → Half → ℕ → Call
   RollDone : RollType → Call
 
--- what a call answers: done, actions for the operator, or why it is refused
+-- what a call answers: done, actions for the operator, or why it is refused (RFC 6781, section 4.1)
 pub data Reply : Type 0 where
   Done : Reply
   Actions : List Action → Reply
   Refused : Error → Reply
 
--- what a call of `KeySet` answered, as a reply
+-- what a call of `KeySet` answered, as a reply (RFC 6781, section 4.1)
 abbrev pub reply_done : Result (Unit {0}) Error → Reply
 reply_done (Ok u) = Done
 reply_done (Err cause) = Refused cause
 
--- the same of a call that answers actions
+-- the same of a call that answers actions (RFC 6781, section 4.1)
 abbrev pub reply_list : Result (Vec Action Global) Error → Reply
 reply_list (Ok actions) = Actions actions.items
 reply_list (Err cause) = Refused cause
 
--- what each call is told
+-- what each call is told (RFC 6781, section 4.1)
 abbrev pub verdict : KeySetParts → Call → Verdict
 verdict set (AddKey reference key) = barred_by (add_refusal set.keys reference key.key_tag)
 verdict set (Set reference setting) = barred_by (setting_refusal setting (get set.keys reference))
@@ -140,7 +138,7 @@ verdict set (Report roll half ttl now) = barred_by (report_refusal half (phase_o
 verdict set (Wait roll half now) = wait_verdict roll half now set
 verdict set (RollDone roll) = barred_by (end_refusal (phase_of set.rolls roll))
 
--- what an accepted call answers: the actions that are due in the phase behind it
+-- what an accepted call answers: the actions due in the phase behind it (RFC 6781, section 4.1)
 abbrev pub accepted_reply : Call → Reply
 accepted_reply (AddKey reference key) = Done
 accepted_reply (Set reference setting) = Done
@@ -150,7 +148,7 @@ accepted_reply (Report roll half ttl now) = Actions []
 accepted_reply (Wait roll half now) = Actions (actions_of roll (behind half))
 accepted_reply (RollDone roll) = Actions []
 
--- what an accepted call changes
+-- what an accepted call changes (RFC 6781, section 4.1)
 abbrev pub Changes : KeySetParts → Call → KeySetParts → Type 0
 Changes old (AddKey reference key) new = PutsKey old new reference (Some key)
 Changes old (Set reference setting) new = ChangesKey old new reference (set_by setting)
@@ -164,7 +162,7 @@ Changes old (Wait roll half now) new =
     MovesOn old new roll (Some (behind half)) (λ q. after_wait roll half now)
 Changes old (RollDone roll) new = MovesOn old new roll None (λ q k. k)
 
--- the calls that take memory: adds, starts, and waits with a list to answer
+-- the calls that take memory: adds, starts, and waits with a list to answer (RFC 6781, section 4.1)
 abbrev pub TakesMemory : Call → Type 0
 TakesMemory (AddKey reference key) = Unit {0}
 TakesMemory (Set reference setting) = ⊥
@@ -174,7 +172,7 @@ TakesMemory (Report roll half ttl now) = ⊥
 TakesMemory (Wait roll half now) = actions_of roll (behind half) ≢ []
 TakesMemory (RollDone roll) = ⊥
 
--- a call with this verdict may have the reply and leave new
+-- a call with this verdict may have the reply and leave new (RFC 6781, section 4.1)
 abbrev pub StepBy : Verdict → KeySetParts → Call → Reply → KeySetParts → Type 0
 StepBy (Barred cause) old call reply new = (reply ≡ Refused cause) × (new ≡ old)
 StepBy (Early left) old call reply new =
@@ -188,14 +186,13 @@ StepBy Clear old call reply new =
 abbrev pub Step : KeySetParts → Call → Reply → KeySetParts → Type 0
 Step old call reply new = StepBy (verdict old call) old call reply new
 
--- ---- the set afterwards, as a function of the set before, the call and the reply (RFC 6781,
--- section 4.1)
+-- ---- the set afterwards, as a function of the set before, the call and the reply
 
--- every key by f, under its reference
+-- every key by f, under its reference (RFC 6781, section 4.1)
 abbrev pub keys_by : (List ℕ → KeyParts → KeyParts) → Keys → Keys
 keys_by f keys = from_entries (map (λ (e : List ℕ × KeyParts). (e.0, f e.0 e.1)) (entries keys))
 
--- the set after an accepted call
+-- the set after an accepted call (RFC 6781, section 4.1)
 unfoldable pub after : Call → KeySetParts → KeySetParts
 after (AddKey reference key) set = record set { keys = insert set.keys reference key }
 after (Set reference setting) set = record set {
@@ -216,7 +213,7 @@ after (Wait roll half now) set = record set {
 }
 after (RollDone roll) set = record set { rolls = with_phase set.rolls roll None }
 
--- the set after a call with this reply
+-- the set after a call with this reply (RFC 6781, section 4.1)
 abbrev pub after_reply : Reply → Call → KeySetParts → KeySetParts
 after_reply Done call set = after call set
 after_reply (Actions actions) call set = after call set

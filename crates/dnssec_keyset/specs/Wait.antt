@@ -18,7 +18,7 @@ use Rattle.dnssec_keyset.specs.Key.{KeyParts}
 use Rattle.dnssec_keyset.specs.KeySet.{Keys, some_key}
 use Rattle.dnssec_keyset.specs.RollTable.{Half, First, Second, half_of}
 
--- the moment of a stamp, where it was written
+-- the moment of a stamp, where it was written (RFC 7583, section 3)
 abbrev pub stamp_at : Stamp → Stamps → Option ℕ
 stamp_at Published t = t.published
 stamp_at Visible t = t.visible
@@ -32,32 +32,30 @@ ttl_in First (Some (CacheExpire1 ttl)) = Some ttl
 ttl_in Second (Some (CacheExpire2 ttl)) = Some ttl
 ttl_in half _ = None
 
--- the stamp that the wait reads of a key
+-- the stamp that the wait reads of a key (RFC 7583, section 3)
 abbrev pub stamp_read : RollType → Half → KeyParts → Option ℕ
 stamp_read roll half k = stamp_at (half_of roll half).reads k.timestamps
 
--- what is left of a wait of so many seconds since a stamp, in nanoseconds: nothing once they have
--- passed
+-- the nanoseconds left of a wait of ttl seconds since a stamp (RFC 7583, section 3)
 abbrev pub left_since : ℕ → ℕ → ℕ → ℕ
 left_since ttl now stamp = ttl * 1_000_000_000 - (now - stamp)
 
--- what is left of the wait for a key: nothing where the wait doesn't check it, and nobody knows
--- where the stamp that the wait reads is missing
+-- what is left for a key: nothing if unchecked, unknown without its stamp (RFC 6781, section 4.1)
 abbrev pub time_left : RollType → Half → ℕ → ℕ → KeyParts → Option ℕ
 time_left roll half ttl now k =
     if (half_of roll half).checks k.keytype
     then option_map (left_since ttl now) (stamp_read roll half k)
     else Some 0
 
--- some checked key lacks the stamp
+-- some checked key lacks the stamp (RFC 6781, section 4.1)
 abbrev pub lacks_stamp : (KeyParts → Option ℕ) → Keys → Bool
 lacks_stamp left keys = some_key (λ k. not (is_some (left k))) keys
 
--- some key has time left
+-- some key has time left (RFC 6781, section 4.1)
 abbrev pub is_early : (KeyParts → Option ℕ) → Keys → Bool
 is_early left keys = some_key (λ k. nat_lt 0 (unwrap_or (left k) 0)) keys
 
--- no key has more time left, and one has so much
+-- no key has more time left, and one has so much (RFC 6781, section 4.1)
 pub record IsLongest (left : KeyParts → Option ℕ) (keys : Keys) (n : ℕ) : Type 0 where
   pub bound : (q : List ℕ) (k : KeyParts) → get keys q ≡ Some k → unwrap_or (left k) 0 ≤ n
   pub attained : (q : List ℕ) × (k : KeyParts) × (get keys q ≡ Some k) × (left k ≡ Some n)

@@ -262,12 +262,15 @@ fn beginnings() -> [(&'static str, &'static str); 34] {
 #[test]
 fn names_the_fault_of_each_beginning(rt: HostRuntime) -> Result<(), Fail> {
     for (text, letters) in beginnings() {
-        assert!(rt; text.len() < letters.len(), "not all beginnings of {text}");
+        assert_eq!(rt;
+            letters.len().checked_sub(1),
+            Some(text.len()),
+            "beginnings of {text}"
+        );
         for (end, wanted) in letters.chars().enumerate() {
-            if let Some(front) = text.get(..end) {
-                let answer = name_of(&rt, rt.alloc(), front);
-                assert_eq!(rt; letter(&answer), wanted, "the answer to {front}");
-            }
+            let answer = text.get(..end).map(|front| name_of(&rt, rt.alloc(), front));
+            let given = answer.as_ref().map_or('-', letter);
+            assert_eq!(rt; given, wanted, "the answer to {end} bytes of {text}");
         }
     }
     Ok(())
