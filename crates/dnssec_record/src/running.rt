@@ -6,6 +6,7 @@ ghost use Rattle.std.specs.String.{string_cmp};
 ghost use Rattle.std.specs.Option.{option_map, option_map_or};
 ghost use Rattle.std.specs.Prelude.{string_bytes, false};
 ghost use Rattle.dnssec_keyset.specs.declared.error.Error.TheVariants.{OutOfMemory};
+ghost use Rattle.dnssec_record.specs.Plain.{StaysSafe};
 ghost use Rattle.dnssec_record.specs.Published.{IsPublished, World, id_of};
 ghost use Rattle.dnssec_record.specs.Record.{IsEntry, IsRun, KeepsSidesApart};
 ghost use Rattle.dnssec_record.specs.Record.{NeighboursMayBeExchanged, StaysSound, call_of};
@@ -195,6 +196,11 @@ fn record(
 /// The key set and the record take their memory from `alloc`. A call that is refused, also for want
 /// of memory, is recorded, and the run goes on.
 ///
+/// Where the list sets no flag and no time by hand, and an algorithm roll comes before the first
+/// roll of KSKs or CSKs, every position of the record is safe: of whatever DS set, DNSKEY set and
+/// zone signers no report has retired, there is no DS, or a DS key signs that DNSKEY set, and a key
+/// of it signs the zone (RFC 4035, section 5).
+///
 /// # Errors
 ///
 /// `OutOfMemory` alone, where the record can't be stored. Nothing is then handed out.
@@ -206,6 +212,7 @@ pub fn run<'a>(alloc: Global, name: Name<Vec<u8>>, calls: Vec<Call<'a>>) -> Resu
     ensures sides { IfOk result (λ run. KeepsSidesApart name calls.entry.items run.entries.items) }
     ensures exchange { IfOk result (λ run. NeighboursMayBeExchanged name calls.entry.items
         run.entries.items) }
+    ensures chain { IfOk result (λ run. StaysSafe calls.entry.items run.entries.items) }
     ensures err { IfErr result (λ e. e ≡ OutOfMemory) }
 {
     let Ok(mut entries) = Vec::with_capacity(alloc, calls.len()) else {

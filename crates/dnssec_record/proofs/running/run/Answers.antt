@@ -7,6 +7,7 @@ use Rattle.dnssec_record.specs.Record.{IsRun, IsEntry, world_at, stepped}
 use Rattle.dnssec_record.specs.Recorder.{Agrees}
 use Rattle.dnssec_record.proofs.Grow.{run_none, run_more, world_more, world_none}
 use Rattle.dnssec_record.proofs.Next.{agrees-new}
+use Rattle.dnssec_record.proofs.Chain.Trust.{chain-holds}
 use Rattle.dnssec_record.proofs.Laws.{stays-sound, sides-apart, neighbours-exchange}
 use Rattle.dnssec_record.proofs.running.run.Goals as goal
 
@@ -66,3 +67,6 @@ returns-clause-sides c = sides-apart c.args.name c.args.calls.items c.loop-call.
 
 pub returns-clause-exchange : goal.returns-clause-exchange
 returns-clause-exchange c = neighbours-exchange c.args.name c.args.calls.items c.loop-call.entries.items (returns-clause-run c)
+
+pub returns-clause-chain : goal.returns-clause-chain
+returns-clause-chain c = chain-holds c.args.name c.args.calls.items c.loop-call.entries.items (returns-clause-run c)

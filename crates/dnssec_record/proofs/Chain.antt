@@ -1,0 +1,17 @@
+-- The chain of trust: every position of the record of a plain list is safe.
+pub mod Side
+pub mod Tables
+pub mod Flags
+pub mod Facts
+pub mod Tale
+pub mod Shown
+pub mod Rolls
+pub mod History
+pub mod Places
+pub mod Invariant
+pub mod Steps
+pub mod Gentles
+pub mod Phases
+pub mod BothSides
+pub mod Allowed
+pub mod Trust

@@ -1,0 +1,131 @@
+-- The tables of the key set in the words of the chain's proof.
+use Rattle.std.proofs.Common.{◌≡◌, Bool, true, false, not, ◌&&◌, ℕ, Option, refl}
+use Rattle.dnssec_keyset.specs.declared.roll.RollType.{RollType}
+use Rattle.dnssec_keyset.specs.declared.roll.RollType.TheVariants.{KskRoll, KskDoubleDsRoll, ZskRoll, ZskDoubleSignatureRoll, CskRoll, AlgorithmRoll}
+use Rattle.dnssec_keyset.specs.declared.key.KeyType.{KeyType}
+use Rattle.dnssec_keyset.specs.State.{Flags, Stamps, is_any, is_used, is_stale as stale_state, kept_present, kept_at_parent, kept_signing}
+use Rattle.dnssec_keyset.specs.Key.{all_states, ksk, zsk, ksk_role, zsk_role}
+use Rattle.dnssec_keyset.specs.Wait.{stamp_at}
+use Rattle.dnssec_keyset.specs.RollTable.{Half, First, Second, half_of, column, Stamping, at_roles, turns_old}
+use Rattle.dnssec_keyset.specs.Start.{lists_kind, side_of, together}
+
+-- the half of a report or a wait
+abbrev pub half : Bool → Half
+half false = First
+half true = Second
+
+-- the kind and the flags of a key after a start
+abbrev pub aged : Bool → KeyType → KeyType
+aged true k = at_roles turns_old turns_old k
+aged false k = k
+
+abbrev pub started : RollType → Bool → Bool → KeyType → KeyType
+started r o true k = (column r).comes (aged o k)
+started r o false k = aged o k
+
+abbrev pub waited1 : RollType → KeyType → KeyType
+waited1 r k = (half_of r First).moves k
+
+abbrev pub waited2 : RollType → KeyType → KeyType
+waited2 r k = (half_of r Second).moves k
+
+-- the stamps that a wait reads
+pub data Stamp : Type 0 where
+  Visible : Stamp
+  DsVisible : Stamp
+  RrsigVisible : Stamp
+
+abbrev pub stamp_in : Stamp → Stamps → Option ℕ
+stamp_in Visible t = t.visible
+stamp_in DsVisible t = t.ds_visible
+stamp_in RrsigVisible t = t.rrsig_visible
+
+abbrev pub stamps : Stamp → Stamping → KeyType → Bool
+stamps Visible s k = s.visible k
+stamps DsVisible s k = s.ds_visible k
+stamps RrsigVisible s k = s.rrsig_visible k
+
+abbrev pub written : Stamp → RollType → Bool → KeyType → Bool
+written s r second k = stamps s (half_of r (half second)).report k
+
+-- the stamp that a wait reads; the second wait is `true`
+abbrev pub read : RollType → Bool → Stamp
+read KskRoll true = DsVisible
+read KskDoubleDsRoll false = DsVisible
+read ZskRoll true = RrsigVisible
+read ZskDoubleSignatureRoll true = RrsigVisible
+read CskRoll true = RrsigVisible
+read AlgorithmRoll true = DsVisible
+read _ _ = Visible
+
+pub reads-stamp : (r : RollType) (second : Bool) (t : Stamps) → stamp_at (half_of r (half second)).reads t ≡ stamp_in (read r second) t
+unfolding column
+reads-stamp KskRoll false t = refl
+reads-stamp KskRoll true t = refl
+reads-stamp KskDoubleDsRoll false t = refl
+reads-stamp KskDoubleDsRoll true t = refl
+reads-stamp ZskRoll false t = refl
+reads-stamp ZskRoll true t = refl
+reads-stamp ZskDoubleSignatureRoll false t = refl
+reads-stamp ZskDoubleSignatureRoll true t = refl
+reads-stamp CskRoll false t = refl
+reads-stamp CskRoll true t = refl
+reads-stamp AlgorithmRoll false t = refl
+reads-stamp AlgorithmRoll true t = refl
+
+abbrev pub checked : RollType → Bool → KeyType → Bool
+checked r second k = (half_of r (half second)).checks k
+
+abbrev pub tolerates : RollType → RollType → Bool
+tolerates = together
+
+abbrev pub may_list : RollType → KeyType → Bool
+may_list r k = lists_kind (side_of r) k
+
+abbrev pub blank_state : Flags → Bool
+blank_state s = not s.old && not (is_used s)
+
+abbrev pub is_blank : KeyType → Bool
+is_blank k = all_states blank_state k
+
+abbrev pub is_stale : KeyType → Bool
+is_stale k = all_states stale_state k
+
+-- the two sides on which a start wants a suitable key
+pub data SideOf : Type 0 where
+  Keys : SideOf
+  Zone : SideOf
+
+abbrev pub affects : SideOf → RollType → Bool
+affects Keys ZskRoll = false
+affects Keys ZskDoubleSignatureRoll = false
+affects Zone KskRoll = false
+affects Zone KskDoubleDsRoll = false
+affects _ _ = true
+
+-- a key that serves on a side once it is new
+abbrev pub serves_new : SideOf → RollType → KeyType → Bool
+serves_new Keys KskRoll = ksk is_any
+serves_new Keys KskDoubleDsRoll = ksk is_any
+serves_new Keys _ = ksk_role is_any
+serves_new Zone ZskRoll = zsk is_any
+serves_new Zone ZskDoubleSignatureRoll = zsk is_any
+serves_new Zone _ = zsk_role is_any
+
+-- and one that stays
+abbrev pub serves_kept : SideOf → RollType → KeyType → Bool
+serves_kept Keys KskRoll = ksk kept_present
+serves_kept Keys KskDoubleDsRoll = ksk kept_at_parent
+serves_kept Keys _ = ksk_role kept_present
+serves_kept Zone ZskRoll = zsk kept_present
+serves_kept Zone ZskDoubleSignatureRoll = zsk kept_present
+serves_kept Zone _ = zsk_role kept_present
+
+abbrev pub enters_now : Flags → Bool
+enters_now = kept_present
+
+abbrev pub parent_now : Flags → Bool
+parent_now = kept_at_parent
+
+abbrev pub signs_now : Flags → Bool
+signs_now = kept_signing
