@@ -59,25 +59,3 @@ impl SecurityAlgorithm {
 pub fn equal_algorithms_are_one(a: &SecurityAlgorithm, b: &SecurityAlgorithm)
     ensures { IsTrue (⟦<SecurityAlgorithm as PartialEq>⟧.eq a.now b.now) ↔ (a.now ≡ b.now) }
 {}
-
-#[cfg(test)]
-mod tests {
-    use super::*;
-
-    // The numbers are those of IANA's registry.
-    #[test]
-    fn has_the_registered_numbers(rt: HostRuntime) {
-        let registered = [
-            (SecurityAlgorithm::RSASHA256, 8),
-            (SecurityAlgorithm::RSASHA512, 10),
-            (SecurityAlgorithm::ECDSAP256SHA256, 13),
-            (SecurityAlgorithm::ECDSAP384SHA384, 14),
-            (SecurityAlgorithm::ED25519, 15),
-            (SecurityAlgorithm::ED448, 16),
-        ];
-        for (algorithm, number) in registered {
-            assert_eq!(rt; algorithm.to_int(), number);
-            assert_eq!(rt; SecurityAlgorithm::from_int(number), algorithm);
-        }
-    }
-}

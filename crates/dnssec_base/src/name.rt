@@ -144,6 +144,3 @@ impl fmt::Display for Name<Vec<u8>> {
         Ok(())
     }
 }
-
-#[cfg(test)]
-mod tests;

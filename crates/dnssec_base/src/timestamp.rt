@@ -38,15 +38,3 @@ impl Timestamp {
         self.seconds
     }
 }
-
-#[cfg(test)]
-mod tests {
-    use super::*;
-
-    #[test]
-    fn gives_its_number_back(rt: HostRuntime) {
-        for number in [0, 1, 0x8000_0000, u32::MAX] {
-            assert_eq!(rt; Timestamp::from(number).into_int(), number);
-        }
-    }
-}

@@ -27,6 +27,3 @@ pub use key::{Available, Key, KeyState, KeyTimestamps, KeyType};
 pub use roll::{Action, RollState, RollType};
 pub use set::KeySet;
 pub use time::UnixTime;
-
-#[cfg(test)]
-mod tests;

@@ -3,7 +3,7 @@ use Rattle.std.proofs.Common.{◌≡◌, ◌≢◌, ℕ, List, Option, Some, Non
 use Rattle.dnssec_record.specs.Answer.{Answers, AnswerFault, TakesBeginning}
 use Rattle.dnssec_record.specs.Reading.{TakesFront}
 use Rattle.dnssec_record.specs.Script.{IsScript, lines_of}
-use Rattle.dnssec_record.specs.declared.call.Call.{Call}
+use Rattle.dnssec_run.specs.declared.call.Call.{Call}
 use Rattle.dnssec_record.specs.declared.script.ScriptFault.{ScriptFault}
 use Rattle.dnssec_record.specs.declared.script.ScriptFault.TheVariants.{Malformed, Device}
 use Rattle.dnssec_record.specs.declared.script.ScriptFault.TheVariants.{OutOfMemory}

@@ -14,7 +14,7 @@ use Rattle.dnssec_record.specs.Reading.{CallsFault, SilentFirst}
 use Rattle.dnssec_record.specs.declared.script.ScriptFault.{ScriptFault}
 use Rattle.dnssec_record.specs.declared.script.ScriptFault.TheVariants.{Malformed, Device}
 use Rattle.dnssec_record.specs.declared.script.ScriptFault.TheVariants.{OutOfMemory}
-use Rattle.dnssec_record.specs.declared.call.Call.{Call}
+use Rattle.dnssec_run.specs.declared.call.Call.{Call}
 
 -- there is always a first line
 pub some_line : (script : List ℕ) → 0 < length (lines_of script)

@@ -1,8 +1,3 @@
-pub mod Positions
-pub mod Next
-pub mod Grow
-pub mod Laws
-pub mod Chain
 pub mod Cuts
 pub mod References
 pub mod Zone

@@ -2,10 +2,10 @@
 use Rattle.std.specs.Prelude.{◌≡◌, ◌⊎◌, ℕ, List, ◌++◌, Option, IfSome}
 use Rattle.std.specs.Io.KnownBytes.{Appends, Keeps}
 use Rattle.dnssec_record.specs.Output.{output}
-use Rattle.dnssec_record.specs.Record.{IsRun}
+use Rattle.dnssec_run.specs.Record.{IsRun}
 use Rattle.dnssec_record.specs.Script.{IsScript, IsFirstMalformed}
-use Rattle.dnssec_record.specs.declared.call.Call.{Call}
-use Rattle.dnssec_record.specs.declared.record.Entry.{Entry}
+use Rattle.dnssec_run.specs.declared.call.Call.{Call}
+use Rattle.dnssec_run.specs.declared.record.Entry.{Entry}
 use Rattle.dnssec_record.specs.declared.script.ScriptFault.{ScriptFault}
 use Rattle.dnssec_record.specs.declared.script.ScriptFault.TheVariants.{Malformed, Device}
 use Rattle.dnssec_record.specs.declared.script.ScriptFault.TheVariants.{OutOfMemory}

@@ -3,12 +3,7 @@ pub mod Device
 pub mod Fault
 pub mod NewKey
 pub mod Output
-pub mod Plain
-pub mod Published
 pub mod Reading
-pub mod Record
-pub mod Recorder
-pub mod Safe
 pub mod Script
 pub mod Statement
 pub mod Std

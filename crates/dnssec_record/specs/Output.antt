@@ -17,11 +17,11 @@ use Rattle.dnssec_keyset.specs.declared.roll.Action.TheVariants.{
   ReportRrsigPropagated,
   WaitRrsigPropagated,
 }
-use Rattle.dnssec_record.specs.declared.record.Entry.{Entry}
-use Rattle.dnssec_record.specs.declared.record.Published.{Published}
-use Rattle.dnssec_record.specs.declared.record.PublishedKey.{PublishedKey}
-use Rattle.dnssec_record.specs.declared.record.Reply.{Reply}
-use Rattle.dnssec_record.specs.declared.record.Reply.TheVariants.{Done, Actions, Refused}
+use Rattle.dnssec_run.specs.declared.record.Entry.{Entry}
+use Rattle.dnssec_run.specs.declared.record.Published.{Published}
+use Rattle.dnssec_run.specs.declared.record.PublishedKey.{PublishedKey}
+use Rattle.dnssec_run.specs.declared.record.Reply.{Reply}
+use Rattle.dnssec_run.specs.declared.record.Reply.TheVariants.{Done, Actions, Refused}
 
 -- the name of each action
 abbrev pub action_name : Action → List ℕ

@@ -20,8 +20,8 @@ use Rattle.dnssec_keyset.specs.declared.roll.RollType.TheVariants.{
 }
 use Rattle.dnssec_keyset.specs.Key.{is_available}
 use Rattle.dnssec_keyset.specs.Texts.{roll_name}
-use Rattle.dnssec_record.specs.declared.call.Call.{Call}
-use Rattle.dnssec_record.specs.declared.call.Call.TheVariants as call
+use Rattle.dnssec_run.specs.declared.call.Call.{Call}
+use Rattle.dnssec_run.specs.declared.call.Call.TheVariants as call
 use Rattle.dnssec_record.specs.declared.fields.Word.{Word}
 use Rattle.dnssec_record.specs.declared.fields.Word.TheVariants as word
 

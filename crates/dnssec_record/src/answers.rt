@@ -4,8 +4,8 @@ ghost use Rattle.std.specs.List.{flat_map};
 ghost use Rattle.dnssec_record.specs.Output.{action_name, actions_text, answers, output};
 ghost use Rattle.dnssec_record.specs.Output.{published_text, reply_text, set_line, set_text};
 
-use crate::record::{Entry, Published, PublishedKey, Reply};
 use dnssec_keyset::Action;
+use dnssec_run::{Entry, Published, PublishedKey, Reply};
 use std::alloc::{AllocError, Global};
 
 /// What is written for a run.

@@ -3,20 +3,12 @@
 #![tactic(auto)]
 
 mod answers;
-mod call;
 mod device;
 mod fields;
 mod lines;
-mod record;
-mod running;
 mod script;
 mod statement;
 
-pub use call::Call;
 pub use device::{DeviceFault, Sink, Source, Std};
-pub use record::{Entry, Mark, Published, PublishedKey, Reply, Run};
-pub use running::run;
+pub use dnssec_run::{Call, Entry, Mark, Published, PublishedKey, Reply, Run, run};
 pub use script::{ScriptFault, run_script};
-
-#[cfg(test)]
-mod tests;

@@ -6,11 +6,11 @@ ghost use Rattle.dnssec_record.specs.Script.{IsZoneLine, lines_of, said, says, w
 ghost use Rattle.dnssec_record.specs.Statement.{statement_said};
 ghost use Rattle.dnssec_record.specs.Reading.{CallsFault, all_said};
 
-use crate::call::Call;
 use crate::fields::parts;
 use crate::script::ScriptFault;
 use crate::statement::{Lists, Statement, read_line};
 use dnssec_base::{Name, NameError};
+use dnssec_run::Call;
 use std::alloc::{AllocError, Global};
 
 /// The lines of a script.

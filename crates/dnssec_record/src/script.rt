@@ -7,13 +7,13 @@ ghost use Rattle.dnssec_record.specs.Device.{Counts};
 ghost use Rattle.dnssec_record.specs.Fault.{fault_status, fault_text};
 ghost use Rattle.dnssec_record.specs.Reading.{ReadFault, TakesFront};
 ghost use Rattle.dnssec_record.specs.Script.{IsFirstMalformed, IsScript};
-ghost use Rattle.dnssec_record.specs.declared.call.Call.{Call};
+ghost use Rattle.dnssec_run.specs.declared.call.Call.{Call};
 ghost use Rattle.dnssec_record.specs.declared.script.ScriptFault.TheVariants.{Device, OutOfMemory};
 
 use crate::answers::answer;
 use crate::device::{DeviceFault, Sink, Source};
 use crate::lines::{lines, read_calls, with_lists, zone};
-use crate::running::run;
+use dnssec_run::run;
 use std::alloc::{AllocError, AllocFailed, Global};
 use std::fmt;
 

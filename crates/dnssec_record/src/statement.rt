@@ -12,10 +12,10 @@ ghost use Rattle.dnssec_record.specs.Script.{key_forms, key_values, row};
 ghost use Rattle.dnssec_record.specs.NewKey.{key_said};
 ghost use Rattle.dnssec_record.specs.Statement.{is_borrowing, statement_said};
 
-use crate::call::Call;
 use crate::fields::{Fields, Word};
 use dnssec_base::SecurityAlgorithm;
 use dnssec_keyset::{Available, RollType, UnixTime};
+use dnssec_run::Call;
 use std::alloc::{AllocError, Global};
 
 /// A call, or the start of a roll, whose lists are kept beside it, since a call borrows them.

@@ -1,0 +1,31 @@
+//! What an operator sees of a key set, call by call, in a crate of its own, so that the key set isn't
+//! proved twice. The proofs say that each call meets its table; the values here come from worked
+//! examples.
+#![tactic(auto)]
+
+#[cfg(test)]
+mod algorithm_roll;
+#[cfg(test)]
+mod csk_roll;
+#[cfg(test)]
+mod guide;
+#[cfg(test)]
+mod keys;
+#[cfg(test)]
+mod ksk_rolls;
+#[cfg(test)]
+mod memory;
+#[cfg(test)]
+mod side_by_side;
+#[cfg(test)]
+mod starts;
+#[cfg(test)]
+mod support;
+#[cfg(test)]
+mod texts;
+#[cfg(test)]
+mod values;
+#[cfg(test)]
+mod whole_path;
+#[cfg(test)]
+mod zsk_rolls;

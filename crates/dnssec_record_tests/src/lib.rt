@@ -1,0 +1,19 @@
+//! Scripts and recorded runs, with their exact answers, in a crate of its own, so that the record
+//! isn't proved twice. The proofs say what a run and a script are; the values here come from worked
+//! examples.
+#![tactic(auto)]
+
+#[cfg(test)]
+mod devices;
+#[cfg(test)]
+mod malformed;
+#[cfg(test)]
+mod memory;
+#[cfg(test)]
+mod refusals;
+#[cfg(test)]
+mod runs;
+#[cfg(test)]
+mod scripts;
+#[cfg(test)]
+mod support;

@@ -1,0 +1,198 @@
+//! Scripts with a line that hasn't its form.
+use crate::support::{WHOLE, assert_written, follow};
+use dnssec_record::ScriptFault;
+use std::alloc::{AllocError, Global};
+use std::process::Abort;
+use std::test::Fail;
+
+/// A script, and the number of the first line that hasn't its form.
+type Row<'a> = (&'a [u8], usize);
+
+/// Each script is refused by the number of this line, and nothing is written.
+fn assert_malformed(rt: &impl Abort, alloc: Global, scripts: &[Row]) -> Result<(), Fail> {
+    for (script, number) in scripts {
+        let answer = follow(rt, alloc, script, WHOLE)?;
+        assert_eq!(rt;
+            answer.result,
+            Err(ScriptFault::Malformed(*number)),
+            "{script:?}"
+        );
+        assert!(rt; answer.output.taken().is_empty(), "written for {script:?}");
+    }
+    Ok(())
+}
+
+/// The first line is the word `zone`, one space, and a name.
+#[test]
+fn zone_lines(rt: HostRuntime) -> Result<(), Fail> {
+    let scripts: [Row; 18] = [
+        (b"", 1),
+        (b"\n", 1),
+        (b"\nzone a\n", 1),
+        (b"zone", 1),
+        (b"zone\n", 1),
+        (b"zone ", 1),
+        (b"zonea\n", 1),
+        (b"Zone a\n", 1),
+        (b" zone a\n", 1),
+        (b"zone  a\n", 1),
+        (b"zone a \n", 1),
+        (b"zone a\r\n", 1),
+        (b"zone a..b", 1),
+        (b"zone a\\256\n", 1),
+        (b"zone a\xC3\xBC\n", 1),
+        (b"zone a\xFF\n", 1),
+        (b"delete K1\n", 1),
+        (b"delete K1\nzone a\n", 1),
+    ];
+    assert_malformed(&rt, rt.alloc(), &scripts)
+}
+
+/// A beginning of a script that is a zone line alone is a script where its name stands.
+#[test]
+fn beginnings_of_zone_lines(rt: HostRuntime) -> Result<(), Fail> {
+    let rows: [(&[u8], &[usize]); 2] = [
+        (b"zone a\\.b\n", &[6, 8, 9, 10]),
+        (b"zone a..b\n", &[6, 7]),
+    ];
+    for (script, scripts) in rows {
+        for end in 0..=script.len() {
+            let front = script.get(..end).ok_or("no beginning")?;
+            if scripts.contains(&end) {
+                let answer = follow(&rt, rt.alloc(), front, WHOLE)?;
+                assert_written(&rt, &answer, "ds=- dnskey=- signers=- zone=-\n");
+            } else {
+                assert_malformed(&rt, rt.alloc(), &[(front, 1)])?;
+            }
+        }
+    }
+    Ok(())
+}
+
+/// The first malformed line is told, and no line before it is run.
+#[test]
+fn lines_are_counted(rt: HostRuntime) -> Result<(), Fail> {
+    let scripts: [Row; 9] = [
+        (b"zone a\n\n", 2),
+        (b"zone a\n\ndelete K1\n", 2),
+        (b"zone a\nzone a\n", 2),
+        (b"zone a\nzone a", 2),
+        (b"zone a\ndelete K1\n\n", 3),
+        (b"zone example.com\ndone algorithm-roll\ndone CSK-roll\n", 3),
+        (b"zone a\nadd-ksk K1 - 13 1 0 yes\nwait\n", 3),
+        (b"zone a\ndelete K1\ndelete K2\ndelete\nfoo\n\n", 4),
+        (b"zone a\nfoo\nzone a..b\n", 2),
+    ];
+    assert_malformed(&rt, rt.alloc(), &scripts)
+}
+
+/// Fields stand behind a word that there is, each after one space, and are as many as it takes.
+#[test]
+fn words_and_spaces(rt: HostRuntime) -> Result<(), Fail> {
+    let scripts: [Row; 25] = [
+        (b"zone a\ndelete  K1\n", 2),
+        (b"zone a\ndelete K1 \n", 2),
+        (b"zone a\n delete K1\n", 2),
+        (b"zone a\n \n", 2),
+        (b"zone a\ndelete\tK1\n", 2),
+        (b"zone a\ndelete K1\r\n", 2),
+        (b"zone a\ndelete\n", 2),
+        (b"zone a\ndelete \n", 2),
+        (b"zone a\ndelete K1 K2\n", 2),
+        (b"zone a\nDelete K1\n", 2),
+        (b"zone a\ndeleted K1\n", 2),
+        (b"zone a\nadd K1 - 13 1 0 yes\n", 2),
+        (b"zone a\nadd-ksk K1 13 1 0 yes\n", 2),
+        (b"zone a\nadd-zsk K1 - 13 1 0\n", 2),
+        (b"zone a\nadd-csk K1 - 13 1 0 yes yes\n", 2),
+        (b"zone a\nadd-public K1 - 13 1 0 yes\n", 2),
+        (b"zone a\nset-present K1 yes\n", 2),
+        (b"zone a\nset-signer K1 yes 0\n", 2),
+        (b"zone a\nset-at-parent K1\n", 2),
+        (b"zone a\nset-stale K1 yes\n", 2),
+        (b"zone a\nset-visible K1\n", 2),
+        (b"zone a\nstart algorithm-roll K1 0\n", 2),
+        (b"zone a\nreport1 ksk-roll 60\n", 2),
+        (b"zone a\nwait2 ksk-roll 60 0\n", 2),
+        (b"zone a\ndone ksk-roll 0\n", 2),
+    ];
+    assert_malformed(&rt, rt.alloc(), &scripts)
+}
+
+/// Numbers out of range, of more than 20 digits, or with other bytes than digits.
+#[test]
+fn numbers(rt: HostRuntime) -> Result<(), Fail> {
+    let scripts: [Row; 15] = [
+        (b"zone a\nadd-ksk K1 - 256 1 0 yes\n", 2),
+        (b"zone a\nadd-ksk K1 - 13 65536 0 yes\n", 2),
+        (b"zone a\nadd-ksk K1 - 13 1 18446744073709551616 yes\n", 2),
+        (b"zone a\nadd-ksk K1 - 13 1 99999999999999999999 yes\n", 2),
+        (b"zone a\nreport1 ksk-roll 4294967296 0\n", 2),
+        (b"zone a\nreport2 ksk-roll 60 18446744073709551616\n", 2),
+        (b"zone a\nadd-public K1 000000000000000000013 1 0 yes\n", 2),
+        (b"zone a\nwait1 ksk-roll 000000000000000000001\n", 2),
+        (
+            b"zone a\nwait1 ksk-roll 340282366920938463463374607431768211456\n",
+            2,
+        ),
+        (b"zone a\nwait1 ksk-roll -1\n", 2),
+        (b"zone a\nwait1 ksk-roll +1\n", 2),
+        (b"zone a\nwait1 ksk-roll 0x1\n", 2),
+        (b"zone a\nwait1 ksk-roll 1s\n", 2),
+        (b"zone a\nwait1 ksk-roll \n", 2),
+        (b"zone a\nset-visible K1 -\n", 2),
+    ];
+    assert_malformed(&rt, rt.alloc(), &scripts)
+}
+
+/// References, lists of them, flags and rolls of another form.
+#[test]
+fn references_flags_and_rolls(rt: HostRuntime) -> Result<(), Fail> {
+    let scripts: [Row; 21] = [
+        (b"zone a\ndelete -\n", 2),
+        (b"zone a\nadd-ksk - - 13 1 0 yes\n", 2),
+        (b"zone a\ndelete K1,Z1\n", 2),
+        (b"zone a\nadd-ksk K1 ,K1 13 1 0 yes\n", 2),
+        (b"zone a\ndelete K\xC3\xBC\n", 2),
+        (b"zone a\ndelete K\x80\n", 2),
+        (b"zone a\ndelete K\x7F\n", 2),
+        (b"zone a\ndelete K\x00\n", 2),
+        (b"zone a\nstart ksk-roll - ,K1 0\n", 2),
+        (b"zone a\nstart ksk-roll - K1, 0\n", 2),
+        (b"zone a\nstart ksk-roll - K1,,Z1 0\n", 2),
+        (b"zone a\nstart ksk-roll - , 0\n", 2),
+        (b"zone a\nstart ksk-roll - K1,- 0\n", 2),
+        (b"zone a\nstart ksk-roll -,K1 K2 0\n", 2),
+        (b"zone a\nset-signer K1 Yes\n", 2),
+        (b"zone a\nset-signer K1 true\n", 2),
+        (b"zone a\nset-signer K1 -\n", 2),
+        (b"zone a\ndone roll\n", 2),
+        (b"zone a\ndone CSK-roll\n", 2),
+        (b"zone a\ndone ksk_roll\n", 2),
+        (b"zone a\nwait1 - 0\n", 2),
+    ];
+    assert_malformed(&rt, rt.alloc(), &scripts)
+}
+
+/// What a fault prints, asked for once more where memory was refused.
+fn printed(alloc: Global, fault: &ScriptFault) -> Result<String, AllocError> {
+    match fault.to_string(alloc) {
+        Ok(text) => Ok(text),
+        Err(AllocError) => fault.to_string(alloc),
+    }
+}
+
+#[test]
+fn faults_have_texts_and_statuses(rt: HostRuntime) -> Result<(), Fail> {
+    let faults = [
+        (ScriptFault::Malformed(1), "line 1: malformed", 1),
+        (ScriptFault::Malformed(12), "line 12: malformed", 1),
+        (ScriptFault::Device, "input or output fault", 2),
+        (ScriptFault::OutOfMemory, "out of memory", 3),
+    ];
+    for (fault, text, status) in &faults {
+        assert_eq!(rt; printed(rt.alloc(), fault)?.as_str(), *text);
+        assert_eq!(rt; fault.status(), *status, "of {text}");
+    }
+    Ok(())
+}

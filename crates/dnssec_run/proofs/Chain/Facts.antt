@@ -1,0 +1,504 @@
+-- More facts of the tables: the waits, the keys that a call leaves alone, the keys that a wait reads.
+use Rattle.std.proofs.Common.{◌≡◌, Bool, true, false, not, ◌&&◌, ◌||◌, refl, sym, ◌∙◌, ap}
+use Rattle.std.proofs.lemmas.Bool.{and_parts, true≢false}
+use Rattle.dnssec_keyset.specs.declared.roll.RollType.{RollType}
+use Rattle.dnssec_keyset.specs.declared.roll.RollType.TheVariants.{KskRoll, KskDoubleDsRoll, ZskRoll, ZskDoubleSignatureRoll, CskRoll, AlgorithmRoll}
+use Rattle.dnssec_keyset.specs.State.{Flags as KeyState}
+use Rattle.dnssec_keyset.specs.declared.key.KeyType.{KeyType}
+use Rattle.dnssec_keyset.specs.declared.key.KeyType.TheVariants.{Ksk, Zsk, Csk, Include}
+use Rattle.dnssec_run.specs.Safe.{SetKind, Ds, Dnskey, ZoneSigners}
+use Rattle.dnssec_keyset.specs.RollTable.{column}
+use Rattle.dnssec_run.proofs.Chain.Tables.{started, waited1, waited2, SideOf, Keys, Zone, affects, may_list, is_blank, written, Stamp, Visible, DsVisible, RrsigVisible, read, checked, tolerates, serves_new, serves_kept, is_stale, enters_now, parent_now, signs_now}
+use Rattle.dnssec_run.proofs.Chain.Flags.{Stage, Quiet, Early, Late, each_key, each_key-at, ◌⇒◌, mp, four, and-both, switches, test_of, first_test, second_test, in_use, fits, has_role, remains, live, may_start}
+
+-- the first wait
+wait1_table : SideOf → RollType → KeyType → Bool
+wait1_table sd r k = (affects sd r && fits sd (Early r) k) ⇒
+    (fits sd (Late r) (waited1 r k)
+    && (first_test sd r (waited1 r k) ⇒ first_test sd r k)
+    && ((switches sd r && first_test sd r k) ⇒ first_test sd r (waited1 r k))
+    && (switches sd r || (second_test sd r (waited1 r k) ⇒ second_test sd r k))
+    && ((switches sd r && second_test sd r k) ⇒ first_test sd r k)
+    && (remains sd r k ⇒ live sd (waited1 r k)))
+
+wait1_all : (sd : SideOf) (r : RollType) (a b : Bool) → each_key a b (wait1_table sd r) ≡ true
+unfolding wait1_table column
+wait1_all Keys KskRoll a b = refl
+wait1_all Keys KskDoubleDsRoll a b = refl
+wait1_all Keys ZskRoll a b = refl
+wait1_all Keys ZskDoubleSignatureRoll a b = refl
+wait1_all Keys CskRoll a b = refl
+wait1_all Keys AlgorithmRoll a b = refl
+wait1_all Zone KskRoll a b = refl
+wait1_all Zone KskDoubleDsRoll a b = refl
+wait1_all Zone ZskRoll a b = refl
+wait1_all Zone ZskDoubleSignatureRoll a b = refl
+wait1_all Zone CskRoll a b = refl
+wait1_all Zone AlgorithmRoll a b = refl
+
+pub record Waited1 (sd : SideOf) (r : RollType) (k : KeyType) : Type 0 where
+  pub fit : fits sd (Late r) (waited1 r k) ≡ true
+  pub first : first_test sd r (waited1 r k) ≡ true → first_test sd r k ≡ true
+  pub keep : switches sd r ≡ true → first_test sd r k ≡ true → first_test sd r (waited1 r k) ≡ true
+  pub second : switches sd r ≡ false → second_test sd r (waited1 r k) ≡ true → second_test sd r k ≡ true
+  pub inner : switches sd r ≡ true → second_test sd r k ≡ true → first_test sd r k ≡ true
+  pub some : remains sd r k ≡ true → live sd (waited1 r k) ≡ true
+
+or_second : (a b : Bool) → (a || b) ≡ true → a ≡ false → b ≡ true
+or_second true b e f = absurd (true≢false f)
+or_second false b e f = e
+
+pub wait1_facts : (sd : SideOf) (r : RollType) (k : KeyType) → affects sd r ≡ true → fits sd (Early r) k ≡ true → Waited1 sd r k
+unfolding wait1_table column
+wait1_facts sd r k own fit =
+    let e = mp _ _ (each_key-at (wait1_table sd r) (wait1_all sd r) k) (and-both _ _ own fit) in
+    let x = and_parts _ _ e in
+    let y = and_parts _ _ x.0 in
+    let a = four _ _ _ _ y.0 in
+    record { fit = a.0; first = mp _ _ a.1; keep = λ w h. mp _ _ a.2 (and-both _ _ w h); second = λ w. mp _ _ (or_second _ _ a.3 w); inner = λ w h. mp _ _ y.1 (and-both _ _ w h); some = mp _ _ x.1 }
+
+-- the second wait
+wait2_table : SideOf → RollType → KeyType → Bool
+wait2_table sd r k = (affects sd r && fits sd (Late r) k) ⇒
+    (fits sd Quiet (waited2 r k)
+    && (first_test sd r (waited2 r k) ⇒ first_test sd r k)
+    && (second_test sd r (waited2 r k) ⇒ second_test sd r k)
+    && (live sd k ⇒ in_use sd (waited2 r k)))
+
+wait2_all : (sd : SideOf) (r : RollType) (a b : Bool) → each_key a b (wait2_table sd r) ≡ true
+unfolding wait2_table column
+wait2_all Keys KskRoll a b = refl
+wait2_all Keys KskDoubleDsRoll a b = refl
+wait2_all Keys ZskRoll a b = refl
+wait2_all Keys ZskDoubleSignatureRoll a b = refl
+wait2_all Keys CskRoll a b = refl
+wait2_all Keys AlgorithmRoll a b = refl
+wait2_all Zone KskRoll a b = refl
+wait2_all Zone KskDoubleDsRoll a b = refl
+wait2_all Zone ZskRoll a b = refl
+wait2_all Zone ZskDoubleSignatureRoll a b = refl
+wait2_all Zone CskRoll a b = refl
+wait2_all Zone AlgorithmRoll a b = refl
+
+pub record Waited2 (sd : SideOf) (r : RollType) (k : KeyType) : Type 0 where
+  pub fit : fits sd Quiet (waited2 r k) ≡ true
+  pub first : first_test sd r (waited2 r k) ≡ true → first_test sd r k ≡ true
+  pub second : second_test sd r (waited2 r k) ≡ true → second_test sd r k ≡ true
+  pub used : live sd k ≡ true → in_use sd (waited2 r k) ≡ true
+
+pub wait2_facts : (sd : SideOf) (r : RollType) (k : KeyType) → affects sd r ≡ true → fits sd (Late r) k ≡ true → Waited2 sd r k
+unfolding wait2_table column
+wait2_facts sd r k own fit =
+    let a = four _ _ _ _ (mp _ _ (each_key-at (wait2_table sd r) (wait2_all sd r) k) (and-both _ _ own fit)) in
+    record { fit = a.0; first = mp _ _ a.1; second = mp _ _ a.2; used = mp _ _ a.3 }
+
+-- a key that a roll may not list is left alone by its calls ----------------------------------
+
+unlisted : (r : RollType) (k : KeyType) → started r false false k ≡ k
+unlisted r k = refl
+
+pub untouched_start : (r : RollType) (o i : Bool) (k : KeyType) → may_start r o i k ≡ true → may_list r k ≡ false → started r o i k ≡ k
+untouched_start r false false k may e = unlisted r k
+untouched_start r true i k may e = absurd (true≢false (sym (and_parts (may_list r k) _ may).0 ∙ e))
+untouched_start r false true k may e = absurd (true≢false (sym (and_parts (may_list r k) (is_blank k) (and_parts (may_list r k && is_blank k) _ may).0).0 ∙ e))
+
+pub untouched_wait1 : (r : RollType) (k : KeyType) → may_list r k ≡ false → waited1 r k ≡ k
+unfolding column
+untouched_wait1 KskRoll (Ksk s) e = absurd (true≢false e)
+untouched_wait1 KskRoll (Zsk s) e = refl
+untouched_wait1 KskRoll (Csk s t) e = refl
+untouched_wait1 KskRoll (Include s) e = refl
+untouched_wait1 KskDoubleDsRoll (Ksk s) e = absurd (true≢false e)
+untouched_wait1 KskDoubleDsRoll (Zsk s) e = refl
+untouched_wait1 KskDoubleDsRoll (Csk s t) e = refl
+untouched_wait1 KskDoubleDsRoll (Include s) e = refl
+untouched_wait1 ZskRoll (Ksk s) e = refl
+untouched_wait1 ZskRoll (Zsk s) e = absurd (true≢false e)
+untouched_wait1 ZskRoll (Csk s t) e = refl
+untouched_wait1 ZskRoll (Include s) e = refl
+untouched_wait1 ZskDoubleSignatureRoll (Ksk s) e = refl
+untouched_wait1 ZskDoubleSignatureRoll (Zsk s) e = absurd (true≢false e)
+untouched_wait1 ZskDoubleSignatureRoll (Csk s t) e = refl
+untouched_wait1 ZskDoubleSignatureRoll (Include s) e = refl
+untouched_wait1 CskRoll (Ksk s) e = absurd (true≢false e)
+untouched_wait1 CskRoll (Zsk s) e = absurd (true≢false e)
+untouched_wait1 CskRoll (Csk s t) e = absurd (true≢false e)
+untouched_wait1 CskRoll (Include s) e = refl
+untouched_wait1 AlgorithmRoll (Ksk s) e = absurd (true≢false e)
+untouched_wait1 AlgorithmRoll (Zsk s) e = absurd (true≢false e)
+untouched_wait1 AlgorithmRoll (Csk s t) e = absurd (true≢false e)
+untouched_wait1 AlgorithmRoll (Include s) e = refl
+
+pub untouched_wait2 : (r : RollType) (k : KeyType) → may_list r k ≡ false → waited2 r k ≡ k
+unfolding column
+untouched_wait2 KskRoll (Ksk s) e = absurd (true≢false e)
+untouched_wait2 KskRoll (Zsk s) e = refl
+untouched_wait2 KskRoll (Csk s t) e = refl
+untouched_wait2 KskRoll (Include s) e = refl
+untouched_wait2 KskDoubleDsRoll (Ksk s) e = absurd (true≢false e)
+untouched_wait2 KskDoubleDsRoll (Zsk s) e = refl
+untouched_wait2 KskDoubleDsRoll (Csk s t) e = refl
+untouched_wait2 KskDoubleDsRoll (Include s) e = refl
+untouched_wait2 ZskRoll (Ksk s) e = refl
+untouched_wait2 ZskRoll (Zsk s) e = absurd (true≢false e)
+untouched_wait2 ZskRoll (Csk s t) e = refl
+untouched_wait2 ZskRoll (Include s) e = refl
+untouched_wait2 ZskDoubleSignatureRoll (Ksk s) e = refl
+untouched_wait2 ZskDoubleSignatureRoll (Zsk s) e = absurd (true≢false e)
+untouched_wait2 ZskDoubleSignatureRoll (Csk s t) e = refl
+untouched_wait2 ZskDoubleSignatureRoll (Include s) e = refl
+untouched_wait2 CskRoll (Ksk s) e = absurd (true≢false e)
+untouched_wait2 CskRoll (Zsk s) e = absurd (true≢false e)
+untouched_wait2 CskRoll (Csk s t) e = absurd (true≢false e)
+untouched_wait2 CskRoll (Include s) e = refl
+untouched_wait2 AlgorithmRoll (Ksk s) e = absurd (true≢false e)
+untouched_wait2 AlgorithmRoll (Zsk s) e = absurd (true≢false e)
+untouched_wait2 AlgorithmRoll (Csk s t) e = absurd (true≢false e)
+untouched_wait2 AlgorithmRoll (Include s) e = refl
+
+written_table : Stamp → RollType → Bool → KeyType → Bool
+written_table s r second k = written s r second k ⇒ may_list r k
+
+written_all : (s : Stamp) (r : RollType) (second : Bool) (a b : Bool) → each_key a b (written_table s r second) ≡ true
+unfolding written_table column
+written_all Visible KskRoll true a b = refl
+written_all Visible KskRoll false a b = refl
+written_all Visible KskDoubleDsRoll true a b = refl
+written_all Visible KskDoubleDsRoll false a b = refl
+written_all Visible ZskRoll true a b = refl
+written_all Visible ZskRoll false a b = refl
+written_all Visible ZskDoubleSignatureRoll true a b = refl
+written_all Visible ZskDoubleSignatureRoll false a b = refl
+written_all Visible CskRoll true a b = refl
+written_all Visible CskRoll false a b = refl
+written_all Visible AlgorithmRoll true a b = refl
+written_all Visible AlgorithmRoll false a b = refl
+written_all DsVisible KskRoll true a b = refl
+written_all DsVisible KskRoll false a b = refl
+written_all DsVisible KskDoubleDsRoll true a b = refl
+written_all DsVisible KskDoubleDsRoll false a b = refl
+written_all DsVisible ZskRoll true a b = refl
+written_all DsVisible ZskRoll false a b = refl
+written_all DsVisible ZskDoubleSignatureRoll true a b = refl
+written_all DsVisible ZskDoubleSignatureRoll false a b = refl
+written_all DsVisible CskRoll true a b = refl
+written_all DsVisible CskRoll false a b = refl
+written_all DsVisible AlgorithmRoll true a b = refl
+written_all DsVisible AlgorithmRoll false a b = refl
+written_all RrsigVisible KskRoll true a b = refl
+written_all RrsigVisible KskRoll false a b = refl
+written_all RrsigVisible KskDoubleDsRoll true a b = refl
+written_all RrsigVisible KskDoubleDsRoll false a b = refl
+written_all RrsigVisible ZskRoll true a b = refl
+written_all RrsigVisible ZskRoll false a b = refl
+written_all RrsigVisible ZskDoubleSignatureRoll true a b = refl
+written_all RrsigVisible ZskDoubleSignatureRoll false a b = refl
+written_all RrsigVisible CskRoll true a b = refl
+written_all RrsigVisible CskRoll false a b = refl
+written_all RrsigVisible AlgorithmRoll true a b = refl
+written_all RrsigVisible AlgorithmRoll false a b = refl
+
+pub written-touches : (s : Stamp) (r : RollType) (second : Bool) (k : KeyType) → written s r second k ≡ true → may_list r k ≡ true
+unfolding written_table column
+written-touches s r second k = mp _ _ (each_key-at (written_table s r second) (written_all s r second) k)
+
+-- which keys a call of another roll leaves alone
+apart_table : SideOf → RollType → KeyType → Bool
+apart_table sd r k = (not (affects sd r) && has_role sd k) ⇒ not (may_list r k)
+
+apart_all : (sd : SideOf) (r : RollType) (a b : Bool) → each_key a b (apart_table sd r) ≡ true
+unfolding apart_table column
+apart_all Keys KskRoll a b = refl
+apart_all Keys KskDoubleDsRoll a b = refl
+apart_all Keys ZskRoll a b = refl
+apart_all Keys ZskDoubleSignatureRoll a b = refl
+apart_all Keys CskRoll a b = refl
+apart_all Keys AlgorithmRoll a b = refl
+apart_all Zone KskRoll a b = refl
+apart_all Zone KskDoubleDsRoll a b = refl
+apart_all Zone ZskRoll a b = refl
+apart_all Zone ZskDoubleSignatureRoll a b = refl
+apart_all Zone CskRoll a b = refl
+apart_all Zone AlgorithmRoll a b = refl
+
+not-false : (b : Bool) → not b ≡ true → b ≡ false
+not-false true e = absurd (true≢false (sym e))
+not-false false e = refl
+
+pub apart : (sd : SideOf) (r : RollType) (k : KeyType) → affects sd r ≡ false → has_role sd k ≡ true → may_list r k ≡ false
+unfolding apart_table column
+apart sd r k other role = not-false _ (mp _ _ (each_key-at (apart_table sd r) (apart_all sd r) k) (and-both _ _ (ap not other) role))
+
+other_table : RollType → RollType → KeyType → Bool
+other_table r q k = (tolerates r q && may_list q k) ⇒ not (may_list r k)
+
+other_all : (r q : RollType) (a b : Bool) → each_key a b (other_table r q) ≡ true
+unfolding other_table column
+other_all KskRoll KskRoll a b = refl
+other_all KskRoll KskDoubleDsRoll a b = refl
+other_all KskRoll ZskRoll a b = refl
+other_all KskRoll ZskDoubleSignatureRoll a b = refl
+other_all KskRoll CskRoll a b = refl
+other_all KskRoll AlgorithmRoll a b = refl
+other_all KskDoubleDsRoll KskRoll a b = refl
+other_all KskDoubleDsRoll KskDoubleDsRoll a b = refl
+other_all KskDoubleDsRoll ZskRoll a b = refl
+other_all KskDoubleDsRoll ZskDoubleSignatureRoll a b = refl
+other_all KskDoubleDsRoll CskRoll a b = refl
+other_all KskDoubleDsRoll AlgorithmRoll a b = refl
+other_all ZskRoll KskRoll a b = refl
+other_all ZskRoll KskDoubleDsRoll a b = refl
+other_all ZskRoll ZskRoll a b = refl
+other_all ZskRoll ZskDoubleSignatureRoll a b = refl
+other_all ZskRoll CskRoll a b = refl
+other_all ZskRoll AlgorithmRoll a b = refl
+other_all ZskDoubleSignatureRoll KskRoll a b = refl
+other_all ZskDoubleSignatureRoll KskDoubleDsRoll a b = refl
+other_all ZskDoubleSignatureRoll ZskRoll a b = refl
+other_all ZskDoubleSignatureRoll ZskDoubleSignatureRoll a b = refl
+other_all ZskDoubleSignatureRoll CskRoll a b = refl
+other_all ZskDoubleSignatureRoll AlgorithmRoll a b = refl
+other_all CskRoll KskRoll a b = refl
+other_all CskRoll KskDoubleDsRoll a b = refl
+other_all CskRoll ZskRoll a b = refl
+other_all CskRoll ZskDoubleSignatureRoll a b = refl
+other_all CskRoll CskRoll a b = refl
+other_all CskRoll AlgorithmRoll a b = refl
+other_all AlgorithmRoll KskRoll a b = refl
+other_all AlgorithmRoll KskDoubleDsRoll a b = refl
+other_all AlgorithmRoll ZskRoll a b = refl
+other_all AlgorithmRoll ZskDoubleSignatureRoll a b = refl
+other_all AlgorithmRoll CskRoll a b = refl
+other_all AlgorithmRoll AlgorithmRoll a b = refl
+
+pub other : (r q : RollType) (k : KeyType) → tolerates r q ≡ true → may_list q k ≡ true → may_list r k ≡ false
+unfolding other_table column
+other r q k both_in role = not-false _ (mp _ _ (each_key-at (other_table r q) (other_all r q) k) (and-both _ _ both_in role))
+
+-- what matters to a side -----------------------------------------------------------------------
+
+abbrev pub idle_state : KeyState → Bool
+idle_state s = not s.signer && not s.present && not s.at_parent
+
+abbrev pub is_idle : KeyType → Bool
+is_idle (Ksk s) = idle_state s
+is_idle (Zsk s) = idle_state s
+is_idle (Csk s t) = idle_state s && idle_state t
+is_idle (Include s) = idle_state s
+
+abbrev pub Seen : SideOf → (KeyType → Bool) → Type 0
+Seen sd p = (k : KeyType) → p k ≡ true → (has_role sd k ≡ true) × (is_idle k ≡ false)
+
+seen_table : SideOf → (KeyType → Bool) → KeyType → Bool
+seen_table sd p k = p k ⇒ (has_role sd k && not (is_idle k))
+
+seen_by : (sd : SideOf) (p : KeyType → Bool) → ((a b : Bool) → each_key a b (seen_table sd p) ≡ true) → Seen sd p
+unfolding seen_table column
+seen_by sd p e k h = let x = and_parts _ _ (mp _ _ (each_key-at (seen_table sd p) e k) h) in (x.0, not-false _ x.1)
+
+pub test-seen : (sd : SideOf) (kind : SetKind) → Seen sd (test_of sd kind)
+unfolding seen_table column
+test-seen Keys Ds = seen_by Keys (test_of Keys Ds) (λ a b. refl)
+test-seen Keys Dnskey = seen_by Keys (test_of Keys Dnskey) (λ a b. refl)
+test-seen Keys ZoneSigners = seen_by Keys (test_of Keys ZoneSigners) (λ a b. refl)
+test-seen Zone Ds = seen_by Zone (test_of Zone Ds) (λ a b. refl)
+test-seen Zone Dnskey = seen_by Zone (test_of Zone Dnskey) (λ a b. refl)
+test-seen Zone ZoneSigners = seen_by Zone (test_of Zone ZoneSigners) (λ a b. refl)
+
+pub use-seen : (sd : SideOf) → Seen sd (in_use sd)
+unfolding seen_table column
+use-seen Keys = seen_by Keys (in_use Keys) (λ a b. refl)
+use-seen Zone = seen_by Zone (in_use Zone) (λ a b. refl)
+
+pub live-seen : (sd : SideOf) → Seen sd (live sd)
+unfolding seen_table column
+live-seen Keys = seen_by Keys (live Keys) (λ a b. refl)
+live-seen Zone = seen_by Zone (live Zone) (λ a b. refl)
+
+pub remains-seen : (sd : SideOf) (r : RollType) → Seen sd (remains sd r)
+unfolding seen_table column
+remains-seen Keys KskRoll = seen_by Keys (remains Keys KskRoll) (λ a b. refl)
+remains-seen Keys KskDoubleDsRoll = seen_by Keys (remains Keys KskDoubleDsRoll) (λ a b. refl)
+remains-seen Keys ZskRoll = seen_by Keys (remains Keys ZskRoll) (λ a b. refl)
+remains-seen Keys ZskDoubleSignatureRoll = seen_by Keys (remains Keys ZskDoubleSignatureRoll) (λ a b. refl)
+remains-seen Keys CskRoll = seen_by Keys (remains Keys CskRoll) (λ a b. refl)
+remains-seen Keys AlgorithmRoll = seen_by Keys (remains Keys AlgorithmRoll) (λ a b. refl)
+remains-seen Zone KskRoll = seen_by Zone (remains Zone KskRoll) (λ a b. refl)
+remains-seen Zone KskDoubleDsRoll = seen_by Zone (remains Zone KskDoubleDsRoll) (λ a b. refl)
+remains-seen Zone ZskRoll = seen_by Zone (remains Zone ZskRoll) (λ a b. refl)
+remains-seen Zone ZskDoubleSignatureRoll = seen_by Zone (remains Zone ZskDoubleSignatureRoll) (λ a b. refl)
+remains-seen Zone CskRoll = seen_by Zone (remains Zone CskRoll) (λ a b. refl)
+remains-seen Zone AlgorithmRoll = seen_by Zone (remains Zone AlgorithmRoll) (λ a b. refl)
+
+-- a key that a side doesn't see, or that is idle, fits any stage of it
+fit_table : SideOf → Stage → KeyType → Bool
+fit_table sd st k = not (has_role sd k && not (is_idle k)) ⇒ fits sd st k
+
+fit_all : (sd : SideOf) (st : Stage) (a b : Bool) → each_key a b (fit_table sd st) ≡ true
+unfolding fit_table column
+fit_all Keys Quiet a b = refl
+fit_all Keys (Early KskRoll) a b = refl
+fit_all Keys (Early KskDoubleDsRoll) a b = refl
+fit_all Keys (Early ZskRoll) a b = refl
+fit_all Keys (Early ZskDoubleSignatureRoll) a b = refl
+fit_all Keys (Early CskRoll) a b = refl
+fit_all Keys (Early AlgorithmRoll) a b = refl
+fit_all Keys (Late KskRoll) a b = refl
+fit_all Keys (Late KskDoubleDsRoll) a b = refl
+fit_all Keys (Late ZskRoll) a b = refl
+fit_all Keys (Late ZskDoubleSignatureRoll) a b = refl
+fit_all Keys (Late CskRoll) a b = refl
+fit_all Keys (Late AlgorithmRoll) a b = refl
+fit_all Zone Quiet a b = refl
+fit_all Zone (Early KskRoll) a b = refl
+fit_all Zone (Early KskDoubleDsRoll) a b = refl
+fit_all Zone (Early ZskRoll) a b = refl
+fit_all Zone (Early ZskDoubleSignatureRoll) a b = refl
+fit_all Zone (Early CskRoll) a b = refl
+fit_all Zone (Early AlgorithmRoll) a b = refl
+fit_all Zone (Late KskRoll) a b = refl
+fit_all Zone (Late KskDoubleDsRoll) a b = refl
+fit_all Zone (Late ZskRoll) a b = refl
+fit_all Zone (Late ZskDoubleSignatureRoll) a b = refl
+fit_all Zone (Late CskRoll) a b = refl
+fit_all Zone (Late AlgorithmRoll) a b = refl
+
+and_left : (a b : Bool) → a ≡ false → (a && b) ≡ false
+and_left true b e = absurd (true≢false e)
+and_left false b e = refl
+
+and_right : (a b : Bool) → b ≡ false → (a && b) ≡ false
+and_right true b e = e
+and_right false b e = refl
+
+pub unseen-fits : (sd : SideOf) (st : Stage) (k : KeyType) → has_role sd k ≡ false → fits sd st k ≡ true
+unfolding fit_table column
+unseen-fits sd st k e = mp _ _ (each_key-at (fit_table sd st) (fit_all sd st) k) (ap not (and_left _ _ e))
+
+pub idle-fits : (sd : SideOf) (st : Stage) (k : KeyType) → is_idle k ≡ true → fits sd st k ≡ true
+unfolding fit_table column
+idle-fits sd st k e = mp _ _ (each_key-at (fit_table sd st) (fit_all sd st) k) (ap not (and_right _ _ (ap not e)))
+
+pub stale-idle : (k : KeyType) → is_stale k ≡ true → is_idle k ≡ true
+stale-idle k = mp _ _ (each_key-at (λ k. is_stale k ⇒ is_idle k) (λ a b. refl) k)
+
+pub blank-idle : (k : KeyType) → is_blank k ≡ true → is_idle k ≡ true
+blank-idle k = mp _ _ (each_key-at (λ k. is_blank k ⇒ is_idle k) (λ a b. refl) k)
+
+-- the witness of a phase: a key that the coming wait reads, with the stamp of its report ----------
+
+abbrev pub timed : RollType → Bool → Bool
+timed ZskDoubleSignatureRoll true = false
+timed _ _ = true
+
+abbrev pub stays : RollType → Bool → KeyType → Bool
+stays KskRoll false (Ksk s) = enters_now s
+stays KskRoll true (Ksk s) = parent_now s
+stays KskDoubleDsRoll false (Ksk s) = parent_now s
+stays KskDoubleDsRoll true (Ksk s) = enters_now s
+stays ZskRoll false (Zsk s) = enters_now s
+stays ZskRoll true (Zsk s) = signs_now s
+stays ZskDoubleSignatureRoll _ (Zsk s) = enters_now s
+stays CskRoll false (Zsk s) = enters_now s
+stays CskRoll false (Csk s t) = enters_now s
+stays CskRoll true (Zsk s) = signs_now s
+stays CskRoll true (Csk s t) = signs_now t
+stays AlgorithmRoll false (Ksk s) = enters_now s
+stays AlgorithmRoll false (Csk s t) = enters_now s
+stays AlgorithmRoll true (Ksk s) = enters_now s && signs_now s
+stays AlgorithmRoll true (Csk s t) = enters_now s && signs_now s
+stays _ _ _ = false
+
+stays_table : RollType → Bool → KeyType → Bool
+stays_table r second k = stays r second k ⇒ (may_list r k && not (is_idle k) && (timed r second ⇒ checked r second k) && (timed r second ⇒ written (read r second) r second k))
+
+stays_all : (r : RollType) (second : Bool) (a b : Bool) → each_key a b (stays_table r second) ≡ true
+unfolding stays_table column
+stays_all KskRoll true a b = refl
+stays_all KskRoll false a b = refl
+stays_all KskDoubleDsRoll true a b = refl
+stays_all KskDoubleDsRoll false a b = refl
+stays_all ZskRoll true a b = refl
+stays_all ZskRoll false a b = refl
+stays_all ZskDoubleSignatureRoll true a b = refl
+stays_all ZskDoubleSignatureRoll false a b = refl
+stays_all CskRoll true a b = refl
+stays_all CskRoll false a b = refl
+stays_all AlgorithmRoll true a b = refl
+stays_all AlgorithmRoll false a b = refl
+
+pub record Stays (r : RollType) (second : Bool) (k : KeyType) : Type 0 where
+  pub touched : may_list r k ≡ true
+  pub busy : is_idle k ≡ false
+  pub check : timed r second ≡ true → checked r second k ≡ true
+  pub write : timed r second ≡ true → written (read r second) r second k ≡ true
+
+pub stays_facts : (r : RollType) (second : Bool) (k : KeyType) → stays r second k ≡ true → Stays r second k
+unfolding stays_table column
+stays_facts r second k h = let a = four _ _ _ _ (mp _ _ (each_key-at (stays_table r second) (stays_all r second) k) h) in
+    record { touched = a.0; busy = not-false _ a.1; check = mp _ _ a.2; write = mp _ _ a.3 }
+
+-- the side whose suitable key the waits of a roll read
+abbrev pub timer : RollType → SideOf
+timer ZskRoll = Zone
+timer ZskDoubleSignatureRoll = Zone
+timer CskRoll = Zone
+timer _ = Keys
+
+pub timer-affects : (r : RollType) → affects (timer r) r ≡ true
+timer-affects KskRoll = refl
+timer-affects KskDoubleDsRoll = refl
+timer-affects ZskRoll = refl
+timer-affects ZskDoubleSignatureRoll = refl
+timer-affects CskRoll = refl
+timer-affects AlgorithmRoll = refl
+
+stays_start_table : RollType → Bool → Bool → KeyType → Bool
+stays_start_table r o i k = (may_start r o i k && fits (timer r) Quiet k && ((i && serves_new (timer r) r k) || (not o && serves_kept (timer r) r k))) ⇒ stays r false (started r o i k)
+
+stays_start_all : (r : RollType) (o i a b : Bool) → each_key a b (stays_start_table r o i) ≡ true
+unfolding stays_start_table column
+stays_start_all KskRoll true true a b = refl
+stays_start_all KskRoll true false a b = refl
+stays_start_all KskRoll false true a b = refl
+stays_start_all KskRoll false false a b = refl
+stays_start_all KskDoubleDsRoll true true a b = refl
+stays_start_all KskDoubleDsRoll true false a b = refl
+stays_start_all KskDoubleDsRoll false true a b = refl
+stays_start_all KskDoubleDsRoll false false a b = refl
+stays_start_all ZskRoll true true a b = refl
+stays_start_all ZskRoll true false a b = refl
+stays_start_all ZskRoll false true a b = refl
+stays_start_all ZskRoll false false a b = refl
+stays_start_all ZskDoubleSignatureRoll true true a b = refl
+stays_start_all ZskDoubleSignatureRoll true false a b = refl
+stays_start_all ZskDoubleSignatureRoll false true a b = refl
+stays_start_all ZskDoubleSignatureRoll false false a b = refl
+stays_start_all CskRoll true true a b = refl
+stays_start_all CskRoll true false a b = refl
+stays_start_all CskRoll false true a b = refl
+stays_start_all CskRoll false false a b = refl
+stays_start_all AlgorithmRoll true true a b = refl
+stays_start_all AlgorithmRoll true false a b = refl
+stays_start_all AlgorithmRoll false true a b = refl
+stays_start_all AlgorithmRoll false false a b = refl
+
+pub stays_start : (r : RollType) (o i : Bool) (k : KeyType) → may_start r o i k ≡ true → fits (timer r) Quiet k ≡ true → ((i && serves_new (timer r) r k) || (not o && serves_kept (timer r) r k)) ≡ true → stays r false (started r o i k) ≡ true
+unfolding stays_start_table column
+stays_start r o i k may fit some = mp _ _ (each_key-at (stays_start_table r o i) (stays_start_all r o i) k) (and-both _ _ (and-both _ _ may fit) some)
+
+stays_wait_table : RollType → KeyType → Bool
+stays_wait_table r k = (fits (timer r) (Early r) k && stays r false k) ⇒ stays r true (waited1 r k)
+
+stays_wait_all : (r : RollType) (a b : Bool) → each_key a b (stays_wait_table r) ≡ true
+unfolding stays_wait_table column
+stays_wait_all KskRoll a b = refl
+stays_wait_all KskDoubleDsRoll a b = refl
+stays_wait_all ZskRoll a b = refl
+stays_wait_all ZskDoubleSignatureRoll a b = refl
+stays_wait_all CskRoll a b = refl
+stays_wait_all AlgorithmRoll a b = refl
+
+pub stays_wait : (r : RollType) (k : KeyType) → fits (timer r) (Early r) k ≡ true → stays r false k ≡ true → stays r true (waited1 r k) ≡ true
+unfolding stays_wait_table column
+stays_wait r k fit some = mp _ _ (each_key-at (stays_wait_table r) (stays_wait_all r) k) (and-both _ _ fit some)

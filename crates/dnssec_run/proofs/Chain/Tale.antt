@@ -1,0 +1,113 @@
+-- A run as the chain's proof sees it: at each position the keys by reference, the positions of their
+-- adds, and the phases of the rolls.
+use Rattle.std.proofs.Common.{◌≡◌, ℕ, ◌-◌, ◌≤◌, ◌⊎◌, Bool, true, false, List, Option, None, Some, refl}
+use Rattle.std.specs.Prelude.{if◌then◌else◌, ◌==◌, ◌*◌}
+use Rattle.std.specs.FinMap.{get}
+use Rattle.std.specs.Option.{option_map}
+use Rattle.std.specs.Str.{bytes_eq}
+use Rattle.dnssec_keyset.specs.declared.roll.RollType.{RollType}
+use Rattle.dnssec_keyset.specs.declared.roll.RollState.{RollState}
+use Rattle.dnssec_keyset.specs.declared.roll.RollState.TheVariants.{Propagation1, CacheExpire1, Propagation2, CacheExpire2}
+use Rattle.dnssec_keyset.specs.declared.key.KeyType.{KeyType}
+use Rattle.dnssec_keyset.specs.Key.{KeyParts}
+use Rattle.dnssec_keyset.specs.KeySet.{phase_of, same_roll}
+use Rattle.dnssec_keyset.specs.RollTable.{after_start, after_report, after_wait, First, Second, column, with_stamps, written as stamped}
+use Rattle.dnssec_keyset.specs.Start.{is_listed as listed}
+use Rattle.dnssec_run.specs.declared.call.Call.{Call}
+use Rattle.dnssec_run.specs.declared.record.Entry.{Entry}
+use Rattle.dnssec_run.specs.Published.{Id, World as RealWorld}
+use Rattle.dnssec_run.specs.Record as rec
+use Rattle.dnssec_run.specs.Plain.{IsPlain}
+use Rattle.dnssec_run.proofs.Chain.Tables.{started, aged, Stamp, stamp_in, half, read, checked, tolerates, may_list, is_blank, SideOf, affects, serves_new, serves_kept}
+
+-- a run of a plain list, with its record
+pub record Tale : Type 0 where
+  pub name : List ℕ
+  pub calls : List Call
+  pub es : List Entry
+  pub run : rec.IsRun name calls es
+  pub plain : IsPlain calls es
+
+abbrev pub Key : Type 0
+Key = KeyParts
+
+abbrev pub stamp_of : Stamp → Key → Option ℕ
+stamp_of s k = stamp_in s k.timestamps
+
+-- what is there at a position
+pub record World : Type 0 where
+  pub key : List ℕ → Option Key
+  pub added : List ℕ → ℕ
+  pub roll : RollType → Option RollState
+
+abbrev pub seen : RealWorld → World
+seen w = record { key = get w.set.keys; added = w.added; roll = phase_of w.set.rolls }
+
+abbrev pub world_at : Tale → ℕ → World
+world_at tale n = seen (rec.world_at tale.name tale.calls tale.es n)
+
+abbrev pub is_listed : List ℕ → List (List ℕ) → Bool
+is_listed r qs = listed qs r
+
+abbrev pub found : World → Id → Option Key
+found w id = if w.added id.0 == id.1 then w.key id.0 else None
+
+abbrev pub if_some : (KeyType → Bool) → Option Key → Bool
+if_some p None = false
+if_some p (Some k) = p k.keytype
+
+abbrev pub put : {A : Type 0} → (List ℕ → A) → List ℕ → A → List ℕ → A
+put f r a q = if bytes_eq r q then a else f q
+
+abbrev pub put_roll : (RollType → Option RollState) → RollType → Option RollState → RollType → Option RollState
+put_roll f r a q = if same_roll r q then a else f q
+
+-- a key after a start, by its parts
+abbrev pub started_key : RollType → ℕ → Bool → Bool → Key → Key
+started_key r now o i k = record k {
+  keytype = started r o i k.keytype;
+  timestamps = if i then with_stamps (stamped (column r).stamps (aged o k.keytype)) now k.timestamps else k.timestamps;
+}
+
+pub start-parts : (r : RollType) (now : ℕ) (o i : Bool) (k : Key) → after_start r now o i k ≡ started_key r now o i k
+start-parts r now true true k = refl
+start-parts r now true false k = refl
+start-parts r now false true k = refl
+start-parts r now false false k = refl
+
+abbrev pub start_key : RollType → ℕ → List (List ℕ) → List (List ℕ) → List ℕ → Key → Key
+start_key r now old new q k = started_key r now (is_listed q old) (is_listed q new) k
+
+abbrev pub report_key : RollType → Bool → ℕ → Key → Key
+report_key r second now k = after_report r (half second) now k
+
+abbrev pub wait1_key : RollType → ℕ → Key → Key
+wait1_key r now k = after_wait r First now k
+
+abbrev pub wait2_key : RollType → ℕ → Key → Key
+wait2_key r now k = after_wait r Second now k
+
+abbrev pub waiting : Bool → ℕ → RollState
+waiting false ttl = CacheExpire1 ttl
+waiting true ttl = CacheExpire2 ttl
+
+abbrev pub spreading : Bool → RollState
+spreading false = Propagation1
+spreading true = Propagation2
+
+abbrev pub rolled : World → (List ℕ → Key → Key) → RollType → Option RollState → World
+rolled w f r o = record w { key = λ q. option_map (f q) (w.key q); roll = put_roll w.roll r o }
+
+abbrev pub IsOver : RollType → Bool → World → ℕ → ℕ → Type 0
+IsOver r second w ttl now = (q : List ℕ) (k : Key) → w.key q ≡ Some k → checked r second k.keytype ≡ true →
+    (m : ℕ) × (stamp_of (read r second) k ≡ Some m) × (ttl * 1_000_000_000 ≤ now - m)
+
+abbrev pub HasSuitable : SideOf → RollType → World → List (List ℕ) → List (List ℕ) → Type 0
+HasSuitable sd r w old new = (q : List ℕ) × (k : Key) × (w.key q ≡ Some k)
+    × (((is_listed q new ≡ true) × (serves_new sd r k.keytype ≡ true)) ⊎ ((is_listed q old ≡ false) × (serves_kept sd r k.keytype ≡ true)))
+
+pub record CanStart (r : RollType) (w : World) (old new : List (List ℕ)) : Type 0 where
+  pub alone : (q : RollType) → tolerates r q ≡ false → w.roll q ≡ None
+  pub old_is : (q : List ℕ) → is_listed q old ≡ true → (k : Key) × (w.key q ≡ Some k) × (may_list r k.keytype ≡ true)
+  pub new_is : (q : List ℕ) → is_listed q new ≡ true → (k : Key) × (w.key q ≡ Some k) × (may_list r k.keytype ≡ true) × (is_blank k.keytype ≡ true) × (is_listed q old ≡ false)
+  pub suitable : (sd : SideOf) → affects sd r ≡ true → HasSuitable sd r w old new

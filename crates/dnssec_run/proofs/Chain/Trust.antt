@@ -1,0 +1,334 @@
+-- Each call of a run keeps the invariant of the chain, so each position of a plain run is safe.
+use Rattle.std.proofs.Common.{◌≡◌, ℕ, zero, suc, ◌≤◌, inl, inr, Bool, true, false, refl, sym, ◌∙◌, ap, subst, arith, List, [], length, Option, None, Some}
+use Rattle.std.specs.Prelude.{if◌then◌else◌, ◌==◌, is_some}
+use Rattle.std.specs.Option.{option_map}
+use Rattle.std.specs.Str.{bytes_eq}
+use Rattle.std.specs.FinMap.{get, get-empty}
+use Rattle.std.specs.Ordering.{nat_cmp}
+use Rattle.std.specs.Cmp.Lexicographic.{slice_cmp}
+use Rattle.std.proofs.lemmas.Bool.{true≢false}
+use Rattle.std.proofs.lemmas.Option.{same_Some, none-some}
+use Rattle.dnssec_keyset.specs.declared.roll.RollType.{RollType}
+use Rattle.dnssec_keyset.specs.declared.roll.RollType.TheVariants.{KskRoll, KskDoubleDsRoll, ZskRoll, ZskDoubleSignatureRoll, CskRoll, AlgorithmRoll}
+use Rattle.dnssec_keyset.specs.declared.roll.RollState.{RollState}
+use Rattle.dnssec_keyset.specs.declared.roll.RollState.TheVariants.{Propagation1, CacheExpire1, Propagation2, CacheExpire2, Done}
+use Rattle.dnssec_keyset.specs.declared.error.Error.{Error}
+use Rattle.dnssec_keyset.specs.declared.key.KeyType.{KeyType}
+use Rattle.dnssec_keyset.specs.KeySet.{KeySetParts, Rolls, MovesOn, phase_of, with_phase, no_rolls}
+use Rattle.dnssec_keyset.specs.RollTable.{First, Second}
+use Rattle.dnssec_keyset.specs.Setters.{Decoupled, Present, Signer, AtParent, Stale, VisibleAt, DsVisibleAt, RrsigVisibleAt, set_by, deletion_refusal}
+use Rattle.dnssec_keyset.specs.Step as keyset
+use Rattle.dnssec_run.specs.declared.call.Call.{Call}
+use Rattle.dnssec_run.specs.declared.call.Call.TheVariants as call
+use Rattle.dnssec_run.specs.declared.record.Entry.{Entry}
+use Rattle.dnssec_run.specs.declared.record.Reply.{Reply}
+use Rattle.dnssec_run.specs.declared.record.Reply.TheVariants as reply
+use Rattle.dnssec_run.specs.declared.record.Mark.{Mark}
+use Rattle.dnssec_run.specs.declared.record.Mark.TheVariants.{Other, Step, Report}
+use Rattle.dnssec_run.specs.Record as rec
+use Rattle.dnssec_run.specs.Safe.{position_at}
+use Rattle.dnssec_run.specs.Plain.{StartsAt, StaysSafe, start_of, is_plain_call}
+use Rattle.dnssec_run.proofs.Chain.Tables.{SideOf, Keys, Zone, is_blank, is_stale, Stamp}
+use Rattle.dnssec_run.proofs.Chain.Tale.{Tale, World, Key, world_at, put_roll, rolled, start_key, start-parts, report_key, wait1_key, wait2_key, is_listed, stamp_of}
+use Rattle.dnssec_run.proofs.Chain.Flags.{Quiet, fits}
+use Rattle.dnssec_run.proofs.Chain.Rolls.{stage_fits}
+use Rattle.dnssec_run.proofs.Chain.Facts.{stale-idle, blank-idle}
+use Rattle.dnssec_run.proofs.Chain.Places.{place_at, real, all_ok, same_start, none_at_start}
+use Rattle.dnssec_run.proofs.Chain.Invariant.{At}
+use Rattle.dnssec_run.proofs.Chain.Gentles.{kept_same, kept_added, kept_deleted, kept_changed, with_key, without_key, with_keys}
+use Rattle.dnssec_run.proofs.Chain.BothSides.{Inv, mapped, calm, report, done, start, wait1, wait2, safe_of}
+use Rattle.dnssec_run.proofs.Chain.Allowed.{can_start, waits_in_phase, clear_cause}
+
+-- ---- replies
+
+refused_same : (v : keyset.Verdict) (old new : KeySetParts) (c : keyset.Call) (cause : Error) → keyset.StepBy v old c (keyset.Refused cause) new → new ≡ old
+refused_same (keyset.Barred e) old new c cause h = h.1
+refused_same (keyset.Early left) old new c cause h = h.1
+refused_same keyset.Clear old new c cause (inr h) = h.2
+refused_same keyset.Clear old new c cause (inl h) = absurd (accepts c h.0)
+  where
+    accepts : (c : keyset.Call) → keyset.Refused cause ≡ keyset.accepted_reply c → ⊥
+    accepts (keyset.AddKey r k) e = cc
+    accepts (keyset.Set r s) e = cc
+    accepts (keyset.DeleteKey r) e = cc
+    accepts (keyset.StartRoll r o n t) e = cc
+    accepts (keyset.Report r h ttl t) e = cc
+    accepts (keyset.Wait r h t) e = cc
+    accepts (keyset.RollDone r) e = cc
+
+abbrev is_refused : keyset.Reply → Bool
+is_refused (keyset.Refused cause) = true
+is_refused _ = false
+
+accepted_changes : (v : keyset.Verdict) (old new : KeySetParts) (c : keyset.Call) (r : keyset.Reply) → is_refused r ≡ false → keyset.StepBy v old c r new → (v ≡ keyset.Clear) × keyset.Changes old c new
+accepted_changes (keyset.Barred e) old new c r a h = absurd (true≢false (sym (ap is_refused h.0) ∙ a))
+accepted_changes (keyset.Early left) old new c r a h = absurd (true≢false (sym (ap is_refused h.0.1) ∙ a))
+accepted_changes keyset.Clear old new c r a (inl h) = (refl, h.1)
+accepted_changes keyset.Clear old new c r a (inr h) = absurd (true≢false (sym (ap is_refused h.1) ∙ a))
+
+accepted_reply : (r : Reply) → rec.is_accepted r ≡ true → is_refused (rec.reply_of r) ≡ false
+accepted_reply reply.Done e = refl
+accepted_reply (reply.Actions actions) e = refl
+accepted_reply (reply.Refused cause) e = absurd (true≢false (sym e))
+
+-- ---- marks, moments and new keys, as the key set's calls tell them
+
+abbrev mark : keyset.Call → Mark
+mark (keyset.StartRoll r o n t) = Step r
+mark (keyset.Wait r First t) = Step r
+mark (keyset.Report r First ttl t) = Report r false ttl
+mark (keyset.Report r Second ttl t) = Report r true ttl
+mark _ = Other
+
+abbrev moment : keyset.Call → Option ℕ
+moment (keyset.Set r (Present value now)) = Some now
+moment (keyset.StartRoll r o n now) = Some now
+moment (keyset.Report r h ttl now) = Some now
+moment (keyset.Wait r h now) = Some now
+moment _ = None
+
+abbrev adds_blank : keyset.Call → Bool
+adds_blank (keyset.AddKey r k) = is_blank k.keytype
+adds_blank _ = true
+
+record Plainly (c : Call) : Type 0 where
+  mark_is : rec.mark_of c ≡ mark (rec.call_of c)
+  moment_is : rec.moment_of c ≡ moment (rec.call_of c)
+  blank : adds_blank (rec.call_of c) ≡ true
+
+plainly : (c : Call) → Plainly c
+plainly (call.AddKeyKsk a b c d e f) = record { mark_is = refl; moment_is = refl; blank = refl }
+plainly (call.AddKeyZsk a b c d e f) = record { mark_is = refl; moment_is = refl; blank = refl }
+plainly (call.AddKeyCsk a b c d e f) = record { mark_is = refl; moment_is = refl; blank = refl }
+plainly (call.AddPublicKey a b c d e) = record { mark_is = refl; moment_is = refl; blank = refl }
+plainly (call.SetDecoupled a b) = record { mark_is = refl; moment_is = refl; blank = refl }
+plainly (call.SetPresent a b c) = record { mark_is = refl; moment_is = refl; blank = refl }
+plainly (call.SetSigner a b) = record { mark_is = refl; moment_is = refl; blank = refl }
+plainly (call.SetAtParent a b) = record { mark_is = refl; moment_is = refl; blank = refl }
+plainly (call.SetStale a) = record { mark_is = refl; moment_is = refl; blank = refl }
+plainly (call.SetVisible a b) = record { mark_is = refl; moment_is = refl; blank = refl }
+plainly (call.SetDsVisible a b) = record { mark_is = refl; moment_is = refl; blank = refl }
+plainly (call.SetRrsigVisible a b) = record { mark_is = refl; moment_is = refl; blank = refl }
+plainly (call.DeleteKey a) = record { mark_is = refl; moment_is = refl; blank = refl }
+plainly (call.StartRoll a b c d) = record { mark_is = refl; moment_is = refl; blank = refl }
+plainly (call.Propagation1Complete a b c) = record { mark_is = refl; moment_is = refl; blank = refl }
+plainly (call.CacheExpired1 a b) = record { mark_is = refl; moment_is = refl; blank = refl }
+plainly (call.Propagation2Complete a b c) = record { mark_is = refl; moment_is = refl; blank = refl }
+plainly (call.CacheExpired2 a b) = record { mark_is = refl; moment_is = refl; blank = refl }
+plainly (call.RollDone a) = record { mark_is = refl; moment_is = refl; blank = refl }
+
+-- ---- worlds
+
+phase_with : (rolls : Rolls) (r : RollType) (o : Option RollState) (q : RollType) → phase_of (with_phase rolls r o) q ≡ put_roll (phase_of rolls) r o q
+phase_with rolls r o KskRoll = refl
+phase_with rolls r o KskDoubleDsRoll = refl
+phase_with rolls r o ZskRoll = refl
+phase_with rolls r o ZskDoubleSignatureRoll = refl
+phase_with rolls r o CskRoll = refl
+phase_with rolls r o AlgorithmRoll = refl
+
+map_by : (f g : Key → Key) → ((k : Key) → f k ≡ g k) → (o : Option Key) → option_map f o ≡ option_map g o
+map_by f g same None = refl
+map_by f g same (Some k) = ap Some (same k)
+
+map_id : (o : Option Key) → option_map (λ k. k) o ≡ o
+map_id None = refl
+map_id (Some k) = refl
+
+-- a world is what its parts are
+worlds : (w v : World) → ((q : List ℕ) → w.key q ≡ v.key q) → ((q : List ℕ) → w.added q ≡ v.added q) → ((q : RollType) → w.roll q ≡ v.roll q) → w ≡ v
+worlds w v keys added rolls = λ i. record { key = λ q. keys q i; added = λ q. added q i; roll = λ q. rolls q i }
+
+no_some : {A : Type 0} (o : Option A) → is_some o ≡ false → o ≡ None
+no_some None e = refl
+no_some (Some x) e = absurd (true≢false e)
+
+no_error : (b : Bool) (e : Error) (o : Option Error) → (if b then Some e else o) ≡ None → (b ≡ false) × (o ≡ None)
+no_error true e o h = absurd (none-some e (sym h))
+no_error false e o h = (refl, h)
+
+gone_key : (o : Option Key) → deletion_refusal o ≡ None → (k : Key) × (o ≡ Some k) × (is_stale k.keytype ≡ true)
+gone_key None e = absurd (none-some _ (sym e))
+gone_key (Some k) e = by (is_stale k.keytype) refl
+  where
+    by : (b : Bool) → is_stale k.keytype ≡ b → (j : Key) × (Some k ≡ Some j) × (is_stale j.keytype ≡ true)
+    by true t = (k, refl, t)
+    by false t = absurd (none-some _ (sym (sym (ap (λ b. if b then None else Some Error.KeyNotOld) t) ∙ e)))
+
+spreads_first : (o : Option RollState) → keyset.report_refusal First o ≡ None → o ≡ Some Propagation1
+spreads_first None e = absurd (none-some _ (sym e))
+spreads_first (Some Propagation1) e = refl
+spreads_first (Some (CacheExpire1 ttl)) e = absurd (none-some _ (sym e))
+spreads_first (Some Propagation2) e = absurd (none-some _ (sym e))
+spreads_first (Some (CacheExpire2 ttl)) e = absurd (none-some _ (sym e))
+spreads_first (Some Done) e = absurd (none-some _ (sym e))
+
+spreads_second : (o : Option RollState) → keyset.report_refusal Second o ≡ None → o ≡ Some Propagation2
+spreads_second None e = absurd (none-some _ (sym e))
+spreads_second (Some Propagation1) e = absurd (none-some _ (sym e))
+spreads_second (Some (CacheExpire1 ttl)) e = absurd (none-some _ (sym e))
+spreads_second (Some Propagation2) e = refl
+spreads_second (Some (CacheExpire2 ttl)) e = absurd (none-some _ (sym e))
+spreads_second (Some Done) e = absurd (none-some _ (sym e))
+
+finishes : (o : Option RollState) → keyset.end_refusal o ≡ None → o ≡ Some Done
+finishes None e = absurd (none-some _ (sym e))
+finishes (Some Propagation1) e = absurd (none-some _ (sym e))
+finishes (Some (CacheExpire1 ttl)) e = absurd (none-some _ (sym e))
+finishes (Some Propagation2) e = absurd (none-some _ (sym e))
+finishes (Some (CacheExpire2 ttl)) e = absurd (none-some _ (sym e))
+finishes (Some Done) e = refl
+
+decoupled : Bool → List ℕ → List ℕ → Key → Key
+decoupled value r q k = if bytes_eq r q then set_by (Decoupled value) k else k
+
+decoupled_kind : (b value : Bool) (k : Key) → (if b then set_by (Decoupled value) k else k).keytype ≡ k.keytype
+decoupled_kind true value k = refl
+decoupled_kind false value k = refl
+
+decoupled_stamp : (b value : Bool) (k : Key) (s : Stamp) → stamp_of s k ≡ stamp_of s (if b then set_by (Decoupled value) k else k)
+decoupled_stamp true value k s = refl
+decoupled_stamp false value k s = refl
+
+-- ---- one call
+
+module _ (tale : Tale) (n : ℕ) (here : suc n ≤ length tale.es) where
+  abbrev before : KeySetParts
+  before = (real tale n).set
+
+  abbrev after : KeySetParts
+  after = (real tale (suc n)).set
+
+  moved : (f g : List ℕ → Key → Key) (r : RollType) (o : Option RollState) → MovesOn before after r o f → ((q : List ℕ) (k : Key) → f q k ≡ g q k)
+      → ((q : List ℕ) → (world_at tale (suc n)).added q ≡ (world_at tale n).added q) → world_at tale (suc n) ≡ rolled (world_at tale n) g r o
+  moved f g r o h same added = worlds (world_at tale (suc n)) (rolled (world_at tale n) g r o)
+      (λ q. h.keys q ∙ map_by (f q) (g q) (same q) (get before.keys q)) added
+      (λ q. ap (λ rolls. phase_of rolls q) h.rolls ∙ phase_with before.rolls r o q)
+
+  accepted : (c : keyset.Call) → keyset.verdict before c ≡ keyset.Clear → keyset.Changes before c after → is_plain_call c ≡ true → adds_blank c ≡ true
+      → ((q : List ℕ) → (world_at tale (suc n)).added q ≡ rec.with_added (suc n) (rec.reference_added c) (world_at tale n).added q)
+      → (position_at tale.es (suc n)).mark ≡ mark c → (position_at tale.es (suc n)).moment ≡ moment c
+      → ((q : RollType) → StartsAt tale.calls tale.es n q → start_of c ≡ Some q) → ((q : RollType) → start_of c ≡ Some q → StartsAt tale.calls tale.es n q)
+      → Inv tale n → Inv tale (suc n)
+  accepted (keyset.AddKey r k) v h plain blank added m t only some inv =
+      calm tale n here (with_key (world_at tale n) r (suc n) k)
+      (worlds (world_at tale (suc n)) (with_key (world_at tale n) r (suc n) k) h.keys added (λ q. ap (λ rolls. phase_of rolls q) h.rolls))
+      (kept_added (world_at tale n) r (suc n) k (no_some _ (no_error _ _ _ (no_error _ _ _ (clear_cause _ v)).1).0) (blank-idle k.keytype blank)) m
+      (λ q s. none-some q (only q s)) inv
+  accepted (keyset.Set r (Decoupled value)) v h plain blank added m t only some inv =
+      calm tale n here (with_keys (world_at tale n) (λ q k. if bytes_eq r q then set_by (Decoupled value) k else k))
+      (worlds (world_at tale (suc n)) (with_keys (world_at tale n) (λ q k. if bytes_eq r q then set_by (Decoupled value) k else k)) h.keys added (λ q. ap (λ rolls. phase_of rolls q) h.rolls))
+      (kept_changed (world_at tale n) (λ q k. if bytes_eq r q then set_by (Decoupled value) k else k) (λ q. decoupled_kind (bytes_eq r q) value) (λ q. decoupled_stamp (bytes_eq r q) value)) m
+      (λ q s. none-some q (only q s)) inv
+  accepted (keyset.Set r (Present value now)) v h plain blank added m t only some inv = absurd (true≢false (sym plain))
+  accepted (keyset.Set r (Signer value)) v h plain blank added m t only some inv = absurd (true≢false (sym plain))
+  accepted (keyset.Set r (AtParent value)) v h plain blank added m t only some inv = absurd (true≢false (sym plain))
+  accepted (keyset.Set r Stale) v h plain blank added m t only some inv = absurd (true≢false (sym plain))
+  accepted (keyset.Set r (VisibleAt time)) v h plain blank added m t only some inv = absurd (true≢false (sym plain))
+  accepted (keyset.Set r (DsVisibleAt time)) v h plain blank added m t only some inv = absurd (true≢false (sym plain))
+  accepted (keyset.Set r (RrsigVisibleAt time)) v h plain blank added m t only some inv = absurd (true≢false (sym plain))
+  accepted (keyset.DeleteKey r) v h plain blank added m t only some inv =
+      let k = gone_key (get before.keys r) (clear_cause _ v) in
+      calm tale n here (without_key (world_at tale n) r)
+      (worlds (world_at tale (suc n)) (without_key (world_at tale n) r) h.keys added (λ q. ap (λ rolls. phase_of rolls q) h.rolls))
+      (kept_deleted (world_at tale n) r k.0 k.1 (stale-idle k.0.keytype k.2)) m (λ q s. none-some q (only q s)) inv
+  accepted (keyset.StartRoll r old new now) v h plain blank added m t only some inv =
+      start tale n here r now old new
+      (mapped tale n (start_key r now old new) r (Some Propagation1) (moved _ (start_key r now old new) r (Some Propagation1) h (λ q. start-parts r now (is_listed q old) (is_listed q new)) added))
+      (can_start (real tale n) r old new (clear_cause _ v)) m (some r refl) (λ q s. same_Some r q (only q s)) inv
+  accepted (keyset.Report r First ttl now) v h plain blank added m t only some inv =
+      report tale n here r false ttl now (mapped tale n (λ q. report_key r false now) r (Some (CacheExpire1 ttl)) (moved _ (λ q. report_key r false now) r (Some (CacheExpire1 ttl)) h (λ q k. refl) added))
+      (spreads_first _ (clear_cause _ v)) m t (λ q s. none-some q (only q s)) inv
+  accepted (keyset.Report r Second ttl now) v h plain blank added m t only some inv =
+      report tale n here r true ttl now (mapped tale n (λ q. report_key r true now) r (Some (CacheExpire2 ttl)) (moved _ (λ q. report_key r true now) r (Some (CacheExpire2 ttl)) h (λ q k. refl) added))
+      (spreads_second _ (clear_cause _ v)) m t (λ q s. none-some q (only q s)) inv
+  accepted (keyset.Wait r First now) v h plain blank added m t only some inv =
+      let w = waits_in_phase r false now (real tale n) v in
+      wait1 tale n here r w.0 now (mapped tale n (λ q. wait1_key r now) r (Some Propagation2) (moved _ (λ q. wait1_key r now) r (Some Propagation2) h (λ q k. refl) added))
+      w.1 w.2 m t (λ q s. none-some q (only q s)) inv
+  accepted (keyset.Wait r Second now) v h plain blank added m t only some inv =
+      let w = waits_in_phase r true now (real tale n) v in
+      wait2 tale n here r w.0 now (mapped tale n (λ q. wait2_key r now) r (Some Done) (moved _ (λ q. wait2_key r now) r (Some Done) h (λ q k. refl) added))
+      w.1 w.2 m t (λ q s. none-some q (only q s)) inv
+  accepted (keyset.RollDone r) v h plain blank added m t only some inv =
+      let keys = λ (q : List ℕ). h.keys q ∙ map_id (get before.keys q) in
+      done tale n here r keys (λ id. λ i. if added id.0 i == id.1 then keys id.0 i else None)
+      (λ q. ap (λ rolls. phase_of rolls q) h.rolls ∙ phase_with before.rolls r None q) (finishes _ (clear_cause _ v)) m (λ q s. none-some q (only q s)) inv
+
+  by_reply : (c : keyset.Call) (r : Reply) → keyset.Step before c (rec.reply_of r) after → is_plain_call c ≡ true → adds_blank c ≡ true
+      → ((q : List ℕ) → (world_at tale (suc n)).added q ≡ (if rec.is_accepted r then rec.with_added (suc n) (rec.reference_added c) (world_at tale n).added else (world_at tale n).added) q)
+      → (position_at tale.es (suc n)).mark ≡ (if rec.is_accepted r then mark c else Other) → (position_at tale.es (suc n)).moment ≡ moment c
+      → ((q : RollType) → StartsAt tale.calls tale.es n q → (rec.is_accepted r ≡ true) × (start_of c ≡ Some q)) → ((q : RollType) → rec.is_accepted r ≡ true → start_of c ≡ Some q → StartsAt tale.calls tale.es n q)
+      → Inv tale n → Inv tale (suc n)
+  by_reply c (reply.Refused cause) step plain blank added m t only some inv =
+      let same = refused_same (keyset.verdict before c) before after c cause step in
+      calm tale n here (world_at tale n)
+      (worlds (world_at tale (suc n)) (world_at tale n) (λ q. ap (λ s. get s.keys q) same) added (λ q. ap (λ s. phase_of s.rolls q) same))
+      (kept_same (world_at tale n)) m (λ q s. true≢false (sym (only q s).0)) inv
+  by_reply c reply.Done step plain blank added m t only some inv =
+      let h = accepted_changes (keyset.verdict before c) before after c keyset.Done refl step in
+      accepted c h.0 h.1 plain blank added m t (λ q s. (only q s).1) (λ q. some q refl) inv
+  by_reply c (reply.Actions actions) step plain blank added m t only some inv =
+      let h = accepted_changes (keyset.verdict before c) before after c (keyset.Actions actions.items) refl step in
+      accepted c h.0 h.1 plain blank added m t (λ q s. (only q s).1) (λ q. some q refl) inv
+
+  mark_after : (c : Call) (r : Reply) → rec.mark_after c r ≡ (if rec.is_accepted r then mark (rec.call_of c) else Other)
+  mark_after c reply.Done = (plainly c).mark_is
+  mark_after c (reply.Actions actions) = (plainly c).mark_is
+  mark_after c (reply.Refused cause) = refl
+
+  next : Inv tale n → Inv tale (suc n)
+  next inv =
+      let p = place_at tale n here in
+      let c = rec.call_of p.call in
+      by_reply c p.entry.reply p.ok.step p.plain (plainly p.call).blank (λ q. ap (λ f. f q) p.added_is)
+      (ap (λ q. q.mark) p.position_is ∙ p.ok.mark ∙ mark_after p.call p.entry.reply)
+      (ap (λ q. q.moment) p.position_is ∙ p.ok.moment ∙ (plainly p.call).moment_is)
+      (same_start tale n p)
+      (λ q a e. record { call = p.call; entry = p.entry; call_is = p.call_is; entry_is = p.entry_is; accepted = a; start = e }) inv
+
+-- ---- the whole run
+
+no_phases : (q : RollType) → phase_of no_rolls q ≡ None
+no_phases KskRoll = refl
+no_phases KskDoubleDsRoll = refl
+no_phases ZskRoll = refl
+no_phases ZskDoubleSignatureRoll = refl
+no_phases CskRoll = refl
+no_phases AlgorithmRoll = refl
+
+none_there : (b : Bool) (o : Option Key) (p : KeyType → Bool) → o ≡ None → all_ok p (if b then o else None) ≡ true
+none_there true o p e = ap (all_ok p) e
+none_there false o p e = refl
+
+first_at : (tale : Tale) (sd : SideOf) → At tale sd Quiet zero
+unfolding rec.world_at
+first_at tale sd = record {
+  own = refl;
+  rolls = λ q e. ap (stage_fits Quiet q) (no_phases q);
+  flags = λ id. none_there (0 == id.1) _ (fits sd Quiet) (get-empty (slice_cmp nat_cmp) id.0);
+  holds = λ kind q le un id e. absurd (none_at_start tale _ id e);
+  left = tt;
+}
+
+first : (tale : Tale) → Inv tale zero
+unfolding rec.world_at position_at
+first tale = record {
+  ks = Quiet;
+  zs = Quiet;
+  keys = first_at tale Keys;
+  zone = first_at tale Zone;
+  pairs = λ r q o p e f d. absurd (none-some o (sym (no_phases r) ∙ e));
+  phases = λ r p e. absurd (none-some p (sym (no_phases r) ∙ e));
+  life = inr ((λ q le. let e : zero ≡ q = omega arith in subst (λ q. (position_at tale.es q).ds ≡ []) e refl), inl (refl, λ m lt s. omega arith));
+}
+
+always : (tale : Tale) (n : ℕ) → n ≤ length tale.es → Inv tale n
+always tale zero le = first tale
+always tale (suc n) le = next tale n le (always tale n (omega arith))
+
+-- where the list is plain, every position of its record is safe
+pub chain-holds : (name : List ℕ) (calls : List Call) (entries : List Entry) → rec.IsRun name calls entries → StaysSafe calls entries
+chain-holds name calls entries run plain n le =
+    let tale : Tale = record { name = name; calls = calls; es = entries; run = run; plain = plain } in
+    safe_of tale n le (always tale n le)

@@ -1,0 +1,5 @@
+pub mod Positions
+pub mod Next
+pub mod Grow
+pub mod Laws
+pub mod Chain

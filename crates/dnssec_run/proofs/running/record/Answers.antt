@@ -1,0 +1,43 @@
+-- A recorded call is an allowed step, and the positions that are kept go along with it.
+use Rattle.std.proofs.Common.{◌≡◌, List, ℕ, sym, ap, subst, ◌∙◌, Bor}
+use Rattle.std.specs.Option.{option_map}
+use Rattle.std.specs.BTreeMap as tree
+use Rattle.dnssec_keyset.proofs.After.{step-after}
+use Rattle.dnssec_keyset.specs.Step as keyset
+use Rattle.dnssec_run.specs.Record.{call_of, reply_of, stepped, mark_after, reference_added}
+use Rattle.dnssec_run.specs.Recorder.{Agrees, noted}
+use Rattle.dnssec_run.proofs.Next.{agrees-accepted, agrees-refused, mark-accepted, mark-refused}
+use Rattle.dnssec_run.proofs.running.record.Goals as goal
+use Rattle.dnssec_run.proofs.running.record.Goals.{then-is_accepted+in_ok-note, else-is_accepted}
+
+pub returns-clause-next : goal.returns-clause-next
+returns-clause-next c w agrees =
+    let a = c.args in
+    let step = step-after a.keyset.now c.make-reply.new.set (call_of a.call) (reply_of c.make-reply.result) c.make-reply.ensures in
+    elim c.if-is_accepted.branch [
+      | then-is_accepted+in_ok-note b ↦
+          agrees-accepted a.at w a.keyset.now c.make-reply.new.set (tree.get_by_text a.added.now) (tree.get_by_text c.if-is_accepted.added) a.call c.make-reply.result
+          (sym c.is_accepted.ensures ∙ b.if-is_accepted.true) agrees step
+          (λ q. ap (λ m. tree.get_by_text m q) b.added-is ∙ b.in_ok-note.ensures.ok q
+          ∙ ap (λ put. noted a.at put (option_map (λ (r : Bor (List ℕ)). r.now) c.deleted-taken.result) (tree.get_by_text a.added.now) q) c.in_ok-put.ensures.ok
+          ∙ ap (λ taken. noted a.at (reference_added (call_of a.call)) taken (tree.get_by_text a.added.now) q) c.deleted-taken.ensures)
+      | else-is_accepted b ↦
+          subst (λ m. Agrees c.make-reply.new.set (tree.get_by_text m) (stepped a.at w a.call c.make-reply.result)) (sym b.added-is)
+          (agrees-refused a.at w a.keyset.now c.make-reply.new.set (tree.get_by_text a.added.now) a.call c.make-reply.result (sym c.is_accepted.ensures ∙ b.if-is_accepted.false) agrees step)
+    ]
+
+pub returns-clause-entry : goal.returns-clause-entry
+returns-clause-entry c w agrees =
+    let a = c.args in
+    let then : Agrees c.make-reply.new.set (tree.get_by_text c.if-is_accepted.added) (stepped a.at w a.call c.make-reply.result) = returns-clause-next c w agrees in
+    let mark : c.if-is_accepted.mark ≡ mark_after a.call c.make-reply.result = elim c.if-is_accepted.branch [
+      | then-is_accepted+in_ok-note b ↦ b.mark-is ∙ c.mark-mark.ensures ∙ mark-accepted a.call c.make-reply.result (sym c.is_accepted.ensures ∙ b.if-is_accepted.true)
+      | else-is_accepted b ↦ b.mark-is ∙ mark-refused a.call c.make-reply.result (sym c.is_accepted.ensures ∙ b.if-is_accepted.false)
+    ] in
+    record {
+      step = subst (λ s. keyset.Step s (call_of a.call) (reply_of c.make-reply.result) (stepped a.at w a.call c.make-reply.result).set) agrees.same
+          (subst (keyset.Step a.keyset.now (call_of a.call) (reply_of c.make-reply.result)) then.same c.make-reply.ensures);
+      mark = mark;
+      moment = c.moment-moment.ensures;
+      published = c.in_ok-published.ensures.ok (stepped a.at w a.call c.make-reply.result) then;
+    }

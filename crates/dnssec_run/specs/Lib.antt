@@ -1,0 +1,5 @@
+pub mod Plain
+pub mod Published
+pub mod Record
+pub mod Recorder
+pub mod Safe

@@ -1,0 +1,46 @@
+-- What the recorder of a run keeps beside the key set. No public contract cites these words.
+use Rattle.std.specs.Prelude.{◌≡◌, ℕ, Bool, false, List, map, filter, Option, None, Some}
+use Rattle.std.specs.Prelude.{if◌then◌else◌, string_bytes}
+use Rattle.std.specs.Option.{option_map, option_map_or}
+use Rattle.std.specs.Str.{bytes_eq}
+use Rattle.std.specs.FinMap.{get}
+use Rattle.std.specs.declared.string.String.{String}
+use Rattle.dnssec_keyset.specs.declared.key.KeyType.{KeyType}
+use Rattle.dnssec_keyset.specs.Key.{KeyParts}
+use Rattle.dnssec_keyset.specs.KeySet.{KeySetParts}
+use Rattle.dnssec_keyset.specs.Step as keyset
+use Rattle.dnssec_run.specs.declared.running.Shown.{Shown}
+use Rattle.dnssec_run.specs.declared.running.Shown.TheVariants.{Ds, Dnskey, DnskeySigners}
+use Rattle.dnssec_run.specs.declared.running.Shown.TheVariants.{ZoneSigners}
+use Rattle.dnssec_run.specs.Published.{Id, World, in_ds, in_dnskey, signs_dnskey, signs_zone}
+
+-- the keys that a set shows
+abbrev pub shows : Shown → KeyType → Bool
+shows Ds = in_ds
+shows Dnskey = in_dnskey
+shows DnskeySigners = signs_dnskey
+shows ZoneSigners = signs_zone
+
+-- the reference of the key that a call deletes, if any
+abbrev pub reference_deleted : keyset.Call → Option (List ℕ)
+reference_deleted (keyset.DeleteKey reference) = Some reference
+reference_deleted _ = None
+
+-- the positions of the keys that are there, after one is put or taken
+abbrev pub noted : ℕ → Option (List ℕ) → Option (List ℕ) → (List ℕ → Option ℕ) → List ℕ → Option ℕ
+noted n (Some put) taken at q = if bytes_eq put q then Some n else at q
+noted n None (Some taken) at q = if bytes_eq taken q then None else at q
+noted n None None at q = at q
+
+-- the positions are those of the keys that are there, and of no other
+pub record Agrees (set : KeySetParts) (at : List ℕ → Option ℕ) (w : World) : Type 0 where
+  pub same : set ≡ w.set
+  pub positions : (q : List ℕ) → at q ≡ option_map (λ k. w.added q) (get w.set.keys q)
+
+-- the entries whose key passes, as keys of a record
+abbrev pub passing : {Y : Type 0} → (KeyType → Bool) → (List ℕ → Option KeyParts)
+    → List (String Y × ℕ) → List Id
+passing {Y} p key es =
+    map (λ (e : String Y × ℕ). (string_bytes e.0, e.1))
+    (filter (λ (e : String Y × ℕ). option_map_or (λ (k : KeyParts). p k.keytype)
+    (key (string_bytes e.0)) false) es)

@@ -1,0 +1,254 @@
+//! Calls as values.
+ghost use Rattle.std.specs.Prelude.{◌≡◌};
+ghost use Rattle.std.specs.Option.{option_map};
+ghost use Rattle.dnssec_keyset.specs.Step.{Step, reply_done, reply_list};
+ghost use Rattle.dnssec_run.specs.Recorder.{reference_deleted};
+ghost use Rattle.dnssec_run.specs.Record.{call_of, mark_of, moment_of, reference_added};
+ghost use Rattle.dnssec_run.specs.Record.{reply_of};
+
+use crate::record::{Mark, Reply};
+use dnssec_base::SecurityAlgorithm;
+use dnssec_keyset::{Action, Available, Error, KeySet, RollType, UnixTime};
+
+/// A call that can change a key set, with its arguments.
+///
+/// Each is named after the call of `KeySet` that it makes.
+#[derive(Drop)]
+pub enum Call<'a> {
+    AddKeyKsk {
+        pubref: String,
+        privref: Option<String>,
+        algorithm: SecurityAlgorithm,
+        key_tag: u16,
+        creation_ts: UnixTime,
+        available: Available,
+    },
+    AddKeyZsk {
+        pubref: String,
+        privref: Option<String>,
+        algorithm: SecurityAlgorithm,
+        key_tag: u16,
+        creation_ts: UnixTime,
+        available: Available,
+    },
+    AddKeyCsk {
+        pubref: String,
+        privref: Option<String>,
+        algorithm: SecurityAlgorithm,
+        key_tag: u16,
+        creation_ts: UnixTime,
+        available: Available,
+    },
+    AddPublicKey {
+        pubref: String,
+        algorithm: SecurityAlgorithm,
+        key_tag: u16,
+        creation_ts: UnixTime,
+        available: bool,
+    },
+    SetDecoupled {
+        pubref: &'a str,
+        value: bool,
+    },
+    SetPresent {
+        pubref: &'a str,
+        value: bool,
+        now: UnixTime,
+    },
+    SetSigner {
+        pubref: &'a str,
+        value: bool,
+    },
+    SetAtParent {
+        pubref: &'a str,
+        value: bool,
+    },
+    SetStale {
+        pubref: &'a str,
+    },
+    SetVisible {
+        pubref: &'a str,
+        time: UnixTime,
+    },
+    SetDsVisible {
+        pubref: &'a str,
+        time: UnixTime,
+    },
+    SetRrsigVisible {
+        pubref: &'a str,
+        time: UnixTime,
+    },
+    DeleteKey {
+        pubref: &'a str,
+    },
+    StartRoll {
+        rolltype: RollType,
+        old: &'a [&'a str],
+        new: &'a [&'a str],
+        now: UnixTime,
+    },
+    Propagation1Complete {
+        rolltype: RollType,
+        ttl: u32,
+        now: UnixTime,
+    },
+    CacheExpired1 {
+        rolltype: RollType,
+        now: UnixTime,
+    },
+    Propagation2Complete {
+        rolltype: RollType,
+        ttl: u32,
+        now: UnixTime,
+    },
+    CacheExpired2 {
+        rolltype: RollType,
+        now: UnixTime,
+    },
+    RollDone {
+        rolltype: RollType,
+    },
+}
+
+impl<'a> Call<'a> {
+    /// The moment that the call is given as `now`, if any.
+    pub(crate) fn moment(&self) -> Option<UnixTime>
+        ensures { result ≡ moment_of self.now }
+    {
+        match self {
+            Call::SetPresent { now, .. }
+            | Call::StartRoll { now, .. }
+            | Call::Propagation1Complete { now, .. }
+            | Call::CacheExpired1 { now, .. }
+            | Call::Propagation2Complete { now, .. }
+            | Call::CacheExpired2 { now, .. } => Some(*now),
+            _ => None,
+        }
+    }
+
+    /// What the call means for the caches, once it is accepted.
+    pub(crate) fn mark(&self) -> Mark
+        ensures { result ≡ mark_of self.now }
+    {
+        match self {
+            Call::StartRoll { rolltype, .. } | Call::CacheExpired1 { rolltype, .. } => {
+                Mark::Step(*rolltype)
+            }
+            Call::Propagation1Complete { rolltype, ttl, .. } => Mark::Report {
+                roll: *rolltype,
+                second: false,
+                ttl: *ttl,
+            },
+            Call::Propagation2Complete { rolltype, ttl, .. } => Mark::Report {
+                roll: *rolltype,
+                second: true,
+                ttl: *ttl,
+            },
+            _ => Mark::Other,
+        }
+    }
+
+    /// The reference of the key that the call adds, if any.
+    pub(crate) fn added(&self) -> Option<&str>
+        ensures { option_map (λ r. r.now) result ≡ reference_added (call_of self.now) }
+    {
+        match self {
+            Call::AddKeyKsk { pubref, .. }
+            | Call::AddKeyZsk { pubref, .. }
+            | Call::AddKeyCsk { pubref, .. }
+            | Call::AddPublicKey { pubref, .. } => Some(pubref.as_str()),
+            _ => None,
+        }
+    }
+
+    /// The reference of the key that the call deletes, if any.
+    pub(crate) fn deleted(&self) -> Option<&'a str>
+        ensures { option_map (λ r. r.now) result ≡ reference_deleted (call_of self.now) }
+    {
+        match self {
+            Call::DeleteKey { pubref } => Some(*pubref),
+            _ => None,
+        }
+    }
+
+    /// Makes the call.
+    pub(crate) fn make(self, set: &mut KeySet) -> Reply
+        ensures { Step set.old (call_of self.entry) (reply_of result) set.new }
+    {
+        match self {
+            Call::AddKeyKsk {
+                pubref,
+                privref,
+                algorithm,
+                key_tag,
+                creation_ts,
+                available,
+            } => done(set.add_key_ksk(pubref, privref, algorithm, key_tag, creation_ts, available)),
+            Call::AddKeyZsk {
+                pubref,
+                privref,
+                algorithm,
+                key_tag,
+                creation_ts,
+                available,
+            } => done(set.add_key_zsk(pubref, privref, algorithm, key_tag, creation_ts, available)),
+            Call::AddKeyCsk {
+                pubref,
+                privref,
+                algorithm,
+                key_tag,
+                creation_ts,
+                available,
+            } => done(set.add_key_csk(pubref, privref, algorithm, key_tag, creation_ts, available)),
+            Call::AddPublicKey {
+                pubref,
+                algorithm,
+                key_tag,
+                creation_ts,
+                available,
+            } => done(set.add_public_key(pubref, algorithm, key_tag, creation_ts, available)),
+            Call::SetDecoupled { pubref, value } => done(set.set_decoupled(pubref, value)),
+            Call::SetPresent { pubref, value, now } => done(set.set_present(pubref, value, &now)),
+            Call::SetSigner { pubref, value } => done(set.set_signer(pubref, value)),
+            Call::SetAtParent { pubref, value } => done(set.set_at_parent(pubref, value)),
+            Call::SetStale { pubref } => done(set.set_stale(pubref)),
+            Call::SetVisible { pubref, time } => done(set.set_visible(pubref, time)),
+            Call::SetDsVisible { pubref, time } => done(set.set_ds_visible(pubref, time)),
+            Call::SetRrsigVisible { pubref, time } => done(set.set_rrsig_visible(pubref, time)),
+            Call::DeleteKey { pubref } => done(set.delete_key(pubref)),
+            Call::StartRoll {
+                rolltype,
+                old,
+                new,
+                now,
+            } => listed(set.start_roll(rolltype, old, new, &now)),
+            Call::Propagation1Complete { rolltype, ttl, now } => {
+                listed(set.propagation1_complete(rolltype, ttl, &now))
+            }
+            Call::CacheExpired1 { rolltype, now } => listed(set.cache_expired1(rolltype, &now)),
+            Call::Propagation2Complete { rolltype, ttl, now } => {
+                listed(set.propagation2_complete(rolltype, ttl, &now))
+            }
+            Call::CacheExpired2 { rolltype, now } => listed(set.cache_expired2(rolltype, &now)),
+            Call::RollDone { rolltype } => listed(set.roll_done(rolltype)),
+        }
+    }
+}
+
+fn done(answer: Result<(), Error>) -> Reply
+    ensures { reply_of result ≡ reply_done answer }
+{
+    match answer {
+        Ok(()) => Reply::Done,
+        Err(cause) => Reply::Refused(cause),
+    }
+}
+
+fn listed(answer: Result<Vec<Action>, Error>) -> Reply
+    ensures { reply_of result ≡ reply_list answer }
+{
+    match answer {
+        Ok(actions) => Reply::Actions(actions),
+        Err(cause) => Reply::Refused(cause),
+    }
+}

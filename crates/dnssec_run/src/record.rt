@@ -1,0 +1,86 @@
+//! What a run leaves: its entries, with what was published at each position.
+ghost use Rattle.std.specs.Prelude.{◌≡◌};
+ghost use Rattle.dnssec_run.specs.Record.{is_accepted};
+
+use dnssec_keyset::{Action, Error, KeySet, RollType, UnixTime};
+
+/// What a call answered.
+#[derive(Debug, Drop, PartialEq)]
+pub enum Reply {
+    /// An add, a setter or a deletion was accepted.
+    Done,
+    /// A call on a roll was accepted, and these actions are due.
+    Actions(Vec<Action>),
+    /// The call was refused, and changed nothing.
+    Refused(Error),
+}
+
+impl Reply {
+    pub(crate) fn is_accepted(&self) -> bool
+        ensures { result ≡ is_accepted self.now }
+    {
+        match self {
+            Reply::Done | Reply::Actions(_) => true,
+            Reply::Refused(_) => false,
+        }
+    }
+}
+
+/// A key of a record: a reference, and the position of the call that added it. A reference that
+/// is given again after a deletion is another key.
+#[derive(Debug, Drop, PartialEq)]
+pub struct PublishedKey {
+    pub reference: String,
+    /// The position of its add, counted from 1.
+    pub added: usize,
+}
+
+/// What is published at a position. Each list is sorted by its references' bytes, and has no key
+/// twice.
+#[derive(Debug, Drop, PartialEq)]
+pub struct Published {
+    /// The keys that have to have a DS record at the parent.
+    pub ds: Vec<PublishedKey>,
+    /// The keys of the DNSKEY set.
+    pub dnskey: Vec<PublishedKey>,
+    /// The keys that sign the DNSKEY set.
+    pub dnskey_signers: Vec<PublishedKey>,
+    /// The keys that sign the zone.
+    pub zone_signers: Vec<PublishedKey>,
+}
+
+/// What an accepted call means for the caches that hold what was published before.
+#[derive(Clone, Copy, Debug, PartialEq)]
+pub enum Mark {
+    /// Any other call, and each that is refused. It may change what is published, as a second wait
+    /// or a setter does.
+    Other,
+    /// A start or a first wait of the roll: what its next report counts from.
+    Step(RollType),
+    /// A report of the roll, with the TTL in seconds that it was given. Where it is true, no cache
+    /// holds older data for longer than that.
+    Report {
+        roll: RollType,
+        /// Whether it is the second report of the roll.
+        second: bool,
+        ttl: u32,
+    },
+}
+
+/// One position of a record: a call's reply, and what was published after it.
+#[derive(Debug, Drop, PartialEq)]
+pub struct Entry {
+    pub reply: Reply,
+    /// The moment that the call was given as `now`, whether it was accepted or refused. When a key
+    /// was made, or is stamped by hand as seen, is no such moment.
+    pub moment: Option<UnixTime>,
+    pub mark: Mark,
+    pub published: Published,
+}
+
+/// A key set after its calls, with one entry for each: `entries[i]` is that of position `i + 1`.
+#[derive(Drop)]
+pub struct Run {
+    pub keyset: KeySet,
+    pub entries: Vec<Entry>,
+}

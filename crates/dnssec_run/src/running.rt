@@ -1,0 +1,228 @@
+//! Runs of lists of calls, with their records.
+ghost use Rattle.std.specs.Prelude.{◌≡◌, ℕ, List, map, vec_len, IfOk, IfErr, OnOk};
+ghost use Rattle.std.specs.BTreeMap as tree;
+ghost use Rattle.std.specs.HashMap as hash;
+ghost use Rattle.std.specs.String.{string_cmp};
+ghost use Rattle.std.specs.Option.{option_map, option_map_or};
+ghost use Rattle.std.specs.Prelude.{string_bytes, false};
+ghost use Rattle.dnssec_keyset.specs.declared.error.Error.TheVariants.{OutOfMemory};
+ghost use Rattle.dnssec_run.specs.Plain.{StaysSafe};
+ghost use Rattle.dnssec_run.specs.Published.{IsPublished, World, id_of};
+ghost use Rattle.dnssec_run.specs.Record.{IsEntry, IsRun, KeepsSidesApart};
+ghost use Rattle.dnssec_run.specs.Record.{NeighboursMayBeExchanged, StaysSound, call_of};
+ghost use Rattle.dnssec_run.specs.Record.{reference_added, stepped, world_at};
+ghost use Rattle.dnssec_run.specs.Recorder.{Agrees, noted, passing, shows};
+
+use crate::call::Call;
+use crate::record::{Entry, Mark, Published, PublishedKey, Reply, Run};
+use dnssec_base::Name;
+use dnssec_keyset::{Error, Key, KeySet, KeyType};
+use std::alloc::Global;
+use std::collections::{BTreeMap, HashMap};
+
+/// The sets of an entry.
+#[derive(Clone, Copy, Debug, PartialEq, Eq)]
+pub(crate) enum Shown {
+    Ds,
+    Dnskey,
+    DnskeySigners,
+    ZoneSigners,
+}
+
+impl Shown {
+    /// Whether the set shows a key of this kind, in its state.
+    fn shows(self, keytype: KeyType) -> bool
+        ensures { result ≡ shows self keytype }
+    {
+        match (self, keytype) {
+            (Shown::Ds, KeyType::Ksk(state) | KeyType::Csk(state, _)) => state.at_parent(),
+            (
+                Shown::Dnskey,
+                KeyType::Ksk(state)
+                | KeyType::Zsk(state)
+                | KeyType::Csk(state, _)
+                | KeyType::Include(state),
+            ) => state.present(),
+            (Shown::DnskeySigners, KeyType::Ksk(state) | KeyType::Csk(state, _)) => state.signer(),
+            (Shown::ZoneSigners, KeyType::Zsk(state) | KeyType::Csk(_, state)) => state.signer(),
+            _ => false,
+        }
+    }
+}
+
+/// Notes the position of a key that was added, or that a key is gone.
+#[tactic(auto, using(std::proofs::lemmas::Map::Text::text_keys))]
+fn note(
+    added: &mut BTreeMap<String, usize>,
+    put: Option<String>,
+    taken: Option<&str>,
+    at: usize,
+) -> Result<(), Error>
+    ensures ok { OnOk result ((q : List ℕ) → tree.get_by_text added.new q
+        ≡ noted at (option_map string_bytes put) (option_map (λ r. r.now) taken.entry)
+        (tree.get_by_text added.old) q) }
+    ensures err { IfErr result (λ e. e ≡ OutOfMemory) }
+{
+    match (put, taken) {
+        (Some(reference), _) => match added.insert(reference, at) {
+            Ok(_) => Ok(()),
+            Err(_) => Err(Error::OutOfMemory),
+        },
+        (None, Some(reference)) => {
+            added.remove(reference);
+            Ok(())
+        }
+        (None, None) => Ok(()),
+    }
+}
+
+fn is_shown(keys: &HashMap<String, Key>, reference: &str, shown: Shown) -> bool
+    ensures { result ≡ option_map_or (λ k. shows shown k.keytype)
+        (hash.get_by_text keys.now reference.now) false }
+{
+    match keys.get(reference) {
+        None => false,
+        Some(key) => shown.shows(key.keytype()),
+    }
+}
+
+fn published_key(reference: &String, added: usize) -> Result<PublishedKey, Error>
+    ensures ok { IfOk result (λ k. id_of k ≡ (string_bytes reference.now, added)) }
+    ensures err { IfErr result (λ e. e ≡ OutOfMemory) }
+{
+    match reference.clone() {
+        Ok(reference) => Ok(PublishedKey { reference, added }),
+        Err(_) => Err(Error::OutOfMemory),
+    }
+}
+
+/// The keys that a set shows, in the order of their references.
+fn list(
+    alloc: Global,
+    keys: &HashMap<String, Key>,
+    added: &BTreeMap<String, usize>,
+    shown: Shown,
+) -> Result<Vec<PublishedKey>, Error>
+    ensures ok { IfOk result (λ list.
+        map id_of list.items
+        ≡ passing (shows shown) (hash.get_by_text keys.now) added.now.entries) }
+    ensures ordered { OnOk result (tree.IsOrdered string_cmp added.now) }
+    ensures err { IfErr result (λ e. e ≡ OutOfMemory) }
+{
+    let mut found = Vec::new(alloc);
+    for (reference, position) in added.iter() {
+        if is_shown(keys, reference.as_str(), shown) {
+            let key = published_key(reference, *position)?;
+            if found.push(key).is_err() {
+                return Err(Error::OutOfMemory);
+            }
+        }
+    }
+    Ok(found)
+}
+
+/// What is published of a key set, with the positions of its keys.
+fn published(
+    alloc: Global,
+    keyset: &KeySet,
+    added: &BTreeMap<String, usize>,
+) -> Result<Published, Error>
+    ensures ok { IfOk result (λ sets. (w : World) →
+        Agrees keyset.now (tree.get_by_text added.now) w → IsPublished sets w) }
+    ensures err { IfErr result (λ e. e ≡ OutOfMemory) }
+{
+    let keys = keyset.keys();
+    Ok(Published {
+        ds: list(alloc, keys, added, Shown::Ds)?,
+        dnskey: list(alloc, keys, added, Shown::Dnskey)?,
+        dnskey_signers: list(alloc, keys, added, Shown::DnskeySigners)?,
+        zone_signers: list(alloc, keys, added, Shown::ZoneSigners)?,
+    })
+}
+
+/// A copy of the reference of the key that a call adds, if any.
+fn clone_added(alloc: Global, call: &Call<'_>) -> Result<Option<String>, Error>
+    ensures ok { IfOk result (λ put. option_map string_bytes put ≡ reference_added
+        (call_of call.now)) }
+    ensures err { IfErr result (λ e. e ≡ OutOfMemory) }
+{
+    match call.added() {
+        None => Ok(None),
+        Some(reference) => match String::from_str(alloc, reference) {
+            Ok(reference) => Ok(Some(reference)),
+            Err(_) => Err(Error::OutOfMemory),
+        },
+    }
+}
+
+/// Makes the call that stands at a position, and records it.
+fn record(
+    alloc: Global,
+    keyset: &mut KeySet,
+    added: &mut BTreeMap<String, usize>,
+    call: Call<'_>,
+    at: usize,
+) -> Result<Entry, Error>
+    ensures entry { IfOk result (λ entry. (w : World) → Agrees keyset.old
+        (tree.get_by_text added.old) w →
+        IsEntry w (stepped at w call.entry entry.reply) call.entry entry) }
+    ensures next { IfOk result (λ entry. (w : World) → Agrees keyset.old
+        (tree.get_by_text added.old) w →
+        Agrees keyset.new (tree.get_by_text added.new) (stepped at w call.entry entry.reply)) }
+    ensures err { IfErr result (λ e. e ≡ OutOfMemory) }
+{
+    let moment = call.moment();
+    let mark = call.mark();
+    let put = clone_added(alloc, &call)?;
+    let taken = call.deleted();
+    let reply = call.make(keyset);
+    let mark = if reply.is_accepted() {
+        note(added, put, taken, at)?;
+        mark
+    } else {
+        Mark::Other
+    };
+    let published = published(alloc, keyset, added)?;
+    Ok(Entry {
+        reply,
+        moment,
+        mark,
+        published,
+    })
+}
+
+/// Makes the calls in turn on a new key set for the zone of this name, and records each.
+///
+/// The key set and the record take their memory from `alloc`. A call that is refused, also for want
+/// of memory, is recorded, and the run goes on.
+///
+/// Where the list sets no flag and no time by hand, and an algorithm roll comes before the first
+/// roll of KSKs or CSKs, every position of the record is safe: of whatever DS set, DNSKEY set and
+/// zone signers no report has retired, there is no DS, or a DS key signs that DNSKEY set, and a key
+/// of it signs the zone (RFC 4035, section 5).
+///
+/// # Errors
+///
+/// `OutOfMemory` alone, where the record can't be stored. Nothing is then handed out.
+pub fn run<'a>(alloc: Global, name: Name<Vec<u8>>, calls: Vec<Call<'a>>) -> Result<Run, Error>
+    ensures run { IfOk result (λ run. IsRun name calls.entry.items run.entries.items) }
+    ensures keyset { IfOk result (λ run. run.keyset
+        ≡ (world_at name calls.entry.items run.entries.items (vec_len run.entries)).set) }
+    ensures sound { IfOk result (λ run. StaysSound name calls.entry.items run.entries.items) }
+    ensures sides { IfOk result (λ run. KeepsSidesApart name calls.entry.items run.entries.items) }
+    ensures exchange { IfOk result (λ run. NeighboursMayBeExchanged name calls.entry.items
+        run.entries.items) }
+    ensures chain { IfOk result (λ run. StaysSafe calls.entry.items run.entries.items) }
+    ensures err { IfErr result (λ e. e ≡ OutOfMemory) }
+{
+    let Ok(mut entries) = Vec::with_capacity(alloc, calls.len()) else {
+        return Err(Error::OutOfMemory);
+    };
+    let mut keyset = KeySet::new(alloc, name);
+    let mut added = BTreeMap::new(alloc);
+    for call in calls {
+        let at = entries.len() + 1;
+        entries.push_reserved(record(alloc, &mut keyset, &mut added, call, at)?);
+    }
+    Ok(Run { keyset, entries })
+}
