@@ -1,5 +1,5 @@
 //! Recorded runs of a key set: lists of calls, what each answered and what was then published;
-//! and scripts, their text form.
+//! the verdict on a record; and scripts, their text form.
 #![tactic(auto)]
 
 mod answers;
@@ -10,5 +10,8 @@ mod script;
 mod statement;
 
 pub use device::{DeviceFault, Sink, Source, Std};
-pub use dnssec_run::{Call, Entry, Mark, Published, PublishedKey, Reply, Run, run};
+pub use dnssec_run::{
+    Broken, Call, Entry, Judge, Mark, Published, PublishedKey, Reply, Run, audit, audit_window,
+    plain_runs_pass, records_have_one_verdict, run, runs_stay_safe,
+};
 pub use script::{ScriptFault, run_script};

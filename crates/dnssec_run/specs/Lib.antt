@@ -1,5 +1,11 @@
+pub mod Chained
+pub mod Floor
+pub mod Judge
 pub mod Plain
 pub mod Published
 pub mod Record
 pub mod Recorder
 pub mod Safe
+pub mod Search
+pub mod Verdict
+pub mod Window

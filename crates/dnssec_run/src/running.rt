@@ -86,7 +86,7 @@ fn is_shown(keys: &HashMap<String, Key>, reference: &str, shown: Shown) -> bool
     }
 }
 
-fn published_key(reference: &String, added: usize) -> Result<PublishedKey, Error>
+pub(crate) fn published_key(reference: &String, added: usize) -> Result<PublishedKey, Error>
     ensures ok { IfOk result (λ k. id_of k ≡ (string_bytes reference.now, added)) }
     ensures err { IfErr result (λ e. e ≡ OutOfMemory) }
 {
