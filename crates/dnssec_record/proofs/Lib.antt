@@ -6,3 +6,4 @@ pub mod Texts
 pub mod Reading
 pub mod Judging
 pub mod Answering
+pub mod Ending

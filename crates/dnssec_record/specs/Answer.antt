@@ -1,27 +1,52 @@
 -- What a script is answered.
-use Rattle.std.specs.Prelude.{◌≡◌, ◌⊎◌, ℕ, List, ◌++◌, Option, IfSome}
+use Rattle.std.specs.Prelude.{◌≡◌, ◌⊎◌, ℕ, List, ◌++◌, codes, length, Option, IfSome}
 use Rattle.std.specs.Io.KnownBytes.{Appends, Keeps}
-use Rattle.dnssec_record.specs.Output.{output}
-use Rattle.dnssec_run.specs.Record.{IsRun}
-use Rattle.dnssec_record.specs.Script.{IsScript, IsFirstMalformed}
+use Rattle.dnssec_keyset.specs.KeySet.{KeySetParts}
 use Rattle.dnssec_run.specs.declared.call.Call.{Call}
 use Rattle.dnssec_run.specs.declared.record.Entry.{Entry}
+use Rattle.dnssec_run.specs.declared.verdict.Broken.{Broken}
+use Rattle.dnssec_run.specs.Plain.{IsPlain, StaysSafe}
+use Rattle.dnssec_run.specs.Record.{IsRun, world_at}
+use Rattle.dnssec_run.specs.Verdict.{IsVerdict}
+use Rattle.dnssec_record.specs.Output.{output}
+use Rattle.dnssec_record.specs.Script.{IsScript, IsFirstMalformed}
 use Rattle.dnssec_record.specs.declared.script.ScriptFault.{ScriptFault}
 use Rattle.dnssec_record.specs.declared.script.ScriptFault.TheVariants.{Malformed, Device}
 use Rattle.dnssec_record.specs.declared.script.ScriptFault.TheVariants.{OutOfMemory}
 
--- the text is the output of a run of the calls of this script
+-- a run of the calls of this script leaves this key set and this record
+pub record IsRunOf (script : List ℕ) (set : KeySetParts) (entries : List Entry) : Type 0 where
+  pub name : List ℕ
+  pub calls : List Call
+  pub is_script : IsScript script name calls
+  pub is_run : IsRun name calls entries
+  pub is_set : set ≡ (world_at name calls entries (length entries)).set
+
+-- the text is the output of a run of the calls of this script, with the verdict on its record
 pub record Answers (script text : List ℕ) : Type 0 where
   pub name : List ℕ
   pub calls : List Call
   pub entries : List Entry
+  pub verdict : Option Broken
   pub is_script : IsScript script name calls
   pub is_run : IsRun name calls entries
-  pub is_output : text ≡ output entries
+  pub is_verdict : IsVerdict entries verdict
+  pub is_output : text ≡ output entries verdict
 
 -- a device took, after what it had taken before, a text that answers the script
 abbrev pub TakesAnswer : List ℕ → Option (List ℕ) → Option (List ℕ) → Type 0
 TakesAnswer script old new = (text : List ℕ) × Answers script text × Appends old new text
+
+-- of whatever run a text is the output that a device took: if its list is plain, it stays safe
+abbrev pub IsSafeAnswer : List ℕ → Option (List ℕ) → Option (List ℕ) → Type 0
+IsSafeAnswer script old new =
+    (text : List ℕ) (a : Answers script text) → Appends old new text → StaysSafe a.calls a.entries
+
+-- and if its list is plain, the last line that was taken says so
+abbrev pub EndsSafe : List ℕ → Option (List ℕ) → Option (List ℕ) → Type 0
+EndsSafe script old new =
+    (text : List ℕ) (a : Answers script text) → Appends old new text →
+    IsPlain a.calls a.entries → (front : List ℕ) × (text ≡ front ++ codes "\nchain safe\n")
 
 -- a device took a beginning of such a text
 abbrev pub TakesBeginning : List ℕ → Option (List ℕ) → Option (List ℕ) → Type 0

@@ -1,6 +1,7 @@
--- What is written for a run: the answer to each call, and then the sets that are published.
+-- What is written for a run: the answer to each call, the sets that are published at the end, and the
+-- verdict on the record.
 use Rattle.std.specs.Prelude.{ℕ, ◌-◌, Option, Some, None, List, [], ◌∷◌, ◌++◌, length, slice_get}
-use Rattle.std.specs.Prelude.{codes, string_bytes}
+use Rattle.std.specs.Prelude.{codes, decimal, string_bytes}
 use Rattle.std.specs.List.{flat_map}
 use Rattle.dnssec_keyset.specs.Texts.{error_text}
 use Rattle.dnssec_keyset.specs.declared.roll.Action.{Action}
@@ -22,6 +23,7 @@ use Rattle.dnssec_run.specs.declared.record.Published.{Published}
 use Rattle.dnssec_run.specs.declared.record.PublishedKey.{PublishedKey}
 use Rattle.dnssec_run.specs.declared.record.Reply.{Reply}
 use Rattle.dnssec_run.specs.declared.record.Reply.TheVariants.{Done, Actions, Refused}
+use Rattle.dnssec_run.specs.declared.verdict.Broken.{Broken}
 
 -- the name of each action
 abbrev pub action_name : Action → List ℕ
@@ -73,6 +75,17 @@ sets_text (Some entry) = published_text entry.published
 abbrev pub set_line : List Entry → List ℕ
 set_line entries = sets_text (slice_get entries (length entries - 1))
 
--- all that is written for a run
-abbrev pub output : List Entry → List ℕ
-output entries = answers entries ++ set_line entries
+-- the positions of the first sets without a chain
+abbrev pub broken_text : Broken → List ℕ
+broken_text b =
+    codes "at=" ++ decimal b.at ++ codes " ds=" ++ decimal b.ds
+    ++ codes " dnskey=" ++ decimal b.dnskey ++ codes " zone=" ++ decimal b.zone
+
+-- the verdict on the record
+abbrev pub chain_line : Option Broken → List ℕ
+chain_line None = codes "chain safe\n"
+chain_line (Some b) = codes "chain broken " ++ broken_text b ++ codes "\n"
+
+-- all that is written for a run with this verdict
+abbrev pub output : List Entry → Option Broken → List ℕ
+output entries verdict = answers entries ++ set_line entries ++ chain_line verdict

@@ -1,20 +1,25 @@
 //! The answers to a script, as text.
 ghost use Rattle.std.specs.Prelude.{◌≡◌, ◌++◌, IfOk, OnOk, codes, string_bytes};
 ghost use Rattle.std.specs.List.{flat_map};
-ghost use Rattle.dnssec_record.specs.Output.{action_name, actions_text, answers, output};
+ghost use Rattle.dnssec_record.specs.Output.{action_name, actions_text, answers, chain_line, output};
 ghost use Rattle.dnssec_record.specs.Output.{published_text, reply_text, set_line, set_text};
 
 use dnssec_keyset::Action;
-use dnssec_run::{Entry, Published, PublishedKey, Reply};
+use dnssec_run::{Broken, Entry, Published, PublishedKey, Reply};
 use std::alloc::{AllocError, Global};
 
-/// What is written for a run.
-pub(crate) fn answer(alloc: Global, entries: &[Entry]) -> Result<String, AllocError>
-    ensures { IfOk result (λ text. string_bytes text ≡ output entries.now) }
+/// What is written for a run with this verdict.
+pub(crate) fn answer(
+    alloc: Global,
+    entries: &[Entry],
+    verdict: Option<Broken>,
+) -> Result<String, AllocError>
+    ensures { IfOk result (λ text. string_bytes text ≡ output entries.now verdict) }
 {
     let mut text = String::new(alloc);
     push_answers(&mut text, entries)?;
     push_set_line(&mut text, entries)?;
+    push_chain_line(&mut text, verdict)?;
     Ok(text)
 }
 
@@ -116,4 +121,22 @@ fn push_further(text: &mut String, keys: &[PublishedKey]) -> Result<(), AllocErr
         text.push_str(key.reference.as_str())?;
     }
     Ok(())
+}
+
+/// Writes the verdict on the record.
+fn push_chain_line(text: &mut String, verdict: Option<Broken>) -> Result<(), AllocError>
+    ensures { OnOk result (string_bytes text.new ≡ string_bytes text.old ++ chain_line verdict) }
+{
+    match verdict {
+        None => text.push_str("chain safe\n"),
+        Some(Broken {
+            at,
+            ds,
+            dnskey,
+            zone,
+        }) => write!(
+            text,
+            "chain broken at={at} ds={ds} dnskey={dnskey} zone={zone}\n"
+        ),
+    }
 }

@@ -14,4 +14,4 @@ pub use dnssec_run::{
     Broken, Call, Entry, Judge, Mark, Published, PublishedKey, Reply, Run, audit, audit_window,
     plain_runs_pass, records_have_one_verdict, run, runs_stay_safe,
 };
-pub use script::{ScriptFault, run_script};
+pub use script::{ScriptFault, record_script, run_script};

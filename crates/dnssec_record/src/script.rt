@@ -2,7 +2,8 @@
 ghost use Rattle.std.specs.Prelude.{◌≡◌, ◌≢◌, ◌⊎◌, ◌↔◌, ℕ, ◌<◌, List, Some, IfOk, IfErr, IfSome};
 ghost use Rattle.std.specs.Prelude.{OnOk, OnErr, Err, string_bytes};
 ghost use Rattle.std.specs.Io.KnownBytes.{Appends, IsAtEnd, Keeps};
-ghost use Rattle.dnssec_record.specs.Answer.{Answers, AnswerFault, TakesAnswer, TakesAtMost};
+ghost use Rattle.dnssec_record.specs.Answer.{Answers, AnswerFault, EndsSafe, IsRunOf};
+ghost use Rattle.dnssec_record.specs.Answer.{IsSafeAnswer, TakesAnswer, TakesAtMost};
 ghost use Rattle.dnssec_record.specs.Device.{Counts};
 ghost use Rattle.dnssec_record.specs.Fault.{fault_status, fault_text};
 ghost use Rattle.dnssec_record.specs.Reading.{ReadFault, TakesFront};
@@ -13,7 +14,7 @@ ghost use Rattle.dnssec_record.specs.declared.script.ScriptFault.TheVariants.{De
 use crate::answers::answer;
 use crate::device::{DeviceFault, Sink, Source};
 use crate::lines::{lines, read_calls, with_lists, zone};
-use dnssec_run::run;
+use dnssec_run::{Run, audit_window, run};
 use std::alloc::{AllocError, AllocFailed, Global};
 use std::fmt;
 
@@ -22,9 +23,11 @@ const PIECE: usize = 4096;
 
 /// Runs the script that `input` gives, and writes its answers to `output`.
 ///
-/// The whole input is read and judged before anything is run. Each call is answered on a line:
-/// `ok` with the actions that are due, or `refused: ` and the reason. The last line is that of
-/// the sets that are published at the end. A call that is refused doesn't stop the script.
+/// The whole input is read and checked before anything is run. Each call is answered on a line:
+/// `ok` with the actions that are due, or `refused: ` and the reason. A call that is refused doesn't
+/// stop the script. Then comes the line of the sets that are published at the end, and last the
+/// verdict on the record: `chain safe`, or `chain broken at=N ds=I dnskey=J zone=L` with the first
+/// sets without a chain. The verdict is there before the first byte is written.
 ///
 /// `alloc` is where the script, its calls and the answers get their memory. The caller sees to it
 /// that the counts of faults of both devices have room for one more.
@@ -47,6 +50,12 @@ pub fn run_script<R: Source, W: Sink>(
     ensures ok { OnOk result (IfSome (R.left input.old)
         (λ script. TakesAnswer script (W.taken output.old) (W.taken output.new))) }
     ensures ok_end { OnOk result (IsAtEnd (R.left input.new)) }
+
+    // Where the list of its calls is plain, the run is safe, and the last line says so.
+    ensures safe { OnOk result (IfSome (R.left input.old)
+        (λ script. IsSafeAnswer script (W.taken output.old) (W.taken output.new))) }
+    ensures chain { OnOk result (IfSome (R.left input.old)
+        (λ script. EndsSafe script (W.taken output.old) (W.taken output.new))) }
 
     // A malformed input is told by its first malformed line, and nothing is written.
     ensures malformed { (n : ℕ) → result ≡ Err (ScriptFault.Malformed n) →
@@ -104,6 +113,33 @@ fn answer_to(alloc: Global, script: &[u8]) -> Result<String, ScriptFault>
     ensures ok { IfOk result (λ text. Answers script.now (string_bytes text)) }
     ensures err { IfErr result (AnswerFault script.now) }
 {
+    let run = record_script(alloc, script)?;
+    let Ok(verdict) = audit_window(alloc, &run.entries) else {
+        return Err(ScriptFault::OutOfMemory);
+    };
+    let text = answer(alloc, &run.entries, verdict)?;
+    Ok(text)
+}
+
+/// Runs the calls of a script, and hands out the run with its record, for a caller who looks at its
+/// positions. The whole script is checked before anything is run.
+///
+/// # Errors
+///
+/// - `Malformed` with the number of the first line that hasn't its form. Nothing was run.
+/// - `OutOfMemory` where memory is wanting for the script or its record.
+///
+/// ```rust
+/// let run = record_script(alloc, script.as_bytes())?;
+/// if let Some(broken) = audit_window(alloc, &run.entries)? {
+///     // What was published after call number `broken.at`.
+///     let published = &run.entries[broken.at - 1].published;
+/// }
+/// ```
+pub fn record_script(alloc: Global, script: &[u8]) -> Result<Run, ScriptFault>
+    ensures ok { IfOk result (λ run. IsRunOf script.now run.keyset run.entries.items) }
+    ensures err { IfErr result (AnswerFault script.now) }
+{
     let lines = lines(alloc, script)?;
     let Some((first, rest)) = lines.split_first() else {
         return Err(ScriptFault::Malformed(1));
@@ -116,8 +152,7 @@ fn answer_to(alloc: Global, script: &[u8]) -> Result<String, ScriptFault>
     let Ok(run) = run(alloc, name, calls) else {
         return Err(ScriptFault::OutOfMemory);
     };
-    let text = answer(alloc, &run.entries)?;
-    Ok(text)
+    Ok(run)
 }
 
 /// Writes all of the bytes, or fails with some of them written.

@@ -1,7 +1,9 @@
--- What is taken after each fault, and that a script is never called malformed.
+-- What is taken after each fault, that a script is never called malformed, and what a plain list ends
+-- with.
 use Rattle.std.proofs.Common.{◌∙◌, inr}
 use Rattle.std.proofs.lemmas.Result.{err_from_is_err_and}
 use Rattle.dnssec_record.proofs.Answering.{of_input, never_fault, begins}
+use Rattle.dnssec_record.proofs.Ending.{last-line-safe, stays-safe}
 use Rattle.dnssec_record.proofs.script.run_script.Goals as goal
 
 pub returns-in_err-text-clause-well_formed : goal.returns-in_err-text-clause-well_formed
@@ -21,3 +23,9 @@ returns-in_err-write_all-clause-begun g c =
     let same = c.as_bytes.ensures.value ∙ c.as_str.ensures.value in
     let begun = begins _ _ _ _ _ c.in_ok-text.ensures.ok same c.in_err-write_all.ensures.err in
     rw p.1 (inr (of_input _ _ c.deref.result.now _ c.in_ok-script.ensures.whole c.deref.ensures.value begun))
+
+pub returns-clause-safe : goal.returns-clause-safe
+returns-clause-safe g c = stays-safe _ _ _
+
+pub returns-clause-chain : goal.returns-clause-chain
+returns-clause-chain g c = last-line-safe _ _ _
