@@ -1,14 +1,13 @@
 -- The output of a plain list ends with the line `chain safe`, for the clauses of `run_script`.
-use Rattle.std.proofs.Common.{◌≡◌, ℕ, List, [], ◌++◌, Option, Some, None, IfSome, refl, sym, ap}
-use Rattle.std.proofs.Common.{◌∙◌, subst, append_assoc}
-use Rattle.std.specs.Io.KnownBytes.{Appends}
+use Rattle.std.proofs.Common.{◌≡◌, ℕ, List, ◌++◌, Option, Some, None, IfSome, refl, sym, ap}
+use Rattle.std.proofs.Common.{◌∙◌, append_assoc}
 use Rattle.std.specs.Prelude.{codes, slice_get, length, ◌-◌}
 use Rattle.dnssec_run.specs.declared.record.Entry.{Entry}
 use Rattle.dnssec_run.specs.declared.record.Published.{Published}
 use Rattle.dnssec_run.specs.declared.verdict.Broken.{Broken}
 use Rattle.dnssec_run.proofs.Chain.Trust.{chain-holds}
 use Rattle.dnssec_run.proofs.Verdicts.Laws.{plain-passes}
-use Rattle.dnssec_record.specs.Answer.{Answers, EndsSafe, IsSafeAnswer}
+use Rattle.dnssec_record.specs.Answer.{EndsSafe, IsSafeAnswer}
 use Rattle.dnssec_record.specs.Output.{answers, output, published_text, set_line, set_text}
 use Rattle.dnssec_record.specs.Output.{sets_text}
 
@@ -52,6 +51,6 @@ pub last-line-safe : (left old new : Option (List ℕ))
 last-line-safe None old new = tt
 last-line-safe (Some script) old new = λ text a taken plain.
     let none = plain-passes a.calls a.entries (chain-holds a.name a.calls a.entries a.is_run) plain
-        a.verdict a.is_verdict in
+    a.verdict a.is_verdict in
     let ends = ends-safe a.entries a.verdict none in
     (ends.0, a.is_output ∙ ends.1)

@@ -1,8 +1,9 @@
 //! The answers to a script, as text.
-ghost use Rattle.std.specs.Prelude.{◌≡◌, ◌++◌, IfOk, OnOk, codes, string_bytes};
+ghost use Rattle.std.specs.Prelude.{◌≡◌, ◌++◌, IfOk, OnOk, codes, decimal, string_bytes};
 ghost use Rattle.std.specs.List.{flat_map};
-ghost use Rattle.dnssec_record.specs.Output.{action_name, actions_text, answers, chain_line, output};
-ghost use Rattle.dnssec_record.specs.Output.{published_text, reply_text, set_line, set_text};
+ghost use Rattle.dnssec_record.specs.Output.{action_name, actions_text, answers, broken_text};
+ghost use Rattle.dnssec_record.specs.Output.{chain_line, output, published_text, reply_text};
+ghost use Rattle.dnssec_record.specs.Output.{set_line, set_text};
 
 use dnssec_keyset::Action;
 use dnssec_run::{Broken, Entry, Published, PublishedKey, Reply};
@@ -129,14 +130,29 @@ fn push_chain_line(text: &mut String, verdict: Option<Broken>) -> Result<(), All
 {
     match verdict {
         None => text.push_str("chain safe\n"),
-        Some(Broken {
-            at,
-            ds,
-            dnskey,
-            zone,
-        }) => write!(
-            text,
-            "chain broken at={at} ds={ds} dnskey={dnskey} zone={zone}\n"
-        ),
+        Some(broken) => {
+            text.push_str("chain broken ")?;
+            push_broken(text, broken)?;
+            text.push_str("\n")
+        }
     }
+}
+
+fn push_broken(text: &mut String, broken: Broken) -> Result<(), AllocError>
+    ensures { OnOk result (string_bytes text.new ≡ string_bytes text.old ++ broken_text broken) }
+{
+    text.push_str("at=")?;
+    push_number(text, broken.at)?;
+    text.push_str(" ds=")?;
+    push_number(text, broken.ds)?;
+    text.push_str(" dnskey=")?;
+    push_number(text, broken.dnskey)?;
+    text.push_str(" zone=")?;
+    push_number(text, broken.zone)
+}
+
+fn push_number(text: &mut String, number: usize) -> Result<(), AllocError>
+    ensures { OnOk result (string_bytes text.new ≡ string_bytes text.old ++ decimal number) }
+{
+    write!(text, "{number}")
 }
