@@ -10,7 +10,8 @@ program if that is among them, else the longest wait, and it lists them all.
 
 The two are to give the same answers, and the same published sets at the end, up to the first call
 in which they are meant to differ. From there on the original is left out. The port is to answer
-by the tables throughout. Any other difference is a finding, printed with the smallest script that
+by the tables throughout, and to end with the verdict of judge.py on the record, which the original
+has not. Any other difference is a finding, printed with the smallest script that
 shows it. The status is 1 if there is one.
 """
 
@@ -22,6 +23,7 @@ import sys
 from concurrent.futures import ThreadPoolExecutor
 from pathlib import Path
 
+from judge import chain_line
 from make_scripts import by_hand, generated, read_scripts
 from tables import ROLLS, KeySet, answers
 
@@ -113,9 +115,7 @@ def compare(original, port, script):
         elif ENDED not in line:
             seen.add(LONGEST)
     here, status = run(port, script)
-    if here and here[-1].startswith("chain "):
-        here.pop()
-    if status != 0 or len(here) != len(script):
+    if status != 0 or len(here) != len(script) + 1:
         return seen, same, f"the port ends with status {status} after {len(here)} answers"
     keyset, together = KeySet(), True
     for index, line in enumerate(script[1:]):
@@ -134,11 +134,13 @@ def compare(original, port, script):
         if here[index] != answer:
             return seen, same, f"{line}\n  port: {here[index]}\n  by the tables: {answer}"
         same += together
-    sets = keyset.published()
-    if together and there[-1] != here[-1]:
-        return seen, same, f"published sets\n  original: {there[-1]}\n  port: {here[-1]}"
-    if here[-1] != sets:
-        return seen, same, f"published sets\n  port: {here[-1]}\n  by the tables: {sets}"
+    sets, chain = keyset.published(), chain_line(keyset.record)
+    if together and there[-1] != here[-2]:
+        return seen, same, f"published sets\n  original: {there[-1]}\n  port: {here[-2]}"
+    if here[-2] != sets:
+        return seen, same, f"published sets\n  port: {here[-2]}\n  by the tables: {sets}"
+    if here[-1] != chain:
+        return seen, same, f"verdict\n  port: {here[-1]}\n  by the definition: {chain}"
     return seen, same, None
 
 

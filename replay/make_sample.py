@@ -4,7 +4,7 @@
 
 The scripts written by hand come first. Then come generated ones, N scripts in all: the next is
 always the one that has, for its length, the most calls that are answered in a state as no call
-before. The answers are those of the tables. With an original these are compared with it first.
+before. The answers are those of the tables, and the chain line that of judge.py. With an original these are compared with it first.
 """
 
 import argparse
@@ -17,8 +17,8 @@ from tables import PHASES, KeySet, answers
 
 HEADER = """\
 # Scripts and their answers: '== ' and a name, the script's lines, the line '-- answers', and
-# the line that each call is answered with, that of the published sets last. An empty line stands
-# between two scripts. Made by replay/make_sample.py.
+# the line that each call is answered with, then that of the published sets and the chain line. An
+# empty line stands between two scripts. Made by replay/make_sample.py.
 """
 # The seed and the number of the scripts to choose from, and how many lines one may have.
 SEED, MADE, LONGEST = "sample", 6000, 40

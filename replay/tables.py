@@ -22,6 +22,8 @@ and a bar stands between two conditions of which one is enough.
 
 import sys
 
+from judge import NEW_SET, Position, Report, chain_line
+
 # For each roll: the kinds of key that its lists may name; the flags and the stamp that the start
 # gives a new key; what suits the start; which stamps the reports set; which stamp of which keys
 # the waits read; what an accepted wait writes; and the actions of the phases.
@@ -154,6 +156,17 @@ ROLES = {
 # Which call a phase waits for, and the phase after it.
 PHASES = {"report1": "wait1", "wait1": "report2", "report2": "wait2", "wait2": "done"}
 
+# The calls on rolls that are given a moment, which stands last.
+MOMENTS = ("start", "report1", "wait1", "report2", "wait2")
+
+# The published sets: which roles they show, and by which flag.
+SETS = {
+    "ds": ("KSK", "at_parent"),
+    "dnskey": ("any", "present"),
+    "signers": ("KSK", "signer"),
+    "zone": ("ZSK", "signer"),
+}
+
 WRONG_STATE = "key is in the wrong state"
 NOT_SUITED = "no suitable key present after key roll"
 
@@ -186,10 +199,11 @@ def meets(state, condition):
 
 class KeySet:
     """Keys and rolls; `rolls` is the table that it follows, `lacking` what a wait answers for a
-    key without its stamp."""
+    key without its stamp. `record` has a position for each call."""
 
     def __init__(self, rolls=None, lacking="refused: " + WRONG_STATE):
         self.keys, self.phases = {}, {}
+        self.record, self.added = [NEW_SET], {}
         self.rolls, self.lacking = rolls or ROLLS, lacking
 
     def picked(self, word, condition):
@@ -202,9 +216,27 @@ class KeySet:
         ]
 
     def call(self, line):
-        """The answer to a line of a script, with its effect."""
+        """The answer to a line of a script, with its effect; and one more position."""
         refusal = self.refusal(line)
-        return refusal if refusal else self.accepted(line)
+        answer = refusal if refusal else self.accepted(line)
+        word, *fields = line.split(" ")
+        if word.startswith("add-") and not refusal:
+            self.added[fields[0]] = len(self.record)
+        self.record.append(self.position(word, fields, not refusal))
+        return answer
+
+    def position(self, word, fields, accepted):
+        """What the position of this call tells."""
+        moment = int(fields[-1]) if word == "set-present" or word in MOMENTS else None
+        step = fields[0] if accepted and word in ("start", "wait1") else None
+        report = None
+        if accepted and word in ("report1", "report2"):
+            report = Report(fields[0], word == "report2", int(fields[1]))
+        sets = [
+            frozenset((name, self.added[name]) for name in self.picked_names(*SETS[label]))
+            for label in SETS
+        ]
+        return Position(moment, step, report, *sets)
 
     def refusal(self, line):
         """The answer to a line that is refused, else None. Nothing changes."""
@@ -336,14 +368,15 @@ class KeySet:
 
     def published(self):
         """The line of the published sets."""
-        sets = {"ds": ("KSK", "at_parent"), "dnskey": ("any", "present")}
-        sets |= {"signers": ("KSK", "signer"), "zone": ("ZSK", "signer")}
-        return " ".join(f"{label}={self.names(*sets[label])}" for label in sets)
+        return " ".join(f"{label}={self.names(*SETS[label])}" for label in SETS)
 
     def names(self, word, flag):
+        return ",".join(self.picked_names(word, flag)) or "-"
+
+    def picked_names(self, word, flag):
         """The references of the keys that a word and a flag pick."""
         keys = [key for key, _ in self.picked(word, flag)]
-        return ",".join(sorted(name for name in self.keys if self.keys[name] in keys)) or "-"
+        return sorted(name for name in self.keys if self.keys[name] in keys)
 
 
 def write(key, number, change, now):
@@ -358,9 +391,10 @@ def write(key, number, change, now):
 
 
 def answers(script, keyset=None):
-    """The answers to a script's lines, the line of its published sets last."""
+    """The answers to a script's lines, then the line of its published sets and the chain line."""
     keyset = keyset or KeySet()
-    return [keyset.call(line) for line in script[1:]] + [keyset.published()]
+    lines = [keyset.call(line) for line in script[1:]]
+    return [*lines, keyset.published(), chain_line(keyset.record)]
 
 
 if __name__ == "__main__":

@@ -72,7 +72,7 @@ whole=$(cat "$crates/keyset/stdout")
 
 # The lines that the program wrote.
 written() {
-    grep '^ok\|^refused: \|^ds=' "$answers/$n"
+    grep '^ok\|^refused: \|^ds=\|^chain ' "$answers/$n"
 }
 
 # Either no answer is written and the status is that of memory; or a call is refused, and what

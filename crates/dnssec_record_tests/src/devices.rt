@@ -88,7 +88,7 @@ fn a_long_script_is_read_whole(rt: HostRuntime) -> Result<(), Fail> {
         assert_written(
             &rt,
             &answer,
-            "refused: key not found\nds=- dnskey=- signers=- zone=-\n",
+            "refused: key not found\nds=- dnskey=- signers=- zone=-\nchain safe\n",
         );
     }
     Ok(())

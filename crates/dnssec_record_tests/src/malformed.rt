@@ -60,7 +60,7 @@ fn beginnings_of_zone_lines(rt: HostRuntime) -> Result<(), Fail> {
             let front = script.get(..end).ok_or("no beginning")?;
             if scripts.contains(&end) {
                 let answer = follow(&rt, rt.alloc(), front, WHOLE)?;
-                assert_written(&rt, &answer, "ds=- dnskey=- signers=- zone=-\n");
+                assert_written(&rt, &answer, "ds=- dnskey=- signers=- zone=-\nchain safe\n");
             } else {
                 assert_malformed(&rt, rt.alloc(), &[(front, 1)])?;
             }

@@ -22,6 +22,7 @@ ok UpdateDnskeyRrset UpdateRrsig ReportDnskeyPropagated ReportRrsigPropagated
 refused: wrong roll state for operation
 refused: wrong roll state for operation
 ds=- dnskey=K1,Z1 signers=K1 zone=Z1
+chain safe
 ";
     assert_answers(&rt, rt.alloc(), script, want)
 }
@@ -80,6 +81,7 @@ refused: key is still in use, not old
 refused: key not found
 refused: key not found
 ds=K1 dnskey=K1,Z1 signers=K1 zone=Z1
+chain safe
 ";
     assert_answers(&rt, rt.alloc(), script, want)
 }

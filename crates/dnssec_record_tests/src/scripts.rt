@@ -20,6 +20,7 @@ ok
 refused: wait for duration 1s
 ok CreateCdsRrset UpdateDsRrset ReportDsPropagated
 ds=K1 dnskey=K1,Z1 signers=K1 zone=Z1
+chain safe
 ";
 
 /// A zone goes from a KSK and a ZSK to a CSK of another algorithm, and back to two keys. Its keys
@@ -87,10 +88,11 @@ ok
 refused: key not found
 ok
 ds=K5 dnskey=K5,Z5 signers=K5 zone=Z5
+chain safe
 ";
 
 /// What a zone without keys publishes.
-const NOTHING: &str = "ds=- dnskey=- signers=- zone=-\n";
+const NOTHING: &str = "ds=- dnskey=- signers=- zone=-\nchain safe\n";
 
 #[test]
 fn an_early_wait_is_refused(rt: HostRuntime) -> Result<(), Fail> {
@@ -108,20 +110,23 @@ fn the_sets_follow_the_rolls(rt: HostRuntime) -> Result<(), Fail> {
     let stages = [
         (
             "report1 algorithm-roll 60 210",
-            "\nds=K1 dnskey=C,K1,Z1 signers=C,K1 zone=C,Z1\n",
+            "\nds=K1 dnskey=C,K1,Z1 signers=C,K1 zone=C,Z1\nchain safe\n",
         ),
         (
             "report2 algorithm-roll 60 280",
-            "\nds=C dnskey=C,K1,Z1 signers=C,K1 zone=C,Z1\n",
+            "\nds=C dnskey=C,K1,Z1 signers=C,K1 zone=C,Z1\nchain safe\n",
         ),
-        ("add-ksk K5", "\nds=C dnskey=C signers=C zone=C\n"),
+        (
+            "add-ksk K5",
+            "\nds=C dnskey=C signers=C zone=C\nchain safe\n",
+        ),
         (
             "report1 algorithm-roll 60 410",
-            "\nds=C dnskey=C,K5,Z5 signers=C,K5 zone=C,Z5\n",
+            "\nds=C dnskey=C,K5,Z5 signers=C,K5 zone=C,Z5\nchain safe\n",
         ),
         (
             "report2 algorithm-roll 60 480",
-            "\nds=K5 dnskey=C,K5,Z5 signers=C,K5 zone=C,Z5\n",
+            "\nds=K5 dnskey=C,K5,Z5 signers=C,K5 zone=C,Z5\nchain safe\n",
         ),
     ];
     for (next, want) in stages {
@@ -194,6 +199,7 @@ ok
 ok
 ok
 ds=K2 dnskey=K2,Z2 signers=K2 zone=Z2
+chain safe
 ";
     assert_answers(&rt, rt.alloc(), script, want)
 }
@@ -240,6 +246,7 @@ ok
 ok
 refused: key not found
 ds=- dnskey=I signers=- zone=-
+chain broken at=7 ds=7 dnskey=0 zone=0
 ";
     assert_answers(&rt, rt.alloc(), script, want)
 }
@@ -288,6 +295,7 @@ refused: wrong roll state for operation
 refused: wrong roll state for operation
 refused: no suitable key present after key roll
 ds=- dnskey=+~\"\\ signers=- zone=-
+chain safe
 ";
     assert_answers(&rt, rt.alloc(), script, want)
 }

@@ -1,0 +1,105 @@
+"""Whether a record is safe: a second judge, written from the definition of a safe record alone.
+
+A record is a list of positions; position 0 is the new set. At position n caches may hold each DS
+set, each DNSKEY set with its signers and each set of zone signers that was published at a position
+up to n and that no report has retired. The record is safe where whatever three of these have a
+chain of trust.
+"""
+
+from typing import NamedTuple
+
+# Of which kinds the first and the second report of a roll speak.
+SPEAKS_OF = {
+    "ksk-roll": ("dnskey", "ds"),
+    "ksk-double-ds-roll": ("ds", "dnskey"),
+    "zsk-roll": ("dnskey", "zone"),
+    "zsk-double-signature-roll": ("dnskey zone", "dnskey zone"),
+    "csk-roll": ("dnskey", "ds zone"),
+    "algorithm-roll": ("dnskey zone", "ds"),
+}
+
+
+class Report(NamedTuple):
+    roll: str
+    second: bool
+    ttl: int
+
+
+class Position(NamedTuple):
+    """What a position tells. A key is its reference with the position of its add; `step` is the
+    roll that the call started, or whose first wait it was."""
+
+    moment: int | None
+    step: str | None
+    report: Report | None
+    ds: frozenset
+    dnskey: frozenset
+    signers: frozenset
+    zone: frozenset
+
+
+NEW_SET = Position(None, None, None, *[frozenset()] * 4)
+
+
+def base(record, at):
+    """What the report at a position counts from: the last step of its roll below it."""
+    roll = record[at].report.roll
+    return max((n for n in range(at) if record[n].step == roll), default=None)
+
+
+def time(record, n):
+    return max((p.moment for p in record[: n + 1] if p.moment is not None), default=0)
+
+
+def is_retired(record, kind, q, n):
+    """Whether the set of position q is in no cache any more at n."""
+    for at in range(n + 1):
+        report, moment = record[at].report, record[at].moment
+        if report is None or moment is None:
+            continue
+        if kind not in SPEAKS_OF[report.roll][report.second].split():
+            continue
+        counted_from = base(record, at)
+        if counted_from is None or q >= counted_from:
+            continue
+        if moment + report.ttl <= time(record, n):
+            return True
+    return False
+
+
+def held(record, kind, n):
+    """The sets that caches may hold at n, each with the least position that has it."""
+    sets = {}
+    for q in range(n + 1):
+        p = record[q]
+        published = {"ds": p.ds, "dnskey": (p.dnskey, p.signers), "zone": p.zone}[kind]
+        if published not in sets and not is_retired(record, kind, q, n):
+            sets[published] = q
+    return sets
+
+
+def has_chain(ds, dnskey, signers, zone):
+    return not ds or bool(ds & dnskey & signers and dnskey & zone)
+
+
+def verdict(record):
+    """None where the record is safe, else the first positions of sets without a chain: `at`, `ds`,
+    `dnskey`, `zone`."""
+    for n in range(len(record)):
+        broken = [
+            (n, p, q, z)
+            for ds, p in held(record, "ds", n).items()
+            for (dnskey, signers), q in held(record, "dnskey", n).items()
+            for zone, z in held(record, "zone", n).items()
+            if not has_chain(ds, dnskey, signers, zone)
+        ]
+        if broken:
+            return min(broken)
+    return None
+
+
+def chain_line(record):
+    broken = verdict(record)
+    if broken is None:
+        return "chain safe"
+    return "chain broken at={} ds={} dnskey={} zone={}".format(*broken)
