@@ -223,6 +223,27 @@ fn the_least_unretired_positions_are_told(rt: HostRuntime) -> Result<(), Fail> {
     Ok(())
 }
 
+/// A zone with its first keys, and 500 calls that are refused.
+fn try_refused_calls(alloc: Global) -> Result<Option<Broken>, ScriptFault> {
+    let mut script = String::from_str(alloc, FIRST)?;
+    for _ in 0..500 {
+        script.push_str("done algorithm-roll\n")?;
+    }
+    let run = record_script(alloc, script.as_str().as_bytes())?;
+    audit_window(alloc, &run.entries).map_err(|_| ScriptFault::OutOfMemory)
+}
+
+/// Refused calls keep a record safe.
+#[test]
+fn refused_calls_are_judged(rt: HostRuntime) -> Result<(), Fail> {
+    let answer = match try_refused_calls(rt.alloc()) {
+        Err(ScriptFault::OutOfMemory) => try_refused_calls(rt.alloc()),
+        answer => answer,
+    };
+    assert_eq!(&rt; answer, Ok(None));
+    Ok(())
+}
+
 /// A start, its first report and one more position with this DS key.
 fn three(reported: Duration, ttl: u32, ds: Keys) -> [Row; 3] {
     let roll = RollType::AlgorithmRoll;
