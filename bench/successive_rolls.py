@@ -2,9 +2,9 @@
 
     python3 bench/successive_rolls.py crates/keyset/out/keyset
 
-Each script gives a zone its first keys, and then rolls its ZSK and its KSK in turn, each roll to its
-end, with the deletion of the old key. So all that is old is retired, and a judge's window stays as
-it is. Printed are the calls, the least processor time of some runs, the same for the script with
+Each script gives a zone its first keys, and then rolls its ZSK and its KSK in turn, each roll to
+its end, with the deletion of the old key. So all that is old is retired, and a judge's window stays
+as it is. Printed are the calls, the least processor time of some runs, the same for the script with
 half as many calls, and the greatest memory that the program had.
 """
 

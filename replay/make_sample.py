@@ -4,12 +4,14 @@
 
 The scripts written by hand come first. Then come generated ones, N scripts in all: the next is
 always the one that has, for its length, the most calls that are answered in a state as no call
-before. The answers are those of the tables, and the chain line that of judge.py. With an original these are compared with it first.
+before. Last come the examples. The answers are those of the tables, and the chain line that of judge.py. With an original
+the answers are compared with it first.
 """
 
 import argparse
 import shlex
 import sys
+from pathlib import Path
 
 import compare
 from make_scripts import Script, by_hand
@@ -57,12 +59,19 @@ def choose(count):
     return chosen
 
 
+def examples():
+    """The scripts of examples/, by name."""
+    folder = Path(__file__).parent.parent / "examples"
+    paths = sorted(folder.glob("*.script"))
+    return {f"example-{path.stem}": path.read_text().splitlines() for path in paths}
+
+
 def main():
     parser = argparse.ArgumentParser()
     parser.add_argument("--original")
     parser.add_argument("--count", type=int, default=200)
     given = parser.parse_args()
-    chosen = choose(given.count)
+    chosen = {**choose(given.count), **examples()}
     if given.original:
         original = [*shlex.split(given.original), "--canon", "--alts"]
         for name, lines in chosen.items():

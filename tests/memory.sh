@@ -1,6 +1,7 @@
 #!/bin/sh
 # Lets each allocation fail in turn: the first, then the second, until there is none left to fail.
-# First those of the tests of memory of two crates, then those of the program on its stored script.
+# First those of the tests of memory of two crates, then those of the program on its stored script;
+# and last the first request of a judge.
 # As many runs as there are processors go side by side, but no more than four.
 set -u
 cd "$(dirname "$0")"
@@ -108,6 +109,19 @@ script_in_turn() {
     echo "script: $((n - 1)) allocations, each failed in turn"
 }
 
+# A judge keeps a window, so it has no verdict where its first request is refused: its test, which
+# asks for ample memory, has to fail then.
+judge_refused() {
+    rm -f "$answers"/*
+    n=1
+    cd "$crates/dnssec_record_tests" || exit 1
+    rt try --test --fail-alloc 1 -- memory::a_judge >"$answers/1" 2>&1
+    grep -q '^test memory::a_judge_has_a_verdict_with_ample_memory \.\.\. FAILED' "$answers/1" ||
+        fail 'a judge has a verdict without memory'
+    echo "judge: its first request refused"
+}
+
 tests_in_turn dnssec_base 1
 tests_in_turn dnssec_keyset 10
 script_in_turn
+judge_refused

@@ -118,21 +118,21 @@ impl Draws {
 fn main(rt: HostRuntime) -> Result<()> {
     let mut draws = Draws { state: 1 };
     let mut safe = 0u32;
-    let mut older = 0u32;
+    let mut later = 0u32;
     let mut alike = 0u32;
     for _ in 0..RECORDS {
         let entries = draws.record(rt.alloc())?;
         let verdict = audit(&entries);
         match verdict {
             None => safe = safe.saturating_add(1),
-            Some(broken) if broken.dnskey > 0 => older = older.saturating_add(1),
+            Some(broken) if broken.dnskey > 0 => later = later.saturating_add(1),
             Some(_) => {}
         }
         if audit_window(rt.alloc(), &entries)? == verdict {
             alike = alike.saturating_add(1);
         }
     }
-    println!(rt; "{RECORDS} records: {safe} safe, {older} broken after a report retired a DNSKEY set")?;
+    println!(rt; "{RECORDS} records: {safe} safe, {later} broken by a DNSKEY set of a call")?;
     println!(rt; "{alike} judged alike")?;
     Ok(())
 }

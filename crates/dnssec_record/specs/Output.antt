@@ -1,5 +1,5 @@
--- What is written for a run: the answer to each call, the sets that are published at the end, and the
--- verdict on the record.
+-- What is written for a run: the answer to each call, the sets that are published at the end, and
+-- the verdict on the record.
 use Rattle.std.specs.Prelude.{ℕ, ◌-◌, Option, Some, None, List, [], ◌∷◌, ◌++◌, length, slice_get}
 use Rattle.std.specs.Prelude.{codes, decimal, string_bytes}
 use Rattle.std.specs.List.{flat_map}

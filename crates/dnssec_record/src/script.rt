@@ -24,10 +24,10 @@ const PIECE: usize = 4096;
 /// Runs the script that `input` gives, and writes its answers to `output`.
 ///
 /// The whole input is read and checked before anything is run. Each call is answered on a line:
-/// `ok` with the actions that are due, or `refused: ` and the reason. A call that is refused doesn't
-/// stop the script. Then comes the line of the sets that are published at the end, and last the
-/// verdict on the record: `chain safe`, or `chain broken at=N ds=I dnskey=J zone=L` with the first
-/// sets without a chain. The verdict is there before the first byte is written.
+/// `ok` with the actions that are due, or `refused: ` and the reason. A call that is refused
+/// doesn't stop the script. Then comes the line of the sets that are published at the end, and
+/// last the verdict on the record: `chain safe`, or `chain broken at=N ds=I dnskey=J zone=L` with
+/// the first sets without a chain. The verdict is there before the first byte is written.
 ///
 /// `alloc` is where the script, its calls and the answers get their memory. The caller sees to it
 /// that the counts of faults of both devices have room for one more.

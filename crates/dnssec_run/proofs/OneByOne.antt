@@ -1,7 +1,7 @@
 -- The judge of a record. What carries each clause:
 --
 -- `Judge::new`, `ok`: Followed.watches-none
--- `Judge::take`, `ok`: Followed.window-follows, Found.judged, Followed.none-found, Followed.some-kept
+-- `Judge::take`, `ok`: Followed.window-follows, Found.judged, Followed.none-found and .some-kept
 -- `audit_window`, `ok`: the clauses of `Judge`
 pub mod Windows
 pub mod Spans

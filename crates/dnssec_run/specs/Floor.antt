@@ -1,4 +1,5 @@
--- What is retired of a kind lies below a floor: the greatest base of the kind's reports that are over.
+-- What is retired of a kind lies below a floor: the greatest base of the kind's reports that are
+-- over.
 use Rattle.std.specs.Prelude.{ℕ, zero, suc, ◌+◌, ◌*◌, Bool, true, List, Option, None, Some}
 use Rattle.std.specs.Prelude.{if◌then◌else◌, max, nat_lt}
 use Rattle.dnssec_run.specs.declared.record.Entry.{Entry}

@@ -8,7 +8,8 @@ use Rattle.dnssec_run.specs.Record.{IsRun}
 use Rattle.dnssec_run.specs.Safe.{Ds, Dnskey, ZoneSigners, HasChain, IsSafe, IsUnretired}
 use Rattle.dnssec_run.specs.Safe.{position_at}
 
--- caches may hold these three sets at position `at`, and the sets have no chain (RFC 4035, section 5)
+-- caches may hold these three sets at position `at`, and the sets have no chain (RFC 4035, section
+-- 5)
 pub record IsBroken (entries : List Entry) (b : Broken) : Type 0 where
   pub within : b.at ≤ length entries
   pub ds : IsUnretired entries Ds b.ds b.at

@@ -1,5 +1,5 @@
--- What a judge keeps of one kind of sets: the floor, the reports that aren't over, and the sets from
--- the floor on as spans of neighbouring positions.
+-- What a judge keeps of one kind of sets: the floor, the reports that aren't over, and the sets
+-- from the floor on as spans of neighbouring positions.
 use Rattle.std.specs.Prelude.{◌≡◌, ℕ, ◌+◌, ◌*◌, ◌<◌, ◌≤◌, ◌⊎◌, Bool, ◌&&◌, ◌||◌, false, not}
 use Rattle.std.specs.Prelude.{List, [], ◌∷◌, ◌++◌, map, max, nat_lt, if◌then◌else◌}
 use Rattle.std.specs.Prelude.{Option, None, Some}

@@ -24,13 +24,13 @@ pub(crate) struct Floors {
     zone: usize,
 }
 
-/// The verdict on the entries of a record, of any origin: None exactly where every position is safe,
-/// else the first three sets without a chain, with the least `at`, then the least `ds`, `dnskey` and
-/// `zone` (RFC 4035, section 5).
+/// The verdict on the entries of a record, of any origin: None exactly where every position is
+/// safe, else the first three sets without a chain, with the least `at`, then the least `ds`,
+/// `dnskey` and `zone` (RFC 4035, section 5).
 ///
-/// It is the definition made to run: at each position it reads the record anew for what reports have
-/// retired, and looks at every choice of three sets that are left. So it takes no memory, but on long
-/// records very much time; `audit_window` answers the same.
+/// It is the definition made to run: at each position it reads the record anew for what reports
+/// have retired, and looks at every choice of three sets that are left. So it takes no memory, but
+/// on long records very much time; `audit_window` answers the same.
 ///
 /// ```rust
 /// if let Some(broken) = audit(&run.entries) {

@@ -17,10 +17,10 @@ use std::time::Duration;
 /// Takes the entries of a record one by one, and has the verdict on those that it has taken: what
 /// `audit` answers of them.
 ///
-/// It keeps no entry. Of each kind of sets (DS sets, DNSKEY sets with their signers, zone signers) it
-/// keeps the least position that isn't retired, the reports that aren't over, and the sets from that
-/// position on, once for each span of neighbouring positions that publish the same. So where reports
-/// retire what is old, its memory and the time for an entry don't grow with the record.
+/// It keeps no entry. Of each kind of sets (DS sets, DNSKEY sets with their signers, zone signers)
+/// it keeps the least position that isn't retired, the reports that aren't over, and the sets from
+/// that position on, once for each span of neighbouring positions that publish the same. So where
+/// reports retire what is old, its memory and the time for an entry don't grow with the record.
 ///
 /// ```rust
 /// let mut judge = Judge::new(alloc)?;
@@ -119,8 +119,8 @@ impl Judge {
     }
 }
 
-/// The verdict on the entries of a record, of any origin, by one walk over them with a `Judge`: what
-/// `audit` answers, but for want of memory.
+/// The verdict on the entries of a record, of any origin, by one walk over them with a `Judge`:
+/// what `audit` answers, but for want of memory.
 ///
 /// # Errors
 ///

@@ -1,4 +1,5 @@
-//! What makes a record safe, as tests: what a report retires and when, and whether sets have a chain.
+//! What makes a record safe, as tests: what a report retires and when, and whether sets have a
+//! chain.
 ghost use Rattle.std.specs.Prelude.{◌≡◌, ◌+◌, ◌*◌, map, max, nat_lt, not, unwrap_or};
 ghost use Rattle.dnssec_run.specs.Chained.{is_in, trusts_keys, trusts_zone};
 ghost use Rattle.dnssec_run.specs.Published.{id_of};
@@ -38,8 +39,8 @@ pub(crate) fn retires(roll: RollType, second: bool, kind: Kind) -> bool
     }
 }
 
-/// Whether the TTL has passed since the moment. Where their sum is past the greatest moment, it never
-/// has.
+/// Whether the TTL has passed since the moment. Where their sum is past the greatest moment, it
+/// never has.
 pub(crate) fn is_over(moment: UnixTime, ttl: u32, time: UnixTime) -> bool
     ensures { result ≡ not (nat_lt time (moment + ttl * 1_000_000_000)) }
 {

@@ -16,8 +16,8 @@ pub struct Broken {
     pub zone: usize,
 }
 
-/// A record has one verdict. This function does nothing: its contract is a law, which a caller knows
-/// once it has called the function.
+/// A record has one verdict. This function does nothing: its contract is a law, which a caller
+/// knows once it has called the function.
 pub fn records_have_one_verdict()
     ensures { HasOneVerdict }
 {}

@@ -7,8 +7,8 @@ ghost use Rattle.dnssec_run.specs.Safe.{SetKind};
 ghost use Rattle.dnssec_run.specs.Search.{kind_of};
 ghost use Rattle.dnssec_run.specs.Window.{Begins, GoesOnAbove, HasLast, Held, IsShown, Tiles};
 ghost use Rattle.dnssec_run.specs.Window.{Watches, chained_sets, ends_below, first_failing};
-ghost use Rattle.dnssec_run.specs.Window.{floor_with, found_ds, found_keys, over, over_any, over_by};
-ghost use Rattle.dnssec_run.specs.Window.{set_of_span, step_of};
+ghost use Rattle.dnssec_run.specs.Window.{floor_with, found_ds, found_keys, over, over_any};
+ghost use Rattle.dnssec_run.specs.Window.{over_by, set_of_span, step_of};
 
 use crate::record::{Mark, PublishedKey};
 use crate::running::published_key;

@@ -185,7 +185,8 @@ module _ (pat qat zat : ℕ → Held) (n pf qf zf : ℕ) (ps qs zs : List Span) 
             h.0,
             h.1,
             first-held qat n (λ q. ZonesAll p q)
-                (λ q. ZoneFirst p q u.zone) qf u.dnskey qs dnskey dnskey_begins dnskey_goes dnskey_floor h.2,
+                (λ q. ZoneFirst p q u.zone) qf u.dnskey qs dnskey dnskey_begins dnskey_goes
+                dnskey_floor h.2,
           )
 
       -- DS sets

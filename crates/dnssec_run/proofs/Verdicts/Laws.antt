@@ -50,7 +50,8 @@ one-verdict entries (Some s) (Some t) h k = ap (λ (t : Broken). Some t) (one s 
         (cases_lt s.ds t.ds) [
           | inl a ↦ absurd (st (inr (at, inl a)))
           | inr a ↦ elim
-              (cases_lt t.ds s.ds) [ inl b ↦ absurd (ts (inr (sym at, inl b))) | inr b ↦ omega arith ]
+              (cases_lt t.ds s.ds)
+              [ inl b ↦ absurd (ts (inr (sym at, inl b))) | inr b ↦ omega arith ]
         ]
 
     dnskey : s.dnskey ≡ t.dnskey

@@ -121,7 +121,8 @@ verdict-some entries i t before h = record { broken = h.broken; first = first }
   where
     first : (s : Broken) → IsBroken entries s → ComesBefore s t → ⊥
     first s sb c = elim (cases_lt s.at (i + 1)) [
-      | inl lt ↦ sb.no_chain (before s.at (omega arith) s.ds s.dnskey s.zone sb.ds sb.dnskey sb.zone)
+      | inl lt ↦
+          sb.no_chain (before s.at (omega arith) s.ds s.dnskey s.zone sb.ds sb.dnskey sb.zone)
       | inr ge ↦ h.first s
           (elim c [ inl less ↦ absurd (omega (arith, h.at)) | inr r ↦ r.0 ∙ h.at ]) sb c
     ]

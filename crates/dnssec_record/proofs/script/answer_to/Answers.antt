@@ -14,6 +14,8 @@ returns-clause-ok c =
       verdict = c.in-Ok.verdict;
       is_script = run.is_script;
       is_run = run.is_run;
-      is_verdict = subst (λ es. IsVerdict es c.in-Ok.verdict) c.deref.ensures.value c.in-Ok.ensures.ok;
-      is_output = c.in_ok-text.ensures ∙ ap (λ es. output es c.in-Ok.verdict) c.deref-2.ensures.value;
+      is_verdict =
+          subst (λ es. IsVerdict es c.in-Ok.verdict) c.deref.ensures.value c.in-Ok.ensures.ok;
+      is_output =
+          c.in_ok-text.ensures ∙ ap (λ es. output es c.in-Ok.verdict) c.deref-2.ensures.value;
     }

@@ -1,5 +1,5 @@
--- What is taken after each fault, that a script is never called malformed, and what a plain list ends
--- with.
+-- What is taken after each fault, that a script is never called malformed, and what a plain list
+-- ends with.
 use Rattle.std.proofs.Common.{◌∙◌, inr}
 use Rattle.std.proofs.lemmas.Result.{err_from_is_err_and}
 use Rattle.dnssec_record.proofs.Answering.{of_input, never_fault, begins}
