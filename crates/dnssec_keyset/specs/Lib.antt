@@ -7,5 +7,6 @@ pub mod Start
 pub mod Setters
 pub mod Wait
 pub mod Step
+pub mod WaitEnd
 pub mod Laws
 pub mod Texts

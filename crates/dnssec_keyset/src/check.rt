@@ -1,15 +1,13 @@
-//! What a start and a wait are refused for. Nothing is changed here.
+//! What a start is refused for. Nothing is changed here.
 ghost use Rattle.std.specs.Prelude.{◌≡◌, [], false, true, not, ◌&&◌, ◌||◌, Some, string_bytes};
-ghost use Rattle.std.specs.Prelude.{nat_eq, is_some, unwrap_or, max, OnOk, IsSome};
-ghost use Rattle.std.specs.List.{list_any, list_all, fold};
-ghost use Rattle.std.specs.Option.{option_map, option_map_or, option_and_then};
+ghost use Rattle.std.specs.Prelude.{nat_eq, is_some};
+ghost use Rattle.std.specs.List.{list_any, list_all};
+ghost use Rattle.std.specs.Option.{option_map_or};
 ghost use Rattle.std.specs.String.{string_eq};
 ghost use Rattle.std.specs.Str.{bytes_eq};
 ghost use Rattle.std.specs.FinMap as map;
 ghost use Rattle.std.specs.HashMap as hash;
-ghost use Rattle.dnssec_keyset.specs.Key.{all_states};
 ghost use Rattle.dnssec_keyset.specs.KeySet.{phase_of, rolls_shown};
-ghost use Rattle.dnssec_keyset.specs.RollTable.{half_of, which};
 ghost use Rattle.dnssec_keyset.specs.Start.{texts, is_listed, side_of, are_apart, together};
 ghost use Rattle.dnssec_keyset.specs.Start.{has_conflict, conflict, lists_kind, old_entry_fault};
 ghost use Rattle.dnssec_keyset.specs.Start.{old_fault, new_entry_fault, new_fault, has_algorithm};
@@ -17,17 +15,14 @@ ghost use Rattle.dnssec_keyset.specs.Start.{algorithms_within, may_change_algori
 ghost use Rattle.dnssec_keyset.specs.Start.{algorithm_fault, wants, serves_as_new, serves_as_kept};
 ghost use Rattle.dnssec_keyset.specs.Start.{some_listed, some_kept, is_met, suitability_fault};
 ghost use Rattle.dnssec_keyset.specs.Start.{start_refusal};
-ghost use Rattle.dnssec_keyset.specs.Step.{AnswersExactly, AnswersWait, wait_verdict};
-ghost use Rattle.dnssec_keyset.specs.Wait.{time_left, ttl_in};
+ghost use Rattle.dnssec_keyset.specs.Step.{AnswersExactly};
 
 use crate::error::Error;
 use crate::key::{Key, KeyType};
-use crate::roll::{Half, RollState, RollType, Side};
+use crate::roll::{RollState, RollType, Side};
 use crate::set::KeySet;
 use crate::table::{is_kept_at_parent, is_kept_present};
-use crate::time::UnixTime;
 use std::collections::HashMap;
-use std::time::Duration;
 
 const ALL_ROLLS: [RollType; 6] = [
     RollType::KskRoll,
@@ -440,85 +435,5 @@ impl KeySet {
         ensures { result ≡ some_kept (serves_as_kept want) self.now.keys (texts old.now) }
     {
         is_met_by_any_kept(&self.keys, want, old)
-    }
-}
-
-impl Key {
-    /// The nanoseconds that are left of a wait for the key, or `None` where its stamp is missing.
-    fn time_left(&self, roll: RollType, half: Half, ttl: u32, now: UnixTime) -> Option<u64>
-        ensures { result ≡ time_left roll (which half) ttl now self.now }
-    {
-        if !self.keytype().is_checked(roll, half) {
-            return Some(0);
-        }
-        let stamp = self.timestamps().at(roll.stamp_read(half))?;
-        let ttl = Duration::from_secs(u64::from(ttl));
-        Some(ttl.saturating_sub(stamp.elapsed(&now)).as_nanos() as u64)
-    }
-}
-
-/// The longer of two times, where both are known.
-fn longer(a: Option<u64>, b: Option<u64>) -> Option<u64>
-    ensures { result ≡ option_and_then (λ x. option_map (λ y. max x y) b) a }
-{
-    match (a, b) {
-        (Some(a), Some(b)) => Some(a.max(b)),
-        _ => None,
-    }
-}
-
-/// The longest time that is left of a wait for a key, or `None` where a stamp is missing.
-fn longest_left(
-    keys: &HashMap<String, Key>,
-    roll: RollType,
-    half: Half,
-    ttl: u32,
-    now: UnixTime,
-) -> Option<u64>
-    ensures longest { result ≡ fold
-        (λ a k. option_and_then (λ x. option_map (λ y. max x y)
-        (time_left roll (which half) ttl now k)) a)
-        (Some 0) (hash.values keys.now) }
-    ensures unique { hash.IsUnique string_eq keys.now }
-{
-    keys.values().fold(
-        Some(0),
-        |longest, key| longer(longest, key.time_left(roll, half, ttl, now)),
-    )
-}
-
-/// The TTL that a wait goes by, in its phase alone.
-fn ttl_in(rolls: &HashMap<RollType, RollState>, roll: RollType, half: Half) -> Option<u32>
-    ensures { result ≡ ttl_in (which half) (phase_of (rolls_shown rolls.now) roll) }
-{
-    match (half, phase_of(rolls, roll)) {
-        (Half::First, Some(RollState::CacheExpire1(ttl))) => Some(ttl),
-        (Half::Second, Some(RollState::CacheExpire2(ttl))) => Some(ttl),
-        _ => None,
-    }
-}
-
-impl KeySet {
-    /// Whether a wait is over: refused out of its phase, then for a missing stamp, then early.
-    pub(crate) fn check_wait(
-        &self,
-        rolltype: RollType,
-        half: Half,
-        now: &UnixTime,
-    ) -> Result<(), Error>
-        ensures reply { AnswersWait
-            (wait_verdict rolltype (which half) now.now self.now) self.now.keys [] result }
-        ensures there { OnOk result (IsSome (phase_of self.now.rolls rolltype)) }
-    {
-        let Some(ttl) = ttl_in(&self.rollstates, rolltype, half) else {
-            return Err(Error::WrongStateForRollOperation);
-        };
-        let Some(left) = longest_left(&self.keys, rolltype, half, ttl, *now) else {
-            return Err(Error::WrongKeyState);
-        };
-        if left > 0 {
-            return Err(Error::Wait(Duration::from_nanos(left)));
-        }
-        Ok(())
     }
 }

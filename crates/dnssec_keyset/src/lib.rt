@@ -16,6 +16,7 @@ mod set;
 mod table;
 mod text;
 mod time;
+mod wait;
 
 pub use comparisons::{
     equal_errors_are_one, equal_kinds_are_one, equal_moments_are_one, equal_phases_are_one,
@@ -27,3 +28,4 @@ pub use key::{Available, Key, KeyState, KeyTimestamps, KeyType};
 pub use roll::{Action, RollState, RollType};
 pub use set::KeySet;
 pub use time::UnixTime;
+pub use wait::WaitEnd;
