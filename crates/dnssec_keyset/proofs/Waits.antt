@@ -10,23 +10,23 @@ use Rattle.std.specs.declared.time.Duration.{Duration}
 use Rattle.std.specs.String.{string_eq}
 use Rattle.std.specs.HashMap.{IsUnique, values as hash_values}
 use Rattle.std.proofs.lemmas.Bool.Decides.{nat_tests}
-use Rattle.dnssec_keyset.specs.RollTable.{Half, First, Second, expiring}
-use Rattle.dnssec_keyset.specs.declared.roll.RollType.{RollType}
-use Rattle.dnssec_keyset.specs.declared.roll.Action.{Action}
-use Rattle.dnssec_keyset.specs.declared.error.Error.{Error}
-use Rattle.dnssec_keyset.specs.declared.error.Error.TheVariants.{WrongKeyState, WrongStateForRollOperation, Wait, OutOfMemory}
+use Rattle.dnssec_key.specs.RollTable.{Half, First, Second, expiring}
+use Rattle.dnssec_key.specs.declared.roll.RollType.{RollType}
+use Rattle.dnssec_key.specs.declared.roll.Action.{Action}
+use Rattle.dnssec_key.specs.declared.error.Error.{Error}
+use Rattle.dnssec_key.specs.declared.error.Error.TheVariants.{WrongKeyState, WrongStateForRollOperation, Wait, OutOfMemory}
 use Rattle.dnssec_keyset.specs.declared.set.KeySet.TheInside.{Inside}
 use Rattle.dnssec_keyset.specs.contracts.set.KeySet.{the_view}
-use Rattle.dnssec_keyset.specs.Key.{KeyParts}
+use Rattle.dnssec_key.specs.Key.{KeyParts}
 use Rattle.dnssec_keyset.specs.KeySet.{Keys, KeySetParts, phase_of, rolls_shown, some_key}
-use Rattle.dnssec_keyset.specs.RollTable.{half_of}
+use Rattle.dnssec_key.specs.RollTable.{half_of}
 use Rattle.dnssec_keyset.specs.Wait.{ttl_in, time_left, left_since, stamp_read, over_at}
 use Rattle.dnssec_keyset.specs.Wait.{over_since, lacks_stamp, is_early, IsLongest}
 use Rattle.dnssec_keyset.specs.Step.{Verdict, Barred, Early, Clear, AnswersWait, wait_in_phase, wait_verdict}
 use Rattle.dnssec_keyset.specs.WaitEnd.{IsEarlyBy, IsOverFrom, LacksStamp, HasNoWait}
-use Rattle.dnssec_keyset.specs.declared.roll.RollState.{RollState}
-use Rattle.dnssec_keyset.specs.declared.roll.RollState.TheVariants.{Propagation1, CacheExpire1}
-use Rattle.dnssec_keyset.specs.declared.roll.RollState.TheVariants.{Propagation2, CacheExpire2, Done}
+use Rattle.dnssec_key.specs.declared.roll.RollState.{RollState}
+use Rattle.dnssec_key.specs.declared.roll.RollState.TheVariants.{Propagation1, CacheExpire1}
+use Rattle.dnssec_key.specs.declared.roll.RollState.TheVariants.{Propagation2, CacheExpire2, Done}
 use Rattle.dnssec_keyset.proofs.Walks.{some_key-view}
 use Rattle.dnssec_keyset.proofs.Quantified.{some_key-found, some_key-none}
 

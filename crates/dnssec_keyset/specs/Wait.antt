@@ -6,25 +6,13 @@ use Rattle.std.specs.Prelude.{◌≡◌, ℕ, ◌*◌, ◌+◌, ◌-◌, ◌≤�
 use Rattle.std.specs.Prelude.{unwrap_or, if◌then◌else◌, nat_eq, nat_lt, List}
 use Rattle.std.specs.Option.{option_map}
 use Rattle.std.specs.FinMap.{get}
-use Rattle.dnssec_keyset.specs.declared.key.Stamp.{Stamp}
-use Rattle.dnssec_keyset.specs.declared.key.Stamp.TheVariants.{Published, Visible, DsVisible}
-use Rattle.dnssec_keyset.specs.declared.key.Stamp.TheVariants.{RrsigVisible, Withdrawn}
-use Rattle.dnssec_keyset.specs.declared.roll.RollType.{RollType}
-use Rattle.dnssec_keyset.specs.declared.roll.RollState.{RollState}
-use Rattle.dnssec_keyset.specs.declared.roll.RollState.TheVariants.{CacheExpire1}
-use Rattle.dnssec_keyset.specs.declared.roll.RollState.TheVariants.{CacheExpire2}
-use Rattle.dnssec_keyset.specs.State.{Stamps}
-use Rattle.dnssec_keyset.specs.Key.{KeyParts}
+use Rattle.dnssec_key.specs.declared.roll.RollType.{RollType}
+use Rattle.dnssec_key.specs.declared.roll.RollState.{RollState}
+use Rattle.dnssec_key.specs.declared.roll.RollState.TheVariants.{CacheExpire1}
+use Rattle.dnssec_key.specs.declared.roll.RollState.TheVariants.{CacheExpire2}
+use Rattle.dnssec_key.specs.Key.{KeyParts}
 use Rattle.dnssec_keyset.specs.KeySet.{Keys, some_key}
-use Rattle.dnssec_keyset.specs.RollTable.{Half, First, Second, half_of}
-
--- the moment of a stamp, where it was written (RFC 7583, section 3)
-abbrev pub stamp_at : Stamp → Stamps → Option ℕ
-stamp_at Published t = t.published
-stamp_at Visible t = t.visible
-stamp_at DsVisible t = t.ds_visible
-stamp_at RrsigVisible t = t.rrsig_visible
-stamp_at Withdrawn t = t.withdrawn
+use Rattle.dnssec_key.specs.RollTable.{Half, First, Second, half_of, stamp_at}
 
 -- the TTL that this half of a roll waits for, in that phase alone (RFC 6781, section 4.1)
 abbrev pub ttl_in : Half → Option RollState → Option ℕ

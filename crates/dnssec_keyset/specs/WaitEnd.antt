@@ -2,13 +2,13 @@
 -- until then asks neither too early nor longer than it must (RFC 7583, section 3: the interval is a
 -- TTL from the event on).
 use Rattle.std.specs.Prelude.{◌≡◌, ℕ, ◌*◌, ◌-◌, ◌^◌, ◌≤◌, ◌<◌, Option, None, Some, min}
-use Rattle.dnssec_keyset.specs.declared.error.Error.{Error}
-use Rattle.dnssec_keyset.specs.declared.error.Error.TheVariants.{WrongKeyState}
-use Rattle.dnssec_keyset.specs.declared.roll.RollType.{RollType}
+use Rattle.dnssec_key.specs.declared.error.Error.{Error}
+use Rattle.dnssec_key.specs.declared.error.Error.TheVariants.{WrongKeyState}
+use Rattle.dnssec_key.specs.declared.roll.RollType.{RollType}
 use Rattle.dnssec_keyset.specs.declared.wait.WaitEnd.{WaitEnd}
 use Rattle.dnssec_keyset.specs.declared.wait.WaitEnd.TheVariants.{At, PastTime}
 use Rattle.dnssec_keyset.specs.KeySet.{Keys, KeySetParts, phase_of}
-use Rattle.dnssec_keyset.specs.RollTable.{Half}
+use Rattle.dnssec_key.specs.RollTable.{Half}
 use Rattle.dnssec_keyset.specs.Step.{Verdict, Barred, Early, Clear, wait_in_phase, wait_verdict}
 use Rattle.dnssec_keyset.specs.Wait.{IsLongest, ttl_in}
 

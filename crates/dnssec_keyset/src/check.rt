@@ -17,11 +17,8 @@ ghost use Rattle.dnssec_keyset.specs.Start.{some_listed, some_kept, is_met, suit
 ghost use Rattle.dnssec_keyset.specs.Start.{start_refusal};
 ghost use Rattle.dnssec_keyset.specs.Step.{AnswersExactly};
 
-use crate::error::Error;
-use crate::key::{Key, KeyType};
-use crate::roll::{RollState, RollType, Side};
 use crate::set::KeySet;
-use crate::table::{is_kept_at_parent, is_kept_present};
+use dnssec_key::{Error, Key, KeyType, RollState, RollType, is_kept_at_parent, is_kept_present};
 use std::collections::HashMap;
 
 const ALL_ROLLS: [RollType; 6] = [
@@ -32,6 +29,14 @@ const ALL_ROLLS: [RollType; 6] = [
     RollType::CskRoll,
     RollType::AlgorithmRoll,
 ];
+
+/// Which keys a roll changes.
+#[derive(Clone, Copy, Debug, PartialEq, Eq)]
+pub(crate) enum Side {
+    KskSide,
+    ZskSide,
+    BothSides,
+}
 
 /// What a start has to leave on a side that the roll changes: a key that serves.
 #[derive(Clone, Copy, Debug, PartialEq, Eq)]
@@ -99,40 +104,38 @@ impl Side {
     }
 }
 
-impl RollType {
-    fn side(self) -> Side
-        ensures { result ≡ side_of self }
-    {
-        match self {
-            RollType::KskRoll | RollType::KskDoubleDsRoll => Side::KskSide,
-            RollType::ZskRoll | RollType::ZskDoubleSignatureRoll => Side::ZskSide,
-            RollType::CskRoll | RollType::AlgorithmRoll => Side::BothSides,
-        }
+fn side_of(roll: RollType) -> Side
+    ensures { result ≡ side_of roll }
+{
+    match roll {
+        RollType::KskRoll | RollType::KskDoubleDsRoll => Side::KskSide,
+        RollType::ZskRoll | RollType::ZskDoubleSignatureRoll => Side::ZskSide,
+        RollType::CskRoll | RollType::AlgorithmRoll => Side::BothSides,
     }
+}
 
-    /// Whether this roll and another may be in progress together.
-    fn goes_with(self, other: RollType) -> bool
-        ensures { result ≡ together self other }
-    {
-        self.side().is_apart_from(other.side())
-    }
+/// Whether two rolls may be in progress together.
+fn go_together(one: RollType, other: RollType) -> bool
+    ensures { result ≡ together one other }
+{
+    side_of(one).is_apart_from(side_of(other))
+}
 
-    fn may_change_algorithms(self) -> bool
-        ensures { result ≡ may_change_algorithms self }
-    {
-        matches!(self, RollType::AlgorithmRoll)
-    }
+fn may_change_algorithms(roll: RollType) -> bool
+    ensures { result ≡ may_change_algorithms roll }
+{
+    matches!(roll, RollType::AlgorithmRoll)
+}
 
-    fn wants(self) -> &'static [Want]
-        ensures { result.now ≡ wants self }
-    {
-        match self {
-            RollType::KskRoll => &[Want::PresentKsk],
-            RollType::KskDoubleDsRoll => &[Want::KskAtParent],
-            RollType::ZskRoll | RollType::ZskDoubleSignatureRoll => &[Want::PresentZsk],
-            RollType::CskRoll | RollType::AlgorithmRoll => {
-                &[Want::PresentKskRole, Want::PresentZskRole]
-            }
+fn wants(roll: RollType) -> &'static [Want]
+    ensures { result.now ≡ wants roll }
+{
+    match roll {
+        RollType::KskRoll => &[Want::PresentKsk],
+        RollType::KskDoubleDsRoll => &[Want::KskAtParent],
+        RollType::ZskRoll | RollType::ZskDoubleSignatureRoll => &[Want::PresentZsk],
+        RollType::CskRoll | RollType::AlgorithmRoll => {
+            &[Want::PresentKskRole, Want::PresentZskRole]
         }
     }
 }
@@ -165,7 +168,7 @@ fn old_entry_fault(keys: &HashMap<String, Key>, roll: RollType, reference: &str)
 {
     match keys.get(reference) {
         None => Some(Error::KeyNotFound),
-        Some(key) if roll.side().lists(key.keytype()) => None,
+        Some(key) if side_of(roll).lists(key.keytype()) => None,
         Some(_) => Some(Error::WrongKeyType),
     }
 }
@@ -181,7 +184,7 @@ fn new_entry_fault(
     match keys.get(reference) {
         None => Some(Error::KeyNotFound),
         Some(key) => {
-            if !roll.side().lists(key.keytype()) {
+            if !side_of(roll).lists(key.keytype()) {
                 Some(Error::WrongKeyType)
             } else if key.is_fresh() && !taken {
                 None
@@ -286,7 +289,7 @@ fn check_algorithms(
     ensures { AnswersExactly
         (algorithm_fault roll (hash.get_by_text keys.now) (texts old.now) (texts new.now)) result }
 {
-    if roll.may_change_algorithms() || are_of_same_algorithms(keys, old, new) {
+    if may_change_algorithms(roll) || are_of_same_algorithms(keys, old, new) {
         Ok(())
     } else {
         Err(Error::AlgorithmSetsMismatch)
@@ -296,7 +299,7 @@ fn check_algorithms(
 fn has_conflict(rolls: &HashMap<RollType, RollState>, roll: RollType) -> bool
     ensures { result ≡ has_conflict roll (rolls_shown rolls.now) }
 {
-    ALL_ROLLS.iter().any(|other| phase_of(rolls, *other).is_some() && !roll.goes_with(*other))
+    ALL_ROLLS.iter().any(|other| phase_of(rolls, *other).is_some() && !go_together(roll, *other))
 }
 
 /// Refuses a roll that is in progress, or that doesn't go with one in progress.
@@ -402,7 +405,7 @@ impl KeySet {
         ensures { AnswersExactly
             (suitability_fault rolltype self.now.keys (texts old.now) (texts new.now)) result }
     {
-        if self.are_met(rolltype.wants(), old, new) {
+        if self.are_met(wants(rolltype), old, new) {
             Ok(())
         } else {
             Err(Error::NoSuitableKeyPresent)

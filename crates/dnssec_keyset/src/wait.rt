@@ -7,18 +7,15 @@ ghost use Rattle.std.specs.Option.{option_map, option_and_then};
 ghost use Rattle.std.specs.String.{string_eq};
 ghost use Rattle.std.specs.HashMap as hash;
 ghost use Rattle.dnssec_keyset.specs.KeySet.{phase_of, rolls_shown};
-ghost use Rattle.dnssec_keyset.specs.RollTable.{which};
+ghost use Rattle.dnssec_key.specs.RollTable.{which};
 ghost use Rattle.dnssec_keyset.specs.Step.{AnswersWait, wait_verdict};
 ghost use Rattle.dnssec_keyset.specs.Wait.{over_at, ttl_in};
 ghost use Rattle.dnssec_keyset.specs.WaitEnd.{EndsAt, HasNoWait, IsOverFrom, LacksStamp};
 ghost use Rattle.dnssec_keyset.specs.WaitEnd.{TellsEnd};
 
 use crate::check::phase_of;
-use crate::error::Error;
-use crate::key::Key;
-use crate::roll::{Half, RollState, RollType};
 use crate::set::KeySet;
-use crate::time::UnixTime;
+use dnssec_key::{Error, Half, Key, RollState, RollType, UnixTime};
 use std::collections::HashMap;
 use std::time::Duration;
 
@@ -42,21 +39,19 @@ fn ttl_in(rolls: &HashMap<RollType, RollState>, roll: RollType, half: Half) -> O
     }
 }
 
-impl Key {
-    /// The nanosecond since 1970 from which a wait is over for the key, or `None` where its stamp
-    /// is missing.
-    fn over_at(&self, roll: RollType, half: Half, ttl: u32) -> Option<u128>
-        ensures { result ≡ over_at roll (which half) ttl self.now }
-    {
-        if !self.keytype().is_checked(roll, half) {
-            return Some(0);
-        }
-        let stamp = self.timestamps().at(roll.stamp_read(half))?;
-        if ttl == 0 {
-            return Some(0);
-        }
-        Some(Duration::from(stamp).as_nanos() + u128::from(ttl) * 1_000_000_000)
+/// The nanosecond since 1970 from which a wait is over for a key, or `None` where its stamp is
+/// missing.
+fn over_at(key: &Key, roll: RollType, half: Half, ttl: u32) -> Option<u128>
+    ensures { result ≡ over_at roll (which half) ttl key.now }
+{
+    if !key.keytype().is_checked(roll, half) {
+        return Some(0);
     }
+    let stamp = key.timestamps().at(roll.stamp_read(half))?;
+    if ttl == 0 {
+        return Some(0);
+    }
+    Some(Duration::from(stamp).as_nanos() + u128::from(ttl) * 1_000_000_000)
 }
 
 /// The later of two moments, where both are known.
@@ -79,7 +74,7 @@ fn latest_over(keys: &HashMap<String, Key>, roll: RollType, half: Half, ttl: u32
 {
     keys.values().fold(
         Some(0),
-        |latest, key| later(latest, key.over_at(roll, half, ttl)),
+        |latest, key| later(latest, over_at(key, roll, half, ttl)),
     )
 }
 

@@ -1,13 +1,13 @@
 -- More facts of the tables: the waits, the keys that a call leaves alone, the keys that a wait reads.
 use Rattle.std.proofs.Common.{◌≡◌, Bool, true, false, not, ◌&&◌, ◌||◌, refl, sym, ◌∙◌, ap}
 use Rattle.std.proofs.lemmas.Bool.{and_parts, true≢false}
-use Rattle.dnssec_keyset.specs.declared.roll.RollType.{RollType}
-use Rattle.dnssec_keyset.specs.declared.roll.RollType.TheVariants.{KskRoll, KskDoubleDsRoll, ZskRoll, ZskDoubleSignatureRoll, CskRoll, AlgorithmRoll}
-use Rattle.dnssec_keyset.specs.State.{Flags as KeyState}
-use Rattle.dnssec_keyset.specs.declared.key.KeyType.{KeyType}
-use Rattle.dnssec_keyset.specs.declared.key.KeyType.TheVariants.{Ksk, Zsk, Csk, Include}
+use Rattle.dnssec_key.specs.declared.roll.RollType.{RollType}
+use Rattle.dnssec_key.specs.declared.roll.RollType.TheVariants.{KskRoll, KskDoubleDsRoll, ZskRoll, ZskDoubleSignatureRoll, CskRoll, AlgorithmRoll}
+use Rattle.dnssec_key.specs.State.{Flags as KeyState}
+use Rattle.dnssec_key.specs.declared.key.KeyType.{KeyType}
+use Rattle.dnssec_key.specs.declared.key.KeyType.TheVariants.{Ksk, Zsk, Csk, Include}
 use Rattle.dnssec_run.specs.Safe.{SetKind, Ds, Dnskey, ZoneSigners}
-use Rattle.dnssec_keyset.specs.RollTable.{column}
+use Rattle.dnssec_key.specs.RollTable.{column}
 use Rattle.dnssec_run.proofs.Chain.Tables.{started, waited1, waited2, SideOf, Keys, Zone, affects, may_list, is_blank, written, Stamp, Visible, DsVisible, RrsigVisible, read, checked, tolerates, serves_new, serves_kept, is_stale, enters_now, parent_now, signs_now}
 use Rattle.dnssec_run.proofs.Chain.Flags.{Stage, Quiet, Early, Late, each_key, each_key-at, ◌⇒◌, mp, four, and-both, switches, test_of, first_test, second_test, in_use, fits, has_role, remains, live, may_start}
 

@@ -1,13 +1,13 @@
 -- The finite facts of the tables on both sides of the chain, computed over all kinds and flags.
 use Rattle.std.proofs.Common.{◌≡◌, Bool, true, false, not, ◌&&◌, ◌||◌, refl, sym}
 use Rattle.std.proofs.lemmas.Bool.{and_parts, true≢false}
-use Rattle.dnssec_keyset.specs.declared.roll.RollType.{RollType}
-use Rattle.dnssec_keyset.specs.declared.roll.RollType.TheVariants.{KskRoll, KskDoubleDsRoll, ZskRoll, ZskDoubleSignatureRoll, CskRoll, AlgorithmRoll}
-use Rattle.dnssec_keyset.specs.State.{Flags as KeyState}
-use Rattle.dnssec_keyset.specs.declared.key.KeyType.{KeyType}
-use Rattle.dnssec_keyset.specs.declared.key.KeyType.TheVariants.{Ksk, Zsk, Csk, Include}
+use Rattle.dnssec_key.specs.declared.roll.RollType.{RollType}
+use Rattle.dnssec_key.specs.declared.roll.RollType.TheVariants.{KskRoll, KskDoubleDsRoll, ZskRoll, ZskDoubleSignatureRoll, CskRoll, AlgorithmRoll}
+use Rattle.dnssec_key.specs.State.{Flags as KeyState}
+use Rattle.dnssec_key.specs.declared.key.KeyType.{KeyType}
+use Rattle.dnssec_key.specs.declared.key.KeyType.TheVariants.{Ksk, Zsk, Csk, Include}
 use Rattle.dnssec_run.specs.Safe.{SetKind, Ds, Dnskey, ZoneSigners}
-use Rattle.dnssec_keyset.specs.RollTable.{column}
+use Rattle.dnssec_key.specs.RollTable.{column}
 use Rattle.dnssec_run.specs.Published.{in_ds, in_dnskey, signs_dnskey as signs_keys, signs_zone}
 use Rattle.dnssec_run.proofs.Chain.Tables.{started, SideOf, Keys, Zone, affects, may_list, is_blank, serves_new, serves_kept}
 

@@ -1,9 +1,9 @@
 -- The invariant of a side, what it gives, and the calls that leave it alone.
 use Rattle.std.proofs.Common.{◌≡◌, ℕ, suc, ◌≤◌, Bool, true, false, refl, sym, ◌∙◌, arith, List, length, Option, None, Some}
 use Rattle.std.proofs.lemmas.Bool.{true≢false, and_parts}
-use Rattle.dnssec_keyset.specs.declared.roll.RollType.{RollType}
-use Rattle.dnssec_keyset.specs.declared.roll.RollType.TheVariants.{KskRoll, KskDoubleDsRoll, ZskRoll, ZskDoubleSignatureRoll, CskRoll, AlgorithmRoll}
-use Rattle.dnssec_keyset.specs.declared.key.KeyType.{KeyType}
+use Rattle.dnssec_key.specs.declared.roll.RollType.{RollType}
+use Rattle.dnssec_key.specs.declared.roll.RollType.TheVariants.{KskRoll, KskDoubleDsRoll, ZskRoll, ZskDoubleSignatureRoll, CskRoll, AlgorithmRoll}
+use Rattle.dnssec_key.specs.declared.key.KeyType.{KeyType}
 use Rattle.dnssec_run.specs.declared.record.Entry.{Entry}
 use Rattle.dnssec_run.specs.Published.{Id}
 use Rattle.dnssec_run.specs.Safe.{SetKind, Ds, Dnskey, ZoneSigners, position_at, base_below, is_step, Retired}

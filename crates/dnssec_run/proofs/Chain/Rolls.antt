@@ -2,10 +2,10 @@
 use Rattle.std.proofs.Common.{◌≡◌, Bool, true, false, not, Option, None, Some, refl, sym, ◌∙◌, ap}
 use Rattle.std.specs.Prelude.{if◌then◌else◌}
 use Rattle.std.proofs.lemmas.Bool.{true≢false}
-use Rattle.dnssec_keyset.specs.declared.roll.RollType.{RollType}
-use Rattle.dnssec_keyset.specs.declared.roll.RollType.TheVariants.{KskRoll, KskDoubleDsRoll, ZskRoll, ZskDoubleSignatureRoll, CskRoll, AlgorithmRoll}
-use Rattle.dnssec_keyset.specs.declared.roll.RollState.{RollState}
-use Rattle.dnssec_keyset.specs.declared.roll.RollState.TheVariants.{Propagation1, CacheExpire1, Propagation2, CacheExpire2, Done}
+use Rattle.dnssec_key.specs.declared.roll.RollType.{RollType}
+use Rattle.dnssec_key.specs.declared.roll.RollType.TheVariants.{KskRoll, KskDoubleDsRoll, ZskRoll, ZskDoubleSignatureRoll, CskRoll, AlgorithmRoll}
+use Rattle.dnssec_key.specs.declared.roll.RollState.{RollState}
+use Rattle.dnssec_key.specs.declared.roll.RollState.TheVariants.{Propagation1, CacheExpire1, Propagation2, CacheExpire2, Done}
 use Rattle.dnssec_keyset.specs.KeySet.{same_roll}
 use Rattle.dnssec_run.proofs.Chain.Tale.{put_roll}
 use Rattle.dnssec_run.proofs.Chain.Tables.{SideOf, Keys, Zone, affects, tolerates}

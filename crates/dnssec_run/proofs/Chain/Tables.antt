@@ -1,12 +1,12 @@
 -- The tables of the key set in the words of the chain's proof.
 use Rattle.std.proofs.Common.{◌≡◌, Bool, true, false, not, ◌&&◌, ℕ, Option, refl}
-use Rattle.dnssec_keyset.specs.declared.roll.RollType.{RollType}
-use Rattle.dnssec_keyset.specs.declared.roll.RollType.TheVariants.{KskRoll, KskDoubleDsRoll, ZskRoll, ZskDoubleSignatureRoll, CskRoll, AlgorithmRoll}
-use Rattle.dnssec_keyset.specs.declared.key.KeyType.{KeyType}
-use Rattle.dnssec_keyset.specs.State.{Flags, Stamps, is_any, is_used, is_stale as stale_state, kept_present, kept_at_parent, kept_signing}
-use Rattle.dnssec_keyset.specs.Key.{all_states, ksk, zsk, ksk_role, zsk_role}
-use Rattle.dnssec_keyset.specs.Wait.{stamp_at}
-use Rattle.dnssec_keyset.specs.RollTable.{Half, First, Second, half_of, column, Stamping, at_roles, turns_old}
+use Rattle.dnssec_key.specs.declared.roll.RollType.{RollType}
+use Rattle.dnssec_key.specs.declared.roll.RollType.TheVariants.{KskRoll, KskDoubleDsRoll, ZskRoll, ZskDoubleSignatureRoll, CskRoll, AlgorithmRoll}
+use Rattle.dnssec_key.specs.declared.key.KeyType.{KeyType}
+use Rattle.dnssec_key.specs.State.{Flags, Stamps, is_any, is_used, is_stale as stale_state, kept_present, kept_at_parent, kept_signing}
+use Rattle.dnssec_key.specs.Key.{all_states, ksk, zsk, ksk_role, zsk_role}
+use Rattle.dnssec_key.specs.RollTable.{stamp_at}
+use Rattle.dnssec_key.specs.RollTable.{Half, First, Second, half_of, column, Stamping, at_roles, turns_old}
 use Rattle.dnssec_keyset.specs.Start.{lists_kind, side_of, together}
 
 -- the half of a report or a wait

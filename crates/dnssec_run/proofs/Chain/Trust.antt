@@ -8,15 +8,16 @@ use Rattle.std.specs.Ordering.{nat_cmp}
 use Rattle.std.specs.Cmp.Lexicographic.{slice_cmp}
 use Rattle.std.proofs.lemmas.Bool.{true≢false}
 use Rattle.std.proofs.lemmas.Option.{same_Some, none-some}
-use Rattle.dnssec_keyset.specs.declared.roll.RollType.{RollType}
-use Rattle.dnssec_keyset.specs.declared.roll.RollType.TheVariants.{KskRoll, KskDoubleDsRoll, ZskRoll, ZskDoubleSignatureRoll, CskRoll, AlgorithmRoll}
-use Rattle.dnssec_keyset.specs.declared.roll.RollState.{RollState}
-use Rattle.dnssec_keyset.specs.declared.roll.RollState.TheVariants.{Propagation1, CacheExpire1, Propagation2, CacheExpire2, Done}
-use Rattle.dnssec_keyset.specs.declared.error.Error.{Error}
-use Rattle.dnssec_keyset.specs.declared.key.KeyType.{KeyType}
+use Rattle.dnssec_key.specs.declared.roll.RollType.{RollType}
+use Rattle.dnssec_key.specs.declared.roll.RollType.TheVariants.{KskRoll, KskDoubleDsRoll, ZskRoll, ZskDoubleSignatureRoll, CskRoll, AlgorithmRoll}
+use Rattle.dnssec_key.specs.declared.roll.RollState.{RollState}
+use Rattle.dnssec_key.specs.declared.roll.RollState.TheVariants.{Propagation1, CacheExpire1, Propagation2, CacheExpire2, Done}
+use Rattle.dnssec_key.specs.declared.error.Error.{Error}
+use Rattle.dnssec_key.specs.declared.key.KeyType.{KeyType}
 use Rattle.dnssec_keyset.specs.KeySet.{KeySetParts, Rolls, MovesOn, phase_of, with_phase, no_rolls}
-use Rattle.dnssec_keyset.specs.RollTable.{First, Second}
-use Rattle.dnssec_keyset.specs.Setters.{Decoupled, Present, Signer, AtParent, Stale, VisibleAt, DsVisibleAt, RrsigVisibleAt, set_by, deletion_refusal}
+use Rattle.dnssec_key.specs.RollTable.{First, Second}
+use Rattle.dnssec_key.specs.Setters.{Decoupled, Present, Signer, AtParent, Stale, VisibleAt, DsVisibleAt, RrsigVisibleAt, set_by}
+use Rattle.dnssec_keyset.specs.Step.{deletion_refusal}
 use Rattle.dnssec_keyset.specs.Step as keyset
 use Rattle.dnssec_run.specs.declared.call.Call.{Call}
 use Rattle.dnssec_run.specs.declared.call.Call.TheVariants as call

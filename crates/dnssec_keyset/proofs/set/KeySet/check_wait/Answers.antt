@@ -1,6 +1,6 @@
 -- An early wait is told what is left of it.
 use Rattle.std.proofs.Common.{sym, ◌∙◌, arith}
-use Rattle.dnssec_keyset.specs.RollTable.{which}
+use Rattle.dnssec_key.specs.RollTable.{which}
 use Rattle.dnssec_keyset.proofs.Waits.{ttl-shown, told-early, left-now}
 use Rattle.dnssec_keyset.proofs.set.KeySet.check_wait.Goals as goal
 

@@ -1,7 +1,7 @@
 -- The walk over the keys tells from when on a wait is over.
 use Rattle.std.proofs.Common.{◌≡◌, ℕ, Some, None, IfSome, ◌∙◌, refl}
 use Rattle.std.specs.Prelude.{Option, IfNone}
-use Rattle.dnssec_keyset.specs.RollTable.{which}
+use Rattle.dnssec_key.specs.RollTable.{which}
 use Rattle.dnssec_keyset.specs.WaitEnd.{IsOverFrom, LacksStamp}
 use Rattle.dnssec_keyset.proofs.Waits.{walk-lacks, walk-over}
 use Rattle.dnssec_keyset.proofs.set.KeySet.over_from.Goals as goal

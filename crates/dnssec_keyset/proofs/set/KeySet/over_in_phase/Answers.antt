@@ -1,7 +1,7 @@
 -- A wait that is due has an end, and a roll without one has no wait.
 use Rattle.std.proofs.Common.{ℕ, Some, None, sym, ◌∙◌, ap}
 use Rattle.std.specs.Prelude.{Option, IfNone}
-use Rattle.dnssec_keyset.specs.RollTable.{First, Second}
+use Rattle.dnssec_key.specs.RollTable.{First, Second}
 use Rattle.dnssec_keyset.specs.WaitEnd.{HasNoWait, LacksStamp}
 use Rattle.dnssec_keyset.proofs.Waits.{no-wait-half, no-wait-phase, phase-shown}
 use Rattle.dnssec_keyset.proofs.Waits.{NotBegun, FirstChange, SecondChange, Ended}

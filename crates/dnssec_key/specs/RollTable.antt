@@ -4,35 +4,36 @@
 -- column doesn't name stays.
 use Rattle.std.specs.Prelude.{ℕ, Bool, true, false, not, ◌||◌, if◌then◌else◌, Option, None}
 use Rattle.std.specs.Prelude.{Some, List, [], ◌∷◌}
-use Rattle.dnssec_keyset.specs.declared.key.KeyType.{KeyType}
-use Rattle.dnssec_keyset.specs.declared.key.KeyType.TheVariants.{Ksk, Zsk, Csk, Include}
-use Rattle.dnssec_keyset.specs.declared.key.Stamp.{Stamp}
-use Rattle.dnssec_keyset.specs.declared.key.Stamped.{Stamped}
-use Rattle.dnssec_keyset.specs.declared.key.Stamp.TheVariants.{Visible, DsVisible, RrsigVisible}
-use Rattle.dnssec_keyset.specs.declared.roll.Half.{Half as HalfOfCode}
-use Rattle.dnssec_keyset.specs.declared.roll.Half.TheVariants as code
-use Rattle.dnssec_keyset.specs.declared.roll.RollType.{RollType}
-use Rattle.dnssec_keyset.specs.declared.roll.RollType.TheVariants.{KskRoll, KskDoubleDsRoll}
-use Rattle.dnssec_keyset.specs.declared.roll.RollType.TheVariants.{ZskRoll, ZskDoubleSignatureRoll}
-use Rattle.dnssec_keyset.specs.declared.roll.RollType.TheVariants.{CskRoll, AlgorithmRoll}
-use Rattle.dnssec_keyset.specs.declared.roll.RollState.{RollState}
-use Rattle.dnssec_keyset.specs.declared.roll.RollState.TheVariants.{Propagation1, CacheExpire1}
-use Rattle.dnssec_keyset.specs.declared.roll.RollState.TheVariants.{Propagation2, CacheExpire2}
-use Rattle.dnssec_keyset.specs.declared.roll.RollState.TheVariants.{Done}
-use Rattle.dnssec_keyset.specs.declared.roll.Action.{Action}
-use Rattle.dnssec_keyset.specs.declared.roll.Action.TheVariants.{UpdateDnskeyRrset, CreateCdsRrset}
-use Rattle.dnssec_keyset.specs.declared.roll.Action.TheVariants.{RemoveCdsRrset, UpdateDsRrset}
-use Rattle.dnssec_keyset.specs.declared.roll.Action.TheVariants.{UpdateRrsig}
-use Rattle.dnssec_keyset.specs.declared.roll.Action.TheVariants.{ReportDnskeyPropagated}
-use Rattle.dnssec_keyset.specs.declared.roll.Action.TheVariants.{WaitDnskeyPropagated}
-use Rattle.dnssec_keyset.specs.declared.roll.Action.TheVariants.{ReportDsPropagated}
-use Rattle.dnssec_keyset.specs.declared.roll.Action.TheVariants.{WaitDsPropagated}
-use Rattle.dnssec_keyset.specs.declared.roll.Action.TheVariants.{ReportRrsigPropagated}
-use Rattle.dnssec_keyset.specs.declared.roll.Action.TheVariants.{WaitRrsigPropagated}
-use Rattle.dnssec_keyset.specs.State.{Flags, Stamps, is_old, is_leaving, kept_present, kept_signing}
-use Rattle.dnssec_keyset.specs.State.{kept_at_parent, old_present, old_at_parent, old_silent}
-use Rattle.dnssec_keyset.specs.Key.{KeyParts, ksk, zsk, ksk_role, zsk_role, any_key, zone_key}
-use Rattle.dnssec_keyset.specs.Key.{every_key, no_key, either}
+use Rattle.dnssec_key.specs.declared.key.KeyType.{KeyType}
+use Rattle.dnssec_key.specs.declared.key.KeyType.TheVariants.{Ksk, Zsk, Csk, Include}
+use Rattle.dnssec_key.specs.declared.key.Stamp.{Stamp}
+use Rattle.dnssec_key.specs.declared.key.Stamped.{Stamped}
+use Rattle.dnssec_key.specs.declared.key.Stamp.TheVariants.{Visible, DsVisible, RrsigVisible}
+use Rattle.dnssec_key.specs.declared.key.Stamp.TheVariants.{Published, Withdrawn}
+use Rattle.dnssec_key.specs.declared.roll.Half.{Half as HalfOfCode}
+use Rattle.dnssec_key.specs.declared.roll.Half.TheVariants as code
+use Rattle.dnssec_key.specs.declared.roll.RollType.{RollType}
+use Rattle.dnssec_key.specs.declared.roll.RollType.TheVariants.{KskRoll, KskDoubleDsRoll}
+use Rattle.dnssec_key.specs.declared.roll.RollType.TheVariants.{ZskRoll, ZskDoubleSignatureRoll}
+use Rattle.dnssec_key.specs.declared.roll.RollType.TheVariants.{CskRoll, AlgorithmRoll}
+use Rattle.dnssec_key.specs.declared.roll.RollState.{RollState}
+use Rattle.dnssec_key.specs.declared.roll.RollState.TheVariants.{Propagation1, CacheExpire1}
+use Rattle.dnssec_key.specs.declared.roll.RollState.TheVariants.{Propagation2, CacheExpire2}
+use Rattle.dnssec_key.specs.declared.roll.RollState.TheVariants.{Done}
+use Rattle.dnssec_key.specs.declared.roll.Action.{Action}
+use Rattle.dnssec_key.specs.declared.roll.Action.TheVariants.{UpdateDnskeyRrset, CreateCdsRrset}
+use Rattle.dnssec_key.specs.declared.roll.Action.TheVariants.{RemoveCdsRrset, UpdateDsRrset}
+use Rattle.dnssec_key.specs.declared.roll.Action.TheVariants.{UpdateRrsig}
+use Rattle.dnssec_key.specs.declared.roll.Action.TheVariants.{ReportDnskeyPropagated}
+use Rattle.dnssec_key.specs.declared.roll.Action.TheVariants.{WaitDnskeyPropagated}
+use Rattle.dnssec_key.specs.declared.roll.Action.TheVariants.{ReportDsPropagated}
+use Rattle.dnssec_key.specs.declared.roll.Action.TheVariants.{WaitDsPropagated}
+use Rattle.dnssec_key.specs.declared.roll.Action.TheVariants.{ReportRrsigPropagated}
+use Rattle.dnssec_key.specs.declared.roll.Action.TheVariants.{WaitRrsigPropagated}
+use Rattle.dnssec_key.specs.State.{Flags, Stamps, is_old, is_leaving, kept_present, kept_signing}
+use Rattle.dnssec_key.specs.State.{kept_at_parent, old_present, old_at_parent, old_silent}
+use Rattle.dnssec_key.specs.Key.{KeyParts, ksk, zsk, ksk_role, zsk_role, any_key, zone_key}
+use Rattle.dnssec_key.specs.Key.{every_key, no_key, either}
 
 -- ---- what happens to one role, in the operator's words
 
@@ -334,6 +335,14 @@ half_of roll First = (column roll).first
 half_of roll Second = (column roll).second
 
 -- ---- the table at one key
+
+-- the moment of a stamp, where it was written (RFC 7583, section 3)
+abbrev pub stamp_at : Stamp → Stamps → Option ℕ
+stamp_at Published t = t.published
+stamp_at Visible t = t.visible
+stamp_at DsVisible t = t.ds_visible
+stamp_at RrsigVisible t = t.rrsig_visible
+stamp_at Withdrawn t = t.withdrawn
 
 -- which stamps are written on a key of this kind (RFC 7583, section 3)
 abbrev pub written : Stamping → KeyType → Stamped

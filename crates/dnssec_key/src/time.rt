@@ -24,8 +24,8 @@ impl Model for UnixTime {
 
     ghost coded = { coded_ℕ };
 
-    ghost use Rattle.dnssec_keyset.specs.Moment.{moment_of, IsMoment};
-    ghost use Rattle.dnssec_keyset.specs.Moment.{inside_of, inside_of-moment_of};
+    ghost use Rattle.dnssec_key.specs.Moment.{moment_of, IsMoment};
+    ghost use Rattle.dnssec_key.specs.Moment.{inside_of, inside_of-moment_of};
 
     ghost view = { moment_of };
 

@@ -2,7 +2,7 @@
 ghost use Rattle.std.specs.Prelude.{◌≡◌, ◌<◌, Some};
 ghost use Rattle.std.specs.Duration.{as_nanos};
 ghost use Rattle.std.specs.Fmt.{WritesOnOk};
-ghost use Rattle.dnssec_keyset.specs.Texts.{duration_text, decimals_text, unit_of, in_table};
+ghost use Rattle.dnssec_key.specs.Texts.{duration_text, decimals_text, unit_of, in_table};
 
 use std::fmt;
 use std::time::Duration;

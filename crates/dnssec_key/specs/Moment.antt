@@ -2,7 +2,7 @@
 -- brings absolute time into the DNS).
 use Rattle.std.specs.Prelude.{◌≡◌, ℕ, ◌+◌, ◌*◌, ◌/◌, ◌%◌, ◌<◌}
 use Rattle.std.proofs.Common.{arith}
-use Rattle.dnssec_keyset.specs.declared.time.UnixTime.TheInside.{Inside}
+use Rattle.dnssec_key.specs.declared.time.UnixTime.TheInside.{Inside}
 
 -- the whole seconds, and the nanoseconds beyond them (RFC 6781, section 4.4)
 abbrev pub moment_of : Inside → ℕ

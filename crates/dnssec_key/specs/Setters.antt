@@ -1,20 +1,15 @@
--- The calls on single keys: what each setter changes, and what it is refused for; and deletion. By a
--- setter an operator does by hand what a roll does to many keys (RFC 6781, section 4.1).
-use Rattle.std.specs.Prelude.{◌≡◌, ℕ, Bool, true, false, Option, None, Some, List}
+-- What each setter changes of a key, and what a key refuses it for. By a setter an operator does by
+-- hand what a roll does to many keys (RFC 6781, section 4.1).
+use Rattle.std.specs.Prelude.{ℕ, Bool, true, false, Option, None, Some}
 use Rattle.std.specs.Prelude.{if◌then◌else◌}
-use Rattle.std.specs.Option.{option_map}
-use Rattle.std.specs.Str.{bytes_eq}
-use Rattle.std.specs.FinMap.{get}
-use Rattle.dnssec_keyset.specs.declared.key.KeyType.{KeyType}
-use Rattle.dnssec_keyset.specs.declared.key.KeyType.TheVariants.{Ksk, Zsk, Csk, Include}
-use Rattle.dnssec_keyset.specs.declared.key.Setting.{Setting as SettingOfCode}
-use Rattle.dnssec_keyset.specs.declared.key.Setting.TheVariants as code
-use Rattle.dnssec_keyset.specs.declared.error.Error.{Error}
-use Rattle.dnssec_keyset.specs.declared.error.Error.TheVariants.{KeyNotFound, KeyNotOld}
-use Rattle.dnssec_keyset.specs.declared.error.Error.TheVariants.{WrongKeyType}
-use Rattle.dnssec_keyset.specs.State.{Flags, is_any, is_stale}
-use Rattle.dnssec_keyset.specs.Key.{KeyParts, all_states, ksk_role, any_key}
-use Rattle.dnssec_keyset.specs.KeySet.{KeySetParts}
+use Rattle.dnssec_key.specs.declared.key.KeyType.{KeyType}
+use Rattle.dnssec_key.specs.declared.key.KeyType.TheVariants.{Ksk, Zsk, Csk, Include}
+use Rattle.dnssec_key.specs.declared.key.Setting.{Setting as SettingOfCode}
+use Rattle.dnssec_key.specs.declared.key.Setting.TheVariants as code
+use Rattle.dnssec_key.specs.declared.error.Error.{Error}
+use Rattle.dnssec_key.specs.declared.error.Error.TheVariants.{WrongKeyType}
+use Rattle.dnssec_key.specs.State.{Flags, is_any}
+use Rattle.dnssec_key.specs.Key.{KeyParts, ksk_role, any_key}
 
 -- what a setter sets (RFC 6781, section 4.1)
 pub data Setting : Type 0 where
@@ -110,21 +105,3 @@ suits_kind (RrsigVisibleAt time) k = true
 -- why a key refuses a setter (RFC 6781, section 3.1)
 abbrev pub kind_refusal : Setting → KeyType → Option Error
 kind_refusal setting k = if suits_kind setting k then None else Some WrongKeyType
-
--- why a setter is refused, with the key that it names (RFC 6781, section 3.1)
-abbrev pub setting_refusal : Setting → Option KeyParts → Option Error
-setting_refusal setting None = Some KeyNotFound
-setting_refusal setting (Some k) = kind_refusal setting k.keytype
-
--- why a deletion is refused: only a key that has left in every role may go (RFC 6781, section 4.1)
-abbrev pub deletion_refusal : Option KeyParts → Option Error
-deletion_refusal None = Some KeyNotFound
-deletion_refusal (Some k) = if all_states is_stale k.keytype then None else Some KeyNotOld
-
--- only the key at the reference is changed, by f (RFC 6781, section 4.1)
-pub record ChangesKey (old new : KeySetParts) (reference : List ℕ) (f : KeyParts → KeyParts)
-    : Type 0 where
-  pub name : new.name ≡ old.name
-  pub rolls : new.rolls ≡ old.rolls
-  pub keys : (q : List ℕ) →
-      get new.keys q ≡ option_map (λ k. if bytes_eq reference q then f k else k) (get old.keys q)

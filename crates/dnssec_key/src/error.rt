@@ -1,6 +1,6 @@
 //! What a call refuses.
 ghost use Rattle.std.specs.Prelude.{Some};
-ghost use Rattle.dnssec_keyset.specs.Texts.{error_text};
+ghost use Rattle.dnssec_key.specs.Texts.{error_text};
 
 use crate::text::DurationText;
 use std::fmt;

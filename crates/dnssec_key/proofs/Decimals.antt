@@ -7,9 +7,9 @@ use Rattle.std.proofs.Math.Nat.{div-lt_iff_lt-mul, pow-suc}
 use Rattle.std.proofs.lemmas.Bool.{cases_lt, ne_eqb}
 use Rattle.std.proofs.lemmas.Nat.{div-add-mod'}
 use Rattle.std.specs.List.{list_all}
-use Rattle.dnssec_keyset.specs.Texts.{in_table, last_digits, without_end_zeros}
-use Rattle.dnssec_keyset.specs.declared.text.TimeUnit.{TimeUnit}
-use Rattle.dnssec_keyset.specs.declared.text.TimeUnit.TheVariants.{
+use Rattle.dnssec_key.specs.Texts.{in_table, last_digits, without_end_zeros}
+use Rattle.dnssec_key.specs.declared.text.TimeUnit.{TimeUnit}
+use Rattle.dnssec_key.specs.declared.text.TimeUnit.TheVariants.{
   Second,
   Millisecond,
   Microsecond,

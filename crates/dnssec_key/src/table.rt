@@ -1,17 +1,17 @@
 //! What the steps of each roll do to one key: the rows of the table of rolls.
 #![tactic(auto, unfolding(crate::specs::RollTable::column))]
 
-ghost use Rattle.std.specs.Prelude.{◌≡◌, Bool, false, ◌&&◌, ◌||◌, List};
+ghost use Rattle.std.specs.Prelude.{◌≡◌, false, ◌&&◌, ◌||◌};
 ghost use Rattle.std.specs.Option.{option_map_or};
-ghost use Rattle.dnssec_keyset.specs.State.{is_old, is_leaving, kept_present, kept_signing};
-ghost use Rattle.dnssec_keyset.specs.State.{kept_at_parent, old_present, old_at_parent, old_silent};
-ghost use Rattle.dnssec_keyset.specs.Key.{ksk_state, zsk_state, ksk_role_state, zsk_role_state};
-ghost use Rattle.dnssec_keyset.specs.Key.{key_state, zone_key_state};
-ghost use Rattle.dnssec_keyset.specs.RollTable.{which, column, half_of, written, at_roles};
-ghost use Rattle.dnssec_keyset.specs.RollTable.{turns_old, comes_in, comes_in_signing, ds_comes_in};
-ghost use Rattle.dnssec_keyset.specs.RollTable.{ds_follows, keys_change_places, signatures_follow};
-ghost use Rattle.dnssec_keyset.specs.RollTable.{only, leaves_dnskey, leaves_parent};
-ghost use Rattle.dnssec_keyset.specs.RollTable.{leaves_silently, actions_of};
+ghost use Rattle.dnssec_key.specs.State.{is_old, is_leaving, kept_present, kept_signing};
+ghost use Rattle.dnssec_key.specs.State.{kept_at_parent, old_present, old_at_parent, old_silent};
+ghost use Rattle.dnssec_key.specs.Key.{ksk_state, zsk_state, ksk_role_state, zsk_role_state};
+ghost use Rattle.dnssec_key.specs.Key.{key_state, zone_key_state};
+ghost use Rattle.dnssec_key.specs.RollTable.{which, column, half_of, written, at_roles};
+ghost use Rattle.dnssec_key.specs.RollTable.{turns_old, comes_in, comes_in_signing, ds_comes_in};
+ghost use Rattle.dnssec_key.specs.RollTable.{ds_follows, keys_change_places, signatures_follow};
+ghost use Rattle.dnssec_key.specs.RollTable.{only, leaves_dnskey, leaves_parent};
+ghost use Rattle.dnssec_key.specs.RollTable.{leaves_silently, actions_of};
 
 use crate::key::{KeyState, KeyType, Stamp, Stamped};
 use crate::roll::Half::{First, Second};
@@ -170,7 +170,7 @@ fn is_leaving(role: Option<KeyState>) -> bool
     role.is_some_and(|state| state.old && !state.stale())
 }
 
-pub(crate) fn is_kept_present(role: Option<KeyState>) -> bool
+pub fn is_kept_present(role: Option<KeyState>) -> bool
     ensures { result ≡ option_map_or kept_present role false }
 {
     role.is_some_and(|state| !state.old && state.present)
@@ -182,7 +182,7 @@ fn is_kept_signing(role: Option<KeyState>) -> bool
     role.is_some_and(|state| !state.old && state.signer)
 }
 
-pub(crate) fn is_kept_at_parent(role: Option<KeyState>) -> bool
+pub fn is_kept_at_parent(role: Option<KeyState>) -> bool
     ensures { result ≡ option_map_or kept_at_parent role false }
 {
     role.is_some_and(|state| !state.old && state.at_parent)
@@ -209,7 +209,7 @@ fn is_old_silent(role: Option<KeyState>) -> bool
 /// The roles that the rows speak of.
 impl KeyType {
     /// The role of a KSK, and of no CSK.
-    pub(crate) fn ksk(&self) -> Option<KeyState>
+    pub fn ksk(&self) -> Option<KeyState>
         ensures { result ≡ ksk_state self.now }
     {
         match *self {
@@ -219,7 +219,7 @@ impl KeyType {
     }
 
     /// The role of a ZSK, and of no CSK.
-    pub(crate) fn zsk(&self) -> Option<KeyState>
+    pub fn zsk(&self) -> Option<KeyState>
         ensures { result ≡ zsk_state self.now }
     {
         match *self {
@@ -229,7 +229,7 @@ impl KeyType {
     }
 
     /// The KSK role of a KSK or a CSK.
-    pub(crate) fn ksk_role(&self) -> Option<KeyState>
+    pub fn ksk_role(&self) -> Option<KeyState>
         ensures { result ≡ ksk_role_state self.now }
     {
         match *self {
@@ -239,7 +239,7 @@ impl KeyType {
     }
 
     /// The ZSK role of a ZSK or a CSK.
-    pub(crate) fn zsk_role(&self) -> Option<KeyState>
+    pub fn zsk_role(&self) -> Option<KeyState>
         ensures { result ≡ zsk_role_state self.now }
     {
         match *self {
@@ -367,7 +367,7 @@ impl KeyType {
     }
 
     /// Whether a wait checks the key.
-    pub(crate) fn is_checked(&self, roll: RollType, half: Half) -> bool
+    pub fn is_checked(&self, roll: RollType, half: Half) -> bool
         ensures { result ≡ (half_of roll (which half)).checks self.now }
     {
         match (roll, half) {
@@ -488,7 +488,7 @@ impl KeyType {
 /// What a roll reads and asks.
 impl RollType {
     /// The stamp that a wait reads.
-    pub(crate) fn stamp_read(self, half: Half) -> Stamp
+    pub fn stamp_read(self, half: Half) -> Stamp
         ensures { result ≡ (half_of self (which half)).reads }
     {
         match (self, half) {
@@ -501,7 +501,7 @@ impl RollType {
     }
 
     /// What a roll asks of the operator in a phase.
-    pub(crate) fn actions_in(self, phase: RollState) -> &'static [Action]
+    pub fn actions_in(self, phase: RollState) -> &'static [Action]
         ensures { result.now ≡ actions_of self phase }
     {
         match phase {

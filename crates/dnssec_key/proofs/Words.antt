@@ -5,7 +5,7 @@ use Rattle.std.proofs.lemmas.Grind.{flat_map-append}
 use Rattle.std.proofs.lemmas.List.{map-append, take_more}
 use Rattle.std.proofs.lemmas.List.Elements.{filter-append}
 use Rattle.std.specs.List.{flat_map}
-use Rattle.dnssec_keyset.specs.Texts.{listed, set_words}
+use Rattle.dnssec_key.specs.Texts.{listed, set_words}
 use denote.Bor.{Bor}
 
 -- what goes before the next word

@@ -6,9 +6,9 @@ use Rattle.std.specs.Prelude.{Bool, true, false, if◌then◌else◌}
 use Rattle.std.specs.Prelude.{List, [], ◌∷◌, ◌++◌, filter, map, codes, decimal}
 use Rattle.std.specs.Duration.{as_nanos}
 use Rattle.std.specs.List.{join_by, list_all}
-use Rattle.dnssec_keyset.specs.State.{Flags}
-use Rattle.dnssec_keyset.specs.declared.error.Error.{Error}
-use Rattle.dnssec_keyset.specs.declared.error.Error.TheVariants.{
+use Rattle.dnssec_key.specs.State.{Flags}
+use Rattle.dnssec_key.specs.declared.error.Error.{Error}
+use Rattle.dnssec_key.specs.declared.error.Error.TheVariants.{
   KeyExists,
   KeyNotFound,
   KeyNotOld,
@@ -23,8 +23,8 @@ use Rattle.dnssec_keyset.specs.declared.error.Error.TheVariants.{
   UnknownRollType,
   OutOfMemory,
 }
-use Rattle.dnssec_keyset.specs.declared.roll.RollType.{RollType}
-use Rattle.dnssec_keyset.specs.declared.roll.RollType.TheVariants.{
+use Rattle.dnssec_key.specs.declared.roll.RollType.{RollType}
+use Rattle.dnssec_key.specs.declared.roll.RollType.TheVariants.{
   KskRoll,
   KskDoubleDsRoll,
   ZskRoll,
@@ -32,8 +32,8 @@ use Rattle.dnssec_keyset.specs.declared.roll.RollType.TheVariants.{
   CskRoll,
   AlgorithmRoll,
 }
-use Rattle.dnssec_keyset.specs.declared.text.TimeUnit.{TimeUnit}
-use Rattle.dnssec_keyset.specs.declared.text.TimeUnit.TheVariants.{
+use Rattle.dnssec_key.specs.declared.text.TimeUnit.{TimeUnit}
+use Rattle.dnssec_key.specs.declared.text.TimeUnit.TheVariants.{
   Second,
   Millisecond,
   Microsecond,

@@ -4,9 +4,9 @@ use Rattle.std.proofs.Common.{append_assoc, codes}
 use Rattle.std.proofs.Output.{has_written_append, has_written_of_eq}
 use Rattle.std.proofs.lemmas.Bool.{ne_eqb}
 use Rattle.std.proofs.lemmas.Fmt.{decimal_digit}
-use Rattle.dnssec_keyset.proofs.Decimals.{turn, place_left, nanos-in_table, all_decimals}
-use Rattle.dnssec_keyset.specs.Texts.{in_table, decimals_text}
-use Rattle.dnssec_keyset.proofs.text.write_decimals.Goals as goal
+use Rattle.dnssec_key.proofs.Decimals.{turn, place_left, nanos-in_table, all_decimals}
+use Rattle.dnssec_key.specs.Texts.{in_table, decimals_text}
+use Rattle.dnssec_key.proofs.text.write_decimals.Goals as goal
 
 pub decimals-init : goal.decimals-init
 decimals-init g c = (

@@ -1,8 +1,8 @@
 -- What is written so far and the decimals of what is left are all the decimals.
 use Rattle.std.proofs.Common.{◌≡◌, ℕ, ◌^◌, ◌<◌, List, ◌++◌}
 use Rattle.std.specs.Fmt.{HasWritten, IsPlainFormatter}
-use Rattle.dnssec_keyset.specs.Texts.{in_table, last_digits, without_end_zeros}
-use Rattle.dnssec_keyset.proofs.text.write_decimals.Given as goal
+use Rattle.dnssec_key.specs.Texts.{in_table, last_digits, without_end_zeros}
+use Rattle.dnssec_key.proofs.text.write_decimals.Given as goal
 
 abbrev pub invariant-decimals : goal.invariant-decimals
 invariant-decimals g l =

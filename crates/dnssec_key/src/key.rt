@@ -1,17 +1,16 @@
 //! Keys, and the states of their roles.
-ghost use Rattle.std.specs.Prelude.{◌≡◌, Some, IfOk, IfErr, OnOk, OnErr, string_bytes};
+ghost use Rattle.std.specs.Prelude.{◌≡◌, Some, IfOk, IfErr, string_bytes};
 ghost use Rattle.std.specs.Option.{option_map};
-ghost use Rattle.dnssec_keyset.specs.State.{is_stale, is_fresh};
-ghost use Rattle.dnssec_keyset.specs.Key.{all_states, is_available, new_key, new_state};
-ghost use Rattle.dnssec_keyset.specs.RollTable.{which, after_report, after_wait, marked_new};
-ghost use Rattle.dnssec_keyset.specs.RollTable.{marked_old, with_stamps};
-ghost use Rattle.dnssec_keyset.specs.declared.error.Error.TheVariants.{OutOfMemory};
-ghost use Rattle.dnssec_keyset.specs.Setters.{meant, at_ksk_role, at_states, first_published};
-ghost use Rattle.dnssec_keyset.specs.Setters.{kind_refusal, set_by, suits_kind, turned_stale};
-ghost use Rattle.dnssec_keyset.specs.Setters.{with_at_parent, with_present, with_signer};
-ghost use Rattle.dnssec_keyset.specs.Step.{AnswersExactly};
-ghost use Rattle.dnssec_keyset.specs.Texts.{ending, state_text};
-ghost use Rattle.dnssec_keyset.specs.Wait.{stamp_at};
+ghost use Rattle.dnssec_key.specs.State.{is_stale, is_fresh};
+ghost use Rattle.dnssec_key.specs.Key.{all_states, is_available, new_key, new_state};
+ghost use Rattle.dnssec_key.specs.RollTable.{which, after_report, after_wait, marked_new};
+ghost use Rattle.dnssec_key.specs.RollTable.{marked_old, with_stamps};
+ghost use Rattle.dnssec_key.specs.declared.error.Error.TheVariants.{OutOfMemory};
+ghost use Rattle.dnssec_key.specs.Setters.{meant, at_ksk_role, at_states, first_published};
+ghost use Rattle.dnssec_key.specs.Setters.{set_by, suits_kind, turned_stale};
+ghost use Rattle.dnssec_key.specs.Setters.{with_at_parent, with_present, with_signer};
+ghost use Rattle.dnssec_key.specs.Texts.{ending, state_text};
+ghost use Rattle.dnssec_key.specs.RollTable.{stamp_at};
 
 use crate::error::Error;
 use crate::roll::{Half, RollType};
@@ -43,7 +42,7 @@ pub struct KeyState {
 }
 
 impl Model for KeyState {
-    ghost use Rattle.dnssec_keyset.specs.State.{Flags};
+    ghost use Rattle.dnssec_key.specs.State.{Flags};
 
     ghost Value = { Flags };
 
@@ -65,7 +64,7 @@ impl Model for KeyState {
 }
 
 impl KeyState {
-    pub(crate) fn new(available: Available) -> KeyState
+    pub fn new(available: Available) -> KeyState
         ensures { result ≡ new_state (is_available available) }
     {
         KeyState {
@@ -172,7 +171,7 @@ pub enum KeyType {
 
 /// The stamps that an event may write.
 #[derive(Clone, Copy, Debug, PartialEq, Eq)]
-pub(crate) enum Stamp {
+pub enum Stamp {
     Published,
     Visible,
     DsVisible,
@@ -182,12 +181,12 @@ pub(crate) enum Stamp {
 
 /// Which stamps of a key an event writes.
 #[derive(Clone, Copy, Debug, Default, PartialEq, Eq)]
-pub(crate) struct Stamped {
-    pub(crate) published: bool,
-    pub(crate) visible: bool,
-    pub(crate) ds_visible: bool,
-    pub(crate) rrsig_visible: bool,
-    pub(crate) withdrawn: bool,
+pub struct Stamped {
+    pub published: bool,
+    pub visible: bool,
+    pub ds_visible: bool,
+    pub rrsig_visible: bool,
+    pub withdrawn: bool,
 }
 
 /// When a key passed the stages of its life, as far as it did.
@@ -202,7 +201,7 @@ pub struct KeyTimestamps {
 }
 
 impl Model for KeyTimestamps {
-    ghost use Rattle.dnssec_keyset.specs.State.{Stamps};
+    ghost use Rattle.dnssec_key.specs.State.{Stamps};
 
     ghost Value = { Stamps };
 
@@ -269,7 +268,7 @@ impl KeyTimestamps {
         self.withdrawn
     }
 
-    pub(crate) fn at(&self, stamp: Stamp) -> Option<UnixTime>
+    pub fn at(&self, stamp: Stamp) -> Option<UnixTime>
         ensures { result ≡ stamp_at stamp self.now }
     {
         match stamp {
@@ -348,7 +347,7 @@ impl KeyTimestamps {
 
 /// What a setter sets.
 #[derive(Clone, Copy, Debug)]
-pub(crate) enum Setting {
+pub enum Setting {
     Decoupled(bool),
     Present(bool, UnixTime),
     Signer(bool),
@@ -449,7 +448,7 @@ impl KeyType {
     }
 
     /// Whether a key of this kind has what is set.
-    fn suits(&self, setting: &Setting) -> bool
+    pub fn suits(&self, setting: &Setting) -> bool
         ensures { result ≡ suits_kind (meant setting.now) self.now }
     {
         match setting {
@@ -474,7 +473,7 @@ pub struct Key {
 impl Model for Key {
     ghost use Rattle.std.specs.Prelude.{string_bytes};
     ghost use Rattle.std.specs.Option.{option_map};
-    ghost use Rattle.dnssec_keyset.specs.Key.{KeyParts};
+    ghost use Rattle.dnssec_key.specs.Key.{KeyParts};
 
     ghost Value = { KeyParts };
 
@@ -504,7 +503,7 @@ impl Clone for Key {
 }
 
 impl Key {
-    pub(crate) fn new(
+    pub fn new(
         privref: Option<String>,
         keytype: KeyType,
         algorithm: SecurityAlgorithm,
@@ -588,7 +587,7 @@ impl Key {
     }
 
     /// Whether each state of the key is fresh.
-    pub(crate) fn is_fresh(&self) -> bool
+    pub fn is_fresh(&self) -> bool
         ensures { result ≡ all_states is_fresh self.now.keytype }
     {
         match self.keytype {
@@ -598,7 +597,7 @@ impl Key {
     }
 
     /// Whether each state of the key is stale.
-    pub(crate) fn is_stale(&self) -> bool
+    pub fn is_stale(&self) -> bool
         ensures { result ≡ all_states is_stale self.now.keytype }
     {
         match self.keytype {
@@ -607,18 +606,8 @@ impl Key {
         }
     }
 
-    /// Whether the key has what is set.
-    pub(crate) fn check_setting(&self, setting: &Setting) -> Result<(), Error>
-        ensures { AnswersExactly (kind_refusal (meant setting.now) self.now.keytype) result }
-    {
-        if self.keytype.suits(setting) {
-            Ok(())
-        } else {
-            Err(Error::WrongKeyType)
-        }
-    }
-
-    pub(crate) fn set(&mut self, setting: Setting)
+    /// Sets what is set, whatever the kind of the key.
+    pub fn set(&mut self, setting: Setting)
         ensures { self.new ≡ set_by (meant setting) self.old }
     {
         let keytype = self.keytype();
@@ -657,14 +646,14 @@ impl Key {
     }
 
     /// A start lists the key as old.
-    pub(crate) fn mark_old(&mut self)
+    pub fn mark_old(&mut self)
         ensures { self.new ≡ marked_old self.old }
     {
         self.keytype = self.keytype.turned_old();
     }
 
     /// A start lists the key as new.
-    pub(crate) fn mark_new(&mut self, roll: RollType, now: UnixTime)
+    pub fn mark_new(&mut self, roll: RollType, now: UnixTime)
         ensures { self.new ≡ marked_new roll now self.old }
     {
         let stamped = self.keytype.stamped_at_start(roll);
@@ -673,7 +662,7 @@ impl Key {
     }
 
     /// A report of a roll is made.
-    pub(crate) fn report(&mut self, roll: RollType, half: Half, now: UnixTime)
+    pub fn report(&mut self, roll: RollType, half: Half, now: UnixTime)
         ensures { self.new ≡ after_report roll (which half) now self.old }
     {
         let stamped = self.keytype.stamped_by_report(roll, half);
@@ -681,7 +670,7 @@ impl Key {
     }
 
     /// A wait of a roll is over.
-    pub(crate) fn go_on(&mut self, roll: RollType, half: Half, now: UnixTime)
+    pub fn go_on(&mut self, roll: RollType, half: Half, now: UnixTime)
         ensures { self.new ≡ after_wait roll (which half) now self.old }
     {
         let stamped = self.keytype.stamped_by_wait(roll, half);
