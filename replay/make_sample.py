@@ -60,7 +60,7 @@ def choose(count):
 def main():
     parser = argparse.ArgumentParser()
     parser.add_argument("--original")
-    parser.add_argument("--count", type=int, default=200)
+    parser.add_argument("--count", type=int, default=210)
     given = parser.parse_args()
     chosen = choose(given.count)
     if given.original:

@@ -12,3 +12,6 @@ pub mod Allowed
 pub mod Laws
 pub mod Sides
 pub mod Exchange
+pub mod Tests
+pub mod Flags
+pub mod Accepted

@@ -3,3 +3,5 @@ pub mod Next
 pub mod Grow
 pub mod Laws
 pub mod Chain
+pub mod WholeRolls
+pub mod Asked

@@ -1,5 +1,7 @@
+pub mod Asked
 pub mod Plain
 pub mod Published
 pub mod Record
 pub mod Recorder
 pub mod Safe
+pub mod WholeRolls
