@@ -1,21 +1,31 @@
-# `make run` answers a script, `make test` is the gate.
+# `make run` answers a script, `make build` makes the proved program, `make test` is the gate.
 
 SCRIPT ?= examples/algorithm-roll.script
+PROGRAM = crates/keyset/out/keyset
+PARTS = dnssec_base dnssec_keyset dnssec_run dnssec_record keyset
+SOURCES = crates.txt $(wildcard $(foreach part,$(PARTS),$(addprefix crates/$(part)/,src specs proofs)))
 
-.PHONY: run test build memory
+.PHONY: run build test memory
 
-# Proves and builds the program, and answers SCRIPT.
-run: build
-	@crates/keyset/out/keyset <"$(SCRIPT)"
+# Answers SCRIPT. The proved program does it where `make build` has made it from these sources;
+# else one that is built at once, without a proof.
+run:
+	@if [ -x $(PROGRAM) ] && [ -z "$$(find $(SOURCES) -newer $(PROGRAM))" ]; \
+	then $(PROGRAM); \
+	else \
+		echo 'built without a proof; make build makes the proved program' >&2; \
+		cd crates/keyset && rt try; \
+	fi <"$(SCRIPT)"
 
+# Proves the program and the crates below it, and builds it as crates/keyset/out/keyset.
 build:
 	@mkdir -p crates/keyset/out
 	@cd crates/keyset && rt run <stdin >out/build.log 2>&1 || { cat out/build.log >&2; exit 1; }
 
-# Each allocation of some tests and of the stored script fails in turn; then every proof, test and
-# program.
-test: memory
-	@rt ci
+# Each allocation of some calls and of the example scripts fails in turn; then every proof, edit,
+# test and program. It tells when each step was done.
+test:
+	@tests/gate.py
 
 memory:
 	@tests/memory.sh

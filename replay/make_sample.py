@@ -4,8 +4,8 @@
 
 The scripts written by hand come first. Then come generated ones, N scripts in all: the next is
 always the one that has, for its length, the most calls that are answered in a state as no call
-before. Last come the examples. The answers are those of the tables, and the chain line that of judge.py. With an original
-the answers are compared with it first.
+before. Last come the examples. The answers are those of the tables, and the chain line that of
+judge.py. With an original the answers are compared with it first.
 """
 
 import argparse
@@ -69,7 +69,7 @@ def examples():
 def main():
     parser = argparse.ArgumentParser()
     parser.add_argument("--original")
-    parser.add_argument("--count", type=int, default=200)
+    parser.add_argument("--count", type=int, default=210)
     given = parser.parse_args()
     chosen = {**choose(given.count), **examples()}
     if given.original:

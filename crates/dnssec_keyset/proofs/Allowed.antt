@@ -1,8 +1,8 @@
 -- From the clauses of a call to the allowed step.
 use Rattle.std.proofs.Common.{◌≡◌, Some, None, Ok, Err, List, [], ◌∷◌, inl, inr, ap, ◌∙◌, Vec, Global}
 use Rattle.std.specs.Prelude.{◌≢◌, Option, Result, OnOk, OnErr, IfOk}
-use Rattle.dnssec_keyset.specs.declared.roll.Action.{Action}
-use Rattle.dnssec_keyset.specs.declared.error.Error.{Error}
+use Rattle.dnssec_key.specs.declared.roll.Action.{Action}
+use Rattle.dnssec_key.specs.declared.error.Error.{Error}
 use Rattle.dnssec_keyset.specs.KeySet.{KeySetParts}
 use Rattle.dnssec_keyset.specs.Step.{Call, Done, Actions, Verdict, Barred, Early, Clear, AnswersExactly, Answers, AnswersWait, barred_by, accepted_reply, Changes, TakesMemory, StepBy, reply_done, reply_list}
 

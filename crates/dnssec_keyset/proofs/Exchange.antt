@@ -7,22 +7,22 @@ use Rattle.std.specs.Duration.{as_nanos}
 use Rattle.std.specs.FinMap.{get}
 use Rattle.std.proofs.lemmas.Option.{same_Some}
 use Rattle.std.proofs.lemmas.Bool.Decides.{nat_tests}
-use Rattle.dnssec_keyset.specs.declared.key.KeyType.{KeyType}
-use Rattle.dnssec_keyset.specs.declared.key.KeyType.TheVariants.{Ksk, Zsk, Csk, Include}
+use Rattle.dnssec_key.specs.declared.key.KeyType.{KeyType}
+use Rattle.dnssec_key.specs.declared.key.KeyType.TheVariants.{Ksk, Zsk, Csk, Include}
 use Rattle.dnssec_keyset.specs.declared.check.Want.{Want}
 use Rattle.dnssec_keyset.specs.declared.check.Want.TheVariants.{PresentKsk, KskAtParent, PresentZsk, PresentKskRole, PresentZskRole}
-use Rattle.dnssec_keyset.specs.declared.roll.Side.{Side}
-use Rattle.dnssec_keyset.specs.declared.roll.Side.TheVariants.{KskSide, ZskSide, BothSides}
-use Rattle.dnssec_keyset.specs.declared.roll.RollType.{RollType}
-use Rattle.dnssec_keyset.specs.declared.roll.RollType.TheVariants.{KskRoll, KskDoubleDsRoll, ZskRoll, ZskDoubleSignatureRoll, CskRoll, AlgorithmRoll}
-use Rattle.dnssec_keyset.specs.declared.roll.RollState.{RollState}
-use Rattle.dnssec_keyset.specs.declared.roll.RollState.TheVariants.{Propagation1}
-use Rattle.dnssec_keyset.specs.declared.error.Error.{Error}
-use Rattle.dnssec_keyset.specs.declared.error.Error.TheVariants.{WrongKeyType, WrongKeyState, NoSuitableKeyPresent, AlgorithmSetsMismatch, WrongStateForRollOperation, ConflictingRollInProgress, OutOfMemory}
-use Rattle.dnssec_keyset.specs.State.{Flags, is_fresh, old_present}
-use Rattle.dnssec_keyset.specs.Key.{KeyParts, all_states}
+use Rattle.dnssec_keyset.specs.declared.check.Side.{Side}
+use Rattle.dnssec_keyset.specs.declared.check.Side.TheVariants.{KskSide, ZskSide, BothSides}
+use Rattle.dnssec_key.specs.declared.roll.RollType.{RollType}
+use Rattle.dnssec_key.specs.declared.roll.RollType.TheVariants.{KskRoll, KskDoubleDsRoll, ZskRoll, ZskDoubleSignatureRoll, CskRoll, AlgorithmRoll}
+use Rattle.dnssec_key.specs.declared.roll.RollState.{RollState}
+use Rattle.dnssec_key.specs.declared.roll.RollState.TheVariants.{Propagation1}
+use Rattle.dnssec_key.specs.declared.error.Error.{Error}
+use Rattle.dnssec_key.specs.declared.error.Error.TheVariants.{WrongKeyType, WrongKeyState, NoSuitableKeyPresent, AlgorithmSetsMismatch, WrongStateForRollOperation, ConflictingRollInProgress, OutOfMemory}
+use Rattle.dnssec_key.specs.State.{Flags, is_fresh, old_present}
+use Rattle.dnssec_key.specs.Key.{KeyParts, all_states}
 use Rattle.dnssec_keyset.specs.KeySet.{KeySetParts, MovesOn, Rolls, phase_of, with_phase, same_roll, some_entry, some_key}
-use Rattle.dnssec_keyset.specs.RollTable.{Half, First, Second, column, half_of, at_ksk, at_zsk, at_roles, at_whole_keys, turns_old, leaves_dnskey, after_start, after_report, after_wait, behind, expiring}
+use Rattle.dnssec_key.specs.RollTable.{Half, First, Second, column, half_of, at_ksk, at_zsk, at_roles, at_whole_keys, turns_old, leaves_dnskey, after_start, after_report, after_wait, behind, expiring}
 use Rattle.dnssec_keyset.specs.Start.{algorithm_fault, algorithms_within, are_apart, conflict, first_of_causes, has_algorithm, has_conflict, is_listed, is_met, lists_kind, may_change_algorithms, new_entry_fault, new_fault, old_entry_fault, old_fault, serves_as_kept, serves_as_new, side_of, some_listed, start_refusal, together, wants}
 use Rattle.dnssec_keyset.specs.Wait.{left_since, stamp_read, IsLongest, is_early, lacks_stamp, time_left, ttl_in}
 use Rattle.dnssec_keyset.specs.Step.{Call, AddKey, Set, DeleteKey, StartRoll, Report, Wait, RollDone, Reply, Refused, Verdict, Barred, Early, Clear, Changes, Step, StepBy, accepted_reply, after, barred_by, end_refusal, report_refusal, verdict, wait_in_phase}

@@ -8,18 +8,18 @@ use Rattle.std.specs.Cmp.Lexicographic.{bytes_decides, slice_cmp}
 use Rattle.std.specs.FinMap.{get, get-empty}
 use Rattle.std.specs.Ordering.{nat_cmp}
 use Rattle.std.proofs.lemmas.Bool.Decides.{nat_tests}
-use Rattle.dnssec_keyset.specs.declared.roll.Side.{Side}
-use Rattle.dnssec_keyset.specs.declared.roll.Side.TheVariants.{KskSide, ZskSide, BothSides}
-use Rattle.dnssec_keyset.specs.declared.roll.RollType.{RollType}
-use Rattle.dnssec_keyset.specs.declared.roll.RollType.TheVariants.{KskRoll, KskDoubleDsRoll, ZskRoll, ZskDoubleSignatureRoll, CskRoll, AlgorithmRoll}
-use Rattle.dnssec_keyset.specs.declared.roll.RollState.{RollState}
-use Rattle.dnssec_keyset.specs.declared.roll.RollState.TheVariants.{Propagation1}
-use Rattle.dnssec_keyset.specs.declared.error.Error.{Error}
-use Rattle.dnssec_keyset.specs.declared.error.Error.TheVariants.{DuplicateKeyTag, KeyExists, WrongStateForRollOperation, ConflictingRollInProgress}
-use Rattle.dnssec_keyset.specs.Key.{KeyParts}
+use Rattle.dnssec_keyset.specs.declared.check.Side.{Side}
+use Rattle.dnssec_keyset.specs.declared.check.Side.TheVariants.{KskSide, ZskSide, BothSides}
+use Rattle.dnssec_key.specs.declared.roll.RollType.{RollType}
+use Rattle.dnssec_key.specs.declared.roll.RollType.TheVariants.{KskRoll, KskDoubleDsRoll, ZskRoll, ZskDoubleSignatureRoll, CskRoll, AlgorithmRoll}
+use Rattle.dnssec_key.specs.declared.roll.RollState.{RollState}
+use Rattle.dnssec_key.specs.declared.roll.RollState.TheVariants.{Propagation1}
+use Rattle.dnssec_key.specs.declared.error.Error.{Error}
+use Rattle.dnssec_key.specs.declared.error.Error.TheVariants.{DuplicateKeyTag, KeyExists, WrongStateForRollOperation, ConflictingRollInProgress}
+use Rattle.dnssec_key.specs.Key.{KeyParts}
 use Rattle.dnssec_keyset.specs.KeySet.{Keys, KeySetParts, Rolls, PutsKey, new_set, phase_of, with_phase, same_roll}
-use Rattle.dnssec_keyset.specs.RollTable.{Half, First, Second, after_start}
-use Rattle.dnssec_keyset.specs.Setters.{Setting, Decoupled, Present, Signer, AtParent, Stale, VisibleAt, DsVisibleAt, RrsigVisibleAt, set_by}
+use Rattle.dnssec_key.specs.RollTable.{Half, First, Second, after_start}
+use Rattle.dnssec_key.specs.Setters.{Setting, Decoupled, Present, Signer, AtParent, Stale, VisibleAt, DsVisibleAt, RrsigVisibleAt, set_by}
 use Rattle.dnssec_keyset.specs.Start.{all_rolls, are_apart, conflict, has_conflict, side_of, together}
 use Rattle.dnssec_keyset.specs.Wait.{ttl_in}
 use Rattle.dnssec_keyset.specs.Step.{Call, AddKey, Set, DeleteKey, StartRoll, Report, Wait, RollDone, Reply, Verdict, Barred, Early, Clear, Changes, Step, StepBy, add_refusal, barred_by, has_tag, report_refusal, verdict, wait_in_phase}

@@ -7,11 +7,11 @@ pub mod Starts
 pub mod Marks
 pub mod Waits
 pub mod Steps
-pub mod Decimals
-pub mod Words
 pub mod After
 pub mod Allowed
 pub mod Laws
 pub mod Sides
 pub mod Exchange
-pub mod Alike
+pub mod Tests
+pub mod Flags
+pub mod Accepted

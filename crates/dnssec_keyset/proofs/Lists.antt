@@ -6,8 +6,8 @@ use Rattle.std.specs.Prelude.{Option, ◌&&◌, nat_eq}
 use Rattle.std.specs.List.{list_any, list_all}
 use Rattle.std.specs.Option.{option_or, option_map_or}
 use Rattle.std.specs.Str.{bytes_eq}
-use Rattle.dnssec_keyset.specs.declared.roll.RollType.{RollType}
-use Rattle.dnssec_keyset.specs.Key.{KeyParts}
+use Rattle.dnssec_key.specs.declared.roll.RollType.{RollType}
+use Rattle.dnssec_key.specs.Key.{KeyParts}
 use Rattle.dnssec_keyset.specs.Start.{texts, is_listed, new_entry_fault, new_fault, has_algorithm, algorithms_within}
 
 pub is_listed-texts : (rs : List (Bor (List ℕ))) (q : List ℕ) → is_listed (texts rs) q ≡ list_any (λ (r : Bor (List ℕ)). bytes_eq q r.now) rs

@@ -6,13 +6,13 @@ use Rattle.std.specs.Option.{option_map}
 use Rattle.std.specs.Str.{bytes_eq}
 use Rattle.std.specs.Cmp.Lexicographic.{nat_list_eq_equiv}
 use Rattle.std.proofs.lemmas.List.Folds.{list_any-append}
-use Rattle.dnssec_keyset.specs.declared.key.KeyType.{KeyType}
-use Rattle.dnssec_keyset.specs.declared.key.KeyType.TheVariants.{Ksk, Zsk, Csk, Include}
-use Rattle.dnssec_keyset.specs.declared.roll.RollType.{RollType}
-use Rattle.dnssec_keyset.specs.declared.roll.RollType.TheVariants.{KskRoll, KskDoubleDsRoll, ZskRoll, ZskDoubleSignatureRoll, CskRoll, AlgorithmRoll}
-use Rattle.dnssec_keyset.specs.State.{Flags}
-use Rattle.dnssec_keyset.specs.Key.{KeyParts}
-use Rattle.dnssec_keyset.specs.RollTable.{column, at_ksk, at_zsk, at_roles, turns_old, comes_in, comes_in_signing, ds_comes_in, marked_old, marked_new}
+use Rattle.dnssec_key.specs.declared.key.KeyType.{KeyType}
+use Rattle.dnssec_key.specs.declared.key.KeyType.TheVariants.{Ksk, Zsk, Csk, Include}
+use Rattle.dnssec_key.specs.declared.roll.RollType.{RollType}
+use Rattle.dnssec_key.specs.declared.roll.RollType.TheVariants.{KskRoll, KskDoubleDsRoll, ZskRoll, ZskDoubleSignatureRoll, CskRoll, AlgorithmRoll}
+use Rattle.dnssec_key.specs.State.{Flags}
+use Rattle.dnssec_key.specs.Key.{KeyParts}
+use Rattle.dnssec_key.specs.RollTable.{column, at_ksk, at_zsk, at_roles, turns_old, comes_in, comes_in_signing, ds_comes_in, marked_old, marked_new}
 use Rattle.dnssec_keyset.specs.Start.{texts, is_listed}
 use Rattle.dnssec_keyset.proofs.Lists.{texts-push}
 

@@ -3,12 +3,12 @@ use Rattle.std.proofs.Common.{◌≡◌, cond, List, [], ◌∷◌, Some, refl, 
 use Rattle.std.specs.Prelude.{Option, nat_eq, if◌then◌else◌}
 use Rattle.std.specs.HashMap.{HashMap, get}
 use Rattle.std.specs.Map.{lookup}
-use Rattle.dnssec_keyset.specs.declared.roll.RollType.{RollType}
-use Rattle.dnssec_keyset.specs.declared.roll.RollType.TheVariants.{KskRoll, KskDoubleDsRoll, ZskRoll, ZskDoubleSignatureRoll, CskRoll, AlgorithmRoll}
-use Rattle.dnssec_keyset.specs.declared.roll.RollState.{RollState}
-use Rattle.dnssec_keyset.specs.contracts.roll.RollTypePartialEq.TheImpl.{eq-value}
+use Rattle.dnssec_key.specs.declared.roll.RollType.{RollType}
+use Rattle.dnssec_key.specs.declared.roll.RollType.TheVariants.{KskRoll, KskDoubleDsRoll, ZskRoll, ZskDoubleSignatureRoll, CskRoll, AlgorithmRoll}
+use Rattle.dnssec_key.specs.declared.roll.RollState.{RollState}
+use Rattle.dnssec_key.specs.contracts.roll.RollTypePartialEq.TheImpl.{eq-value}
 use Rattle.dnssec_keyset.specs.KeySet.{Rolls, same_roll, rolls_shown, phase_of, with_phase, roll_number}
-use Rattle.dnssec_keyset.specs.contracts.roll.RollType.{the_type}
+use Rattle.dnssec_key.specs.contracts.roll.RollType.{the_type}
 use denote.Enum.Declared.{tag_of}
 
 tag_is : (a : RollType) → tag_of the_type a ≡ roll_number a

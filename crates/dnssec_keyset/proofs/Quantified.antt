@@ -9,7 +9,7 @@ use Rattle.std.specs.Cmp.Lexicographic.{slice_cmp, bytes_decides}
 use Rattle.std.specs.FinMap.{find, entries, get, get-entries, entries_sorted}
 use Rattle.std.specs.FinMap.Entries.{below_all, is_sorted}
 use Rattle.std.proofs.lemmas.Map.Text.{is_eq-slice_cmp}
-use Rattle.dnssec_keyset.specs.Key.{KeyParts}
+use Rattle.dnssec_key.specs.Key.{KeyParts}
 use Rattle.dnssec_keyset.specs.KeySet.{Keys, some_key, some_entry}
 
 split : (b : Bool) → (b ≡ true) ⊎ (b ≡ false)

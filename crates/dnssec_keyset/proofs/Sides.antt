@@ -6,17 +6,17 @@ use Rattle.std.specs.Option.{option_map, option_or}
 use Rattle.std.specs.Str.{bytes_eq}
 use Rattle.std.specs.Cmp.Lexicographic.{bytes_decides}
 use Rattle.std.specs.FinMap.{get}
-use Rattle.dnssec_keyset.specs.declared.key.KeyType.{KeyType}
-use Rattle.dnssec_keyset.specs.declared.key.KeyType.TheVariants.{Ksk, Zsk, Csk, Include}
-use Rattle.dnssec_keyset.specs.declared.key.Stamped.{Stamped}
-use Rattle.dnssec_keyset.specs.declared.roll.RollType.{RollType}
-use Rattle.dnssec_keyset.specs.declared.roll.RollType.TheVariants.{KskRoll, KskDoubleDsRoll, ZskRoll, ZskDoubleSignatureRoll, CskRoll, AlgorithmRoll}
-use Rattle.dnssec_keyset.specs.declared.error.Error.{Error}
-use Rattle.dnssec_keyset.specs.declared.error.Error.TheVariants.{WrongKeyType, WrongKeyState}
-use Rattle.dnssec_keyset.specs.Key.{KeyParts, all_states}
-use Rattle.dnssec_keyset.specs.State.{is_fresh}
+use Rattle.dnssec_key.specs.declared.key.KeyType.{KeyType}
+use Rattle.dnssec_key.specs.declared.key.KeyType.TheVariants.{Ksk, Zsk, Csk, Include}
+use Rattle.dnssec_key.specs.declared.key.Stamped.{Stamped}
+use Rattle.dnssec_key.specs.declared.roll.RollType.{RollType}
+use Rattle.dnssec_key.specs.declared.roll.RollType.TheVariants.{KskRoll, KskDoubleDsRoll, ZskRoll, ZskDoubleSignatureRoll, CskRoll, AlgorithmRoll}
+use Rattle.dnssec_key.specs.declared.error.Error.{Error}
+use Rattle.dnssec_key.specs.declared.error.Error.TheVariants.{WrongKeyType, WrongKeyState}
+use Rattle.dnssec_key.specs.Key.{KeyParts, all_states}
+use Rattle.dnssec_key.specs.State.{is_fresh}
 use Rattle.dnssec_keyset.specs.KeySet.{KeySetParts}
-use Rattle.dnssec_keyset.specs.RollTable.{Half, First, Second, column, half_of, written, with_stamps, after_start, after_report, after_wait}
+use Rattle.dnssec_key.specs.RollTable.{Half, First, Second, column, half_of, written, with_stamps, after_start, after_report, after_wait}
 use Rattle.dnssec_keyset.specs.Start.{algorithm_fault, conflict, is_listed, lists_kind, new_entry_fault, new_fault, old_entry_fault, old_fault, side_of, start_refusal, suitability_fault}
 use Rattle.dnssec_keyset.specs.Step.{Call, AddKey, Set, DeleteKey, StartRoll, Report, Wait, RollDone, Reply, Clear, Changes, Step, verdict}
 use Rattle.dnssec_keyset.specs.Laws.{LeavesOthers, roll_of}

@@ -8,15 +8,15 @@ use Rattle.std.specs.String.{string_eq}
 use Rattle.std.specs.HashMap.{IsUnique, get_by_text}
 use Rattle.std.specs.FinMap as fin
 use Rattle.std.proofs.lemmas.List.Sorted.{list_any-IsPermutation}
-use Rattle.dnssec_keyset.specs.declared.key.KeyType.{KeyType}
+use Rattle.dnssec_key.specs.declared.key.KeyType.{KeyType}
 use Rattle.dnssec_keyset.specs.declared.set.KeySet.TheInside.{Inside}
 use Rattle.dnssec_keyset.specs.contracts.set.KeySet.{the_view}
-use Rattle.dnssec_keyset.specs.Key.{KeyParts}
+use Rattle.dnssec_key.specs.Key.{KeyParts}
 use Rattle.dnssec_keyset.specs.KeySet.{KeySetParts, entries_by_bytes, rolls_shown}
 use Rattle.dnssec_keyset.specs.Start.{texts, is_listed, some_kept, some_listed, conflict}
 use Rattle.dnssec_keyset.specs.Step.{AnswersExactly}
-use Rattle.dnssec_keyset.specs.declared.error.Error.{Error}
-use Rattle.dnssec_keyset.specs.declared.roll.RollType.{RollType}
+use Rattle.dnssec_key.specs.declared.error.Error.{Error}
+use Rattle.dnssec_key.specs.declared.roll.RollType.{RollType}
 use Rattle.dnssec_keyset.proofs.Shown.{get-shown}
 use Rattle.dnssec_keyset.proofs.Walks.{entries_permute, apart_by_bytes}
 use Rattle.dnssec_keyset.proofs.Lists.{is_listed-texts}

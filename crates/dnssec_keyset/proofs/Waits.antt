@@ -1,6 +1,8 @@
--- What the walk of a wait finds: that a stamp is missing, or the longest time that is left; and so the wait's answer.
-use Rattle.std.proofs.Common.{◌≡◌, ℕ, zero, suc, ◌<◌, ◌≤◌, Bool, true, false, not, List, [], ◌∷◌, Some, None, Ok, Err, refl, sym, ap, subst, ◌∙◌, inl, inr, max, arith}
+-- What the walk of a wait finds, that a stamp is missing or from when on the wait is over; and so
+-- what the wait answers at any moment.
+use Rattle.std.proofs.Common.{◌≡◌, ℕ, zero, suc, ◌<◌, ◌≤◌, Bool, true, false, not, List, [], ◌∷◌, Some, None, Ok, Err, refl, sym, ap, subst, ◌∙◌, inl, inr, max, min, arith}
 use Rattle.std.specs.Prelude.{Option, Result, IsOk, ◌⊎◌, ◌||◌, nat_eq, nat_lt, is_some, unwrap_or}
+use Rattle.std.specs.Prelude.{◌*◌, ◌+◌, ◌-◌, if◌then◌else◌}
 use Rattle.std.specs.List.{list_any, fold}
 use Rattle.std.specs.Option.{option_map, option_map_or, option_and_then}
 use Rattle.std.specs.Duration.{as_nanos}
@@ -8,17 +10,23 @@ use Rattle.std.specs.declared.time.Duration.{Duration}
 use Rattle.std.specs.String.{string_eq}
 use Rattle.std.specs.HashMap.{IsUnique, values as hash_values}
 use Rattle.std.proofs.lemmas.Bool.Decides.{nat_tests}
-use Rattle.dnssec_keyset.specs.RollTable.{Half}
-use Rattle.dnssec_keyset.specs.declared.roll.RollType.{RollType}
-use Rattle.dnssec_keyset.specs.declared.roll.Action.{Action}
-use Rattle.dnssec_keyset.specs.declared.error.Error.{Error}
-use Rattle.dnssec_keyset.specs.declared.error.Error.TheVariants.{WrongKeyState, WrongStateForRollOperation, Wait, OutOfMemory}
+use Rattle.dnssec_key.specs.RollTable.{Half, First, Second, expiring}
+use Rattle.dnssec_key.specs.declared.roll.RollType.{RollType}
+use Rattle.dnssec_key.specs.declared.roll.Action.{Action}
+use Rattle.dnssec_key.specs.declared.error.Error.{Error}
+use Rattle.dnssec_key.specs.declared.error.Error.TheVariants.{WrongKeyState, WrongStateForRollOperation, Wait, OutOfMemory}
 use Rattle.dnssec_keyset.specs.declared.set.KeySet.TheInside.{Inside}
 use Rattle.dnssec_keyset.specs.contracts.set.KeySet.{the_view}
-use Rattle.dnssec_keyset.specs.Key.{KeyParts}
+use Rattle.dnssec_key.specs.Key.{KeyParts}
 use Rattle.dnssec_keyset.specs.KeySet.{Keys, KeySetParts, phase_of, rolls_shown, some_key}
-use Rattle.dnssec_keyset.specs.Wait.{ttl_in, time_left, lacks_stamp, is_early, IsLongest}
-use Rattle.dnssec_keyset.specs.Step.{Verdict, Barred, Early, Clear, AnswersWait, wait_in_phase}
+use Rattle.dnssec_key.specs.RollTable.{half_of}
+use Rattle.dnssec_keyset.specs.Wait.{ttl_in, time_left, left_since, stamp_read, over_at}
+use Rattle.dnssec_keyset.specs.Wait.{over_since, lacks_stamp, is_early, IsLongest}
+use Rattle.dnssec_keyset.specs.Step.{Verdict, Barred, Early, Clear, AnswersWait, wait_in_phase, wait_verdict}
+use Rattle.dnssec_keyset.specs.WaitEnd.{IsEarlyBy, IsOverFrom, LacksStamp, HasNoWait}
+use Rattle.dnssec_key.specs.declared.roll.RollState.{RollState}
+use Rattle.dnssec_key.specs.declared.roll.RollState.TheVariants.{Propagation1, CacheExpire1}
+use Rattle.dnssec_key.specs.declared.roll.RollState.TheVariants.{Propagation2, CacheExpire2, Done}
 use Rattle.dnssec_keyset.proofs.Walks.{some_key-view}
 use Rattle.dnssec_keyset.proofs.Quantified.{some_key-found, some_key-none}
 
@@ -111,15 +119,7 @@ module _ (f : KeyParts → Option ℕ) where
       at None is on = or_left _ _ (missing-test k None is)
       at (Some m) is on = or_right _ _ (on (max a m) (ap (λ o. fold further (option_map (λ y. max a y) o) ks) (sym is) ∙ e))
 
--- ---- the keys of a key set
-
--- what the walk tells of the keys
-pub Found : (KeyParts → Option ℕ) → Keys → Option ℕ → Type 0
-Found f keys None = lacks_stamp f keys ≡ true
-Found f keys (Some zero) = (lacks_stamp f keys ≡ false) × (is_early f keys ≡ false)
-Found f keys (Some (suc n)) = (lacks_stamp f keys ≡ false) × (is_early f keys ≡ true) × IsLongest f keys (suc n)
-
-module _ (f : KeyParts → Option ℕ) (keys : Keys) where
+module _ (f : KeyParts → Option ℕ) where
   is_there : (k : KeyParts) (n : ℕ) → is_just f n k ≡ true → f k ≡ Some n
   unfolding is_just
   is_there k n = at (f k)
@@ -132,72 +132,163 @@ module _ (f : KeyParts → Option ℕ) (keys : Keys) where
   unfolding is_above
   not_above k n h = grind (arith, nat_tests)
 
-  longest-found : (n : ℕ) → some_key (is_above f n) keys ≡ false → some_key (is_just f n) keys ≡ true → IsLongest f keys n
-  longest-found n bound attained =
-      let one = some_key-found (is_just f n) keys attained in
-      record {
-        bound = λ q k at. not_above k n (some_key-none (is_above f n) keys q k bound at);
-        attained = (one.0, one.1, one.2, is_there one.1 n one.3);
-      }
+-- ---- from the moment on which a wait is over to what is left at any moment
 
-weaker : (p r : KeyParts → Bool) → ((k : KeyParts) → p k ≡ true → r k ≡ true) → (ks : List KeyParts) → list_any p ks ≡ true → list_any r ks ≡ true
+weaker : (p r : KeyParts → Bool) → ((k : KeyParts) → p k ≡ true → r k ≡ true)
+    → (ks : List KeyParts) → list_any p ks ≡ true → list_any r ks ≡ true
 weaker p r h [] e = cc
 weaker p r h (k ∷ ks) e = elim (split (p k)) [
   | inl passes ↦ or_left _ _ (h k passes)
   | inr fails ↦ or_right _ _ (weaker p r h ks (sym (ap (λ b. b || list_any p ks) fails) ∙ e))
 ]
 
-just_early : (f : KeyParts → Option ℕ) (n : ℕ) (k : KeyParts) → is_just f (suc n) k ≡ true → is_above f 0 k ≡ true
-unfolding is_just is_above
-just_early f n k = at (f k)
-  where
-    at : (o : Option ℕ) → option_map_or (λ m. nat_eq m (suc n)) o false ≡ true → nat_lt 0 (unwrap_or o 0) ≡ true
-    at None h = cc
-    at (Some m) h = grind (arith, nat_tests)
+none_weaker : (p r : KeyParts → Bool) → ((k : KeyParts) → p k ≡ true → r k ≡ true)
+    → (ks : List KeyParts) → list_any r ks ≡ false → list_any p ks ≡ false
+none_weaker p r h ks none = elim (split (list_any p ks)) [
+  | inl some ↦ absurd (let one = sym (weaker p r h ks some) ∙ none in cc)
+  | inr none ↦ none
+]
 
-pub walk-found_in : (f : KeyParts → Option ℕ) (i : Inside) (v : KeySetParts) (o : Option ℕ) → the_view i ≡ v → IsUnique string_eq i.keys
-    → o ≡ fold (λ a k. option_and_then (λ x. option_map (λ y. max x y) (f k)) a) (Some 0) (hash_values i.keys) → Found f v.keys o
-unfolding Found further is_missing is_above
-walk-found_in f i v None e unique walk = some_key-view (λ k. not (is_some (f k))) i v e unique ∙ walk-missing f (hash_values i.keys) 0 (sym walk)
-walk-found_in f i v (Some zero) e unique walk =
-    let ends = walk-found f (hash_values i.keys) 0 zero (sym walk) in
-    (some_key-view (λ k. not (is_some (f k))) i v e unique ∙ ends.all, some_key-view (λ k. nat_lt 0 (unwrap_or (f k) 0)) i v e unique ∙ ends.bound)
-walk-found_in f i v (Some (suc n)) e unique walk =
-    let ends = walk-found f (hash_values i.keys) 0 (suc n) (sym walk) in
-    let just : list_any (is_just f (suc n)) (hash_values i.keys) ≡ true = elim ends.attained [ inl h ↦ absurd (omega arith) | inr h ↦ h ] in (
-      some_key-view (λ k. not (is_some (f k))) i v e unique ∙ ends.all,
-      some_key-view (λ k. nat_lt 0 (unwrap_or (f k) 0)) i v e unique ∙ weaker (is_just f (suc n)) (is_above f 0) (just_early f n) (hash_values i.keys) just,
-      longest-found f v.keys (suc n) (some_key-view (is_above f (suc n)) i v e unique ∙ ends.bound) (some_key-view (is_just f (suc n)) i v e unique ∙ just),
-    )
+-- what is left of a span of time at a moment, by the moment from which nothing is
+left_of : ℕ → ℕ → ℕ → ℕ
+left_of span now end = min span (end - now)
 
--- ---- the verdict
+left-since : (ttl now s : ℕ) → left_since ttl now s ≡ left_of (ttl * 1_000_000_000) now (over_since ttl s)
+unfolding left_of
+left-since ttl now s = elim (split (nat_eq ttl 0)) [
+  | inl none ↦
+      let no_ttl : ttl ≡ 0 = grind (arith, nat_tests) in
+      let ever : over_since ttl s ≡ 0 = ap (λ b. if b then 0 else s + ttl * 1_000_000_000) none in
+      omega (arith, no_ttl, ever)
+  | inr some ↦
+      let since : over_since ttl s ≡ s + ttl * 1_000_000_000 = ap (λ b. if b then 0 else s + ttl * 1_000_000_000) some in
+      omega (arith, since)
+]
 
-module _ (T : Type 0) (roll : RollType) (half : Half) (now : ℕ) (keys : Keys) (actions : List Action) (r : Result T Error) where
-  -- a wait out of its phase
-  pub told-phase : (t : Option ℕ) → t ≡ None → r ≡ Err WrongStateForRollOperation → AnswersWait (wait_in_phase roll half t now keys) keys actions r
-  told-phase t e h = subst (λ x. AnswersWait (wait_in_phase roll half x now keys) keys actions r) (sym e) h
+unchecked : (span now : ℕ) → 0 ≡ left_of span now 0
+unfolding left_of
+unchecked span now = omega arith
 
-  module _ (ttl : ℕ) (t : Option ℕ) (phase : t ≡ Some ttl) where
-    in_phase : AnswersWait (wait_in_phase roll half (Some ttl) now keys) keys actions r → AnswersWait (wait_in_phase roll half t now keys) keys actions r
-    in_phase h = subst (λ x. AnswersWait (wait_in_phase roll half x now keys) keys actions r) (sym phase) h
+module _ (roll : RollType) (half : Half) (ttl now : ℕ) where
+  left-over : (k : KeyParts) → time_left roll half ttl now k
+      ≡ option_map (left_of (ttl * 1_000_000_000) now) (over_at roll half ttl k)
+  left-over k = at ((half_of roll half).checks k.keytype) (stamp_read roll half k)
+    where
+      at : (c : Bool) (s : Option ℕ) → (if c then option_map (left_since ttl now) s else Some 0)
+          ≡ option_map (left_of (ttl * 1_000_000_000) now) (if c then option_map (over_since ttl) s else Some 0)
+      at false s = ap Some (unchecked (ttl * 1_000_000_000) now)
+      at true None = refl
+      at true (Some s) = ap Some (left-since ttl now s)
 
-    -- a wait that misses a stamp
-    pub told-missing : Found (time_left roll half ttl now) keys None → r ≡ Err WrongKeyState → AnswersWait (wait_in_phase roll half t now keys) keys actions r
-    unfolding Found
-    told-missing lacks h = in_phase (rw lacks h)
+  missing-same : (k : KeyParts) → is_some (time_left roll half ttl now k) ≡ is_some (over_at roll half ttl k)
+  missing-same k = ap is_some (left-over k) ∙ at (over_at roll half ttl k)
+    where
+      at : (o : Option ℕ) → is_some (option_map (left_of (ttl * 1_000_000_000) now) o) ≡ is_some o
+      at None = refl
+      at (Some n) = refl
 
-    -- a wait that is early
-    pub told-early : (n : ℕ) (d : Duration) → Found (time_left roll half ttl now) keys (Some n) → 0 < n → as_nanos d ≡ n → r ≡ Err (Wait d)
-        → AnswersWait (wait_in_phase roll half t now keys) keys actions r
-    unfolding Found
-    told-early zero d found more is h = absurd (omega arith)
-    told-early (suc n) d found more is h = in_phase (rw (found.0, found.1) (d, h, subst (IsLongest (time_left roll half ttl now) keys) (sym is) found.2))
+  -- where some key keeps a wait up, there is a TTL
+  has-ttl : (k : KeyParts) (end : ℕ) → over_at roll half ttl k ≡ Some end → 0 < end → 0 < ttl
+  has-ttl k end = at ((half_of roll half).checks k.keytype) (stamp_read roll half k)
+    where
+      from : (ttl s : ℕ) → over_since ttl s ≡ end → 0 < end → 0 < ttl
+      from zero s e more = omega arith
+      from (suc ttl) s e more = omega arith
 
-    -- a wait that is over
-    pub told-over : (n : ℕ) → Found (time_left roll half ttl now) keys (Some n) → n ≤ 0 → AnswersWait Clear keys actions r → AnswersWait (wait_in_phase roll half t now keys) keys actions r
-    unfolding Found
-    told-over zero found none h = in_phase (rw (found.0, found.1) h)
-    told-over (suc n) found none h = absurd (omega arith)
+      at : (c : Bool) (s : Option ℕ) → (if c then option_map (over_since ttl) s else Some 0) ≡ Some end → 0 < end → 0 < ttl
+      at false s e more = let none : 0 ≡ end = cc in absurd (omega arith)
+      at true None e more = cc
+      at true (Some s) e more = let is : over_since ttl s ≡ end = cc in from ttl s is more
+
+  -- what is left for a key at a moment
+  is_early_for : KeyParts → Bool
+  is_early_for k = nat_lt 0 (unwrap_or (time_left roll half ttl now k) 0)
+
+  left-early : (k : KeyParts) (end : ℕ) → now < end → over_at roll half ttl k ≡ Some end → is_early_for k ≡ true
+  unfolding is_early_for left_of
+  left-early k end early e =
+      let more = has-ttl k end e (omega arith) in
+      ap (λ o. nat_lt 0 (unwrap_or o 0)) (left-over k ∙ ap (option_map (left_of (ttl * 1_000_000_000) now)) e)
+      ∙ positive ttl more
+    where
+      positive : (ttl : ℕ) → 0 < ttl → nat_lt 0 (left_of (ttl * 1_000_000_000) now end) ≡ true
+      positive ttl more =
+          let some : 0 < min (ttl * 1_000_000_000) (end - now) = omega arith in
+          grind (arith, nat_tests)
+
+  early-above : (k : KeyParts) (end : ℕ) → end ≤ now → is_early_for k ≡ true → nat_lt end (unwrap_or (over_at roll half ttl k) 0) ≡ true
+  unfolding is_early_for left_of
+  early-above k end late h = at (over_at roll half ttl k) (sym (ap (λ o. nat_lt 0 (unwrap_or o 0)) (left-over k)) ∙ h)
+    where
+      at : (o : Option ℕ) → nat_lt 0 (unwrap_or (option_map (left_of (ttl * 1_000_000_000) now) o) 0) ≡ true → nat_lt end (unwrap_or o 0) ≡ true
+      at None h = cc
+      at (Some n) h =
+          let some : 0 < min (ttl * 1_000_000_000) (n - now) = grind (arith, nat_tests) in
+          let above : end < n = omega arith in
+          grind (arith, nat_tests)
+
+  left-bound : (k : KeyParts) (end : ℕ) → unwrap_or (over_at roll half ttl k) 0 ≤ end → unwrap_or (time_left roll half ttl now k) 0 ≤ left_of (ttl * 1_000_000_000) now end
+  unfolding left_of
+  left-bound k end below = subst (λ o. unwrap_or o 0 ≤ left_of (ttl * 1_000_000_000) now end) (sym (left-over k)) (at (over_at roll half ttl k) below)
+    where
+      at : (o : Option ℕ) → unwrap_or o 0 ≤ end → unwrap_or (option_map (left_of (ttl * 1_000_000_000) now) o) 0 ≤ left_of (ttl * 1_000_000_000) now end
+      at None h = omega arith
+      at (Some n) h = omega arith
+
+-- ---- the keys of a key set
+
+module _ (roll : RollType) (half : Half) (ttl : ℕ) (i : Inside) (v : KeySetParts) (view : the_view i ≡ v) (unique : IsUnique string_eq i.keys) where
+  over : KeyParts → Option ℕ
+  over k = over_at roll half ttl k
+
+  ks : List KeyParts
+  ks = hash_values i.keys
+
+  seen : (p : KeyParts → Bool) → some_key p v.keys ≡ list_any p ks
+  unfolding ks
+  seen p = some_key-view p i v view unique
+
+  lacks : ℕ → Bool
+  lacks now = lacks_stamp (time_left roll half ttl now) v.keys
+
+  -- a walk that finds a stamp missing
+  pub walk-lacks : None ≡ fold (λ a k. option_and_then (λ x. option_map (λ y. max x y) (over_at roll half ttl k)) a) (Some 0) (hash_values i.keys)
+      → LacksStamp roll half ttl v.keys
+  unfolding over ks further is_missing lacks
+  walk-lacks walk now =
+      let lacks_it : lacks now ≡ true = seen (λ k. not (is_some (time_left roll half ttl now k)))
+      ∙ weaker (is_missing over) (λ k. not (is_some (time_left roll half ttl now k))) (λ k h. ap not (missing-same roll half ttl now k) ∙ h) ks (walk-missing over ks 0 (sym walk)) in
+      rw lacks_it refl
+
+  has : (now : ℕ) → list_any (is_missing over) ks ≡ false → lacks now ≡ false
+  unfolding over ks is_missing lacks
+  has now none = seen (λ k. not (is_some (time_left roll half ttl now k)))
+      ∙ none_weaker (λ k. not (is_some (time_left roll half ttl now k))) (is_missing over) (λ k h. sym (ap not (missing-same roll half ttl now k)) ∙ h) ks none
+
+  -- a walk that finds from when on the wait is over
+  pub walk-over : (end : ℕ) → Some end ≡ fold (λ a k. option_and_then (λ x. option_map (λ y. max x y) (over_at roll half ttl k)) a) (Some 0) (hash_values i.keys)
+      → IsOverFrom roll half ttl v.keys end
+  unfolding over ks further is_missing is_above is_early_for left_of lacks IsEarlyBy
+  walk-over end walk =
+      let ends = walk-found over ks 0 end (sym walk) in
+      let bound : some_key (is_above over end) v.keys ≡ false = seen (is_above over end) ∙ ends.bound in
+      record {
+        early = λ now less.
+            let just : list_any (is_just over end) ks ≡ true = elim ends.attained [ inl h ↦ absurd (omega arith) | inr h ↦ h ] in
+            let one = some_key-found (is_just over end) v.keys (seen (is_just over end) ∙ just) in
+            let is : over one.1 ≡ Some end = is_there over one.1 end one.3 in
+            let early : is_early (time_left roll half ttl now) v.keys ≡ true = seen (is_early_for roll half ttl now)
+            ∙ weaker (is_just over end) (is_early_for roll half ttl now) (λ k h. left-early roll half ttl now k end less (is_there over k end h)) ks just in
+            let longest : IsLongest (time_left roll half ttl now) v.keys (min (ttl * 1_000_000_000) (end - now)) = record {
+              bound = λ q k at. left-bound roll half ttl now k end (not_above over k end (some_key-none (is_above over end) v.keys q k bound at));
+              attained = (one.0, one.1, one.2, left-over roll half ttl now one.1 ∙ ap (option_map (left_of (ttl * 1_000_000_000) now)) is);
+            } in
+            rw (has now ends.all, early) longest;
+        over = λ now late.
+            let clear : is_early (time_left roll half ttl now) v.keys ≡ false = seen (is_early_for roll half ttl now)
+            ∙ none_weaker (is_early_for roll half ttl now) (is_above over end) (λ k h. early-above roll half ttl now k end late h) ks ends.bound in
+            rw (has now ends.all, clear) refl;
+      }
 
 -- ---- from the check to the call
 
@@ -219,3 +310,71 @@ module _ (T U : Type 0) (keys : Keys) where
 -- the phase that a contract sees is that of the hash map
 pub ttl-shown : (half : Half) (roll : RollType) (i : Inside) (v : KeySetParts) → the_view i ≡ v → ttl_in half (phase_of v.rolls roll) ≡ ttl_in half (phase_of (rolls_shown i.rollstates) roll)
 ttl-shown half roll i v e = sym (ap (λ (w : KeySetParts). ttl_in half (phase_of w.rolls roll)) e)
+
+-- ---- the end of a wait
+
+module _ (T : Type 0) (roll : RollType) (half : Half) (ttl : ℕ) (keys : Keys) (end : ℕ) (t : Option ℕ) (phase : t ≡ Some ttl) (over : IsOverFrom roll half ttl keys end) where
+  -- a wait before the end
+  pub told-early : (now : ℕ) → now < end → (d : Duration) → as_nanos d ≡ min (ttl * 1_000_000_000) (end - now)
+      → AnswersWait {T = T} (wait_in_phase roll half t now keys) keys [] (Err (Wait d))
+  unfolding IsEarlyBy
+  told-early now less d is = subst (λ x. AnswersWait {T = T} (wait_in_phase roll half x now keys) keys [] (Err (Wait d))) (sym phase) (at _ (over.early now less))
+    where
+      at : (v : Verdict) → IsEarlyBy (min (ttl * 1_000_000_000) (end - now)) keys v → AnswersWait {T = T} v keys [] (Err (Wait d))
+      at (Early left) longest = (d, refl, subst (IsLongest left keys) (sym is) longest)
+      at (Barred cause) none = absurd none
+      at Clear none = absurd none
+
+-- what is left, where the moment is told as a duration
+pub left-now : (ttl end : ℕ) {now nanos : ℕ} → nanos ≡ now → min (ttl * 1_000_000_000) (end - nanos) ≡ min (ttl * 1_000_000_000) (end - now)
+left-now ttl end e = ap (λ n. min (ttl * 1_000_000_000) (end - n)) e
+
+-- a wait that no phase lets through, or that misses a stamp, is refused at any moment
+pub no-wait : (roll : RollType) (set : KeySetParts) (p : Option RollState) → phase_of set.rolls roll ≡ p
+    → ((half : Half) (ttl : ℕ) → ttl_in half p ≡ Some ttl → LacksStamp roll half ttl set.keys) → HasNoWait roll set
+no-wait roll set p is lacks half now = at (ttl_in half p) (ap (ttl_in half) is) (lacks half)
+  where
+    at : (t : Option ℕ) → ttl_in half (phase_of set.rolls roll) ≡ t → ((ttl : ℕ) → t ≡ Some ttl → LacksStamp roll half ttl set.keys)
+        → (cause : Error) × (wait_verdict roll half now set ≡ Barred cause)
+    at None e h = (WrongStateForRollOperation, ap (λ t. wait_in_phase roll half t now set.keys) e)
+    at (Some ttl) e h = (WrongKeyState, ap (λ t. wait_in_phase roll half t now set.keys) e ∙ h ttl refl now)
+
+-- the same for a half whose wait misses a stamp
+pub no-wait-half : (roll : RollType) (set : KeySetParts) (half : Half) (ttl : ℕ) → phase_of set.rolls roll ≡ Some (expiring half ttl)
+    → LacksStamp roll half ttl set.keys → HasNoWait roll set
+no-wait-half roll set First ttl is lacks = no-wait roll set (Some (CacheExpire1 ttl)) is (at roll set ttl lacks)
+  where
+    at : (roll : RollType) (set : KeySetParts) (ttl : ℕ) → LacksStamp roll First ttl set.keys
+        → (half : Half) (t : ℕ) → ttl_in half (Some (CacheExpire1 ttl)) ≡ Some t → LacksStamp roll half t set.keys
+    at roll set ttl lacks First t e = let same : ttl ≡ t = cc in subst (λ x. LacksStamp roll First x set.keys) same lacks
+    at roll set ttl lacks Second t e = cc
+no-wait-half roll set Second ttl is lacks = no-wait roll set (Some (CacheExpire2 ttl)) is (at roll set ttl lacks)
+  where
+    at : (roll : RollType) (set : KeySetParts) (ttl : ℕ) → LacksStamp roll Second ttl set.keys
+        → (half : Half) (t : ℕ) → ttl_in half (Some (CacheExpire2 ttl)) ≡ Some t → LacksStamp roll half t set.keys
+    at roll set ttl lacks Second t e = let same : ttl ≡ t = cc in subst (λ x. LacksStamp roll Second x set.keys) same lacks
+    at roll set ttl lacks First t e = cc
+
+-- the same for a phase without a wait
+pub data IsWithoutWait : Option RollState → Type 0 where
+  NotBegun : IsWithoutWait None
+  FirstChange : IsWithoutWait (Some Propagation1)
+  SecondChange : IsWithoutWait (Some Propagation2)
+  Ended : IsWithoutWait (Some Done)
+
+no-ttl : (p : Option RollState) → IsWithoutWait p → (half : Half) → ttl_in half p ≡ None
+no-ttl p NotBegun First = refl
+no-ttl p NotBegun Second = refl
+no-ttl p FirstChange First = refl
+no-ttl p FirstChange Second = refl
+no-ttl p SecondChange First = refl
+no-ttl p SecondChange Second = refl
+no-ttl p Ended First = refl
+no-ttl p Ended Second = refl
+
+pub no-wait-phase : (roll : RollType) (set : KeySetParts) (p : Option RollState) → phase_of set.rolls roll ≡ p → IsWithoutWait p → HasNoWait roll set
+no-wait-phase roll set p is none = no-wait roll set p is (λ half ttl e. absurd (let one = sym (no-ttl p none half) ∙ e in cc))
+
+-- the phase that a contract sees is that of the hash map
+pub phase-shown : (roll : RollType) (i : Inside) (v : KeySetParts) → the_view i ≡ v → phase_of v.rolls roll ≡ phase_of (rolls_shown i.rollstates) roll
+phase-shown roll i v e = sym (ap (λ (w : KeySetParts). phase_of w.rolls roll) e)

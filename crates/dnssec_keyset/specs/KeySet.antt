@@ -12,12 +12,12 @@ use Rattle.std.specs.Str.{bytes_eq}
 use Rattle.std.specs.Coded.{Coded, coded_list, coded_ℕ}
 use Rattle.std.specs.HashMap.{HashMap}
 use Rattle.std.specs.Map.{lookup}
-use Rattle.dnssec_keyset.specs.declared.roll.RollType.{RollType}
-use Rattle.dnssec_keyset.specs.declared.roll.RollType.TheVariants.{KskRoll, KskDoubleDsRoll}
-use Rattle.dnssec_keyset.specs.declared.roll.RollType.TheVariants.{ZskRoll, ZskDoubleSignatureRoll}
-use Rattle.dnssec_keyset.specs.declared.roll.RollType.TheVariants.{CskRoll, AlgorithmRoll}
-use Rattle.dnssec_keyset.specs.declared.roll.RollState.{RollState}
-use Rattle.dnssec_keyset.specs.Key.{KeyParts}
+use Rattle.dnssec_key.specs.declared.roll.RollType.{RollType}
+use Rattle.dnssec_key.specs.declared.roll.RollType.TheVariants.{KskRoll, KskDoubleDsRoll}
+use Rattle.dnssec_key.specs.declared.roll.RollType.TheVariants.{ZskRoll, ZskDoubleSignatureRoll}
+use Rattle.dnssec_key.specs.declared.roll.RollType.TheVariants.{CskRoll, AlgorithmRoll}
+use Rattle.dnssec_key.specs.declared.roll.RollState.{RollState}
+use Rattle.dnssec_key.specs.Key.{KeyParts}
 
 -- the keys by the bytes of their references (RFC 6781, section 3.1)
 abbrev pub Keys : Type 0
@@ -99,6 +99,14 @@ pub record KeySetParts : Type 0 where
 -- a set without keys and rolls (RFC 6781, section 3.1)
 abbrev pub new_set : List ℕ → KeySetParts
 new_set name = record { name = name; keys = empty; rolls = no_rolls }
+
+-- only the key at the reference is changed, by f (RFC 6781, section 4.1)
+pub record ChangesKey (old new : KeySetParts) (reference : List ℕ) (f : KeyParts → KeyParts)
+    : Type 0 where
+  pub name : new.name ≡ old.name
+  pub rolls : new.rolls ≡ old.rolls
+  pub keys : (q : List ℕ) →
+      get new.keys q ≡ option_map (λ k. if bytes_eq reference q then f k else k) (get old.keys q)
 
 -- only the key at the reference is another one, or none (RFC 6781, section 3.1)
 pub record PutsKey (old new : KeySetParts) (reference : List ℕ) (key : Option KeyParts)

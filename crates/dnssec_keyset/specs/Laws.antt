@@ -3,9 +3,9 @@
 use Rattle.std.specs.Prelude.{◌≡◌, ◌≢◌, ℕ, Bool, true, false, List, Option, None, Some, ◌⊎◌}
 use Rattle.std.specs.Prelude.{is_some}
 use Rattle.std.specs.FinMap.{get}
-use Rattle.dnssec_keyset.specs.declared.roll.RollType.{RollType}
-use Rattle.dnssec_keyset.specs.Key.{KeyParts}
-use Rattle.dnssec_keyset.specs.declared.error.Error.TheVariants.{OutOfMemory}
+use Rattle.dnssec_key.specs.declared.roll.RollType.{RollType}
+use Rattle.dnssec_key.specs.Key.{KeyParts}
+use Rattle.dnssec_key.specs.declared.error.Error.TheVariants.{OutOfMemory}
 use Rattle.dnssec_keyset.specs.KeySet.{Keys, KeySetParts, Rolls, phase_of, same_roll}
 use Rattle.dnssec_keyset.specs.Start.{lists_kind, side_of, together}
 use Rattle.dnssec_keyset.specs.Step.{Call, StartRoll, Report, Wait, RollDone, Reply, Refused, Step}

@@ -1,11 +1,6 @@
-pub mod Moment
-pub mod State
-pub mod Key
 pub mod KeySet
-pub mod RollTable
 pub mod Start
-pub mod Setters
 pub mod Wait
 pub mod Step
+pub mod WaitEnd
 pub mod Laws
-pub mod Texts

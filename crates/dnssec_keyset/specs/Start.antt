@@ -8,25 +8,25 @@ use Rattle.std.specs.Option.{option_or, option_map_or}
 use Rattle.std.specs.Str.{bytes_eq}
 use Rattle.std.specs.FinMap.{get}
 use Rattle.std.specs.Borrow.{Bor}
-use Rattle.dnssec_keyset.specs.declared.key.KeyType.{KeyType}
+use Rattle.dnssec_key.specs.declared.key.KeyType.{KeyType}
 use Rattle.dnssec_keyset.specs.declared.check.Want.{Want}
 use Rattle.dnssec_keyset.specs.declared.check.Want.TheVariants.{PresentKsk, KskAtParent, PresentZsk}
 use Rattle.dnssec_keyset.specs.declared.check.Want.TheVariants.{PresentKskRole, PresentZskRole}
-use Rattle.dnssec_keyset.specs.declared.roll.Side.{Side}
-use Rattle.dnssec_keyset.specs.declared.roll.Side.TheVariants.{KskSide, ZskSide, BothSides}
-use Rattle.dnssec_keyset.specs.declared.roll.RollType.{RollType}
-use Rattle.dnssec_keyset.specs.declared.roll.RollType.TheVariants.{KskRoll, KskDoubleDsRoll}
-use Rattle.dnssec_keyset.specs.declared.roll.RollType.TheVariants.{ZskRoll, ZskDoubleSignatureRoll}
-use Rattle.dnssec_keyset.specs.declared.roll.RollType.TheVariants.{CskRoll, AlgorithmRoll}
-use Rattle.dnssec_keyset.specs.declared.error.Error.{Error}
-use Rattle.dnssec_keyset.specs.declared.error.Error.TheVariants.{KeyNotFound, WrongKeyType}
-use Rattle.dnssec_keyset.specs.declared.error.Error.TheVariants.{WrongKeyState}
-use Rattle.dnssec_keyset.specs.declared.error.Error.TheVariants.{NoSuitableKeyPresent}
-use Rattle.dnssec_keyset.specs.declared.error.Error.TheVariants.{WrongStateForRollOperation}
-use Rattle.dnssec_keyset.specs.declared.error.Error.TheVariants.{ConflictingRollInProgress}
-use Rattle.dnssec_keyset.specs.declared.error.Error.TheVariants.{AlgorithmSetsMismatch}
-use Rattle.dnssec_keyset.specs.State.{is_any, is_fresh, kept_present, kept_at_parent}
-use Rattle.dnssec_keyset.specs.Key.{KeyParts, ksk, zsk, ksk_role, zsk_role, any_key, all_states}
+use Rattle.dnssec_keyset.specs.declared.check.Side.{Side}
+use Rattle.dnssec_keyset.specs.declared.check.Side.TheVariants.{KskSide, ZskSide, BothSides}
+use Rattle.dnssec_key.specs.declared.roll.RollType.{RollType}
+use Rattle.dnssec_key.specs.declared.roll.RollType.TheVariants.{KskRoll, KskDoubleDsRoll}
+use Rattle.dnssec_key.specs.declared.roll.RollType.TheVariants.{ZskRoll, ZskDoubleSignatureRoll}
+use Rattle.dnssec_key.specs.declared.roll.RollType.TheVariants.{CskRoll, AlgorithmRoll}
+use Rattle.dnssec_key.specs.declared.error.Error.{Error}
+use Rattle.dnssec_key.specs.declared.error.Error.TheVariants.{KeyNotFound, WrongKeyType}
+use Rattle.dnssec_key.specs.declared.error.Error.TheVariants.{WrongKeyState}
+use Rattle.dnssec_key.specs.declared.error.Error.TheVariants.{NoSuitableKeyPresent}
+use Rattle.dnssec_key.specs.declared.error.Error.TheVariants.{WrongStateForRollOperation}
+use Rattle.dnssec_key.specs.declared.error.Error.TheVariants.{ConflictingRollInProgress}
+use Rattle.dnssec_key.specs.declared.error.Error.TheVariants.{AlgorithmSetsMismatch}
+use Rattle.dnssec_key.specs.State.{is_any, is_fresh, kept_present, kept_at_parent}
+use Rattle.dnssec_key.specs.Key.{KeyParts, ksk, zsk, ksk_role, zsk_role, any_key, all_states}
 use Rattle.dnssec_keyset.specs.KeySet.{Keys, Rolls, KeySetParts, phase_of, some_entry}
 
 -- ---- rolls side by side

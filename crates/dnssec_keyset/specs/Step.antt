@@ -9,24 +9,26 @@ use Rattle.std.specs.Duration.{as_nanos}
 use Rattle.std.specs.declared.time.Duration.{Duration}
 use Rattle.std.specs.FinMap.{get, insert, remove, entries, from_entries}
 use Rattle.std.specs.Str.{bytes_eq}
-use Rattle.dnssec_keyset.specs.declared.roll.RollType.{RollType}
-use Rattle.dnssec_keyset.specs.declared.roll.RollState.{RollState}
-use Rattle.dnssec_keyset.specs.declared.roll.RollState.TheVariants.{Propagation1}
-use Rattle.dnssec_keyset.specs.declared.roll.RollState.TheVariants.{Propagation2}
-use Rattle.dnssec_keyset.specs.declared.roll.RollState.TheVariants.{Done as Finishing}
-use Rattle.dnssec_keyset.specs.declared.roll.Action.{Action}
-use Rattle.dnssec_keyset.specs.declared.error.Error.{Error}
-use Rattle.dnssec_keyset.specs.declared.error.Error.TheVariants.{KeyExists, DuplicateKeyTag}
-use Rattle.dnssec_keyset.specs.declared.error.Error.TheVariants.{WrongKeyState}
-use Rattle.dnssec_keyset.specs.declared.error.Error.TheVariants.{WrongStateForRollOperation}
-use Rattle.dnssec_keyset.specs.declared.error.Error.TheVariants.{Wait as WaitFor, OutOfMemory}
-use Rattle.dnssec_keyset.specs.Key.{KeyParts}
+use Rattle.dnssec_key.specs.declared.roll.RollType.{RollType}
+use Rattle.dnssec_key.specs.declared.roll.RollState.{RollState}
+use Rattle.dnssec_key.specs.declared.roll.RollState.TheVariants.{Propagation1}
+use Rattle.dnssec_key.specs.declared.roll.RollState.TheVariants.{Propagation2}
+use Rattle.dnssec_key.specs.declared.roll.RollState.TheVariants.{Done as Finishing}
+use Rattle.dnssec_key.specs.declared.roll.Action.{Action}
+use Rattle.dnssec_key.specs.declared.error.Error.{Error}
+use Rattle.dnssec_key.specs.declared.error.Error.TheVariants.{KeyExists, DuplicateKeyTag}
+use Rattle.dnssec_key.specs.declared.error.Error.TheVariants.{KeyNotFound, KeyNotOld}
+use Rattle.dnssec_key.specs.declared.error.Error.TheVariants.{WrongKeyState}
+use Rattle.dnssec_key.specs.declared.error.Error.TheVariants.{WrongStateForRollOperation}
+use Rattle.dnssec_key.specs.declared.error.Error.TheVariants.{Wait as WaitFor, OutOfMemory}
+use Rattle.dnssec_key.specs.State.{is_stale}
+use Rattle.dnssec_key.specs.Key.{KeyParts, all_states}
 use Rattle.dnssec_keyset.specs.KeySet.{Keys, KeySetParts, PutsKey, MovesOn, phase_of, with_phase}
 use Rattle.dnssec_keyset.specs.KeySet.{some_key}
-use Rattle.dnssec_keyset.specs.RollTable.{Half, First, Second, after_start, after_report}
-use Rattle.dnssec_keyset.specs.RollTable.{after_wait, actions_of, expiring, behind}
-use Rattle.dnssec_keyset.specs.Setters.{Setting, ChangesKey, set_by, setting_refusal}
-use Rattle.dnssec_keyset.specs.Setters.{deletion_refusal}
+use Rattle.dnssec_key.specs.RollTable.{Half, First, Second, after_start, after_report}
+use Rattle.dnssec_key.specs.RollTable.{after_wait, actions_of, expiring, behind}
+use Rattle.dnssec_key.specs.Setters.{Setting, kind_refusal, set_by}
+use Rattle.dnssec_keyset.specs.KeySet.{ChangesKey}
 use Rattle.dnssec_keyset.specs.Start.{start_refusal, is_listed}
 use Rattle.dnssec_keyset.specs.Wait.{ttl_in, lacks_stamp, is_early, time_left, IsLongest}
 
@@ -41,6 +43,16 @@ abbrev pub add_refusal : Keys → List ℕ → ℕ → Option Error
 add_refusal keys reference tag =
     if has_tag tag keys then Some DuplicateKeyTag
     else (if is_some (get keys reference) then Some KeyExists else None)
+
+-- why a setter is refused, with the key that it names (RFC 6781, section 3.1)
+abbrev pub setting_refusal : Setting → Option KeyParts → Option Error
+setting_refusal setting None = Some KeyNotFound
+setting_refusal setting (Some k) = kind_refusal setting k.keytype
+
+-- why a deletion is refused: only a key that has left in every role may go (RFC 6781, section 4.1)
+abbrev pub deletion_refusal : Option KeyParts → Option Error
+deletion_refusal None = Some KeyNotFound
+deletion_refusal (Some k) = if all_states is_stale k.keytype then None else Some KeyNotOld
 
 -- why a report is refused: it belongs to the phase of its change (RFC 6781, section 4.1)
 abbrev pub report_refusal : Half → Option RollState → Option Error

@@ -2,29 +2,17 @@
 -- data is gone from the caches once the reported TTL has passed since (RFC 6781, section 4.1: data
 -- of earlier versions of the zone lives on in caches; RFC 7583, section 3: the interval is a TTL
 -- from the event on).
-use Rattle.std.specs.Prelude.{◌≡◌, ℕ, ◌*◌, ◌-◌, ◌≤◌, Bool, not, Option, None, Some, is_some}
-use Rattle.std.specs.Prelude.{unwrap_or, if◌then◌else◌, nat_lt, List}
+use Rattle.std.specs.Prelude.{◌≡◌, ℕ, ◌*◌, ◌+◌, ◌-◌, ◌≤◌, Bool, not, Option, None, Some, is_some}
+use Rattle.std.specs.Prelude.{unwrap_or, if◌then◌else◌, nat_eq, nat_lt, List}
 use Rattle.std.specs.Option.{option_map}
 use Rattle.std.specs.FinMap.{get}
-use Rattle.dnssec_keyset.specs.declared.key.Stamp.{Stamp}
-use Rattle.dnssec_keyset.specs.declared.key.Stamp.TheVariants.{Published, Visible, DsVisible}
-use Rattle.dnssec_keyset.specs.declared.key.Stamp.TheVariants.{RrsigVisible, Withdrawn}
-use Rattle.dnssec_keyset.specs.declared.roll.RollType.{RollType}
-use Rattle.dnssec_keyset.specs.declared.roll.RollState.{RollState}
-use Rattle.dnssec_keyset.specs.declared.roll.RollState.TheVariants.{CacheExpire1}
-use Rattle.dnssec_keyset.specs.declared.roll.RollState.TheVariants.{CacheExpire2}
-use Rattle.dnssec_keyset.specs.State.{Stamps}
-use Rattle.dnssec_keyset.specs.Key.{KeyParts}
+use Rattle.dnssec_key.specs.declared.roll.RollType.{RollType}
+use Rattle.dnssec_key.specs.declared.roll.RollState.{RollState}
+use Rattle.dnssec_key.specs.declared.roll.RollState.TheVariants.{CacheExpire1}
+use Rattle.dnssec_key.specs.declared.roll.RollState.TheVariants.{CacheExpire2}
+use Rattle.dnssec_key.specs.Key.{KeyParts}
 use Rattle.dnssec_keyset.specs.KeySet.{Keys, some_key}
-use Rattle.dnssec_keyset.specs.RollTable.{Half, First, Second, half_of}
-
--- the moment of a stamp, where it was written (RFC 7583, section 3)
-abbrev pub stamp_at : Stamp → Stamps → Option ℕ
-stamp_at Published t = t.published
-stamp_at Visible t = t.visible
-stamp_at DsVisible t = t.ds_visible
-stamp_at RrsigVisible t = t.rrsig_visible
-stamp_at Withdrawn t = t.withdrawn
+use Rattle.dnssec_key.specs.RollTable.{Half, First, Second, half_of, stamp_at}
 
 -- the TTL that this half of a roll waits for, in that phase alone (RFC 6781, section 4.1)
 abbrev pub ttl_in : Half → Option RollState → Option ℕ
@@ -45,6 +33,18 @@ abbrev pub time_left : RollType → Half → ℕ → ℕ → KeyParts → Option
 time_left roll half ttl now k =
     if (half_of roll half).checks k.keytype
     then option_map (left_since ttl now) (stamp_read roll half k)
+    else Some 0
+
+-- from when on nothing is left of a wait of ttl seconds since a stamp: where no cache keeps data,
+-- ever
+abbrev pub over_since : ℕ → ℕ → ℕ
+over_since ttl stamp = if nat_eq ttl 0 then 0 else stamp + ttl * 1_000_000_000
+
+-- from when on nothing is left for a key: ever if unchecked, unknown without its stamp
+abbrev pub over_at : RollType → Half → ℕ → KeyParts → Option ℕ
+over_at roll half ttl k =
+    if (half_of roll half).checks k.keytype
+    then option_map (over_since ttl) (stamp_read roll half k)
     else Some 0
 
 -- some checked key lacks the stamp (RFC 6781, section 4.1)

@@ -1,15 +1,13 @@
-//! What a start and a wait are refused for. Nothing is changed here.
+//! What a start is refused for. Nothing is changed here.
 ghost use Rattle.std.specs.Prelude.{◌≡◌, [], false, true, not, ◌&&◌, ◌||◌, Some, string_bytes};
-ghost use Rattle.std.specs.Prelude.{nat_eq, is_some, unwrap_or, max, OnOk, IsSome};
-ghost use Rattle.std.specs.List.{list_any, list_all, fold};
-ghost use Rattle.std.specs.Option.{option_map, option_map_or, option_and_then};
+ghost use Rattle.std.specs.Prelude.{nat_eq, is_some};
+ghost use Rattle.std.specs.List.{list_any, list_all};
+ghost use Rattle.std.specs.Option.{option_map_or};
 ghost use Rattle.std.specs.String.{string_eq};
 ghost use Rattle.std.specs.Str.{bytes_eq};
 ghost use Rattle.std.specs.FinMap as map;
 ghost use Rattle.std.specs.HashMap as hash;
-ghost use Rattle.dnssec_keyset.specs.Key.{all_states};
 ghost use Rattle.dnssec_keyset.specs.KeySet.{phase_of, rolls_shown};
-ghost use Rattle.dnssec_keyset.specs.RollTable.{half_of, which};
 ghost use Rattle.dnssec_keyset.specs.Start.{texts, is_listed, side_of, are_apart, together};
 ghost use Rattle.dnssec_keyset.specs.Start.{has_conflict, conflict, lists_kind, old_entry_fault};
 ghost use Rattle.dnssec_keyset.specs.Start.{old_fault, new_entry_fault, new_fault, has_algorithm};
@@ -17,17 +15,11 @@ ghost use Rattle.dnssec_keyset.specs.Start.{algorithms_within, may_change_algori
 ghost use Rattle.dnssec_keyset.specs.Start.{algorithm_fault, wants, serves_as_new, serves_as_kept};
 ghost use Rattle.dnssec_keyset.specs.Start.{some_listed, some_kept, is_met, suitability_fault};
 ghost use Rattle.dnssec_keyset.specs.Start.{start_refusal};
-ghost use Rattle.dnssec_keyset.specs.Step.{AnswersExactly, AnswersWait, wait_verdict};
-ghost use Rattle.dnssec_keyset.specs.Wait.{time_left, ttl_in};
+ghost use Rattle.dnssec_keyset.specs.Step.{AnswersExactly};
 
-use crate::error::Error;
-use crate::key::{Key, KeyType};
-use crate::roll::{Half, RollState, RollType, Side};
 use crate::set::KeySet;
-use crate::table::{is_kept_at_parent, is_kept_present};
-use crate::time::UnixTime;
+use dnssec_key::{Error, Key, KeyType, RollState, RollType, is_kept_at_parent, is_kept_present};
 use std::collections::HashMap;
-use std::time::Duration;
 
 const ALL_ROLLS: [RollType; 6] = [
     RollType::KskRoll,
@@ -37,6 +29,14 @@ const ALL_ROLLS: [RollType; 6] = [
     RollType::CskRoll,
     RollType::AlgorithmRoll,
 ];
+
+/// Which keys a roll changes.
+#[derive(Clone, Copy, Debug, PartialEq, Eq)]
+pub(crate) enum Side {
+    KskSide,
+    ZskSide,
+    BothSides,
+}
 
 /// What a start has to leave on a side that the roll changes: a key that serves.
 #[derive(Clone, Copy, Debug, PartialEq, Eq)]
@@ -104,40 +104,38 @@ impl Side {
     }
 }
 
-impl RollType {
-    fn side(self) -> Side
-        ensures { result ≡ side_of self }
-    {
-        match self {
-            RollType::KskRoll | RollType::KskDoubleDsRoll => Side::KskSide,
-            RollType::ZskRoll | RollType::ZskDoubleSignatureRoll => Side::ZskSide,
-            RollType::CskRoll | RollType::AlgorithmRoll => Side::BothSides,
-        }
+fn side_of(roll: RollType) -> Side
+    ensures { result ≡ side_of roll }
+{
+    match roll {
+        RollType::KskRoll | RollType::KskDoubleDsRoll => Side::KskSide,
+        RollType::ZskRoll | RollType::ZskDoubleSignatureRoll => Side::ZskSide,
+        RollType::CskRoll | RollType::AlgorithmRoll => Side::BothSides,
     }
+}
 
-    /// Whether this roll and another may be in progress together.
-    fn goes_with(self, other: RollType) -> bool
-        ensures { result ≡ together self other }
-    {
-        self.side().is_apart_from(other.side())
-    }
+/// Whether two rolls may be in progress together.
+fn go_together(one: RollType, other: RollType) -> bool
+    ensures { result ≡ together one other }
+{
+    side_of(one).is_apart_from(side_of(other))
+}
 
-    fn may_change_algorithms(self) -> bool
-        ensures { result ≡ may_change_algorithms self }
-    {
-        matches!(self, RollType::AlgorithmRoll)
-    }
+fn may_change_algorithms(roll: RollType) -> bool
+    ensures { result ≡ may_change_algorithms roll }
+{
+    matches!(roll, RollType::AlgorithmRoll)
+}
 
-    fn wants(self) -> &'static [Want]
-        ensures { result.now ≡ wants self }
-    {
-        match self {
-            RollType::KskRoll => &[Want::PresentKsk],
-            RollType::KskDoubleDsRoll => &[Want::KskAtParent],
-            RollType::ZskRoll | RollType::ZskDoubleSignatureRoll => &[Want::PresentZsk],
-            RollType::CskRoll | RollType::AlgorithmRoll => {
-                &[Want::PresentKskRole, Want::PresentZskRole]
-            }
+fn wants(roll: RollType) -> &'static [Want]
+    ensures { result.now ≡ wants roll }
+{
+    match roll {
+        RollType::KskRoll => &[Want::PresentKsk],
+        RollType::KskDoubleDsRoll => &[Want::KskAtParent],
+        RollType::ZskRoll | RollType::ZskDoubleSignatureRoll => &[Want::PresentZsk],
+        RollType::CskRoll | RollType::AlgorithmRoll => {
+            &[Want::PresentKskRole, Want::PresentZskRole]
         }
     }
 }
@@ -170,7 +168,7 @@ fn old_entry_fault(keys: &HashMap<String, Key>, roll: RollType, reference: &str)
 {
     match keys.get(reference) {
         None => Some(Error::KeyNotFound),
-        Some(key) if roll.side().lists(key.keytype()) => None,
+        Some(key) if side_of(roll).lists(key.keytype()) => None,
         Some(_) => Some(Error::WrongKeyType),
     }
 }
@@ -186,7 +184,7 @@ fn new_entry_fault(
     match keys.get(reference) {
         None => Some(Error::KeyNotFound),
         Some(key) => {
-            if !roll.side().lists(key.keytype()) {
+            if !side_of(roll).lists(key.keytype()) {
                 Some(Error::WrongKeyType)
             } else if key.is_fresh() && !taken {
                 None
@@ -291,7 +289,7 @@ fn check_algorithms(
     ensures { AnswersExactly
         (algorithm_fault roll (hash.get_by_text keys.now) (texts old.now) (texts new.now)) result }
 {
-    if roll.may_change_algorithms() || are_of_same_algorithms(keys, old, new) {
+    if may_change_algorithms(roll) || are_of_same_algorithms(keys, old, new) {
         Ok(())
     } else {
         Err(Error::AlgorithmSetsMismatch)
@@ -301,7 +299,7 @@ fn check_algorithms(
 fn has_conflict(rolls: &HashMap<RollType, RollState>, roll: RollType) -> bool
     ensures { result ≡ has_conflict roll (rolls_shown rolls.now) }
 {
-    ALL_ROLLS.iter().any(|other| phase_of(rolls, *other).is_some() && !roll.goes_with(*other))
+    ALL_ROLLS.iter().any(|other| phase_of(rolls, *other).is_some() && !go_together(roll, *other))
 }
 
 /// Refuses a roll that is in progress, or that doesn't go with one in progress.
@@ -407,7 +405,7 @@ impl KeySet {
         ensures { AnswersExactly
             (suitability_fault rolltype self.now.keys (texts old.now) (texts new.now)) result }
     {
-        if self.are_met(rolltype.wants(), old, new) {
+        if self.are_met(wants(rolltype), old, new) {
             Ok(())
         } else {
             Err(Error::NoSuitableKeyPresent)
@@ -440,85 +438,5 @@ impl KeySet {
         ensures { result ≡ some_kept (serves_as_kept want) self.now.keys (texts old.now) }
     {
         is_met_by_any_kept(&self.keys, want, old)
-    }
-}
-
-impl Key {
-    /// The nanoseconds that are left of a wait for the key, or `None` where its stamp is missing.
-    fn time_left(&self, roll: RollType, half: Half, ttl: u32, now: UnixTime) -> Option<u64>
-        ensures { result ≡ time_left roll (which half) ttl now self.now }
-    {
-        if !self.keytype().is_checked(roll, half) {
-            return Some(0);
-        }
-        let stamp = self.timestamps().at(roll.stamp_read(half))?;
-        let ttl = Duration::from_secs(u64::from(ttl));
-        Some(ttl.saturating_sub(stamp.elapsed(&now)).as_nanos() as u64)
-    }
-}
-
-/// The longer of two times, where both are known.
-fn longer(a: Option<u64>, b: Option<u64>) -> Option<u64>
-    ensures { result ≡ option_and_then (λ x. option_map (λ y. max x y) b) a }
-{
-    match (a, b) {
-        (Some(a), Some(b)) => Some(a.max(b)),
-        _ => None,
-    }
-}
-
-/// The longest time that is left of a wait for a key, or `None` where a stamp is missing.
-fn longest_left(
-    keys: &HashMap<String, Key>,
-    roll: RollType,
-    half: Half,
-    ttl: u32,
-    now: UnixTime,
-) -> Option<u64>
-    ensures longest { result ≡ fold
-        (λ a k. option_and_then (λ x. option_map (λ y. max x y)
-        (time_left roll (which half) ttl now k)) a)
-        (Some 0) (hash.values keys.now) }
-    ensures unique { hash.IsUnique string_eq keys.now }
-{
-    keys.values().fold(
-        Some(0),
-        |longest, key| longer(longest, key.time_left(roll, half, ttl, now)),
-    )
-}
-
-/// The TTL that a wait goes by, in its phase alone.
-fn ttl_in(rolls: &HashMap<RollType, RollState>, roll: RollType, half: Half) -> Option<u32>
-    ensures { result ≡ ttl_in (which half) (phase_of (rolls_shown rolls.now) roll) }
-{
-    match (half, phase_of(rolls, roll)) {
-        (Half::First, Some(RollState::CacheExpire1(ttl))) => Some(ttl),
-        (Half::Second, Some(RollState::CacheExpire2(ttl))) => Some(ttl),
-        _ => None,
-    }
-}
-
-impl KeySet {
-    /// Whether a wait is over: refused out of its phase, then for a missing stamp, then early.
-    pub(crate) fn check_wait(
-        &self,
-        rolltype: RollType,
-        half: Half,
-        now: &UnixTime,
-    ) -> Result<(), Error>
-        ensures reply { AnswersWait
-            (wait_verdict rolltype (which half) now.now self.now) self.now.keys [] result }
-        ensures there { OnOk result (IsSome (phase_of self.now.rolls rolltype)) }
-    {
-        let Some(ttl) = ttl_in(&self.rollstates, rolltype, half) else {
-            return Err(Error::WrongStateForRollOperation);
-        };
-        let Some(left) = longest_left(&self.keys, rolltype, half, ttl, *now) else {
-            return Err(Error::WrongKeyState);
-        };
-        if left > 0 {
-            return Err(Error::Wait(Duration::from_nanos(left)));
-        }
-        Ok(())
     }
 }

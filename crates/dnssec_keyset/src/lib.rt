@@ -8,22 +8,15 @@
 #![tactic(auto)]
 
 mod check;
-mod comparisons;
-mod error;
-mod key;
 mod roll;
 mod set;
-mod table;
-mod text;
-mod time;
+mod wait;
 
-pub use comparisons::{
+pub use dnssec_base::{Name, NameError, SecurityAlgorithm, Timestamp};
+pub use dnssec_key::{
+    Action, Available, Error, Key, KeyState, KeyTimestamps, KeyType, RollState, RollType, UnixTime,
     equal_errors_are_one, equal_kinds_are_one, equal_moments_are_one, equal_phases_are_one,
     equal_states_are_one, moments_are_in_order_of_time,
 };
-pub use dnssec_base::{Name, NameError, SecurityAlgorithm, Timestamp};
-pub use error::Error;
-pub use key::{Available, Key, KeyState, KeyTimestamps, KeyType};
-pub use roll::{Action, RollState, RollType};
 pub use set::KeySet;
-pub use time::UnixTime;
+pub use wait::WaitEnd;

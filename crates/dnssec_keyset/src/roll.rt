@@ -1,150 +1,23 @@
-//! Rolls: their kinds, their phases, what they ask of the operator, and their steps.
+//! The calls of a roll.
 ghost use Rattle.std.specs.Prelude.{◌≡◌, ℕ, ◌<◌, List, [], Some, None, IfOk, IfErr, OnOk, OnErr};
 ghost use Rattle.std.specs.Prelude.{IsOk, IsSome, if◌then◌else◌};
 ghost use Rattle.std.specs.Option.{option_map};
 ghost use Rattle.std.specs.Str.{bytes_eq};
 ghost use Rattle.std.specs.HashMap as hash;
-ghost use Rattle.dnssec_keyset.specs.declared.error.Error.TheVariants.{OutOfMemory};
+ghost use Rattle.dnssec_key.specs.declared.error.Error.TheVariants.{OutOfMemory};
 ghost use Rattle.dnssec_keyset.specs.KeySet.{MovesOn, phase_of, with_phase, rolls_shown};
-ghost use Rattle.dnssec_keyset.specs.RollTable.{which, First, Second, actions_at, actions_of};
-ghost use Rattle.dnssec_keyset.specs.RollTable.{after_report, after_start, after_wait, behind};
-ghost use Rattle.dnssec_keyset.specs.RollTable.{expiring, marked_new, marked_old};
+ghost use Rattle.dnssec_key.specs.RollTable.{which, First, Second, actions_at, actions_of};
+ghost use Rattle.dnssec_key.specs.RollTable.{after_report, after_start, after_wait, behind};
+ghost use Rattle.dnssec_key.specs.RollTable.{expiring, marked_new, marked_old};
 ghost use Rattle.dnssec_keyset.specs.Start.{is_listed, start_refusal, texts};
-ghost use Rattle.dnssec_keyset.specs.Texts.{NamesRoll};
 ghost use Rattle.dnssec_keyset.specs.Step.{Answers, AnswersExactly, AnswersWait, end_refusal};
 ghost use Rattle.dnssec_keyset.specs.Step.{report_refusal, wait_verdict};
 
 use crate::check::phase_of;
-use crate::error::Error;
-use crate::key::Key;
 use crate::set::KeySet;
-use crate::time::UnixTime;
+use dnssec_key::{Action, Error, Half, Key, RollState, RollType, UnixTime};
 use std::alloc::Global;
 use std::collections::HashMap;
-use std::str::FromStr;
-
-/// The kind of a roll (RFC 6781, section 4.1).
-#[derive(Clone, Copy, Debug, PartialEq, Eq, Hash)]
-pub enum RollType {
-    /// A Double-Signature KSK roll (section 4.1.2).
-    KskRoll,
-    /// A Double-DS KSK roll (section 4.1.2).
-    KskDoubleDsRoll,
-    /// A Pre-Publish ZSK roll (section 4.1.1.1).
-    ZskRoll,
-    /// A Double-Signature ZSK roll (section 4.1.1.2).
-    ZskDoubleSignatureRoll,
-    /// A roll of CSKs, or between a CSK and keys of both kinds: the DNSKEY set first, then the DS
-    /// and the signatures at once (neither of the two ways of section 4.1.3).
-    CskRoll,
-    /// A roll to other algorithms, by the liberal approach (section 4.1.4). It also brings a zone
-    /// its first keys.
-    AlgorithmRoll,
-}
-
-impl FromStr for RollType {
-    type Err = Error;
-
-    ghost from_str_gives = { NamesRoll };
-
-    /// The roll of this name: `ksk-roll`, `ksk-double-ds-roll`, `zsk-roll`,
-    /// `zsk-double-signature-roll`, `csk-roll` or `algorithm-roll`. Every other text is refused
-    /// with `UnknownRollType`.
-    fn from_str(text: &str) -> Result<RollType, Error> {
-        match text {
-            "ksk-roll" => Ok(RollType::KskRoll),
-            "ksk-double-ds-roll" => Ok(RollType::KskDoubleDsRoll),
-            "zsk-roll" => Ok(RollType::ZskRoll),
-            "zsk-double-signature-roll" => Ok(RollType::ZskDoubleSignatureRoll),
-            "csk-roll" => Ok(RollType::CskRoll),
-            "algorithm-roll" => Ok(RollType::AlgorithmRoll),
-            _ => Err(Error::UnknownRollType),
-        }
-    }
-}
-
-/// The phase of a roll.
-#[derive(Clone, Copy, Debug, PartialEq)]
-pub enum RollState {
-    /// The first change spreads to all servers.
-    Propagation1,
-    /// Old data leaves the caches, which hold it for at most this TTL, in seconds.
-    CacheExpire1(u32),
-    /// The second change spreads to all servers.
-    Propagation2,
-    /// Old data leaves the caches, which hold it for at most this TTL, in seconds.
-    CacheExpire2(u32),
-    /// Only the last actions are left.
-    Done,
-}
-
-/// One of the two halves of a roll: a change, a report that it has spread, and a wait.
-#[derive(Clone, Copy, Debug, PartialEq, Eq)]
-pub(crate) enum Half {
-    First,
-    Second,
-}
-
-/// Which keys a roll changes.
-#[derive(Clone, Copy, Debug, PartialEq, Eq)]
-pub(crate) enum Side {
-    KskSide,
-    ZskSide,
-    BothSides,
-}
-
-/// What a roll asks of the operator.
-#[derive(Clone, Copy, Debug, PartialEq, Eq, Hash)]
-pub enum Action {
-    /// Publish a version of the zone with an updated DNSKEY set.
-    UpdateDnskeyRrset,
-    /// Publish a version of the zone with CDS and CDNSKEY sets.
-    CreateCdsRrset,
-    /// Publish a version of the zone without CDS and CDNSKEY sets.
-    RemoveCdsRrset,
-    /// Update the DS set at the parent.
-    UpdateDsRrset,
-    /// Publish a version of the zone with updated signatures.
-    UpdateRrsig,
-    /// Report once all secondaries of the zone have the DNSKEY set, with its TTL.
-    ReportDnskeyPropagated,
-    /// Wait until all secondaries of the zone have the DNSKEY set. A correct roll doesn't need it,
-    /// but without it the key set may run ahead of what is published.
-    WaitDnskeyPropagated,
-    /// Report once all secondaries of the parent zone have the DS records, with their TTL.
-    ReportDsPropagated,
-    /// Wait until all secondaries of the parent zone have the DS records. This is needed, so that
-    /// the CDS and CDNSKEY sets aren't removed too soon.
-    WaitDsPropagated,
-    /// Report once all secondaries of the zone have the signatures (those of the SOA record tell
-    /// enough), with the highest TTL of all signatures.
-    ReportRrsigPropagated,
-    /// Wait until all secondaries of the zone have the signatures. A correct roll doesn't need it,
-    /// but without it the key set may run ahead of what is published.
-    WaitRrsigPropagated,
-}
-
-impl Half {
-    /// The phase in which old data leaves the caches, which hold it for at most `ttl` seconds.
-    fn expiring(self, ttl: u32) -> RollState
-        ensures { result ≡ expiring (which self) ttl }
-    {
-        match self {
-            Half::First => RollState::CacheExpire1(ttl),
-            Half::Second => RollState::CacheExpire2(ttl),
-        }
-    }
-
-    /// The phase behind the wait.
-    fn behind(self) -> RollState
-        ensures { result ≡ behind (which self) }
-    {
-        match self {
-            Half::First => RollState::Propagation2,
-            Half::Second => RollState::Done,
-        }
-    }
-}
 
 impl KeySet {
     /// Starts a roll from the keys of `old` to those of `new`, at the moment `now`.

@@ -6,21 +6,22 @@ ghost use Rattle.std.specs.Option.{option_map};
 ghost use Rattle.std.specs.String.{string_eq};
 ghost use Rattle.std.specs.FinMap as map;
 ghost use Rattle.std.specs.HashMap as hash;
-ghost use Rattle.dnssec_keyset.specs.declared.error.Error.TheVariants.{OutOfMemory};
-ghost use Rattle.dnssec_keyset.specs.declared.key.KeyType.TheVariants.{Ksk, Zsk, Csk, Include};
-ghost use Rattle.dnssec_keyset.specs.Setters.{Decoupled, Present, Signer, AtParent, Stale};
-ghost use Rattle.dnssec_keyset.specs.Setters.{VisibleAt, DsVisibleAt, RrsigVisibleAt};
-ghost use Rattle.dnssec_keyset.specs.Key.{new_key, new_state, is_available};
+ghost use Rattle.dnssec_key.specs.declared.error.Error.TheVariants.{OutOfMemory};
+ghost use Rattle.dnssec_key.specs.declared.key.KeyType.TheVariants.{Ksk, Zsk, Csk, Include};
+ghost use Rattle.dnssec_key.specs.Setters.{Decoupled, Present, Signer, AtParent, Stale};
+ghost use Rattle.dnssec_key.specs.Setters.{VisibleAt, DsVisibleAt, RrsigVisibleAt};
+ghost use Rattle.dnssec_key.specs.Key.{new_key, new_state, is_available};
 ghost use Rattle.dnssec_keyset.specs.KeySet.{PutsKey, keys_shown, rolls_shown, new_set};
-ghost use Rattle.dnssec_keyset.specs.Setters.{meant, ChangesKey, deletion_refusal, set_by};
-ghost use Rattle.dnssec_keyset.specs.Setters.{setting_refusal};
+ghost use Rattle.dnssec_key.specs.Setters.{meant, set_by};
+ghost use Rattle.dnssec_keyset.specs.KeySet.{ChangesKey};
+ghost use Rattle.dnssec_keyset.specs.Step.{deletion_refusal};
+ghost use Rattle.dnssec_keyset.specs.Step.{setting_refusal};
 ghost use Rattle.dnssec_keyset.specs.Step.{Answers, AnswersExactly, add_refusal, has_tag};
 
-use crate::error::Error;
-use crate::key::{Available, Key, KeyState, KeyType, Setting};
-use crate::roll::{RollState, RollType};
-use crate::time::UnixTime;
 use dnssec_base::{Name, SecurityAlgorithm};
+use dnssec_key::{
+    Available, Error, Key, KeyState, KeyType, RollState, RollType, Setting, UnixTime,
+};
 use std::alloc::Global;
 use std::collections::HashMap;
 use std::marker::Model;
@@ -372,7 +373,9 @@ impl KeySet {
         let Some(key) = self.keys.get(pubref) else {
             return Err(Error::KeyNotFound);
         };
-        key.check_setting(&setting)?;
+        if !key.keytype().suits(&setting) {
+            return Err(Error::WrongKeyType);
+        }
         if let Some(key) = self.keys.get_mut(pubref) {
             key.set(setting);
         }

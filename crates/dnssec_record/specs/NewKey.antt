@@ -1,7 +1,7 @@
 -- What an add says of its key, once its texts are owned.
 use Rattle.std.specs.Prelude.{List, string_bytes}
 use Rattle.std.specs.Option.{option_map}
-use Rattle.dnssec_keyset.specs.Key.{is_available}
+use Rattle.dnssec_key.specs.Key.{is_available}
 use Rattle.dnssec_record.specs.Script.{Value, key_values}
 use Rattle.dnssec_record.specs.declared.statement.NewKey.{NewKey}
 

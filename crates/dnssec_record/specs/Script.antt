@@ -9,8 +9,8 @@ use Rattle.std.specs.Option.{option_map}
 use Rattle.std.specs.List.{slice_split, list_all}
 use Rattle.std.specs.Str.{bytes_eq}
 use Rattle.dnssec_base.specs.NameText as names
-use Rattle.dnssec_keyset.specs.declared.roll.RollType.{RollType}
-use Rattle.dnssec_keyset.specs.declared.roll.RollType.TheVariants.{
+use Rattle.dnssec_key.specs.declared.roll.RollType.{RollType}
+use Rattle.dnssec_key.specs.declared.roll.RollType.TheVariants.{
   KskRoll,
   KskDoubleDsRoll,
   ZskRoll,
@@ -18,8 +18,8 @@ use Rattle.dnssec_keyset.specs.declared.roll.RollType.TheVariants.{
   CskRoll,
   AlgorithmRoll,
 }
-use Rattle.dnssec_keyset.specs.Key.{is_available}
-use Rattle.dnssec_keyset.specs.Texts.{roll_name}
+use Rattle.dnssec_key.specs.Key.{is_available}
+use Rattle.dnssec_key.specs.Texts.{roll_name}
 use Rattle.dnssec_run.specs.declared.call.Call.{Call}
 use Rattle.dnssec_run.specs.declared.call.Call.TheVariants as call
 use Rattle.dnssec_record.specs.declared.fields.Word.{Word}

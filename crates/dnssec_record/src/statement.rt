@@ -3,7 +3,7 @@ ghost use Rattle.std.specs.Prelude.{◌≡◌, true, List, [], ◌∷◌, map, I
 ghost use Rattle.std.specs.Prelude.{string_bytes};
 ghost use denote.Bor.{now};
 ghost use Rattle.std.specs.Option.{option_map};
-ghost use Rattle.dnssec_keyset.specs.Key.{is_available};
+ghost use Rattle.dnssec_key.specs.Key.{is_available};
 ghost use Rattle.dnssec_record.specs.Script.{Reference, Private, References, Flag, Roll, Number};
 ghost use Rattle.dnssec_record.specs.Script.{Moment};
 ghost use Rattle.dnssec_record.specs.Script.{as_reference, as_yes_no, as_roll, as_ttl, as_time};

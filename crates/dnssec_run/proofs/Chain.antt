@@ -1,4 +1,8 @@
 -- The chain of trust: every position of the record of a plain list is safe.
+--
+-- | Clause  | Law         | Lemma         | Files                       |
+-- |---------|-------------|---------------|-----------------------------|
+-- | `chain` | `StaysSafe` | `chain-holds` | all, in the order below     |
 pub mod Side
 pub mod Tables
 pub mod Flags

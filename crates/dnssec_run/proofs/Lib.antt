@@ -3,5 +3,7 @@ pub mod Next
 pub mod Grow
 pub mod Laws
 pub mod Chain
+pub mod WholeRolls
+pub mod Asked
 pub mod Verdicts
 pub mod OneByOne

@@ -1,5 +1,6 @@
--- A walk over the positions, in the order of the references, lists just the keys that a set shows.
-use Rattle.std.proofs.Common.{◌≡◌, ℕ, Bool, true, false, cond, List, [], ◌∷◌, map, Some, refl, sym}
+-- A published list has just the keys that its set shows, in their order: for `run` and `changes`.
+use Rattle.std.proofs.Common.{◌≡◌, ℕ, Bool, true, false, cond, List, [], ◌∷◌, map, None, Some, refl}
+use Rattle.std.proofs.Common.{sym}
 use Rattle.std.proofs.Common.{ap, subst, ◌∙◌, inl, inr, string_bytes}
 use Rattle.std.specs.Prelude.{Option, ◌⊎◌, ◌&&◌, T, filter}
 use Rattle.std.specs.declared.string.String.{String}
@@ -14,14 +15,16 @@ use Rattle.std.specs.String.{string_cmp}
 use Rattle.std.specs.Map.{lookup, keys_of}
 use Rattle.std.specs.BTreeMap as tree
 use Rattle.std.specs.BTreeMap.{BTreeMap, IsOrdered}
-use Rattle.std.specs.FinMap.{find, get, entries, get-entries, entries_sorted}
+use Rattle.std.specs.FinMap.{find, get, entries, get-empty, get-entries, entries_sorted}
 use Rattle.std.specs.FinMap.{slice_cmp-IsAntisymmetric, nat_cmp-IsAntisymmetric}
-use Rattle.std.specs.FinMap.Entries.{below_all, is_sorted, same_entries}
+use Rattle.std.specs.FinMap.Entries.{below_all, is_sorted, same_entries, find-where_key}
+use Rattle.std.specs.FinMap.Entries.{is_sorted-where_key}
 use Rattle.std.proofs.lemmas.Map.Text.{is_eq-slice_cmp}
-use Rattle.dnssec_keyset.specs.declared.key.KeyType.{KeyType}
-use Rattle.dnssec_keyset.specs.Key.{KeyParts}
-use Rattle.dnssec_keyset.specs.KeySet.{KeySetParts}
+use Rattle.dnssec_key.specs.declared.key.KeyType.{KeyType}
+use Rattle.dnssec_key.specs.Key.{KeyParts}
+use Rattle.dnssec_keyset.specs.KeySet.{KeySetParts, new_set}
 use Rattle.dnssec_run.specs.Published.{World, shown}
+use Rattle.dnssec_run.specs.Record.{new_world}
 use Rattle.dnssec_run.specs.Recorder.{Agrees, passing}
 
 order : List ℕ → List ℕ → Ordering
@@ -60,17 +63,23 @@ module _ {Y : Type 0} where
   by_bytes : List (String Y × ℕ) → List (List ℕ × ℕ)
   by_bytes es = map (λ (e : String Y × ℕ). (string_bytes e.0, e.1)) es
 
-  find-by_bytes : (es : List (String Y × ℕ)) (q : List ℕ) → find (slice_cmp nat_cmp) q (by_bytes es) ≡ lookup (λ k. is_eq (slice_cmp nat_cmp q (string_bytes k))) es
+  find-by_bytes : (es : List (String Y × ℕ)) (q : List ℕ)
+      → find (slice_cmp nat_cmp) q (by_bytes es)
+      ≡ lookup (λ k. is_eq (slice_cmp nat_cmp q (string_bytes k))) es
   unfolding by_bytes
   find-by_bytes [] q = refl
-  find-by_bytes (e ∷ es) q = ap (cond (is_eq (slice_cmp nat_cmp q (string_bytes e.0))) (Some e.1)) (find-by_bytes es q)
+  find-by_bytes (e ∷ es) q = ap (cond (is_eq (slice_cmp nat_cmp q (string_bytes e.0))) (Some e.1))
+      (find-by_bytes es q)
 
-  less_below : (x : String Y) (es : List (String Y × ℕ)) → AllByRecursion (λ y. string_cmp x y ≡ Less) (keys_of es) → T (below_all (slice_cmp nat_cmp) (string_bytes x) (by_bytes es))
+  less_below : (x : String Y) (es : List (String Y × ℕ))
+      → AllByRecursion (λ y. string_cmp x y ≡ Less) (keys_of es)
+      → T (below_all (slice_cmp nat_cmp) (string_bytes x) (by_bytes es))
   unfolding by_bytes
   less_below x [] h = tt
   less_below x (e ∷ es) h = both _ _ (subst (λ o. T (is_lt o)) (sym h.0) tt) (less_below x es h.1)
 
-  sorted-by_bytes : (es : List (String Y × ℕ)) → IsStrictlySortedBy string_cmp (keys_of es) → T (is_sorted (slice_cmp nat_cmp) (by_bytes es))
+  sorted-by_bytes : (es : List (String Y × ℕ)) → IsStrictlySortedBy string_cmp (keys_of es)
+      → T (is_sorted (slice_cmp nat_cmp) (by_bytes es))
   unfolding by_bytes IsStrictlySortedBy
   sorted-by_bytes [] h = tt
   sorted-by_bytes (e ∷ es) h = both _ _ (less_below e.0 es h.0) (sorted-by_bytes es h.1)
@@ -90,63 +99,93 @@ module _ (added : List ℕ → ℕ) where
   placed : List (List ℕ × KeyParts) → List (List ℕ × ℕ)
   placed es = map (λ (e : List ℕ × KeyParts). (e.0, added e.0)) es
 
-  find-placed : (es : List (List ℕ × KeyParts)) (q : List ℕ) → find (slice_cmp nat_cmp) q (placed es) ≡ option_map (λ k. added q) (find (slice_cmp nat_cmp) q es)
+  find-placed : (es : List (List ℕ × KeyParts)) (q : List ℕ)
+      → find (slice_cmp nat_cmp) q (placed es)
+      ≡ option_map (λ k. added q) (find (slice_cmp nat_cmp) q es)
   unfolding placed
   find-placed [] q = refl
   find-placed (e ∷ es) q = at (is_eq (slice_cmp nat_cmp q e.0)) refl (find-placed es q)
     where
       at : (b : Bool) → is_eq (slice_cmp nat_cmp q e.0) ≡ b
-          → find (slice_cmp nat_cmp) q (placed es) ≡ option_map (λ k. added q) (find (slice_cmp nat_cmp) q es)
-          → cond (is_eq (slice_cmp nat_cmp q e.0)) (Some (added e.0)) (find (slice_cmp nat_cmp) q (placed es))
-          ≡ option_map (λ k. added q) (cond (is_eq (slice_cmp nat_cmp q e.0)) (Some e.1) (find (slice_cmp nat_cmp) q es))
-      at true tied rest = ap (λ b. cond b (Some (added e.0)) (find (slice_cmp nat_cmp) q (placed es))) tied
-          ∙ ap (λ x. Some (added x)) (sym (same_key q e.0 tied)) ∙ sym (ap (λ b. option_map (λ k. added q) (cond b (Some e.1) (find (slice_cmp nat_cmp) q es))) tied)
-      at false apart rest = ap (λ b. cond b (Some (added e.0)) (find (slice_cmp nat_cmp) q (placed es))) apart
-          ∙ rest ∙ sym (ap (λ b. option_map (λ k. added q) (cond b (Some e.1) (find (slice_cmp nat_cmp) q es))) apart)
+          → find (slice_cmp nat_cmp) q (placed es)
+          ≡ option_map (λ k. added q) (find (slice_cmp nat_cmp) q es)
+          → cond (is_eq (slice_cmp nat_cmp q e.0)) (Some (added e.0))
+          (find (slice_cmp nat_cmp) q (placed es))
+          ≡ option_map (λ k. added q)
+          (cond (is_eq (slice_cmp nat_cmp q e.0)) (Some e.1) (find (slice_cmp nat_cmp) q es))
+      at true tied rest =
+          ap (λ b. cond b (Some (added e.0)) (find (slice_cmp nat_cmp) q (placed es))) tied
+          ∙ ap (λ x. Some (added x)) (sym (same_key q e.0 tied))
+          ∙ sym (ap (λ b. option_map (λ k. added q)
+          (cond b (Some e.1) (find (slice_cmp nat_cmp) q es))) tied)
+      at false apart rest =
+          ap (λ b. cond b (Some (added e.0)) (find (slice_cmp nat_cmp) q (placed es))) apart
+          ∙ rest ∙ sym
+          (ap (λ b. option_map (λ k. added q)
+          (cond b (Some e.1) (find (slice_cmp nat_cmp) q es))) apart)
 
-  below-placed : (x : List ℕ) (es : List (List ℕ × KeyParts)) → T (below_all (slice_cmp nat_cmp) x es) → T (below_all (slice_cmp nat_cmp) x (placed es))
+  below-placed : (x : List ℕ) (es : List (List ℕ × KeyParts))
+      → T (below_all (slice_cmp nat_cmp) x es) → T (below_all (slice_cmp nat_cmp) x (placed es))
   unfolding placed
   below-placed x [] h = tt
   below-placed x (e ∷ es) h = both _ _ (first _ _ h) (below-placed x es (second _ _ h))
 
-  sorted-placed : (es : List (List ℕ × KeyParts)) → T (is_sorted (slice_cmp nat_cmp) es) → T (is_sorted (slice_cmp nat_cmp) (placed es))
+  sorted-placed : (es : List (List ℕ × KeyParts)) → T (is_sorted (slice_cmp nat_cmp) es)
+      → T (is_sorted (slice_cmp nat_cmp) (placed es))
   unfolding placed
   sorted-placed [] h = tt
-  sorted-placed (e ∷ es) h = both _ _ (below-placed e.0 es (first _ _ h)) (sorted-placed es (second _ _ h))
+  sorted-placed (e ∷ es) h = both _ _ (below-placed e.0 es (first _ _ h))
+      (sorted-placed es (second _ _ h))
 
   module _ (p : KeyType → Bool) (key : List ℕ → Option KeyParts) where
-    filter-placed : (es : List (List ℕ × KeyParts)) → AreFound key es → filter (test p key) (placed es) ≡ placed (filter (λ (e : List ℕ × KeyParts). p e.1.keytype) es)
+    filter-placed : (es : List (List ℕ × KeyParts)) → AreFound key es
+        → filter (test p key) (placed es)
+        ≡ placed (filter (λ (e : List ℕ × KeyParts). p e.1.keytype) es)
     unfolding placed AreFound test
     filter-placed [] h = refl
     filter-placed (e ∷ es) h =
-        ap (λ o. cond (option_map_or (λ (k : KeyParts). p k.keytype) o false) ((e.0, added e.0) ∷ filter (test p key) (placed es)) (filter (test p key) (placed es))) h.0
+        ap (λ o. cond (option_map_or (λ (k : KeyParts). p k.keytype) o false)
+        ((e.0, added e.0) ∷ filter (test p key) (placed es)) (filter (test p key) (placed es)))
+        h.0
         ∙ at (p e.1.keytype) (filter-placed es h.1)
       where
-        at : (b : Bool) → filter (test p key) (placed es) ≡ placed (filter (λ (e : List ℕ × KeyParts). p e.1.keytype) es)
-            → cond b ((e.0, added e.0) ∷ filter (test p key) (placed es)) (filter (test p key) (placed es))
-            ≡ placed (cond b (e ∷ filter (λ (e : List ℕ × KeyParts). p e.1.keytype) es) (filter (λ (e : List ℕ × KeyParts). p e.1.keytype) es))
+        at : (b : Bool) → filter (test p key) (placed es)
+            ≡ placed (filter (λ (e : List ℕ × KeyParts). p e.1.keytype) es)
+            → cond b ((e.0, added e.0) ∷ filter (test p key) (placed es))
+            (filter (test p key) (placed es))
+            ≡ placed (cond b (e ∷ filter (λ (e : List ℕ × KeyParts). p e.1.keytype) es)
+            (filter (λ (e : List ℕ × KeyParts). p e.1.keytype) es))
         at true rest = ap (λ xs. (e.0, added e.0) ∷ xs) rest
         at false rest = rest
 
 -- an entry that stands behind another is found behind it
-found_behind : (e : List ℕ × KeyParts) (es xs : List (List ℕ × KeyParts)) → T (below_all (slice_cmp nat_cmp) e.0 xs)
-    → AreFound (λ q. find (slice_cmp nat_cmp) q es) xs → AreFound (λ q. find (slice_cmp nat_cmp) q (e ∷ es)) xs
+found_behind : (e : List ℕ × KeyParts) (es xs : List (List ℕ × KeyParts))
+    → T (below_all (slice_cmp nat_cmp) e.0 xs)
+    → AreFound (λ q. find (slice_cmp nat_cmp) q es) xs
+    → AreFound (λ q. find (slice_cmp nat_cmp) q (e ∷ es)) xs
 unfolding AreFound
 found_behind e es [] below h = tt
 found_behind e es (x ∷ xs) below h = (
   elim (split (is_eq (slice_cmp nat_cmp x.0 e.0))) [
-    | inl tied ↦ absurd (not_both (slice_cmp nat_cmp e.0 e.0) (subst (λ k. T (is_lt (slice_cmp nat_cmp e.0 k))) (same_key x.0 e.0 tied) (first _ _ below)) (itself e.0))
+    | inl tied ↦ absurd (not_both (slice_cmp nat_cmp e.0 e.0)
+        (subst (λ k. T (is_lt (slice_cmp nat_cmp e.0 k))) (same_key x.0 e.0 tied) (first _ _ below))
+        (itself e.0))
     | inr apart ↦ ap (λ b. cond b (Some e.1) (find (slice_cmp nat_cmp) x.0 es)) apart ∙ h.0
   ],
   found_behind e es xs (second _ _ below) h.1,
 )
 
-all_found : (es : List (List ℕ × KeyParts)) → T (is_sorted (slice_cmp nat_cmp) es) → AreFound (λ q. find (slice_cmp nat_cmp) q es) es
+all_found : (es : List (List ℕ × KeyParts)) → T (is_sorted (slice_cmp nat_cmp) es)
+    → AreFound (λ q. find (slice_cmp nat_cmp) q es) es
 unfolding AreFound
 all_found [] h = tt
-all_found (e ∷ es) h = (ap (λ b. cond b (Some e.1) (find (slice_cmp nat_cmp) e.0 es)) (itself e.0), found_behind e es es (first _ _ h) (all_found es (second _ _ h)))
+all_found (e ∷ es) h = (
+  ap (λ b. cond b (Some e.1) (find (slice_cmp nat_cmp) e.0 es)) (itself e.0),
+  found_behind e es es (first _ _ h) (all_found es (second _ _ h)),
+)
 
-found_by : (f g : List ℕ → Option KeyParts) → ((q : List ℕ) → g q ≡ f q) → (es : List (List ℕ × KeyParts)) → AreFound f es → AreFound g es
+found_by : (f g : List ℕ → Option KeyParts) → ((q : List ℕ) → g q ≡ f q)
+    → (es : List (List ℕ × KeyParts)) → AreFound f es → AreFound g es
 unfolding AreFound
 found_by f g same [] h = tt
 found_by f g same (e ∷ es) h = (same e.0 ∙ h.0, found_by f g same es h.1)
@@ -154,24 +193,109 @@ found_by f g same (e ∷ es) h = (same e.0 ∙ h.0, found_by f g same es h.1)
 -- ---- the walk
 
 module _ {Y : Type 0} (p : KeyType → Bool) (key : List ℕ → Option KeyParts) where
-  passing-by_bytes : (es : List (String Y × ℕ)) → passing p key es ≡ filter (test p key) (by_bytes es)
+  passing-by_bytes : (es : List (String Y × ℕ))
+      → passing p key es ≡ filter (test p key) (by_bytes es)
   unfolding by_bytes test
   passing-by_bytes [] = refl
-  passing-by_bytes (e ∷ es) = at (option_map_or (λ (k : KeyParts). p k.keytype) (key (string_bytes e.0)) false) (passing-by_bytes es)
+  passing-by_bytes (e ∷ es) = at
+      (option_map_or (λ (k : KeyParts). p k.keytype) (key (string_bytes e.0)) false)
+      (passing-by_bytes es)
     where
       at : (b : Bool) → passing p key es ≡ filter (test p key) (by_bytes es)
-          → map (λ (e : String Y × ℕ). (string_bytes e.0, e.1)) (cond b (e ∷ filter (λ (e : String Y × ℕ). option_map_or (λ (k : KeyParts). p k.keytype) (key (string_bytes e.0)) false) es) (filter (λ (e : String Y × ℕ). option_map_or (λ (k : KeyParts). p k.keytype) (key (string_bytes e.0)) false) es))
-          ≡ cond b ((string_bytes e.0, e.1) ∷ filter (test p key) (by_bytes es)) (filter (test p key) (by_bytes es))
+          → map (λ (e : String Y × ℕ). (string_bytes e.0, e.1))
+          (cond b (e ∷ filter (λ (e : String Y × ℕ).
+          option_map_or (λ (k : KeyParts). p k.keytype) (key (string_bytes e.0)) false) es)
+          (filter (λ (e : String Y × ℕ). option_map_or (λ (k : KeyParts). p k.keytype)
+          (key (string_bytes e.0)) false) es))
+          ≡ cond b ((string_bytes e.0, e.1) ∷ filter (test p key) (by_bytes es))
+          (filter (test p key) (by_bytes es))
       at true rest = ap (λ xs. (string_bytes e.0, e.1) ∷ xs) rest
       at false rest = rest
 
-  pub passing-shown : (m : BTreeMap (String Y) ℕ) (set : KeySetParts) (w : World) → IsOrdered string_cmp m → Agrees set (tree.get_by_text m) w
+  pub passing-shown : (m : BTreeMap (String Y) ℕ) (set : KeySetParts) (w : World)
+      → IsOrdered string_cmp m → Agrees set (tree.get_by_text m) w
       → ((q : List ℕ) → key q ≡ get set.keys q) → passing p key m.entries ≡ shown p w
   unfolding placed
   passing-shown m set w ordered agrees keys =
       let es = entries w.set.keys in
-      let same : by_bytes m.entries ≡ placed w.added es = same_entries (slice_cmp nat_cmp) nat_list_cmp_total (slice_cmp-IsAntisymmetric nat_cmp-IsAntisymmetric) _ _
+      let same : by_bytes m.entries ≡ placed w.added es =
+      same_entries (slice_cmp nat_cmp) nat_list_cmp_total
+      (slice_cmp-IsAntisymmetric nat_cmp-IsAntisymmetric) _ _
       (sorted-by_bytes m.entries ordered) (sorted-placed w.added es (entries_sorted w.set.keys))
-      (λ q. find-by_bytes m.entries q ∙ agrees.positions q ∙ ap (option_map (λ k. w.added q)) (get-entries w.set.keys q) ∙ sym (find-placed w.added es q)) in
-      let there : AreFound key es = found_by (λ q. find (slice_cmp nat_cmp) q es) key (λ q. keys q ∙ ap (λ (s : KeySetParts). get s.keys q) agrees.same ∙ get-entries w.set.keys q) es (all_found es (entries_sorted w.set.keys)) in
-      passing-by_bytes m.entries ∙ ap (filter (test p key)) same ∙ filter-placed w.added p key es there
+      (λ q. find-by_bytes m.entries q ∙ agrees.positions q
+      ∙ ap (option_map (λ k. w.added q)) (get-entries w.set.keys q)
+      ∙ sym (find-placed w.added es q)) in
+      let there : AreFound key es =
+      found_by (λ q. find (slice_cmp nat_cmp) q es) key (λ q. keys q
+      ∙ ap (λ (s : KeySetParts). get s.keys q) agrees.same ∙ get-entries w.set.keys q) es
+      (all_found es (entries_sorted w.set.keys)) in
+      passing-by_bytes m.entries ∙ ap (filter (test p key)) same
+      ∙ filter-placed w.added p key es there
+
+-- ---- lists of the same keys
+
+module _ (p : KeyType → Bool) (w : World) where
+  found_there : AreFound (get w.set.keys) (entries w.set.keys)
+  found_there = found_by (λ q. find (slice_cmp nat_cmp) q (entries w.set.keys)) (get w.set.keys)
+      (λ q. get-entries w.set.keys q) (entries w.set.keys)
+      (all_found (entries w.set.keys) (entries_sorted w.set.keys))
+
+  shown-tested : filter (test p (get w.set.keys)) (placed w.added (entries w.set.keys)) ≡ shown p w
+  unfolding placed
+  shown-tested = filter-placed w.added p (get w.set.keys) (entries w.set.keys) found_there
+
+  sorted-tested : T (is_sorted (slice_cmp nat_cmp)
+      (filter (test p (get w.set.keys)) (placed w.added (entries w.set.keys))))
+  unfolding test
+  sorted-tested = is_sorted-where_key (slice_cmp nat_cmp)
+      (λ q. option_map_or (λ (k : KeyParts). p k.keytype) (get w.set.keys q) false) _
+      (sorted-placed w.added (entries w.set.keys) (entries_sorted w.set.keys))
+
+  find-tested : (q : List ℕ) → find (slice_cmp nat_cmp) q
+      (filter (test p (get w.set.keys)) (placed w.added (entries w.set.keys)))
+      ≡ cond (option_map_or (λ (k : KeyParts). p k.keytype) (get w.set.keys q) false)
+      (option_map (λ k. w.added q) (get w.set.keys q)) None
+  unfolding test
+  find-tested q = find-where_key (slice_cmp nat_cmp)
+      (λ q. option_map_or (λ (k : KeyParts). p k.keytype) (get w.set.keys q) false) q
+      (λ x e. ap (λ q. option_map_or (λ (k : KeyParts). p k.keytype) (get w.set.keys q) false)
+      (sym (same_key q x (ap is_eq e)))) _
+      ∙ ap (λ o. cond (option_map_or (λ (k : KeyParts). p k.keytype) (get w.set.keys q) false) o
+      None)
+      (find-placed w.added (entries w.set.keys) q
+      ∙ ap (option_map (λ k. w.added q)) (sym (get-entries w.set.keys q)))
+
+-- where the same keys pass, each added at the same position, the same list is shown
+pub same-shown : (p : KeyType → Bool) (w v : World)
+    → ((q : List ℕ) → option_map_or (λ (k : KeyParts). p k.keytype) (get v.set.keys q) false
+    ≡ option_map_or (λ (k : KeyParts). p k.keytype) (get w.set.keys q) false)
+    → ((q : List ℕ) (k : KeyParts) → get w.set.keys q ≡ Some k → v.added q ≡ w.added q)
+    → shown p v ≡ shown p w
+same-shown p w v passes added =
+    sym (shown-tested p v) ∙ same_entries (slice_cmp nat_cmp) nat_list_cmp_total
+    (slice_cmp-IsAntisymmetric nat_cmp-IsAntisymmetric) _ _ (sorted-tested p v) (sorted-tested p w)
+    (λ q. find-tested p v q ∙ at q (get v.set.keys q) (get w.set.keys q) (passes q) (added q)
+    ∙ sym (find-tested p w q)) ∙ shown-tested p w
+  where
+    at : (q : List ℕ) (o u : Option KeyParts)
+        → option_map_or (λ (k : KeyParts). p k.keytype) o false
+        ≡ option_map_or (λ (k : KeyParts). p k.keytype) u false
+        → ((k : KeyParts) → u ≡ Some k → v.added q ≡ w.added q)
+        → cond (option_map_or (λ (k : KeyParts). p k.keytype) o false)
+        (option_map (λ k. v.added q) o) None
+        ≡ cond (option_map_or (λ (k : KeyParts). p k.keytype) u false)
+        (option_map (λ k. w.added q) u) None
+    at q None None same added = refl
+    at q None (Some k) same added = ap (λ b. cond b (Some (w.added q)) None) same
+    at q (Some j) None same added = ap (λ b. cond b (Some (v.added q)) None) same
+    at q (Some j) (Some k) same added = λ i. cond (same i) (Some (added k refl i)) None
+
+-- a new set shows nothing
+pub shown-none : (p : KeyType → Bool) (name : List ℕ) → shown p (new_world name) ≡ []
+shown-none p name =
+    ap (λ es. map (λ (e : List ℕ × KeyParts). (e.0, 0))
+    (filter (λ (e : List ℕ × KeyParts). p e.1.keytype) es))
+    (same_entries (slice_cmp nat_cmp) nat_list_cmp_total
+    (slice_cmp-IsAntisymmetric nat_cmp-IsAntisymmetric) (entries (new_set name).keys) []
+    (entries_sorted (new_set name).keys) tt
+    (λ q. sym (get-entries (new_set name).keys q) ∙ get-empty (slice_cmp nat_cmp) q))

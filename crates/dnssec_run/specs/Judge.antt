@@ -1,6 +1,6 @@
 -- What a judge knows of the entries that it has taken.
 use Rattle.std.specs.Prelude.{◌≡◌, suc, List, length, None}
-use Rattle.dnssec_keyset.specs.declared.roll.RollType.{RollType}
+use Rattle.dnssec_key.specs.declared.roll.RollType.{RollType}
 use Rattle.dnssec_run.specs.declared.judging.Judge.{Judge}
 use Rattle.dnssec_run.specs.declared.record.Entry.{Entry}
 use Rattle.dnssec_run.specs.Safe.{Ds, Dnskey, ZoneSigners, base_below, time_at}

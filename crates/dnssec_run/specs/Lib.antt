@@ -1,3 +1,4 @@
+pub mod Asked
 pub mod Chained
 pub mod Floor
 pub mod Judge
@@ -8,4 +9,5 @@ pub mod Recorder
 pub mod Safe
 pub mod Search
 pub mod Verdict
+pub mod WholeRolls
 pub mod Window

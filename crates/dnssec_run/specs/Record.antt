@@ -4,11 +4,11 @@ use Rattle.std.specs.Prelude.{◌≡◌, ◌≤◌, ℕ, zero, suc, Bool, true, 
 use Rattle.std.specs.Prelude.{Option, None, Some, if◌then◌else◌, string_bytes}
 use Rattle.std.specs.Option.{option_map}
 use Rattle.std.specs.Str.{bytes_eq}
-use Rattle.dnssec_keyset.specs.declared.key.KeyType.TheVariants.{Ksk, Zsk, Csk, Include}
-use Rattle.dnssec_keyset.specs.Setters.{Decoupled, Present, Signer, AtParent, Stale, VisibleAt}
-use Rattle.dnssec_keyset.specs.Setters.{DsVisibleAt, RrsigVisibleAt}
-use Rattle.dnssec_keyset.specs.RollTable.{First, Second}
-use Rattle.dnssec_keyset.specs.Key.{new_key, new_state, is_available}
+use Rattle.dnssec_key.specs.declared.key.KeyType.TheVariants.{Ksk, Zsk, Csk, Include}
+use Rattle.dnssec_key.specs.Setters.{Decoupled, Present, Signer, AtParent, Stale, VisibleAt}
+use Rattle.dnssec_key.specs.Setters.{DsVisibleAt, RrsigVisibleAt}
+use Rattle.dnssec_key.specs.RollTable.{First, Second}
+use Rattle.dnssec_key.specs.Key.{new_key, new_state, is_available}
 use Rattle.dnssec_keyset.specs.KeySet.{new_set}
 use Rattle.dnssec_keyset.specs.Start.{texts}
 use Rattle.dnssec_keyset.specs.Laws.{TagsApart, RollsTogether, LeavesOthers, AreApart}

@@ -1,6 +1,6 @@
 //! A judge of a record: it takes the entries one by one, and has the verdict on them so far.
 ghost use Rattle.std.specs.Prelude.{◌≡◌, ◌++◌, ◌∷◌, suc, List, [], length, IfOk, IfErr, OnOk};
-ghost use Rattle.dnssec_keyset.specs.declared.error.Error.TheVariants.{OutOfMemory};
+ghost use Rattle.dnssec_key.specs.declared.error.Error.TheVariants.{OutOfMemory};
 ghost use Rattle.dnssec_run.specs.Judge.{Follows, Knows};
 ghost use Rattle.dnssec_run.specs.Verdict.{IsVerdict};
 ghost use Rattle.dnssec_run.specs.declared.record.Entry.{Entry};

@@ -5,7 +5,10 @@ ghost use Rattle.std.specs.HashMap as hash;
 ghost use Rattle.std.specs.String.{string_cmp};
 ghost use Rattle.std.specs.Option.{option_map, option_map_or};
 ghost use Rattle.std.specs.Prelude.{string_bytes, false};
-ghost use Rattle.dnssec_keyset.specs.declared.error.Error.TheVariants.{OutOfMemory};
+ghost use Rattle.dnssec_key.specs.declared.error.Error.TheVariants.{OutOfMemory};
+ghost use Rattle.dnssec_run.specs.Asked.{ChangesAsAsked, RetiresAsAsked};
+ghost use Rattle.dnssec_run.specs.WholeRolls.{GoesOn, NeverMissesStamp, RollsFinish};
+ghost use Rattle.dnssec_run.specs.WholeRolls.{SettlesBetweenRolls, WaitsExactly};
 ghost use Rattle.dnssec_run.specs.Plain.{StaysSafe};
 ghost use Rattle.dnssec_run.specs.Published.{IsPublished, World, id_of};
 ghost use Rattle.dnssec_run.specs.Record.{IsEntry, IsRun, KeepsSidesApart};
@@ -201,6 +204,14 @@ fn record(
 /// zone signers no report has retired, there is no DS, or a DS key signs that DNSKEY set, and a key
 /// of it signs the zone (RFC 4035, section 5).
 ///
+/// Where the list sets no flag and no time by hand, no wait lacks a stamp, and between the rolls each
+/// role of a key is future, active or stale. A started roll goes on by its reports, waits and its
+/// end; then each key that it listed as old is stale or was deleted, and each that it listed as new
+/// is at work. If moreover the moments never fall, a wait is over once the TTL of its report has
+/// passed since (RFC 7583, section 3).
+///
+/// Unless a flag is set by hand, what is published changes only where the reply asks to publish it.
+///
 /// # Errors
 ///
 /// `OutOfMemory` alone, where the record can't be stored. Nothing is then handed out.
@@ -212,6 +223,15 @@ pub fn run<'a>(alloc: Global, name: Name<Vec<u8>>, calls: Vec<Call<'a>>) -> Resu
     ensures sides { IfOk result (λ run. KeepsSidesApart name calls.entry.items run.entries.items) }
     ensures exchange { IfOk result (λ run. NeighboursMayBeExchanged name calls.entry.items
         run.entries.items) }
+    ensures stamps { IfOk result (λ run. NeverMissesStamp name calls.entry.items
+        run.entries.items) }
+    ensures settled { IfOk result (λ run. SettlesBetweenRolls name calls.entry.items
+        run.entries.items) }
+    ensures waits { IfOk result (λ run. WaitsExactly name calls.entry.items run.entries.items) }
+    ensures goes_on { IfOk result (λ run. GoesOn name calls.entry.items run.entries.items) }
+    ensures finishes { IfOk result (λ run. RollsFinish name calls.entry.items run.entries.items) }
+    ensures changes { IfOk result (λ run. ChangesAsAsked calls.entry.items run.entries.items) }
+    ensures retires { IfOk result (λ run. RetiresAsAsked run.entries.items) }
     ensures chain { IfOk result (λ run. StaysSafe calls.entry.items run.entries.items) }
     ensures err { IfErr result (λ e. e ≡ OutOfMemory) }
 {

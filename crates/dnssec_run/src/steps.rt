@@ -1,6 +1,6 @@
 //! The last steps of the rolls: what their next reports count from.
 ghost use Rattle.std.specs.Prelude.{◌≡◌, None, Some, if◌then◌else◌};
-ghost use Rattle.dnssec_keyset.specs.declared.roll.RollType.{RollType};
+ghost use Rattle.dnssec_key.specs.declared.roll.RollType.{RollType};
 ghost use Rattle.dnssec_keyset.specs.KeySet.{same_roll};
 ghost use Rattle.dnssec_run.specs.Safe.{is_step};
 ghost use Rattle.dnssec_run.specs.Window.{step_of};

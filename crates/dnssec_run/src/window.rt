@@ -1,7 +1,7 @@
 //! What caches may hold of one kind of sets, as a judge keeps it.
 ghost use Rattle.std.specs.Prelude.{◌≡◌, ◌≤◌, ◌+◌, ◌*◌, ℕ, suc, [], map, max, nat_lt, not, true};
 ghost use Rattle.std.specs.Prelude.{IfOk, IfErr, OnOk};
-ghost use Rattle.dnssec_keyset.specs.declared.error.Error.TheVariants.{OutOfMemory};
+ghost use Rattle.dnssec_key.specs.declared.error.Error.TheVariants.{OutOfMemory};
 ghost use Rattle.dnssec_run.specs.Published.{id_of};
 ghost use Rattle.dnssec_run.specs.Safe.{SetKind};
 ghost use Rattle.dnssec_run.specs.Search.{kind_of};

@@ -1,5 +1,7 @@
 -- What an accepted call tells of the keys before it.
-use Rattle.std.proofs.Common.{◌≡◌, ℕ, ◌-◌, ◌*◌, ◌≤◌, ◌⊎◌, inl, inr, Bool, true, false, not, ◌&&◌, ◌||◌, refl, sym, ◌∙◌, ap, arith, List, [], ◌∷◌, ◌++◌, Option, None, Some}
+use Rattle.std.proofs.Common.{[], ◌≡◌, ℕ, ◌-◌, ◌*◌, ◌≤◌, ◌⊎◌, inl, inr, Bool, true, false, not}
+use Rattle.std.proofs.Common.{◌&&◌, ◌||◌, refl, sym, ◌∙◌, ap, arith, List, ◌∷◌, ◌++◌, Option, None}
+use Rattle.std.proofs.Common.{Some}
 use Rattle.std.specs.Prelude.{if◌then◌else◌, is_some, unwrap_or, nat_lt}
 use Rattle.std.specs.List.{list_all}
 use Rattle.std.specs.Option.{option_or, option_map_or, option_map}
@@ -8,23 +10,32 @@ use Rattle.std.specs.Cmp.Lexicographic.{bytes_decides}
 use Rattle.std.specs.FinMap.{get}
 use Rattle.std.proofs.lemmas.Bool.{true≢false, and_parts, ltb-false}
 use Rattle.std.proofs.lemmas.Option.{none-some}
-use Rattle.dnssec_keyset.specs.declared.roll.RollType.{RollType}
-use Rattle.dnssec_keyset.specs.declared.roll.RollType.TheVariants.{KskRoll, KskDoubleDsRoll, ZskRoll, ZskDoubleSignatureRoll, CskRoll, AlgorithmRoll}
-use Rattle.dnssec_keyset.specs.declared.roll.RollState.{RollState}
-use Rattle.dnssec_keyset.specs.declared.roll.RollState.TheVariants.{Propagation1, CacheExpire1, Propagation2, CacheExpire2, Done}
-use Rattle.dnssec_keyset.specs.declared.key.KeyType.{KeyType}
-use Rattle.dnssec_keyset.specs.declared.error.Error.{Error}
-use Rattle.dnssec_keyset.specs.State.{is_fresh}
-use Rattle.dnssec_keyset.specs.Key.{KeyParts, all_states}
+use Rattle.dnssec_key.specs.declared.roll.RollType.{RollType}
+use Rattle.dnssec_key.specs.declared.roll.RollType.TheVariants.{KskRoll, KskDoubleDsRoll}
+use Rattle.dnssec_key.specs.declared.roll.RollType.TheVariants.{ZskRoll, ZskDoubleSignatureRoll}
+use Rattle.dnssec_key.specs.declared.roll.RollType.TheVariants.{CskRoll, AlgorithmRoll}
+use Rattle.dnssec_key.specs.declared.roll.RollState.{RollState}
+use Rattle.dnssec_key.specs.declared.roll.RollState.TheVariants.{Propagation1, CacheExpire1}
+use Rattle.dnssec_key.specs.declared.roll.RollState.TheVariants.{Propagation2, CacheExpire2}
+use Rattle.dnssec_key.specs.declared.roll.RollState.TheVariants.{Done}
+use Rattle.dnssec_key.specs.declared.key.KeyType.{KeyType}
+use Rattle.dnssec_key.specs.declared.error.Error.{Error}
+use Rattle.dnssec_key.specs.State.{is_fresh}
+use Rattle.dnssec_key.specs.Key.{KeyParts, all_states}
 use Rattle.dnssec_keyset.specs.KeySet.{Rolls, phase_of}
-use Rattle.dnssec_keyset.specs.Start.{is_listed as listed, conflict, has_conflict, together, old_entry_fault, old_fault, new_entry_fault, new_fault, start_refusal, some_listed, some_kept, is_met, wants, algorithm_fault, suitability_fault, first_of_causes}
+use Rattle.dnssec_keyset.specs.Start.{is_listed as listed, conflict, has_conflict, together}
+use Rattle.dnssec_keyset.specs.Start.{old_entry_fault, old_fault, new_entry_fault, new_fault}
+use Rattle.dnssec_keyset.specs.Start.{start_refusal, some_listed, some_kept, is_met, wants}
+use Rattle.dnssec_keyset.specs.Start.{algorithm_fault, suitability_fault, first_of_causes}
 use Rattle.dnssec_keyset.specs.Step.{Barred, Early, Clear, wait_in_phase, wait_verdict, barred_by}
-use Rattle.dnssec_keyset.specs.Wait.{lacks_stamp, is_early, time_left, ttl_in, left_since, stamp_read}
+use Rattle.dnssec_keyset.specs.Wait.{lacks_stamp, is_early, time_left, ttl_in, left_since}
+use Rattle.dnssec_keyset.specs.Wait.{stamp_read}
 use Rattle.dnssec_keyset.proofs.Quantified.{some_key-none, some_entry-found}
 use Rattle.dnssec_run.specs.Published.{World as RealWorld}
-use Rattle.dnssec_run.proofs.Chain.Tables.{half, reads-stamp, SideOf, Keys, Zone, affects, is_blank, may_list}
+use Rattle.dnssec_keyset.proofs.Flags.{SideOf, Keys, Zone, affects, is_blank, may_list}
+use Rattle.dnssec_run.proofs.Chain.Tables.{half, reads-stamp}
 use Rattle.dnssec_run.proofs.Chain.Tale.{seen, waiting, IsOver, HasSuitable, CanStart}
-use Rattle.dnssec_run.proofs.Chain.Flags.{each_key, each_key-at, ◌⇒◌, mp}
+use Rattle.dnssec_keyset.proofs.Tests.{each_key, each_key-at, ◌⇒◌, mp}
 
 -- ---- causes in their order
 

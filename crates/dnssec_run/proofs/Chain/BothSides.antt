@@ -1,32 +1,49 @@
 -- The invariant of both sides together: each call keeps it, so each position of a plain run is safe.
-use Rattle.std.proofs.Common.{◌≡◌, ◌||◌, ℕ, suc, ◌<◌, ◌≤◌, ◌⊎◌, inl, inr, Bool, true, false, refl, sym, ◌∙◌, ap, subst, arith, List, length, Option, None, Some}
+use Rattle.std.proofs.Common.{◌≡◌, ◌||◌, ℕ, suc, ◌<◌, ◌≤◌, ◌⊎◌, inl, inr, Bool, true, false, refl}
+use Rattle.std.proofs.Common.{sym, ◌∙◌, ap, subst, arith, List, length, Option, None, Some}
 use Rattle.std.specs.Prelude.{if◌then◌else◌, ◌==◌}
 use Rattle.std.specs.Option.{option_map}
 use Rattle.std.specs.List.{Contains}
 use Rattle.std.proofs.lemmas.Bool.{true≢false, and_parts, cases_lt}
 use Rattle.std.proofs.lemmas.Option.{same_Some, none-some}
-use Rattle.dnssec_keyset.specs.declared.roll.RollType.{RollType}
-use Rattle.dnssec_keyset.specs.declared.roll.RollType.TheVariants.{KskRoll, KskDoubleDsRoll, ZskRoll, ZskDoubleSignatureRoll, CskRoll, AlgorithmRoll}
-use Rattle.dnssec_keyset.specs.declared.roll.RollState.{RollState}
-use Rattle.dnssec_keyset.specs.declared.roll.RollState.TheVariants.{Propagation1, CacheExpire1, Propagation2, CacheExpire2, Done}
-use Rattle.dnssec_keyset.specs.declared.key.KeyType.{KeyType}
+use Rattle.dnssec_key.specs.declared.roll.RollType.{RollType}
+use Rattle.dnssec_key.specs.declared.roll.RollType.TheVariants.{KskRoll, KskDoubleDsRoll}
+use Rattle.dnssec_key.specs.declared.roll.RollType.TheVariants.{ZskRoll, ZskDoubleSignatureRoll}
+use Rattle.dnssec_key.specs.declared.roll.RollType.TheVariants.{CskRoll, AlgorithmRoll}
+use Rattle.dnssec_key.specs.declared.roll.RollState.{RollState}
+use Rattle.dnssec_key.specs.declared.roll.RollState.TheVariants.{Propagation1, CacheExpire1}
+use Rattle.dnssec_key.specs.declared.roll.RollState.TheVariants.{Propagation2, CacheExpire2}
+use Rattle.dnssec_key.specs.declared.roll.RollState.TheVariants.{Done}
+use Rattle.dnssec_key.specs.declared.key.KeyType.{KeyType}
 use Rattle.dnssec_keyset.specs.KeySet.{same_roll}
-use Rattle.dnssec_keyset.specs.RollTable.{column}
+use Rattle.dnssec_key.specs.RollTable.{column}
 use Rattle.dnssec_run.specs.declared.record.Mark.TheVariants.{Other, Step, Report}
 use Rattle.dnssec_run.specs.Published.{Id, in_ds}
 use Rattle.dnssec_run.specs.Safe.{SetKind, Ds, position_at, is_step, IsSafe}
 use Rattle.dnssec_run.specs.Plain.{StartsAt, wants_first}
-use Rattle.dnssec_run.proofs.Chain.Tables.{SideOf, Keys, Zone, affects, tolerates, started, waited1, waited2}
-use Rattle.dnssec_run.proofs.Chain.Tale.{Tale, World, Key, found, if_some, world_at, put_roll, rolled, start_key, report_key, wait1_key, wait2_key, is_listed, waiting, spreading, IsOver, CanStart}
-use Rattle.dnssec_run.proofs.Chain.Flags.{Stage, Quiet, Early, Late, fits, second_kind, in_use, in_other, in_keys, switches, both, both-at, each_roll, each_roll-at, each_key, each_key-at, alike, alike-same}
+use Rattle.dnssec_keyset.proofs.Flags.{SideOf, Keys, Zone, affects, tolerates, started, waited1}
+use Rattle.dnssec_keyset.proofs.Flags.{waited2, Stage, Quiet, Early, Late, fits}
+use Rattle.dnssec_run.proofs.Chain.Tale.{Tale, World, Key, found, if_some, world_at, put_roll}
+use Rattle.dnssec_run.proofs.Chain.Tale.{rolled, start_key, report_key, wait1_key, wait2_key}
+use Rattle.dnssec_run.proofs.Chain.Tale.{is_listed, waiting, spreading, IsOver, CanStart}
+use Rattle.dnssec_keyset.proofs.Tests.{both, both-at, each_roll, each_roll-at, each_key}
+use Rattle.dnssec_keyset.proofs.Tests.{each_key-at, alike, alike-same}
+use Rattle.dnssec_run.proofs.Chain.Flags.{second_kind, in_use, in_other, in_keys, switches}
 use Rattle.dnssec_run.proofs.Chain.Facts.{test-seen, timed, timer, timer-affects}
-use Rattle.dnssec_run.proofs.Chain.Rolls.{stage_fits, same-same, same-true, same-sym, stage_early, stage_late, stage_quiet, put-same, put-other, clash}
+use Rattle.dnssec_run.proofs.Chain.Rolls.{stage_fits, same-same, same-true, same-sym, stage_early}
+use Rattle.dnssec_run.proofs.Chain.Rolls.{stage_late, stage_quiet, put-same, put-other, clash}
 use Rattle.dnssec_run.proofs.Chain.History.{Serving, first-retires, second-retires, not_in_empty}
-use Rattle.dnssec_run.proofs.Chain.Places.{all_ok, NoDs, no_ds-next, shows_ds, found_map, some_weaker}
+use Rattle.dnssec_run.proofs.Chain.Places.{all_ok, NoDs, no_ds-next, shows_ds, found_map}
+use Rattle.dnssec_run.proofs.Chain.Places.{some_weaker}
 use Rattle.dnssec_run.proofs.Chain.Invariant.{At, Alive, at-gentle, alive-gentle, at-common}
-use Rattle.dnssec_run.proofs.Chain.Steps.{Mapped, LifeAt, at-start, alive-start, at-wait1, alive-wait1, at-wait2, alive-wait2, may_at}
-use Rattle.dnssec_run.proofs.Chain.Gentles.{Kept, gentle_kept, gentle-start, gentle-wait1, gentle-wait2, gentle-report, gentle-done}
-use Rattle.dnssec_run.proofs.Chain.Phases.{Phases, PhaseOf, Told, Reads, gone, Aside, phase-aside, aside-kept, aside-start, aside-wait1, aside-wait2, aside-report, reads-start, reads-wait1, told-report, reads-report}
+use Rattle.dnssec_run.proofs.Chain.Steps.{Mapped, LifeAt, at-start, alive-start, at-wait1}
+use Rattle.dnssec_run.proofs.Chain.Steps.{alive-wait1, at-wait2, alive-wait2, may_at}
+use Rattle.dnssec_run.proofs.Chain.Gentles.{Kept, gentle_kept, gentle-start, gentle-wait1}
+use Rattle.dnssec_run.proofs.Chain.Gentles.{gentle-wait2, gentle-report, gentle-done}
+use Rattle.dnssec_run.proofs.Chain.Phases.{Phases, PhaseOf, Told, Reads, gone, Aside, phase-aside}
+use Rattle.dnssec_run.proofs.Chain.Phases.{aside-kept, aside-start, aside-wait1, aside-wait2}
+use Rattle.dnssec_run.proofs.Chain.Phases.{aside-report, reads-start, reads-wait1, told-report}
+use Rattle.dnssec_run.proofs.Chain.Phases.{reads-report}
 
 -- finite facts ---------------------------------------------------------------------------------
 

@@ -1,21 +1,28 @@
 -- More facts of the tables: the waits, the keys that a call leaves alone, the keys that a wait reads.
+use Rattle.dnssec_keyset.proofs.Tests.{each_key, four, each_key-at, ◌⇒◌, mp, and-both}
+use Rattle.dnssec_keyset.proofs.Flags.{SideOf, affects, fits, has_role, is_blank, is_idle, may_list}
+use Rattle.dnssec_keyset.proofs.Flags.{may_start, started, tolerates, waited1, waited2, Keys, Zone}
+use Rattle.dnssec_keyset.proofs.Flags.{Quiet, Early, Late, wait1-fits, wait2-fits}
 use Rattle.std.proofs.Common.{◌≡◌, Bool, true, false, not, ◌&&◌, ◌||◌, refl, sym, ◌∙◌, ap}
 use Rattle.std.proofs.lemmas.Bool.{and_parts, true≢false}
-use Rattle.dnssec_keyset.specs.declared.roll.RollType.{RollType}
-use Rattle.dnssec_keyset.specs.declared.roll.RollType.TheVariants.{KskRoll, KskDoubleDsRoll, ZskRoll, ZskDoubleSignatureRoll, CskRoll, AlgorithmRoll}
-use Rattle.dnssec_keyset.specs.State.{Flags as KeyState}
-use Rattle.dnssec_keyset.specs.declared.key.KeyType.{KeyType}
-use Rattle.dnssec_keyset.specs.declared.key.KeyType.TheVariants.{Ksk, Zsk, Csk, Include}
+use Rattle.dnssec_key.specs.declared.roll.RollType.{RollType}
+use Rattle.dnssec_key.specs.declared.roll.RollType.TheVariants.{KskRoll, KskDoubleDsRoll}
+use Rattle.dnssec_key.specs.declared.roll.RollType.TheVariants.{ZskRoll, ZskDoubleSignatureRoll}
+use Rattle.dnssec_key.specs.declared.roll.RollType.TheVariants.{CskRoll, AlgorithmRoll}
+use Rattle.dnssec_key.specs.declared.key.KeyType.{KeyType}
+use Rattle.dnssec_key.specs.declared.key.KeyType.TheVariants.{Ksk, Zsk, Csk, Include}
 use Rattle.dnssec_run.specs.Safe.{SetKind, Ds, Dnskey, ZoneSigners}
-use Rattle.dnssec_keyset.specs.RollTable.{column}
-use Rattle.dnssec_run.proofs.Chain.Tables.{started, waited1, waited2, SideOf, Keys, Zone, affects, may_list, is_blank, written, Stamp, Visible, DsVisible, RrsigVisible, read, checked, tolerates, serves_new, serves_kept, is_stale, enters_now, parent_now, signs_now}
-use Rattle.dnssec_run.proofs.Chain.Flags.{Stage, Quiet, Early, Late, each_key, each_key-at, ◌⇒◌, mp, four, and-both, switches, test_of, first_test, second_test, in_use, fits, has_role, remains, live, may_start}
+use Rattle.dnssec_key.specs.RollTable.{column}
+use Rattle.dnssec_run.proofs.Chain.Tables.{written, Stamp, Visible, DsVisible, RrsigVisible, read}
+use Rattle.dnssec_run.proofs.Chain.Tables.{checked, serves_new, serves_kept, enters_now, parent_now}
+use Rattle.dnssec_run.proofs.Chain.Tables.{signs_now}
+use Rattle.dnssec_run.proofs.Chain.Flags.{switches, test_of, first_test, second_test, in_use}
+use Rattle.dnssec_run.proofs.Chain.Flags.{remains, live}
 
 -- the first wait
 wait1_table : SideOf → RollType → KeyType → Bool
 wait1_table sd r k = (affects sd r && fits sd (Early r) k) ⇒
-    (fits sd (Late r) (waited1 r k)
-    && (first_test sd r (waited1 r k) ⇒ first_test sd r k)
+    ((first_test sd r (waited1 r k) ⇒ first_test sd r k)
     && ((switches sd r && first_test sd r k) ⇒ first_test sd r (waited1 r k))
     && (switches sd r || (second_test sd r (waited1 r k) ⇒ second_test sd r k))
     && ((switches sd r && second_test sd r k) ⇒ first_test sd r k)
@@ -53,15 +60,13 @@ unfolding wait1_table column
 wait1_facts sd r k own fit =
     let e = mp _ _ (each_key-at (wait1_table sd r) (wait1_all sd r) k) (and-both _ _ own fit) in
     let x = and_parts _ _ e in
-    let y = and_parts _ _ x.0 in
-    let a = four _ _ _ _ y.0 in
-    record { fit = a.0; first = mp _ _ a.1; keep = λ w h. mp _ _ a.2 (and-both _ _ w h); second = λ w. mp _ _ (or_second _ _ a.3 w); inner = λ w h. mp _ _ y.1 (and-both _ _ w h); some = mp _ _ x.1 }
+    let a = four _ _ _ _ x.0 in
+    record { fit = wait1-fits sd r k own fit; first = mp _ _ a.0; keep = λ w h. mp _ _ a.1 (and-both _ _ w h); second = λ w. mp _ _ (or_second _ _ a.2 w); inner = λ w h. mp _ _ a.3 (and-both _ _ w h); some = mp _ _ x.1 }
 
 -- the second wait
 wait2_table : SideOf → RollType → KeyType → Bool
 wait2_table sd r k = (affects sd r && fits sd (Late r) k) ⇒
-    (fits sd Quiet (waited2 r k)
-    && (first_test sd r (waited2 r k) ⇒ first_test sd r k)
+    ((first_test sd r (waited2 r k) ⇒ first_test sd r k)
     && (second_test sd r (waited2 r k) ⇒ second_test sd r k)
     && (live sd k ⇒ in_use sd (waited2 r k)))
 
@@ -89,8 +94,9 @@ pub record Waited2 (sd : SideOf) (r : RollType) (k : KeyType) : Type 0 where
 pub wait2_facts : (sd : SideOf) (r : RollType) (k : KeyType) → affects sd r ≡ true → fits sd (Late r) k ≡ true → Waited2 sd r k
 unfolding wait2_table column
 wait2_facts sd r k own fit =
-    let a = four _ _ _ _ (mp _ _ (each_key-at (wait2_table sd r) (wait2_all sd r) k) (and-both _ _ own fit)) in
-    record { fit = a.0; first = mp _ _ a.1; second = mp _ _ a.2; used = mp _ _ a.3 }
+    let x = and_parts _ _ (mp _ _ (each_key-at (wait2_table sd r) (wait2_all sd r) k) (and-both _ _ own fit)) in
+    let y = and_parts _ _ x.0 in
+    record { fit = wait2-fits sd r k own fit; first = mp _ _ y.0; second = mp _ _ y.1; used = mp _ _ x.1 }
 
 -- a key that a roll may not list is left alone by its calls ----------------------------------
 
@@ -277,15 +283,6 @@ other r q k both_in role = not-false _ (mp _ _ (each_key-at (other_table r q) (o
 
 -- what matters to a side -----------------------------------------------------------------------
 
-abbrev pub idle_state : KeyState → Bool
-idle_state s = not s.signer && not s.present && not s.at_parent
-
-abbrev pub is_idle : KeyType → Bool
-is_idle (Ksk s) = idle_state s
-is_idle (Zsk s) = idle_state s
-is_idle (Csk s t) = idle_state s && idle_state t
-is_idle (Include s) = idle_state s
-
 abbrev pub Seen : SideOf → (KeyType → Bool) → Type 0
 Seen sd p = (k : KeyType) → p k ≡ true → (has_role sd k ≡ true) × (is_idle k ≡ false)
 
@@ -329,61 +326,6 @@ remains-seen Zone ZskRoll = seen_by Zone (remains Zone ZskRoll) (λ a b. refl)
 remains-seen Zone ZskDoubleSignatureRoll = seen_by Zone (remains Zone ZskDoubleSignatureRoll) (λ a b. refl)
 remains-seen Zone CskRoll = seen_by Zone (remains Zone CskRoll) (λ a b. refl)
 remains-seen Zone AlgorithmRoll = seen_by Zone (remains Zone AlgorithmRoll) (λ a b. refl)
-
--- a key that a side doesn't see, or that is idle, fits any stage of it
-fit_table : SideOf → Stage → KeyType → Bool
-fit_table sd st k = not (has_role sd k && not (is_idle k)) ⇒ fits sd st k
-
-fit_all : (sd : SideOf) (st : Stage) (a b : Bool) → each_key a b (fit_table sd st) ≡ true
-unfolding fit_table column
-fit_all Keys Quiet a b = refl
-fit_all Keys (Early KskRoll) a b = refl
-fit_all Keys (Early KskDoubleDsRoll) a b = refl
-fit_all Keys (Early ZskRoll) a b = refl
-fit_all Keys (Early ZskDoubleSignatureRoll) a b = refl
-fit_all Keys (Early CskRoll) a b = refl
-fit_all Keys (Early AlgorithmRoll) a b = refl
-fit_all Keys (Late KskRoll) a b = refl
-fit_all Keys (Late KskDoubleDsRoll) a b = refl
-fit_all Keys (Late ZskRoll) a b = refl
-fit_all Keys (Late ZskDoubleSignatureRoll) a b = refl
-fit_all Keys (Late CskRoll) a b = refl
-fit_all Keys (Late AlgorithmRoll) a b = refl
-fit_all Zone Quiet a b = refl
-fit_all Zone (Early KskRoll) a b = refl
-fit_all Zone (Early KskDoubleDsRoll) a b = refl
-fit_all Zone (Early ZskRoll) a b = refl
-fit_all Zone (Early ZskDoubleSignatureRoll) a b = refl
-fit_all Zone (Early CskRoll) a b = refl
-fit_all Zone (Early AlgorithmRoll) a b = refl
-fit_all Zone (Late KskRoll) a b = refl
-fit_all Zone (Late KskDoubleDsRoll) a b = refl
-fit_all Zone (Late ZskRoll) a b = refl
-fit_all Zone (Late ZskDoubleSignatureRoll) a b = refl
-fit_all Zone (Late CskRoll) a b = refl
-fit_all Zone (Late AlgorithmRoll) a b = refl
-
-and_left : (a b : Bool) → a ≡ false → (a && b) ≡ false
-and_left true b e = absurd (true≢false e)
-and_left false b e = refl
-
-and_right : (a b : Bool) → b ≡ false → (a && b) ≡ false
-and_right true b e = e
-and_right false b e = refl
-
-pub unseen-fits : (sd : SideOf) (st : Stage) (k : KeyType) → has_role sd k ≡ false → fits sd st k ≡ true
-unfolding fit_table column
-unseen-fits sd st k e = mp _ _ (each_key-at (fit_table sd st) (fit_all sd st) k) (ap not (and_left _ _ e))
-
-pub idle-fits : (sd : SideOf) (st : Stage) (k : KeyType) → is_idle k ≡ true → fits sd st k ≡ true
-unfolding fit_table column
-idle-fits sd st k e = mp _ _ (each_key-at (fit_table sd st) (fit_all sd st) k) (ap not (and_right _ _ (ap not e)))
-
-pub stale-idle : (k : KeyType) → is_stale k ≡ true → is_idle k ≡ true
-stale-idle k = mp _ _ (each_key-at (λ k. is_stale k ⇒ is_idle k) (λ a b. refl) k)
-
-pub blank-idle : (k : KeyType) → is_blank k ≡ true → is_idle k ≡ true
-blank-idle k = mp _ _ (each_key-at (λ k. is_blank k ⇒ is_idle k) (λ a b. refl) k)
 
 -- the witness of a phase: a key that the coming wait reads, with the stamp of its report ----------
 

@@ -1,25 +1,36 @@
 -- Calls that leave a side, or the waiting roll of another kind, alone.
-use Rattle.std.proofs.Common.{◌≡◌, ℕ, suc, Bool, true, false, refl, sym, ◌∙◌, ap, subst, List, Option, None, Some}
+use Rattle.std.proofs.Common.{◌≡◌, ℕ, suc, Bool, true, false, refl, sym, ◌∙◌, ap, subst, List}
+use Rattle.std.proofs.Common.{Option, None, Some}
 use Rattle.std.specs.Prelude.{if◌then◌else◌, ◌==◌}
 use Rattle.std.specs.Option.{option_map}
 use Rattle.std.proofs.lemmas.Bool.{true≢false}
 use Rattle.std.proofs.lemmas.Option.{same_Some, none-some}
-use Rattle.dnssec_keyset.specs.declared.roll.RollType.{RollType}
-use Rattle.dnssec_keyset.specs.declared.roll.RollType.TheVariants.{KskRoll, KskDoubleDsRoll, ZskRoll, ZskDoubleSignatureRoll, CskRoll, AlgorithmRoll}
-use Rattle.dnssec_keyset.specs.declared.roll.RollState.{RollState}
-use Rattle.dnssec_keyset.specs.declared.roll.RollState.TheVariants.{Propagation1, Propagation2, Done}
-use Rattle.dnssec_keyset.specs.declared.key.KeyType.{KeyType}
+use Rattle.dnssec_key.specs.declared.roll.RollType.{RollType}
+use Rattle.dnssec_key.specs.declared.roll.RollType.TheVariants.{KskRoll, KskDoubleDsRoll}
+use Rattle.dnssec_key.specs.declared.roll.RollType.TheVariants.{ZskRoll, ZskDoubleSignatureRoll}
+use Rattle.dnssec_key.specs.declared.roll.RollType.TheVariants.{CskRoll, AlgorithmRoll}
+use Rattle.dnssec_key.specs.declared.roll.RollState.{RollState}
+use Rattle.dnssec_key.specs.declared.roll.RollState.TheVariants.{Propagation1, Propagation2}
+use Rattle.dnssec_key.specs.declared.roll.RollState.TheVariants.{Done}
+use Rattle.dnssec_key.specs.declared.key.KeyType.{KeyType}
 use Rattle.std.specs.Str.{bytes_eq}
 use Rattle.std.specs.Cmp.Lexicographic.{bytes_decides}
 use Rattle.dnssec_keyset.specs.KeySet.{same_roll}
 use Rattle.dnssec_run.specs.declared.record.Mark.TheVariants.{Other, Step, Report}
 use Rattle.dnssec_run.specs.Published.{Id}
 use Rattle.dnssec_run.specs.Safe.{position_at, is_step}
-use Rattle.dnssec_keyset.specs.RollTable.{column}
-use Rattle.dnssec_run.proofs.Chain.Tables.{SideOf, Keys, Zone, affects, may_list, started, waited1, waited2, Stamp}
-use Rattle.dnssec_run.proofs.Chain.Tale.{Tale, World, Key, found, if_some, world_at, put, put_roll, start_key, report_key, wait1_key, wait2_key, is_listed, waiting, spreading, stamp_of}
-use Rattle.dnssec_run.proofs.Chain.Flags.{Stage, Quiet, Early, Late, fits, has_role, may_start, both, both-at, each_roll, each_roll-at, each_key, each_key-at, alike, alike-same}
-use Rattle.dnssec_run.proofs.Chain.Facts.{Seen, apart, untouched_start, untouched_wait1, untouched_wait2, unseen-fits, idle-fits, is_idle}
+use Rattle.dnssec_key.specs.RollTable.{column}
+use Rattle.dnssec_keyset.proofs.Flags.{SideOf, Keys, Zone, affects, may_list, started, waited1}
+use Rattle.dnssec_keyset.proofs.Flags.{waited2, Stage, Quiet, Early, Late, fits, has_role}
+use Rattle.dnssec_keyset.proofs.Flags.{may_start, unseen-fits, idle-fits, is_idle}
+use Rattle.dnssec_run.proofs.Chain.Tables.{Stamp}
+use Rattle.dnssec_run.proofs.Chain.Tale.{Tale, World, Key, found, if_some, world_at, put, put_roll}
+use Rattle.dnssec_run.proofs.Chain.Tale.{start_key, report_key, wait1_key, wait2_key, is_listed}
+use Rattle.dnssec_run.proofs.Chain.Tale.{waiting, spreading, stamp_of}
+use Rattle.dnssec_keyset.proofs.Tests.{both, both-at, each_roll, each_roll-at, each_key}
+use Rattle.dnssec_keyset.proofs.Tests.{each_key-at, alike, alike-same}
+use Rattle.dnssec_run.proofs.Chain.Facts.{Seen, apart, untouched_start, untouched_wait1}
+use Rattle.dnssec_run.proofs.Chain.Facts.{untouched_wait2}
 use Rattle.dnssec_run.proofs.Chain.Rolls.{stage_fits, same-sym, same-true, put-fits}
 use Rattle.dnssec_run.proofs.Chain.Places.{all_ok, NoDs}
 use Rattle.dnssec_run.proofs.Chain.Invariant.{Gentle}

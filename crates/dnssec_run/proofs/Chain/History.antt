@@ -1,13 +1,17 @@
 -- Positions of a record: time, retirement, bases; and the side of the key chain.
-use Rattle.std.proofs.Common.{◌≡◌, ℕ, zero, suc, ◌≤◌, ◌⊎◌, inl, inr, true, false, refl, sym, subst, arith, List, [], ◌∷◌, Some}
+use Rattle.std.proofs.Common.{[], ◌≡◌, ℕ, zero, suc, ◌≤◌, ◌⊎◌, inl, inr, true, false, refl, sym}
+use Rattle.std.proofs.Common.{subst, arith, List, ◌∷◌, Some}
 use Rattle.std.specs.List.{Contains}
 use Rattle.std.proofs.lemmas.Bool.{cases_lt, true≢false}
-use Rattle.dnssec_keyset.specs.declared.roll.RollType.{RollType}
-use Rattle.dnssec_keyset.specs.declared.roll.RollType.TheVariants.{KskRoll, KskDoubleDsRoll, ZskRoll, ZskDoubleSignatureRoll, CskRoll, AlgorithmRoll}
-use Rattle.dnssec_run.proofs.Chain.Tables.{SideOf, Keys, Zone, affects}
+use Rattle.dnssec_key.specs.declared.roll.RollType.{RollType}
+use Rattle.dnssec_key.specs.declared.roll.RollType.TheVariants.{KskRoll, KskDoubleDsRoll}
+use Rattle.dnssec_key.specs.declared.roll.RollType.TheVariants.{ZskRoll, ZskDoubleSignatureRoll}
+use Rattle.dnssec_key.specs.declared.roll.RollType.TheVariants.{CskRoll, AlgorithmRoll}
+use Rattle.dnssec_keyset.proofs.Flags.{SideOf, Keys, Zone, affects}
 use Rattle.dnssec_run.specs.declared.record.Entry.{Entry}
 use Rattle.dnssec_run.specs.Published.{Id}
-use Rattle.dnssec_run.specs.Safe.{SetKind, Ds, Dnskey, ZoneSigners, position_at, base_below, time_at, Retired, is_step, retires}
+use Rattle.dnssec_run.specs.Safe.{SetKind, Ds, Dnskey, ZoneSigners, position_at, base_below}
+use Rattle.dnssec_run.specs.Safe.{time_at, Retired, is_step, retires}
 use Rattle.dnssec_run.proofs.Chain.Flags.{first_kind, second_kind, switches}
 
 pub time_grows : (es : List Entry) (n : ℕ) → time_at es n ≤ time_at es (suc n)

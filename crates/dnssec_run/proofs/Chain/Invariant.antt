@@ -1,17 +1,26 @@
 -- The invariant of a side, what it gives, and the calls that leave it alone.
-use Rattle.std.proofs.Common.{◌≡◌, ℕ, suc, ◌≤◌, Bool, true, false, refl, sym, ◌∙◌, arith, List, length, Option, None, Some}
+use Rattle.std.proofs.Common.{◌≡◌, ℕ, suc, ◌≤◌, Bool, true, false, refl, sym, ◌∙◌, arith, List}
+use Rattle.std.proofs.Common.{length, Option, None, Some}
 use Rattle.std.proofs.lemmas.Bool.{true≢false, and_parts}
-use Rattle.dnssec_keyset.specs.declared.roll.RollType.{RollType}
-use Rattle.dnssec_keyset.specs.declared.roll.RollType.TheVariants.{KskRoll, KskDoubleDsRoll, ZskRoll, ZskDoubleSignatureRoll, CskRoll, AlgorithmRoll}
-use Rattle.dnssec_keyset.specs.declared.key.KeyType.{KeyType}
+use Rattle.dnssec_key.specs.declared.roll.RollType.{RollType}
+use Rattle.dnssec_key.specs.declared.roll.RollType.TheVariants.{KskRoll, KskDoubleDsRoll}
+use Rattle.dnssec_key.specs.declared.roll.RollType.TheVariants.{ZskRoll, ZskDoubleSignatureRoll}
+use Rattle.dnssec_key.specs.declared.roll.RollType.TheVariants.{CskRoll, AlgorithmRoll}
+use Rattle.dnssec_key.specs.declared.key.KeyType.{KeyType}
 use Rattle.dnssec_run.specs.declared.record.Entry.{Entry}
 use Rattle.dnssec_run.specs.Published.{Id}
-use Rattle.dnssec_run.specs.Safe.{SetKind, Ds, Dnskey, ZoneSigners, position_at, base_below, is_step, Retired}
-use Rattle.dnssec_run.proofs.Chain.Tables.{SideOf, Keys, Zone, affects}
+use Rattle.dnssec_run.specs.Safe.{SetKind, Ds, Dnskey, ZoneSigners, position_at, base_below}
+use Rattle.dnssec_run.specs.Safe.{is_step, Retired}
+use Rattle.dnssec_keyset.proofs.Flags.{SideOf, Keys, Zone, affects, Stage, Quiet, Early, Late, fits}
 use Rattle.dnssec_run.proofs.Chain.Tale.{Tale, Key, found, if_some, world_at}
-use Rattle.dnssec_run.proofs.Chain.Side.{upto, Rest, Early as EarlySets, Late as LateSets, Broad, Serves, Alive as AliveSide, rest-serves, early-serves, late-serves, broad-serves, early-stays, late-stays, broad-stays}
-use Rattle.dnssec_run.proofs.Chain.Flags.{Stage, Quiet, Early, Late, fits, test_of, first_kind, second_kind, first_test, second_test, in_use, in_keys, in_other, live, remains, switches}
-use Rattle.dnssec_run.proofs.Chain.Facts.{Seen, test-seen, use-seen, live-seen, remains-seen, wait1_facts}
+use Rattle.dnssec_run.proofs.Chain.Side.{upto, Rest, Early as EarlySets, Late as LateSets, Broad}
+use Rattle.dnssec_run.proofs.Chain.Side.{Serves, Alive as AliveSide, rest-serves, early-serves}
+use Rattle.dnssec_run.proofs.Chain.Side.{late-serves, broad-serves, early-stays, late-stays}
+use Rattle.dnssec_run.proofs.Chain.Side.{broad-stays}
+use Rattle.dnssec_run.proofs.Chain.Flags.{test_of, first_kind, second_kind, first_test, second_test}
+use Rattle.dnssec_run.proofs.Chain.Flags.{in_use, in_keys, in_other, live, remains, switches}
+use Rattle.dnssec_run.proofs.Chain.Facts.{Seen, test-seen, use-seen, live-seen, remains-seen}
+use Rattle.dnssec_run.proofs.Chain.Facts.{wait1_facts}
 use Rattle.dnssec_run.proofs.Chain.Rolls.{stage_fits, stage_own}
 use Rattle.dnssec_run.proofs.Chain.History.{Serving, retired_stays, base_same}
 use Rattle.dnssec_run.proofs.Chain.Places.{all_ok, side, shows, NoDs, some_weaker}

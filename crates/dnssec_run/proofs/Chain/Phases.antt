@@ -1,21 +1,33 @@
 -- What a roll in progress waits for: its last report, and a key with that report's stamp.
-use Rattle.std.proofs.Common.{◌≡◌, ℕ, suc, ◌-◌, ◌*◌, ◌<◌, ◌≤◌, Bool, true, false, refl, sym, ◌∙◌, ap, subst, arith, List, Option, None, Some}
+use Rattle.std.proofs.Common.{◌≡◌, ℕ, suc, ◌-◌, ◌*◌, ◌<◌, ◌≤◌, Bool, true, false, refl, sym, ◌∙◌}
+use Rattle.std.proofs.Common.{ap, subst, arith, List, Option, None, Some}
 use Rattle.std.specs.Option.{option_map}
 use Rattle.std.proofs.lemmas.Bool.{true≢false}
 use Rattle.std.proofs.lemmas.Option.{same_Some, none-some}
-use Rattle.dnssec_keyset.specs.declared.roll.RollType.{RollType}
-use Rattle.dnssec_keyset.specs.declared.roll.RollState.{RollState}
-use Rattle.dnssec_keyset.specs.declared.roll.RollState.TheVariants.{Propagation1, CacheExpire1, Propagation2, CacheExpire2, Done}
-use Rattle.dnssec_keyset.specs.declared.roll.RollType.TheVariants.{KskRoll, KskDoubleDsRoll, ZskRoll, ZskDoubleSignatureRoll, CskRoll, AlgorithmRoll}
-use Rattle.dnssec_keyset.specs.declared.key.KeyType.{KeyType}
-use Rattle.dnssec_keyset.specs.RollTable.{column, half_of, stamp_if, after_wait}
+use Rattle.dnssec_key.specs.declared.roll.RollType.{RollType}
+use Rattle.dnssec_key.specs.declared.roll.RollState.{RollState}
+use Rattle.dnssec_key.specs.declared.roll.RollState.TheVariants.{Propagation1, CacheExpire1}
+use Rattle.dnssec_key.specs.declared.roll.RollState.TheVariants.{Propagation2, CacheExpire2}
+use Rattle.dnssec_key.specs.declared.roll.RollState.TheVariants.{Done}
+use Rattle.dnssec_key.specs.declared.roll.RollType.TheVariants.{KskRoll, KskDoubleDsRoll}
+use Rattle.dnssec_key.specs.declared.roll.RollType.TheVariants.{ZskRoll, ZskDoubleSignatureRoll}
+use Rattle.dnssec_key.specs.declared.roll.RollType.TheVariants.{CskRoll, AlgorithmRoll}
+use Rattle.dnssec_key.specs.declared.key.KeyType.{KeyType}
+use Rattle.dnssec_key.specs.RollTable.{column, half_of, stamp_if, after_wait}
 use Rattle.dnssec_run.specs.declared.record.Mark.TheVariants.{Other, Report}
 use Rattle.dnssec_run.specs.Published.{Id}
-use Rattle.dnssec_run.specs.Safe.{SetKind, position_at, base_below, time_at, is_step, Retired, retires}
-use Rattle.dnssec_run.proofs.Chain.Tables.{may_list, half, aged, stamps, written, Stamp, Visible, DsVisible, RrsigVisible, read, tolerates, serves_new, serves_kept}
-use Rattle.dnssec_run.proofs.Chain.Tale.{Tale, World, Key, found, if_some, world_at, started_key, start_key, report_key, wait1_key, wait2_key, is_listed, waiting, stamp_of, IsOver, CanStart}
-use Rattle.dnssec_run.proofs.Chain.Flags.{Quiet, Early, fits, may_start}
-use Rattle.dnssec_run.proofs.Chain.Facts.{is_idle, stays, stays_facts, timed, timer, timer-affects, stays_start, stays_wait, other, untouched_start, untouched_wait1, untouched_wait2, written-touches}
+use Rattle.dnssec_run.specs.Safe.{SetKind, position_at, base_below, time_at, is_step, Retired}
+use Rattle.dnssec_run.specs.Safe.{retires}
+use Rattle.dnssec_keyset.proofs.Flags.{may_list, aged, tolerates, Quiet, Early, fits, may_start}
+use Rattle.dnssec_keyset.proofs.Flags.{is_idle}
+use Rattle.dnssec_run.proofs.Chain.Tables.{half, stamps, written, Stamp, Visible, DsVisible}
+use Rattle.dnssec_run.proofs.Chain.Tables.{RrsigVisible, read, serves_new, serves_kept}
+use Rattle.dnssec_run.proofs.Chain.Tale.{Tale, World, Key, found, if_some, world_at, started_key}
+use Rattle.dnssec_run.proofs.Chain.Tale.{start_key, report_key, wait1_key, wait2_key, is_listed}
+use Rattle.dnssec_run.proofs.Chain.Tale.{waiting, stamp_of, IsOver, CanStart}
+use Rattle.dnssec_run.proofs.Chain.Facts.{stays, stays_facts, timed, timer, timer-affects}
+use Rattle.dnssec_run.proofs.Chain.Facts.{stays_start, stays_wait, other, untouched_start}
+use Rattle.dnssec_run.proofs.Chain.Facts.{untouched_wait1, untouched_wait2, written-touches}
 use Rattle.dnssec_run.proofs.Chain.History.{time_now, time_mono, base_same}
 use Rattle.dnssec_run.proofs.Chain.Places.{all_ok, some_key, found_key, found_now}
 use Rattle.dnssec_run.proofs.Chain.Steps.{Mapped, may_at, suits}
@@ -138,13 +150,13 @@ left_alone : (b : Bool) (now : ℕ) (s : Option ℕ) → b ≡ false → s ≡ s
 left_alone true now s e = absurd (true≢false e)
 left_alone false now s e = refl
 
-start_stamps : (r : RollType) (now : ℕ) (o i : Bool) (k : Key) (s : Stamp) → stamp_of s k ≡ stamp_of s (started_key r now o i k)
+pub start_stamps : (r : RollType) (now : ℕ) (o i : Bool) (k : Key) (s : Stamp) → stamp_of s k ≡ stamp_of s (started_key r now o i k)
 start_stamps r now o false k s = refl
 start_stamps r now o true k Visible = left_alone _ now k.timestamps.visible (start_none r Visible (aged o k.keytype))
 start_stamps r now o true k DsVisible = left_alone _ now k.timestamps.ds_visible (start_none r DsVisible (aged o k.keytype))
 start_stamps r now o true k RrsigVisible = left_alone _ now k.timestamps.rrsig_visible (start_none r RrsigVisible (aged o k.keytype))
 
-wait_stamps : (r : RollType) (second : Bool) (now : ℕ) (k : Key) (s : Stamp) → stamp_of s k ≡ stamp_of s (after_wait r (half second) now k)
+pub wait_stamps : (r : RollType) (second : Bool) (now : ℕ) (k : Key) (s : Stamp) → stamp_of s k ≡ stamp_of s (after_wait r (half second) now k)
 wait_stamps r second now k Visible = left_alone _ now k.timestamps.visible (wait_none r second Visible k.keytype)
 wait_stamps r second now k DsVisible = left_alone _ now k.timestamps.ds_visible (wait_none r second DsVisible k.keytype)
 wait_stamps r second now k RrsigVisible = left_alone _ now k.timestamps.rrsig_visible (wait_none r second RrsigVisible k.keytype)

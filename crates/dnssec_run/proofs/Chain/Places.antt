@@ -1,5 +1,7 @@
 -- A place of a run: the call, its entry, and the worlds before and after; a side of the chain over the record.
-use Rattle.std.proofs.Common.{◌≡◌, ◌↔◌, ℕ, zero, suc, ◌<◌, ◌≤◌, inl, inr, Bool, true, false, ◌&&◌, refl, sym, ◌∙◌, ap, subst, arith, List, [], length, Option, None, Some}
+use Rattle.std.proofs.Common.{[], ◌≡◌, ◌↔◌, ℕ, zero, suc, ◌<◌, ◌≤◌, inl, inr, Bool, true, false}
+use Rattle.std.proofs.Common.{◌&&◌, refl, sym, ◌∙◌, ap, subst, arith, List, length, Option, None}
+use Rattle.std.proofs.Common.{Some}
 use Rattle.std.specs.Prelude.{slice_get, if◌then◌else◌, ◌==◌}
 use Rattle.std.specs.Option.{option_map}
 use Rattle.std.specs.List.{Contains}
@@ -8,19 +10,21 @@ use Rattle.std.specs.Ordering.{nat_cmp}
 use Rattle.std.specs.Cmp.Lexicographic.{slice_cmp}
 use Rattle.std.proofs.lemmas.Option.{slice_get_cases, same_Some, none-some}
 use Rattle.std.proofs.lemmas.Bool.{true≢false, and_parts, eqb-true, eq-eqb}
-use Rattle.dnssec_keyset.specs.declared.roll.RollType.{RollType}
-use Rattle.dnssec_keyset.specs.declared.key.KeyType.{KeyType}
-use Rattle.dnssec_keyset.specs.declared.key.KeyType.TheVariants.{Ksk, Zsk, Csk, Include}
+use Rattle.dnssec_key.specs.declared.roll.RollType.{RollType}
+use Rattle.dnssec_key.specs.declared.key.KeyType.{KeyType}
+use Rattle.dnssec_key.specs.declared.key.KeyType.TheVariants.{Ksk, Zsk, Csk, Include}
 use Rattle.dnssec_run.specs.declared.call.Call.{Call}
 use Rattle.dnssec_run.specs.declared.record.Entry.{Entry}
-use Rattle.dnssec_run.specs.Published.{Id, World as RealWorld, shown, in_ds, in_dnskey, signs_dnskey as signs_keys, signs_zone}
+use Rattle.dnssec_run.specs.Published.{Id, World as RealWorld, shown, in_ds, in_dnskey}
+use Rattle.dnssec_run.specs.Published.{signs_dnskey as signs_keys, signs_zone}
 use Rattle.dnssec_run.specs.Record as rec
 use Rattle.dnssec_run.specs.Safe.{SetKind, Ds, Dnskey, ZoneSigners, told, position_at, Retired}
 use Rattle.dnssec_run.specs.Plain.{is_plain_call, start_of, StartsAt}
-use Rattle.dnssec_run.proofs.Chain.Tables.{SideOf, Keys, Zone}
+use Rattle.dnssec_keyset.proofs.Flags.{SideOf, Keys, Zone}
 use Rattle.dnssec_run.proofs.Chain.Tale.{Tale, World, Key, seen, found, if_some, world_at}
 use Rattle.dnssec_run.proofs.Chain.Shown.{shown-found}
-use Rattle.dnssec_run.proofs.Chain.Flags.{test_of, first_kind, second_kind, first_test, second_test, in_keys}
+use Rattle.dnssec_run.proofs.Chain.Flags.{test_of, first_kind, second_kind, first_test, second_test}
+use Rattle.dnssec_run.proofs.Chain.Flags.{in_keys}
 use Rattle.dnssec_run.proofs.Chain.History.{Serving, retired_stays, nothing_in, not_in_empty}
 use Rattle.dnssec_run.proofs.Chain.Side.{Side, upto}
 

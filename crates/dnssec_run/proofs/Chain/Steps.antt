@@ -1,24 +1,35 @@
 -- The calls of a roll on a side that the roll affects.
-use Rattle.std.proofs.Common.{◌≡◌, ℕ, suc, ◌<◌, ◌≤◌, ◌⊎◌, inl, inr, Bool, true, false, not, ◌&&◌, ◌||◌, refl, sym, ◌∙◌, ap, subst, arith, List, length, Option, None, Some}
+use Rattle.std.proofs.Common.{◌≡◌, ℕ, suc, ◌<◌, ◌≤◌, ◌⊎◌, inl, inr, Bool, true, false, not, ◌&&◌}
+use Rattle.std.proofs.Common.{◌||◌, refl, sym, ◌∙◌, ap, subst, arith, List, length, Option, None}
+use Rattle.std.proofs.Common.{Some}
 use Rattle.std.specs.Option.{option_map}
 use Rattle.std.proofs.lemmas.Bool.{true≢false, and_parts}
 use Rattle.std.proofs.lemmas.Option.{same_Some}
-use Rattle.dnssec_keyset.specs.declared.roll.RollType.{RollType}
-use Rattle.dnssec_keyset.specs.declared.roll.RollState.{RollState}
-use Rattle.dnssec_keyset.specs.declared.roll.RollState.TheVariants.{Propagation1, Propagation2, Done}
-use Rattle.dnssec_keyset.specs.declared.key.KeyType.{KeyType}
+use Rattle.dnssec_key.specs.declared.roll.RollType.{RollType}
+use Rattle.dnssec_key.specs.declared.roll.RollState.{RollState}
+use Rattle.dnssec_key.specs.declared.roll.RollState.TheVariants.{Propagation1, Propagation2}
+use Rattle.dnssec_key.specs.declared.roll.RollState.TheVariants.{Done}
+use Rattle.dnssec_key.specs.declared.key.KeyType.{KeyType}
 use Rattle.dnssec_run.specs.declared.record.Mark.TheVariants.{Step}
 use Rattle.dnssec_run.specs.Published.{Id}
 use Rattle.dnssec_run.specs.Safe.{SetKind, position_at, base_below, is_step, Retired, retires}
-use Rattle.dnssec_run.proofs.Chain.Tables.{SideOf, affects, may_list, is_blank, serves_new, serves_kept}
-use Rattle.dnssec_run.proofs.Chain.Tale.{Tale, World, Key, found, if_some, world_at, put_roll, start_key, wait1_key, wait2_key, is_listed, CanStart}
-use Rattle.dnssec_run.proofs.Chain.Side.{Witness, rest-starts, rest-broadens, early-switches, broad-rests, late-closes, rest_shrinks}
-use Rattle.dnssec_run.proofs.Chain.Flags.{Quiet, Early, Late, fits, first_kind, second_kind, first_test, second_test, in_use, live, remains, switches, may_start, start_facts, and-both}
+use Rattle.dnssec_keyset.proofs.Flags.{SideOf, affects, may_list, is_blank, Quiet, Early, Late}
+use Rattle.dnssec_keyset.proofs.Flags.{fits, may_start}
+use Rattle.dnssec_run.proofs.Chain.Tables.{serves_new, serves_kept}
+use Rattle.dnssec_run.proofs.Chain.Tale.{Tale, World, Key, found, if_some, world_at, put_roll}
+use Rattle.dnssec_run.proofs.Chain.Tale.{start_key, wait1_key, wait2_key, is_listed, CanStart}
+use Rattle.dnssec_run.proofs.Chain.Side.{Witness, rest-starts, rest-broadens, early-switches}
+use Rattle.dnssec_run.proofs.Chain.Side.{broad-rests, late-closes, rest_shrinks}
+use Rattle.dnssec_keyset.proofs.Tests.{and-both}
+use Rattle.dnssec_run.proofs.Chain.Flags.{first_kind, second_kind, first_test, second_test, in_use}
+use Rattle.dnssec_run.proofs.Chain.Flags.{live, remains, switches, start_facts}
 use Rattle.dnssec_run.proofs.Chain.Facts.{wait1_facts, wait2_facts}
-use Rattle.dnssec_run.proofs.Chain.Rolls.{stage_fits, same-same, others_early, others_late, put-fits, clash}
+use Rattle.dnssec_run.proofs.Chain.Rolls.{stage_fits, same-same, others_early, others_late}
+use Rattle.dnssec_run.proofs.Chain.Rolls.{put-fits, clash}
 use Rattle.dnssec_run.proofs.Chain.History.{Serving, base_here}
 use Rattle.dnssec_run.proofs.Chain.Places.{all_ok, side, NoDs, found_key, found_now, some_weaker}
-use Rattle.dnssec_run.proofs.Chain.Invariant.{At, AtRest, EarlyOf, LateOf, Alive, used_first, used_second, rest_side, side_rest}
+use Rattle.dnssec_run.proofs.Chain.Invariant.{At, AtRest, EarlyOf, LateOf, Alive, used_first}
+use Rattle.dnssec_run.proofs.Chain.Invariant.{used_second, rest_side, side_rest}
 
 -- a roll call: each key is mapped, and one roll's state is put
 pub record Mapped (tale : Tale) (n : ℕ) (f : List ℕ → Key → Key) (r : RollType) (o : Option RollState) : Type 0 where

@@ -1,33 +1,21 @@
 -- The tables of the key set in the words of the chain's proof.
-use Rattle.std.proofs.Common.{◌≡◌, Bool, true, false, not, ◌&&◌, ℕ, Option, refl}
-use Rattle.dnssec_keyset.specs.declared.roll.RollType.{RollType}
-use Rattle.dnssec_keyset.specs.declared.roll.RollType.TheVariants.{KskRoll, KskDoubleDsRoll, ZskRoll, ZskDoubleSignatureRoll, CskRoll, AlgorithmRoll}
-use Rattle.dnssec_keyset.specs.declared.key.KeyType.{KeyType}
-use Rattle.dnssec_keyset.specs.State.{Flags, Stamps, is_any, is_used, is_stale as stale_state, kept_present, kept_at_parent, kept_signing}
-use Rattle.dnssec_keyset.specs.Key.{all_states, ksk, zsk, ksk_role, zsk_role}
-use Rattle.dnssec_keyset.specs.Wait.{stamp_at}
-use Rattle.dnssec_keyset.specs.RollTable.{Half, First, Second, half_of, column, Stamping, at_roles, turns_old}
-use Rattle.dnssec_keyset.specs.Start.{lists_kind, side_of, together}
+use Rattle.dnssec_keyset.proofs.Flags.{SideOf, Keys, Zone}
+use Rattle.std.proofs.Common.{◌≡◌, Bool, true, false, ℕ, Option, refl}
+use Rattle.dnssec_key.specs.declared.roll.RollType.{RollType}
+use Rattle.dnssec_key.specs.declared.roll.RollType.TheVariants.{KskRoll, KskDoubleDsRoll}
+use Rattle.dnssec_key.specs.declared.roll.RollType.TheVariants.{ZskRoll, ZskDoubleSignatureRoll}
+use Rattle.dnssec_key.specs.declared.roll.RollType.TheVariants.{CskRoll, AlgorithmRoll}
+use Rattle.dnssec_key.specs.declared.key.KeyType.{KeyType}
+use Rattle.dnssec_key.specs.State.{Flags, Stamps, is_any, kept_present, kept_at_parent}
+use Rattle.dnssec_key.specs.State.{kept_signing}
+use Rattle.dnssec_key.specs.Key.{ksk, zsk, ksk_role, zsk_role}
+use Rattle.dnssec_key.specs.RollTable.{stamp_at}
+use Rattle.dnssec_key.specs.RollTable.{Half, First, Second, half_of, column, Stamping}
 
 -- the half of a report or a wait
 abbrev pub half : Bool → Half
 half false = First
 half true = Second
-
--- the kind and the flags of a key after a start
-abbrev pub aged : Bool → KeyType → KeyType
-aged true k = at_roles turns_old turns_old k
-aged false k = k
-
-abbrev pub started : RollType → Bool → Bool → KeyType → KeyType
-started r o true k = (column r).comes (aged o k)
-started r o false k = aged o k
-
-abbrev pub waited1 : RollType → KeyType → KeyType
-waited1 r k = (half_of r First).moves k
-
-abbrev pub waited2 : RollType → KeyType → KeyType
-waited2 r k = (half_of r Second).moves k
 
 -- the stamps that a wait reads
 pub data Stamp : Type 0 where
@@ -75,33 +63,6 @@ reads-stamp AlgorithmRoll true t = refl
 
 abbrev pub checked : RollType → Bool → KeyType → Bool
 checked r second k = (half_of r (half second)).checks k
-
-abbrev pub tolerates : RollType → RollType → Bool
-tolerates = together
-
-abbrev pub may_list : RollType → KeyType → Bool
-may_list r k = lists_kind (side_of r) k
-
-abbrev pub blank_state : Flags → Bool
-blank_state s = not s.old && not (is_used s)
-
-abbrev pub is_blank : KeyType → Bool
-is_blank k = all_states blank_state k
-
-abbrev pub is_stale : KeyType → Bool
-is_stale k = all_states stale_state k
-
--- the two sides on which a start wants a suitable key
-pub data SideOf : Type 0 where
-  Keys : SideOf
-  Zone : SideOf
-
-abbrev pub affects : SideOf → RollType → Bool
-affects Keys ZskRoll = false
-affects Keys ZskDoubleSignatureRoll = false
-affects Zone KskRoll = false
-affects Zone KskDoubleDsRoll = false
-affects _ _ = true
 
 -- a key that serves on a side once it is new
 abbrev pub serves_new : SideOf → RollType → KeyType → Bool

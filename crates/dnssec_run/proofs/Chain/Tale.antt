@@ -1,24 +1,30 @@
 -- A run as the chain's proof sees it: at each position the keys by reference, the positions of their
 -- adds, and the phases of the rolls.
-use Rattle.std.proofs.Common.{◌≡◌, ℕ, ◌-◌, ◌≤◌, ◌⊎◌, Bool, true, false, List, Option, None, Some, refl}
+use Rattle.std.proofs.Common.{◌≡◌, ℕ, ◌-◌, ◌≤◌, ◌⊎◌, Bool, true, false, List, Option, None, Some}
+use Rattle.std.proofs.Common.{refl}
 use Rattle.std.specs.Prelude.{if◌then◌else◌, ◌==◌, ◌*◌}
 use Rattle.std.specs.FinMap.{get}
 use Rattle.std.specs.Option.{option_map}
 use Rattle.std.specs.Str.{bytes_eq}
-use Rattle.dnssec_keyset.specs.declared.roll.RollType.{RollType}
-use Rattle.dnssec_keyset.specs.declared.roll.RollState.{RollState}
-use Rattle.dnssec_keyset.specs.declared.roll.RollState.TheVariants.{Propagation1, CacheExpire1, Propagation2, CacheExpire2}
-use Rattle.dnssec_keyset.specs.declared.key.KeyType.{KeyType}
-use Rattle.dnssec_keyset.specs.Key.{KeyParts}
+use Rattle.dnssec_key.specs.declared.roll.RollType.{RollType}
+use Rattle.dnssec_key.specs.declared.roll.RollState.{RollState}
+use Rattle.dnssec_key.specs.declared.roll.RollState.TheVariants.{Propagation1, CacheExpire1}
+use Rattle.dnssec_key.specs.declared.roll.RollState.TheVariants.{Propagation2, CacheExpire2}
+use Rattle.dnssec_key.specs.declared.key.KeyType.{KeyType}
+use Rattle.dnssec_key.specs.Key.{KeyParts}
 use Rattle.dnssec_keyset.specs.KeySet.{phase_of, same_roll}
-use Rattle.dnssec_keyset.specs.RollTable.{after_start, after_report, after_wait, First, Second, column, with_stamps, written as stamped}
+use Rattle.dnssec_key.specs.RollTable.{after_start, after_report, after_wait, First, Second}
+use Rattle.dnssec_key.specs.RollTable.{column, with_stamps, written as stamped}
 use Rattle.dnssec_keyset.specs.Start.{is_listed as listed}
 use Rattle.dnssec_run.specs.declared.call.Call.{Call}
 use Rattle.dnssec_run.specs.declared.record.Entry.{Entry}
 use Rattle.dnssec_run.specs.Published.{Id, World as RealWorld}
 use Rattle.dnssec_run.specs.Record as rec
 use Rattle.dnssec_run.specs.Plain.{IsPlain}
-use Rattle.dnssec_run.proofs.Chain.Tables.{started, aged, Stamp, stamp_in, half, read, checked, tolerates, may_list, is_blank, SideOf, affects, serves_new, serves_kept}
+use Rattle.dnssec_keyset.proofs.Flags.{started, aged, tolerates, may_list, is_blank, SideOf}
+use Rattle.dnssec_keyset.proofs.Flags.{affects}
+use Rattle.dnssec_run.proofs.Chain.Tables.{Stamp, stamp_in, half, read, checked, serves_new}
+use Rattle.dnssec_run.proofs.Chain.Tables.{serves_kept}
 
 -- a run of a plain list, with its record
 pub record Tale : Type 0 where

@@ -1,6 +1,10 @@
 -- Each call of a run keeps the invariant of the chain, so each position of a plain run is safe.
-use Rattle.std.proofs.Common.{◌≡◌, ℕ, zero, suc, ◌≤◌, inl, inr, Bool, true, false, refl, sym, ◌∙◌, ap, subst, arith, List, [], length, Option, None, Some}
-use Rattle.std.specs.Prelude.{if◌then◌else◌, ◌==◌, is_some}
+use Rattle.dnssec_keyset.proofs.Accepted.{refused_same, is_refused, accepted_changes, no_some}
+use Rattle.dnssec_keyset.proofs.Accepted.{no_error, gone_key, spreads_first, spreads_second}
+use Rattle.dnssec_keyset.proofs.Accepted.{finishes, decoupled_kind}
+use Rattle.std.proofs.Common.{[], ◌≡◌, ℕ, zero, suc, ◌≤◌, inl, inr, Bool, true, false, refl, sym}
+use Rattle.std.proofs.Common.{◌∙◌, ap, subst, arith, List, length, Option, None, Some}
+use Rattle.std.specs.Prelude.{if◌then◌else◌, ◌==◌}
 use Rattle.std.specs.Option.{option_map}
 use Rattle.std.specs.Str.{bytes_eq}
 use Rattle.std.specs.FinMap.{get, get-empty}
@@ -8,15 +12,19 @@ use Rattle.std.specs.Ordering.{nat_cmp}
 use Rattle.std.specs.Cmp.Lexicographic.{slice_cmp}
 use Rattle.std.proofs.lemmas.Bool.{true≢false}
 use Rattle.std.proofs.lemmas.Option.{same_Some, none-some}
-use Rattle.dnssec_keyset.specs.declared.roll.RollType.{RollType}
-use Rattle.dnssec_keyset.specs.declared.roll.RollType.TheVariants.{KskRoll, KskDoubleDsRoll, ZskRoll, ZskDoubleSignatureRoll, CskRoll, AlgorithmRoll}
-use Rattle.dnssec_keyset.specs.declared.roll.RollState.{RollState}
-use Rattle.dnssec_keyset.specs.declared.roll.RollState.TheVariants.{Propagation1, CacheExpire1, Propagation2, CacheExpire2, Done}
-use Rattle.dnssec_keyset.specs.declared.error.Error.{Error}
-use Rattle.dnssec_keyset.specs.declared.key.KeyType.{KeyType}
+use Rattle.dnssec_key.specs.declared.roll.RollType.{RollType}
+use Rattle.dnssec_key.specs.declared.roll.RollType.TheVariants.{KskRoll, KskDoubleDsRoll}
+use Rattle.dnssec_key.specs.declared.roll.RollType.TheVariants.{ZskRoll, ZskDoubleSignatureRoll}
+use Rattle.dnssec_key.specs.declared.roll.RollType.TheVariants.{CskRoll, AlgorithmRoll}
+use Rattle.dnssec_key.specs.declared.roll.RollState.{RollState}
+use Rattle.dnssec_key.specs.declared.roll.RollState.TheVariants.{Propagation1, CacheExpire1}
+use Rattle.dnssec_key.specs.declared.roll.RollState.TheVariants.{Propagation2, CacheExpire2}
+use Rattle.dnssec_key.specs.declared.roll.RollState.TheVariants.{Done}
+use Rattle.dnssec_key.specs.declared.key.KeyType.{KeyType}
 use Rattle.dnssec_keyset.specs.KeySet.{KeySetParts, Rolls, MovesOn, phase_of, with_phase, no_rolls}
-use Rattle.dnssec_keyset.specs.RollTable.{First, Second}
-use Rattle.dnssec_keyset.specs.Setters.{Decoupled, Present, Signer, AtParent, Stale, VisibleAt, DsVisibleAt, RrsigVisibleAt, set_by, deletion_refusal}
+use Rattle.dnssec_key.specs.RollTable.{First, Second}
+use Rattle.dnssec_key.specs.Setters.{Decoupled, Present, Signer, AtParent, Stale, VisibleAt}
+use Rattle.dnssec_key.specs.Setters.{DsVisibleAt, RrsigVisibleAt, set_by}
 use Rattle.dnssec_keyset.specs.Step as keyset
 use Rattle.dnssec_run.specs.declared.call.Call.{Call}
 use Rattle.dnssec_run.specs.declared.call.Call.TheVariants as call
@@ -28,43 +36,22 @@ use Rattle.dnssec_run.specs.declared.record.Mark.TheVariants.{Other, Step, Repor
 use Rattle.dnssec_run.specs.Record as rec
 use Rattle.dnssec_run.specs.Safe.{position_at}
 use Rattle.dnssec_run.specs.Plain.{StartsAt, StaysSafe, start_of, is_plain_call}
-use Rattle.dnssec_run.proofs.Chain.Tables.{SideOf, Keys, Zone, is_blank, is_stale, Stamp}
-use Rattle.dnssec_run.proofs.Chain.Tale.{Tale, World, Key, world_at, put_roll, rolled, start_key, start-parts, report_key, wait1_key, wait2_key, is_listed, stamp_of}
-use Rattle.dnssec_run.proofs.Chain.Flags.{Quiet, fits}
+use Rattle.dnssec_keyset.proofs.Flags.{SideOf, Keys, Zone, is_blank, Quiet, fits, stale-idle}
+use Rattle.dnssec_keyset.proofs.Flags.{blank-idle}
+use Rattle.dnssec_run.proofs.Chain.Tables.{Stamp}
+use Rattle.dnssec_run.proofs.Chain.Tale.{Tale, World, Key, world_at, put_roll, rolled, start_key}
+use Rattle.dnssec_run.proofs.Chain.Tale.{start-parts, report_key, wait1_key, wait2_key, is_listed}
+use Rattle.dnssec_run.proofs.Chain.Tale.{stamp_of}
 use Rattle.dnssec_run.proofs.Chain.Rolls.{stage_fits}
-use Rattle.dnssec_run.proofs.Chain.Facts.{stale-idle, blank-idle}
 use Rattle.dnssec_run.proofs.Chain.Places.{place_at, real, all_ok, same_start, none_at_start}
 use Rattle.dnssec_run.proofs.Chain.Invariant.{At}
-use Rattle.dnssec_run.proofs.Chain.Gentles.{kept_same, kept_added, kept_deleted, kept_changed, with_key, without_key, with_keys}
-use Rattle.dnssec_run.proofs.Chain.BothSides.{Inv, mapped, calm, report, done, start, wait1, wait2, safe_of}
+use Rattle.dnssec_run.proofs.Chain.Gentles.{kept_same, kept_added, kept_deleted, kept_changed}
+use Rattle.dnssec_run.proofs.Chain.Gentles.{with_key, without_key, with_keys}
+use Rattle.dnssec_run.proofs.Chain.BothSides.{Inv, mapped, calm, report, done, start, wait1, wait2}
+use Rattle.dnssec_run.proofs.Chain.BothSides.{safe_of}
 use Rattle.dnssec_run.proofs.Chain.Allowed.{can_start, waits_in_phase, clear_cause}
 
 -- ---- replies
-
-refused_same : (v : keyset.Verdict) (old new : KeySetParts) (c : keyset.Call) (cause : Error) → keyset.StepBy v old c (keyset.Refused cause) new → new ≡ old
-refused_same (keyset.Barred e) old new c cause h = h.1
-refused_same (keyset.Early left) old new c cause h = h.1
-refused_same keyset.Clear old new c cause (inr h) = h.2
-refused_same keyset.Clear old new c cause (inl h) = absurd (accepts c h.0)
-  where
-    accepts : (c : keyset.Call) → keyset.Refused cause ≡ keyset.accepted_reply c → ⊥
-    accepts (keyset.AddKey r k) e = cc
-    accepts (keyset.Set r s) e = cc
-    accepts (keyset.DeleteKey r) e = cc
-    accepts (keyset.StartRoll r o n t) e = cc
-    accepts (keyset.Report r h ttl t) e = cc
-    accepts (keyset.Wait r h t) e = cc
-    accepts (keyset.RollDone r) e = cc
-
-abbrev is_refused : keyset.Reply → Bool
-is_refused (keyset.Refused cause) = true
-is_refused _ = false
-
-accepted_changes : (v : keyset.Verdict) (old new : KeySetParts) (c : keyset.Call) (r : keyset.Reply) → is_refused r ≡ false → keyset.StepBy v old c r new → (v ≡ keyset.Clear) × keyset.Changes old c new
-accepted_changes (keyset.Barred e) old new c r a h = absurd (true≢false (sym (ap is_refused h.0) ∙ a))
-accepted_changes (keyset.Early left) old new c r a h = absurd (true≢false (sym (ap is_refused h.0.1) ∙ a))
-accepted_changes keyset.Clear old new c r a (inl h) = (refl, h.1)
-accepted_changes keyset.Clear old new c r a (inr h) = absurd (true≢false (sym (ap is_refused h.1) ∙ a))
 
 accepted_reply : (r : Reply) → rec.is_accepted r ≡ true → is_refused (rec.reply_of r) ≡ false
 accepted_reply reply.Done e = refl
@@ -73,30 +60,30 @@ accepted_reply (reply.Refused cause) e = absurd (true≢false (sym e))
 
 -- ---- marks, moments and new keys, as the key set's calls tell them
 
-abbrev mark : keyset.Call → Mark
+abbrev pub mark : keyset.Call → Mark
 mark (keyset.StartRoll r o n t) = Step r
 mark (keyset.Wait r First t) = Step r
 mark (keyset.Report r First ttl t) = Report r false ttl
 mark (keyset.Report r Second ttl t) = Report r true ttl
 mark _ = Other
 
-abbrev moment : keyset.Call → Option ℕ
+abbrev pub moment : keyset.Call → Option ℕ
 moment (keyset.Set r (Present value now)) = Some now
 moment (keyset.StartRoll r o n now) = Some now
 moment (keyset.Report r h ttl now) = Some now
 moment (keyset.Wait r h now) = Some now
 moment _ = None
 
-abbrev adds_blank : keyset.Call → Bool
+abbrev pub adds_blank : keyset.Call → Bool
 adds_blank (keyset.AddKey r k) = is_blank k.keytype
 adds_blank _ = true
 
-record Plainly (c : Call) : Type 0 where
-  mark_is : rec.mark_of c ≡ mark (rec.call_of c)
-  moment_is : rec.moment_of c ≡ moment (rec.call_of c)
-  blank : adds_blank (rec.call_of c) ≡ true
+pub record Plainly (c : Call) : Type 0 where
+  pub mark_is : rec.mark_of c ≡ mark (rec.call_of c)
+  pub moment_is : rec.moment_of c ≡ moment (rec.call_of c)
+  pub blank : adds_blank (rec.call_of c) ≡ true
 
-plainly : (c : Call) → Plainly c
+pub plainly : (c : Call) → Plainly c
 plainly (call.AddKeyKsk a b c d e f) = record { mark_is = refl; moment_is = refl; blank = refl }
 plainly (call.AddKeyZsk a b c d e f) = record { mark_is = refl; moment_is = refl; blank = refl }
 plainly (call.AddKeyCsk a b c d e f) = record { mark_is = refl; moment_is = refl; blank = refl }
@@ -139,52 +126,8 @@ map_id (Some k) = refl
 worlds : (w v : World) → ((q : List ℕ) → w.key q ≡ v.key q) → ((q : List ℕ) → w.added q ≡ v.added q) → ((q : RollType) → w.roll q ≡ v.roll q) → w ≡ v
 worlds w v keys added rolls = λ i. record { key = λ q. keys q i; added = λ q. added q i; roll = λ q. rolls q i }
 
-no_some : {A : Type 0} (o : Option A) → is_some o ≡ false → o ≡ None
-no_some None e = refl
-no_some (Some x) e = absurd (true≢false e)
-
-no_error : (b : Bool) (e : Error) (o : Option Error) → (if b then Some e else o) ≡ None → (b ≡ false) × (o ≡ None)
-no_error true e o h = absurd (none-some e (sym h))
-no_error false e o h = (refl, h)
-
-gone_key : (o : Option Key) → deletion_refusal o ≡ None → (k : Key) × (o ≡ Some k) × (is_stale k.keytype ≡ true)
-gone_key None e = absurd (none-some _ (sym e))
-gone_key (Some k) e = by (is_stale k.keytype) refl
-  where
-    by : (b : Bool) → is_stale k.keytype ≡ b → (j : Key) × (Some k ≡ Some j) × (is_stale j.keytype ≡ true)
-    by true t = (k, refl, t)
-    by false t = absurd (none-some _ (sym (sym (ap (λ b. if b then None else Some Error.KeyNotOld) t) ∙ e)))
-
-spreads_first : (o : Option RollState) → keyset.report_refusal First o ≡ None → o ≡ Some Propagation1
-spreads_first None e = absurd (none-some _ (sym e))
-spreads_first (Some Propagation1) e = refl
-spreads_first (Some (CacheExpire1 ttl)) e = absurd (none-some _ (sym e))
-spreads_first (Some Propagation2) e = absurd (none-some _ (sym e))
-spreads_first (Some (CacheExpire2 ttl)) e = absurd (none-some _ (sym e))
-spreads_first (Some Done) e = absurd (none-some _ (sym e))
-
-spreads_second : (o : Option RollState) → keyset.report_refusal Second o ≡ None → o ≡ Some Propagation2
-spreads_second None e = absurd (none-some _ (sym e))
-spreads_second (Some Propagation1) e = absurd (none-some _ (sym e))
-spreads_second (Some (CacheExpire1 ttl)) e = absurd (none-some _ (sym e))
-spreads_second (Some Propagation2) e = refl
-spreads_second (Some (CacheExpire2 ttl)) e = absurd (none-some _ (sym e))
-spreads_second (Some Done) e = absurd (none-some _ (sym e))
-
-finishes : (o : Option RollState) → keyset.end_refusal o ≡ None → o ≡ Some Done
-finishes None e = absurd (none-some _ (sym e))
-finishes (Some Propagation1) e = absurd (none-some _ (sym e))
-finishes (Some (CacheExpire1 ttl)) e = absurd (none-some _ (sym e))
-finishes (Some Propagation2) e = absurd (none-some _ (sym e))
-finishes (Some (CacheExpire2 ttl)) e = absurd (none-some _ (sym e))
-finishes (Some Done) e = refl
-
 decoupled : Bool → List ℕ → List ℕ → Key → Key
 decoupled value r q k = if bytes_eq r q then set_by (Decoupled value) k else k
-
-decoupled_kind : (b value : Bool) (k : Key) → (if b then set_by (Decoupled value) k else k).keytype ≡ k.keytype
-decoupled_kind true value k = refl
-decoupled_kind false value k = refl
 
 decoupled_stamp : (b value : Bool) (k : Key) (s : Stamp) → stamp_of s k ≡ stamp_of s (if b then set_by (Decoupled value) k else k)
 decoupled_stamp true value k s = refl

@@ -3,7 +3,7 @@ use Rattle.std.proofs.Common.{◌≡◌, ℕ, suc, ◌≤◌, true, false, refl,
 use Rattle.std.proofs.Common.{Option, None, Some, subst, [], ◌∷◌, length, ◌++◌, length-append}
 use Rattle.std.specs.Prelude.{if◌then◌else◌, max, unwrap_or, is_some}
 use Rattle.std.proofs.lemmas.Bool.{true≢false}
-use Rattle.dnssec_keyset.specs.declared.roll.RollType.{RollType}
+use Rattle.dnssec_key.specs.declared.roll.RollType.{RollType}
 use Rattle.dnssec_run.specs.declared.record.Entry.{Entry}
 use Rattle.dnssec_run.specs.declared.record.Mark.{Mark}
 use Rattle.dnssec_run.specs.declared.record.Mark.TheVariants.{Other, Step, Report}

@@ -2,7 +2,7 @@
 use Rattle.std.proofs.Common.{rules}
 use Rattle.std.proofs.lemmas.Map.Made.{map_same_pairs, lookup-map_values}
 use Rattle.std.proofs.lemmas.Map.Text.{is_text}
-use Rattle.dnssec_keyset.specs.RollTable.{which, after_wait}
+use Rattle.dnssec_key.specs.RollTable.{which, after_wait}
 use Rattle.dnssec_keyset.proofs.roll.go_on_all.Goals as goal
 
 pub returns : goal.returns

@@ -1,5 +1,5 @@
 -- Each turn of the loop marks one more of the listed keys.
-use Rattle.dnssec_keyset.specs.RollTable.{marked_new}
+use Rattle.dnssec_key.specs.RollTable.{marked_new}
 use Rattle.dnssec_keyset.proofs.Marks.{mark_more, marked_new-twice}
 use Rattle.dnssec_keyset.proofs.roll.mark_new.Goals as goal
 

@@ -2,7 +2,7 @@ use Rattle.std.proofs.Common.{◌≡◌, ℕ, List, take}
 use Rattle.std.specs.Prelude.{if◌then◌else◌}
 use Rattle.std.specs.Option.{option_map}
 use Rattle.std.specs.HashMap.{get_by_text}
-use Rattle.dnssec_keyset.specs.RollTable.{marked_new}
+use Rattle.dnssec_key.specs.RollTable.{marked_new}
 use Rattle.dnssec_keyset.specs.Start.{texts, is_listed}
 use Rattle.dnssec_keyset.proofs.roll.mark_new.Given as goal
 

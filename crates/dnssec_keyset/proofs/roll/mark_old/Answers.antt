@@ -1,5 +1,5 @@
 -- Each turn of the loop marks one more of the listed keys.
-use Rattle.dnssec_keyset.specs.RollTable.{marked_old}
+use Rattle.dnssec_key.specs.RollTable.{marked_old}
 use Rattle.dnssec_keyset.proofs.Marks.{mark_more, marked_old-twice}
 use Rattle.dnssec_keyset.proofs.roll.mark_old.Goals as goal
 

@@ -8,6 +8,11 @@ use Rattle.dnssec_run.specs.Recorder.{Agrees}
 use Rattle.dnssec_run.proofs.Grow.{run_none, run_more, world_more, world_none}
 use Rattle.dnssec_run.proofs.Next.{agrees-new}
 use Rattle.dnssec_run.proofs.Chain.Trust.{chain-holds}
+use Rattle.dnssec_run.proofs.Asked.Changes.{changes-as-asked}
+use Rattle.dnssec_run.proofs.Asked.Reports.{retires-as-asked}
+use Rattle.dnssec_run.proofs.WholeRolls.Positions.{never-misses, settles-between}
+use Rattle.dnssec_run.proofs.WholeRolls.Waits.{waits-exactly}
+use Rattle.dnssec_run.proofs.WholeRolls.Completion.{goes-on, rolls-finish}
 use Rattle.dnssec_run.proofs.Laws.{stays-sound, sides-apart, neighbours-exchange}
 use Rattle.dnssec_run.proofs.running.run.Goals as goal
 
@@ -22,7 +27,10 @@ loop-call-init c =
       left = refl;
       count = search rules;
       run = subst (λ l. IsRun c.args.name [] l) (sym empty) (run_none c.args.name);
-      agrees = subst (Agrees c.new-keyset.result (tree.get_by_text c.new-added.result)) (sym (world_none c.args.name c.in-Ok.entries.items)) (agrees-new c.args.name c.new-keyset.result c.new-added.result c.new-keyset.ensures c.new-added.ensures.empty);
+      agrees = subst (Agrees c.new-keyset.result (tree.get_by_text c.new-added.result))
+          (sym (world_none c.args.name c.in-Ok.entries.items))
+          (agrees-new c.args.name c.new-keyset.result c.new-added.result c.new-keyset.ensures
+          c.new-added.ensures.empty);
       room = search rules;
     }
 
@@ -33,40 +41,93 @@ loop-call-preserved c =
     let name = c.args.name in
     let x = c.in-Some.call in
     let e = c.in_ok-record.field-0 in
-    let steps : into_iter_items at.call-iterator ≡ x ∷ into_iter_items c.next.new.self = c.in-Some.ensures.steps.0 in
-    let here : c.len-at.result + 1 ≡ suc (length at.yielded) = let len = at.entries.ok.0 in omega (arith, c.len-at.ensures, inv.run.count) in
+    let steps : into_iter_items at.call-iterator ≡ x ∷ into_iter_items c.next.new.self =
+    c.in-Some.ensures.steps.0 in
+    let here : c.len-at.result + 1 ≡ suc (length at.yielded) = let len = at.entries.ok.0 in
+    omega (arith, c.len-at.ensures, inv.run.count) in
     let before = world_at name at.yielded at.entries.items (length at.yielded) in
-    let agrees : Agrees c.record.new.keyset (tree.get_by_text c.record.new.added) (stepped (suc (length at.yielded)) before x e.reply) = subst (λ n. Agrees c.record.new.keyset (tree.get_by_text c.record.new.added) (stepped n before x e.reply)) here (c.in_ok-record.ensures.next before inv.agrees) in
-    let ok : IsEntry before (stepped (suc (length at.yielded)) before x e.reply) x e = subst (λ n. IsEntry before (stepped n before x e.reply) x e) here (c.in_ok-record.ensures.entry before inv.agrees) in
-    let items : c.push_reserved.new.self.items ≡ at.entries.items ++ e ∷ [] = c.push_reserved.ensures.items in
-    let more : IsRun name (at.yielded ++ x ∷ []) (at.entries.items ++ e ∷ []) = run_more name at.yielded at.entries.items x e (stepped (suc (length at.yielded)) before x e.reply) inv.run refl ok in
-    let count : length (at.yielded ++ x ∷ []) ≡ suc (length at.yielded) = let l = length-append at.yielded (x ∷ []) in omega arith in
-    let then : stepped (suc (length at.yielded)) before x e.reply ≡ world_at name (at.yielded ++ x ∷ []) c.push_reserved.new.self.items (length (at.yielded ++ x ∷ [])) =
-    sym (world_more name at.yielded at.entries.items x e inv.run.count) ∙ ap (world_at name (at.yielded ++ x ∷ []) (at.entries.items ++ e ∷ [])) (sym count) ∙ ap (λ l. world_at name (at.yielded ++ x ∷ []) l (length (at.yielded ++ x ∷ []))) (sym items) in
+    let agrees : Agrees c.record.new.keyset (tree.get_by_text c.record.new.added)
+    (stepped (suc (length at.yielded)) before x e.reply) =
+    subst (λ n. Agrees c.record.new.keyset (tree.get_by_text c.record.new.added)
+    (stepped n before x e.reply)) here
+    (c.in_ok-record.ensures.next before inv.agrees) in
+    let ok : IsEntry before (stepped (suc (length at.yielded)) before x e.reply) x e =
+    subst (λ n. IsEntry before (stepped n before x e.reply) x e) here
+    (c.in_ok-record.ensures.entry before inv.agrees) in
+    let items : c.push_reserved.new.self.items ≡ at.entries.items ++ e ∷ [] =
+    c.push_reserved.ensures.items in
+    let more : IsRun name (at.yielded ++ x ∷ []) (at.entries.items ++ e ∷ []) =
+    run_more name at.yielded at.entries.items x e
+    (stepped (suc (length at.yielded)) before x e.reply) inv.run refl ok in
+    let count : length (at.yielded ++ x ∷ []) ≡ suc (length at.yielded) = let l =
+    length-append at.yielded (x ∷ []) in omega arith in
+    let then : stepped (suc (length at.yielded)) before x e.reply
+    ≡ world_at name (at.yielded ++ x ∷ []) c.push_reserved.new.self.items
+    (length (at.yielded ++ x ∷ [])) =
+    sym (world_more name at.yielded at.entries.items x e inv.run.count)
+    ∙ ap (world_at name (at.yielded ++ x ∷ []) (at.entries.items ++ e ∷ [])) (sym count)
+    ∙ ap (λ l. world_at name (at.yielded ++ x ∷ []) l (length (at.yielded ++ x ∷ [])))
+    (sym items) in
     record {
       left = append_assoc at.yielded (x ∷ []) _ ∙ rw (← steps) inv.left;
-      count = let was = inv.count in let gone = c.in-Some.ensures.steps.1 in let short = ap length steps in omega arith;
+      count = let was = inv.count in let gone = c.in-Some.ensures.steps.1 in
+          let short = ap length steps in omega arith;
       run = subst (λ l. IsRun name (at.yielded ++ x ∷ []) l) (sym items) more;
       agrees = subst (Agrees c.record.new.keyset (tree.get_by_text c.record.new.added)) then agrees;
-      room = let short = ap length steps in omega (arith, inv.room, count, c.push_reserved.ensures.capacity);
+      room = let short = ap length steps in
+          omega (arith, inv.room, count, c.push_reserved.ensures.capacity);
     }
 
 pub returns-clause-run : goal.returns-clause-run
 returns-clause-run c =
     let at = c.loop-call in
     let none = c.in-None.ensures.steps in
-    let empty : into_iter_items at.call-iterator ≡ [] = nothing_left _ (sym at.invariant.count ∙ none.0) in
-    let all : at.yielded ≡ c.args.calls.items = sym (append-nil at.yielded) ∙ rw empty at at.invariant.left ∙ c.into_iter-call-iterator.ensures.into_iter_gives.0 in
+    let empty : into_iter_items at.call-iterator ≡ [] =
+    nothing_left _ (sym at.invariant.count ∙ none.0) in
+    let all : at.yielded ≡ c.args.calls.items = sym (append-nil at.yielded)
+    ∙ rw empty at at.invariant.left ∙ c.into_iter-call-iterator.ensures.into_iter_gives.0 in
     subst (λ l. IsRun c.args.name l at.entries.items) all at.invariant.run
 
 pub returns-clause-sound : goal.returns-clause-sound
-returns-clause-sound c = stays-sound c.args.name c.args.calls.items c.loop-call.entries.items (returns-clause-run c)
+returns-clause-sound c = stays-sound c.args.name c.args.calls.items c.loop-call.entries.items
+    (returns-clause-run c)
 
 pub returns-clause-sides : goal.returns-clause-sides
-returns-clause-sides c = sides-apart c.args.name c.args.calls.items c.loop-call.entries.items (returns-clause-run c)
+returns-clause-sides c = sides-apart c.args.name c.args.calls.items c.loop-call.entries.items
+    (returns-clause-run c)
 
 pub returns-clause-exchange : goal.returns-clause-exchange
-returns-clause-exchange c = neighbours-exchange c.args.name c.args.calls.items c.loop-call.entries.items (returns-clause-run c)
+returns-clause-exchange c = neighbours-exchange c.args.name c.args.calls.items
+    c.loop-call.entries.items (returns-clause-run c)
 
 pub returns-clause-chain : goal.returns-clause-chain
-returns-clause-chain c = chain-holds c.args.name c.args.calls.items c.loop-call.entries.items (returns-clause-run c)
+returns-clause-chain c = chain-holds c.args.name c.args.calls.items c.loop-call.entries.items
+    (returns-clause-run c)
+
+pub returns-clause-stamps : goal.returns-clause-stamps
+returns-clause-stamps c =
+    never-misses c.args.name c.args.calls.items c.loop-call.entries.items (returns-clause-run c)
+
+pub returns-clause-settled : goal.returns-clause-settled
+returns-clause-settled c =
+    settles-between c.args.name c.args.calls.items c.loop-call.entries.items (returns-clause-run c)
+
+pub returns-clause-waits : goal.returns-clause-waits
+returns-clause-waits c =
+    waits-exactly c.args.name c.args.calls.items c.loop-call.entries.items (returns-clause-run c)
+
+pub returns-clause-goes_on : goal.returns-clause-goes_on
+returns-clause-goes_on c =
+    goes-on c.args.name c.args.calls.items c.loop-call.entries.items (returns-clause-run c)
+
+pub returns-clause-finishes : goal.returns-clause-finishes
+returns-clause-finishes c =
+    rolls-finish c.args.name c.args.calls.items c.loop-call.entries.items (returns-clause-run c)
+
+pub returns-clause-changes : goal.returns-clause-changes
+returns-clause-changes c =
+    changes-as-asked c.args.name c.args.calls.items c.loop-call.entries.items (returns-clause-run c)
+
+pub returns-clause-retires : goal.returns-clause-retires
+returns-clause-retires c =
+    retires-as-asked c.args.name c.args.calls.items c.loop-call.entries.items (returns-clause-run c)

@@ -1,0 +1,6 @@
+pub mod Moment
+pub mod State
+pub mod Key
+pub mod RollTable
+pub mod Setters
+pub mod Texts

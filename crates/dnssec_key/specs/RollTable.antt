@@ -1,0 +1,428 @@
+-- The six rolls as columns of one table. A column says what a start puts on a new key, and for each
+-- half of the roll which stamps its report writes, which keys its wait checks and what the wait
+-- then does, with what is asked of the operator. Tests are on the flags before the call; what a
+-- column doesn't name stays.
+use Rattle.std.specs.Prelude.{ℕ, Bool, true, false, not, ◌||◌, if◌then◌else◌, Option, None}
+use Rattle.std.specs.Prelude.{Some, List, [], ◌∷◌}
+use Rattle.dnssec_key.specs.declared.key.KeyType.{KeyType}
+use Rattle.dnssec_key.specs.declared.key.KeyType.TheVariants.{Ksk, Zsk, Csk, Include}
+use Rattle.dnssec_key.specs.declared.key.Stamp.{Stamp}
+use Rattle.dnssec_key.specs.declared.key.Stamped.{Stamped}
+use Rattle.dnssec_key.specs.declared.key.Stamp.TheVariants.{Visible, DsVisible, RrsigVisible}
+use Rattle.dnssec_key.specs.declared.key.Stamp.TheVariants.{Published, Withdrawn}
+use Rattle.dnssec_key.specs.declared.roll.Half.{Half as HalfOfCode}
+use Rattle.dnssec_key.specs.declared.roll.Half.TheVariants as code
+use Rattle.dnssec_key.specs.declared.roll.RollType.{RollType}
+use Rattle.dnssec_key.specs.declared.roll.RollType.TheVariants.{KskRoll, KskDoubleDsRoll}
+use Rattle.dnssec_key.specs.declared.roll.RollType.TheVariants.{ZskRoll, ZskDoubleSignatureRoll}
+use Rattle.dnssec_key.specs.declared.roll.RollType.TheVariants.{CskRoll, AlgorithmRoll}
+use Rattle.dnssec_key.specs.declared.roll.RollState.{RollState}
+use Rattle.dnssec_key.specs.declared.roll.RollState.TheVariants.{Propagation1, CacheExpire1}
+use Rattle.dnssec_key.specs.declared.roll.RollState.TheVariants.{Propagation2, CacheExpire2}
+use Rattle.dnssec_key.specs.declared.roll.RollState.TheVariants.{Done}
+use Rattle.dnssec_key.specs.declared.roll.Action.{Action}
+use Rattle.dnssec_key.specs.declared.roll.Action.TheVariants.{UpdateDnskeyRrset, CreateCdsRrset}
+use Rattle.dnssec_key.specs.declared.roll.Action.TheVariants.{RemoveCdsRrset, UpdateDsRrset}
+use Rattle.dnssec_key.specs.declared.roll.Action.TheVariants.{UpdateRrsig}
+use Rattle.dnssec_key.specs.declared.roll.Action.TheVariants.{ReportDnskeyPropagated}
+use Rattle.dnssec_key.specs.declared.roll.Action.TheVariants.{WaitDnskeyPropagated}
+use Rattle.dnssec_key.specs.declared.roll.Action.TheVariants.{ReportDsPropagated}
+use Rattle.dnssec_key.specs.declared.roll.Action.TheVariants.{WaitDsPropagated}
+use Rattle.dnssec_key.specs.declared.roll.Action.TheVariants.{ReportRrsigPropagated}
+use Rattle.dnssec_key.specs.declared.roll.Action.TheVariants.{WaitRrsigPropagated}
+use Rattle.dnssec_key.specs.State.{Flags, Stamps, is_old, is_leaving, kept_present, kept_signing}
+use Rattle.dnssec_key.specs.State.{kept_at_parent, old_present, old_at_parent, old_silent}
+use Rattle.dnssec_key.specs.Key.{KeyParts, ksk, zsk, ksk_role, zsk_role, any_key, zone_key}
+use Rattle.dnssec_key.specs.Key.{every_key, no_key, either}
+
+-- ---- what happens to one role, in the operator's words
+
+-- the key goes into the DNSKEY set (RFC 6781, section 4.1.1.1)
+abbrev pub comes_in : Flags → Flags
+comes_in s = record s { present = true }
+
+-- it goes into the DNSKEY set, and signs (RFC 6781, section 4.1)
+abbrev pub comes_in_signing : Flags → Flags
+comes_in_signing s = record s { present = true; signer = true }
+
+-- its DS goes to the parent, ahead of the key (RFC 6781, section 4.1.2)
+abbrev pub ds_comes_in : Flags → Flags
+ds_comes_in s = record s { at_parent = true }
+
+-- keys in the DNSKEY set that stay have a DS from now on, and no others (RFC 6781, section 4.1.2)
+abbrev pub ds_follows : Flags → Flags
+ds_follows s = if s.present then record s { at_parent = not s.old } else s
+
+-- those that leave drop out, those with a DS that stay come in for them (RFC 6781, section 4.1.2)
+abbrev pub keys_change_places : Flags → Flags
+keys_change_places s =
+    if old_present s then record s { present = false; signer = false }
+    else (if kept_at_parent s then record s { present = true; signer = true } else s)
+
+-- published keys that stay sign the zone from now on, old ones don't (RFC 6781, section 4.1.1.1)
+abbrev pub signatures_follow : Flags → Flags
+signatures_follow s =
+    if kept_present s then record s { signer = true }
+    else (if s.old then record s { signer = false } else s)
+
+-- a key that leaves drops out of the DNSKEY set, and signs no more (RFC 6781, section 4.1)
+abbrev pub leaves_dnskey : Flags → Flags
+leaves_dnskey s = record s { present = false; signer = false }
+
+-- the DS of a key that leaves is taken from the parent (RFC 6781, section 4.1.2)
+abbrev pub leaves_parent : Flags → Flags
+leaves_parent s = record s { at_parent = false }
+
+-- a key that signs no more drops out of the DNSKEY set (RFC 6781, section 4.1.1.1)
+abbrev pub leaves_silently : Flags → Flags
+leaves_silently s = record s { present = false }
+
+-- nothing happens to it (RFC 6781, section 4.1)
+abbrev pub stays : Flags → Flags
+stays s = s
+
+-- it happens to those alone that pass (RFC 6781, section 4.1)
+abbrev pub only : (Flags → Bool) → (Flags → Flags) → Flags → Flags
+only p f s = if p s then f s else s
+
+-- ---- which roles it happens to
+
+-- at the role of a KSK, and of no CSK (RFC 6781, section 3.1)
+abbrev pub at_ksk : (Flags → Flags) → KeyType → KeyType
+at_ksk f (Ksk s) = Ksk (f s)
+at_ksk f (Zsk s) = Zsk s
+at_ksk f (Csk s t) = Csk s t
+at_ksk f (Include s) = Include s
+
+-- at the role of a ZSK, and of no CSK (RFC 6781, section 3.1)
+abbrev pub at_zsk : (Flags → Flags) → KeyType → KeyType
+at_zsk f (Ksk s) = Ksk s
+at_zsk f (Zsk s) = Zsk (f s)
+at_zsk f (Csk s t) = Csk s t
+at_zsk f (Include s) = Include s
+
+-- f at each KSK role, g at each ZSK role (RFC 6781, section 3.1)
+abbrev pub at_roles : (Flags → Flags) → (Flags → Flags) → KeyType → KeyType
+at_roles f g (Ksk s) = Ksk (f s)
+at_roles f g (Zsk s) = Zsk (g s)
+at_roles f g (Csk s t) = Csk (f s) (g t)
+at_roles f g (Include s) = Include s
+
+-- at all roles of a key whose only role, or KSK role, passes (RFC 6781, section 4.1.4)
+abbrev pub at_whole_keys : (Flags → Bool) → (Flags → Flags) → KeyType → KeyType
+at_whole_keys p f (Ksk s) = Ksk (only p f s)
+at_whole_keys p f (Zsk s) = Zsk (only p f s)
+at_whole_keys p f (Csk s t) = if p s then Csk (f s) (f t) else Csk s t
+at_whole_keys p f (Include s) = Include s
+
+-- at no role (RFC 6781, section 3.1)
+abbrev pub at_none : KeyType → KeyType
+at_none k = k
+
+-- ---- the columns
+
+-- on which keys each stamp is written (RFC 7583, section 3)
+pub record Stamping : Type 0 where
+  pub published : KeyType → Bool
+  pub visible : KeyType → Bool
+  pub ds_visible : KeyType → Bool
+  pub rrsig_visible : KeyType → Bool
+  pub withdrawn : KeyType → Bool
+
+-- no stamp but those that a column names (RFC 7583, section 3)
+abbrev pub no_stamp : Stamping
+no_stamp = record {
+  published = no_key;
+  visible = no_key;
+  ds_visible = no_key;
+  rrsig_visible = no_key;
+  withdrawn = no_key;
+}
+
+-- the two halves of a roll (RFC 6781, section 4.1)
+pub data Half : Type 0 where
+  First : Half
+  Second : Half
+
+-- the half that the code means (RFC 6781, section 4.1)
+abbrev pub which : HalfOfCode → Half
+which code.First = First
+which code.Second = Second
+
+-- half of a roll: a change spreads, is reported, and its wait passes (RFC 6781, section 4.1)
+pub record HalfRoll : Type 0 where
+  pub report : Stamping  -- what the report stamps
+  pub checks : KeyType → Bool  -- the keys that the wait checks
+  pub reads : Stamp  -- the stamp that it reads of them
+  pub moves : KeyType → KeyType  -- what happens once the wait is over
+  pub stamps : Stamping  -- and what is stamped then
+
+-- a roll: its start, its two halves, and what is asked of the operator (RFC 6781, section 4.1)
+pub record Column : Type 0 where
+  pub comes : KeyType → KeyType  -- what a start puts on a new key
+  pub stamps : Stamping  -- and what it stamps
+  pub asks : List Action  -- what is asked after the start
+  pub first : HalfRoll
+  pub asks_between : List Action  -- what is asked after the first wait
+  pub second : HalfRoll
+  pub asks_last : List Action  -- what is asked after the second wait
+
+-- Double-Signature KSK roll: both sign the DNSKEY set, then the DS moves (RFC 6781, section 4.1.2)
+abbrev pub ksk_double_signature : Column
+ksk_double_signature = record {
+  comes = at_ksk comes_in_signing;
+  stamps = record no_stamp { published = every_key };
+  asks = UpdateDnskeyRrset ∷ ReportDnskeyPropagated ∷ [];
+  first = record {
+    report = record no_stamp { visible = ksk kept_present };
+    checks = ksk (λ s. is_leaving s || kept_present s);
+    reads = Visible;
+    moves = at_ksk ds_follows;
+    stamps = no_stamp;
+  };
+  asks_between = CreateCdsRrset ∷ UpdateDsRrset ∷ ReportDsPropagated ∷ [];
+  second = record {
+    report = record no_stamp { ds_visible = ksk kept_at_parent };
+    checks = ksk (λ s. is_leaving s || kept_at_parent s);
+    reads = DsVisible;
+    moves = at_ksk (only old_present leaves_dnskey);
+    stamps = record no_stamp { withdrawn = ksk old_present };
+  };
+  asks_last = RemoveCdsRrset ∷ UpdateDnskeyRrset ∷ WaitDnskeyPropagated ∷ [];
+}
+
+-- Double-DS KSK roll: both keys have a DS, then the keys change places (RFC 6781, section 4.1.2)
+abbrev pub ksk_double_ds : Column
+ksk_double_ds = record {
+  comes = at_ksk ds_comes_in;
+  stamps = no_stamp;
+  asks = CreateCdsRrset ∷ UpdateDsRrset ∷ ReportDsPropagated ∷ [];
+  first = record {
+    report = record no_stamp { ds_visible = ksk kept_at_parent };
+    checks = ksk kept_at_parent;
+    reads = DsVisible;
+    moves = at_ksk keys_change_places;
+    stamps = record no_stamp { published = ksk kept_at_parent };
+  };
+  asks_between = RemoveCdsRrset ∷ UpdateDnskeyRrset ∷ ReportDnskeyPropagated ∷ [];
+  second = record {
+    report = record no_stamp { visible = ksk kept_present };
+    checks = ksk kept_present;
+    reads = Visible;
+    moves = at_ksk (only old_at_parent leaves_parent);
+    stamps = record no_stamp { withdrawn = ksk old_at_parent };
+  };
+  asks_last = CreateCdsRrset ∷ UpdateDsRrset ∷ WaitDsPropagated ∷ [];
+}
+
+-- Pre-Publish ZSK roll: the new key is published before it signs (RFC 6781, section 4.1.1.1)
+abbrev pub zsk_pre_publish : Column
+zsk_pre_publish = record {
+  comes = at_zsk comes_in;
+  stamps = record no_stamp { published = every_key };
+  asks = UpdateDnskeyRrset ∷ ReportDnskeyPropagated ∷ [];
+  first = record {
+    report = record no_stamp { visible = zsk kept_present };
+    checks = zsk kept_present;
+    reads = Visible;
+    moves = at_zsk signatures_follow;
+    stamps = no_stamp;
+  };
+  asks_between = UpdateRrsig ∷ ReportRrsigPropagated ∷ [];
+  second = record {
+    report = record no_stamp { rrsig_visible = zsk kept_signing };
+    checks = zsk kept_signing;
+    reads = RrsigVisible;
+    moves = at_zsk (only old_silent leaves_silently);
+    stamps = record no_stamp { withdrawn = zsk old_silent };
+  };
+  asks_last = UpdateDnskeyRrset ∷ WaitDnskeyPropagated ∷ [];
+}
+
+-- Double-Signature ZSK roll: both keys sign the zone for a while (RFC 6781, section 4.1.1.2)
+abbrev pub zsk_double_signature : Column
+zsk_double_signature = record {
+  comes = at_zsk comes_in_signing;
+  stamps = record no_stamp { published = every_key };
+  asks = UpdateDnskeyRrset ∷ UpdateRrsig ∷ ReportDnskeyPropagated ∷ ReportRrsigPropagated ∷ [];
+  first = record {
+    report = record no_stamp { visible = zsk kept_present; rrsig_visible = zsk kept_present };
+    checks = zsk kept_present;
+    reads = Visible;
+    moves = at_zsk (only is_old leaves_dnskey);
+    stamps = record no_stamp { withdrawn = zsk is_old };
+  };
+  asks_between = UpdateDnskeyRrset ∷ UpdateRrsig ∷ ReportDnskeyPropagated ∷ ReportRrsigPropagated ∷
+      [];
+  second = record {
+    report = no_stamp;
+    checks = zsk kept_signing;
+    reads = RrsigVisible;
+    moves = at_none;
+    stamps = no_stamp;
+  };
+  asks_last = [];
+}
+
+-- CSK roll: the DNSKEY set, then DS and signatures (no way of RFC 6781, section 4.1.3, is like it)
+abbrev pub csk_roll : Column
+csk_roll = record {
+  comes = at_roles comes_in_signing comes_in;
+  stamps = record no_stamp { published = every_key };
+  asks = UpdateDnskeyRrset ∷ ReportDnskeyPropagated ∷ [];
+  first = record {
+    report = record no_stamp { visible = any_key kept_present };
+    checks = any_key kept_present;
+    reads = Visible;
+    moves = at_roles ds_follows signatures_follow;
+    stamps = no_stamp;
+  };
+  asks_between = CreateCdsRrset ∷ UpdateDsRrset ∷ UpdateRrsig ∷ ReportDsPropagated ∷
+      ReportRrsigPropagated ∷ [];
+  second = record {
+    report = record no_stamp {
+      ds_visible = ksk_role kept_present;
+      rrsig_visible = zsk_role kept_signing;
+    };
+    checks = zsk_role kept_signing;
+    reads = RrsigVisible;
+    moves = at_roles (only old_present leaves_dnskey) (only old_silent leaves_silently);
+    stamps = record no_stamp { withdrawn = either (ksk_role old_present) (zsk_role old_silent) };
+  };
+  asks_last = RemoveCdsRrset ∷ UpdateDnskeyRrset ∷ WaitDnskeyPropagated ∷ [];
+}
+
+-- algorithm roll, liberal: keys and signatures at once, then the DS (RFC 6781, section 4.1.4)
+abbrev pub algorithm_roll : Column
+algorithm_roll = record {
+  comes = at_roles comes_in_signing comes_in_signing;
+  stamps = record no_stamp { published = every_key };
+  asks = UpdateDnskeyRrset ∷ UpdateRrsig ∷ ReportDnskeyPropagated ∷ ReportRrsigPropagated ∷ [];
+  first = record {
+    report = record no_stamp {
+      visible = any_key kept_present;
+      rrsig_visible = zone_key kept_present;
+    };
+    checks = any_key kept_present;
+    reads = Visible;
+    moves = at_roles ds_follows stays;
+    stamps = no_stamp;
+  };
+  asks_between = CreateCdsRrset ∷ UpdateDsRrset ∷ ReportDsPropagated ∷ [];
+  second = record {
+    report = record no_stamp { ds_visible = ksk_role kept_present };
+    checks = ksk_role kept_signing;
+    reads = DsVisible;
+    moves = at_whole_keys old_present leaves_dnskey;
+    stamps = record no_stamp { withdrawn = any_key old_present };
+  };
+  asks_last = RemoveCdsRrset ∷ UpdateDnskeyRrset ∷ UpdateRrsig ∷ WaitDnskeyPropagated ∷
+      WaitRrsigPropagated ∷ [];
+}
+
+-- the column of each roll (RFC 6781, section 4.1)
+unfoldable pub column : RollType → Column
+column KskRoll = ksk_double_signature
+column KskDoubleDsRoll = ksk_double_ds
+column ZskRoll = zsk_pre_publish
+column ZskDoubleSignatureRoll = zsk_double_signature
+column CskRoll = csk_roll
+column AlgorithmRoll = algorithm_roll
+
+-- a half of a roll, by its column (RFC 6781, section 4.1)
+abbrev pub half_of : RollType → Half → HalfRoll
+half_of roll First = (column roll).first
+half_of roll Second = (column roll).second
+
+-- ---- the table at one key
+
+-- the moment of a stamp, where it was written (RFC 7583, section 3)
+abbrev pub stamp_at : Stamp → Stamps → Option ℕ
+stamp_at Published t = t.published
+stamp_at Visible t = t.visible
+stamp_at DsVisible t = t.ds_visible
+stamp_at RrsigVisible t = t.rrsig_visible
+stamp_at Withdrawn t = t.withdrawn
+
+-- which stamps are written on a key of this kind (RFC 7583, section 3)
+abbrev pub written : Stamping → KeyType → Stamped
+written stamps k = record {
+  published = stamps.published k;
+  visible = stamps.visible k;
+  ds_visible = stamps.ds_visible k;
+  rrsig_visible = stamps.rrsig_visible k;
+  withdrawn = stamps.withdrawn k;
+}
+
+-- a stamp that is written at now, or stays as it was (RFC 7583, section 3)
+abbrev pub stamp_if : Bool → ℕ → Option ℕ → Option ℕ
+stamp_if b now before = if b then Some now else before
+
+-- the stamps with those that are written at now (RFC 7583, section 3)
+abbrev pub with_stamps : Stamped → ℕ → Stamps → Stamps
+with_stamps w now t = record {
+  creation = t.creation;
+  published = stamp_if w.published now t.published;
+  visible = stamp_if w.visible now t.visible;
+  ds_visible = stamp_if w.ds_visible now t.ds_visible;
+  rrsig_visible = stamp_if w.rrsig_visible now t.rrsig_visible;
+  withdrawn = stamp_if w.withdrawn now t.withdrawn;
+}
+
+-- a key whose flags move and whose stamps are written, by the flags before (RFC 6781, section 4.1)
+abbrev pub changed : (KeyType → KeyType) → Stamping → ℕ → KeyParts → KeyParts
+changed moves stamps now k = record k {
+  keytype = moves k.keytype;
+  timestamps = with_stamps (written stamps k.keytype) now k.timestamps;
+}
+
+-- it is on its way out from now on (RFC 6781, section 4.1)
+abbrev pub turns_old : Flags → Flags
+turns_old s = record s { old = true }
+
+-- a key that a start lists as old (RFC 6781, section 4.1)
+abbrev pub marked_old : KeyParts → KeyParts
+marked_old k = record k { keytype = at_roles turns_old turns_old k.keytype }
+
+-- a key that a start lists as new (RFC 6781, section 4.1)
+abbrev pub marked_new : RollType → ℕ → KeyParts → KeyParts
+marked_new roll = changed (column roll).comes (column roll).stamps
+
+-- a key after a start, by whether it is listed as old, and whether as new (RFC 6781, section 4.1)
+abbrev pub after_start : RollType → ℕ → Bool → Bool → KeyParts → KeyParts
+after_start roll now is_old is_new k =
+    let old = (if is_old then marked_old k else k) in
+    if is_new then marked_new roll now old else old
+
+-- a key after a report (RFC 6781, section 4.1)
+abbrev pub after_report : RollType → Half → ℕ → KeyParts → KeyParts
+after_report roll half = changed at_none (half_of roll half).report
+
+-- a key after an accepted wait (RFC 6781, section 4.1)
+abbrev pub after_wait : RollType → Half → ℕ → KeyParts → KeyParts
+after_wait roll half = changed (half_of roll half).moves (half_of roll half).stamps
+
+-- ---- phases, and what is asked in them
+
+-- old data with this TTL leaves the caches (RFC 6781, section 4.1)
+abbrev pub expiring : Half → ℕ → RollState
+expiring First ttl = CacheExpire1 ttl
+expiring Second ttl = CacheExpire2 ttl
+
+-- the phase behind the wait (RFC 6781, section 4.1)
+abbrev pub behind : Half → RollState
+behind First = Propagation2
+behind Second = Done
+
+-- what a roll asks of the operator in a phase (RFC 6781, section 4.1)
+abbrev pub actions_of : RollType → RollState → List Action
+actions_of roll Propagation1 = (column roll).asks
+actions_of roll (CacheExpire1 ttl) = []
+actions_of roll Propagation2 = (column roll).asks_between
+actions_of roll (CacheExpire2 ttl) = []
+actions_of roll Done = (column roll).asks_last
+
+-- the same of a roll that may not be in progress (RFC 6781, section 4.1)
+abbrev pub actions_at : RollType → Option RollState → List Action
+actions_at roll None = []
+actions_at roll (Some phase) = actions_of roll phase

@@ -1,0 +1,23 @@
+//! Keys of a zone, and what the steps of each roll do to one of them: moments, stamps, the states of
+//! a key's roles, refusals and their texts, and the table of the six rolls.
+//!
+//! `dnssec_keyset` re-exports what its callers name. What it needs besides, it finds here.
+#![tactic(auto)]
+
+mod comparisons;
+mod error;
+mod key;
+mod roll;
+mod table;
+mod text;
+mod time;
+
+pub use comparisons::{
+    equal_errors_are_one, equal_kinds_are_one, equal_moments_are_one, equal_phases_are_one,
+    equal_states_are_one, moments_are_in_order_of_time,
+};
+pub use error::Error;
+pub use key::{Available, Key, KeyState, KeyTimestamps, KeyType, Setting, Stamp, Stamped};
+pub use roll::{Action, Half, RollState, RollType};
+pub use table::{is_kept_at_parent, is_kept_present};
+pub use time::UnixTime;

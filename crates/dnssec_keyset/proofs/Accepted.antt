@@ -1,0 +1,111 @@
+-- What an accepted or a refused call found and left: for the chain of trust and the laws of runs.
+use Rattle.std.proofs.Common.{◌≡◌, inl, inr, Bool, true, false, refl, sym, ◌∙◌, ap, Option, None}
+use Rattle.std.proofs.Common.{Some}
+use Rattle.std.specs.Prelude.{if◌then◌else◌, is_some}
+use Rattle.std.proofs.lemmas.Bool.{true≢false}
+use Rattle.std.proofs.lemmas.Option.{none-some}
+use Rattle.dnssec_key.specs.declared.roll.RollState.{RollState}
+use Rattle.dnssec_key.specs.declared.roll.RollState.TheVariants.{Propagation1, CacheExpire1}
+use Rattle.dnssec_key.specs.declared.roll.RollState.TheVariants.{Propagation2, CacheExpire2}
+use Rattle.dnssec_key.specs.declared.roll.RollState.TheVariants.{Done}
+use Rattle.dnssec_key.specs.declared.error.Error.{Error}
+use Rattle.dnssec_keyset.specs.KeySet.{KeySetParts}
+use Rattle.dnssec_key.specs.RollTable.{First, Second}
+use Rattle.dnssec_key.specs.Setters.{Decoupled, set_by}
+use Rattle.dnssec_keyset.specs.Step.{deletion_refusal}
+use Rattle.dnssec_keyset.specs.Step as keyset
+use Rattle.dnssec_keyset.proofs.Flags.{is_stale}
+use Rattle.dnssec_key.specs.Key.{KeyParts}
+
+-- a refused call left the set as it was
+pub refused_same : (v : keyset.Verdict) (old new : KeySetParts) (c : keyset.Call) (cause : Error)
+    → keyset.StepBy v old c (keyset.Refused cause) new → new ≡ old
+refused_same (keyset.Barred e) old new c cause h = h.1
+refused_same (keyset.Early left) old new c cause h = h.1
+refused_same keyset.Clear old new c cause (inr h) = h.2
+refused_same keyset.Clear old new c cause (inl h) = absurd (accepts c h.0)
+  where
+    accepts : (c : keyset.Call) → keyset.Refused cause ≡ keyset.accepted_reply c → ⊥
+    accepts (keyset.AddKey r k) e = cc
+    accepts (keyset.Set r s) e = cc
+    accepts (keyset.DeleteKey r) e = cc
+    accepts (keyset.StartRoll r o n t) e = cc
+    accepts (keyset.Report r h ttl t) e = cc
+    accepts (keyset.Wait r h t) e = cc
+    accepts (keyset.RollDone r) e = cc
+
+abbrev pub is_refused : keyset.Reply → Bool
+is_refused (keyset.Refused cause) = true
+is_refused _ = false
+
+-- an accepted call had a clear verdict, made its change, and answered what is due
+pub accepted_changes : (v : keyset.Verdict) (old new : KeySetParts) (c : keyset.Call)
+    (r : keyset.Reply) → is_refused r ≡ false → keyset.StepBy v old c r new → (v ≡ keyset.Clear)
+    × keyset.Changes old c new × (r ≡ keyset.accepted_reply c)
+accepted_changes (keyset.Barred e) old new c r a h =
+    absurd (true≢false (sym (ap is_refused h.0) ∙ a))
+accepted_changes (keyset.Early left) old new c r a h =
+    absurd (true≢false (sym (ap is_refused h.0.1) ∙ a))
+accepted_changes keyset.Clear old new c r a (inl h) = (refl, h.1, h.0)
+accepted_changes keyset.Clear old new c r a (inr h) =
+    absurd (true≢false (sym (ap is_refused h.1) ∙ a))
+
+pub no_some : {A : Type 0} (o : Option A) → is_some o ≡ false → o ≡ None
+no_some None e = refl
+no_some (Some x) e = absurd (true≢false e)
+
+-- of a chain of causes that gives none, none stands
+pub no_error : (b : Bool) (e : Error) (o : Option Error) → (if b then Some e else o) ≡ None
+    → (b ≡ false) × (o ≡ None)
+no_error true e o h = absurd (none-some e (sym h))
+no_error false e o h = (refl, h)
+
+-- a key that may be deleted is there, and stale
+pub gone_key : (o : Option KeyParts) → deletion_refusal o ≡ None → (k : KeyParts) × (o ≡ Some k)
+    × (is_stale k.keytype ≡ true)
+gone_key None e = absurd (none-some _ (sym e))
+gone_key (Some k) e = by (is_stale k.keytype) refl
+  where
+    by : (b : Bool) → is_stale k.keytype ≡ b → (j : KeyParts) × (Some k ≡ Some j)
+        × (is_stale j.keytype ≡ true)
+    by true t = (k, refl, t)
+    by false t =
+        absurd (none-some _ (sym (sym (ap (λ b. if b then None else Some Error.KeyNotOld) t) ∙ e)))
+
+-- the phases in which a report and the end of a roll are accepted
+pub spreads_first : (o : Option RollState) → keyset.report_refusal First o ≡ None
+    → o ≡ Some Propagation1
+spreads_first None e = absurd (none-some _ (sym e))
+spreads_first (Some Propagation1) e = refl
+spreads_first (Some (CacheExpire1 ttl)) e = absurd (none-some _ (sym e))
+spreads_first (Some Propagation2) e = absurd (none-some _ (sym e))
+spreads_first (Some (CacheExpire2 ttl)) e = absurd (none-some _ (sym e))
+spreads_first (Some Done) e = absurd (none-some _ (sym e))
+
+pub spreads_second : (o : Option RollState) → keyset.report_refusal Second o ≡ None
+    → o ≡ Some Propagation2
+spreads_second None e = absurd (none-some _ (sym e))
+spreads_second (Some Propagation1) e = absurd (none-some _ (sym e))
+spreads_second (Some (CacheExpire1 ttl)) e = absurd (none-some _ (sym e))
+spreads_second (Some Propagation2) e = refl
+spreads_second (Some (CacheExpire2 ttl)) e = absurd (none-some _ (sym e))
+spreads_second (Some Done) e = absurd (none-some _ (sym e))
+
+pub finishes : (o : Option RollState) → keyset.end_refusal o ≡ None → o ≡ Some Done
+finishes None e = absurd (none-some _ (sym e))
+finishes (Some Propagation1) e = absurd (none-some _ (sym e))
+finishes (Some (CacheExpire1 ttl)) e = absurd (none-some _ (sym e))
+finishes (Some Propagation2) e = absurd (none-some _ (sym e))
+finishes (Some (CacheExpire2 ttl)) e = absurd (none-some _ (sym e))
+finishes (Some Done) e = refl
+
+-- whether it is decoupled is no matter of its kind
+pub decoupled_kind : (b value : Bool) (k : KeyParts)
+    → (if b then set_by (Decoupled value) k else k).keytype ≡ k.keytype
+decoupled_kind true value k = refl
+decoupled_kind false value k = refl
+
+-- an add is accepted only at a reference that no key has
+pub add_free : (a b : Bool) (x y : Error)
+    → (if a then Some x else (if b then Some y else None)) ≡ None → b ≡ false
+add_free a b x y e = (no_error b y None (no_error a x (if b then Some y else None) e).1).0

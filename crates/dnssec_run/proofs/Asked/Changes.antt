@@ -1,0 +1,317 @@
+-- A call that sets no flag changes only what it asks to publish: for the clause `changes`.
+use Rattle.dnssec_keyset.proofs.Accepted.{no_some, gone_key, add_free}
+use Rattle.std.proofs.Common.{[], ◌≡◌, ℕ, zero, suc, ◌≤◌, ◌⊎◌, inl, inr, Bool, true, false, ◌||◌}
+use Rattle.std.proofs.Common.{refl, sym, ◌∙◌, ap, subst, arith, List, length, Option, None, Some}
+use Rattle.std.specs.Prelude.{slice_get, is_some, if◌then◌else◌}
+use Rattle.std.specs.List.{Contains, list_any}
+use Rattle.std.specs.Option.{option_map, option_map_or}
+use Rattle.std.specs.FinMap.{get}
+use Rattle.std.specs.Str.{bytes_eq}
+use Rattle.std.specs.Cmp.Lexicographic.{bytes_decides}
+use Rattle.std.proofs.lemmas.Bool.{true≢false, and_parts}
+use Rattle.std.proofs.lemmas.Option.{none-some, slice_get_cases}
+use Rattle.dnssec_key.specs.declared.roll.Action.{Action}
+use Rattle.dnssec_key.specs.declared.key.KeyType.{KeyType}
+use Rattle.dnssec_key.specs.Key.{KeyParts}
+use Rattle.dnssec_keyset.specs.KeySet.{KeySetParts}
+use Rattle.dnssec_key.specs.RollTable.{First, Second}
+use Rattle.dnssec_key.specs.Setters.{Setting, Decoupled, Present, Signer, AtParent, Stale}
+use Rattle.dnssec_key.specs.Setters.{VisibleAt, DsVisibleAt, RrsigVisibleAt, set_by}
+use Rattle.dnssec_keyset.specs.Start.{is_listed}
+use Rattle.dnssec_keyset.specs.Step as keyset
+use Rattle.dnssec_run.specs.declared.call.Call.{Call}
+use Rattle.dnssec_run.specs.declared.record.Entry.{Entry}
+use Rattle.dnssec_run.specs.declared.record.Reply.{Reply}
+use Rattle.dnssec_run.specs.declared.record.Reply.TheVariants as reply
+use Rattle.dnssec_run.specs.Asked.{asked_by, asked_at, update_of, is_flag_setting, sets_flag}
+use Rattle.dnssec_run.specs.Asked.{SamePublished, ChangesAsAsked}
+use Rattle.dnssec_run.specs.Published.{World, shown, in_ds, in_dnskey, signs_dnskey, signs_zone}
+use Rattle.dnssec_run.specs.Record.{IsRun, call_of, reply_of, is_accepted, world_at, with_added}
+use Rattle.dnssec_run.specs.Record.{reference_added, added_by}
+use Rattle.dnssec_run.specs.Safe.{SetKind, Ds, Dnskey, ZoneSigners, position_at, told, blank}
+use Rattle.dnssec_run.proofs.Positions.{same-shown, shown-none}
+use Rattle.dnssec_run.proofs.Chain.Tale.{start-parts}
+use Rattle.dnssec_keyset.proofs.Tests.{alike-same}
+use Rattle.dnssec_run.proofs.Chain.Allowed.{clear_cause}
+use Rattle.dnssec_run.proofs.Chain.Trust.{adds_blank, plainly}
+use Rattle.dnssec_run.proofs.Asked.Actions.{updates, asks_update, start-asks, wait-asks, same_in}
+use Rattle.dnssec_run.proofs.Asked.Actions.{none_in, idle-unseen, same-itself}
+use Rattle.dnssec_run.proofs.WholeRolls.Replies.{accepted_step, refused_step, added-next}
+
+-- ---- look-ups that show the same
+
+abbrev passes : (KeyType → Bool) → Option KeyParts → Bool
+passes p o = option_map_or (λ (k : KeyParts). p k.keytype) o false
+
+-- in the sets of a kind there are both keys, or neither
+abbrev Agree : SetKind → Option KeyParts → Option KeyParts → Type 0
+Agree Ds o u = passes in_ds o ≡ passes in_ds u
+Agree Dnskey o u = (passes in_dnskey o ≡ passes in_dnskey u)
+    × (passes signs_dnskey o ≡ passes signs_dnskey u)
+Agree ZoneSigners o u = passes signs_zone o ≡ passes signs_zone u
+
+agree-same : (kind : SetKind) (o : Option KeyParts) → Agree kind o o
+agree-same Ds o = refl
+agree-same Dnskey o = (refl, refl)
+agree-same ZoneSigners o = refl
+
+agree-keys : (kind : SetKind) (j k : KeyParts) → same_in kind j.keytype k.keytype ≡ true
+    → Agree kind (Some j) (Some k)
+agree-keys Ds j k e = alike-same _ _ e
+agree-keys Dnskey j k e = let x = and_parts _ _ e in (alike-same _ _ x.0, alike-same _ _ x.1)
+agree-keys ZoneSigners j k e = alike-same _ _ e
+
+agree-gone : (kind : SetKind) (k : KeyParts) → none_in kind k.keytype ≡ true
+    → Agree kind None (Some k)
+agree-gone Ds k e = sym (alike-same _ _ e)
+agree-gone Dnskey k e =
+    let x = and_parts _ _ e in (sym (alike-same _ _ x.0), sym (alike-same _ _ x.1))
+agree-gone ZoneSigners k e = sym (alike-same _ _ e)
+
+agree-new : (kind : SetKind) (k : KeyParts) → none_in kind k.keytype ≡ true
+    → Agree kind (Some k) None
+agree-new Ds k e = alike-same _ _ e
+agree-new Dnskey k e = let x = and_parts _ _ e in (alike-same _ _ x.0, alike-same _ _ x.1)
+agree-new ZoneSigners k e = alike-same _ _ e
+
+agree-mapped : (kind : SetKind) (f : KeyParts → KeyParts) (o : Option KeyParts)
+    → ((k : KeyParts) → same_in kind (f k).keytype k.keytype ≡ true)
+    → Agree kind (option_map f o) o
+agree-mapped kind f None e = agree-same kind None
+agree-mapped kind f (Some k) e = agree-keys kind (f k) k (e k)
+
+same-kind : (kind : SetKind) (j k : KeyType) → j ≡ k → same_in kind j k ≡ true
+same-kind kind j k e = ap (λ j. same_in kind j k) e ∙ same-itself kind k
+
+-- ---- one call
+
+set-kind : (s : Setting) → is_flag_setting s ≡ false → (b : Bool) (k : KeyParts)
+    → (if b then set_by s k else k).keytype ≡ k.keytype
+set-kind s e false k = refl
+set-kind (Decoupled value) e true k = refl
+set-kind (VisibleAt time) e true k = refl
+set-kind (DsVisibleAt time) e true k = refl
+set-kind (RrsigVisibleAt time) e true k = refl
+set-kind (Present value now) e true k = absurd (true≢false e)
+set-kind (Signer value) e true k = absurd (true≢false e)
+set-kind (AtParent value) e true k = absurd (true≢false e)
+set-kind Stale e true k = absurd (true≢false e)
+
+or_right : (a b : Bool) → (a || b) ≡ true → a ≡ false → b ≡ true
+or_right true b e f = absurd (true≢false f)
+or_right false b e f = e
+
+or_left : (a b : Bool) → a ≡ true → (a || b) ≡ true
+or_left true b e = refl
+or_left false b e = absurd (true≢false (sym e))
+
+or_by_right : (a b : Bool) → b ≡ true → (a || b) ≡ true
+or_by_right true b e = refl
+or_by_right false b e = e
+
+-- what a reply of the key set asks
+abbrev pub due : keyset.Reply → List Action
+due keyset.Done = []
+due (keyset.Actions actions) = actions
+due (keyset.Refused cause) = []
+
+pub due_by : (r : Reply) → asked_by r ≡ due (reply_of r)
+due_by reply.Done = refl
+due_by (reply.Actions actions) = refl
+due_by (reply.Refused cause) = refl
+
+module _ (kind : SetKind) (old new : KeySetParts) where
+  by_keys : (o : List ℕ → Option KeyParts) → ((q : List ℕ) → get new.keys q ≡ o q)
+      → ((q : List ℕ) → Agree kind (o q) (get old.keys q))
+      → (q : List ℕ) → Agree kind (get new.keys q) (get old.keys q)
+  by_keys o keys agree q = subst (λ u. Agree kind u (get old.keys q)) (sym (keys q)) (agree q)
+
+  agree-step : (c : keyset.Call) → sets_flag c ≡ false → adds_blank c ≡ true
+      → keyset.verdict old c ≡ keyset.Clear → keyset.Changes old c new
+      → list_any (updates kind) (due (keyset.accepted_reply c)) ≡ false
+      → (q : List ℕ) → Agree kind (get new.keys q) (get old.keys q)
+  agree-step (keyset.AddKey r k) calm fresh v m none =
+      by_keys _ m.keys (λ q. by q (bytes_eq r q) refl)
+    where
+      by : (q : List ℕ) (b : Bool) → bytes_eq r q ≡ b
+          → Agree kind (if b then Some k else get old.keys q) (get old.keys q)
+      by q true t = subst (Agree kind (Some k))
+          (sym (no_some (get old.keys q) (ap is_some (ap (get old.keys)
+          (sym ((bytes_decides r q).0 t))) ∙ add_free _ _ _ _ (clear_cause _ v))))
+          (agree-new kind k (idle-unseen kind k.keytype (or_left _ _ fresh)))
+      by q false t = agree-same kind (get old.keys q)
+  agree-step (keyset.Set r s) calm fresh v m none =
+      by_keys _ m.keys (λ q. agree-mapped kind _ (get old.keys q)
+      (λ k. same-kind kind _ _ (set-kind s calm (bytes_eq r q) k)))
+  agree-step (keyset.DeleteKey r) calm fresh v m none =
+      by_keys _ m.keys (λ q. by q (bytes_eq r q) refl)
+    where
+      by : (q : List ℕ) (b : Bool) → bytes_eq r q ≡ b
+          → Agree kind (if b then None else get old.keys q) (get old.keys q)
+      by q true t =
+          let g = gone_key (get old.keys r) (clear_cause _ v) in
+          subst (Agree kind None) (sym (ap (get old.keys) (sym ((bytes_decides r q).0 t)) ∙ g.1))
+          (agree-gone kind g.0 (idle-unseen kind g.0.keytype (or_by_right _ _ g.2)))
+      by q false t = agree-same kind (get old.keys q)
+  agree-step (keyset.StartRoll r olds news now) calm fresh v m none =
+      by_keys _ m.keys (λ q. agree-mapped kind _ (get old.keys q)
+      (λ k. ap (λ (j : KeyParts). same_in kind j.keytype k.keytype)
+      (start-parts r now (is_listed olds q) (is_listed news q) k)
+      ∙ or_right _ _ (start-asks r (is_listed olds q) (is_listed news q) kind k.keytype) none))
+  agree-step (keyset.Report r half ttl now) calm fresh v m none =
+      by_keys _ m.keys (λ q. agree-mapped kind _ (get old.keys q)
+      (λ k. same-itself kind k.keytype))
+  agree-step (keyset.Wait r First now) calm fresh v m none =
+      by_keys _ m.keys (λ q. agree-mapped kind _ (get old.keys q)
+      (λ k. or_right _ _ (wait-asks r false kind k.keytype) none))
+  agree-step (keyset.Wait r Second now) calm fresh v m none =
+      by_keys _ m.keys (λ q. agree-mapped kind _ (get old.keys q)
+      (λ k. or_right _ _ (wait-asks r true kind k.keytype) none))
+  agree-step (keyset.RollDone r) calm fresh v m none =
+      by_keys _ m.keys (λ q. agree-mapped kind _ (get old.keys q)
+      (λ k. same-itself kind k.keytype))
+
+-- ---- the run
+
+module _ (name : List ℕ) (calls : List Call) (entries : List Entry)
+    (run : IsRun name calls entries) where
+  abbrev at : ℕ → World
+  at n = world_at name calls entries n
+
+  -- what a position shows
+  record Shows (n : ℕ) : Type 0 where
+    ds : (position_at entries n).ds ≡ shown in_ds (at n)
+    dnskey : (position_at entries n).dnskey ≡ shown in_dnskey (at n)
+    signers : (position_at entries n).signers ≡ shown signs_dnskey (at n)
+    zone : (position_at entries n).zone ≡ shown signs_zone (at n)
+
+  place : (n : ℕ) (e : Entry) → slice_get entries n ≡ Some e
+      → position_at entries (suc n) ≡ told e
+  unfolding position_at
+  place n e ei = ap (λ o. option_map_or told o blank) ei
+
+  shows-entry : (n : ℕ) (c : Call) (e : Entry) → slice_get calls n ≡ Some c
+      → slice_get entries n ≡ Some e → Shows (suc n)
+  shows-entry n c e ci ei =
+      let p = (run.each n c e ci ei).published in
+      record {
+        ds = ap (λ p. p.ds) (place n e ei) ∙ p.ds;
+        dnskey = ap (λ p. p.dnskey) (place n e ei) ∙ p.dnskey;
+        signers = ap (λ p. p.signers) (place n e ei) ∙ p.dnskey_signers;
+        zone = ap (λ p. p.zone) (place n e ei) ∙ p.zone_signers;
+      }
+
+  shows-at : (n : ℕ) → n ≤ length entries → Shows n
+  unfolding position_at world_at
+  shows-at zero le = record {
+    ds = sym (shown-none in_ds name);
+    dnskey = sym (shown-none in_dnskey name);
+    signers = sym (shown-none signs_dnskey name);
+    zone = sym (shown-none signs_zone name);
+  }
+  shows-at (suc n) le = elim ((slice_get_cases entries n).1) [
+    | inl e ↦ elim ((slice_get_cases calls n).1) [
+      | inl c ↦ shows-entry n c.0 e.0 c.2 e.2
+      | inr c ↦ absurd (omega (arith, c.0, run.count))
+    ]
+    | inr e ↦ absurd (omega (arith, e.0))
+  ]
+
+  -- where the look-ups agree, the same is published
+  published-same : (kind : SetKind) (n : ℕ) → suc n ≤ length entries
+      → ((q : List ℕ) → Agree kind (get (at (suc n)).set.keys q) (get (at n).set.keys q))
+      → ((q : List ℕ) (k : KeyParts) → get (at n).set.keys q ≡ Some k
+      → (at (suc n)).added q ≡ (at n).added q)
+      → SamePublished kind (position_at entries n) (position_at entries (suc n))
+  published-same Ds n le agree added =
+      let now = shows-at (suc n) le in
+      let before = shows-at n (omega (arith, le)) in
+      now.ds ∙ same-shown in_ds (at n) (at (suc n)) agree added ∙ sym before.ds
+  published-same Dnskey n le agree added =
+      let now = shows-at (suc n) le in
+      let before = shows-at n (omega (arith, le)) in (
+        now.dnskey ∙ same-shown in_dnskey (at n) (at (suc n)) (λ q. (agree q).0) added
+            ∙ sym before.dnskey,
+        now.signers ∙ same-shown signs_dnskey (at n) (at (suc n)) (λ q. (agree q).1) added
+            ∙ sym before.signers,
+      )
+  published-same ZoneSigners n le agree added =
+      let now = shows-at (suc n) le in
+      let before = shows-at n (omega (arith, le)) in
+      now.zone ∙ same-shown signs_zone (at n) (at (suc n)) agree added ∙ sym before.zone
+
+  -- a key that is there isn't added
+  added-same : (n : ℕ) (c : keyset.Call) (f : List ℕ → ℕ) (set : KeySetParts)
+      → keyset.verdict set c ≡ keyset.Clear → (q : List ℕ) (k : KeyParts)
+      → get set.keys q ≡ Some k → with_added n (reference_added c) f q ≡ f q
+  added-same n (keyset.AddKey r key) f set v q k there = by (bytes_eq r q) refl
+    where
+      by : (b : Bool) → bytes_eq r q ≡ b → (if b then n else f q) ≡ f q
+      by true t = absurd (true≢false (sym (ap is_some (ap (get set.keys) ((bytes_decides r q).0 t)
+          ∙ there)) ∙ add_free _ _ _ _ (clear_cause _ v)))
+      by false t = refl
+  added-same n (keyset.Set a b) f set v q k there = refl
+  added-same n (keyset.DeleteKey a) f set v q k there = refl
+  added-same n (keyset.StartRoll a b c d) f set v q k there = refl
+  added-same n (keyset.Report a b c d) f set v q k there = refl
+  added-same n (keyset.Wait a b c) f set v q k there = refl
+  added-same n (keyset.RollDone a) f set v q k there = refl
+
+  stays-same : (n : ℕ) (c : Call) (e : Entry) → slice_get calls n ≡ Some c
+      → slice_get entries n ≡ Some e → suc n ≤ length entries → sets_flag (call_of c) ≡ false
+      → (kind : SetKind) → list_any (updates kind) (asked_by e.reply) ≡ false
+      → SamePublished kind (position_at entries n) (position_at entries (suc n))
+  stays-same n c e ci ei le calm kind none = by (is_accepted e.reply) refl
+    where
+      step : keyset.Step (at n).set (call_of c) (reply_of e.reply) (at (suc n)).set
+      step = (run.each n c e ci ei).step
+
+      added : (at (suc n)).added ≡ added_by (suc n) c e.reply (at n).added
+      added = added-next name calls entries run n c e ci ei
+
+      by : (b : Bool) → is_accepted e.reply ≡ b
+          → SamePublished kind (position_at entries n) (position_at entries (suc n))
+      by false t =
+          let same = refused_step (keyset.verdict (at n).set (call_of c)) (at n).set
+          (at (suc n)).set (call_of c) e.reply t step in
+          published-same kind n le
+          (λ q. subst (λ (s : KeySetParts). Agree kind (get s.keys q) (get (at n).set.keys q))
+          (sym same) (agree-same kind (get (at n).set.keys q)))
+          (λ q k there. ap (λ f. f q) added
+          ∙ ap (λ b. (if b then with_added (suc n) (reference_added (call_of c)) (at n).added
+          else (at n).added) q) t)
+      by true t =
+          let ok = accepted_step (keyset.verdict (at n).set (call_of c)) (at n).set
+          (at (suc n)).set (call_of c) e.reply t step in
+          published-same kind n le
+          (agree-step kind (at n).set (at (suc n)).set (call_of c) calm (plainly c).blank ok.0 ok.1
+          (ap (λ r. list_any (updates kind) (due r)) (sym ok.2)
+          ∙ ap (list_any (updates kind)) (sym (due_by e.reply)) ∙ none))
+          (λ q k there. ap (λ f. f q) added
+          ∙ ap (λ b. (if b then with_added (suc n) (reference_added (call_of c)) (at n).added
+          else (at n).added) q) t
+          ∙ added-same (suc n) (call_of c) (at n).added (at n).set ok.0 q k there)
+
+-- a call that sets no flag changes what it asks to publish
+pub changes-as-asked : (name : List ℕ) (calls : List Call) (entries : List Entry)
+    → IsRun name calls entries → ChangesAsAsked calls entries
+changes-as-asked name calls entries run n c ci calm kind = elim ((slice_get_cases entries n).1) [
+  | inl e ↦ let lt = e.1 in by e.0 e.2 (omega arith) (list_any (updates kind) (asked_by e.0.reply))
+      refl
+  | inr e ↦ absurd (omega (arith, e.0, run.count, within))
+]
+  where
+    within : suc n ≤ length calls
+    within = elim ((slice_get_cases calls n).1) [
+      | inl x ↦ let lt = x.1 in omega arith
+      | inr x ↦ absurd (none-some _ (sym x.1 ∙ ci))
+    ]
+
+    by : (e : Entry) → slice_get entries n ≡ Some e → suc n ≤ length entries → (b : Bool)
+        → list_any (updates kind) (asked_by e.reply) ≡ b
+        → Contains (asked_at entries (suc n)) (update_of kind)
+        ⊎ SamePublished kind (position_at entries n) (position_at entries (suc n))
+    by e ei le true t = inl (subst (λ o. Contains
+        (option_map_or (λ (x : Entry). asked_by x.reply) o []) (update_of kind)) (sym ei)
+        (asks_update kind (asked_by e.reply) t))
+    by e ei le false t = inr (stays-same name calls entries run n c e ci ei le calm kind t)

@@ -1,0 +1,386 @@
+-- A started roll goes on, and its listed keys have left or are at work: `goes_on`, `finishes`.
+use Rattle.std.proofs.Common.{◌≡◌, ℕ, zero, suc, ◌<◌, ◌≤◌, ◌⊎◌, inl, inr, Bool, true, false, refl}
+use Rattle.std.proofs.Common.{sym, ◌∙◌, ap, subst, arith, List, length, Option, None, Some}
+use Rattle.std.specs.Prelude.{slice_get, is_some, if◌then◌else◌}
+use Rattle.std.specs.Option.{option_map}
+use Rattle.std.specs.Str.{bytes_eq}
+use Rattle.std.specs.Cmp.Lexicographic.{bytes_decides}
+use Rattle.std.specs.FinMap.{get}
+use Rattle.std.proofs.lemmas.Bool.{true≢false, cases_lt}
+use Rattle.std.proofs.lemmas.Option.{same_Some, none-some, slice_get_cases}
+use Rattle.dnssec_key.specs.declared.roll.RollType.{RollType}
+use Rattle.dnssec_key.specs.declared.roll.RollState.{RollState}
+use Rattle.dnssec_key.specs.declared.roll.RollState.TheVariants.{Propagation1, Done}
+use Rattle.dnssec_key.specs.declared.error.Error.{Error}
+use Rattle.dnssec_key.specs.Key.{KeyParts}
+use Rattle.dnssec_keyset.specs.KeySet.{KeySetParts, phase_of}
+use Rattle.dnssec_key.specs.RollTable.{Half, First, Second, after_start}
+use Rattle.dnssec_keyset.specs.Start.{is_listed}
+use Rattle.dnssec_keyset.specs.Step as keyset
+use Rattle.dnssec_keyset.proofs.Sides.{leaves-others}
+use Rattle.dnssec_run.specs.WholeRolls.{SetsNothing, GoesOn, IsAccepted, HasLeft, IsAtWork}
+use Rattle.dnssec_run.specs.WholeRolls.{RollsFinish, spreading}
+use Rattle.dnssec_run.specs.declared.call.Call.{Call}
+use Rattle.dnssec_run.specs.declared.record.Entry.{Entry}
+use Rattle.dnssec_run.specs.declared.record.Reply.{Reply}
+use Rattle.dnssec_run.specs.declared.record.Reply.TheVariants as reply
+use Rattle.dnssec_run.specs.Published.{World}
+use Rattle.dnssec_run.specs.Record.{IsRun, call_of, reply_of, is_accepted, world_at, with_added}
+use Rattle.dnssec_run.specs.Record.{reference_added, added_by}
+use Rattle.dnssec_run.proofs.Laws.{stays-sound}
+use Rattle.dnssec_keyset.proofs.Flags.{SideOf, Keys, Zone, affects, may_list, is_blank}
+use Rattle.dnssec_run.proofs.Chain.Tale.{start-parts}
+use Rattle.dnssec_keyset.proofs.Tests.{◌⇒◌, and-both}
+use Rattle.dnssec_run.proofs.Chain.Rolls.{same-same}
+use Rattle.dnssec_run.proofs.Chain.Steps.{may_by}
+use Rattle.dnssec_run.proofs.Chain.Allowed.{can_start, clear_cause}
+use Rattle.dnssec_run.proofs.WholeRolls.Going.{old-step, new-step, still, IsNoAdd}
+use Rattle.dnssec_run.proofs.WholeRolls.Keys.{Idle}
+use Rattle.dnssec_run.proofs.WholeRolls.Listed.{began, newly, oldly, over_facts}
+use Rattle.dnssec_run.proofs.WholeRolls.Order.{back, in_order, world_of}
+use Rattle.dnssec_keyset.proofs.Accepted.{finishes, add_free}
+use Rattle.dnssec_run.proofs.WholeRolls.Phases.{phase_fits, phase_is, put_there, roll_now}
+use Rattle.dnssec_run.proofs.WholeRolls.Positions.{in-order, nothing_set}
+use Rattle.dnssec_run.proofs.WholeRolls.Replies.{step-made, added-next, accepted_step, refused_step}
+
+-- ---- the run
+
+accepted_report : (o : Option RollState) (half : Half) → o ≡ Some (spreading half)
+    → keyset.report_refusal half o ≡ None
+accepted_report o First e = ap (keyset.report_refusal First) e
+accepted_report o Second e = ap (keyset.report_refusal Second) e
+
+-- a call without a cause that takes no memory is accepted
+accepts : (v : keyset.Verdict) (old new : KeySetParts) (c : keyset.Call) (r : Reply)
+    → v ≡ keyset.Clear → (keyset.TakesMemory c → ⊥) → keyset.StepBy v old c (reply_of r) new
+    → is_accepted r ≡ true
+accepts v old new c r clear free step =
+    by r (subst (λ v. keyset.StepBy v old c (reply_of r) new) clear step)
+  where
+    refused : (c : keyset.Call) (cause : Error) → keyset.Refused cause ≡ keyset.accepted_reply c → ⊥
+    refused (keyset.AddKey r k) cause e = cc
+    refused (keyset.Set r s) cause e = cc
+    refused (keyset.DeleteKey r) cause e = cc
+    refused (keyset.StartRoll r o n t) cause e = cc
+    refused (keyset.Report r h ttl t) cause e = cc
+    refused (keyset.Wait r h t) cause e = cc
+    refused (keyset.RollDone r) cause e = cc
+
+    by : (r : Reply) → keyset.StepBy keyset.Clear old c (reply_of r) new → is_accepted r ≡ true
+    by reply.Done s = refl
+    by (reply.Actions a) s = refl
+    by (reply.Refused cause) (inl s) = absurd (refused c cause s.0)
+    by (reply.Refused cause) (inr s) = absurd (free s.0)
+
+pub goes-on : (name : List ℕ) (calls : List Call) (entries : List Entry) → IsRun name calls entries
+    → GoesOn name calls entries
+goes-on name calls entries run = record {
+  reports = λ n roll half ttl now report phase.
+      let old = (world_at name calls entries n).set in
+      accepts (keyset.verdict old (keyset.Report roll half ttl now)) old
+      (world_at name calls entries (suc n)).set (keyset.Report roll half ttl now) report.entry.reply
+      (ap keyset.barred_by (accepted_report (phase_of old.rolls roll) half phase)) (λ t. t)
+      (step-made name calls entries run n (keyset.Report roll half ttl now) report);
+  ends = λ n roll end phase.
+      let old = (world_at name calls entries n).set in
+      accepts (keyset.verdict old (keyset.RollDone roll)) old
+      (world_at name calls entries (suc n)).set (keyset.RollDone roll) end.entry.reply
+      (ap (λ o. keyset.barred_by (keyset.end_refusal o)) phase) (λ t. t)
+      (step-made name calls entries run n (keyset.RollDone roll) end);
+}
+
+module _ (name : List ℕ) (calls : List Call) (entries : List Entry) (run : IsRun name calls entries)
+    (plain : SetsNothing name calls entries) where
+  abbrev at : ℕ → World
+  at n = world_at name calls entries n
+
+  with_same : (n : ℕ) (c : keyset.Call) (f : List ℕ → ℕ) (q : List ℕ)
+      → (with_added n (reference_added c) f q ≡ n)
+      ⊎ ((with_added n (reference_added c) f q ≡ f q) × IsNoAdd c q)
+  with_same n (keyset.AddKey r k) f q = by (bytes_eq r q) refl
+    where
+      by : (b : Bool) → bytes_eq r q ≡ b → ((if bytes_eq r q then n else f q) ≡ n)
+          ⊎ (((if bytes_eq r q then n else f q) ≡ f q) × (bytes_eq r q ≡ false))
+      by true t = inl (ap (λ b. if b then n else f q) t)
+      by false t = inr (ap (λ b. if b then n else f q) t, t)
+  with_same n (keyset.Set a b) f q = inr (refl, tt)
+  with_same n (keyset.DeleteKey a) f q = inr (refl, tt)
+  with_same n (keyset.StartRoll a b c d) f q = inr (refl, tt)
+  with_same n (keyset.Report a b c d) f q = inr (refl, tt)
+  with_same n (keyset.Wait a b c) f q = inr (refl, tt)
+  with_same n (keyset.RollDone a) f q = inr (refl, tt)
+
+  by_added : (n : ℕ) (c : Call) (r : Reply) (f : List ℕ → ℕ) (q : List ℕ) → (added_by n c r f q ≡ n)
+      ⊎ ((added_by n c r f q ≡ f q) × (is_accepted r ≡ true → IsNoAdd (call_of c) q))
+  by_added n c reply.Done f q = elim
+      (with_same n (call_of c) f q) [ inl e ↦ inl e | inr e ↦ inr (e.0, λ t. e.1) ]
+  by_added n c (reply.Actions a) f q =
+      elim (with_same n (call_of c) f q) [ inl e ↦ inl e | inr e ↦ inr (e.0, λ t. e.1) ]
+  by_added n c (reply.Refused x) f q = inr (refl, λ t. absurd (true≢false (sym t)))
+
+  added-bound : (n : ℕ) → n ≤ length entries → (q : List ℕ) → (at n).added q ≤ n
+  unfolding world_at
+  added-bound zero le q = omega arith
+  added-bound (suc n) le q = elim ((slice_get_cases entries n).1) [
+    | inl e ↦ elim ((slice_get_cases calls n).1) [
+      | inl c ↦
+          let was = added-bound n (omega arith) q in
+          let is : (at (suc n)).added q ≡ added_by (suc n) c.0 e.0.reply (at n).added q =
+          ap (λ f. f q) (added-next name calls entries run n c.0 e.0 c.2 e.2) in
+          elim (by_added (suc n) c.0 e.0.reply (at n).added q) [
+            | inl x ↦ omega arith
+            | inr x ↦
+                let y = x.0 in omega arith
+          ]
+      | inr c ↦ absurd (omega (arith, c.0, run.count))
+    ]
+    | inr e ↦ absurd (omega (arith, e.0))
+  ]
+
+  module _ (s : ℕ) (roll : RollType) (olds news : List (List ℕ)) (now : ℕ) where
+    -- what holds from the start on, until the roll ends
+    record Lasting (n : ℕ) : Type 0 where
+      phase : RollState
+      going : roll_now (at n).set roll ≡ Some phase
+      left : (q : List ℕ) → is_listed olds q ≡ true → (at n).added q ≡ (at (suc s)).added q
+          → (k : KeyParts) → get (at n).set.keys q ≡ Some k → oldly roll k.keytype ≡ true
+      come : (q : List ℕ) → is_listed news q ≡ true → ((at n).added q ≡ (at (suc s)).added q)
+          × (k : KeyParts) × (get (at n).set.keys q ≡ Some k) × (newly roll k.keytype ≡ true)
+
+    -- no call but an add changes where a key was added
+    not_added : (n : ℕ) (c : Call) (e : Entry) → n ≤ length entries → s < n
+        → slice_get calls n ≡ Some c → slice_get entries n ≡ Some e → (q : List ℕ)
+        → (at (suc n)).added q ≡ (at (suc s)).added q → ((at n).added q ≡ (at (suc s)).added q)
+        × (is_accepted e.reply ≡ true → IsNoAdd (call_of c) q)
+    not_added n c e within later ci ei q same =
+        let is : (at (suc n)).added q ≡ added_by (suc n) c e.reply (at n).added q =
+        ap (λ f. f q) (added-next name calls entries run n c e ci ei) in
+        let bound : (at (suc s)).added q ≤ suc s = added-bound (suc s) (omega arith) q in
+        elim (by_added (suc n) c e.reply (at n).added q) [
+          | inl x ↦ absurd (omega arith)
+          | inr x ↦ (sym x.0 ∙ sym is ∙ same, x.1)
+        ]
+
+    -- a key that is there isn't added
+    there_added : (n : ℕ) (c : Call) (e : Entry) → slice_get calls n ≡ Some c
+        → slice_get entries n ≡ Some e → (q : List ℕ) (k : KeyParts)
+        → get (at n).set.keys q ≡ Some k → (at (suc n)).added q ≡ (at n).added q
+    there_added n c e ci ei q k there = by (is_accepted e.reply) refl
+      where
+        is : (at (suc n)).added q ≡ added_by (suc n) c e.reply (at n).added q
+        is = ap (λ f. f q) (added-next name calls entries run n c e ci ei)
+
+        no_add : (d : keyset.Call) → keyset.verdict (at n).set d ≡ keyset.Clear
+            → with_added (suc n) (reference_added d) (at n).added q ≡ (at n).added q
+        no_add (keyset.AddKey r key) v = apart (bytes_eq r q) refl
+          where
+            apart : (b : Bool) → bytes_eq r q ≡ b
+                → (if bytes_eq r q then suc n else (at n).added q) ≡ (at n).added q
+            apart true t =
+                absurd (true≢false
+                (sym (ap is_some (ap (get (at n).set.keys) ((bytes_decides r q).0 t) ∙ there))
+                ∙ add_free _ _ _ _ (clear_cause _ v)))
+            apart false t = ap (λ b. if b then suc n else (at n).added q) t
+        no_add (keyset.Set a b) v = refl
+        no_add (keyset.DeleteKey a) v = refl
+        no_add (keyset.StartRoll a b c d) v = refl
+        no_add (keyset.Report a b c d) v = refl
+        no_add (keyset.Wait a b c) v = refl
+        no_add (keyset.RollDone a) v = refl
+
+        by : (b : Bool) → is_accepted e.reply ≡ b → (at (suc n)).added q ≡ (at n).added q
+        by false t = is
+            ∙ ap (λ b. (if b then with_added (suc n) (reference_added (call_of c)) (at n).added
+            else (at n).added) q) t
+        by true t = is
+            ∙ ap (λ b. (if b then with_added (suc n) (reference_added (call_of c)) (at n).added
+            else (at n).added) q) t
+            ∙ no_add (call_of c) (accepted_step (keyset.verdict (at n).set (call_of c)) (at n).set
+            (at (suc n)).set (call_of c) e.reply t (run.each n c e ci ei).step).0
+
+    lasting-next : (n : ℕ) (c : Call) (e : Entry) → n ≤ length entries → s < n
+        → slice_get calls n ≡ Some c → slice_get entries n ≡ Some e
+        → (IsAccepted calls entries n (keyset.RollDone roll) → ⊥) → Lasting n → Lasting (suc n)
+    lasting-next n c e within later ci ei not_end h = by (is_accepted e.reply) refl
+      where
+        old : KeySetParts
+        old = (at n).set
+
+        step : keyset.Step (at n).set (call_of c) (reply_of e.reply) (at (suc n)).set
+        step = (run.each n c e ci ei).step
+
+        by : (b : Bool) → is_accepted e.reply ≡ b → Lasting (suc n)
+        by false t =
+            let same = refused_step (keyset.verdict (at n).set (call_of c)) (at n).set
+            (at (suc n)).set (call_of c) e.reply t step in
+            record {
+              phase = h.phase;
+              going = ap (λ (x : KeySetParts). roll_now x roll) same ∙ h.going;
+              left = λ q l a k g. h.left q l (not_added n c e within later ci ei q a).0 k
+                  (ap (λ (x : KeySetParts). get x.keys q) (sym same) ∙ g);
+              come = λ q l. let x = h.come q l in (
+                there_added n c e ci ei q x.1 x.2
+                    ∙ x.0,
+                x.1,
+                ap (λ (x : KeySetParts). get x.keys q) same ∙ x.2,
+                x.3,
+              );
+            }
+        by true t =
+            let ok = accepted_step (keyset.verdict (at n).set (call_of c)) (at n).set
+            (at (suc n)).set (call_of c) e.reply t step in
+            let clean = nothing_set c (plain n c ci) in
+            let all = (stays-sound name calls entries run n within).rolls in
+            let on = still roll (at n).set (at (suc n)).set all h.phase h.going (call_of c) ok.1
+            (λ x. not_end (
+              record {
+                made = c;
+                entry = e;
+                made_is = ci;
+                entry_is = ei;
+                call_is = x;
+              },
+              t,
+            )) in
+            record {
+              phase = on.0;
+              going = on.1;
+              left = λ q l a k g. let x = not_added n c e within later ci ei q a in
+                  old-step roll (at n).set (at (suc n)).set (call_of c) clean ok.1 q (x.1 t)
+                  (h.left q l x.0) k g;
+              come = λ q l. let x = h.come q l in
+                  let y = new-step roll (at n).set (at (suc n)).set all h.phase h.going (call_of c)
+                  clean ok.0 ok.1 (leaves-others (at n).set (at (suc n)).set (call_of c)
+                  (reply_of e.reply) step) q x.1 x.2 x.3 in
+                  (there_added n c e ci ei q x.1 x.2 ∙ x.0, y.0, y.1, y.2);
+            }
+
+    -- the start
+    lasting-first : IsAccepted calls entries s (keyset.StartRoll roll olds news now)
+        → Lasting (suc s)
+    lasting-first st =
+        let old = (at s).set in
+        let new = (at (suc s)).set in
+        let step : keyset.Step old (keyset.StartRoll roll olds news now)
+        (reply_of st.0.entry.reply) new =
+        step-made name calls entries run s (keyset.StartRoll roll olds news now) st.0 in
+        let ok = accepted_step (keyset.verdict old (keyset.StartRoll roll olds news now)) old new
+        (keyset.StartRoll roll olds news now) st.0.entry.reply st.1 step in
+        let can = can_start (world_of old) roll olds news (clear_cause _ ok.0) in
+        let may = λ (q : List ℕ) (k : KeyParts) (e : get old.keys q ≡ Some k).
+        may_by roll (is_listed olds q) (is_listed news q) k.keytype
+        (λ t. let x = can.old_is q t in
+        subst (λ (k : KeyParts). may_list roll k.keytype ≡ true) (same_Some x.0 k (sym x.1 ∙ e))
+        x.2)
+        (λ t. let x = can.new_is q t in
+        let same : x.0 ≡ k = same_Some x.0 k (sym x.1 ∙ e) in (
+          subst (λ (k : KeyParts). may_list roll k.keytype ≡ true) same x.2,
+          subst (λ (k : KeyParts). is_blank k.keytype ≡ true) same x.3,
+          x.4,
+        )) in
+        let kind = λ (q : List ℕ) (k : KeyParts). ap (λ (k : KeyParts). k.keytype)
+        (start-parts roll now (is_listed olds q) (is_listed news q) k) in
+        record {
+          phase = Propagation1;
+          going = put_there old.rolls new.rolls roll (Some Propagation1) roll ok.1.rolls
+              (same-same roll);
+          left = λ q l a j g.
+              let b = back (after_start roll now (is_listed olds q) (is_listed news q))
+              (get old.keys q) j (sym (ok.1.keys q) ∙ g) in
+              ap (λ (k : KeyParts). oldly roll k.keytype) (sym b.2) ∙ ap (oldly roll) (kind q b.0)
+              ∙ (began roll (is_listed olds q) (is_listed news q) b.0.keytype (may q b.0 b.1)).0
+              l;
+          come = λ q l.
+              let x = can.new_is q l in (
+                refl,
+                after_start roll now (is_listed olds q) (is_listed news q) x.0,
+                ok.1.keys q ∙ ap (option_map
+                    (after_start roll now (is_listed olds q) (is_listed news q))) x.1,
+                ap (newly roll) (kind q x.0)
+                    ∙ (began roll (is_listed olds q) (is_listed news q) x.0.keytype
+                    (may q x.0 x.1)).1 l,
+              );
+        }
+
+    lasting : IsAccepted calls entries s (keyset.StartRoll roll olds news now) → (n : ℕ) → s < n
+        → n ≤ length entries
+        → ((m : ℕ) → s < m → m < n → IsAccepted calls entries m (keyset.RollDone roll) → ⊥)
+        → Lasting n
+    lasting st zero later within none = absurd (omega arith)
+    lasting st (suc n) later within none = elim (cases_lt s n) [
+      | inl lt ↦ elim ((slice_get_cases entries n).1) [
+        | inl e ↦ elim ((slice_get_cases calls n).1) [
+          | inl c ↦ lasting-next n c.0 e.0 (omega arith) lt c.2 e.2 (none n lt (omega arith))
+              (lasting st n lt (omega arith) (λ m a b. none m a (omega arith)))
+          | inr c ↦ absurd (omega (arith, c.0, run.count))
+        ]
+        | inr e ↦ absurd (omega (arith, e.0))
+      ]
+      | inr ge ↦ let same : s ≡ n = omega arith in
+          subst (λ n. Lasting (suc n)) same (lasting-first st)
+    ]
+
+    -- the end
+    finish : IsAccepted calls entries s (keyset.StartRoll roll olds news now) → (n : ℕ) → s < n
+        → (ends : IsAccepted calls entries n (keyset.RollDone roll))
+        → ((m : ℕ) → s < m → m < n → IsAccepted calls entries m (keyset.RollDone roll) → ⊥)
+        → ((q : List ℕ) → is_listed olds q ≡ true → HasLeft (at (suc s)) (at (suc n)) q)
+        × ((q : List ℕ) → is_listed news q ≡ true → IsAtWork (at (suc s)) (at (suc n)) q)
+    finish st n later ends none =
+        let old = (at n).set in
+        let new = (at (suc n)).set in
+        let step : keyset.Step old (keyset.RollDone roll) (reply_of ends.0.entry.reply) new =
+        step-made name calls entries run n (keyset.RollDone roll) ends.0 in
+        let ok = accepted_step (keyset.verdict old (keyset.RollDone roll)) old new
+        (keyset.RollDone roll) ends.0.entry.reply ends.1 step in
+        let done = finishes _ (clear_cause _ ok.0) in
+        let h = lasting st n later within none in
+        let keys = λ (q : List ℕ). ok.1.keys q ∙ unmapped (get old.keys q) in
+        let facts = λ (q : List ℕ) (k : KeyParts) (e : get old.keys q ≡ Some k).
+        over_facts roll k.keytype (is_some k.timestamps.visible)
+        (is_some k.timestamps.ds_visible) (is_some k.timestamps.rrsig_visible)
+        (and-both _ _ (side_over Keys done q k e) (side_over Zone done q k e)) in (
+          λ q l same k g.
+              let a = not_added n ends.0.made ends.0.entry within later ends.0.made_is
+              ends.0.entry_is q
+              same in
+              let there = sym (keys q) ∙ g in
+              (facts q k there).0 (h.left q l a.0 k there),
+          λ q l.
+              let x = h.come q l in (
+                there_added n ends.0.made ends.0.entry ends.0.made_is ends.0.entry_is q x.1 x.2
+                    ∙ x.0,
+                x.1,
+                keys q ∙ x.2,
+                (facts q x.1 x.2).1 x.3,
+              ),
+        )
+      where
+        within : n ≤ length entries
+        within = elim ((slice_get_cases entries n).1) [
+          | inl x ↦ let lt = x.1 in
+              omega arith
+          | inr x ↦ absurd (none-some _ (sym x.1 ∙ ends.0.entry_is))
+        ]
+
+        unmapped : (o : Option KeyParts) → option_map (λ (k : KeyParts). k) o ≡ o
+        unmapped None = refl
+        unmapped (Some k) = refl
+
+        side_over : (sd : SideOf) → roll_now (at n).set roll ≡ Some Done
+            → (q : List ℕ) (k : KeyParts) → get (at n).set.keys q ≡ Some k
+            → (affects sd roll ⇒ in_order sd Idle k) ≡ true
+        side_over sd done q k e = by (affects sd roll) refl
+          where
+            by : (b : Bool) → affects sd roll ≡ b → (b ⇒ in_order sd Idle k) ≡ true
+            by false t = refl
+            by true t =
+                let o = in-order name calls entries run plain sd n in
+                let there : o.ph ≡ Idle = phase_is o.ph roll Done
+                (ap (phase_fits o.ph roll) (sym done) ∙ o.rolls roll t) in
+                ap (λ ph. in_order sd ph k) (sym there) ∙ o.keys q k e
+
+pub rolls-finish : (name : List ℕ) (calls : List Call) (entries : List Entry)
+    → IsRun name calls entries → RollsFinish name calls entries
+rolls-finish name calls entries run plain s n roll olds news now later st ends none =
+    finish name calls entries run plain s roll olds news now st n later ends none

@@ -1,0 +1,221 @@
+-- The keys that a roll lists, over one call while it is in progress: for the clause `finishes`.
+use Rattle.dnssec_keyset.proofs.Accepted.{decoupled_kind, add_free}
+use Rattle.std.proofs.Common.{◌≡◌, ℕ, inl, inr, Bool, true, false, not, refl, sym, ◌∙◌, ap, List}
+use Rattle.std.proofs.Common.{None, Some}
+use Rattle.std.specs.Prelude.{is_some, if◌then◌else◌}
+use Rattle.std.specs.Option.{option_map}
+use Rattle.std.specs.Str.{bytes_eq}
+use Rattle.std.specs.Cmp.Lexicographic.{bytes_decides}
+use Rattle.std.specs.FinMap.{get}
+use Rattle.std.proofs.lemmas.Bool.{true≢false}
+use Rattle.std.proofs.lemmas.Option.{none-some}
+use Rattle.dnssec_key.specs.declared.roll.RollType.{RollType}
+use Rattle.dnssec_key.specs.declared.roll.RollState.{RollState}
+use Rattle.dnssec_key.specs.declared.roll.RollState.TheVariants.{Propagation1, CacheExpire1}
+use Rattle.dnssec_key.specs.declared.roll.RollState.TheVariants.{CacheExpire2}
+use Rattle.dnssec_key.specs.declared.error.Error.{Error}
+use Rattle.dnssec_key.specs.Key.{KeyParts}
+use Rattle.dnssec_keyset.specs.KeySet.{KeySetParts, phase_of, with_phase, same_roll}
+use Rattle.dnssec_key.specs.RollTable.{First, Second, after_report, after_wait}
+use Rattle.dnssec_keyset.specs.Step.{deletion_refusal}
+use Rattle.dnssec_key.specs.Setters.{Decoupled, Present, Signer, AtParent}
+use Rattle.dnssec_key.specs.Setters.{Stale, VisibleAt, DsVisibleAt, RrsigVisibleAt, set_by}
+use Rattle.dnssec_keyset.specs.Start.{is_listed}
+use Rattle.dnssec_keyset.specs.Laws.{LeavesOthers, RollsTogether}
+use Rattle.dnssec_keyset.specs.Step as keyset
+use Rattle.dnssec_keyset.proofs.Flags.{is_stale, tolerates, waited1, waited2}
+use Rattle.dnssec_run.proofs.Chain.Tale.{start-parts}
+use Rattle.dnssec_run.proofs.Chain.Facts.{other}
+use Rattle.dnssec_run.proofs.Chain.Rolls.{same-true}
+use Rattle.dnssec_run.proofs.Chain.Allowed.{can_start, clear_cause, waits_in_phase}
+use Rattle.dnssec_run.proofs.WholeRolls.Listed.{new_facts, newly, old_start, old_wait, oldly}
+use Rattle.dnssec_run.proofs.WholeRolls.Order.{back, is_calm, world_of}
+use Rattle.dnssec_run.proofs.WholeRolls.Phases.{put_aside, put_there, roll_now, split_by}
+
+-- ---- one call while the roll is in progress
+
+-- the key at the reference isn't the one that the call adds
+abbrev pub IsNoAdd : keyset.Call → List ℕ → Type 0
+IsNoAdd (keyset.AddKey r k) q = bytes_eq r q ≡ false
+IsNoAdd _ q = Unit {0}
+
+module _ (roll : RollType) (old new : KeySetParts) where
+  old-moved : (f : List ℕ → KeyParts → KeyParts)
+      → ((q : List ℕ) → get new.keys q ≡ option_map (f q) (get old.keys q))
+      → ((q : List ℕ) (k : KeyParts) → oldly roll k.keytype ≡ true
+      → oldly roll (f q k).keytype ≡ true)
+      → (q : List ℕ) → ((k : KeyParts) → get old.keys q ≡ Some k → oldly roll k.keytype ≡ true)
+      → (j : KeyParts) → get new.keys q ≡ Some j → oldly roll j.keytype ≡ true
+  old-moved f keys on q h j e = let b = back (f q) (get old.keys q) j (sym (keys q) ∙ e) in
+      ap (λ (k : KeyParts). oldly roll k.keytype) (sym b.2) ∙ on q b.0 (h b.0 b.1)
+
+  -- an old key stays old
+  pub old-step : (c : keyset.Call) → is_calm c ≡ true → keyset.Changes old c new → (q : List ℕ)
+      → IsNoAdd c q → ((k : KeyParts) → get old.keys q ≡ Some k → oldly roll k.keytype ≡ true)
+      → (j : KeyParts) → get new.keys q ≡ Some j → oldly roll j.keytype ≡ true
+  old-step (keyset.AddKey r k) plain m q apart h j e =
+      h j (sym (ap (λ b. if b then Some k else get old.keys q) apart) ∙ sym (m.keys q) ∙ e)
+  old-step (keyset.Set r (Decoupled value)) plain m q apart h j e =
+      old-moved _ m.keys (λ q k o. ap (oldly roll) (decoupled_kind (bytes_eq r q) value k)
+      ∙ o) q h j e
+  old-step (keyset.Set r (Present value now)) plain m q apart h j e =
+      absurd (true≢false (sym plain))
+  old-step (keyset.Set r (Signer value)) plain m q apart h j e = absurd (true≢false (sym plain))
+  old-step (keyset.Set r (AtParent value)) plain m q apart h j e = absurd (true≢false (sym plain))
+  old-step (keyset.Set r Stale) plain m q apart h j e = absurd (true≢false (sym plain))
+  old-step (keyset.Set r (VisibleAt time)) plain m q apart h j e = absurd (true≢false (sym plain))
+  old-step (keyset.Set r (DsVisibleAt time)) plain m q apart h j e = absurd (true≢false (sym plain))
+  old-step (keyset.Set r (RrsigVisibleAt time)) plain m q apart h j e =
+      absurd (true≢false (sym plain))
+  old-step (keyset.DeleteKey r) plain m q apart h j e = by (bytes_eq r q) refl
+    where
+      by : (b : Bool) → bytes_eq r q ≡ b → oldly roll j.keytype ≡ true
+      by true t = absurd (none-some j (sym (ap (λ b. if b then None else get old.keys q) t)
+          ∙ sym (m.keys q) ∙ e))
+      by false t = h j (sym (ap (λ b. if b then None else get old.keys q) t) ∙ sym (m.keys q) ∙ e)
+  old-step (keyset.StartRoll p olds news now) plain m q apart h j e = old-moved _ m.keys
+      (λ q k o. ap (λ (k : KeyParts). oldly roll k.keytype)
+      (start-parts p now (is_listed olds q) (is_listed news q) k)
+      ∙ old_start roll p (is_listed olds q) (is_listed news q) k.keytype o) q h j e
+  old-step (keyset.Report p half ttl now) plain m q apart h j e =
+      old-moved _ m.keys (λ q k o. o) q h j e
+  old-step (keyset.Wait p First now) plain m q apart h j e =
+      old-moved _ m.keys (λ q k o. (old_wait roll p k.keytype o).0) q h j e
+  old-step (keyset.Wait p Second now) plain m q apart h j e =
+      old-moved _ m.keys (λ q k o. (old_wait roll p k.keytype o).1) q h j e
+  old-step (keyset.RollDone p) plain m q apart h j e = old-moved _ m.keys (λ q k o. o) q h j e
+
+  abbrev Stays : List ℕ → Type 0
+  Stays q = (j : KeyParts) × (get new.keys q ≡ Some j) × (newly roll j.keytype ≡ true)
+
+  module _ (all : RollsTogether old.rolls) (x : RollState) (going : roll_now old roll ≡ Some x)
+    where
+      beside : (p : RollType) (y : RollState) → roll_now old p ≡ Some y → same_roll p roll ≡ false
+          → tolerates p roll ≡ true
+      beside p y e d =
+          elim (all p roll (ap is_some e) (ap is_some going)) [
+            | inl same ↦ absurd
+                (true≢false (sym same ∙ d))
+            | inr t ↦ t
+          ]
+
+      -- a new key stays new
+      pub new-step : (c : keyset.Call) → is_calm c ≡ true → keyset.verdict old c ≡ keyset.Clear
+          → keyset.Changes old c new → LeavesOthers old c new
+          → (q : List ℕ) (k : KeyParts) → get old.keys q ≡ Some k → newly roll k.keytype ≡ true
+          → Stays q
+      new-step (keyset.AddKey r key) plain v m leaves q k e w = by (bytes_eq r q) refl
+        where
+          by : (b : Bool) → bytes_eq r q ≡ b → Stays q
+          by true t = absurd (true≢false
+              (sym (ap is_some (ap (get old.keys) ((bytes_decides r q).0 t) ∙ e))
+              ∙ add_free _ _ _ _ (clear_cause _ v)))
+          by false t = (k, m.keys q ∙ ap (λ b. if b then Some key else get old.keys q) t ∙ e, w)
+      new-step (keyset.Set r (Decoupled value)) plain v m leaves q k e w = (
+        (if bytes_eq r q then set_by (Decoupled value) k else k),
+        m.keys q
+            ∙ ap (option_map (λ k. if bytes_eq r q then set_by (Decoupled value) k else k)) e,
+        ap (newly roll) (decoupled_kind (bytes_eq r q) value k) ∙ w,
+      )
+      new-step (keyset.Set r (Present value now)) plain v m leaves q k e w =
+          absurd (true≢false (sym plain))
+      new-step (keyset.Set r (Signer value)) plain v m leaves q k e w =
+          absurd (true≢false (sym plain))
+      new-step (keyset.Set r (AtParent value)) plain v m leaves q k e w =
+          absurd (true≢false (sym plain))
+      new-step (keyset.Set r Stale) plain v m leaves q k e w = absurd (true≢false (sym plain))
+      new-step (keyset.Set r (VisibleAt time)) plain v m leaves q k e w =
+          absurd (true≢false (sym plain))
+      new-step (keyset.Set r (DsVisibleAt time)) plain v m leaves q k e w =
+          absurd (true≢false (sym plain))
+      new-step (keyset.Set r (RrsigVisibleAt time)) plain v m leaves q k e w =
+          absurd (true≢false (sym plain))
+      new-step (keyset.DeleteKey r) plain v m leaves q k e w = by (bytes_eq r q) refl
+        where
+          stale : (b : Bool) → is_stale k.keytype ≡ b → deletion_refusal (Some k) ≡ None → b ≡ true
+          stale true t d = refl
+          stale false t d =
+              absurd (none-some _ (sym (sym (ap (λ b. if b then None else Some Error.KeyNotOld) t)
+              ∙ d)))
+
+          by : (b : Bool) → bytes_eq r q ≡ b → Stays q
+          by true t = absurd (true≢false (sym (new_facts roll k.keytype w).stays
+              ∙ ap not (stale (is_stale k.keytype) refl
+              (ap deletion_refusal (sym (ap (get old.keys) ((bytes_decides r q).0 t) ∙ e))
+              ∙ clear_cause _ v))))
+          by false t = (k, m.keys q ∙ ap (λ b. if b then None else get old.keys q) t ∙ e, w)
+      new-step (keyset.StartRoll p olds news now) plain v m leaves q k e w =
+          let can = can_start (world_of old) p olds news (clear_cause _ v) in
+          let together : tolerates p roll ≡ true =
+          elim (split_by (tolerates p roll)) [
+            | inl t ↦ t
+            | inr t ↦ absurd
+                (none-some x (sym (can.alone roll t) ∙ going))
+          ] in (
+            k,
+            leaves p q k refl e (other p roll k.keytype together
+                (new_facts roll k.keytype w).listed),
+            w,
+          )
+      new-step (keyset.Report p First ttl now) plain v m leaves q k e w =
+          (after_report p First now k, m.keys q ∙ ap (option_map (after_report p First now)) e, w)
+      new-step (keyset.Report p Second ttl now) plain v m leaves q k e w =
+          (after_report p Second now k, m.keys q ∙ ap (option_map (after_report p Second now)) e, w)
+      new-step (keyset.Wait p First now) plain v m leaves q k e w =
+          elim (split_by (same_roll p roll)) [
+            | inl t ↦ (
+              after_wait p First now k,
+              m.keys q
+                  ∙ ap (option_map (after_wait p First now)) e,
+              ap (λ p. newly roll (waited1 p k.keytype)) (same-true p roll t)
+                  ∙ (new_facts roll k.keytype w).first,
+            )
+            | inr t ↦ let f = waits_in_phase p false now (world_of old) v in (
+              k,
+              leaves p q k refl e (other p roll k.keytype (beside p (CacheExpire1 f.0) f.1 t)
+                  (new_facts roll k.keytype w).listed),
+              w,
+            )
+          ]
+      new-step (keyset.Wait p Second now) plain v m leaves q k e w =
+          elim (split_by (same_roll p roll)) [
+            | inl t ↦ (
+              after_wait p Second now k,
+              m.keys q
+                  ∙ ap (option_map (after_wait p Second now)) e,
+              ap (λ p. newly roll (waited2 p k.keytype)) (same-true p roll t)
+                  ∙ (new_facts roll k.keytype w).second,
+            )
+            | inr t ↦ let f = waits_in_phase p true now (world_of old) v in (
+              k,
+              leaves p q k refl e (other p roll k.keytype (beside p (CacheExpire2 f.0) f.1 t)
+                  (new_facts roll k.keytype w).listed),
+              w,
+            )
+          ]
+      new-step (keyset.RollDone p) plain v m leaves q k e w =
+          (k, m.keys q ∙ ap (option_map (λ k. k)) e, w)
+
+      -- the roll goes on unless it ends
+      abbrev GoesOnStill : Type 0
+      GoesOnStill = (y : RollState) × (roll_now new roll ≡ Some y)
+
+      still-roll : (p : RollType) (y : RollState) → new.rolls ≡ with_phase old.rolls p (Some y)
+          → GoesOnStill
+      still-roll p y rolls = elim (split_by (same_roll p roll)) [
+        | inl t ↦ (y, put_there old.rolls new.rolls p (Some y) roll rolls t)
+        | inr t ↦ (x, put_aside old.rolls new.rolls p (Some y) roll rolls t ∙ going)
+      ]
+
+      pub still : (c : keyset.Call) → keyset.Changes old c new → (c ≡ keyset.RollDone roll → ⊥)
+          → GoesOnStill
+      still (keyset.AddKey r k) m not_end = (x, ap (λ s. phase_of s roll) m.rolls ∙ going)
+      still (keyset.Set r s) m not_end = (x, ap (λ s. phase_of s roll) m.rolls ∙ going)
+      still (keyset.DeleteKey r) m not_end = (x, ap (λ s. phase_of s roll) m.rolls ∙ going)
+      still (keyset.StartRoll p olds news now) m not_end = still-roll p Propagation1 m.rolls
+      still (keyset.Report p half ttl now) m not_end = still-roll p _ m.rolls
+      still (keyset.Wait p half now) m not_end = still-roll p _ m.rolls
+      still (keyset.RollDone p) m not_end = elim (split_by (same_roll p roll)) [
+        | inl t ↦ absurd (not_end (ap keyset.RollDone (same-true p roll t)))
+        | inr t ↦ (x, put_aside old.rolls new.rolls p None roll m.rolls t ∙ going)
+      ]

@@ -1,0 +1,115 @@
+-- No stamp is later than the time of the set, from one set to the next: for the clause `waits`.
+use Rattle.std.proofs.Common.{◌≡◌, ℕ, ◌≤◌, ◌⊎◌, inl, inr, Bool, true, false, refl, sym, ◌∙◌, ap}
+use Rattle.std.proofs.Common.{arith, Option, None, Some}
+use Rattle.std.specs.Prelude.{if◌then◌else◌}
+use Rattle.std.specs.Str.{bytes_eq}
+use Rattle.std.proofs.lemmas.Bool.{true≢false}
+use Rattle.std.proofs.lemmas.Option.{same_Some, none-some}
+use Rattle.dnssec_key.specs.declared.roll.RollType.{RollType}
+use Rattle.dnssec_key.specs.Key.{KeyParts}
+use Rattle.dnssec_keyset.specs.Start.{is_listed}
+use Rattle.dnssec_key.specs.Setters.{Decoupled, Present, Signer, AtParent, Stale, VisibleAt}
+use Rattle.dnssec_key.specs.Setters.{DsVisibleAt, RrsigVisibleAt, set_by}
+use Rattle.dnssec_run.specs.declared.call.Call.TheVariants as call
+use Rattle.dnssec_run.proofs.Chain.Phases.{start_stamps, wait_stamps}
+use Rattle.dnssec_run.proofs.Chain.Trust.{moment}
+use Rattle.dnssec_keyset.specs.KeySet.{KeySetParts}
+use Rattle.dnssec_key.specs.RollTable.{Half, First, Second, after_start, after_report}
+use Rattle.dnssec_keyset.specs.Step as keyset
+use Rattle.dnssec_run.specs.declared.call.Call.{Call}
+use Rattle.dnssec_run.specs.Record.{call_of}
+use Rattle.dnssec_run.proofs.Chain.Tables.{Stamp, Visible, DsVisible, RrsigVisible}
+use Rattle.dnssec_run.proofs.Chain.Tale.{stamp_of, start-parts}
+use Rattle.dnssec_run.proofs.WholeRolls.Armed.{NoneLater, later-moved, later-puts, report-stamp}
+use Rattle.dnssec_run.proofs.WholeRolls.Order.{is_calm}
+
+-- ---- one key set after another
+
+-- a key that a call adds has no stamp
+abbrev Unstamped : keyset.Call → Type 0
+Unstamped (keyset.AddKey r k) = (k.timestamps.visible ≡ None) × (k.timestamps.ds_visible ≡ None)
+    × (k.timestamps.rrsig_visible ≡ None)
+Unstamped _ = Unit {0}
+
+no_stamp_of : (k : KeyParts) → (k.timestamps.visible ≡ None) × (k.timestamps.ds_visible ≡ None)
+    × (k.timestamps.rrsig_visible ≡ None) → (s : Stamp) → stamp_of s k ≡ None
+no_stamp_of k h Visible = h.0
+no_stamp_of k h DsVisible = h.1
+no_stamp_of k h RrsigVisible = h.2
+
+pub unstamped : (c : Call) → Unstamped (call_of c)
+unstamped (call.AddKeyKsk a b c d e f) = (refl, refl, refl)
+unstamped (call.AddKeyZsk a b c d e f) = (refl, refl, refl)
+unstamped (call.AddKeyCsk a b c d e f) = (refl, refl, refl)
+unstamped (call.AddPublicKey a b c d e) = (refl, refl, refl)
+unstamped (call.SetDecoupled a b) = tt
+unstamped (call.SetPresent a b c) = tt
+unstamped (call.SetSigner a b) = tt
+unstamped (call.SetAtParent a b) = tt
+unstamped (call.SetStale a) = tt
+unstamped (call.SetVisible a b) = tt
+unstamped (call.SetDsVisible a b) = tt
+unstamped (call.SetRrsigVisible a b) = tt
+unstamped (call.DeleteKey a) = tt
+unstamped (call.StartRoll a b c d) = tt
+unstamped (call.Propagation1Complete a b c) = tt
+unstamped (call.CacheExpired1 a b) = tt
+unstamped (call.Propagation2Complete a b c) = tt
+unstamped (call.CacheExpired2 a b) = tt
+unstamped (call.RollDone a) = tt
+
+-- the moments of calls are no earlier than the time of the set before
+abbrev AtLeast : ℕ → Option ℕ → Type 0
+AtLeast t None = Unit {0}
+AtLeast t (Some now) = t ≤ now
+
+start-late : (r : RollType) (now : ℕ) (o i : Bool) (k : KeyParts) (s : Stamp) (x : ℕ)
+    → stamp_of s (after_start r now o i k) ≡ Some x → stamp_of s k ≡ Some x
+start-late r now o i k s x e = start_stamps r now o i k s
+    ∙ ap (stamp_of s) (sym (start-parts r now o i k)) ∙ e
+
+report-late : (r : RollType) (h : Half) (now : ℕ) (k : KeyParts) (s : Stamp) (x : ℕ)
+    → stamp_of s (after_report r h now k) ≡ Some x → (stamp_of s k ≡ Some x) ⊎ (x ≤ now)
+report-late r h now k Visible x e = report-stamp r true now k Visible x _ _ e
+report-late r h now k DsVisible x e = report-stamp r true now k DsVisible x _ _ e
+report-late r h now k RrsigVisible x e = report-stamp r true now k RrsigVisible x _ _ e
+
+pub decoupled_stamp : (b value : Bool) (k : KeyParts) (s : Stamp)
+    → stamp_of s (if b then set_by (Decoupled value) k else k) ≡ stamp_of s k
+decoupled_stamp true value k s = refl
+decoupled_stamp false value k s = refl
+
+module _ (t u : ℕ) (le : t ≤ u) (old new : KeySetParts) (late : NoneLater t old) where
+  pub late-step : (c : keyset.Call) → is_calm c ≡ true → Unstamped c
+      → ((now : ℕ) → moment c ≡ Some now → now ≤ u) → keyset.Changes old c new → NoneLater u new
+  late-step (keyset.AddKey r k) plain fresh at m =
+      later-puts t old new late r (Some k) u le m (λ j e s. ap (stamp_of s) (sym (same_Some k j e))
+      ∙ no_stamp_of k fresh s)
+  late-step (keyset.Set r (Decoupled value)) plain fresh at m =
+      later-moved t old new late (λ q k. if bytes_eq r q then set_by (Decoupled value) k else k) u
+      le m.keys (λ q k s x e. inl (sym (decoupled_stamp (bytes_eq r q) value k s) ∙ e))
+  late-step (keyset.Set r (Present value now)) plain fresh at m = absurd (true≢false (sym plain))
+  late-step (keyset.Set r (Signer value)) plain fresh at m = absurd (true≢false (sym plain))
+  late-step (keyset.Set r (AtParent value)) plain fresh at m = absurd (true≢false (sym plain))
+  late-step (keyset.Set r Stale) plain fresh at m = absurd (true≢false (sym plain))
+  late-step (keyset.Set r (VisibleAt time)) plain fresh at m = absurd (true≢false (sym plain))
+  late-step (keyset.Set r (DsVisibleAt time)) plain fresh at m = absurd (true≢false (sym plain))
+  late-step (keyset.Set r (RrsigVisibleAt time)) plain fresh at m = absurd (true≢false (sym plain))
+  late-step (keyset.DeleteKey r) plain fresh at m =
+      later-puts t old new late r None u le m (λ j e. absurd (none-some j e))
+  late-step (keyset.StartRoll r olds news now) plain fresh at m =
+      later-moved t old new late _ u le m.keys
+      (λ q k s x e. inl (start-late r now (is_listed olds q) (is_listed news q) k s x e))
+  late-step (keyset.Report r h ttl now) plain fresh at m =
+      later-moved t old new late _ u le m.keys
+      (λ q k s x e. elim (report-late r h now k s x e) [
+        | inl was ↦ inl was
+        | inr most ↦ inr
+            (let top = at now refl in omega arith)
+      ])
+  late-step (keyset.Wait r First now) plain fresh at m =
+      later-moved t old new late _ u le m.keys (λ q k s x e. inl (wait_stamps r false now k s ∙ e))
+  late-step (keyset.Wait r Second now) plain fresh at m =
+      later-moved t old new late _ u le m.keys (λ q k s x e. inl (wait_stamps r true now k s ∙ e))
+  late-step (keyset.RollDone r) plain fresh at m =
+      later-moved t old new late (λ q k. k) u le m.keys (λ q k s x e. inl e)

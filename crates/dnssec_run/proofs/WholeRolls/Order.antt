@@ -1,0 +1,379 @@
+-- Calls that set nothing leave the keys of a set in order: for all laws of whole rolls.
+use Rattle.std.proofs.Common.{◌≡◌, ℕ, ◌⊎◌, inl, inr, Bool, true, false, not, ◌||◌, refl, sym, ◌∙◌}
+use Rattle.std.proofs.Common.{ap, subst, List, Option, None, Some}
+use Rattle.std.specs.Prelude.{if◌then◌else◌, is_some}
+use Rattle.std.specs.Option.{option_map}
+use Rattle.std.specs.Str.{bytes_eq}
+use Rattle.std.specs.FinMap.{get, get-empty}
+use Rattle.std.specs.Ordering.{nat_cmp}
+use Rattle.std.specs.Cmp.Lexicographic.{slice_cmp}
+use Rattle.std.proofs.lemmas.Bool.{true≢false}
+use Rattle.std.proofs.lemmas.Option.{same_Some, none-some}
+use Rattle.dnssec_key.specs.declared.roll.RollType.{RollType}
+use Rattle.dnssec_key.specs.declared.roll.RollState.{RollState}
+use Rattle.dnssec_key.specs.declared.roll.RollState.TheVariants.{Propagation1, CacheExpire1}
+use Rattle.dnssec_key.specs.declared.roll.RollState.TheVariants.{Propagation2, CacheExpire2}
+use Rattle.dnssec_key.specs.declared.roll.RollState.TheVariants.{Done}
+use Rattle.dnssec_key.specs.Key.{KeyParts}
+use Rattle.dnssec_keyset.specs.KeySet.{KeySetParts, PutsKey, MovesOn, new_set, phase_of, same_roll}
+use Rattle.dnssec_key.specs.RollTable.{First, Second, stamp_if, after_start, after_report}
+use Rattle.dnssec_key.specs.RollTable.{after_wait}
+use Rattle.dnssec_key.specs.Setters.{Decoupled, Present, Signer, AtParent, Stale, VisibleAt}
+use Rattle.dnssec_key.specs.Setters.{DsVisibleAt, RrsigVisibleAt, set_by}
+use Rattle.dnssec_keyset.specs.Laws.{LeavesOthers}
+use Rattle.dnssec_keyset.specs.Step as keyset
+use Rattle.dnssec_keyset.proofs.Sides.{leaves-others}
+use Rattle.dnssec_keyset.proofs.Laws.{moved}
+use Rattle.dnssec_run.specs.Published.{World as RealWorld}
+use Rattle.dnssec_run.specs.Plain.{is_plain_call}
+use Rattle.dnssec_keyset.proofs.Flags.{SideOf, affects, may_list, is_blank, started, waited1}
+use Rattle.dnssec_keyset.proofs.Flags.{waited2, has_role, may_start, is_idle}
+use Rattle.dnssec_run.proofs.Chain.Tables.{written, Visible, DsVisible, RrsigVisible}
+use Rattle.dnssec_run.proofs.Chain.Tale.{seen, is_listed, CanStart, start-parts, started_key}
+use Rattle.dnssec_run.proofs.Chain.Facts.{apart}
+use Rattle.dnssec_run.proofs.Chain.Rolls.{same-true, clash}
+use Rattle.dnssec_run.proofs.Chain.Steps.{may_by}
+use Rattle.dnssec_run.proofs.Chain.Gentles.{role_start, role_waited1, role_waited2}
+use Rattle.dnssec_run.proofs.Chain.Phases.{start_stamps, wait_stamps}
+use Rattle.dnssec_run.proofs.Chain.Allowed.{can_start, clear_cause, waits_in_phase}
+use Rattle.dnssec_run.proofs.WholeRolls.Keys.{Expiring, Idle, Phase, Spreading, blank_orderly}
+use Rattle.dnssec_run.proofs.WholeRolls.Keys.{orderly, report_orderly, start_orderly}
+use Rattle.dnssec_run.proofs.WholeRolls.Keys.{unseen_orderly, wait1_orderly, wait2_orderly}
+use Rattle.dnssec_keyset.proofs.Accepted.{finishes, spreads_first, spreads_second}
+use Rattle.dnssec_run.proofs.WholeRolls.Phases.{at_phase, distinct, here_fits, idle_is, is_live}
+use Rattle.dnssec_run.proofs.WholeRolls.Phases.{no_phases, none_fits, others_none, own_at}
+use Rattle.dnssec_run.proofs.WholeRolls.Phases.{phase_fits, phase_is, phase_own, put_aside}
+use Rattle.dnssec_run.proofs.WholeRolls.Phases.{put_there}
+
+-- the key is in order, by its flags and by which stamps are there
+abbrev pub in_order : SideOf → Phase → KeyParts → Bool
+in_order sd ph k = orderly sd ph k.keytype (is_some k.timestamps.visible)
+    (is_some k.timestamps.ds_visible) (is_some k.timestamps.rrsig_visible)
+
+-- the rolls and the keys of a side are in order
+pub record Order (sd : SideOf) (set : KeySetParts) : Type 0 where
+  pub ph : Phase
+  pub own : phase_own sd ph ≡ true
+  pub rolls : (q : RollType) → affects sd q ≡ true → phase_fits ph q (phase_of set.rolls q) ≡ true
+  pub keys : (q : List ℕ) (k : KeyParts) → get set.keys q ≡ Some k → in_order sd ph k ≡ true
+
+-- ---- keys
+
+-- what a mapped key was
+pub back : (f : KeyParts → KeyParts) (o : Option KeyParts) (j : KeyParts) → option_map f o ≡ Some j
+    → (k : KeyParts) × (o ≡ Some k) × (f k ≡ j)
+back f None j e = absurd (none-some j e)
+back f (Some k) j e = (k, refl, same_Some _ _ e)
+
+stamped : (b : Bool) (now : ℕ) (s : Option ℕ) → is_some (stamp_if b now s) ≡ (b || is_some s)
+stamped true now s = refl
+stamped false now s = refl
+
+module _ (sd : SideOf) (old new : KeySetParts) where
+  -- a call of a roll of this side
+  own_side : (r : RollType) (p p' : RollState) (f : List ℕ → KeyParts → KeyParts)
+      → affects sd r ≡ true → is_live p ≡ true → phase_of old.rolls r ≡ Some p
+      → MovesOn old new r (Some p') f
+      → ((q : List ℕ) (k : KeyParts) → in_order sd (at_phase r p) k ≡ true
+      → in_order sd (at_phase r p') (f q k) ≡ true) → Order sd old → Order sd new
+  own_side r p p' f own live was m step h = record {
+    ph = at_phase r p';
+    own = own_at sd r p' own;
+    rolls = λ q e. at_roll q e (same_roll r q) refl;
+    keys = λ q j e.
+        let b = back (f q) (get old.keys q) j (sym (m.keys q) ∙ e) in
+        ap (in_order sd (at_phase r p')) (sym b.2)
+        ∙ step q b.0 (ap (λ ph. in_order sd ph b.0) (sym there) ∙ h.keys q b.0 b.1);
+  }
+    where
+      there : h.ph ≡ at_phase r p
+      there = phase_is h.ph r p (ap (phase_fits h.ph r) (sym was) ∙ h.rolls r own)
+
+      at_roll : (q : RollType) → affects sd q ≡ true → (b : Bool) → same_roll r q ≡ b
+          → phase_fits (at_phase r p') q (phase_of new.rolls q) ≡ true
+      at_roll q e true t = ap (phase_fits (at_phase r p') q)
+          (put_there old.rolls new.rolls r (Some p') q m.rolls t)
+          ∙ ap (λ q. phase_fits (at_phase r p') q (Some p')) (sym (same-true r q t))
+          ∙ here_fits r p'
+      at_roll q e false t =
+          let none : phase_of old.rolls q ≡ None =
+          others_none r p q (phase_of old.rolls q) live
+          (ap (λ ph. phase_fits ph q (phase_of old.rolls q)) (sym there) ∙ h.rolls q e) t in
+          ap (phase_fits (at_phase r p') q) (put_aside old.rolls new.rolls r (Some p') q m.rolls t
+          ∙ none) ∙ none_fits r p' q t
+
+  -- a call of a roll of the other side
+  other_side : (r : RollType) (o : Option RollState) (f : List ℕ → KeyParts → KeyParts)
+      → affects sd r ≡ false → MovesOn old new r o f
+      → ((q : List ℕ) (k : KeyParts) → get old.keys q ≡ Some k → may_list r k.keytype ≡ false
+      → get new.keys q ≡ Some k)
+      → ((q : List ℕ) (k : KeyParts) → has_role sd (f q k).keytype ≡ has_role sd k.keytype)
+      → Order sd old → Order sd new
+  other_side r o f out m leaves roles h = record {
+    ph = h.ph;
+    own = h.own;
+    rolls = λ q e. ap (phase_fits h.ph q)
+        (put_aside old.rolls new.rolls r o q m.rolls (distinct sd r q out e)) ∙ h.rolls q e;
+    keys = λ q j e. at_key q j e (back (f q) (get old.keys q) j (sym (m.keys q) ∙ e));
+  }
+    where
+      at_key : (q : List ℕ) (j : KeyParts) → get new.keys q ≡ Some j → (k : KeyParts)
+          × (get old.keys q ≡ Some k) × (f q k ≡ j) → in_order sd h.ph j ≡ true
+      at_key q j e b = by (has_role sd b.0.keytype) refl
+        where
+          by : (t : Bool) → has_role sd b.0.keytype ≡ t → in_order sd h.ph j ≡ true
+          by true t =
+              let same : b.0 ≡ j = same_Some b.0 j
+              (sym (leaves q b.0 b.1 (apart sd r b.0.keytype out t)) ∙ e) in
+              ap (in_order sd h.ph) (sym same) ∙ h.keys q b.0 b.1
+          by false t = unseen_orderly sd h.ph j.keytype _ _ _
+              (ap (λ (k : KeyParts). has_role sd k.keytype) (sym b.2) ∙ roles q b.0 ∙ t)
+
+  -- a call that moves no roll
+  calm_side : new.rolls ≡ old.rolls → (h : Order sd old)
+      → ((q : List ℕ) (j : KeyParts) → get new.keys q ≡ Some j → in_order sd h.ph j ≡ true)
+      → Order sd new
+  calm_side same h keys = record {
+    ph = h.ph;
+    own = h.own;
+    rolls = λ q e. ap (λ x. phase_fits h.ph q (phase_of x q)) same ∙ h.rolls q e;
+    keys = keys;
+  }
+
+-- one key at each call
+
+start_key : (sd : SideOf) (r : RollType) (now : ℕ) (o i : Bool) (k : KeyParts) → affects sd r ≡ true
+    → may_start r o i k.keytype ≡ true → in_order sd Idle k ≡ true
+    → in_order sd (Spreading false r) (started_key r now o i k) ≡ true
+start_key sd r now o i k own may e =
+    let s = start_stamps r now o i k in
+    (λ x. orderly sd (Spreading false r) (started r o i k.keytype) (is_some (sym (s Visible) x))
+    (is_some (sym (s DsVisible) x)) (is_some (sym (s RrsigVisible) x)))
+    ∙ start_orderly sd r o i k.keytype (is_some k.timestamps.visible)
+    (is_some k.timestamps.ds_visible) (is_some k.timestamps.rrsig_visible) own may e
+
+report_first : (sd : SideOf) (r : RollType) (now : ℕ) (k : KeyParts) → affects sd r ≡ true
+    → in_order sd (Spreading false r) k ≡ true
+    → in_order sd (Expiring false r) (after_report r First now k) ≡ true
+report_first sd r now k own e =
+    (λ x. orderly sd (Expiring false r) k.keytype
+    (stamped (written Visible r false k.keytype) now k.timestamps.visible x)
+    (stamped (written DsVisible r false k.keytype) now k.timestamps.ds_visible x)
+    (stamped (written RrsigVisible r false k.keytype) now k.timestamps.rrsig_visible x))
+    ∙ report_orderly sd r false k.keytype (is_some k.timestamps.visible)
+    (is_some k.timestamps.ds_visible) (is_some k.timestamps.rrsig_visible) own e
+
+report_second : (sd : SideOf) (r : RollType) (now : ℕ) (k : KeyParts) → affects sd r ≡ true
+    → in_order sd (Spreading true r) k ≡ true
+    → in_order sd (Expiring true r) (after_report r Second now k) ≡ true
+report_second sd r now k own e =
+    (λ x. orderly sd (Expiring true r) k.keytype
+    (stamped (written Visible r true k.keytype) now k.timestamps.visible x)
+    (stamped (written DsVisible r true k.keytype) now k.timestamps.ds_visible x)
+    (stamped (written RrsigVisible r true k.keytype) now k.timestamps.rrsig_visible x))
+    ∙ report_orderly sd r true k.keytype (is_some k.timestamps.visible)
+    (is_some k.timestamps.ds_visible) (is_some k.timestamps.rrsig_visible) own e
+
+wait_first : (sd : SideOf) (r : RollType) (now : ℕ) (k : KeyParts) → affects sd r ≡ true
+    → in_order sd (Expiring false r) k ≡ true
+    → in_order sd (Spreading true r) (after_wait r First now k) ≡ true
+wait_first sd r now k own e =
+    let s = wait_stamps r false now k in
+    (λ x. orderly sd (Spreading true r) (waited1 r k.keytype) (is_some (sym (s Visible) x))
+    (is_some (sym (s DsVisible) x)) (is_some (sym (s RrsigVisible) x)))
+    ∙ wait1_orderly sd r k.keytype (is_some k.timestamps.visible) (is_some k.timestamps.ds_visible)
+    (is_some k.timestamps.rrsig_visible) own e
+
+wait_second : (sd : SideOf) (r : RollType) (now : ℕ) (k : KeyParts) → affects sd r ≡ true
+    → in_order sd (Expiring true r) k ≡ true → in_order sd Idle (after_wait r Second now k) ≡ true
+wait_second sd r now k own e =
+    let s = wait_stamps r true now k in
+    (λ x. orderly sd Idle (waited2 r k.keytype) (is_some (sym (s Visible) x))
+    (is_some (sym (s DsVisible) x)) (is_some (sym (s RrsigVisible) x)))
+    ∙ wait2_orderly sd r k.keytype (is_some k.timestamps.visible) (is_some k.timestamps.ds_visible)
+    (is_some k.timestamps.rrsig_visible) own e
+
+decoupled_key : (sd : SideOf) (ph : Phase) (b value : Bool) (k : KeyParts)
+    → in_order sd ph (if b then set_by (Decoupled value) k else k) ≡ in_order sd ph k
+decoupled_key sd ph true value k = refl
+decoupled_key sd ph false value k = refl
+
+-- one step
+
+-- a call that sets nothing, and adds only keys in no use
+abbrev pub is_calm : keyset.Call → Bool
+is_calm (keyset.AddKey r k) = is_idle k.keytype
+is_calm call = is_plain_call call
+
+-- a set as a world, for what a start or a wait tells
+abbrev pub world_of : KeySetParts → RealWorld
+world_of set = record { set = set; added = λ q. 0 }
+
+module _ (sd : SideOf) (old new : KeySetParts) where
+  puts_side : (r : List ℕ) (o : Option KeyParts) → PutsKey old new r o → (h : Order sd old)
+      → ((j : KeyParts) → o ≡ Some j → in_order sd h.ph j ≡ true) → Order sd new
+  puts_side r o p h fresh = calm_side sd old new p.rolls h
+      (λ q j e. by q j (bytes_eq r q) refl (sym (p.keys q) ∙ e))
+    where
+      by : (q : List ℕ) (j : KeyParts) (b : Bool) → bytes_eq r q ≡ b
+          → (if bytes_eq r q then o else get old.keys q) ≡ Some j → in_order sd h.ph j ≡ true
+      by q j true t e = fresh j (sym (ap (λ b. if b then o else get old.keys q) t) ∙ e)
+      by q j false t e = h.keys q j (sym (ap (λ b. if b then o else get old.keys q) t) ∙ e)
+
+  start_side : (r : RollType) (olds news : List (List ℕ)) (now : ℕ)
+      → CanStart r (seen (world_of old)) olds news
+      → MovesOn old new r (Some Propagation1)
+      (λ q. after_start r now (is_listed q olds) (is_listed q news))
+      → affects sd r ≡ true → Order sd old → Order sd new
+  start_side r olds news now can m own h = record {
+    ph = Spreading false r;
+    own = own;
+    rolls = λ q e. at_roll q e (same_roll r q) refl;
+    keys = λ q j e.
+        let b = back (after_start r now (is_listed q olds) (is_listed q news)) (get old.keys q) j
+        (sym (m.keys q) ∙ e) in
+        ap (in_order sd (Spreading false r)) (sym b.2
+        ∙ start-parts r now (is_listed q olds) (is_listed q news) b.0)
+        ∙ start_key sd r now (is_listed q olds) (is_listed q news) b.0 own (may_key q b.0 b.1)
+        (ap (λ ph. in_order sd ph b.0) (sym idle) ∙ h.keys q b.0 b.1);
+  }
+    where
+      alone : (q : RollType) → affects sd q ≡ true → phase_of old.rolls q ≡ None
+      alone q e = can.alone q (clash sd r q own e)
+
+      idle : h.ph ≡ Idle
+      idle = idle_is sd h.ph h.own (λ q e. ap (phase_fits h.ph q) (sym (alone q e)) ∙ h.rolls q e)
+
+      may_key : (q : List ℕ) (k : KeyParts) → get old.keys q ≡ Some k
+          → may_start r (is_listed q olds) (is_listed q news) k.keytype ≡ true
+      may_key q k e = may_by r (is_listed q olds) (is_listed q news) k.keytype
+          (λ t. let x = can.old_is q t in
+          subst (λ (k : KeyParts). may_list r k.keytype ≡ true) (same_Some x.0 k (sym x.1 ∙ e))
+          x.2)
+          (λ t. let x = can.new_is q t in
+          let same : x.0 ≡ k = same_Some x.0 k (sym x.1 ∙ e) in (
+            subst (λ (k : KeyParts). may_list r k.keytype ≡ true) same x.2,
+            subst (λ (k : KeyParts). is_blank k.keytype ≡ true) same x.3,
+            x.4,
+          ))
+
+      at_roll : (q : RollType) → affects sd q ≡ true → (b : Bool) → same_roll r q ≡ b
+          → phase_fits (Spreading false r) q (phase_of new.rolls q) ≡ true
+      at_roll q e true t = ap (phase_fits (Spreading false r) q)
+          (put_there old.rolls new.rolls r (Some Propagation1) q m.rolls t) ∙ t
+      at_roll q e false t = ap (phase_fits (Spreading false r) q)
+          (put_aside old.rolls new.rolls r (Some Propagation1) q m.rolls t ∙ alone q e) ∙ ap not t
+
+  done_side : (r : RollType) → phase_of old.rolls r ≡ Some Done → MovesOn old new r None (λ q k. k)
+      → affects sd r ≡ true → Order sd old → Order sd new
+  done_side r was m own h = record {
+    ph = Idle;
+    own = refl;
+    rolls = λ q e. at_roll q e (same_roll r q) refl;
+    keys = λ q j e. let b = back (λ k. k) (get old.keys q) j (sym (m.keys q) ∙ e) in
+        ap (in_order sd Idle) (sym b.2) ∙ ap (λ ph. in_order sd ph b.0) (sym there)
+        ∙ h.keys q b.0 b.1;
+  }
+    where
+      there : h.ph ≡ Idle
+      there = phase_is h.ph r Done (ap (phase_fits h.ph r) (sym was) ∙ h.rolls r own)
+
+      at_roll : (q : RollType) → affects sd q ≡ true → (b : Bool) → same_roll r q ≡ b
+          → phase_fits Idle q (phase_of new.rolls q) ≡ true
+      at_roll q e true t = ap (phase_fits Idle q) (put_there old.rolls new.rolls r None q m.rolls t)
+      at_roll q e false t = ap (phase_fits Idle q)
+          (put_aside old.rolls new.rolls r None q m.rolls t)
+          ∙ ap (λ ph. phase_fits ph q (phase_of old.rolls q)) (sym there) ∙ h.rolls q e
+
+  split_by : (b : Bool) → (b ≡ true) ⊎ (b ≡ false)
+  split_by true = inl refl
+  split_by false = inr refl
+
+  role_started : (r : RollType) (now : ℕ) (o i : Bool) (k : KeyParts)
+      → has_role sd (after_start r now o i k).keytype ≡ has_role sd k.keytype
+  role_started r now o i k = ap (λ (k : KeyParts). has_role sd k.keytype) (start-parts r now o i k)
+      ∙ role_start sd r o i k.keytype
+
+  changed_side : (c : keyset.Call) → is_calm c ≡ true → LeavesOthers old c new
+      → keyset.verdict old c ≡ keyset.Clear → keyset.Changes old c new → Order sd old → Order sd new
+  changed_side (keyset.AddKey r k) plain leaves v m h =
+      puts_side r (Some k) m h (λ j e. ap (in_order sd h.ph) (sym (same_Some k j e))
+      ∙ blank_orderly sd h.ph k.keytype _ _ _ plain)
+  changed_side (keyset.Set r (Decoupled value)) plain leaves v m h =
+      calm_side sd old new m.rolls h (λ q j e.
+      let b = back (λ k. if bytes_eq r q then set_by (Decoupled value) k else k) (get old.keys q) j
+      (sym (m.keys q) ∙ e) in
+      ap (in_order sd h.ph) (sym b.2) ∙ decoupled_key sd h.ph (bytes_eq r q) value b.0
+      ∙ h.keys q b.0 b.1)
+  changed_side (keyset.Set r (Present value now)) plain leaves v m h =
+      absurd (true≢false (sym plain))
+  changed_side (keyset.Set r (Signer value)) plain leaves v m h = absurd (true≢false (sym plain))
+  changed_side (keyset.Set r (AtParent value)) plain leaves v m h = absurd (true≢false (sym plain))
+  changed_side (keyset.Set r Stale) plain leaves v m h = absurd (true≢false (sym plain))
+  changed_side (keyset.Set r (VisibleAt time)) plain leaves v m h = absurd (true≢false (sym plain))
+  changed_side (keyset.Set r (DsVisibleAt time)) plain leaves v m h =
+      absurd (true≢false (sym plain))
+  changed_side (keyset.Set r (RrsigVisibleAt time)) plain leaves v m h =
+      absurd (true≢false (sym plain))
+  changed_side (keyset.DeleteKey r) plain leaves v m h =
+      puts_side r None m h (λ j e. absurd (none-some j e))
+  changed_side (keyset.StartRoll r olds news now) plain leaves v m h =
+      elim (split_by (affects sd r)) [
+        | inl own ↦ start_side r olds news now
+            (can_start (world_of old) r olds news (clear_cause _ v))
+            m own h
+        | inr out ↦ other_side sd old new r (Some Propagation1)
+            (λ q. after_start r now (is_listed q olds) (is_listed q news)) out m
+            (λ q k e l. leaves r q k refl e l)
+            (λ q k. role_started r now (is_listed q olds) (is_listed q news) k) h
+      ]
+  changed_side (keyset.Report r First ttl now) plain leaves v m h = elim (split_by (affects sd r)) [
+    | inl own ↦ own_side sd old new r Propagation1 (CacheExpire1 ttl)
+        (λ q. after_report r First now) own refl (spreads_first _ (clear_cause _ v)) m
+        (λ q k. report_first sd r now k own) h
+    | inr out ↦ other_side sd old new r (Some (CacheExpire1 ttl)) (λ q. after_report r First now)
+        out m (λ q k e l. leaves r q k refl e l) (λ q k. refl) h
+  ]
+  changed_side (keyset.Report r Second ttl now) plain leaves v m h =
+      elim (split_by (affects sd r)) [
+        | inl own ↦ own_side sd old new r Propagation2 (CacheExpire2 ttl)
+            (λ q. after_report r Second now) own refl (spreads_second _ (clear_cause _ v)) m
+            (λ q k. report_second sd r now k own) h
+        | inr out ↦ other_side sd old new r (Some (CacheExpire2 ttl))
+            (λ q. after_report r Second now)
+            out m (λ q k e l. leaves r q k refl e l) (λ q k. refl) h
+      ]
+  changed_side (keyset.Wait r First now) plain leaves v m h = elim (split_by (affects sd r)) [
+    | inl own ↦ let w = waits_in_phase r false now (world_of old) v in
+        own_side sd old new r (CacheExpire1 w.0) Propagation2 (λ q. after_wait r First now) own refl
+        w.1 m (λ q k. wait_first sd r now k own) h
+    | inr out ↦ other_side sd old new r (Some Propagation2) (λ q. after_wait r First now) out m
+        (λ q k e l. leaves r q k refl e l) (λ q k. role_waited1 sd r k.keytype) h
+  ]
+  changed_side (keyset.Wait r Second now) plain leaves v m h = elim (split_by (affects sd r)) [
+    | inl own ↦ let w = waits_in_phase r true now (world_of old) v in
+        own_side sd old new r (CacheExpire2 w.0) Done (λ q. after_wait r Second now) own refl w.1 m
+        (λ q k. wait_second sd r now k own) h
+    | inr out ↦ other_side sd old new r (Some Done) (λ q. after_wait r Second now) out m
+        (λ q k e l. leaves r q k refl e l) (λ q k. role_waited2 sd r k.keytype) h
+  ]
+  changed_side (keyset.RollDone r) plain leaves v m h = elim (split_by (affects sd r)) [
+    | inl own ↦ done_side r (finishes _ (clear_cause _ v)) m own h
+    | inr out ↦ other_side sd old new r None (λ q k. k) out m (λ q k e l. leaves r q k refl e l)
+        (λ q k. refl) h
+  ]
+
+  pub order-step : (c : keyset.Call) (reply : keyset.Reply) → is_calm c ≡ true
+      → keyset.Step old c reply new → Order sd old → Order sd new
+  order-step c reply plain step h = elim (moved old new c reply step) [
+    | inl same ↦ subst (Order sd) (sym same) h
+    | inr change ↦ changed_side c plain (leaves-others old new c reply step) change.0 change.1 h
+  ]
+
+pub order-new : (sd : SideOf) (name : List ℕ) → Order sd (new_set name)
+order-new sd name = record {
+  ph = Idle;
+  own = refl;
+  rolls = λ q e. ap (phase_fits Idle q) (no_phases q);
+  keys = λ q k e. absurd (none-some k (sym (get-empty (slice_cmp nat_cmp) q) ∙ e));
+}

@@ -1,0 +1,171 @@
+-- The phase of a side and those of its rolls, before and after a call: for all laws of whole rolls.
+use Rattle.std.proofs.Common.{◌≡◌, ◌⊎◌, inl, inr, Bool, true, false, not, refl, sym, ◌∙◌, ap}
+use Rattle.std.proofs.Common.{Option, None, Some}
+use Rattle.std.specs.Prelude.{if◌then◌else◌}
+use Rattle.std.proofs.lemmas.Bool.{true≢false}
+use Rattle.dnssec_key.specs.declared.roll.RollType.{RollType}
+use Rattle.dnssec_key.specs.declared.roll.RollType.TheVariants.{KskRoll, KskDoubleDsRoll}
+use Rattle.dnssec_key.specs.declared.roll.RollType.TheVariants.{ZskRoll, ZskDoubleSignatureRoll}
+use Rattle.dnssec_key.specs.declared.roll.RollType.TheVariants.{CskRoll, AlgorithmRoll}
+use Rattle.dnssec_key.specs.declared.roll.RollState.{RollState}
+use Rattle.dnssec_key.specs.declared.roll.RollState.TheVariants.{Propagation1, CacheExpire1}
+use Rattle.dnssec_key.specs.declared.roll.RollState.TheVariants.{Propagation2, CacheExpire2}
+use Rattle.dnssec_key.specs.declared.roll.RollState.TheVariants.{Done}
+use Rattle.dnssec_keyset.specs.KeySet.{KeySetParts, Rolls, phase_of, with_phase, no_rolls}
+use Rattle.dnssec_keyset.specs.KeySet.{same_roll}
+use Rattle.dnssec_keyset.proofs.Phases.{phase_of-with_phase}
+use Rattle.dnssec_keyset.proofs.Flags.{SideOf, affects}
+use Rattle.dnssec_run.proofs.Chain.Rolls.{same-same, same-true}
+use Rattle.dnssec_run.proofs.WholeRolls.Keys.{Expiring, Idle, Phase, Spreading}
+
+abbrev pub phase_fits : Phase → RollType → Option RollState → Bool
+phase_fits Idle _ None = true
+phase_fits Idle _ (Some Done) = true
+phase_fits Idle _ (Some _) = false
+phase_fits (Spreading _ r) q None = not (same_roll r q)
+phase_fits (Spreading false r) q (Some Propagation1) = same_roll r q
+phase_fits (Spreading true r) q (Some Propagation2) = same_roll r q
+phase_fits (Spreading _ r) q (Some _) = false
+phase_fits (Expiring _ r) q None = not (same_roll r q)
+phase_fits (Expiring false r) q (Some (CacheExpire1 _)) = same_roll r q
+phase_fits (Expiring true r) q (Some (CacheExpire2 _)) = same_roll r q
+phase_fits (Expiring _ r) q (Some _) = false
+
+abbrev pub phase_own : SideOf → Phase → Bool
+phase_own sd Idle = true
+phase_own sd (Spreading _ r) = affects sd r
+phase_own sd (Expiring _ r) = affects sd r
+
+-- the rolls and the keys of a side are in order
+-- ---- phases of a side and states of a roll
+
+abbrev pub at_phase : RollType → RollState → Phase
+at_phase r Propagation1 = Spreading false r
+at_phase r (CacheExpire1 t) = Expiring false r
+at_phase r Propagation2 = Spreading true r
+at_phase r (CacheExpire2 t) = Expiring true r
+at_phase r Done = Idle
+
+abbrev pub is_live : RollState → Bool
+is_live Done = false
+is_live _ = true
+
+pub phase_is : (ph : Phase) (r : RollType) (p : RollState) → phase_fits ph r (Some p) ≡ true
+    → ph ≡ at_phase r p
+phase_is Idle r Propagation1 e = absurd (true≢false (sym e))
+phase_is Idle r (CacheExpire1 t) e = absurd (true≢false (sym e))
+phase_is Idle r Propagation2 e = absurd (true≢false (sym e))
+phase_is Idle r (CacheExpire2 t) e = absurd (true≢false (sym e))
+phase_is Idle r Done e = refl
+phase_is (Spreading false q) r Propagation1 e = ap (Spreading false) (same-true q r e)
+phase_is (Spreading false q) r (CacheExpire1 t) e = absurd (true≢false (sym e))
+phase_is (Spreading false q) r Propagation2 e = absurd (true≢false (sym e))
+phase_is (Spreading false q) r (CacheExpire2 t) e = absurd (true≢false (sym e))
+phase_is (Spreading false q) r Done e = absurd (true≢false (sym e))
+phase_is (Expiring false q) r Propagation1 e = absurd (true≢false (sym e))
+phase_is (Expiring false q) r (CacheExpire1 t) e = ap (Expiring false) (same-true q r e)
+phase_is (Expiring false q) r Propagation2 e = absurd (true≢false (sym e))
+phase_is (Expiring false q) r (CacheExpire2 t) e = absurd (true≢false (sym e))
+phase_is (Expiring false q) r Done e = absurd (true≢false (sym e))
+phase_is (Spreading true q) r Propagation1 e = absurd (true≢false (sym e))
+phase_is (Spreading true q) r (CacheExpire1 t) e = absurd (true≢false (sym e))
+phase_is (Spreading true q) r Propagation2 e = ap (Spreading true) (same-true q r e)
+phase_is (Spreading true q) r (CacheExpire2 t) e = absurd (true≢false (sym e))
+phase_is (Spreading true q) r Done e = absurd (true≢false (sym e))
+phase_is (Expiring true q) r Propagation1 e = absurd (true≢false (sym e))
+phase_is (Expiring true q) r (CacheExpire1 t) e = absurd (true≢false (sym e))
+phase_is (Expiring true q) r Propagation2 e = absurd (true≢false (sym e))
+phase_is (Expiring true q) r (CacheExpire2 t) e = ap (Expiring true) (same-true q r e)
+phase_is (Expiring true q) r Done e = absurd (true≢false (sym e))
+
+pub idle_is : (sd : SideOf) (ph : Phase) → phase_own sd ph ≡ true
+    → ((q : RollType) → affects sd q ≡ true → phase_fits ph q None ≡ true) → ph ≡ Idle
+idle_is sd Idle own h = refl
+idle_is sd (Spreading b r) own h = absurd (true≢false (sym (h r own) ∙ ap not (same-same r)))
+idle_is sd (Expiring b r) own h = absurd (true≢false (sym (h r own) ∙ ap not (same-same r)))
+
+pub others_none : (r : RollType) (p : RollState) (q : RollType) (o : Option RollState)
+    → is_live p ≡ true → phase_fits (at_phase r p) q o ≡ true → same_roll r q ≡ false → o ≡ None
+others_none r Propagation1 q None live e d = refl
+others_none r Propagation1 q (Some Propagation1) live e d = absurd (true≢false (sym e ∙ d))
+others_none r Propagation1 q (Some (CacheExpire1 u)) live e d = absurd (true≢false (sym e))
+others_none r Propagation1 q (Some Propagation2) live e d = absurd (true≢false (sym e))
+others_none r Propagation1 q (Some (CacheExpire2 u)) live e d = absurd (true≢false (sym e))
+others_none r Propagation1 q (Some Done) live e d = absurd (true≢false (sym e))
+others_none r (CacheExpire1 t) q None live e d = refl
+others_none r (CacheExpire1 t) q (Some Propagation1) live e d = absurd (true≢false (sym e))
+others_none r (CacheExpire1 t) q (Some (CacheExpire1 u)) live e d = absurd (true≢false (sym e ∙ d))
+others_none r (CacheExpire1 t) q (Some Propagation2) live e d = absurd (true≢false (sym e))
+others_none r (CacheExpire1 t) q (Some (CacheExpire2 u)) live e d = absurd (true≢false (sym e))
+others_none r (CacheExpire1 t) q (Some Done) live e d = absurd (true≢false (sym e))
+others_none r Propagation2 q None live e d = refl
+others_none r Propagation2 q (Some Propagation1) live e d = absurd (true≢false (sym e))
+others_none r Propagation2 q (Some (CacheExpire1 u)) live e d = absurd (true≢false (sym e))
+others_none r Propagation2 q (Some Propagation2) live e d = absurd (true≢false (sym e ∙ d))
+others_none r Propagation2 q (Some (CacheExpire2 u)) live e d = absurd (true≢false (sym e))
+others_none r Propagation2 q (Some Done) live e d = absurd (true≢false (sym e))
+others_none r (CacheExpire2 t) q None live e d = refl
+others_none r (CacheExpire2 t) q (Some Propagation1) live e d = absurd (true≢false (sym e))
+others_none r (CacheExpire2 t) q (Some (CacheExpire1 u)) live e d = absurd (true≢false (sym e))
+others_none r (CacheExpire2 t) q (Some Propagation2) live e d = absurd (true≢false (sym e))
+others_none r (CacheExpire2 t) q (Some (CacheExpire2 u)) live e d = absurd (true≢false (sym e ∙ d))
+others_none r (CacheExpire2 t) q (Some Done) live e d = absurd (true≢false (sym e))
+others_none r Done q o live e d = absurd (true≢false (sym live))
+
+pub none_fits : (r : RollType) (p : RollState) (q : RollType) → same_roll r q ≡ false
+    → phase_fits (at_phase r p) q None ≡ true
+none_fits r Propagation1 q d = ap not d
+none_fits r (CacheExpire1 t) q d = ap not d
+none_fits r Propagation2 q d = ap not d
+none_fits r (CacheExpire2 t) q d = ap not d
+none_fits r Done q d = refl
+
+pub here_fits : (r : RollType) (p : RollState) → phase_fits (at_phase r p) r (Some p) ≡ true
+here_fits r Propagation1 = same-same r
+here_fits r (CacheExpire1 t) = same-same r
+here_fits r Propagation2 = same-same r
+here_fits r (CacheExpire2 t) = same-same r
+here_fits r Done = refl
+
+pub own_at : (sd : SideOf) (r : RollType) (p : RollState) → affects sd r ≡ true
+    → phase_own sd (at_phase r p) ≡ true
+own_at sd r Propagation1 e = e
+own_at sd r (CacheExpire1 t) e = e
+own_at sd r Propagation2 e = e
+own_at sd r (CacheExpire2 t) e = e
+own_at sd r Done e = refl
+
+pub distinct : (sd : SideOf) (r q : RollType) → affects sd r ≡ false → affects sd q ≡ true
+    → same_roll r q ≡ false
+distinct sd r q outside inside = by (same_roll r q) refl
+  where
+    by : (b : Bool) → same_roll r q ≡ b → b ≡ false
+    by true e = absurd (true≢false (sym inside ∙ ap (affects sd) (sym (same-true r q e)) ∙ outside))
+    by false e = refl
+
+-- the phase of one roll after it was put
+pub put_there : (old new : Rolls) (r : RollType) (o : Option RollState) (q : RollType)
+    → new ≡ with_phase old r o → same_roll r q ≡ true → phase_of new q ≡ o
+put_there old new r o q e t = ap (λ x. phase_of x q) e ∙ phase_of-with_phase old r o q
+    ∙ ap (λ b. if b then o else phase_of old q) t
+
+pub put_aside : (old new : Rolls) (r : RollType) (o : Option RollState) (q : RollType)
+    → new ≡ with_phase old r o → same_roll r q ≡ false → phase_of new q ≡ phase_of old q
+put_aside old new r o q e t = ap (λ x. phase_of x q) e ∙ phase_of-with_phase old r o q
+    ∙ ap (λ b. if b then o else phase_of old q) t
+
+pub no_phases : (q : RollType) → phase_of no_rolls q ≡ None
+no_phases KskRoll = refl
+no_phases KskDoubleDsRoll = refl
+no_phases ZskRoll = refl
+no_phases ZskDoubleSignatureRoll = refl
+no_phases CskRoll = refl
+no_phases AlgorithmRoll = refl
+
+-- a call that leaves a roll's phase
+abbrev pub roll_now : KeySetParts → RollType → Option RollState
+roll_now set r = phase_of set.rolls r
+
+pub split_by : (b : Bool) → (b ≡ true) ⊎ (b ≡ false)
+split_by true = inl refl
+split_by false = inr refl

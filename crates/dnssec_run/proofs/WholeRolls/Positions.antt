@@ -1,0 +1,224 @@
+-- No wait misses a stamp, and roles settle between the rolls: for `stamps` and `settled`.
+use Rattle.std.proofs.Common.{◌≡◌, ℕ, zero, suc, inl, inr, Bool, true, false, not, refl, sym, ◌∙◌}
+use Rattle.std.proofs.Common.{ap, subst, List, Option, None, Some}
+use Rattle.std.specs.Prelude.{slice_get, is_some, if◌then◌else◌}
+use Rattle.std.specs.Option.{option_map}
+use Rattle.std.specs.FinMap.{get}
+use Rattle.std.proofs.lemmas.Bool.{true≢false}
+use Rattle.dnssec_key.specs.declared.roll.RollType.{RollType}
+use Rattle.dnssec_key.specs.declared.roll.RollState.{RollState}
+use Rattle.dnssec_key.specs.declared.roll.RollState.TheVariants.{Propagation1, CacheExpire1}
+use Rattle.dnssec_key.specs.declared.roll.RollState.TheVariants.{Propagation2, CacheExpire2}
+use Rattle.dnssec_key.specs.declared.roll.RollState.TheVariants.{Done}
+use Rattle.dnssec_key.specs.declared.error.Error.TheVariants.{WrongKeyState}
+use Rattle.dnssec_key.specs.Key.{KeyParts}
+use Rattle.dnssec_keyset.specs.KeySet.{KeySetParts, phase_of}
+use Rattle.dnssec_keyset.specs.Laws.{in_progress}
+use Rattle.dnssec_key.specs.RollTable.{Half, First, Second}
+use Rattle.dnssec_keyset.specs.Wait.{ttl_in, lacks_stamp, is_early, time_left, left_since}
+use Rattle.dnssec_keyset.specs.Wait.{stamp_read}
+use Rattle.dnssec_keyset.specs.Step as keyset
+use Rattle.dnssec_keyset.proofs.Quantified.{some_key-found}
+use Rattle.dnssec_run.specs.WholeRolls.{SetsNothing, NeverMissesStamp, SettlesBetweenRolls}
+use Rattle.dnssec_run.specs.declared.call.Call.{Call}
+use Rattle.dnssec_run.specs.declared.call.Call.TheVariants as call
+use Rattle.dnssec_run.specs.declared.record.Entry.{Entry}
+use Rattle.dnssec_run.specs.Published.{World}
+use Rattle.dnssec_run.specs.Plain.{is_plain_call}
+use Rattle.dnssec_run.specs.Record.{IsRun, call_of, reply_of, stepped_by, world_at}
+use Rattle.dnssec_keyset.proofs.Flags.{SideOf, Keys, Zone, affects}
+use Rattle.dnssec_run.proofs.Chain.Tables.{half, read, reads-stamp, checked, Stamp, Visible}
+use Rattle.dnssec_run.proofs.Chain.Tables.{DsVisible, RrsigVisible}
+use Rattle.dnssec_run.proofs.Chain.Tale.{stamp_of, waiting}
+use Rattle.dnssec_run.proofs.WholeRolls.Keys.{Expiring, Idle, has, settled_by, stamp_there}
+use Rattle.dnssec_run.proofs.WholeRolls.Order.{Order, in_order, is_calm, order-new, order-step}
+use Rattle.dnssec_run.proofs.WholeRolls.Phases.{at_phase, idle_is, phase_fits, phase_is}
+
+-- ---- at each position
+
+-- a call of a plain list sets nothing, and a key that it adds is in no use
+pub nothing_set : (c : Call) → is_plain_call (call_of c) ≡ true → is_calm (call_of c) ≡ true
+nothing_set (call.AddKeyKsk a b c d e f) p = refl
+nothing_set (call.AddKeyZsk a b c d e f) p = refl
+nothing_set (call.AddKeyCsk a b c d e f) p = refl
+nothing_set (call.AddPublicKey a b c d e) p = refl
+nothing_set (call.SetDecoupled a b) p = p
+nothing_set (call.SetPresent a b c) p = p
+nothing_set (call.SetSigner a b) p = p
+nothing_set (call.SetAtParent a b) p = p
+nothing_set (call.SetStale a) p = p
+nothing_set (call.SetVisible a b) p = p
+nothing_set (call.SetDsVisible a b) p = p
+nothing_set (call.SetRrsigVisible a b) p = p
+nothing_set (call.DeleteKey a) p = p
+nothing_set (call.StartRoll a b c d) p = p
+nothing_set (call.Propagation1Complete a b c) p = p
+nothing_set (call.CacheExpired1 a b) p = p
+nothing_set (call.Propagation2Complete a b c) p = p
+nothing_set (call.CacheExpired2 a b) p = p
+nothing_set (call.RollDone a) p = p
+
+module _ (name : List ℕ) (calls : List Call) (entries : List Entry) (run : IsRun name calls entries)
+    (plain : SetsNothing name calls entries) where
+  pub in-order : (sd : SideOf) (n : ℕ) → Order sd (world_at name calls entries n).set
+  unfolding world_at
+  in-order sd zero = order-new sd name
+  in-order sd (suc n) = at (slice_get calls n) (slice_get entries n) refl refl (in-order sd n)
+    where
+      at : (oc : Option Call) (oe : Option Entry) → slice_get calls n ≡ oc
+          → slice_get entries n ≡ oe → Order sd (world_at name calls entries n).set
+          → Order sd (stepped_by (suc n) (world_at name calls entries n) oc oe).set
+      at None oe ci ei before = before
+      at (Some c) None ci ei before = before
+      at (Some c) (Some e) ci ei before =
+          let step_to : world_at name calls entries (suc n)
+          ≡ stepped_by (suc n) (world_at name calls entries n) (Some c) (Some e) =
+          λ i. stepped_by (suc n) (world_at name calls entries n) (ci i) (ei i) in
+          order-step sd _ _ (call_of c) (reply_of e.reply) (nothing_set c (plain n c ci))
+          (subst (λ (w : World). keyset.Step (world_at name calls entries n).set (call_of c)
+          (reply_of e.reply) w.set) step_to (run.each n c e ci ei).step) before
+
+-- ---- between the rolls
+
+none_there : (o : Option RollState) → is_some o ≡ false → o ≡ None
+none_there None e = refl
+none_there (Some p) e = absurd (true≢false e)
+
+idle_now : (sd : SideOf) (set : KeySetParts) (h : Order sd set)
+    → ((r : RollType) → in_progress set.rolls r ≡ false) → h.ph ≡ Idle
+idle_now sd set h none = idle_is sd h.ph h.own
+    (λ q e. ap (phase_fits h.ph q) (sym (none_there (phase_of set.rolls q) (none q))) ∙ h.rolls q e)
+
+pub settles-between : (name : List ℕ) (calls : List Call) (entries : List Entry)
+    → IsRun name calls entries → SettlesBetweenRolls name calls entries
+settles-between name calls entries run plain n le none q k at =
+    let set = (world_at name calls entries n).set in
+    let x = in-order name calls entries run plain Keys n in
+    let y = in-order name calls entries run plain Zone n in
+    settled_by k.keytype (is_some k.timestamps.visible) (is_some k.timestamps.ds_visible)
+    (is_some k.timestamps.rrsig_visible)
+    (ap (λ ph. in_order Keys ph k) (sym (idle_now Keys set x none)) ∙ x.keys q k at)
+    (ap (λ ph. in_order Zone ph k) (sym (idle_now Zone set y none)) ∙ y.keys q k at)
+
+-- ---- waits
+
+has_it : (s : Stamp) (k : KeyParts)
+    → has s (is_some k.timestamps.visible) (is_some k.timestamps.ds_visible)
+    (is_some k.timestamps.rrsig_visible) ≡ is_some (stamp_of s k)
+has_it Visible k = refl
+has_it DsVisible k = refl
+has_it RrsigVisible k = refl
+
+some_mapped : (f : ℕ → ℕ) (o : Option ℕ) → is_some o ≡ true → not (is_some (option_map f o)) ≡ true
+    → ⊥
+some_mapped f None e h = true≢false (sym e)
+some_mapped f (Some m) e h = true≢false (sym h)
+
+module _ (set : KeySetParts) (ks : Order Keys set) (zs : Order Zone set) (r : RollType)
+    (second : Bool) (ttl now : ℕ) (phase : phase_of set.rolls r ≡ Some (waiting second ttl)) where
+  waits_at : (second : Bool) (ttl : ℕ) → at_phase r (waiting second ttl) ≡ Expiring second r
+  waits_at false ttl = refl
+  waits_at true ttl = refl
+
+  there : (sd : SideOf) (h : Order sd set) → affects sd r ≡ true → h.ph ≡ Expiring second r
+  there sd h own = phase_is h.ph r (waiting second ttl) (ap (phase_fits h.ph r) (sym phase)
+      ∙ h.rolls r own) ∙ waits_at second ttl
+
+  pub read_there : (q : List ℕ) (k : KeyParts) → get set.keys q ≡ Some k
+      → checked r second k.keytype ≡ true → is_some (stamp_of (read r second) k) ≡ true
+  read_there q k at check = sym (has_it (read r second) k)
+      ∙ stamp_there r second k.keytype (is_some k.timestamps.visible)
+      (is_some k.timestamps.ds_visible) (is_some k.timestamps.rrsig_visible) check
+      (λ own. ap (λ ph. in_order Keys ph k) (sym (there Keys ks own)) ∙ ks.keys q k at)
+      (λ own. ap (λ ph. in_order Zone ph k) (sym (there Zone zs own)) ∙ zs.keys q k at)
+
+  pub no_lack : lacks_stamp (time_left r (half second) ttl now) set.keys ≡ true → ⊥
+  no_lack e =
+      let f = some_key-found (λ k. not (is_some (time_left r (half second) ttl now k))) set.keys
+      e in
+      by f.0 f.1 f.2 (checked r second f.1.keytype) refl f.3
+    where
+      by : (q : List ℕ) (k : KeyParts) → get set.keys q ≡ Some k → (b : Bool)
+          → checked r second k.keytype ≡ b
+          → not (is_some (time_left r (half second) ttl now k)) ≡ true → ⊥
+      by q k at true t lack = some_mapped (left_since ttl now) (stamp_read r (half second) k)
+          (ap is_some (reads-stamp r second k.timestamps) ∙ read_there q k at t)
+          (sym (ap (λ b.
+          not (is_some (if b then option_map (left_since ttl now) (stamp_read r (half second) k)
+          else Some 0))) t) ∙ lack)
+      by q k at false t lack = true≢false (sym lack
+          ∙ ap (λ b. not
+          (is_some (if b then option_map (left_since ttl now) (stamp_read r (half second) k)
+          else Some 0))) t)
+
+  not_barred : keyset.wait_in_phase r (half second) (Some ttl) now set.keys
+      ≡ keyset.Barred WrongKeyState → ⊥
+  not_barred e = by (lacks_stamp (time_left r (half second) ttl now) set.keys) refl
+      (is_early (time_left r (half second) ttl now) set.keys) e
+    where
+      by : (b : Bool) → lacks_stamp (time_left r (half second) ttl now) set.keys ≡ b → (c : Bool)
+          → (if lacks_stamp (time_left r (half second) ttl now) set.keys
+          then keyset.Barred WrongKeyState
+          else (if is_early (time_left r (half second) ttl now) set.keys
+          then keyset.Early (time_left r (half second) ttl now) else keyset.Clear))
+          ≡ keyset.Barred WrongKeyState → ⊥
+      by true t c e = no_lack t
+      by false t c e = at_early (is_early (time_left r (half second) ttl now) set.keys)
+          (sym (ap (λ b. if b then keyset.Barred WrongKeyState
+          else (if is_early (time_left r (half second) ttl now) set.keys
+          then keyset.Early (time_left r (half second) ttl now) else keyset.Clear)) t) ∙ e)
+        where
+          at_early : (c : Bool)
+              → (if c then keyset.Early (time_left r (half second) ttl now) else keyset.Clear)
+              ≡ keyset.Barred WrongKeyState → ⊥
+          at_early true e = cc
+          at_early false e = cc
+
+never_barred : (set : KeySetParts) → Order Keys set → Order Zone set
+    → (r : RollType) (h : Half) (now : ℕ)
+    → keyset.wait_verdict r h now set ≡ keyset.Barred WrongKeyState → ⊥
+never_barred set ks zs r First now e = by (phase_of set.rolls r) refl e
+  where
+    by : (o : Option RollState) → phase_of set.rolls r ≡ o
+        → keyset.wait_in_phase r First (ttl_in First o) now set.keys ≡ keyset.Barred WrongKeyState
+        → ⊥
+    by None p f = cc
+    by (Some Propagation1) p f = cc
+    by (Some (CacheExpire1 ttl)) p f = not_barred set ks zs r false ttl now p f
+    by (Some Propagation2) p f = cc
+    by (Some (CacheExpire2 ttl)) p f = cc
+    by (Some Done) p f = cc
+never_barred set ks zs r Second now e = by (phase_of set.rolls r) refl e
+  where
+    by : (o : Option RollState) → phase_of set.rolls r ≡ o
+        → keyset.wait_in_phase r Second (ttl_in Second o) now set.keys ≡ keyset.Barred WrongKeyState
+        → ⊥
+    by None p f = cc
+    by (Some Propagation1) p f = cc
+    by (Some (CacheExpire1 ttl)) p f = cc
+    by (Some Propagation2) p f = cc
+    by (Some (CacheExpire2 ttl)) p f = not_barred set ks zs r true ttl now p f
+    by (Some Done) p f = cc
+
+-- the reply of a wait that isn't barred so
+told_else : (v : keyset.Verdict) (old new : KeySetParts) (r : RollType) (h : Half) (now : ℕ)
+    (reply : keyset.Reply) → keyset.StepBy v old (keyset.Wait r h now) reply new
+    → (v ≡ keyset.Barred WrongKeyState → ⊥) → reply ≡ keyset.Refused WrongKeyState → ⊥
+told_else (keyset.Barred cause) old new r h now reply step not_so e =
+    let same : keyset.Refused cause ≡ keyset.Refused WrongKeyState = sym step.0 ∙ e in not_so (cc)
+told_else (keyset.Early left) old new r h now reply step not_so e = let same = sym step.0.1 ∙ e in
+    cc
+told_else keyset.Clear old new r h now reply (inl step) not_so e = let same = sym step.0 ∙ e in cc
+told_else keyset.Clear old new r h now reply (inr step) not_so e = let same = sym step.1 ∙ e in cc
+
+pub never-misses : (name : List ℕ) (calls : List Call) (entries : List Entry)
+    → IsRun name calls entries → NeverMissesStamp name calls entries
+never-misses name calls entries run plain n roll half now wait =
+    let old = (world_at name calls entries n).set in
+    let new = (world_at name calls entries (suc n)).set in
+    told_else (keyset.wait_verdict roll half now old) old new roll half now
+    (reply_of wait.entry.reply)
+    (subst (λ c. keyset.Step old c (reply_of wait.entry.reply) new) wait.call_is
+    (run.each n wait.made wait.entry wait.made_is wait.entry_is).step)
+    (never_barred old (in-order name calls entries run plain Keys n)
+    (in-order name calls entries run plain Zone n) roll half now)

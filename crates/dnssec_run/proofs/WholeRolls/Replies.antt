@@ -1,0 +1,78 @@
+-- What an accepted call did, and that a refused one did nothing: for all laws of whole rolls.
+use Rattle.dnssec_keyset.proofs.Accepted.{accepted_changes, refused_same}
+use Rattle.std.proofs.Common.{◌≡◌, ℕ, suc, Bool, true, false, List, Some, refl, sym, subst}
+use Rattle.std.proofs.lemmas.Bool.{true≢false}
+use Rattle.dnssec_keyset.specs.KeySet.{KeySetParts}
+use Rattle.dnssec_keyset.specs.Step as keyset
+use Rattle.dnssec_run.specs.declared.record.Reply.{Reply}
+use Rattle.dnssec_run.specs.declared.record.Reply.TheVariants as reply
+use Rattle.dnssec_run.specs.Record.{IsRun, reply_of, is_accepted, mark_after, moment_of, call_of}
+use Rattle.dnssec_run.specs.Record.{world_at, added_by}
+use Rattle.std.specs.Prelude.{slice_get, if◌then◌else◌}
+use Rattle.dnssec_run.specs.WholeRolls.{IsMade}
+use Rattle.dnssec_run.specs.Safe.{position_at}
+use Rattle.dnssec_run.specs.declared.call.Call.{Call}
+use Rattle.dnssec_run.specs.declared.record.Entry.{Entry}
+use Rattle.dnssec_run.specs.declared.record.Mark.TheVariants.{Other}
+use Rattle.dnssec_run.proofs.Chain.Trust.{mark, plainly}
+
+-- a reply that accepts
+pub accepted_step : (v : keyset.Verdict) (old new : KeySetParts) (c : keyset.Call) (r : Reply)
+    → is_accepted r ≡ true → keyset.StepBy v old c (reply_of r) new → (v ≡ keyset.Clear)
+    × keyset.Changes old c new × (reply_of r ≡ keyset.accepted_reply c)
+accepted_step v old new c reply.Done a h = accepted_changes v old new c keyset.Done refl h
+accepted_step v old new c (reply.Actions x) a h =
+    accepted_changes v old new c (keyset.Actions x.items) refl h
+accepted_step v old new c (reply.Refused x) a h = absurd (true≢false (sym a))
+
+-- a reply that refuses
+pub refused_step : (v : keyset.Verdict) (old new : KeySetParts) (c : keyset.Call) (r : Reply)
+    → is_accepted r ≡ false → keyset.StepBy v old c (reply_of r) new → new ≡ old
+refused_step v old new c reply.Done a h = absurd (true≢false a)
+refused_step v old new c (reply.Actions x) a h = absurd (true≢false a)
+refused_step v old new c (reply.Refused x) a h = refused_same v old new c x h
+
+-- ---- positions
+
+-- what a position tells of its call
+pub record At (calls : List Call) (entries : List Entry) (n : ℕ) (c : Call) (e : Entry)
+    : Type 0 where
+  pub call_is : slice_get calls n ≡ Some c
+  pub entry_is : slice_get entries n ≡ Some e
+  pub mark_is : (position_at entries (suc n)).mark ≡ mark_after c e.reply
+  pub when : (position_at entries (suc n)).moment ≡ moment_of c
+
+-- the mark of an entry
+pub marked : (c : Call) (r : Reply) (b : Bool) → is_accepted r ≡ b
+    → mark_after c r ≡ (if b then mark (call_of c) else Other)
+marked c reply.Done true t = (plainly c).mark_is
+marked c (reply.Actions x) true t = (plainly c).mark_is
+marked c (reply.Refused x) true t = absurd (true≢false (sym t))
+marked c reply.Done false t = absurd (true≢false t)
+marked c (reply.Actions x) false t = absurd (true≢false t)
+marked c (reply.Refused x) false t = refl
+
+module _ (name : List ℕ) (calls : List Call) (entries : List Entry)
+    (run : IsRun name calls entries) where
+  pub at_position : (n : ℕ) (c : Call) (e : Entry) → slice_get calls n ≡ Some c
+      → slice_get entries n ≡ Some e → At calls entries n c e
+  unfolding position_at
+  at_position n c e ci ei =
+      let ok = run.each n c e ci ei in
+      record { call_is = ci; entry_is = ei; mark_is = rw ei ok.mark; when = rw ei ok.moment }
+
+  -- a call that is made is a step
+  pub step-made : (n : ℕ) (call : keyset.Call) (made : IsMade calls entries n call)
+      → keyset.Step (world_at name calls entries n).set call (reply_of made.entry.reply)
+      (world_at name calls entries (suc n)).set
+  step-made n call made =
+      subst (λ c. keyset.Step (world_at name calls entries n).set c (reply_of made.entry.reply)
+      (world_at name calls entries (suc n)).set) made.call_is
+      (run.each n made.made made.entry made.made_is made.entry_is).step
+
+  -- where a key was added, from one position to the next
+  pub added-next : (n : ℕ) (c : Call) (e : Entry) → slice_get calls n ≡ Some c
+      → slice_get entries n ≡ Some e → (world_at name calls entries (suc n)).added
+      ≡ added_by (suc n) c e.reply (world_at name calls entries n).added
+  unfolding world_at
+  added-next n c e ci ei = rw (ci, ei) refl

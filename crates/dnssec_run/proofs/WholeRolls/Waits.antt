@@ -1,0 +1,289 @@
+-- A wait in its phase lasts exactly until the TTL has passed since its report: for `waits`.
+use Rattle.std.proofs.Common.{◌≡◌, ℕ, zero, suc, ◌+◌, ◌*◌, ◌≤◌, inl, inr, Bool, true, false, refl}
+use Rattle.std.proofs.Common.{sym, ◌∙◌, ap, subst, arith, List, length, Option, None, Some}
+use Rattle.std.specs.Prelude.{slice_get, unwrap_or, max}
+use Rattle.std.specs.FinMap.{get-empty}
+use Rattle.std.specs.Ordering.{nat_cmp}
+use Rattle.std.specs.Cmp.Lexicographic.{slice_cmp}
+use Rattle.std.proofs.lemmas.Bool.{true≢false}
+use Rattle.std.proofs.lemmas.Option.{none-some, slice_get_cases}
+use Rattle.dnssec_key.specs.declared.roll.RollType.{RollType}
+use Rattle.dnssec_key.specs.declared.roll.RollType.TheVariants.{KskRoll, KskDoubleDsRoll}
+use Rattle.dnssec_key.specs.declared.roll.RollType.TheVariants.{ZskRoll, ZskDoubleSignatureRoll}
+use Rattle.dnssec_key.specs.declared.roll.RollType.TheVariants.{CskRoll, AlgorithmRoll}
+use Rattle.dnssec_key.specs.declared.roll.RollState.{RollState}
+use Rattle.dnssec_key.specs.declared.roll.RollState.TheVariants.{CacheExpire1, CacheExpire2}
+use Rattle.dnssec_run.specs.WholeRolls.{IsMade, SetsNothing, NeverFalls, LastReport, counts_from}
+use Rattle.dnssec_run.specs.WholeRolls.{WaitsUntil, WaitsExactly}
+use Rattle.dnssec_run.proofs.Chain.Trust.{moment, plainly}
+use Rattle.dnssec_keyset.specs.KeySet.{KeySetParts, phase_of}
+use Rattle.dnssec_key.specs.RollTable.{Half, First, Second, expiring}
+use Rattle.dnssec_keyset.specs.Wait.{ttl_in}
+use Rattle.dnssec_keyset.specs.Laws.{RollsTogether}
+use Rattle.dnssec_keyset.specs.Step as keyset
+use Rattle.dnssec_run.specs.declared.call.Call.{Call}
+use Rattle.dnssec_run.specs.declared.record.Entry.{Entry}
+use Rattle.dnssec_run.specs.Safe.{position_at, time_at}
+use Rattle.dnssec_run.specs.Record as rec
+use Rattle.dnssec_keyset.proofs.Sides.{leaves-others}
+use Rattle.dnssec_keyset.proofs.Laws.{together-new, together-step}
+use Rattle.dnssec_run.proofs.Laws.{stays-sound, kept-at}
+use Rattle.dnssec_run.proofs.Chain.History.{time_grows, time_now, time_mono}
+use Rattle.dnssec_run.specs.Record.{IsRun, call_of, reply_of, world_at, moment_of}
+use Rattle.dnssec_keyset.proofs.Flags.{Keys, Zone, fits}
+use Rattle.dnssec_run.proofs.Chain.Tables.{half, checked}
+use Rattle.dnssec_run.proofs.Chain.Tale.{waiting}
+use Rattle.dnssec_run.proofs.Chain.Facts.{stays_facts}
+use Rattle.dnssec_run.proofs.WholeRolls.Reports.{Arms, Data, data-beside, is_report, last-report}
+use Rattle.dnssec_run.proofs.WholeRolls.Moments.{late-step, unstamped}
+use Rattle.dnssec_run.proofs.WholeRolls.Steps.{data-step, fits_at}
+use Rattle.dnssec_run.proofs.WholeRolls.Armed.{Armed, NoneLater, beside-same, is_zds, later-same}
+use Rattle.dnssec_run.proofs.WholeRolls.Armed.{timed_first, timed_second, zsk_reads}
+use Rattle.dnssec_run.proofs.WholeRolls.Keys.{Expiring, stage_in}
+use Rattle.dnssec_run.proofs.WholeRolls.Phases.{at_phase, no_phases, roll_now, split_by}
+use Rattle.dnssec_run.proofs.WholeRolls.Positions.{in-order, no_lack, nothing_set, read_there}
+use Rattle.dnssec_run.proofs.WholeRolls.Replies.{At, at_position, marked, accepted_step}
+use Rattle.dnssec_run.proofs.WholeRolls.Replies.{refused_step}
+use Rattle.dnssec_run.proofs.WholeRolls.Verdicts.{answers}
+
+-- ---- at each position
+
+module _ (name : List ℕ) (calls : List Call) (entries : List Entry) (run : IsRun name calls entries)
+    (plain : SetsNothing name calls entries) (never : NeverFalls calls) where
+  abbrev set_at : ℕ → KeySetParts
+  set_at n = (world_at name calls entries n).set
+
+  record Clock (n : ℕ) : Type 0 where
+    late : NoneLater (time_at entries n) (set_at n)
+    data_of : (r : RollType) (p : RollState) → roll_now (set_at n) r ≡ Some p
+        → Data entries (set_at n) n r p
+
+  -- no time before a call is later than its moment
+  time_before : (n : ℕ) (c : Call) (now : ℕ) → slice_get calls n ≡ Some c → moment_of c ≡ Some now
+      → (k : ℕ) → k ≤ n → k ≤ length entries → time_at entries k ≤ now
+  unfolding time_at
+  time_before n c now ci mo zero le within = omega arith
+  time_before n c now ci mo (suc k) le within =
+      let before = time_before n c now ci mo k (omega arith) (omega arith) in
+      elim ((slice_get_cases entries k).1) [
+        | inl e ↦ elim ((slice_get_cases calls k).1) [
+          | inl d ↦ by d.0 (at_position name calls entries run k d.0 e.0 d.2 e.2) (moment_of d.0)
+              refl before
+          | inr d ↦ absurd (omega (arith, d.0, run.count))
+        ]
+        | inr e ↦ absurd (omega (arith, e.0))
+      ]
+    where
+      by : {e : Entry} (d : Call) → At calls entries k d e → (o : Option ℕ) → moment_of d ≡ o
+          → time_at entries k ≤ now
+          → max (time_at entries k) (unwrap_or (position_at entries (suc k)).moment 0) ≤ now
+      by d a None m before = let none : unwrap_or (position_at entries (suc k)).moment 0 ≡ 0 =
+          ap (λ o. unwrap_or o 0) (a.when ∙ m) in omega arith
+      by d a (Some x) m before =
+          let is : unwrap_or (position_at entries (suc k)).moment 0 ≡ x =
+          ap (λ o. unwrap_or o 0) (a.when ∙ m) in
+          let most : x ≤ now = never k n d c x now (omega arith) a.call_is ci m mo in
+          omega arith
+
+  time_after : (n : ℕ) (c : Call) (e : Entry) (now : ℕ) → n ≤ length entries
+      → At calls entries n c e
+      → moment_of c ≡ Some now → time_at entries (suc n) ≤ now
+  unfolding time_at
+  time_after n c e now within a m =
+      let before = time_before n c now a.call_is m n (omega arith) within in
+      let is : unwrap_or (position_at entries (suc n)).moment 0 ≡ now =
+      ap (λ o. unwrap_or o 0) (a.when ∙ m) in
+      omega arith
+
+  same-clock : (n : ℕ) → set_at (suc n) ≡ set_at n
+      → ((r : RollType) (s : Bool) → is_report r s (position_at entries (suc n)).mark ≡ false)
+      → Clock n → Clock (suc n)
+  same-clock n same none h = record {
+    late = later-same (time_at entries n) (set_at n) (set_at (suc n)) h.late
+        (time_at entries (suc n)) (time_grows entries n) same;
+    data_of = λ r p e. data-beside entries r p n (set_at n) (set_at (suc n))
+        (beside-same r (set_at n) (set_at (suc n)) same) (none r)
+        (h.data_of r p (sym (ap (λ (s : KeySetParts). phase_of s.rolls r) same) ∙ e));
+  }
+
+  clock-next : (n : ℕ) (c : Call) (e : Entry) → n ≤ length entries → slice_get calls n ≡ Some c
+      → slice_get entries n ≡ Some e → Clock n → Clock (suc n)
+  clock-next n c e within ci ei h = by (rec.is_accepted e.reply) refl
+    where
+      a : At calls entries n c e
+      a = at_position name calls entries run n c e ci ei
+
+      step : keyset.Step (set_at n) (call_of c) (reply_of e.reply) (set_at (suc n))
+      step = (run.each n c e ci ei).step
+
+      by : (b : Bool) → rec.is_accepted e.reply ≡ b → Clock (suc n)
+      by false t =
+          same-clock n (refused_step (keyset.verdict (set_at n) (call_of c)) (set_at n)
+          (set_at (suc n)) (call_of c) e.reply t step)
+          (λ r s. ap (is_report r s) (a.mark_is ∙ marked c e.reply false t)) h
+      by true t =
+          let ok = accepted_step (keyset.verdict (set_at n) (call_of c)) (set_at n) (set_at (suc n))
+          (call_of c) e.reply t step in
+          let clean = nothing_set c (plain n c ci) in
+          let mo : (position_at entries (suc n)).moment ≡ moment (call_of c) = a.when
+          ∙ (plainly c).moment_is in
+          let late : NoneLater (time_at entries (suc n)) (set_at (suc n)) =
+          late-step (time_at entries n) (time_at entries (suc n)) (time_grows entries n)
+          (set_at n) (set_at (suc n)) h.late (call_of c) clean (unstamped c)
+          (λ now m. time_now entries (suc n) now (mo ∙ m)) ok.1 in
+          record {
+            late = late;
+            data_of = data-step entries n (set_at n) (set_at (suc n))
+                (in-order name calls entries run plain Keys n)
+                (in-order name calls entries run plain Zone n)
+                (stays-sound name calls entries run n within).rolls
+                (call_of c) clean ok.0 ok.1
+                (leaves-others (set_at n) (set_at (suc n)) (call_of c) (reply_of e.reply) step)
+                (a.mark_is ∙ marked c e.reply true t) mo
+                (λ now m q k s x at st. let top = late q k s x at st in
+                let so = time_after n c e now within a ((plainly c).moment_is ∙ m) in
+                omega arith) h.data_of;
+          }
+
+  clocks : (n : ℕ) → n ≤ length entries → Clock n
+  unfolding world_at
+  clocks zero le = record {
+    late = λ q k s x e f. absurd (none-some k (sym (get-empty (slice_cmp nat_cmp) q) ∙ e));
+    data_of = λ r p e. absurd (none-some p (sym (no_phases r) ∙ e));
+  }
+  clocks (suc n) le = elim ((slice_get_cases entries n).1) [
+    | inl e ↦ elim ((slice_get_cases calls n).1) [
+      | inl c ↦ clock-next n c.0 e.0 (omega arith) c.2 e.2 (clocks n (omega arith))
+      | inr c ↦ absurd (omega (arith, c.0, run.count))
+    ]
+    | inr e ↦ absurd (omega (arith, e.0))
+  ]
+
+  zds_checks : (n : ℕ) (r : RollType) → is_zds r ≡ true → (p : RollState)
+      → at_phase r p ≡ Expiring true r → roll_now (set_at n) r ≡ Some p
+      → (m : ℕ) (a : Armed r true m (set_at n)) → checked r true a.parts.keytype ≡ true
+  zds_checks n KskRoll z p i e m a = absurd (true≢false (sym z))
+  zds_checks n KskDoubleDsRoll z p i e m a = absurd (true≢false (sym z))
+  zds_checks n ZskRoll z p i e m a = absurd (true≢false (sym z))
+  zds_checks n ZskDoubleSignatureRoll z p i e m a = zsk_reads a.parts.keytype
+      (ap (λ ph. fits Zone (stage_in ph) a.parts.keytype) (sym i)
+      ∙ fits_at entries n (set_at n) (set_at n) (in-order name calls entries run plain Keys n)
+      (in-order name calls entries run plain Zone n) all ZskDoubleSignatureRoll p e a.key
+      a.parts a.there) a.goes_on
+    where
+      all : RollsTogether (set_at n).rolls
+      all = kept-at (λ (s : KeySetParts). RollsTogether s.rolls) together-new
+          (λ old new call reply before h. together-step old new call reply before h) name calls
+          entries run n
+  zds_checks n CskRoll z p i e m a = absurd (true≢false (sym z))
+  zds_checks n AlgorithmRoll z p i e m a = absurd (true≢false (sym z))
+
+  checks : (n : ℕ) (r : RollType) (second : Bool) (ttl : ℕ)
+      → roll_now (set_at n) r ≡ Some (waiting second ttl)
+      → (m : ℕ) (a : Armed r second m (set_at n)) → checked r second a.parts.keytype ≡ true
+  checks n r false ttl e m a = (stays_facts r false a.parts.keytype a.goes_on).check (timed_first r)
+  checks n r true ttl e m a = elim (split_by (is_zds r)) [
+    | inl z ↦ zds_checks n r z (CacheExpire2 ttl) refl e m a
+    | inr z ↦ (stays_facts r true a.parts.keytype a.goes_on).check (timed_second r z)
+  ]
+
+  whole : (n : ℕ) (r : RollType) (second : Bool) (ttl now : ℕ)
+      → roll_now (set_at n) r ≡ Some (waiting second ttl) → n ≤ length entries
+      → (a : Arms entries (set_at n) n r second) → (c : Call) → slice_get calls n ≡ Some c
+      → moment_of c ≡ Some now
+      → (new : KeySetParts) (h : Half) (reply : keyset.Reply) → half second ≡ h
+      → keyset.StepBy (keyset.wait_in_phase r (half second) (Some ttl) now (set_at n).keys)
+      (set_at n) (keyset.Wait r h now) reply new
+      → WaitsUntil (a.0.moment + ttl * 1_000_000_000) now reply
+      (keyset.accepted_reply (keyset.Wait r h now))
+  whole n r second ttl now e within a c ci mo new h reply which_half step =
+      let ks = in-order name calls entries run plain Keys n in
+      let zs = in-order name calls entries run plain Zone n in
+      let said : a.0.moment ≤ time_at entries a.0.at =
+      time_now entries a.0.at a.0.moment a.0.moment_is in
+      let since : time_at entries a.0.at ≤ time_at entries n =
+      time_mono entries a.0.at n a.0.within in
+      let before : time_at entries n ≤ now = time_before n c now ci mo n (omega arith) within in
+      answers (set_at n) r second ttl now a.0.moment a.1 (omega arith)
+      (checks n r second ttl e a.0.moment a.1)
+      (λ q k at check. read_there (set_at n) ks zs r second ttl now e q k at check) new h reply
+      which_half (no_lack (set_at n) ks zs r second ttl now e) step
+
+  -- what the record tells of the wait, and what it is answered
+  exactly : (n : ℕ) (r : RollType) (h : Half) (now ttl : ℕ)
+      → (wait : IsMade calls entries n (keyset.Wait r h now))
+      → roll_now (set_at n) r ≡ Some (expiring h ttl)
+      → (told : LastReport entries r h n) × (told.ttl ≡ ttl)
+      × (from : LastReport entries r (counts_from r h) n)
+      × WaitsUntil (from.moment + told.ttl * 1_000_000_000) now (reply_of wait.entry.reply)
+      (keyset.accepted_reply (keyset.Wait r h now))
+  unfolding Data last-report
+  exactly n r h now ttl wait phase = by h wait phase
+    where
+      within : n ≤ length entries
+      within = elim ((slice_get_cases entries n).1) [
+        | inl x ↦ let lt = x.1 in
+            omega arith
+        | inr x ↦ absurd (none-some _ (sym x.1 ∙ wait.entry_is))
+      ]
+
+      mo : (h : Half) → (wait : IsMade calls entries n (keyset.Wait r h now))
+          → moment_of wait.made ≡ Some now
+      mo h wait = (plainly wait.made).moment_is ∙ ap moment wait.call_is
+
+      step : (h : Half) → (wait : IsMade calls entries n (keyset.Wait r h now))
+          → keyset.Step (set_at n) (keyset.Wait r h now) (reply_of wait.entry.reply)
+          (set_at (suc n))
+      step h wait =
+          subst (λ k. keyset.Step (set_at n) k (reply_of wait.entry.reply) (set_at (suc n)))
+          wait.call_is (run.each n wait.made wait.entry wait.made_is wait.entry_is).step
+
+      by : (h : Half) → (wait : IsMade calls entries n (keyset.Wait r h now))
+          → roll_now (set_at n) r ≡ Some (expiring h ttl)
+          → (told : LastReport entries r h n) × (told.ttl ≡ ttl)
+          × (from : LastReport entries r (counts_from r h) n)
+          × WaitsUntil (from.moment + told.ttl * 1_000_000_000) now (reply_of wait.entry.reply)
+          (keyset.accepted_reply (keyset.Wait r h now))
+      by First wait phase =
+          let d = (clocks n within).data_of r (CacheExpire1 ttl) phase in
+          let in_phase : keyset.StepBy (keyset.wait_in_phase r First (Some ttl) now (set_at n).keys)
+          (set_at n) (keyset.Wait r First now) (reply_of wait.entry.reply) (set_at (suc n)) =
+          subst (λ o. keyset.StepBy
+          (keyset.wait_in_phase r First (ttl_in First o) now (set_at n).keys) (set_at n)
+          (keyset.Wait r First now) (reply_of wait.entry.reply) (set_at (suc n))) phase
+          (step First wait) in (
+            last-report entries r First n d.1.0,
+            d.1.1,
+            last-report entries r (counts_from r First) n d.0.0,
+            subst (λ t. WaitsUntil (d.0.0.moment + t * 1_000_000_000) now
+                (reply_of wait.entry.reply)
+                (keyset.accepted_reply (keyset.Wait r First now))) (sym d.1.1)
+                (whole n r false ttl now phase within d.0 wait.made wait.made_is (mo First wait)
+                (set_at (suc n)) First
+                (reply_of wait.entry.reply) refl in_phase),
+          )
+      by Second wait phase =
+          let d = (clocks n within).data_of r (CacheExpire2 ttl) phase in
+          let in_phase : keyset.StepBy
+          (keyset.wait_in_phase r Second (Some ttl) now (set_at n).keys) (set_at n)
+          (keyset.Wait r Second now) (reply_of wait.entry.reply) (set_at (suc n)) =
+          subst (λ o. keyset.StepBy
+          (keyset.wait_in_phase r Second (ttl_in Second o) now (set_at n).keys)
+          (set_at n) (keyset.Wait r Second now) (reply_of wait.entry.reply)
+          (set_at (suc n))) phase (step Second wait) in (
+            last-report entries r Second n d.1.0,
+            d.1.1,
+            last-report entries r (counts_from r Second) n d.0.0,
+            subst (λ t. WaitsUntil (d.0.0.moment + t * 1_000_000_000) now
+                (reply_of wait.entry.reply)
+                (keyset.accepted_reply (keyset.Wait r Second now))) (sym d.1.1)
+                (whole n r true ttl now phase within d.0 wait.made wait.made_is (mo Second wait)
+                (set_at (suc n)) Second
+                (reply_of wait.entry.reply) refl in_phase),
+          )
+
+-- each wait in its phase lasts exactly as long as its report says
+pub waits-exactly : (name : List ℕ) (calls : List Call) (entries : List Entry)
+    → IsRun name calls entries → WaitsExactly name calls entries
+waits-exactly name calls entries run plain never n roll half now ttl wait phase =
+    exactly name calls entries run plain never n roll half now ttl wait phase

@@ -1,0 +1,89 @@
+-- Nothing changes unasked: what is published changes only where the reply asks the operator to
+-- publish it, and a report retires just what the operator was asked to report.
+use Rattle.std.specs.Prelude.{◌≡◌, ◌⊎◌, ◌↔◌, ℕ, zero, suc, Bool, true, false, List, []}
+use Rattle.std.specs.Prelude.{slice_get, Some}
+use Rattle.std.specs.List.{Contains}
+use Rattle.std.specs.Option.{option_map_or}
+use Rattle.dnssec_key.specs.declared.roll.Action.{Action}
+use Rattle.dnssec_key.specs.declared.roll.Action.TheVariants.{UpdateDnskeyRrset, UpdateDsRrset}
+use Rattle.dnssec_key.specs.declared.roll.Action.TheVariants.{UpdateRrsig}
+use Rattle.dnssec_key.specs.declared.roll.Action.TheVariants.{ReportDnskeyPropagated}
+use Rattle.dnssec_key.specs.declared.roll.Action.TheVariants.{ReportDsPropagated}
+use Rattle.dnssec_key.specs.declared.roll.Action.TheVariants.{ReportRrsigPropagated}
+use Rattle.dnssec_key.specs.declared.roll.RollType.{RollType}
+use Rattle.dnssec_key.specs.Setters.{Setting, Present, Signer, AtParent, Stale}
+use Rattle.dnssec_keyset.specs.Step as keyset
+use Rattle.dnssec_run.specs.declared.call.Call.{Call}
+use Rattle.dnssec_run.specs.declared.record.Entry.{Entry}
+use Rattle.dnssec_run.specs.declared.record.Mark.TheVariants.{Report}
+use Rattle.dnssec_run.specs.declared.record.Reply.{Reply}
+use Rattle.dnssec_run.specs.declared.record.Reply.TheVariants.{Done, Actions, Refused}
+use Rattle.dnssec_run.specs.Record.{call_of}
+use Rattle.dnssec_run.specs.Safe.{SetKind, Ds, Dnskey, ZoneSigners, Position, position_at}
+use Rattle.dnssec_run.specs.Safe.{base_below, retires}
+
+-- ---- what is asked
+
+-- what a reply asks of the operator
+abbrev pub asked_by : Reply → List Action
+asked_by Done = []
+asked_by (Actions actions) = actions.items
+asked_by (Refused cause) = []
+
+-- what the reply at a position asks; position 0 has none
+abbrev pub asked_at : List Entry → ℕ → List Action
+asked_at entries zero = []
+asked_at entries (suc n) = option_map_or (λ entry. asked_by entry.reply) (slice_get entries n) []
+
+-- the action that asks to publish the sets of this kind anew: the DNSKEY set with its signers is
+-- one kind, since each version of it goes out with its signatures (RFC 4035, section 2.2)
+abbrev pub update_of : SetKind → Action
+update_of Ds = UpdateDsRrset
+update_of Dnskey = UpdateDnskeyRrset
+update_of ZoneSigners = UpdateRrsig
+
+-- the action that asks to report when all servers have them (RFC 7583, section 3)
+abbrev pub report_of : SetKind → Action
+report_of Ds = ReportDsPropagated
+report_of Dnskey = ReportDnskeyPropagated
+report_of ZoneSigners = ReportRrsigPropagated
+
+-- ---- what changes
+
+-- it sets a flag by hand; the stamps that a setter writes are published nowhere
+abbrev pub is_flag_setting : Setting → Bool
+is_flag_setting (Present value now) = true
+is_flag_setting (Signer value) = true
+is_flag_setting (AtParent value) = true
+is_flag_setting Stale = true
+is_flag_setting _ = false
+
+-- a call that sets a flag by hand
+abbrev pub sets_flag : keyset.Call → Bool
+sets_flag (keyset.Set reference setting) = is_flag_setting setting
+sets_flag _ = false
+
+-- what is published of this kind is the same at both positions
+abbrev pub SamePublished : SetKind → Position → Position → Type 0
+SamePublished Ds p q = q.ds ≡ p.ds
+SamePublished Dnskey p q = (q.dnskey ≡ p.dnskey) × (q.signers ≡ p.signers)
+SamePublished ZoneSigners p q = q.zone ≡ p.zone
+
+-- a call that sets no flag by hand asks to publish what it changes: of each kind the reply asks for
+-- an update, or all is published as at the position before
+abbrev pub ChangesAsAsked : List Call → List Entry → Type 0
+ChangesAsAsked calls entries = (n : ℕ) (call : Call) → slice_get calls n ≡ Some call →
+    sets_flag (call_of call) ≡ false → (kind : SetKind) →
+    Contains (asked_at entries (suc n)) (update_of kind)
+    ⊎ SamePublished kind (position_at entries n) (position_at entries (suc n))
+
+-- ---- what is retired
+
+-- an accepted report counts from a start or a first wait, and retires just the kinds of sets that
+-- the reply there asked to report
+abbrev pub RetiresAsAsked : List Entry → Type 0
+RetiresAsAsked entries = (n : ℕ) (roll : RollType) (second : Bool) (ttl : ℕ) →
+    (position_at entries n).mark ≡ Report roll second ttl →
+    (base : ℕ) × (base_below entries roll n ≡ Some base) ×
+    ((kind : SetKind) →
+    (retires roll second kind ≡ true) ↔ Contains (asked_at entries base) (report_of kind))

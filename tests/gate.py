@@ -1,0 +1,73 @@
+#!/usr/bin/env python3
+"""The gate: `make memory`, then `rt ci`. Before the last line of `rt ci` it tells when, in minutes
+and seconds since the start, each step was done, so that a rise is seen."""
+
+import os
+import re
+import subprocess
+import sys
+import tempfile
+import threading
+import time
+
+TOP = os.path.dirname(os.path.dirname(os.path.abspath(__file__)))
+START = time.monotonic()
+STEPS = []
+
+
+def note(step):
+    minutes, seconds = divmod(int(time.monotonic() - START), 60)
+    STEPS.append(f"{minutes:4}:{seconds:02} {step}")
+
+
+def trials():
+    """The folders in which `rt ci` tries edits now, one for each crate."""
+    return {it for it in os.listdir(tempfile.gettempdir()) if it.startswith("rt-edits-")}
+
+
+class Edits(threading.Thread):
+    """Notes when the edits of a crate are tried: when the folder that came with them is gone."""
+
+    def __init__(self):
+        super().__init__(daemon=True)
+        self.known = trials()
+        self.begun = []
+        self.crates = {}
+
+    def run(self):
+        while True:
+            now = trials()
+            for folder in sorted(now - self.known):
+                if self.begun:
+                    self.crates[folder] = self.begun.pop(0)
+            for folder in sorted(self.crates.keys() - now):
+                note(f"{self.crates.pop(folder)}: edits tried")
+            self.known = now
+            time.sleep(0.5)
+
+
+def main():
+    if subprocess.run(["make", "--no-print-directory", "memory"], cwd=TOP).returncode:
+        return 1
+    note("memory")
+    edits = Edits()
+    edits.start()
+    last = ""
+    gate = subprocess.Popen(["rt", "ci"], cwd=TOP, stdout=subprocess.PIPE, text=True)
+    for line in gate.stdout:
+        print(last, end="", flush=True)
+        last = line
+        if re.fullmatch(r"\S+( its tests are)? (proved|NOT PROVED)\n", line):
+            note(line.rstrip())
+        begun = re.match(r"(\S+): trying its must-fail edits", line)
+        if begun:
+            edits.begun.append(begun[1])
+    status = gate.wait()
+    note("programs and tests run")
+    print("Done after, in minutes and seconds:", *STEPS, sep="\n")
+    print(last, end="", flush=True)
+    return status
+
+
+if __name__ == "__main__":
+    sys.exit(main())
