@@ -18,4 +18,4 @@ test: memory
 	@rt ci
 
 memory:
-	@tests/memory.sh
+	@tests/memory.py
