@@ -28,4 +28,4 @@ test:
 	@tests/gate.py
 
 memory:
-	@tests/memory.sh
+	@tests/memory.py

@@ -56,11 +56,7 @@ fn faulty() -> [(&'static str, NameError); 22] {
 }
 
 /// The name of a text, asked for once more where its growth was refused.
-pub(crate) fn name_of(
-    rt: &impl Abort,
-    alloc: Global,
-    text: &str,
-) -> Result<Name<Vec<u8>>, NameError> {
+fn name_of(rt: &impl Abort, alloc: Global, text: &str) -> Result<Name<Vec<u8>>, NameError> {
     let answer = Name::from_str(alloc, text);
     if !matches!(answer, Err(NameError::OutOfMemory)) {
         return answer;
@@ -74,7 +70,7 @@ pub(crate) fn name_of(
 }
 
 /// What a name prints, asked for once more where memory was refused.
-pub(crate) fn printed(alloc: Global, name: &Name<Vec<u8>>) -> Result<String, AllocError> {
+fn printed(alloc: Global, name: &Name<Vec<u8>>) -> Result<String, AllocError> {
     match name.to_string(alloc) {
         Ok(text) => Ok(text),
         Err(AllocError) => name.to_string(alloc),

@@ -1,6 +1,6 @@
 //! What an operator sees of a key set, call by call, in a crate of its own, so that the key set isn't
 //! proved twice. The proofs say that each call meets its table; the values here come from worked
-//! examples.
+//! examples. Most are courses, tables of calls: a row more costs no proof.
 #![tactic(auto)]
 
 #[cfg(test)]
@@ -14,13 +14,11 @@ mod keys;
 #[cfg(test)]
 mod ksk_rolls;
 #[cfg(test)]
-mod memory;
-#[cfg(test)]
 mod side_by_side;
 #[cfg(test)]
 mod starts;
 #[cfg(test)]
-mod support;
+mod states;
 #[cfg(test)]
 mod texts;
 #[cfg(test)]

@@ -1,7 +1,5 @@
-//! What an operator reads of a refusal, and of the state of a key.
-use crate::support::{at, new_set, text};
-use dnssec_keyset::{Available, Error, KeyState, KeyType, SecurityAlgorithm};
-use std::alloc::Global;
+//! What an operator reads of a refusal.
+use dnssec_keyset::Error;
 use std::test::Fail;
 use std::time::Duration;
 
@@ -78,56 +76,5 @@ fn the_micro_sign(rt: HostRuntime) -> Result<(), Fail> {
         text.as_str().as_bytes(),
         b"wait for duration 2.569\xc2\xb5s".as_slice()
     );
-    Ok(())
-}
-
-/// The state of a KSK with these flags, set by hand.
-fn state(
-    alloc: Global,
-    (old, signer, present, at_parent): (bool, bool, bool, bool),
-) -> Result<KeyState, Fail> {
-    let mut set = new_set(alloc)?;
-    let algorithm = SecurityAlgorithm::ED25519;
-    let reference = text(alloc, "K1")?;
-    set.add_key_ksk(reference, None, algorithm, 1, at(0), Available::Available)?;
-    if old {
-        set.set_stale("K1")?;
-    }
-    set.set_signer("K1", signer)?;
-    set.set_present("K1", present, &at(0))?;
-    set.set_at_parent("K1", at_parent)?;
-    match set.keys().get("K1").ok_or("no K1")?.keytype() {
-        KeyType::Ksk(state) => Ok(state),
-        _ => Err("no KSK")?,
-    }
-}
-
-/// A state is told by its flags, and by the part that such a key plays in a roll.
-#[test]
-fn states(rt: HostRuntime) -> Result<(), Fail> {
-    // old, signer, present, at parent
-    let texts = [
-        ((false, false, false, false), "(Future)"),
-        ((false, false, false, true), "At Parent(Future)"),
-        ((false, false, true, false), "Present (Incoming)"),
-        (
-            (false, true, true, true),
-            "Signer, Present, At Parent (Active)",
-        ),
-        (
-            (true, true, true, true),
-            "Old, Signer, Present, At Parent (Leaving)",
-        ),
-        ((true, false, true, false), "Old, Present (Retired)"),
-        ((true, false, false, false), "Old (Stale)"),
-        ((true, false, false, true), "Old, At Parent (Stale)"),
-        ((false, true, false, false), "Signer"),
-        ((true, true, false, false), "Old, Signer"),
-    ];
-    for (flags, want) in texts {
-        let state = state(rt.alloc(), flags)?;
-        assert_eq!(rt; state.to_string(rt.alloc())?.as_str(), want);
-        assert_eq!(rt; state.stale(), want == "Old (Stale)", "{want}");
-    }
     Ok(())
 }

@@ -1,8 +1,11 @@
 //! Moments, and the names of zones and of rolls.
-use crate::support::at;
 use dnssec_keyset::{Error, KeySet, Name, RollType, Timestamp, UnixTime};
 use std::test::Fail;
 use std::time::Duration;
+
+fn at(seconds: u64) -> UnixTime {
+    UnixTime::from(Duration::from_secs(seconds))
+}
 
 /// A timestamp reaches as far as its 32 bits, and a moment as far as a duration.
 #[test]

@@ -1,0 +1,264 @@
+//! One call, and what holds of it whatever the course.
+use crate::asked::asked_after;
+use crate::look::{Seen, at, look, tags};
+use crate::mismatch::Trouble;
+use crate::steps::{Call, Kind, Memory, Names, Told};
+use dnssec_base::SecurityAlgorithm;
+use dnssec_keyset::{Action, Available, Error, KeySet, RollType, UnixTime};
+use std::alloc::{AllocError, Global};
+
+/// Makes one call. Where it is refused nothing may have changed; where it is accepted it asks what
+/// the operator's table says, and `actions` then tells the same. A call that is refused for want of
+/// memory is made once more.
+pub(crate) fn make(
+    alloc: Global,
+    set: &mut KeySet,
+    call: Call,
+    now: u64,
+    memory: &mut Memory,
+) -> Result<Told, Trouble> {
+    let before = look(set);
+    let tags_before = tags(set);
+    if !before.is_whole() {
+        return Err(Trouble::Unlisted);
+    }
+    let mut answer = attempt(alloc, set, call, &at(now));
+    if answer == Err(Error::OutOfMemory) && memory.fails() {
+        check_refusal(set, call, &before)?;
+        answer = attempt(alloc, set, call, &at(now));
+    }
+    match answer {
+        Ok(actions) => {
+            check_asked(actions.as_slice(), call)?;
+            check_roll(set, call, &tags_before, memory)?;
+            Ok(Told::Accepted)
+        }
+        Err(error) => {
+            check_same(set, &before)?;
+            Ok(as_told(error))
+        }
+    }
+}
+
+/// A call that was refused for want of memory takes some, and has changed nothing.
+fn check_refusal(set: &KeySet, call: Call, before: &Seen) -> Result<(), Trouble> {
+    if takes_memory(call) {
+        check_same(set, before)
+    } else {
+        Err(Trouble::TakesNone)
+    }
+}
+
+fn check_same(set: &KeySet, before: &Seen) -> Result<(), Trouble> {
+    if look(set) == *before {
+        Ok(())
+    } else {
+        Err(Trouble::Changed)
+    }
+}
+
+fn check_asked(actions: &[Action], call: Call) -> Result<(), Trouble> {
+    if actions == asked_after(call) {
+        Ok(())
+    } else {
+        Err(Trouble::Asked)
+    }
+}
+
+/// An accepted call of a roll writes no key tag, and `actions` tells what it asked.
+fn check_roll(
+    set: &KeySet,
+    call: Call,
+    tags_before: &[Option<u16>; 19],
+    memory: &mut Memory,
+) -> Result<(), Trouble> {
+    let Some(roll) = roll_of(call) else {
+        return Ok(());
+    };
+    if tags(set) != *tags_before {
+        return Err(Trouble::TagWritten);
+    }
+    check_told_again(set, roll, asked_after(call), memory)
+}
+
+fn check_told_again(
+    set: &KeySet,
+    roll: RollType,
+    want: &[Action],
+    memory: &mut Memory,
+) -> Result<(), Trouble> {
+    let mut answer = set.actions(roll);
+    if answer == Err(Error::OutOfMemory) && memory.fails() {
+        if want.is_empty() {
+            return Err(Trouble::TakesNone);
+        }
+        answer = set.actions(roll);
+    }
+    match answer {
+        Ok(actions) if actions.as_slice() == want => Ok(()),
+        _ => Err(Trouble::ToldAgain),
+    }
+}
+
+fn as_told(error: Error) -> Told {
+    match error {
+        Error::Wait(left) if left.subsec_nanos() == 0 => Told::Wait(left.as_secs()),
+        _ => Told::Refused(error),
+    }
+}
+
+fn takes_memory(call: Call) -> bool {
+    match call {
+        Call::Add(..) | Call::AddUnavailable(..) | Call::Start(..) => true,
+        Call::Wait1(_) | Call::Wait2(_) => !asked_after(call).is_empty(),
+        _ => false,
+    }
+}
+
+fn roll_of(call: Call) -> Option<RollType> {
+    match call {
+        Call::Start(roll, _, _)
+        | Call::Report1(roll, _)
+        | Call::Wait1(roll)
+        | Call::Report2(roll, _)
+        | Call::Wait2(roll)
+        | Call::Finish(roll) => Some(roll),
+        _ => None,
+    }
+}
+
+/// Makes the call once.
+fn attempt(
+    alloc: Global,
+    set: &mut KeySet,
+    call: Call,
+    now: &UnixTime,
+) -> Result<Vec<Action>, Error> {
+    match call {
+        Call::Start(roll, old, new) => start(alloc, set, roll, old, new, now),
+        Call::Report1(roll, ttl) => set.propagation1_complete(roll, ttl, now),
+        Call::Wait1(roll) => set.cache_expired1(roll, now),
+        Call::Report2(roll, ttl) => set.propagation2_complete(roll, ttl, now),
+        Call::Wait2(roll) => set.cache_expired2(roll, now),
+        Call::Finish(roll) => set.roll_done(roll),
+        _ => match attempt_on_key(alloc, set, call, now) {
+            Ok(()) => Ok(Vec::new(alloc)),
+            Err(error) => Err(error),
+        },
+    }
+}
+
+fn start(
+    alloc: Global,
+    set: &mut KeySet,
+    roll: RollType,
+    old: Names,
+    new: Names,
+    now: &UnixTime,
+) -> Result<Vec<Action>, Error> {
+    let Ok(old) = listed(alloc, old) else {
+        return Err(Error::OutOfMemory);
+    };
+    let Ok(new) = listed(alloc, new) else {
+        return Err(Error::OutOfMemory);
+    };
+    set.start_roll(roll, old.as_slice(), new.as_slice(), now)
+}
+
+/// The call of a key; of a roll it makes none.
+fn attempt_on_key(
+    alloc: Global,
+    set: &mut KeySet,
+    call: Call,
+    now: &UnixTime,
+) -> Result<(), Error> {
+    match call {
+        Call::Add(kind, reference, tag, algorithm) => {
+            let available = Available::Available;
+            let privref = own_privref(kind, reference);
+            add(
+                alloc, set, kind, reference, privref, tag, algorithm, *now, available,
+            )
+        }
+        Call::AddUnavailable(kind, reference, privref, tag, algorithm) => {
+            let available = Available::NotAvailable;
+            add(
+                alloc, set, kind, reference, privref, tag, algorithm, *now, available,
+            )
+        }
+        Call::Delete(reference) => set.delete_key(reference),
+        _ => attempt_to_set(set, call, now),
+    }
+}
+
+fn attempt_to_set(set: &mut KeySet, call: Call, now: &UnixTime) -> Result<(), Error> {
+    match call {
+        Call::SetDecoupled(reference, value) => set.set_decoupled(reference, value),
+        Call::SetPresent(reference, value) => set.set_present(reference, value, now),
+        Call::SetSigner(reference, value) => set.set_signer(reference, value),
+        Call::SetAtParent(reference, value) => set.set_at_parent(reference, value),
+        Call::SetStale(reference) => set.set_stale(reference),
+        Call::SetVisible(reference) => set.set_visible(reference, *now),
+        Call::SetDsVisible(reference) => set.set_ds_visible(reference, *now),
+        Call::SetRrsigVisible(reference) => set.set_rrsig_visible(reference, *now),
+        _ => Ok(()),
+    }
+}
+
+/// The private reference of a key that is added with none of its own.
+pub(crate) fn own_privref(kind: Kind, reference: &'static str) -> Option<&'static str> {
+    match kind {
+        Kind::Public => None,
+        Kind::Ksk | Kind::Zsk | Kind::Csk => Some(reference),
+    }
+}
+
+fn add(
+    alloc: Global,
+    set: &mut KeySet,
+    kind: Kind,
+    pubref: &str,
+    privref: Option<&str>,
+    tag: u16,
+    algorithm: u8,
+    now: UnixTime,
+    available: Available,
+) -> Result<(), Error> {
+    let (Ok(pubref), Ok(privref)) = (text(alloc, pubref), optional_text(alloc, privref)) else {
+        return Err(Error::OutOfMemory);
+    };
+    let algorithm = SecurityAlgorithm::from_int(algorithm);
+    match kind {
+        Kind::Ksk => set.add_key_ksk(pubref, privref, algorithm, tag, now, available),
+        Kind::Zsk => set.add_key_zsk(pubref, privref, algorithm, tag, now, available),
+        Kind::Csk => set.add_key_csk(pubref, privref, algorithm, tag, now, available),
+        Kind::Public => {
+            let visible = matches!(available, Available::Available);
+            set.add_public_key(pubref, algorithm, tag, now, visible)
+        }
+    }
+}
+
+/// A copy of a text, where at most one request for memory is refused.
+fn text(alloc: Global, text: &str) -> Result<String, AllocError> {
+    match String::from_str(alloc, text) {
+        Ok(copy) => Ok(copy),
+        Err(_) => String::from_str(alloc, text),
+    }
+}
+
+fn optional_text(alloc: Global, wanted: Option<&str>) -> Result<Option<String>, AllocError> {
+    match wanted {
+        Some(wanted) => Ok(Some(text(alloc, wanted)?)),
+        None => Ok(None),
+    }
+}
+
+/// The names of a list, where at most one request for memory is refused.
+fn listed(alloc: Global, names: Names) -> Result<Vec<&'static str>, AllocError> {
+    let list = names.split(',').filter(|name| *name != "-");
+    match list.collect(alloc) {
+        Ok(list) => Ok(list),
+        Err(_) => names.split(',').filter(|name| *name != "-").collect(alloc),
+    }
+}

@@ -1,0 +1,22 @@
+//! Courses of calls, as tables, and the walk that makes them.
+//!
+//! A [`Course`] tells, step by step, what an operator does with a key set, what it is told, and what
+//! can then be read of the set. [`walk`] makes its calls on a new set, and answers the first
+//! [`Mismatch`]. Whatever the table says, each refused call has to leave the set as it was, and each
+//! accepted one to ask what the operator's table says.
+#![tactic(auto)]
+
+mod asked;
+mod calls;
+mod look;
+mod mismatch;
+mod steps;
+mod walking;
+
+pub use asked::asked_after;
+pub use look::{SeenKey, are_alike, see_key};
+pub use mismatch::{Mismatch, Trouble};
+pub use steps::{
+    Call, Course, Kind, Memory, NEVER, NOTHING, Names, Published, SAME, SIGNED_ZONE, Step, Told,
+};
+pub use walking::{go_on, new_set, walk, walk_all, walk_all_alike};

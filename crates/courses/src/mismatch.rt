@@ -1,0 +1,76 @@
+//! Where a key set doesn't follow a course.
+use crate::look::SeenKey;
+use crate::steps::Told;
+use std::fmt;
+
+/// The step of a course that went otherwise. Parts and steps are counted from 1; those before a new
+/// set is there are 0.
+#[derive(Clone, Copy, Debug)]
+pub struct Mismatch {
+    pub course: &'static str,
+    pub part: usize,
+    pub step: usize,
+    pub trouble: Trouble,
+}
+
+/// How a step went otherwise.
+#[derive(Clone, Copy, Debug)]
+pub enum Trouble {
+    /// The walk itself got no memory, twice.
+    NoMemory,
+    /// The call was told this.
+    Told(Told),
+    /// The call was accepted, and didn't ask what the operator's table says.
+    Asked,
+    /// `actions` doesn't tell what the call asked.
+    ToldAgain,
+    /// The call was refused for want of memory, and needs none.
+    TakesNone,
+    /// The call was refused, and changed something.
+    Changed,
+    /// The call of a roll wrote a key tag.
+    TagWritten,
+    /// There is a key whose reference isn't looked for.
+    Unlisted,
+    /// Not the keys of the table are published.
+    Published,
+    /// A key has another tag, algorithm or private reference than it was added with.
+    Added(Option<SeenKey>),
+    /// What the step tells of the set isn't so. Of a key, what is told.
+    NotSo(Option<SeenKey>),
+    /// Two courses that have to end alike don't.
+    EndsOtherwise,
+}
+
+impl std::error::Error for Mismatch {}
+
+impl fmt::Display for Mismatch {
+    fn fmt<W: fmt::Write>(&self, f: &mut fmt::Formatter<W>) -> fmt::Result {
+        let Mismatch {
+            course,
+            part,
+            step,
+            trouble,
+        } = self;
+        write!(f, "{course}, part {part}, step {step}: {trouble}")
+    }
+}
+
+impl fmt::Display for Trouble {
+    fn fmt<W: fmt::Write>(&self, f: &mut fmt::Formatter<W>) -> fmt::Result {
+        match self {
+            Trouble::NoMemory => f.write_str("no memory for the walk"),
+            Trouble::Told(told) => write!(f, "the call was told {told:?}"),
+            Trouble::Asked => f.write_str("the call asks what isn't in the operator's table"),
+            Trouble::ToldAgain => f.write_str("the actions of the roll aren't those of the call"),
+            Trouble::TakesNone => f.write_str("a call that takes no memory was refused for it"),
+            Trouble::Changed => f.write_str("the call was refused and changed something"),
+            Trouble::TagWritten => f.write_str("the call wrote a key tag"),
+            Trouble::Unlisted => f.write_str("there is a key that isn't looked for"),
+            Trouble::Published => f.write_str("other keys are published"),
+            Trouble::Added(key) => write!(f, "a key isn't as it was added: {key:?}"),
+            Trouble::NotSo(key) => write!(f, "it isn't so: {key:?}"),
+            Trouble::EndsOtherwise => f.write_str("it doesn't end as the first course"),
+        }
+    }
+}

@@ -1,0 +1,83 @@
+//! Copies of keys and of key sets.
+use crate::rolls::{FIRST_ROLL, FIRST_ROLL_GOES_ON, REPORTED};
+use crate::wrong::Wrong;
+use courses::Call::Add;
+use courses::Kind::Ksk;
+use courses::Step::At;
+use courses::Told::Accepted;
+use courses::{Course, Memory, SAME, are_alike, go_on, see_key, walk};
+use dnssec_keyset::{Error, Key, KeySet};
+use std::alloc::Global;
+
+const ONE_KEY: Course = Course {
+    name: "one key",
+    parts: &[&[At(7, Add(Ksk, "K1", 11, 13), Accepted, SAME)]],
+};
+
+/// A copy of a key tells what the key tells. Where memory runs out there is no copy, and asking
+/// again gives one.
+pub(crate) fn copy_key(alloc: Global, memory: &mut Memory) -> Result<(), Wrong> {
+    let set = match walk(alloc, &ONE_KEY, memory) {
+        Ok(set) => set,
+        Err(mismatch) => return Err(Wrong::Course(mismatch)),
+    };
+    match set.keys().get("K1") {
+        Some(key) if is_copied(key, memory) => Ok(()),
+        _ => Err(Wrong::Copy),
+    }
+}
+
+fn is_copied(key: &Key, memory: &mut Memory) -> bool {
+    let mut answer = key.try_clone();
+    if matches!(answer, Err(Error::OutOfMemory)) && memory.fails() {
+        answer = key.try_clone();
+    }
+    match answer {
+        Ok(copy) => {
+            copy.privref() == Some("K1") && copy.key_tag() == 11 && see_key(&copy) == see_key(key)
+        }
+        Err(_) => false,
+    }
+}
+
+const BEGINNING: Course = Course {
+    name: "a set in the middle of a roll",
+    parts: &[FIRST_ROLL],
+};
+
+const REST: Course = Course {
+    name: "its copy goes on",
+    parts: &[FIRST_ROLL_GOES_ON],
+};
+
+/// A copy of a key set in the middle of a roll tells what the set tells, and goes its own way.
+pub(crate) fn copy_set(alloc: Global, memory: &mut Memory) -> Result<(), Wrong> {
+    let set = match walk(alloc, &BEGINNING, memory) {
+        Ok(set) => set,
+        Err(mismatch) => return Err(Wrong::Course(mismatch)),
+    };
+    let mut answer = set.try_clone();
+    if matches!(answer, Err(Error::OutOfMemory)) && memory.fails() {
+        answer = set.try_clone();
+    }
+    match answer {
+        Ok(mut copy) => go_own_way(alloc, &set, &mut copy, memory),
+        Err(_) => Err(Wrong::Copy),
+    }
+}
+
+fn go_own_way(
+    alloc: Global,
+    set: &KeySet,
+    copy: &mut KeySet,
+    memory: &mut Memory,
+) -> Result<(), Wrong> {
+    if copy.name().as_slice() != set.name().as_slice() || !are_alike(set, copy) {
+        return Err(Wrong::Copy);
+    }
+    match go_on(alloc, copy, REPORTED, &REST, memory) {
+        Ok(()) if !are_alike(set, copy) => Ok(()),
+        Ok(()) => Err(Wrong::Copy),
+        Err(mismatch) => Err(Wrong::Course(mismatch)),
+    }
+}

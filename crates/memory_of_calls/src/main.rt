@@ -1,0 +1,62 @@
+//! The program of the gate that makes calls after some requests for memory.
+//!
+//! Its standard input is three digits, the number of these requests, and a letter that names the
+//! calls. Where all went as it should, it ends with status 0 and writes `refused` if a call was
+//! refused for want of memory: that call changed nothing, and was accepted when it was made again.
+//! It writes `ample` if none was. Else it writes what went otherwise, and ends with status 1.
+#![tactic(auto)]
+
+mod copies;
+mod names;
+mod rolls;
+mod wrong;
+
+use crate::wrong::Wrong;
+use courses::Memory;
+use requests::make_requests;
+use std::alloc::Global;
+use std::io::Read;
+use std::process::ExitCode;
+
+fn main(rt: HostRuntime) -> ExitCode {
+    let mut stdin = rt.stdin();
+    let mut letter = [0u8; 1];
+    if make_requests(rt.alloc(), &mut stdin).is_err() || stdin.read_exact(&mut letter).is_err() {
+        return ExitCode::from(9);
+    }
+    let [letter] = letter;
+    let mut memory = Memory::MayFail;
+    match make_calls(rt.alloc(), letter, &mut memory) {
+        Ok(()) => said(println!(rt; "{}", word(memory)).is_ok()),
+        Err(wrong) => {
+            // The status tells it too, so that the text may be lost.
+            let _ = println!(rt; "{wrong}");
+            ExitCode::FAILURE
+        }
+    }
+}
+
+fn make_calls(alloc: Global, letter: u8, memory: &mut Memory) -> Result<(), Wrong> {
+    match letter {
+        b'n' => names::read_copy_and_print(alloc, memory),
+        b'r' => rolls::follow(alloc, memory),
+        b'k' => copies::copy_key(alloc, memory),
+        b's' => copies::copy_set(alloc, memory),
+        _ => Err(Wrong::Letter),
+    }
+}
+
+fn word(memory: Memory) -> &'static str {
+    match memory {
+        Memory::Failed => "refused",
+        Memory::Ample | Memory::MayFail => "ample",
+    }
+}
+
+fn said(written: bool) -> ExitCode {
+    if written {
+        ExitCode::SUCCESS
+    } else {
+        ExitCode::FAILURE
+    }
+}
