@@ -20,7 +20,7 @@ from pathlib import Path
 TOP = Path(__file__).resolve().parent.parent
 
 # What the letters of the program memory_of_calls stand for.
-CALLS = {"names": "n", "rolls": "r", "copies of keys": "k", "copies of key sets": "s"}
+CALLS = {"names": "n", "rolls": "r", "copies of keys": "k", "copies of key sets": "s", "verdicts": "v"}
 
 # Three digits hold the number of requests before the work.
 MOST = 999

@@ -12,6 +12,7 @@ use std::time::Duration;
 
 /// How many records are made, and how many entries one has at most.
 const RECORDS: u32 = 10_000;
+
 const LONGEST: u32 = 14;
 
 /// Numbers that look as if they were drawn at random: the same in each run.

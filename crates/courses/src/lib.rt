@@ -8,6 +8,7 @@
 
 mod asked;
 mod calls;
+mod ends;
 mod look;
 mod mismatch;
 mod steps;

@@ -1,4 +1,5 @@
 //! What an operator reads of a key set.
+use crate::ends::ends_at;
 use crate::steps::{NEVER, Published, Step};
 use dnssec_keyset::{Key, KeySet, KeyState, KeyType, RollState, RollType, UnixTime};
 use std::alloc::Global;
@@ -44,7 +45,7 @@ const REFERENCES: [&str; 19] = [
     "first ZSK.key",
 ];
 
-const ROLLS: [RollType; 6] = [
+pub(crate) const ROLLS: [RollType; 6] = [
     RollType::KskRoll,
     RollType::KskDoubleDsRoll,
     RollType::ZskRoll,
@@ -126,6 +127,7 @@ pub(crate) fn is_so(alloc: Global, set: &KeySet, step: &Step) -> bool {
         }
         Step::Zone(name, count) => set.name().as_slice() == name && set.keys().len() == count,
         Step::Rolls(rolls) => are_in_progress(set, rolls),
+        Step::WaitEnds(roll, end) => ends_at(set, roll, end),
     }
 }
 

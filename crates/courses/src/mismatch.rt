@@ -38,6 +38,8 @@ pub enum Trouble {
     Added(Option<SeenKey>),
     /// What the step tells of the set isn't so. Of a key, what is told.
     NotSo(Option<SeenKey>),
+    /// The end of a wait isn't what waits are told.
+    WaitEnd,
     /// Two courses that have to end alike don't.
     EndsOtherwise,
 }
@@ -70,6 +72,7 @@ impl fmt::Display for Trouble {
             Trouble::Published => f.write_str("other keys are published"),
             Trouble::Added(key) => write!(f, "a key isn't as it was added: {key:?}"),
             Trouble::NotSo(key) => write!(f, "it isn't so: {key:?}"),
+            Trouble::WaitEnd => f.write_str("the end of a wait isn't what waits are told"),
             Trouble::EndsOtherwise => f.write_str("it doesn't end as the first course"),
         }
     }

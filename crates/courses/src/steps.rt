@@ -21,7 +21,7 @@ pub const SAME: Published = "";
 /// Nothing is published.
 pub const NOTHING: Published = "- | - | - | -";
 
-/// A stamp that isn't there.
+/// A stamp that isn't there, or a wait that is never over.
 pub const NEVER: u64 = u64::MAX;
 
 /// A call, or what can be read of the set at this point.
@@ -49,6 +49,9 @@ pub enum Step {
     Zone(&'static [u8], usize),
     /// These rolls are in progress, each in its phase, and no other.
     Rolls(&'static [(RollType, RollState)]),
+    /// The second at which the wait of a roll is over, or none. `NEVER` stands for an end past the
+    /// greatest moment.
+    WaitEnds(RollType, Option<u64>),
 }
 
 /// The kinds of keys.

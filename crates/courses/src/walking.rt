@@ -1,5 +1,6 @@
 //! The walk along a course.
 use crate::calls::{make, own_privref};
+use crate::ends::are_ends_told;
 use crate::look::{SeenKey, are_alike, is_key, is_published, is_so, look_at};
 use crate::mismatch::{Mismatch, Trouble};
 use crate::steps::{Call, Course, Memory, NOTHING, Names, Published, SAME, Step, Told};
@@ -128,6 +129,10 @@ fn take(
         return Err(Trouble::NotSo(subject(set, step)));
     }
     check_added(set, steps)?;
+    // The copies of the set would take the request that is to fail.
+    if *memory == Memory::Ample && !are_ends_told(set) {
+        return Err(Trouble::WaitEnd);
+    }
     Ok(published)
 }
 

@@ -24,6 +24,8 @@ mod texts;
 #[cfg(test)]
 mod values;
 #[cfg(test)]
+mod waits;
+#[cfg(test)]
 mod whole_path;
 #[cfg(test)]
 mod zsk_rolls;

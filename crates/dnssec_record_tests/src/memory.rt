@@ -1,7 +1,6 @@
 //! Memory runs out: these hold whichever request for memory is refused.
 use crate::scripts::{CSK_ANSWERS, CSK_COMES_AND_GOES, FIRST_ANSWERS, FIRST_KEYS};
 use crate::support::{WHOLE, assert_written, attempt, wanted_memory};
-use dnssec_record::{audit, audit_window};
 use std::process::Abort;
 use std::test::Fail;
 
@@ -30,20 +29,5 @@ fn scripts_are_answered_when_run_again(rt: HostRuntime) -> Result<(), Fail> {
         }
         assert_written(&rt, &answer, want);
     }
-    Ok(())
-}
-
-/// A judge keeps a window, so it has no verdict where its first request for memory is refused. This
-/// test then fails, and it has to: `tests/memory.sh` sees to that.
-#[test]
-fn a_judge_has_a_verdict_with_ample_memory(rt: HostRuntime) -> Result<(), Fail> {
-    assert_eq!(&rt; audit_window(rt.alloc(), &[]), Ok(None));
-    Ok(())
-}
-
-/// The audit by the definition takes no memory.
-#[test]
-fn an_audit_has_a_verdict_without_memory(rt: HostRuntime) -> Result<(), Fail> {
-    assert_eq!(&rt; audit(&[]), None);
     Ok(())
 }

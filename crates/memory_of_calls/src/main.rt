@@ -9,6 +9,7 @@
 mod copies;
 mod names;
 mod rolls;
+mod verdicts;
 mod wrong;
 
 use crate::wrong::Wrong;
@@ -42,6 +43,7 @@ fn make_calls(alloc: Global, letter: u8, memory: &mut Memory) -> Result<(), Wron
         b'r' => rolls::follow(alloc, memory),
         b'k' => copies::copy_key(alloc, memory),
         b's' => copies::copy_set(alloc, memory),
+        b'v' => verdicts::judge(alloc, memory),
         _ => Err(Wrong::Letter),
     }
 }

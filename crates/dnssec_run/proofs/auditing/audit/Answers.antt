@@ -16,7 +16,7 @@ pub audit_at-requires-clause-time : goal.audit_at-requires-clause-time
 audit_at-requires-clause-time c =
     let at = c.loop-i in
     c.later-time.ensures ∙ time-more c.args.entries.now at.i at.time c.index-entries-i.result
-        c.loop-i-test.true c.index-entries-i.is at.invariant.time
+    c.loop-i-test.true c.index-entries-i.is at.invariant.time
 
 pub loop-i-preserved : goal.loop-i-preserved
 loop-i-preserved c =

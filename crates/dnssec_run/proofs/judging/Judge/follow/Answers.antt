@@ -27,8 +27,10 @@ returns-clause-follows c es at h =
           c.of-due-2.result dnskey h.steps h.dnskey time c.of-due-2.ensures
           c.in_ok-take-2.ensures.floor c.in_ok-take-2.ensures.dues
           (λ b a n k. c.in_ok-take-2.ensures.spans b a n (at ∙ k))
-          (λ i. (map id_of (sym c.deref-2.ensures.value i),
-          map id_of (sym c.deref-3.ensures.value i)));
+          (λ i. (
+            map id_of (sym c.deref-2.ensures.value i),
+            map id_of (sym c.deref-3.ensures.value i),
+          ));
       zone = window-follows es e ZoneSigners j.steps j.zone c.take-3.new.self c.later-time.result
           c.of-due-3.result zone h.steps h.zone time c.of-due-3.ensures
           c.in_ok-take-3.ensures.floor c.in_ok-take-3.ensures.dues

@@ -6,6 +6,6 @@ use Rattle.dnssec_run.proofs.window.Window.find_ds.Given as goal
 abbrev pub invariant-loop-span : goal.invariant-loop-span
 invariant-loop-span l =
     found_ds l.at l.self.floor (drop l.span-index l.self.spans.items)
-        l.dnskey.floor l.dnskey.spans.items l.zone.floor l.zone.spans.items
+    l.dnskey.floor l.dnskey.spans.items l.zone.floor l.zone.spans.items
     ≡ found_ds l.at l.self.floor l.self.spans.items
-        l.dnskey.floor l.dnskey.spans.items l.zone.floor l.zone.spans.items
+    l.dnskey.floor l.dnskey.spans.items l.zone.floor l.zone.spans.items

@@ -11,7 +11,7 @@ use Rattle.dnssec_run.proofs.window.Window.retire.Goals.{then-floor-over, else-f
 pub loop-due-preserved : goal.loop-due-preserved
 loop-due-preserved c =
     let e = floor-take c.args.self.now.floor c.deref-due-items.result.now c.loop-due.due-index
-        c.due-item.result c.args.time c.loop-due-test.true c.due-item.is in
+    c.due-item.result c.args.time c.loop-due-test.true c.due-item.is in
     elim c.if-floor-over.branch [
       | then-floor-over w ↦ omega (arith, e, w.floor-is, c.over-over.ensures)
       | else-floor-over w ↦ omega (arith, e, w.floor-is, c.over-over.ensures)
@@ -22,7 +22,7 @@ returns-clause-dues c t le =
     let w = c.args.self.now in
     let floor : c.loop-due.floor ≡ floor_with w.floor w.dues.items c.args.time =
     floor-all w.floor c.deref-due-items.result.now c.loop-due.due-index c.args.time
-        c.loop-due.floor c.loop-due-test.false c.loop-due.invariant
+    c.loop-due.floor c.loop-due-test.false c.loop-due.invariant
     ∙ ap (λ (ds : List Due). floor_with w.floor ds c.args.time) c.deref-due-items.ensures.value in
     let left : c.retain.new.self.items ≡ waiting c.args.time w.dues.items =
     filtered _ (λ d. not (is_over_at c.args.time d)) _
