@@ -4,13 +4,17 @@
 
 Each script gives a zone its first keys, and then rolls its ZSK and its KSK in turn, each roll to
 its end, with the deletion of the old key. So all that is old is retired, and a judge's window stays
-as it is. Printed are the calls, the least processor time of some runs, the same for the script with
-half as many calls, and the greatest memory that the program had.
+as it is. Printed are the calls, the instructions that the program runs, as valgrind counts them,
+the ratio to those of half as many calls, the least time of some runs, and their greatest memory.
+The time has that of the program's start in it, and what else the machine does.
 """
 
 import os
+import re
+import subprocess
 import sys
 import tempfile
+import time
 
 FIRST = """\
 zone example.com
@@ -33,7 +37,8 @@ wait2 {kind}-roll {t2}
 done {kind}-roll
 delete {old}
 """
-RUNS = 15
+RUNS = 50
+COUNT = ["valgrind", "--tool=cachegrind", "--cache-sim=no", "--cachegrind-out-file=/dev/null"]
 
 
 def script(calls):
@@ -50,36 +55,41 @@ def script(calls):
     return "".join(parts)
 
 
-def run(program, text):
-    """The processor time in milliseconds and the memory in MB of one run."""
+def run(command, text):
+    """The milliseconds, the memory in MB and the standard error of one run."""
     with tempfile.TemporaryFile() as given, tempfile.TemporaryFile() as written:
         given.write(text.encode())
         given.seek(0)
-        child = os.fork()
-        if child == 0:
-            os.dup2(given.fileno(), 0)
-            os.dup2(written.fileno(), 1)
-            os.execv(program, [program])
-        _, status, used = os.wait4(child, 0)
+        began = time.perf_counter()
+        child = subprocess.Popen(command, stdin=given, stdout=written, stderr=subprocess.PIPE)
+        told = child.stderr.read().decode()
+        _, status, used = os.wait4(child.pid, 0)
+        taken = (time.perf_counter() - began) * 1000
         written.seek(0)
         last = written.read().decode().splitlines()[-1]
     if status != 0 or last != "chain safe":
         sys.exit(f"status {status}, {last}")
-    return (used.ru_utime + used.ru_stime) * 1000, used.ru_maxrss / 1024
+    return taken, used.ru_maxrss / 1024, told
+
+
+def instructions(program, text):
+    """The instructions that the program runs."""
+    told = run([*COUNT, program], text)[2]
+    return int(re.search(r"I +refs: +([0-9,]+)", told)[1].replace(",", ""))
 
 
 def main():
     program, before = os.path.abspath(sys.argv[1]), None
-    print("| Calls | Milliseconds | To half as many calls | Memory in MB |")
-    print("|---|---|---|---|")
+    print("| Calls | Instructions in millions | To half as many | Milliseconds | Memory in MB |")
+    print("|---|---|---|---|---|")
     for calls in (1000, 2000, 4000, 8000, 16000):
         text = script(calls)
-        runs = [run(program, text) for _ in range(RUNS)]
-        taken = min(time for time, _ in runs)
-        memory = max(memory for _, memory in runs)
-        ratio = f"{taken / before:.2f}" if before else ""
-        print(f"| {calls:,} | {taken:.1f} | {ratio} | {memory:.1f} |")
-        before = taken
+        count = instructions(program, text)
+        runs = [run([program], text) for _ in range(RUNS)]
+        taken, memory = min(one[0] for one in runs), max(one[1] for one in runs)
+        ratio = f"{count / before:.2f}" if before else ""
+        print(f"| {calls:,} | {count / 1e6:.1f} | {ratio} | {taken:.1f} | {memory:.1f} |")
+        before = count
 
 
 if __name__ == "__main__":
