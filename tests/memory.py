@@ -22,6 +22,9 @@ TOP = Path(__file__).resolve().parent.parent
 # What the letters of the program memory_of_calls stand for.
 CALLS = {"names": "n", "rolls": "r", "copies of keys": "k", "copies of key sets": "s"}
 
+# The script whose answers are stored beside the program `keyset`.
+STORED = "algorithm-roll.script"
+
 # Three digits hold the number of requests before the work.
 MOST = 999
 
@@ -114,7 +117,7 @@ def in_turn(program, works, judge):
     keys = {f"w{i}": title for i, title in enumerate(works)}
     whole = run(program, MOST + 1, {key: f"000{works[keys[key]]}" for key in keys})
     for key, outcome in whole.items():
-        if outcome.status != 0 or outcome.made >= MOST:
+        if outcome.status != 0 or outcome.made >= MOST or is_not_stored(keys[key], outcome):
             raise Wrong(f"{keys[key]}: it doesn't go well with ample memory: {outcome}")
     place = max(outcome.made for outcome in whole.values()) + 1
     cases = {}
@@ -134,6 +137,12 @@ def in_turn(program, works, judge):
         if refused == 0:
             raise Wrong(f"{title}: no call was refused for want of memory")
         print(f"{title}: {requests} requests for memory failed in turn, {refused} of a call")
+
+
+def is_not_stored(title, outcome):
+    """This is the script whose answers are stored, and they are others."""
+    stored = (TOP / "crates" / "keyset" / "stdout").read_text().splitlines()
+    return title == STORED and outcome.written != stored
 
 
 def judge_script(where, has_failed, outcome, whole):
