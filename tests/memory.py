@@ -46,7 +46,8 @@ class Wrong(Exception):
 
 @dataclass
 class Outcome:
-    """What one case wrote, how it ended, and how many requests it made with those before the work."""
+    """What one case wrote, how it ended, and how many requests it made, with those before the
+    work."""
 
     written: list
     status: int
