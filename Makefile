@@ -27,5 +27,7 @@ build:
 test:
 	@tests/gate.py
 
+# Each request for memory of the example scripts, and of calls of a key set and of names, fails in
+# turn.
 memory:
 	@tests/memory.py

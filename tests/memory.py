@@ -22,6 +22,9 @@ TOP = Path(__file__).resolve().parent.parent
 # What the letters of the program memory_of_calls stand for.
 CALLS = {"names": "n", "rolls": "r", "copies of keys": "k", "copies of key sets": "s", "verdicts": "v"}
 
+# The script whose answers are stored beside the program `keyset`.
+STORED = "algorithm-roll.script"
+
 # Three digits hold the number of requests before the work.
 MOST = 999
 
@@ -34,7 +37,8 @@ WANTING = "refused: out of memory"
 CASES_OF_A_BUILD = 200
 
 ENDED = re.compile(r"case=(?P<name>\S+) run=ended status=(?P<status>\d+) ")
-MADE = re.compile(r"allocations: (?P<made>\d+)")
+# Only an interpreted run counts its requests.
+MADE = re.compile(r"allocations: (at least )?(?P<made>\d+)")
 
 
 class Wrong(Exception):
@@ -43,7 +47,8 @@ class Wrong(Exception):
 
 @dataclass
 class Outcome:
-    """What one case wrote, how it ended, and how many requests it made with those before the work."""
+    """What one case wrote, how it ended, and how many requests it made, with those before the
+    work."""
 
     written: list
     status: int
@@ -58,10 +63,12 @@ def parts_of(names):
     return [names[i::number] for i in range(number)]
 
 
-def start(program, place, folder):
-    """Starts the program on each case of the folder, with the request at this place failing."""
+def start(program, place, folder, is_counted):
+    """Starts the program on each case of the folder, with the request at this place failing. Where
+    its requests needn't be counted, it is compiled alone, and not interpreted beside."""
+    steps = [] if is_counted else ["--steps", "1"]
     return subprocess.Popen(
-        ["rt", "try", "--fail-alloc", str(place), "--cases", str(folder)],
+        ["rt", "try", *steps, "--fail-alloc", str(place), "--cases", str(folder)],
         cwd=TOP / "crates" / program,
         stdout=subprocess.PIPE,
         stderr=subprocess.STDOUT,
@@ -88,7 +95,7 @@ def outcomes(text):
     return found
 
 
-def run(program, place, cases):
+def run(program, place, cases, is_counted=True):
     """Runs the cases, a text of input for each name, one part beside the other."""
     found = {}
     with tempfile.TemporaryDirectory() as folder:
@@ -98,7 +105,7 @@ def run(program, place, cases):
             part_folder.mkdir()
             for name in part:
                 (part_folder / name).write_text(cases[name])
-            runs.append(start(program, place, part_folder))
+            runs.append(start(program, place, part_folder, is_counted))
         for one in runs:
             text, _ = one.communicate()
             if one.returncode != 0:
@@ -114,26 +121,37 @@ def in_turn(program, works, judge):
     keys = {f"w{i}": title for i, title in enumerate(works)}
     whole = run(program, MOST + 1, {key: f"000{works[keys[key]]}" for key in keys})
     for key, outcome in whole.items():
-        if outcome.status != 0 or outcome.made >= MOST:
+        if outcome.status != 0 or outcome.made >= MOST or is_not_stored(keys[key], outcome):
             raise Wrong(f"{keys[key]}: it doesn't go well with ample memory: {outcome}")
     place = max(outcome.made for outcome in whole.values()) + 1
-    cases = {}
+    last, others = {}, {}
     for key, outcome in whole.items():
         for request in range(1, outcome.made + 2):
+            # The last request and the one past the end show that the places are the right ones.
+            cases = last if request >= outcome.made else others
             cases[f"{key}.{request}"] = f"{place - request:03}{works[keys[key]]}"
-    found = run(program, place, cases)
+    found = run(program, place, last)
+    for name, outcome in found.items():
+        key, request = name.split(".")
+        if (outcome.made >= place) != (int(request) <= whole[key].made):
+            raise Wrong(f"{keys[key]}: request {request} isn't the one that failed: {outcome}")
+    found |= run(program, place, others, is_counted=False)
     for key, title in keys.items():
         requests = whole[key].made
         refused = 0
         for request in range(1, requests + 2):
             outcome = found[f"{key}.{request}"]
-            has_failed = outcome.made >= place
-            if has_failed != (request <= requests):
-                raise Wrong(f"{title}: request {request} is not the one that failed: {outcome}")
-            refused += judge(f"{title}: request {request}", has_failed, outcome, whole[key])
+            where = f"{title}: request {request}"
+            refused += judge(where, request <= requests, outcome, whole[key])
         if refused == 0:
             raise Wrong(f"{title}: no call was refused for want of memory")
         print(f"{title}: {requests} requests for memory failed in turn, {refused} of a call")
+
+
+def is_not_stored(title, outcome):
+    """This is the script whose answers are stored, and they are others."""
+    stored = (TOP / "crates" / "keyset" / "stdout").read_text().splitlines()
+    return title == STORED and outcome.written != stored
 
 
 def judge_script(where, has_failed, outcome, whole):

@@ -3,8 +3,8 @@ use crate::look::SeenKey;
 use crate::steps::Told;
 use std::fmt;
 
-/// The step of a course that went otherwise. Parts and steps are counted from 1; those before a new
-/// set is there are 0.
+/// The step of a course that went otherwise. Parts and steps are counted from 1, and are 0 where it
+/// is the course as a whole.
 #[derive(Clone, Copy, Debug)]
 pub struct Mismatch {
     pub course: &'static str,

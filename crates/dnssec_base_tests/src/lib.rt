@@ -1,4 +1,5 @@
-//! Tests of `dnssec_base` by its public calls, in a crate of their own, so that it isn't proved twice.
+//! Tests of `dnssec_base` by its public calls, in a crate of their own, so that it isn't proved
+//! twice.
 #![tactic(auto)]
 
 #[cfg(test)]

@@ -51,7 +51,8 @@ const FIRST_KEYS: &[Step] = &[
     Stamps("Z1", [0, 0, 100, NEVER, 100, NEVER]),
 ];
 
-/// The key set tells the phase of a roll in progress, with the TTL of the report that is waited for.
+/// The key set tells the phase of a roll in progress, with the TTL of the report that is waited
+/// for.
 const PHASES: &[Step] = &[
     At(0, Add(Ksk, "K1", 0, 13), Accepted, SAME),
     Rolls(&[]),

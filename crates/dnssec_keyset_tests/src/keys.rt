@@ -96,8 +96,8 @@ const TOLD_AS_ADDED: &[Step] = &[
     Key("K1", Some("store/K1"), 65535, 15, false),
 ];
 
-/// An operator sets flags and stamps by hand: of a public key, of a CSK in each of its roles, and of
-/// keys that have no such flag or aren't there.
+/// An operator sets flags and stamps by hand: of a public key, of a CSK in each of its roles, and
+/// of keys that have no such flag or aren't there.
 const SET_BY_HAND: &[Step] = &[
     At(0, Add(Public, "I", 9, 13), Accepted, "K1,Z1 | K1 | Z1 | K1"),
     At(0, Add(Csk, "C", 8, 13), Accepted, SAME),

@@ -1,6 +1,6 @@
-//! What an operator sees of a key set, call by call, in a crate of its own, so that the key set isn't
-//! proved twice. The proofs say that each call meets its table; the values here come from worked
-//! examples. Most are courses, tables of calls: a row more costs no proof.
+//! What an operator sees of a key set, call by call, in a crate of its own, so that the key set
+//! isn't proved twice. The proofs say that each call meets its table; the values here come from
+//! worked examples. Most are courses, tables of calls: a row more costs no proof.
 #![tactic(auto)]
 
 #[cfg(test)]

@@ -47,8 +47,9 @@ const CONFLICT: Told = Refused(Error::ConflictingRollInProgress);
 
 const DUPLICATE: Told = Refused(Error::DuplicateKeyTag);
 
-/// A zone with a public key and a KSK of another algorithm. A start names the first cause: the rolls
-/// in progress, then the old entries, the new ones, the algorithms, and the keys that would be left.
+/// A zone with a public key and a KSK of another algorithm. A start names the first cause: the
+/// rolls in progress, then the old entries, the new ones, the algorithms, and the keys that would
+/// be left.
 const FIRST_CAUSE: &[Step] = &[
     At(150, Add(Public, "I", 9, 13), Accepted, SAME),
     At(150, Add(Ksk, "K8", 4, 8), Accepted, SAME),

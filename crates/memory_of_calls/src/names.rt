@@ -7,8 +7,8 @@ use std::alloc::Global;
 /// The root, and a name that isn't: text and wire bytes.
 const NAMES: [(&str, &[u8]); 2] = [(".", &[0]), ("a\\.b.c\\032", b"\x03a.b\x02c \x00")];
 
-/// Whichever request for memory is refused, the call that made it answers so, and the same call then
-/// gives the name, its copy or its text.
+/// Whichever request for memory is refused, the call that made it answers so, and the same call
+/// then gives the name, its copy or its text.
 pub(crate) fn read_copy_and_print(alloc: Global, memory: &mut Memory) -> Result<(), Wrong> {
     for (text, wire) in NAMES {
         if !is_read(alloc, text, wire, memory) {

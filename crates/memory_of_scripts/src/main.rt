@@ -1,8 +1,8 @@
 //! The program of the gate that answers a script after some requests for memory.
 //!
-//! Its standard input is three digits, the number of these requests, a line feed, and the script. It
-//! ends as the program `keyset` does, or with status 9 where its input doesn't begin so, or one of
-//! these requests fails.
+//! Its standard input is three digits, the number of these requests, a line feed, and the script.
+//! It ends as the program `keyset` does, or with status 9 where its input doesn't begin so, or one
+//! of these requests fails.
 #![tactic(auto)]
 
 use dnssec_record::{Std, run_script};
