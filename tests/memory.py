@@ -37,8 +37,7 @@ WANTING = "refused: out of memory"
 CASES_OF_A_BUILD = 200
 
 ENDED = re.compile(r"case=(?P<name>\S+) run=ended status=(?P<status>\d+) ")
-# Only an interpreted run counts its requests.
-MADE = re.compile(r"allocations: (at least )?(?P<made>\d+)")
+MADE = re.compile(r"allocations: (?P<made>\d+)")
 
 
 class Wrong(Exception):
@@ -63,12 +62,10 @@ def parts_of(names):
     return [names[i::number] for i in range(number)]
 
 
-def start(program, place, folder, is_counted):
-    """Starts the program on each case of the folder, with the request at this place failing. Where
-    its requests needn't be counted, it is compiled alone, and not interpreted beside."""
-    steps = [] if is_counted else ["--steps", "1"]
+def start(program, place, folder):
+    """Starts the program on each case of the folder, with the request at this place failing."""
     return subprocess.Popen(
-        ["rt", "try", *steps, "--fail-alloc", str(place), "--cases", str(folder)],
+        ["rt", "try", "--fail-alloc", str(place), "--cases", str(folder)],
         cwd=TOP / "crates" / program,
         stdout=subprocess.PIPE,
         stderr=subprocess.STDOUT,
@@ -95,7 +92,7 @@ def outcomes(text):
     return found
 
 
-def run(program, place, cases, is_counted=True):
+def run(program, place, cases):
     """Runs the cases, a text of input for each name, one part beside the other."""
     found = {}
     with tempfile.TemporaryDirectory() as folder:
@@ -105,7 +102,7 @@ def run(program, place, cases, is_counted=True):
             part_folder.mkdir()
             for name in part:
                 (part_folder / name).write_text(cases[name])
-            runs.append(start(program, place, part_folder, is_counted))
+            runs.append(start(program, place, part_folder))
         for one in runs:
             text, _ = one.communicate()
             if one.returncode != 0:
@@ -124,25 +121,20 @@ def in_turn(program, works, judge):
         if outcome.status != 0 or outcome.made >= MOST or is_not_stored(keys[key], outcome):
             raise Wrong(f"{keys[key]}: it doesn't go well with ample memory: {outcome}")
     place = max(outcome.made for outcome in whole.values()) + 1
-    last, others = {}, {}
+    cases = {}
     for key, outcome in whole.items():
         for request in range(1, outcome.made + 2):
-            # The last request and the one past the end show that the places are the right ones.
-            cases = last if request >= outcome.made else others
             cases[f"{key}.{request}"] = f"{place - request:03}{works[keys[key]]}"
-    found = run(program, place, last)
-    for name, outcome in found.items():
-        key, request = name.split(".")
-        if (outcome.made >= place) != (int(request) <= whole[key].made):
-            raise Wrong(f"{keys[key]}: request {request} isn't the one that failed: {outcome}")
-    found |= run(program, place, others, is_counted=False)
+    found = run(program, place, cases)
     for key, title in keys.items():
         requests = whole[key].made
         refused = 0
         for request in range(1, requests + 2):
             outcome = found[f"{key}.{request}"]
-            where = f"{title}: request {request}"
-            refused += judge(where, request <= requests, outcome, whole[key])
+            has_failed = outcome.made >= place
+            if has_failed != (request <= requests):
+                raise Wrong(f"{title}: request {request} is not the one that failed: {outcome}")
+            refused += judge(f"{title}: request {request}", has_failed, outcome, whole[key])
         if refused == 0:
             raise Wrong(f"{title}: no call was refused for want of memory")
         print(f"{title}: {requests} requests for memory failed in turn, {refused} of a call")

@@ -11,19 +11,25 @@ pub(crate) fn are_ends_told(set: &KeySet) -> bool {
 }
 
 fn is_end_told(set: &KeySet, roll: RollType) -> bool {
-    match set.wait_end(roll) {
-        Some(WaitEnd::At(end)) => {
-            wait(set, roll, end).is_none() && is_early_before(set, roll, end)
-        }
-        Some(WaitEnd::PastTime) => is_early(wait(set, roll, UnixTime::from(Duration::MAX))),
-        None => is_other(wait(set, roll, UnixTime::from(Duration::MAX))),
+    match &set.wait_end(roll) {
+        Some(end) => is_end(set, roll, end),
+        None => is_other(wait(set, roll, &UnixTime::from(Duration::MAX))),
     }
 }
 
-fn is_early_before(set: &KeySet, roll: RollType, end: UnixTime) -> bool {
+fn is_end(set: &KeySet, roll: RollType, end: &WaitEnd) -> bool {
+    match end {
+        WaitEnd::At(moment) => {
+            wait(set, roll, moment).is_none() && is_early_before(set, roll, moment)
+        }
+        WaitEnd::PastTime => is_early(wait(set, roll, &UnixTime::from(Duration::MAX))),
+    }
+}
+
+fn is_early_before(set: &KeySet, roll: RollType, end: &UnixTime) -> bool {
     let nanosecond = Duration::from_nanos(1);
-    match Duration::from(end).checked_sub(nanosecond) {
-        Some(before) => { wait(set, roll, UnixTime::from(before)) == Some(Error::Wait(nanosecond)) }
+    match Duration::from(*end).checked_sub(nanosecond) {
+        Some(before) => wait(set, roll, &UnixTime::from(before)) == Some(Error::Wait(nanosecond)),
         None => true,
     }
 }
@@ -40,17 +46,17 @@ fn is_other(answer: Option<Error>) -> bool {
 }
 
 /// Why the wait of a roll is refused at a moment. The set stays as it is.
-fn wait(set: &KeySet, roll: RollType, now: UnixTime) -> Option<Error> {
+fn wait(set: &KeySet, roll: RollType, now: &UnixTime) -> Option<Error> {
     match set.try_clone() {
         Ok(copy) => wait_on(copy, roll, now),
         Err(error) => Some(error),
     }
 }
 
-fn wait_on(mut set: KeySet, roll: RollType, now: UnixTime) -> Option<Error> {
+fn wait_on(mut set: KeySet, roll: RollType, now: &UnixTime) -> Option<Error> {
     let answer = match set.rollstates().get(&roll) {
-        Some(RollState::CacheExpire2(_)) => set.cache_expired2(roll, &now),
-        _ => set.cache_expired1(roll, &now),
+        Some(RollState::CacheExpire2(_)) => set.cache_expired2(roll, now),
+        _ => set.cache_expired1(roll, now),
     };
     answer.err()
 }
