@@ -53,13 +53,16 @@ def main():
     edits = Edits()
     edits.start()
     last = ""
-    gate = subprocess.Popen(["rt", "ci"], cwd=TOP, stdout=subprocess.PIPE, text=True)
+    gate = subprocess.Popen(
+        ["rt", "ci"], cwd=TOP, stdout=subprocess.PIPE, stderr=subprocess.STDOUT, text=True
+    )
     for line in gate.stdout:
         print(last, end="", flush=True)
         last = line
-        if re.fullmatch(r"\S+( its tests are)? (proved|NOT PROVED)\n", line):
-            note(line.rstrip())
-        begun = re.match(r"(\S+): trying its must-fail edits", line)
+        proved = re.fullmatch(r"rt: (\S+( its tests are)? (proved|NOT PROVED))\n", line)
+        if proved:
+            note(proved[1])
+        begun = re.match(r"rt: (\S+): trying its must-fail edits", line)
         if begun:
             edits.begun.append(begun[1])
     status = gate.wait()
