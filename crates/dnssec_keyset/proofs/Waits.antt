@@ -1,6 +1,8 @@
 -- What the walk of a wait finds, that a stamp is missing or from when on the wait is over; and so
 -- what the wait answers at any moment.
-use Rattle.std.proofs.Common.{◌≡◌, ℕ, zero, suc, ◌<◌, ◌≤◌, Bool, true, false, not, List, [], ◌∷◌, Some, None, Ok, Err, refl, sym, ap, subst, ◌∙◌, inl, inr, max, min, arith}
+use Rattle.std.proofs.Common.{◌≡◌, ℕ, zero, suc, ◌<◌, ◌≤◌, Bool, true, false, not, List, [], ◌∷◌}
+use Rattle.std.proofs.Common.{Some, None, Ok, Err, refl, sym, ap, subst, ◌∙◌, inl, inr, max, min}
+use Rattle.std.proofs.Common.{arith}
 use Rattle.std.specs.Prelude.{Option, Result, IsOk, ◌⊎◌, ◌||◌, nat_eq, nat_lt, is_some, unwrap_or}
 use Rattle.std.specs.Prelude.{◌*◌, ◌+◌, ◌-◌, if◌then◌else◌}
 use Rattle.std.specs.List.{list_any, fold}
@@ -14,7 +16,9 @@ use Rattle.dnssec_key.specs.RollTable.{Half, First, Second, expiring}
 use Rattle.dnssec_key.specs.declared.roll.RollType.{RollType}
 use Rattle.dnssec_key.specs.declared.roll.Action.{Action}
 use Rattle.dnssec_key.specs.declared.error.Error.{Error}
-use Rattle.dnssec_key.specs.declared.error.Error.TheVariants.{WrongKeyState, WrongStateForRollOperation, Wait, OutOfMemory}
+use Rattle.dnssec_key.specs.declared.error.Error.TheVariants.{WrongKeyState}
+use Rattle.dnssec_key.specs.declared.error.Error.TheVariants.{WrongStateForRollOperation, Wait}
+use Rattle.dnssec_key.specs.declared.error.Error.TheVariants.{OutOfMemory}
 use Rattle.dnssec_keyset.specs.declared.set.KeySet.TheInside.{Inside}
 use Rattle.dnssec_keyset.specs.contracts.set.KeySet.{the_view}
 use Rattle.dnssec_key.specs.Key.{KeyParts}
@@ -22,7 +26,8 @@ use Rattle.dnssec_keyset.specs.KeySet.{Keys, KeySetParts, phase_of, rolls_shown,
 use Rattle.dnssec_key.specs.RollTable.{half_of}
 use Rattle.dnssec_keyset.specs.Wait.{ttl_in, time_left, left_since, stamp_read, over_at}
 use Rattle.dnssec_keyset.specs.Wait.{over_since, lacks_stamp, is_early, IsLongest}
-use Rattle.dnssec_keyset.specs.Step.{Verdict, Barred, Early, Clear, AnswersWait, wait_in_phase, wait_verdict}
+use Rattle.dnssec_keyset.specs.Step.{Verdict, Barred, Early, Clear, AnswersWait, wait_in_phase}
+use Rattle.dnssec_keyset.specs.Step.{wait_verdict}
 use Rattle.dnssec_keyset.specs.WaitEnd.{IsEarlyBy, IsOverFrom, LacksStamp, HasNoWait}
 use Rattle.dnssec_key.specs.declared.roll.RollState.{RollState}
 use Rattle.dnssec_key.specs.declared.roll.RollState.TheVariants.{Propagation1, CacheExpire1}
@@ -76,7 +81,8 @@ module _ (f : KeyParts → Option ℕ) where
 
   just-test : (n : ℕ) (k : KeyParts) (m : ℕ) → f k ≡ Some m → m ≡ n → is_just n k ≡ true
   unfolding is_just
-  just-test n k m e h = ap (λ x. option_map_or (λ y. nat_eq y n) x false) e ∙ grind (arith, nat_tests)
+  just-test n k m e h = ap (λ x. option_map_or (λ y. nat_eq y n) x false) e
+      ∙ grind (arith, nat_tests)
 
   -- what a walk has found that has come to n from a
   record Ends (a n : ℕ) (ks : List KeyParts) : Type 0 where
@@ -92,10 +98,13 @@ module _ (f : KeyParts → Option ℕ) where
       record { all = refl; from = omega arith; bound = refl; attained = inl same }
   walk-found (k ∷ ks) a n e = at (f k) refl (λ b. walk-found ks b n)
     where
-      at : (o : Option ℕ) → f k ≡ o → ((b : ℕ) → fold further (Some b) ks ≡ Some n → Ends b n ks) → Ends a n (k ∷ ks)
-      at None is on = let gone : None ≡ Some n = sym (lost ks) ∙ ap (λ o. fold further (option_map (λ y. max a y) o) ks) (sym is) ∙ e in cc
+      at : (o : Option ℕ) → f k ≡ o → ((b : ℕ) → fold further (Some b) ks ≡ Some n → Ends b n ks) →
+          Ends a n (k ∷ ks)
+      at None is on = let gone : None ≡ Some n = sym (lost ks)
+          ∙ ap (λ o. fold further (option_map (λ y. max a y) o) ks) (sym is) ∙ e in cc
       at (Some m) is on =
-          let rest = on (max a m) (ap (λ o. fold further (option_map (λ y. max a y) o) ks) (sym is) ∙ e) in
+          let rest = on (max a m)
+          (ap (λ o. fold further (option_map (λ y. max a y) o) ks) (sym is) ∙ e) in
           let below : m ≤ n = omega (arith, rest.from) in
           record {
             all = both_false _ _ (missing-test k (Some m) is) rest.all;
@@ -104,20 +113,25 @@ module _ (f : KeyParts → Option ℕ) where
             attained = elim rest.attained [
               | inl same ↦ elim (split (nat_eq m n)) [
                 | inl eq ↦ inr (or_left _ _ (just-test n k m is (grind (arith, nat_tests))))
-                | inr ne ↦ inl (let other : m ≡ n → ⊥ = (λ h. grind (arith, nat_tests)) in omega arith)
+                | inr ne ↦ inl (let other : m ≡ n →
+                    ⊥ = (λ h. grind (arith, nat_tests)) in omega arith)
               ]
               | inr some ↦ inr (or_right _ _ some)
             ];
           }
 
-  walk-missing : (ks : List KeyParts) (a : ℕ) → fold further (Some a) ks ≡ None → list_any is_missing ks ≡ true
+  walk-missing : (ks : List KeyParts) (a : ℕ) → fold further (Some a) ks ≡ None →
+      list_any is_missing ks ≡ true
   unfolding further
   walk-missing [] a e = cc
   walk-missing (k ∷ ks) a e = at (f k) refl (λ b. walk-missing ks b)
     where
-      at : (o : Option ℕ) → f k ≡ o → ((b : ℕ) → fold further (Some b) ks ≡ None → list_any is_missing ks ≡ true) → list_any is_missing (k ∷ ks) ≡ true
+      at : (o : Option ℕ) → f k ≡ o →
+          ((b : ℕ) → fold further (Some b) ks ≡ None → list_any is_missing ks ≡ true) →
+          list_any is_missing (k ∷ ks) ≡ true
       at None is on = or_left _ _ (missing-test k None is)
-      at (Some m) is on = or_right _ _ (on (max a m) (ap (λ o. fold further (option_map (λ y. max a y) o) ks) (sym is) ∙ e))
+      at (Some m) is on = or_right _ _
+          (on (max a m) (ap (λ o. fold further (option_map (λ y. max a y) o) ks) (sym is) ∙ e))
 
 module _ (f : KeyParts → Option ℕ) where
   is_there : (k : KeyParts) (n : ℕ) → is_just f n k ≡ true → f k ≡ Some n
@@ -153,7 +167,8 @@ none_weaker p r h ks none = elim (split (list_any p ks)) [
 left_of : ℕ → ℕ → ℕ → ℕ
 left_of span now end = min span (end - now)
 
-left-since : (ttl now s : ℕ) → left_since ttl now s ≡ left_of (ttl * 1_000_000_000) now (over_since ttl s)
+left-since : (ttl now s : ℕ) →
+    left_since ttl now s ≡ left_of (ttl * 1_000_000_000) now (over_since ttl s)
 unfolding left_of
 left-since ttl now s = elim (split (nat_eq ttl 0)) [
   | inl none ↦
@@ -161,7 +176,8 @@ left-since ttl now s = elim (split (nat_eq ttl 0)) [
       let ever : over_since ttl s ≡ 0 = ap (λ b. if b then 0 else s + ttl * 1_000_000_000) none in
       omega (arith, no_ttl, ever)
   | inr some ↦
-      let since : over_since ttl s ≡ s + ttl * 1_000_000_000 = ap (λ b. if b then 0 else s + ttl * 1_000_000_000) some in
+      let since : over_since ttl s
+      ≡ s + ttl * 1_000_000_000 = ap (λ b. if b then 0 else s + ttl * 1_000_000_000) some in
       omega (arith, since)
 ]
 
@@ -175,12 +191,14 @@ module _ (roll : RollType) (half : Half) (ttl now : ℕ) where
   left-over k = at ((half_of roll half).checks k.keytype) (stamp_read roll half k)
     where
       at : (c : Bool) (s : Option ℕ) → (if c then option_map (left_since ttl now) s else Some 0)
-          ≡ option_map (left_of (ttl * 1_000_000_000) now) (if c then option_map (over_since ttl) s else Some 0)
+          ≡ option_map (left_of (ttl * 1_000_000_000) now)
+          (if c then option_map (over_since ttl) s else Some 0)
       at false s = ap Some (unchecked (ttl * 1_000_000_000) now)
       at true None = refl
       at true (Some s) = ap Some (left-since ttl now s)
 
-  missing-same : (k : KeyParts) → is_some (time_left roll half ttl now k) ≡ is_some (over_at roll half ttl k)
+  missing-same : (k : KeyParts) →
+      is_some (time_left roll half ttl now k) ≡ is_some (over_at roll half ttl k)
   missing-same k = ap is_some (left-over k) ∙ at (over_at roll half ttl k)
     where
       at : (o : Option ℕ) → is_some (option_map (left_of (ttl * 1_000_000_000) now) o) ≡ is_some o
@@ -195,7 +213,8 @@ module _ (roll : RollType) (half : Half) (ttl now : ℕ) where
       from zero s e more = omega arith
       from (suc ttl) s e more = omega arith
 
-      at : (c : Bool) (s : Option ℕ) → (if c then option_map (over_since ttl) s else Some 0) ≡ Some end → 0 < end → 0 < ttl
+      at : (c : Bool) (s : Option ℕ) →
+          (if c then option_map (over_since ttl) s else Some 0) ≡ Some end → 0 < end → 0 < ttl
       at false s e more = let none : 0 ≡ end = cc in absurd (omega arith)
       at true None e more = cc
       at true (Some s) e more = let is : over_since ttl s ≡ end = cc in from ttl s is more
@@ -204,11 +223,13 @@ module _ (roll : RollType) (half : Half) (ttl now : ℕ) where
   is_early_for : KeyParts → Bool
   is_early_for k = nat_lt 0 (unwrap_or (time_left roll half ttl now k) 0)
 
-  left-early : (k : KeyParts) (end : ℕ) → now < end → over_at roll half ttl k ≡ Some end → is_early_for k ≡ true
+  left-early : (k : KeyParts) (end : ℕ) → now < end → over_at roll half ttl k ≡ Some end →
+      is_early_for k ≡ true
   unfolding is_early_for left_of
   left-early k end early e =
       let more = has-ttl k end e (omega arith) in
-      ap (λ o. nat_lt 0 (unwrap_or o 0)) (left-over k ∙ ap (option_map (left_of (ttl * 1_000_000_000) now)) e)
+      ap (λ o. nat_lt 0 (unwrap_or o 0))
+      (left-over k ∙ ap (option_map (left_of (ttl * 1_000_000_000) now)) e)
       ∙ positive ttl more
     where
       positive : (ttl : ℕ) → 0 < ttl → nat_lt 0 (left_of (ttl * 1_000_000_000) now end) ≡ true
@@ -216,28 +237,38 @@ module _ (roll : RollType) (half : Half) (ttl now : ℕ) where
           let some : 0 < min (ttl * 1_000_000_000) (end - now) = omega arith in
           grind (arith, nat_tests)
 
-  early-above : (k : KeyParts) (end : ℕ) → end ≤ now → is_early_for k ≡ true → nat_lt end (unwrap_or (over_at roll half ttl k) 0) ≡ true
+  early-above : (k : KeyParts) (end : ℕ) → end ≤ now → is_early_for k ≡ true →
+      nat_lt end (unwrap_or (over_at roll half ttl k) 0) ≡ true
   unfolding is_early_for left_of
-  early-above k end late h = at (over_at roll half ttl k) (sym (ap (λ o. nat_lt 0 (unwrap_or o 0)) (left-over k)) ∙ h)
+  early-above k end late h =
+      at (over_at roll half ttl k) (sym (ap (λ o. nat_lt 0 (unwrap_or o 0)) (left-over k)) ∙ h)
     where
-      at : (o : Option ℕ) → nat_lt 0 (unwrap_or (option_map (left_of (ttl * 1_000_000_000) now) o) 0) ≡ true → nat_lt end (unwrap_or o 0) ≡ true
+      at : (o : Option ℕ) → nat_lt 0
+          (unwrap_or (option_map (left_of (ttl * 1_000_000_000) now) o) 0) ≡ true →
+          nat_lt end (unwrap_or o 0) ≡ true
       at None h = cc
       at (Some n) h =
           let some : 0 < min (ttl * 1_000_000_000) (n - now) = grind (arith, nat_tests) in
           let above : end < n = omega arith in
           grind (arith, nat_tests)
 
-  left-bound : (k : KeyParts) (end : ℕ) → unwrap_or (over_at roll half ttl k) 0 ≤ end → unwrap_or (time_left roll half ttl now k) 0 ≤ left_of (ttl * 1_000_000_000) now end
+  left-bound : (k : KeyParts) (end : ℕ) → unwrap_or (over_at roll half ttl k) 0 ≤ end →
+      unwrap_or (time_left roll half ttl now k) 0 ≤ left_of (ttl * 1_000_000_000) now end
   unfolding left_of
-  left-bound k end below = subst (λ o. unwrap_or o 0 ≤ left_of (ttl * 1_000_000_000) now end) (sym (left-over k)) (at (over_at roll half ttl k) below)
+  left-bound k end below =
+      subst (λ o. unwrap_or o 0 ≤ left_of (ttl * 1_000_000_000) now end) (sym (left-over k))
+      (at (over_at roll half ttl k) below)
     where
-      at : (o : Option ℕ) → unwrap_or o 0 ≤ end → unwrap_or (option_map (left_of (ttl * 1_000_000_000) now) o) 0 ≤ left_of (ttl * 1_000_000_000) now end
+      at : (o : Option ℕ) → unwrap_or o 0 ≤ end →
+          unwrap_or (option_map (left_of (ttl * 1_000_000_000) now) o) 0 ≤ left_of
+          (ttl * 1_000_000_000) now end
       at None h = omega arith
       at (Some n) h = omega arith
 
 -- ---- the keys of a key set
 
-module _ (roll : RollType) (half : Half) (ttl : ℕ) (i : Inside) (v : KeySetParts) (view : the_view i ≡ v) (unique : IsUnique string_eq i.keys) where
+module _ (roll : RollType) (half : Half) (ttl : ℕ) (i : Inside) (v : KeySetParts)
+    (view : the_view i ≡ v) (unique : IsUnique string_eq i.keys) where
   over : KeyParts → Option ℕ
   over k = over_at roll half ttl k
 
@@ -252,41 +283,62 @@ module _ (roll : RollType) (half : Half) (ttl : ℕ) (i : Inside) (v : KeySetPar
   lacks now = lacks_stamp (time_left roll half ttl now) v.keys
 
   -- a walk that finds a stamp missing
-  pub walk-lacks : None ≡ fold (λ a k. option_and_then (λ x. option_map (λ y. max x y) (over_at roll half ttl k)) a) (Some 0) (hash_values i.keys)
+  pub walk-lacks : None
+      ≡ fold (λ a k. option_and_then (λ x. option_map (λ y. max x y) (over_at roll half ttl k)) a)
+      (Some 0) (hash_values i.keys)
       → LacksStamp roll half ttl v.keys
   unfolding over ks further is_missing lacks
   walk-lacks walk now =
       let lacks_it : lacks now ≡ true = seen (λ k. not (is_some (time_left roll half ttl now k)))
-      ∙ weaker (is_missing over) (λ k. not (is_some (time_left roll half ttl now k))) (λ k h. ap not (missing-same roll half ttl now k) ∙ h) ks (walk-missing over ks 0 (sym walk)) in
+      ∙ weaker (is_missing over) (λ k. not (is_some (time_left roll half ttl now k)))
+      (λ k h. ap not (missing-same roll half ttl now k) ∙ h) ks
+      (walk-missing over ks 0 (sym walk)) in
       rw lacks_it refl
 
   has : (now : ℕ) → list_any (is_missing over) ks ≡ false → lacks now ≡ false
   unfolding over ks is_missing lacks
   has now none = seen (λ k. not (is_some (time_left roll half ttl now k)))
-      ∙ none_weaker (λ k. not (is_some (time_left roll half ttl now k))) (is_missing over) (λ k h. sym (ap not (missing-same roll half ttl now k)) ∙ h) ks none
+      ∙ none_weaker (λ k. not (is_some (time_left roll half ttl now k))) (is_missing over)
+      (λ k h. sym (ap not (missing-same roll half ttl now k)) ∙ h) ks none
 
   -- a walk that finds from when on the wait is over
-  pub walk-over : (end : ℕ) → Some end ≡ fold (λ a k. option_and_then (λ x. option_map (λ y. max x y) (over_at roll half ttl k)) a) (Some 0) (hash_values i.keys)
+  pub walk-over : (end : ℕ) →
+      Some end ≡ fold (λ a k. option_and_then
+      (λ x. option_map (λ y. max x y) (over_at roll half ttl k)) a) (Some 0) (hash_values i.keys)
       → IsOverFrom roll half ttl v.keys end
   unfolding over ks further is_missing is_above is_early_for left_of lacks IsEarlyBy
   walk-over end walk =
       let ends = walk-found over ks 0 end (sym walk) in
-      let bound : some_key (is_above over end) v.keys ≡ false = seen (is_above over end) ∙ ends.bound in
+      let bound : some_key (is_above over end) v.keys ≡ false = seen (is_above over end)
+      ∙ ends.bound in
       record {
         early = λ now less.
-            let just : list_any (is_just over end) ks ≡ true = elim ends.attained [ inl h ↦ absurd (omega arith) | inr h ↦ h ] in
+            let just : list_any (is_just over end) ks
+            ≡ true = elim ends.attained [ inl h ↦ absurd (omega arith) | inr h ↦ h ] in
             let one = some_key-found (is_just over end) v.keys (seen (is_just over end) ∙ just) in
             let is : over one.1 ≡ Some end = is_there over one.1 end one.3 in
-            let early : is_early (time_left roll half ttl now) v.keys ≡ true = seen (is_early_for roll half ttl now)
-            ∙ weaker (is_just over end) (is_early_for roll half ttl now) (λ k h. left-early roll half ttl now k end less (is_there over k end h)) ks just in
-            let longest : IsLongest (time_left roll half ttl now) v.keys (min (ttl * 1_000_000_000) (end - now)) = record {
-              bound = λ q k at. left-bound roll half ttl now k end (not_above over k end (some_key-none (is_above over end) v.keys q k bound at));
-              attained = (one.0, one.1, one.2, left-over roll half ttl now one.1 ∙ ap (option_map (left_of (ttl * 1_000_000_000) now)) is);
+            let early : is_early (time_left roll half ttl now) v.keys
+            ≡ true = seen (is_early_for roll half ttl now)
+            ∙ weaker (is_just over end) (is_early_for roll half ttl now)
+            (λ k h. left-early roll half ttl now k end less (is_there over k end h)) ks just in
+            let longest : IsLongest (time_left roll half ttl now) v.keys
+            (min (ttl * 1_000_000_000) (end - now)) = record {
+              bound = λ q k at. left-bound roll half ttl now k end
+                  (not_above over k end (some_key-none (is_above over end) v.keys q k bound at));
+              attained = (
+                one.0,
+                one.1,
+                one.2,
+                left-over roll half ttl now one.1
+                    ∙ ap (option_map (left_of (ttl * 1_000_000_000) now)) is,
+              );
             } in
             rw (has now ends.all, early) longest;
         over = λ now late.
-            let clear : is_early (time_left roll half ttl now) v.keys ≡ false = seen (is_early_for roll half ttl now)
-            ∙ none_weaker (is_early_for roll half ttl now) (is_above over end) (λ k h. early-above roll half ttl now k end late h) ks ends.bound in
+            let clear : is_early (time_left roll half ttl now) v.keys
+            ≡ false = seen (is_early_for roll half ttl now)
+            ∙ none_weaker (is_early_for roll half ttl now) (is_above over end)
+            (λ k h. early-above roll half ttl now k end late h) ks ends.bound in
             rw (has now ends.all, clear) refl;
       }
 
@@ -294,65 +346,89 @@ module _ (roll : RollType) (half : Half) (ttl : ℕ) (i : Inside) (v : KeySetPar
 
 module _ (T U : Type 0) (keys : Keys) where
   -- a check that refuses
-  pub wait-refused : (v : Verdict) (e : Error) (actions : List Action) → AnswersWait {T = T} v keys [] (Err e) → AnswersWait {T = U} v keys actions (Err e)
+  pub wait-refused : (v : Verdict) (e : Error) (actions : List Action) →
+      AnswersWait {T = T} v keys [] (Err e) → AnswersWait {T = U} v keys actions (Err e)
   wait-refused (Barred x) e actions h = cc
   wait-refused (Early left) e actions h = let is = h.1 in (h.0, cc, h.2)
   wait-refused Clear e actions h = cc
 
   -- a check that passes, and a list of actions, or no memory for it
-  pub wait-passed : (v : Verdict) (x : T) (actions : List Action) (r : Result U Error) → AnswersWait {T = T} v keys [] (Ok x)
-      → (actions ≡ [] → IsOk r) → IsOk r ⊎ (r ≡ Err OutOfMemory) → AnswersWait {T = U} v keys actions r
+  pub wait-passed : (v : Verdict) (x : T) (actions : List Action) (r : Result U Error) →
+      AnswersWait {T = T} v keys [] (Ok x)
+      → (actions ≡ [] → IsOk r) → IsOk r ⊎ (r ≡ Err OutOfMemory) →
+      AnswersWait {T = U} v keys actions r
   wait-passed (Barred e) x actions r h none some = cc
   wait-passed (Early left) x actions r h none some = let is = h.1 in cc
   wait-passed Clear x [] r h none some = none refl
   wait-passed Clear x (a ∷ actions) r h none some = some
 
 -- the phase that a contract sees is that of the hash map
-pub ttl-shown : (half : Half) (roll : RollType) (i : Inside) (v : KeySetParts) → the_view i ≡ v → ttl_in half (phase_of v.rolls roll) ≡ ttl_in half (phase_of (rolls_shown i.rollstates) roll)
+pub ttl-shown : (half : Half) (roll : RollType) (i : Inside) (v : KeySetParts) → the_view i ≡ v →
+    ttl_in half (phase_of v.rolls roll) ≡ ttl_in half (phase_of (rolls_shown i.rollstates) roll)
 ttl-shown half roll i v e = sym (ap (λ (w : KeySetParts). ttl_in half (phase_of w.rolls roll)) e)
 
 -- ---- the end of a wait
 
-module _ (T : Type 0) (roll : RollType) (half : Half) (ttl : ℕ) (keys : Keys) (end : ℕ) (t : Option ℕ) (phase : t ≡ Some ttl) (over : IsOverFrom roll half ttl keys end) where
+module _ (T : Type 0) (roll : RollType) (half : Half) (ttl : ℕ) (keys : Keys) (end : ℕ)
+    (t : Option ℕ) (phase : t ≡ Some ttl) (over : IsOverFrom roll half ttl keys end) where
   -- a wait before the end
-  pub told-early : (now : ℕ) → now < end → (d : Duration) → as_nanos d ≡ min (ttl * 1_000_000_000) (end - now)
+  pub told-early : (now : ℕ) → now < end → (d : Duration) →
+      as_nanos d ≡ min (ttl * 1_000_000_000) (end - now)
       → AnswersWait {T = T} (wait_in_phase roll half t now keys) keys [] (Err (Wait d))
   unfolding IsEarlyBy
-  told-early now less d is = subst (λ x. AnswersWait {T = T} (wait_in_phase roll half x now keys) keys [] (Err (Wait d))) (sym phase) (at _ (over.early now less))
+  told-early now less d is =
+      subst (λ x. AnswersWait {T = T} (wait_in_phase roll half x now keys) keys [] (Err (Wait d)))
+      (sym phase) (at _ (over.early now less))
     where
-      at : (v : Verdict) → IsEarlyBy (min (ttl * 1_000_000_000) (end - now)) keys v → AnswersWait {T = T} v keys [] (Err (Wait d))
+      at : (v : Verdict) → IsEarlyBy (min (ttl * 1_000_000_000) (end - now)) keys v →
+          AnswersWait {T = T} v keys [] (Err (Wait d))
       at (Early left) longest = (d, refl, subst (IsLongest left keys) (sym is) longest)
       at (Barred cause) none = absurd none
       at Clear none = absurd none
 
 -- what is left, where the moment is told as a duration
-pub left-now : (ttl end : ℕ) {now nanos : ℕ} → nanos ≡ now → min (ttl * 1_000_000_000) (end - nanos) ≡ min (ttl * 1_000_000_000) (end - now)
+pub left-now : (ttl end : ℕ) {now nanos : ℕ} → nanos ≡ now →
+    min (ttl * 1_000_000_000) (end - nanos) ≡ min (ttl * 1_000_000_000) (end - now)
 left-now ttl end e = ap (λ n. min (ttl * 1_000_000_000) (end - n)) e
 
 -- a wait that no phase lets through, or that misses a stamp, is refused at any moment
-pub no-wait : (roll : RollType) (set : KeySetParts) (p : Option RollState) → phase_of set.rolls roll ≡ p
-    → ((half : Half) (ttl : ℕ) → ttl_in half p ≡ Some ttl → LacksStamp roll half ttl set.keys) → HasNoWait roll set
+pub no-wait : (roll : RollType) (set : KeySetParts) (p : Option RollState) →
+    phase_of set.rolls roll ≡ p
+    → ((half : Half) (ttl : ℕ) → ttl_in half p ≡ Some ttl → LacksStamp roll half ttl set.keys) →
+    HasNoWait roll set
 no-wait roll set p is lacks half now = at (ttl_in half p) (ap (ttl_in half) is) (lacks half)
   where
-    at : (t : Option ℕ) → ttl_in half (phase_of set.rolls roll) ≡ t → ((ttl : ℕ) → t ≡ Some ttl → LacksStamp roll half ttl set.keys)
+    at : (t : Option ℕ) → ttl_in half (phase_of set.rolls roll) ≡ t →
+        ((ttl : ℕ) → t ≡ Some ttl → LacksStamp roll half ttl set.keys)
         → (cause : Error) × (wait_verdict roll half now set ≡ Barred cause)
     at None e h = (WrongStateForRollOperation, ap (λ t. wait_in_phase roll half t now set.keys) e)
-    at (Some ttl) e h = (WrongKeyState, ap (λ t. wait_in_phase roll half t now set.keys) e ∙ h ttl refl now)
+    at (Some ttl) e h = (
+      WrongKeyState,
+      ap (λ t. wait_in_phase roll half t now set.keys) e
+          ∙ h ttl refl now,
+    )
 
 -- the same for a half whose wait misses a stamp
-pub no-wait-half : (roll : RollType) (set : KeySetParts) (half : Half) (ttl : ℕ) → phase_of set.rolls roll ≡ Some (expiring half ttl)
+pub no-wait-half : (roll : RollType) (set : KeySetParts) (half : Half) (ttl : ℕ) →
+    phase_of set.rolls roll ≡ Some (expiring half ttl)
     → LacksStamp roll half ttl set.keys → HasNoWait roll set
-no-wait-half roll set First ttl is lacks = no-wait roll set (Some (CacheExpire1 ttl)) is (at roll set ttl lacks)
+no-wait-half roll set First ttl is lacks =
+    no-wait roll set (Some (CacheExpire1 ttl)) is (at roll set ttl lacks)
   where
     at : (roll : RollType) (set : KeySetParts) (ttl : ℕ) → LacksStamp roll First ttl set.keys
-        → (half : Half) (t : ℕ) → ttl_in half (Some (CacheExpire1 ttl)) ≡ Some t → LacksStamp roll half t set.keys
-    at roll set ttl lacks First t e = let same : ttl ≡ t = cc in subst (λ x. LacksStamp roll First x set.keys) same lacks
+        → (half : Half) (t : ℕ) → ttl_in half (Some (CacheExpire1 ttl)) ≡ Some t →
+        LacksStamp roll half t set.keys
+    at roll set ttl lacks First t e = let same : ttl
+        ≡ t = cc in subst (λ x. LacksStamp roll First x set.keys) same lacks
     at roll set ttl lacks Second t e = cc
-no-wait-half roll set Second ttl is lacks = no-wait roll set (Some (CacheExpire2 ttl)) is (at roll set ttl lacks)
+no-wait-half roll set Second ttl is lacks =
+    no-wait roll set (Some (CacheExpire2 ttl)) is (at roll set ttl lacks)
   where
     at : (roll : RollType) (set : KeySetParts) (ttl : ℕ) → LacksStamp roll Second ttl set.keys
-        → (half : Half) (t : ℕ) → ttl_in half (Some (CacheExpire2 ttl)) ≡ Some t → LacksStamp roll half t set.keys
-    at roll set ttl lacks Second t e = let same : ttl ≡ t = cc in subst (λ x. LacksStamp roll Second x set.keys) same lacks
+        → (half : Half) (t : ℕ) → ttl_in half (Some (CacheExpire2 ttl)) ≡ Some t →
+        LacksStamp roll half t set.keys
+    at roll set ttl lacks Second t e = let same : ttl
+        ≡ t = cc in subst (λ x. LacksStamp roll Second x set.keys) same lacks
     at roll set ttl lacks First t e = cc
 
 -- the same for a phase without a wait
@@ -372,9 +448,12 @@ no-ttl p SecondChange Second = refl
 no-ttl p Ended First = refl
 no-ttl p Ended Second = refl
 
-pub no-wait-phase : (roll : RollType) (set : KeySetParts) (p : Option RollState) → phase_of set.rolls roll ≡ p → IsWithoutWait p → HasNoWait roll set
-no-wait-phase roll set p is none = no-wait roll set p is (λ half ttl e. absurd (let one = sym (no-ttl p none half) ∙ e in cc))
+pub no-wait-phase : (roll : RollType) (set : KeySetParts) (p : Option RollState) →
+    phase_of set.rolls roll ≡ p → IsWithoutWait p → HasNoWait roll set
+no-wait-phase roll set p is none =
+    no-wait roll set p is (λ half ttl e. absurd (let one = sym (no-ttl p none half) ∙ e in cc))
 
 -- the phase that a contract sees is that of the hash map
-pub phase-shown : (roll : RollType) (i : Inside) (v : KeySetParts) → the_view i ≡ v → phase_of v.rolls roll ≡ phase_of (rolls_shown i.rollstates) roll
+pub phase-shown : (roll : RollType) (i : Inside) (v : KeySetParts) → the_view i ≡ v →
+    phase_of v.rolls roll ≡ phase_of (rolls_shown i.rollstates) roll
 phase-shown roll i v e = sym (ap (λ (w : KeySetParts). phase_of w.rolls roll) e)

@@ -9,13 +9,18 @@ use Rattle.dnssec_keyset.proofs.set.KeySet.over_from.Goals as goal
 pub returns-clause-over : goal.returns-clause-over
 returns-clause-over c = at c.latest_over.result refl
   where
-    at : (r : Option ℕ) → r ≡ c.latest_over.result → IfSome r (λ end. IsOverFrom c.args.rolltype (which c.args.half) c.args.ttl c.args.self.now.keys end)
+    at : (r : Option ℕ) → r ≡ c.latest_over.result →
+        IfSome r (λ end. IsOverFrom c.args.rolltype
+        (which c.args.half) c.args.ttl c.args.self.now.keys end)
     at None is = tt
-    at (Some end) is = walk-over c.args.rolltype (which c.args.half) c.args.ttl c.self.inside c.args.self.now c.self.view_is c.latest_over.ensures.unique end (is ∙ c.latest_over.ensures.latest)
+    at (Some end) is = walk-over c.args.rolltype
+        (which c.args.half) c.args.ttl c.self.inside c.args.self.now c.self.view_is c.latest_over.ensures.unique end (is ∙ c.latest_over.ensures.latest)
 
 pub returns-clause-missing : goal.returns-clause-missing
 returns-clause-missing c = at c.latest_over.result refl
   where
-    at : (r : Option ℕ) → r ≡ c.latest_over.result → IfNone r (LacksStamp c.args.rolltype (which c.args.half) c.args.ttl c.args.self.now.keys)
-    at None is = walk-lacks c.args.rolltype (which c.args.half) c.args.ttl c.self.inside c.args.self.now c.self.view_is c.latest_over.ensures.unique (is ∙ c.latest_over.ensures.latest)
+    at : (r : Option ℕ) → r ≡ c.latest_over.result →
+        IfNone r (LacksStamp c.args.rolltype (which c.args.half) c.args.ttl c.args.self.now.keys)
+    at None is = walk-lacks c.args.rolltype
+        (which c.args.half) c.args.ttl c.self.inside c.args.self.now c.self.view_is c.latest_over.ensures.unique (is ∙ c.latest_over.ensures.latest)
     at (Some end) is = tt
