@@ -1,16 +1,19 @@
 #!/usr/bin/env python3
-"""The gate: `make memory`, then `rt ci`. Before the last line of `rt ci` it tells when, in minutes
-and seconds since the start, each step was done, so that a rise is seen."""
+"""The gate: `rt ci`, and beside it, on what processors are idle, `tests/memory.py` over a copy of the
+crates. Before the last line of `rt ci` it tells when, in minutes and seconds since the start, each
+step was done, so that a rise is seen."""
 
 import os
 import re
+import shutil
 import subprocess
 import sys
 import tempfile
 import threading
 import time
+from pathlib import Path
 
-TOP = os.path.dirname(os.path.dirname(os.path.abspath(__file__)))
+TOP = Path(__file__).resolve().parent.parent
 START = time.monotonic()
 STEPS = []
 
@@ -46,12 +49,30 @@ class Edits(threading.Thread):
             time.sleep(0.5)
 
 
-def main():
-    if subprocess.run(["make", "--no-print-directory", "memory"], cwd=TOP).returncode:
-        return 1
-    note("memory")
-    edits = Edits()
-    edits.start()
+class Memory(threading.Thread):
+    """Lets each request for memory fail, over a copy: `rt ci` sets aside what is in `out/`."""
+
+    def __init__(self):
+        super().__init__()
+        self.passed = False
+        self.said = ""
+
+    def run(self):
+        with tempfile.TemporaryDirectory() as folder:
+            copy = Path(folder, "copy")
+            shutil.copytree(TOP, copy, ignore=shutil.ignore_patterns(".git", "out"))
+            ran = subprocess.run(
+                ["nice", "-n", "10", copy / "tests" / "memory.py"],
+                stdout=subprocess.PIPE,
+                stderr=subprocess.STDOUT,
+                text=True,
+            )
+        self.passed, self.said = ran.returncode == 0, ran.stdout
+        note("memory" if self.passed else "memory FAILED")
+
+
+def prove(edits):
+    """Runs `rt ci`, and prints all but its last line. Gives its status and that line."""
     last = ""
     gate = subprocess.Popen(
         ["rt", "ci"], cwd=TOP, stdout=subprocess.PIPE, stderr=subprocess.STDOUT, text=True
@@ -66,10 +87,21 @@ def main():
         if begun:
             edits.begun.append(begun[1])
     status = gate.wait()
-    note("programs and tests run")
+    note("rt ci")
+    return status, last
+
+
+def main():
+    memory = Memory()
+    memory.start()
+    edits = Edits()
+    edits.start()
+    status, last = prove(edits)
+    memory.join()
+    print(memory.said, end="")
     print("Done after, in minutes and seconds:", *STEPS, sep="\n")
-    print(last, end="", flush=True)
-    return status
+    print(last if memory.passed else "memory: FAILED\n", end="", flush=True)
+    return status if memory.passed else 1
 
 
 if __name__ == "__main__":
