@@ -22,8 +22,8 @@ build:
 	@mkdir -p crates/keyset/out
 	@cd crates/keyset && rt run <stdin >out/build.log 2>&1 || { cat out/build.log >&2; exit 1; }
 
-# Every proof, edit, test and program; and beside them each request for memory fails in turn. It
-# tells when each step was done.
+# Each request for memory fails in turn; then every proof, edit, test and program. It tells when
+# each step was done.
 test:
 	@tests/gate.py
 

@@ -1,11 +1,9 @@
 #!/usr/bin/env python3
-"""The gate: `rt ci`, and beside it, on what processors are idle, `tests/memory.py` over a copy of the
-crates. Before the last line of `rt ci` it tells when, in minutes and seconds since the start, each
-step was done, so that a rise is seen."""
+"""The gate: `tests/memory.py`, then `rt ci`. Before the last line of `rt ci` it tells when, in
+minutes and seconds since the start, each step was done, so that a rise is seen."""
 
 import os
 import re
-import shutil
 import subprocess
 import sys
 import tempfile
@@ -49,28 +47,6 @@ class Edits(threading.Thread):
             time.sleep(0.5)
 
 
-class Memory(threading.Thread):
-    """Lets each request for memory fail, over a copy: `rt ci` sets aside what is in `out/`."""
-
-    def __init__(self):
-        super().__init__()
-        self.passed = False
-        self.said = ""
-
-    def run(self):
-        with tempfile.TemporaryDirectory() as folder:
-            copy = Path(folder, "copy")
-            shutil.copytree(TOP, copy, ignore=shutil.ignore_patterns(".git", "out"))
-            ran = subprocess.run(
-                ["nice", "-n", "19", copy / "tests" / "memory.py"],
-                stdout=subprocess.PIPE,
-                stderr=subprocess.STDOUT,
-                text=True,
-            )
-        self.passed, self.said = ran.returncode == 0, ran.stdout
-        note("memory" if self.passed else "memory FAILED")
-
-
 def prove(edits):
     """Runs `rt ci`, and prints all but its last line. Gives its status and that line."""
     last = ""
@@ -92,16 +68,15 @@ def prove(edits):
 
 
 def main():
-    memory = Memory()
-    memory.start()
+    if subprocess.run([TOP / "tests" / "memory.py"]).returncode:
+        return 1
+    note("memory")
     edits = Edits()
     edits.start()
     status, last = prove(edits)
-    memory.join()
-    print(memory.said, end="")
     print("Done after, in minutes and seconds:", *STEPS, sep="\n")
-    print(last if memory.passed else "memory: FAILED\n", end="", flush=True)
-    return status if memory.passed else 1
+    print(last, end="", flush=True)
+    return status
 
 
 if __name__ == "__main__":

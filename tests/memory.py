@@ -37,7 +37,8 @@ WANTING = "refused: out of memory"
 CASES_OF_A_BUILD = 200
 
 ENDED = re.compile(r"case=(?P<name>\S+) run=ended status=(?P<status>\d+) ")
-MADE = re.compile(r"allocations: (?P<made>\d+)")
+# Only an interpreted run counts its requests.
+MADE = re.compile(r"allocations: (at least )?(?P<made>\d+)")
 
 
 class Wrong(Exception):
@@ -62,37 +63,49 @@ def parts_of(names):
     return [names[i::number] for i in range(number)]
 
 
-def start(program, place, folder):
-    """Starts the program on each case of the folder, with the request at this place failing."""
-    return subprocess.Popen(
-        ["rt", "try", "--fail-alloc", str(place), "--cases", str(folder)],
-        cwd=TOP / "crates" / program,
-        stdout=subprocess.PIPE,
-        stderr=subprocess.STDOUT,
-        text=True,
-    )
+def start(program, place, folder, is_counted):
+    """Starts the program on each case of the folder, with the request at this place failing. Where
+    its requests needn't be counted, it is compiled alone, and not interpreted beside. What `rt try`
+    says of the cases goes into a file of its own: it isn't in step with what they write."""
+    steps = [] if is_counted else ["--steps", "1"]
+    with open(f"{folder}.said", "w") as said:
+        return subprocess.Popen(
+            ["rt", "try", *steps, "--fail-alloc", str(place), "--cases", str(folder)],
+            cwd=TOP / "crates" / program,
+            stdout=subprocess.PIPE,
+            stderr=said,
+            text=True,
+        )
 
 
-def outcomes(text):
-    """The outcome of each case, by its name."""
-    found = {}
-    written, made = [], None
+def written_by(text):
+    """What each case wrote, by its name."""
+    found, written = {}, []
     for line in text.splitlines():
         if line.startswith("== "):
-            written, made = [], None
-        elif match := MADE.fullmatch(line):
-            made = int(match["made"])
-        elif match := ENDED.match(line):
-            if made is None:
-                raise Wrong(f"{match['name']}: no number of requests")
-            found[match["name"]] = Outcome(written, int(match["status"]), made)
-            written, made = [], None
+            written = found.setdefault(line.removeprefix("== "), [])
         else:
             written.append(line)
     return found
 
 
-def run(program, place, cases):
+def outcomes(text, said):
+    """The outcome of each case, by its name."""
+    written = written_by(text)
+    found, made = {}, None
+    for line in said.splitlines():
+        if match := MADE.fullmatch(line):
+            made = int(match["made"])
+        elif match := ENDED.match(line):
+            if made is None:
+                raise Wrong(f"{match['name']}: no number of requests")
+            name = match["name"]
+            found[name] = Outcome(written.get(name, []), int(match["status"]), made)
+            made = None
+    return found
+
+
+def run(program, place, cases, is_counted=True):
     """Runs the cases, a text of input for each name, one part beside the other."""
     found = {}
     with tempfile.TemporaryDirectory() as folder:
@@ -102,12 +115,13 @@ def run(program, place, cases):
             part_folder.mkdir()
             for name in part:
                 (part_folder / name).write_text(cases[name])
-            runs.append(start(program, place, part_folder))
-        for one in runs:
+            runs.append((part_folder, start(program, place, part_folder, is_counted)))
+        for part_folder, one in runs:
             text, _ = one.communicate()
+            said = Path(f"{part_folder}.said").read_text()
             if one.returncode != 0:
-                raise Wrong(f"{program}: rt try ended with status {one.returncode}\n{text}")
-            found.update(outcomes(text))
+                raise Wrong(f"{program}: rt try ended with status {one.returncode}\n{said}")
+            found.update(outcomes(text, said))
     if set(found) != set(cases):
         raise Wrong(f"{program}: cases have not run: {sorted(set(cases) - set(found))}")
     return found
@@ -121,20 +135,25 @@ def in_turn(program, works, judge):
         if outcome.status != 0 or outcome.made >= MOST or is_not_stored(keys[key], outcome):
             raise Wrong(f"{keys[key]}: it doesn't go well with ample memory: {outcome}")
     place = max(outcome.made for outcome in whole.values()) + 1
-    cases = {}
+    last, others = {}, {}
     for key, outcome in whole.items():
         for request in range(1, outcome.made + 2):
+            # The last request and the one past the end show that the places are the right ones.
+            cases = last if request >= outcome.made else others
             cases[f"{key}.{request}"] = f"{place - request:03}{works[keys[key]]}"
-    found = run(program, place, cases)
+    found = run(program, place, last)
+    for name, outcome in found.items():
+        key, request = name.split(".")
+        if (outcome.made >= place) != (int(request) <= whole[key].made):
+            raise Wrong(f"{keys[key]}: request {request} isn't the one that failed: {outcome}")
+    found |= run(program, place, others, is_counted=False)
     for key, title in keys.items():
         requests = whole[key].made
         refused = 0
         for request in range(1, requests + 2):
             outcome = found[f"{key}.{request}"]
-            has_failed = outcome.made >= place
-            if has_failed != (request <= requests):
-                raise Wrong(f"{title}: request {request} is not the one that failed: {outcome}")
-            refused += judge(f"{title}: request {request}", has_failed, outcome, whole[key])
+            where = f"{title}: request {request}"
+            refused += judge(where, request <= requests, outcome, whole[key])
         if refused == 0:
             raise Wrong(f"{title}: no call was refused for want of memory")
         print(f"{title}: {requests} requests for memory failed in turn, {refused} of a call")
