@@ -1,9 +1,11 @@
-//! What holds of the comparisons. These functions do nothing: the contract of each is a law, which
-//! a caller knows once it has called the function.
-ghost use Rattle.std.specs.Prelude.{◌≡◌, ◌↔◌, IsTrue};
+//! What holds of the comparisons and of the defaults. These functions do nothing: the contract of
+//! each is a law, which a caller knows once it has called the function.
+ghost use Rattle.std.specs.Prelude.{◌≡◌, ◌↔◌, IsTrue, false};
 ghost use Rattle.std.specs.Ordering.{nat_cmp};
+ghost use Rattle.dnssec_key.specs.Key.{new_state};
+ghost use Rattle.dnssec_key.specs.State.{no_stamps};
 
-use crate::{Error, KeyState, KeyType, RollState, UnixTime};
+use crate::{Error, KeyState, KeyTimestamps, KeyType, RollState, UnixTime};
 
 /// Moments are in the order of time.
 pub fn moments_are_in_order_of_time(a: &UnixTime, b: &UnixTime)
@@ -33,4 +35,14 @@ pub fn equal_phases_are_one(a: &RollState, b: &RollState)
 /// Refusals are equal where the refusal and what is left to wait are.
 pub fn equal_errors_are_one(a: &Error, b: &Error)
     ensures { IsTrue (⟦<Error as PartialEq>⟧.eq a.now b.now) ↔ (a.now ≡ b.now) }
+{}
+
+/// A default state is that of a role which isn't available and was never in use.
+pub fn default_states_are_unused(a: &KeyState)
+    ensures { ⟦<KeyState as Default>⟧.is_default a.now → a.now ≡ new_state false }
+{}
+
+/// Default timestamps have no stamp.
+pub fn default_stamps_are_none(a: &KeyTimestamps)
+    ensures { ⟦<KeyTimestamps as Default>⟧.is_default a.now → a.now ≡ no_stamps }
 {}

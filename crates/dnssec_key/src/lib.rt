@@ -13,8 +13,9 @@ mod text;
 mod time;
 
 pub use comparisons::{
-    equal_errors_are_one, equal_kinds_are_one, equal_moments_are_one, equal_phases_are_one,
-    equal_states_are_one, moments_are_in_order_of_time,
+    default_stamps_are_none, default_states_are_unused, equal_errors_are_one, equal_kinds_are_one,
+    equal_moments_are_one, equal_phases_are_one, equal_states_are_one,
+    moments_are_in_order_of_time,
 };
 pub use error::Error;
 pub use key::{Available, Key, KeyState, KeyTimestamps, KeyType, Setting, Stamp, Stamped};

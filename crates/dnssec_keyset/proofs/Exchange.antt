@@ -9,10 +9,10 @@ use Rattle.std.proofs.lemmas.Option.{same_Some}
 use Rattle.std.proofs.lemmas.Bool.Decides.{nat_tests}
 use Rattle.dnssec_key.specs.declared.key.KeyType.{KeyType}
 use Rattle.dnssec_key.specs.declared.key.KeyType.TheVariants.{Ksk, Zsk, Csk, Include}
-use Rattle.dnssec_keyset.specs.declared.check.Want.{Want}
-use Rattle.dnssec_keyset.specs.declared.check.Want.TheVariants.{PresentKsk, KskAtParent, PresentZsk, PresentKskRole, PresentZskRole}
-use Rattle.dnssec_keyset.specs.declared.check.Side.{Side}
-use Rattle.dnssec_keyset.specs.declared.check.Side.TheVariants.{KskSide, ZskSide, BothSides}
+use Rattle.dnssec_keyset.specs.Start.{Want}
+use Rattle.dnssec_keyset.specs.Start.{PresentKsk, KskAtParent, PresentZsk, PresentKskRole, PresentZskRole}
+use Rattle.dnssec_keyset.specs.Start.{Side}
+use Rattle.dnssec_keyset.specs.Start.{KskSide, ZskSide, BothSides}
 use Rattle.dnssec_key.specs.declared.roll.RollType.{RollType}
 use Rattle.dnssec_key.specs.declared.roll.RollType.TheVariants.{KskRoll, KskDoubleDsRoll, ZskRoll, ZskDoubleSignatureRoll, CskRoll, AlgorithmRoll}
 use Rattle.dnssec_key.specs.declared.roll.RollState.{RollState}

@@ -8,8 +8,8 @@ use Rattle.std.specs.Cmp.Lexicographic.{bytes_decides, slice_cmp}
 use Rattle.std.specs.FinMap.{get, get-empty}
 use Rattle.std.specs.Ordering.{nat_cmp}
 use Rattle.std.proofs.lemmas.Bool.Decides.{nat_tests}
-use Rattle.dnssec_keyset.specs.declared.check.Side.{Side}
-use Rattle.dnssec_keyset.specs.declared.check.Side.TheVariants.{KskSide, ZskSide, BothSides}
+use Rattle.dnssec_keyset.specs.Start.{Side}
+use Rattle.dnssec_keyset.specs.Start.{KskSide, ZskSide, BothSides}
 use Rattle.dnssec_key.specs.declared.roll.RollType.{RollType}
 use Rattle.dnssec_key.specs.declared.roll.RollType.TheVariants.{KskRoll, KskDoubleDsRoll, ZskRoll, ZskDoubleSignatureRoll, CskRoll, AlgorithmRoll}
 use Rattle.dnssec_key.specs.declared.roll.RollState.{RollState}

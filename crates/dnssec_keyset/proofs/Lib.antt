@@ -2,6 +2,9 @@ pub mod Shown
 pub mod Walks
 pub mod Phases
 pub mod Quantified
+pub mod Words
+pub mod Tags
+pub mod Counted
 pub mod Lists
 pub mod Starts
 pub mod Marks

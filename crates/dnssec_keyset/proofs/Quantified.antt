@@ -12,15 +12,15 @@ use Rattle.std.proofs.lemmas.Map.Text.{is_eq-slice_cmp}
 use Rattle.dnssec_key.specs.Key.{KeyParts}
 use Rattle.dnssec_keyset.specs.KeySet.{Keys, some_key, some_entry}
 
-split : (b : Bool) → (b ≡ true) ⊎ (b ≡ false)
+pub split : (b : Bool) → (b ≡ true) ⊎ (b ≡ false)
 split true = inl refl
 split false = inr refl
 
-first : (a b : Bool) → T (a && b) → T a
+pub first : (a b : Bool) → T (a && b) → T a
 first true b h = tt
 first false b h = absurd h
 
-second : (a b : Bool) → T (a && b) → T b
+pub second : (a b : Bool) → T (a && b) → T b
 second true b h = h
 second false b h = absurd h
 
@@ -37,19 +37,19 @@ not_both Less h e = cc
 not_both Equal h e = h
 not_both Greater h e = h
 
-same_key : (q x : List ℕ) → is_eq (slice_cmp nat_cmp q x) ≡ true → q ≡ x
+pub same_key : (q x : List ℕ) → is_eq (slice_cmp nat_cmp q x) ≡ true → q ≡ x
 same_key q x e = (bytes_decides q x).0 (sym (is_eq-slice_cmp q x) ∙ e)
 
-itself : (q : List ℕ) → is_eq (slice_cmp nat_cmp q q) ≡ true
+pub itself : (q : List ℕ) → is_eq (slice_cmp nat_cmp q q) ≡ true
 itself q = is_eq-slice_cmp q q ∙ (bytes_decides q q).1 refl
 
-apart : (x q : List ℕ) → T (is_lt (slice_cmp nat_cmp x q)) → is_eq (slice_cmp nat_cmp q x) ≡ false
+pub apart : (x q : List ℕ) → T (is_lt (slice_cmp nat_cmp x q)) → is_eq (slice_cmp nat_cmp q x) ≡ false
 apart x q h = elim (split (is_eq (slice_cmp nat_cmp q x))) [
   | inl e ↦ absurd (not_both (slice_cmp nat_cmp x x) (subst (λ k. T (is_lt (slice_cmp nat_cmp x k))) (same_key q x e) h) (itself x))
   | inr e ↦ e
 ]
 
-below_found : (x q : List ℕ) (v : KeyParts) (es : List (List ℕ × KeyParts)) → T (below_all (slice_cmp nat_cmp) x es) → find (slice_cmp nat_cmp) q es ≡ Some v → T (is_lt (slice_cmp nat_cmp x q))
+pub below_found : (x q : List ℕ) (v : KeyParts) (es : List (List ℕ × KeyParts)) → T (below_all (slice_cmp nat_cmp) x es) → find (slice_cmp nat_cmp) q es ≡ Some v → T (is_lt (slice_cmp nat_cmp x q))
 below_found x q v [] b f = cc
 below_found x q v (e ∷ es) b f = elim (split (is_eq (slice_cmp nat_cmp q e.0))) [
   | inl h ↦ subst (λ k. T (is_lt (slice_cmp nat_cmp x k))) (sym (same_key q e.0 h)) (first _ _ b)

@@ -19,10 +19,12 @@ use Rattle.dnssec_key.specs.declared.error.Error.{Error}
 use Rattle.dnssec_key.specs.declared.error.Error.TheVariants.{WrongKeyState}
 use Rattle.dnssec_key.specs.declared.error.Error.TheVariants.{WrongStateForRollOperation, Wait}
 use Rattle.dnssec_key.specs.declared.error.Error.TheVariants.{OutOfMemory}
-use Rattle.dnssec_keyset.specs.declared.set.KeySet.TheInside.{Inside}
-use Rattle.dnssec_keyset.specs.contracts.set.KeySet.{the_view}
+use Rattle.dnssec_keyset.specs.declared.keys.Keys.TheInside.{Inside}
+use Rattle.dnssec_keyset.specs.contracts.keys.Keys.{the_view}
+use Rattle.dnssec_keyset.specs.declared.set.KeySet.TheInside.{Inside as SetInside}
+use Rattle.dnssec_keyset.specs.contracts.set.KeySet.{the_view as set_view}
 use Rattle.dnssec_key.specs.Key.{KeyParts}
-use Rattle.dnssec_keyset.specs.KeySet.{Keys, KeySetParts, phase_of, rolls_shown, some_key}
+use Rattle.dnssec_keyset.specs.KeySet.{Keys, KeySetParts, phase_of, some_key}
 use Rattle.dnssec_key.specs.RollTable.{half_of}
 use Rattle.dnssec_keyset.specs.Wait.{ttl_in, time_left, left_since, stamp_read, over_at}
 use Rattle.dnssec_keyset.specs.Wait.{over_since, lacks_stamp, is_early, IsLongest}
@@ -267,26 +269,26 @@ module _ (roll : RollType) (half : Half) (ttl now : ℕ) where
 
 -- ---- the keys of a key set
 
-module _ (roll : RollType) (half : Half) (ttl : ℕ) (i : Inside) (v : KeySetParts)
-    (view : the_view i ≡ v) (unique : IsUnique string_eq i.keys) where
+module _ (roll : RollType) (half : Half) (ttl : ℕ) (i : Inside) (v : Keys)
+    (view : the_view i ≡ v) (unique : IsUnique string_eq i.map) where
   over : KeyParts → Option ℕ
   over k = over_at roll half ttl k
 
   ks : List KeyParts
-  ks = hash_values i.keys
+  ks = hash_values i.map
 
-  seen : (p : KeyParts → Bool) → some_key p v.keys ≡ list_any p ks
+  seen : (p : KeyParts → Bool) → some_key p v ≡ list_any p ks
   unfolding ks
   seen p = some_key-view p i v view unique
 
   lacks : ℕ → Bool
-  lacks now = lacks_stamp (time_left roll half ttl now) v.keys
+  lacks now = lacks_stamp (time_left roll half ttl now) v
 
   -- a walk that finds a stamp missing
   pub walk-lacks : None
       ≡ fold (λ a k. option_and_then (λ x. option_map (λ y. max x y) (over_at roll half ttl k)) a)
-      (Some 0) (hash_values i.keys)
-      → LacksStamp roll half ttl v.keys
+      (Some 0) (hash_values i.map)
+      → LacksStamp roll half ttl v
   unfolding over ks further is_missing lacks
   walk-lacks walk now =
       let lacks_it : lacks now ≡ true = seen (λ k. not (is_some (time_left roll half ttl now k)))
@@ -304,27 +306,27 @@ module _ (roll : RollType) (half : Half) (ttl : ℕ) (i : Inside) (v : KeySetPar
   -- a walk that finds from when on the wait is over
   pub walk-over : (end : ℕ) →
       Some end ≡ fold (λ a k. option_and_then
-      (λ x. option_map (λ y. max x y) (over_at roll half ttl k)) a) (Some 0) (hash_values i.keys)
-      → IsOverFrom roll half ttl v.keys end
+      (λ x. option_map (λ y. max x y) (over_at roll half ttl k)) a) (Some 0) (hash_values i.map)
+      → IsOverFrom roll half ttl v end
   unfolding over ks further is_missing is_above is_early_for left_of lacks IsEarlyBy
   walk-over end walk =
       let ends = walk-found over ks 0 end (sym walk) in
-      let bound : some_key (is_above over end) v.keys ≡ false = seen (is_above over end)
+      let bound : some_key (is_above over end) v ≡ false = seen (is_above over end)
       ∙ ends.bound in
       record {
         early = λ now less.
             let just : list_any (is_just over end) ks
             ≡ true = elim ends.attained [ inl h ↦ absurd (omega arith) | inr h ↦ h ] in
-            let one = some_key-found (is_just over end) v.keys (seen (is_just over end) ∙ just) in
+            let one = some_key-found (is_just over end) v (seen (is_just over end) ∙ just) in
             let is : over one.1 ≡ Some end = is_there over one.1 end one.3 in
-            let early : is_early (time_left roll half ttl now) v.keys
+            let early : is_early (time_left roll half ttl now) v
             ≡ true = seen (is_early_for roll half ttl now)
             ∙ weaker (is_just over end) (is_early_for roll half ttl now)
             (λ k h. left-early roll half ttl now k end less (is_there over k end h)) ks just in
-            let longest : IsLongest (time_left roll half ttl now) v.keys
+            let longest : IsLongest (time_left roll half ttl now) v
             (min (ttl * 1_000_000_000) (end - now)) = record {
               bound = λ q k at. left-bound roll half ttl now k end
-                  (not_above over k end (some_key-none (is_above over end) v.keys q k bound at));
+                  (not_above over k end (some_key-none (is_above over end) v q k bound at));
               attained = (
                 one.0,
                 one.1,
@@ -335,7 +337,7 @@ module _ (roll : RollType) (half : Half) (ttl : ℕ) (i : Inside) (v : KeySetPar
             } in
             rw (has now ends.all, early) longest;
         over = λ now late.
-            let clear : is_early (time_left roll half ttl now) v.keys
+            let clear : is_early (time_left roll half ttl now) v
             ≡ false = seen (is_early_for roll half ttl now)
             ∙ none_weaker (is_early_for roll half ttl now) (is_above over end)
             (λ k h. early-above roll half ttl now k end late h) ks ends.bound in
@@ -362,9 +364,9 @@ module _ (T U : Type 0) (keys : Keys) where
   wait-passed Clear x [] r h none some = none refl
   wait-passed Clear x (a ∷ actions) r h none some = some
 
--- the phase that a contract sees is that of the hash map
-pub ttl-shown : (half : Half) (roll : RollType) (i : Inside) (v : KeySetParts) → the_view i ≡ v →
-    ttl_in half (phase_of v.rolls roll) ≡ ttl_in half (phase_of (rolls_shown i.rollstates) roll)
+-- the phase that a contract sees of a key set is that of its rolls
+pub ttl-shown : (half : Half) (roll : RollType) (i : SetInside) (v : KeySetParts) →
+    set_view i ≡ v → ttl_in half (phase_of v.rolls roll) ≡ ttl_in half (phase_of i.rolls roll)
 ttl-shown half roll i v e = sym (ap (λ (w : KeySetParts). ttl_in half (phase_of w.rolls roll)) e)
 
 -- ---- the end of a wait
@@ -453,7 +455,7 @@ pub no-wait-phase : (roll : RollType) (set : KeySetParts) (p : Option RollState)
 no-wait-phase roll set p is none =
     no-wait roll set p is (λ half ttl e. absurd (let one = sym (no-ttl p none half) ∙ e in cc))
 
--- the phase that a contract sees is that of the hash map
-pub phase-shown : (roll : RollType) (i : Inside) (v : KeySetParts) → the_view i ≡ v →
-    phase_of v.rolls roll ≡ phase_of (rolls_shown i.rollstates) roll
+-- the phase that a contract sees of a key set is that of its rolls
+pub phase-shown : (roll : RollType) (i : SetInside) (v : KeySetParts) → set_view i ≡ v →
+    phase_of v.rolls roll ≡ phase_of i.rolls roll
 phase-shown roll i v e = sym (ap (λ (w : KeySetParts). phase_of w.rolls roll) e)

@@ -16,9 +16,9 @@ use Rattle.std.proofs.lemmas.List.Sorted.{IsPermutation-refl, IsPermutation-tran
 use Rattle.std.proofs.lemmas.Map.{lookup-none}
 use Rattle.std.proofs.lemmas.Map.Text.{is_text}
 use Rattle.dnssec_key.specs.Key.{KeyParts}
-use Rattle.dnssec_keyset.specs.KeySet.{KeySetParts, keys_shown, entries_by_bytes, some_key}
-use Rattle.dnssec_keyset.specs.declared.set.KeySet.TheInside.{Inside}
-use Rattle.dnssec_keyset.specs.contracts.set.KeySet.{the_view}
+use Rattle.dnssec_keyset.specs.KeySet.{Keys, keys_shown, entries_by_bytes, some_key}
+use Rattle.dnssec_keyset.specs.declared.keys.Keys.TheInside.{Inside}
+use Rattle.dnssec_keyset.specs.contracts.keys.Keys.{the_view}
 use Rattle.dnssec_keyset.proofs.Shown.{find_by_bytes}
 
 module _ {X : Type 0} where
@@ -33,11 +33,11 @@ module _ {X : Type 0} where
       ] none
 
   -- no key stands twice
-  pub AreApart : List (List ℕ × X) → Type 0
+  unfoldable pub AreApart : List (List ℕ × X) → Type 0
   AreApart [] = Unit {0}
   AreApart (e ∷ es) = (find (slice_cmp nat_cmp) e.0 es ≡ None) × AreApart es
 
-  none_of_length : (es : List (List ℕ × X)) → length es ≡ 0 → es ≡ []
+  pub none_of_length : (es : List (List ℕ × X)) → length es ≡ 0 → es ≡ []
   none_of_length [] e = refl
   none_of_length (x ∷ es) e = absurd (omega arith)
 
@@ -74,7 +74,7 @@ module _ {Y : Type 0} where
     some_key-shown p m unique = sym (list_any-IsPermutation p _ _ (values_permute m unique))
 
 -- what some key of a key set passes, through the hash map that it holds
-pub some_key-view : (p : KeyParts → Bool) (i : Inside) (v : KeySetParts) → the_view i ≡ v → IsUnique string_eq i.keys → some_key p v.keys ≡ list_any p (values i.keys)
-some_key-view p i v e unique = sym (ap (λ (w : KeySetParts). some_key p w.keys) e) ∙ some_key-shown p i.keys unique
+pub some_key-view : (p : KeyParts → Bool) (i : Inside) (v : Keys) → the_view i ≡ v → IsUnique string_eq i.map → some_key p v ≡ list_any p (values i.map)
+some_key-view p i v e unique = sym (ap (some_key p) e) ∙ some_key-shown p i.map unique
 
 pub ruleset walked = (some_key-view, some_key-shown)

@@ -1,5 +1,6 @@
 pub mod KeySet
 pub mod Start
+pub mod Inner
 pub mod Wait
 pub mod Step
 pub mod WaitEnd

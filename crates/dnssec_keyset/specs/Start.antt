@@ -9,11 +9,6 @@ use Rattle.std.specs.Str.{bytes_eq}
 use Rattle.std.specs.FinMap.{get}
 use Rattle.std.specs.Borrow.{Bor}
 use Rattle.dnssec_key.specs.declared.key.KeyType.{KeyType}
-use Rattle.dnssec_keyset.specs.declared.check.Want.{Want}
-use Rattle.dnssec_keyset.specs.declared.check.Want.TheVariants.{PresentKsk, KskAtParent, PresentZsk}
-use Rattle.dnssec_keyset.specs.declared.check.Want.TheVariants.{PresentKskRole, PresentZskRole}
-use Rattle.dnssec_keyset.specs.declared.check.Side.{Side}
-use Rattle.dnssec_keyset.specs.declared.check.Side.TheVariants.{KskSide, ZskSide, BothSides}
 use Rattle.dnssec_key.specs.declared.roll.RollType.{RollType}
 use Rattle.dnssec_key.specs.declared.roll.RollType.TheVariants.{KskRoll, KskDoubleDsRoll}
 use Rattle.dnssec_key.specs.declared.roll.RollType.TheVariants.{ZskRoll, ZskDoubleSignatureRoll}
@@ -32,6 +27,12 @@ use Rattle.dnssec_keyset.specs.KeySet.{Keys, Rolls, KeySetParts, phase_of, some_
 -- ---- rolls side by side
 
 -- which keys a roll changes: KSKs alone, ZSKs alone, or KSKs, ZSKs and CSKs (RFC 6781, section 4.1)
+pub data Side : Type 0 where
+  KskSide : Side
+  ZskSide : Side
+  BothSides : Side
+
+-- the side of a roll (RFC 6781, section 4.1)
 abbrev pub side_of : RollType → Side
 side_of KskRoll = KskSide
 side_of KskDoubleDsRoll = KskSide
@@ -143,6 +144,15 @@ algorithm_fault roll at olds news =
     then None else Some AlgorithmSetsMismatch
 
 -- ---- the keys to go on with
+
+-- a key that a start has to leave: a KSK in the DNSKEY set or one with a DS, a ZSK in the DNSKEY
+-- set, or there a KSK or CSK, or a ZSK or CSK (RFC 6781, section 4.1)
+pub data Want : Type 0 where
+  PresentKsk : Want
+  KskAtParent : Want
+  PresentZsk : Want
+  PresentKskRole : Want
+  PresentZskRole : Want
 
 -- what a start has to leave: a key that serves on each side of the roll (RFC 6781, section 4.1)
 abbrev pub wants : RollType → List Want

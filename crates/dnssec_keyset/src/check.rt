@@ -1,352 +1,253 @@
 //! What a start is refused for. Nothing is changed here.
-ghost use Rattle.std.specs.Prelude.{◌≡◌, [], false, true, not, ◌&&◌, ◌||◌, Some, string_bytes};
-ghost use Rattle.std.specs.Prelude.{nat_eq, is_some};
+ghost use Rattle.std.specs.Prelude.{◌≡◌, ℕ, Bool, List, [], false, true, not, ◌&&◌, ◌||◌, length};
 ghost use Rattle.std.specs.List.{list_any, list_all};
 ghost use Rattle.std.specs.Option.{option_map_or};
-ghost use Rattle.std.specs.String.{string_eq};
 ghost use Rattle.std.specs.Str.{bytes_eq};
 ghost use Rattle.std.specs.FinMap as map;
-ghost use Rattle.std.specs.HashMap as hash;
-ghost use Rattle.dnssec_keyset.specs.KeySet.{phase_of, rolls_shown};
-ghost use Rattle.dnssec_keyset.specs.Start.{texts, is_listed, side_of, are_apart, together};
-ghost use Rattle.dnssec_keyset.specs.Start.{has_conflict, conflict, lists_kind, old_entry_fault};
-ghost use Rattle.dnssec_keyset.specs.Start.{old_fault, new_entry_fault, new_fault, has_algorithm};
-ghost use Rattle.dnssec_keyset.specs.Start.{algorithms_within, may_change_algorithms};
-ghost use Rattle.dnssec_keyset.specs.Start.{algorithm_fault, wants, serves_as_new, serves_as_kept};
+ghost use Rattle.dnssec_keyset.specs.Inner.Bits.{is_set};
+ghost use Rattle.dnssec_keyset.specs.Inner.Code.{as_want};
+ghost use Rattle.dnssec_keyset.specs.Inner.Counts.{count_in, listed};
+ghost use Rattle.dnssec_keyset.specs.Inner.Tags.{HasListed, is_in};
+ghost use Rattle.dnssec_keyset.specs.Start.{texts, is_listed, old_entry_fault, old_fault};
+ghost use Rattle.dnssec_keyset.specs.Start.{new_entry_fault, new_fault, has_algorithm};
+ghost use Rattle.dnssec_keyset.specs.Start.{algorithms_within, algorithm_fault};
+ghost use Rattle.dnssec_keyset.specs.Start.{serves_as_new, serves_as_kept};
 ghost use Rattle.dnssec_keyset.specs.Start.{some_listed, some_kept, is_met, suitability_fault};
 ghost use Rattle.dnssec_keyset.specs.Start.{start_refusal};
 ghost use Rattle.dnssec_keyset.specs.Step.{AnswersExactly};
 
+use crate::bits::{AlgorithmSet, TagSet, is_set, set};
+use crate::keys::Keys;
 use crate::set::KeySet;
-use dnssec_key::{Error, Key, KeyType, RollState, RollType, is_kept_at_parent, is_kept_present};
-use std::collections::HashMap;
+use crate::side::{Want, may_change_algorithms, side_of, wants};
+use dnssec_key::{Error, RollType};
 
-const ALL_ROLLS: [RollType; 6] = [
-    RollType::KskRoll,
-    RollType::KskDoubleDsRoll,
-    RollType::ZskRoll,
-    RollType::ZskDoubleSignatureRoll,
-    RollType::CskRoll,
-    RollType::AlgorithmRoll,
-];
-
-/// Which keys a roll changes.
-#[derive(Clone, Copy, Debug, PartialEq, Eq)]
-pub(crate) enum Side {
-    KskSide,
-    ZskSide,
-    BothSides,
-}
-
-/// What a start has to leave on a side that the roll changes: a key that serves.
-#[derive(Clone, Copy, Debug, PartialEq, Eq)]
-pub(crate) enum Want {
-    /// A KSK in the DNSKEY set.
-    PresentKsk,
-    /// A KSK with a DS at the parent.
-    KskAtParent,
-    /// A ZSK in the DNSKEY set.
-    PresentZsk,
-    /// A KSK or a CSK in the DNSKEY set.
-    PresentKskRole,
-    /// A ZSK or a CSK in the DNSKEY set.
-    PresentZskRole,
-}
-
-impl Want {
-    /// Whether a new key serves, as soon as it comes in.
-    fn is_met_by_new(self, keytype: KeyType) -> bool
-        ensures { result ≡ serves_as_new self keytype }
+/// What a start is refused for, of the keys.
+impl Keys {
+    fn old_entry_fault(&self, roll: RollType, reference: &str) -> Option<Error>
+        ensures { result ≡ old_entry_fault roll (map.get self.now reference.now) }
     {
-        match self {
-            Want::PresentKsk | Want::KskAtParent => keytype.ksk().is_some(),
-            Want::PresentZsk => keytype.zsk().is_some(),
-            Want::PresentKskRole => keytype.ksk_role().is_some(),
-            Want::PresentZskRole => keytype.zsk_role().is_some(),
+        match self.get(reference) {
+            None => Some(Error::KeyNotFound),
+            Some(key) if side_of(roll).lists(key.keytype()) => None,
+            Some(_) => Some(Error::WrongKeyType),
         }
     }
 
-    /// Whether a key serves in its state, where it isn't listed as old.
-    fn is_met_by_kept(self, keytype: KeyType) -> bool
-        ensures { result ≡ serves_as_kept self keytype }
+    /// What is wrong with a new entry, where the keys of these tags are listed before it.
+    fn new_entry_fault(&self, roll: RollType, reference: &str, taken: &TagSet) -> Option<Error>
+        ensures { result ≡ new_entry_fault roll (map.get self.now reference.now)
+            (is_in taken.now (map.get self.now reference.now)) }
     {
-        match self {
-            Want::PresentKsk => is_kept_present(keytype.ksk()),
-            Want::KskAtParent => is_kept_at_parent(keytype.ksk()),
-            Want::PresentZsk => is_kept_present(keytype.zsk()),
-            Want::PresentKskRole => is_kept_present(keytype.ksk_role()),
-            Want::PresentZskRole => is_kept_present(keytype.zsk_role()),
-        }
-    }
-}
-
-impl Side {
-    /// Whether two rolls of these sides change no key in common.
-    fn is_apart_from(self, other: Side) -> bool
-        ensures { result ≡ are_apart self other }
-    {
-        matches!(
-            (self, other),
-            (Side::KskSide, Side::ZskSide) | (Side::ZskSide, Side::KskSide)
-        )
-    }
-
-    /// Whether a roll of this side may list a key of the kind.
-    fn lists(self, keytype: KeyType) -> bool
-        ensures { result ≡ lists_kind self keytype }
-    {
-        match (self, keytype) {
-            (Side::KskSide | Side::BothSides, KeyType::Ksk(_)) => true,
-            (Side::ZskSide | Side::BothSides, KeyType::Zsk(_)) => true,
-            (Side::BothSides, KeyType::Csk(_, _)) => true,
-            _ => false,
-        }
-    }
-}
-
-fn side_of(roll: RollType) -> Side
-    ensures { result ≡ side_of roll }
-{
-    match roll {
-        RollType::KskRoll | RollType::KskDoubleDsRoll => Side::KskSide,
-        RollType::ZskRoll | RollType::ZskDoubleSignatureRoll => Side::ZskSide,
-        RollType::CskRoll | RollType::AlgorithmRoll => Side::BothSides,
-    }
-}
-
-/// Whether two rolls may be in progress together.
-fn go_together(one: RollType, other: RollType) -> bool
-    ensures { result ≡ together one other }
-{
-    side_of(one).is_apart_from(side_of(other))
-}
-
-fn may_change_algorithms(roll: RollType) -> bool
-    ensures { result ≡ may_change_algorithms roll }
-{
-    matches!(roll, RollType::AlgorithmRoll)
-}
-
-fn wants(roll: RollType) -> &'static [Want]
-    ensures { result.now ≡ wants roll }
-{
-    match roll {
-        RollType::KskRoll => &[Want::PresentKsk],
-        RollType::KskDoubleDsRoll => &[Want::KskAtParent],
-        RollType::ZskRoll | RollType::ZskDoubleSignatureRoll => &[Want::PresentZsk],
-        RollType::CskRoll | RollType::AlgorithmRoll => {
-            &[Want::PresentKskRole, Want::PresentZskRole]
-        }
-    }
-}
-
-/// The phase of a roll, where it is in progress.
-#[tactic(auto, using(crate::proofs::Phases::phases))]
-pub(crate) fn phase_of(rolls: &HashMap<RollType, RollState>, roll: RollType) -> Option<RollState>
-    ensures { result ≡ phase_of (rolls_shown rolls.now) roll }
-{
-    rolls.get(&roll).copied()
-}
-
-fn is_listed(references: &[&str], reference: &str) -> bool
-    ensures { result ≡ list_any (λ r. bytes_eq reference.now r.now) references.now }
-{
-    references.iter().any(|listed| reference == *listed)
-}
-
-/// Whether a new entry is an old one too, or stood earlier among the new.
-#[tactic(auto, using(crate::proofs::Lists::lists))]
-fn is_taken(old: &[&str], earlier: &[&str], reference: &str) -> bool
-    ensures { result ≡
-        (is_listed (texts old.now) reference.now || is_listed (texts earlier.now) reference.now) }
-{
-    is_listed(old, reference) || is_listed(earlier, reference)
-}
-
-fn old_entry_fault(keys: &HashMap<String, Key>, roll: RollType, reference: &str) -> Option<Error>
-    ensures { result ≡ old_entry_fault roll (hash.get_by_text keys.now reference.now) }
-{
-    match keys.get(reference) {
-        None => Some(Error::KeyNotFound),
-        Some(key) if side_of(roll).lists(key.keytype()) => None,
-        Some(_) => Some(Error::WrongKeyType),
-    }
-}
-
-fn new_entry_fault(
-    keys: &HashMap<String, Key>,
-    roll: RollType,
-    reference: &str,
-    taken: bool,
-) -> Option<Error>
-    ensures { result ≡ new_entry_fault roll (hash.get_by_text keys.now reference.now) taken }
-{
-    match keys.get(reference) {
-        None => Some(Error::KeyNotFound),
-        Some(key) => {
-            if !side_of(roll).lists(key.keytype()) {
-                Some(Error::WrongKeyType)
-            } else if key.is_fresh() && !taken {
-                None
-            } else {
-                Some(Error::WrongKeyState)
+        match self.get(reference) {
+            None => Some(Error::KeyNotFound),
+            Some(key) => {
+                if !side_of(roll).lists(key.keytype()) {
+                    Some(Error::WrongKeyType)
+                } else if key.is_fresh() && !is_set(taken, key.key_tag()) {
+                    None
+                } else {
+                    Some(Error::WrongKeyState)
+                }
             }
         }
     }
-}
 
-/// Refuses the first old entry that has a fault.
-fn check_old(keys: &HashMap<String, Key>, roll: RollType, old: &[&str]) -> Result<(), Error>
-    ensures { AnswersExactly (old_fault roll (hash.get_by_text keys.now) (texts old.now)) result }
-{
-    for reference in old {
-        if let Some(fault) = old_entry_fault(keys, roll, reference) {
-            return Err(fault);
+    /// Puts the tag of the key at a reference into a set, where there is such a key.
+    fn add_tag(&self, tags: &mut TagSet, reference: &str)
+        ensures len { length tags.new ≡ length tags.old }
+        ensures listed { (listed : List ℕ → Bool) → HasListed tags.old self.now listed
+            → HasListed tags.new self.now (λ q. listed q || bytes_eq reference.now q) }
+    {
+        self.differ_in_tags();
+        if let Some(key) = self.get(reference) {
+            set(tags, key.key_tag());
         }
     }
-    Ok(())
-}
 
-/// Refuses the first new entry that has a fault.
-#[tactic(auto, using(crate::proofs::Lists::lists))]
-fn check_new(
-    keys: &HashMap<String, Key>,
-    roll: RollType,
-    old: &[&str],
-    new: &[&str],
-) -> Result<(), Error>
-    ensures { AnswersExactly
-        (new_fault roll (hash.get_by_text keys.now) (texts old.now) [] (texts new.now)) result }
-{
-    for (i, reference) in new.iter().enumerate() {
-        let taken = is_taken(old, &new[..i], reference);
-        if let Some(fault) = new_entry_fault(keys, roll, reference, taken) {
-            return Err(fault);
+    /// The tags of the keys that a list names.
+    fn tags_of(&self, references: &[&str]) -> TagSet
+        ensures { HasListed result self.now (is_listed (texts references.now)) }
+    {
+        let mut tags = [0; 1024];
+        for reference in references {
+            self.add_tag(&mut tags, reference);
         }
+        tags
     }
-    Ok(())
-}
 
-fn is_of_algorithm(keys: &HashMap<String, Key>, reference: &str, algorithm: u8) -> bool
-    ensures { result ≡ option_map_or (λ k. nat_eq k.algorithm algorithm)
-        (hash.get_by_text keys.now reference.now) false }
-{
-    match keys.get(reference) {
-        None => false,
-        Some(key) => key.algorithm().to_int() == algorithm,
-    }
-}
-
-fn has_algorithm(keys: &HashMap<String, Key>, references: &[&str], algorithm: u8) -> bool
-    ensures { result ≡ list_any (λ r. option_map_or (λ k. nat_eq k.algorithm algorithm)
-        (hash.get_by_text keys.now r.now) false) references.now }
-{
-    references
-        .iter()
-        .any(|reference| is_of_algorithm(keys, reference, algorithm))
-}
-
-/// Whether the algorithm of the key at the reference is that of one of the others.
-#[tactic(auto, using(crate::proofs::Lists::lists))]
-fn is_algorithm_within(keys: &HashMap<String, Key>, reference: &str, others: &[&str]) -> bool
-    ensures { result ≡ option_map_or
-        (λ k. has_algorithm (hash.get_by_text keys.now) (texts others.now) k.algorithm)
-        (hash.get_by_text keys.now reference.now) true }
-{
-    match keys.get(reference) {
-        None => true,
-        Some(key) => has_algorithm(keys, others, key.algorithm().to_int()),
-    }
-}
-
-fn algorithms_within(keys: &HashMap<String, Key>, references: &[&str], others: &[&str]) -> bool
-    ensures { result ≡ list_all (λ r. option_map_or
-        (λ k. has_algorithm (hash.get_by_text keys.now) (texts others.now) k.algorithm)
-        (hash.get_by_text keys.now r.now) true) references.now }
-{
-    references
-        .iter()
-        .all(|reference| is_algorithm_within(keys, reference, others))
-}
-
-#[tactic(auto, using(crate::proofs::Lists::lists))]
-fn are_of_same_algorithms(keys: &HashMap<String, Key>, old: &[&str], new: &[&str]) -> bool
-    ensures { result ≡
-        (algorithms_within (hash.get_by_text keys.now) (texts old.now) (texts new.now)
-        && algorithms_within (hash.get_by_text keys.now) (texts new.now) (texts old.now)) }
-{
-    algorithms_within(keys, old, new) && algorithms_within(keys, new, old)
-}
-
-/// Refuses lists of different algorithms, unless the roll goes from some to others.
-#[tactic(auto, using(crate::proofs::Lists::lists))]
-fn check_algorithms(
-    keys: &HashMap<String, Key>,
-    roll: RollType,
-    old: &[&str],
-    new: &[&str],
-) -> Result<(), Error>
-    ensures { AnswersExactly
-        (algorithm_fault roll (hash.get_by_text keys.now) (texts old.now) (texts new.now)) result }
-{
-    if may_change_algorithms(roll) || are_of_same_algorithms(keys, old, new) {
+    /// Refuses the first old entry that has a fault.
+    fn check_old(&self, roll: RollType, old: &[&str]) -> Result<(), Error>
+        ensures { AnswersExactly (old_fault roll (map.get self.now) (texts old.now)) result }
+    {
+        for reference in old {
+            if let Some(fault) = self.old_entry_fault(roll, reference) {
+                return Err(fault);
+            }
+        }
         Ok(())
-    } else {
-        Err(Error::AlgorithmSetsMismatch)
     }
-}
 
-fn has_conflict(rolls: &HashMap<RollType, RollState>, roll: RollType) -> bool
-    ensures { result ≡ has_conflict roll (rolls_shown rolls.now) }
-{
-    ALL_ROLLS.iter().any(|other| phase_of(rolls, *other).is_some() && !go_together(roll, *other))
-}
-
-/// Refuses a roll that is in progress, or that doesn't go with one in progress.
-#[tactic(auto, unfolding(crate::specs::Start::conflict))]
-fn check_conflict(rolls: &HashMap<RollType, RollState>, roll: RollType) -> Result<(), Error>
-    ensures { AnswersExactly (conflict roll (rolls_shown rolls.now)) result }
-{
-    if phase_of(rolls, roll).is_some() {
-        return Err(Error::WrongStateForRollOperation);
+    /// Refuses the first new entry that has a fault.
+    #[tactic(auto, using(crate::proofs::Lists::lists))]
+    fn check_new(&self, roll: RollType, old: &[&str], new: &[&str]) -> Result<(), Error>
+        ensures { AnswersExactly
+            (new_fault roll (map.get self.now) (texts old.now) [] (texts new.now)) result }
+    {
+        let mut taken = self.tags_of(old);
+        for reference in new {
+            if let Some(fault) = self.new_entry_fault(roll, reference, &taken) {
+                return Err(fault);
+            }
+            self.add_tag(&mut taken, reference);
+        }
+        Ok(())
     }
-    if has_conflict(rolls, roll) {
-        return Err(Error::ConflictingRollInProgress);
+
+    /// The algorithms of the keys that a list names.
+    fn algorithms_of(&self, references: &[&str]) -> AlgorithmSet
+        ensures { (a : ℕ) →
+            is_set result a ≡ has_algorithm (map.get self.now) (texts references.now) a }
+    {
+        let mut algorithms = [0; 4];
+        for reference in references {
+            if let Some(key) = self.get(reference) {
+                set(&mut algorithms, u16::from(key.algorithm().to_int()));
+            }
+        }
+        algorithms
     }
-    Ok(())
-}
 
-fn is_met_by_new(keys: &HashMap<String, Key>, want: Want, reference: &str) -> bool
-    ensures { result ≡ option_map_or (λ k. serves_as_new want k.keytype)
-        (hash.get_by_text keys.now reference.now) false }
-{
-    match keys.get(reference) {
-        None => false,
-        Some(key) => want.is_met_by_new(key.keytype()),
+    /// Whether the algorithm of the key at the reference, if there is one, is in the set.
+    fn is_of(&self, reference: &str, algorithms: &AlgorithmSet) -> bool
+        ensures { result ≡ option_map_or (λ k. is_set algorithms.now k.algorithm)
+            (map.get self.now reference.now) true }
+    {
+        match self.get(reference) {
+            None => true,
+            Some(key) => is_set(algorithms, u16::from(key.algorithm().to_int())),
+        }
     }
-}
 
-fn is_met_by_any_new(keys: &HashMap<String, Key>, want: Want, new: &[&str]) -> bool
-    ensures { result ≡ list_any (λ r. option_map_or (λ k. serves_as_new want k.keytype)
-        (hash.get_by_text keys.now r.now) false) new.now }
-{
-    new.iter()
-        .any(|reference| is_met_by_new(keys, want, reference))
-}
+    fn are_of(&self, references: &[&str], algorithms: &AlgorithmSet) -> bool
+        ensures { result ≡ list_all (λ r. option_map_or (λ k. is_set algorithms.now k.algorithm)
+            (map.get self.now r.now) true) references.now }
+    {
+        references.iter().all(|reference| self.is_of(reference, algorithms))
+    }
 
-fn is_met_by_kept(want: Want, old: &[&str], reference: &str, key: &Key) -> bool
-    ensures { result ≡ (serves_as_kept want key.now.keytype
-        && not (list_any (λ r. bytes_eq reference.now r.now) old.now)) }
-{
-    want.is_met_by_kept(key.keytype()) && !is_listed(old, reference)
-}
+    fn algorithms_within(&self, references: &[&str], others: &[&str]) -> bool
+        ensures { result ≡
+            algorithms_within (map.get self.now) (texts references.now) (texts others.now) }
+    {
+        self.are_of(references, &self.algorithms_of(others))
+    }
 
-fn is_met_by_any_kept(keys: &HashMap<String, Key>, want: Want, old: &[&str]) -> bool
-    ensures any { result ≡ list_any (λ e. serves_as_kept want e.1.keytype
-        && not (list_any (λ r. bytes_eq (string_bytes e.0) r.now) old.now)) keys.now.entries }
-    ensures unique { hash.IsUnique string_eq keys.now }
-{
-    keys.iter().any(|(reference, key)| is_met_by_kept(want, old, reference.as_str(), key))
+    fn are_of_same_algorithms(&self, old: &[&str], new: &[&str]) -> bool
+        ensures { result ≡
+            (algorithms_within (map.get self.now) (texts old.now) (texts new.now)
+            && algorithms_within (map.get self.now) (texts new.now) (texts old.now)) }
+    {
+        self.algorithms_within(old, new) && self.algorithms_within(new, old)
+    }
+
+    /// Refuses lists of different algorithms, unless the roll goes from some to others.
+    fn check_algorithms(&self, roll: RollType, old: &[&str], new: &[&str]) -> Result<(), Error>
+        ensures { AnswersExactly
+            (algorithm_fault roll (map.get self.now) (texts old.now) (texts new.now)) result }
+    {
+        if may_change_algorithms(roll) || self.are_of_same_algorithms(old, new) {
+            Ok(())
+        } else {
+            Err(Error::AlgorithmSetsMismatch)
+        }
+    }
+
+    /// Refuses a start that leaves no key to go on with.
+    fn check_suitability(&self, roll: RollType, old: &[&str], new: &[&str]) -> Result<(), Error>
+        ensures { AnswersExactly
+            (suitability_fault roll self.now (texts old.now) (texts new.now)) result }
+    {
+        if self.are_met(wants(roll), old, new) {
+            Ok(())
+        } else {
+            Err(Error::NoSuitableKeyPresent)
+        }
+    }
+
+    fn are_met(&self, wants: &[Want], old: &[&str], new: &[&str]) -> bool
+        ensures { result ≡
+            list_all (λ w. is_met self.now (texts old.now) (texts new.now) (as_want w)) wants.now }
+    {
+        wants.iter().all(|want| self.is_met(*want, old, new))
+    }
+
+    fn is_met(&self, want: Want, old: &[&str], new: &[&str]) -> bool
+        ensures { result ≡ is_met self.now (texts old.now) (texts new.now) (as_want want) }
+    {
+        self.has_new(want, new) || self.has_kept(want, old)
+    }
+
+    /// Whether a key that isn't listed as old serves: more serve than the list has of them.
+    #[tactic(auto, using(crate::proofs::Counted::counts))]
+    fn has_kept(&self, want: Want, old: &[&str]) -> bool
+        ensures { result ≡ some_kept (serves_as_kept (as_want want)) self.now (texts old.now) }
+    {
+        self.count_listed(want, old) < self.count(want)
+    }
+
+    /// How many keys of a list serve, if they aren't listed as old: each is counted once.
+    fn count_listed(&self, want: Want, old: &[&str]) -> usize
+        ensures { result ≡
+            count_in (listed (serves_as_kept (as_want want)) (texts old.now)) self.now }
+    {
+        let mut earlier = [0; 1024];
+        let mut count = 0;
+        for reference in old {
+            if self.serves_first(want, reference, &earlier) {
+                count += 1;
+            }
+            self.add_tag(&mut earlier, reference);
+        }
+        count
+    }
+
+    /// Whether the key at a reference serves, and isn't one of those with these tags.
+    fn serves_first(&self, want: Want, reference: &str, earlier: &TagSet) -> bool
+        ensures { result ≡ option_map_or (λ k. serves_as_kept (as_want want) k.keytype
+            && not (is_set earlier.now k.key_tag)) (map.get self.now reference.now) false }
+    {
+        match self.get(reference) {
+            None => false,
+            Some(key) => {
+                want.is_met_by_kept(key.keytype()) && !is_set(earlier, key.key_tag())
+            }
+        }
+    }
+
+    #[tactic(auto, using(crate::proofs::Starts::starts))]
+    fn has_new(&self, want: Want, new: &[&str]) -> bool
+        ensures { result ≡ some_listed (serves_as_new (as_want want)) (map.get self.now) (texts new.now) }
+    {
+        self.any_serves_as_new(want, new)
+    }
+
+    fn any_serves_as_new(&self, want: Want, new: &[&str]) -> bool
+        ensures { result ≡ list_any (λ r. option_map_or (λ k. serves_as_new (as_want want) k.keytype)
+            (map.get self.now r.now) false) new.now }
+    {
+        new.iter().any(|reference| self.serves_as_new(want, reference))
+    }
+
+    fn serves_as_new(&self, want: Want, reference: &str) -> bool
+        ensures { result ≡ option_map_or (λ k. serves_as_new (as_want want) k.keytype)
+            (map.get self.now reference.now) false }
+    {
+        match self.get(reference) {
+            None => false,
+            Some(key) => want.is_met_by_new(key.keytype()),
+        }
+    }
 }
 
 /// What a start is refused for.
@@ -361,82 +262,10 @@ impl KeySet {
         ensures { AnswersExactly
             (start_refusal rolltype self.now (texts old.now) (texts new.now)) result }
     {
-        self.check_conflict(rolltype)?;
-        self.check_old(rolltype, old)?;
-        self.check_new(rolltype, old, new)?;
-        self.check_algorithms(rolltype, old, new)?;
-        self.check_suitability(rolltype, old, new)
-    }
-
-    #[tactic(auto, using(crate::proofs::Starts::starts))]
-    fn check_conflict(&self, rolltype: RollType) -> Result<(), Error>
-        ensures { AnswersExactly (conflict rolltype self.now.rolls) result }
-    {
-        check_conflict(&self.rollstates, rolltype)
-    }
-
-    #[tactic(auto, using(crate::proofs::Starts::starts))]
-    fn check_old(&self, rolltype: RollType, old: &[&str]) -> Result<(), Error>
-        ensures { AnswersExactly
-            (old_fault rolltype (map.get self.now.keys) (texts old.now)) result }
-    {
-        check_old(&self.keys, rolltype, old)
-    }
-
-    #[tactic(auto, using(crate::proofs::Starts::starts))]
-    fn check_new(&self, rolltype: RollType, old: &[&str], new: &[&str]) -> Result<(), Error>
-        ensures { AnswersExactly
-            (new_fault rolltype (map.get self.now.keys) (texts old.now) [] (texts new.now)) result }
-    {
-        check_new(&self.keys, rolltype, old, new)
-    }
-
-    #[tactic(auto, using(crate::proofs::Starts::starts))]
-    fn check_algorithms(&self, rolltype: RollType, old: &[&str], new: &[&str]) -> Result<(), Error>
-        ensures { AnswersExactly
-            (algorithm_fault rolltype (map.get self.now.keys) (texts old.now) (texts new.now))
-            result }
-    {
-        check_algorithms(&self.keys, rolltype, old, new)
-    }
-
-    /// Refuses a start that leaves no key to go on with.
-    fn check_suitability(&self, rolltype: RollType, old: &[&str], new: &[&str]) -> Result<(), Error>
-        ensures { AnswersExactly
-            (suitability_fault rolltype self.now.keys (texts old.now) (texts new.now)) result }
-    {
-        if self.are_met(wants(rolltype), old, new) {
-            Ok(())
-        } else {
-            Err(Error::NoSuitableKeyPresent)
-        }
-    }
-
-    fn are_met(&self, wants: &[Want], old: &[&str], new: &[&str]) -> bool
-        ensures { result ≡
-            list_all (is_met self.now.keys (texts old.now) (texts new.now)) wants.now }
-    {
-        wants.iter().all(|want| self.is_met(*want, old, new))
-    }
-
-    fn is_met(&self, want: Want, old: &[&str], new: &[&str]) -> bool
-        ensures { result ≡ is_met self.now.keys (texts old.now) (texts new.now) want }
-    {
-        self.is_met_by_new(want, new) || self.is_met_by_kept(want, old)
-    }
-
-    #[tactic(auto, using(crate::proofs::Starts::starts))]
-    fn is_met_by_new(&self, want: Want, new: &[&str]) -> bool
-        ensures { result ≡
-            some_listed (serves_as_new want) (map.get self.now.keys) (texts new.now) }
-    {
-        is_met_by_any_new(&self.keys, want, new)
-    }
-
-    #[tactic(auto, using(crate::proofs::Starts::starts))]
-    fn is_met_by_kept(&self, want: Want, old: &[&str]) -> bool
-        ensures { result ≡ some_kept (serves_as_kept want) self.now.keys (texts old.now) }
-    {
-        is_met_by_any_kept(&self.keys, want, old)
+        self.rolls.check_conflict(rolltype)?;
+        self.keys.check_old(rolltype, old)?;
+        self.keys.check_new(rolltype, old, new)?;
+        self.keys.check_algorithms(rolltype, old, new)?;
+        self.keys.check_suitability(rolltype, old, new)
     }
 }

@@ -1,23 +1,16 @@
 //! The calls of a roll.
-ghost use Rattle.std.specs.Prelude.{◌≡◌, ℕ, ◌<◌, List, [], Some, None, IfOk, IfErr, OnOk, OnErr};
-ghost use Rattle.std.specs.Prelude.{IsOk, IsSome, if◌then◌else◌};
-ghost use Rattle.std.specs.Option.{option_map};
-ghost use Rattle.std.specs.Str.{bytes_eq};
-ghost use Rattle.std.specs.HashMap as hash;
+ghost use Rattle.std.specs.Prelude.{◌≡◌, [], IfOk, IfErr, IsOk, OnOk, OnErr};
 ghost use Rattle.dnssec_key.specs.declared.error.Error.TheVariants.{OutOfMemory};
-ghost use Rattle.dnssec_keyset.specs.KeySet.{MovesOn, phase_of, with_phase, rolls_shown};
-ghost use Rattle.dnssec_key.specs.RollTable.{which, First, Second, actions_at, actions_of};
-ghost use Rattle.dnssec_key.specs.RollTable.{after_report, after_start, after_wait, behind};
-ghost use Rattle.dnssec_key.specs.RollTable.{expiring, marked_new, marked_old};
-ghost use Rattle.dnssec_keyset.specs.Start.{is_listed, start_refusal, texts};
-ghost use Rattle.dnssec_keyset.specs.Step.{Answers, AnswersExactly, AnswersWait, end_refusal};
-ghost use Rattle.dnssec_keyset.specs.Step.{report_refusal, wait_verdict};
+ghost use Rattle.dnssec_key.specs.RollTable.{which, First, Second, actions_at, actions_of, behind};
+ghost use Rattle.dnssec_keyset.specs.KeySet.{phase_of};
+ghost use Rattle.dnssec_keyset.specs.Start.{start_refusal, texts};
+ghost use Rattle.dnssec_keyset.specs.Step.{Answers, AnswersExactly, AnswersWait};
+ghost use Rattle.dnssec_keyset.specs.Step.{StartRoll, Report, Wait, RollDone, Changes};
+ghost use Rattle.dnssec_keyset.specs.Step.{report_refusal, end_refusal, wait_verdict};
 
-use crate::check::phase_of;
 use crate::set::KeySet;
-use dnssec_key::{Action, Error, Half, Key, RollState, RollType, UnixTime};
+use dnssec_key::{Action, Error, Half, RollState, RollType, UnixTime};
 use std::alloc::Global;
-use std::collections::HashMap;
 
 impl KeySet {
     /// Starts a roll from the keys of `old` to those of `new`, at the moment `now`.
@@ -53,17 +46,16 @@ impl KeySet {
             (start_refusal rolltype self.old (texts old.now) (texts new.now)) result }
         ensures actions { IfOk result (λ actions.
             actions.items ≡ actions_of rolltype RollState.Propagation1) }
-        ensures ok { OnOk result (MovesOn self.old self.new rolltype (Some RollState.Propagation1)
-            (λ q. after_start rolltype now.now (is_listed (texts old.now) q)
-            (is_listed (texts new.now) q))) }
+        ensures ok { OnOk result (Changes self.old
+            (StartRoll rolltype (texts old.now) (texts new.now) now.now) self.new) }
         ensures err { OnErr result (self.new ≡ self.old) }
     {
         self.check_start(rolltype, old, new)?;
         let actions = list_actions(self.alloc, rolltype, RollState::Propagation1)?;
-        reserve_roll(&mut self.rollstates)?;
-        mark_old(&mut self.keys, old);
-        mark_new(&mut self.keys, rolltype, new, *now);
-        put_in(&mut self.rollstates, rolltype, RollState::Propagation1);
+        // The last growth is the first write: what comes behind it can't fail.
+        self.rolls.put_in(rolltype, RollState::Propagation1)?;
+        self.keys.mark_old(old);
+        self.keys.mark_new(rolltype, new, *now);
         Ok(actions)
     }
 
@@ -85,9 +77,8 @@ impl KeySet {
         ensures reply { AnswersExactly
             (report_refusal First (phase_of self.old.rolls rolltype)) result }
         ensures actions { IfOk result (λ actions. actions.items ≡ []) }
-        ensures ok { OnOk result (MovesOn self.old self.new rolltype
-            (Some (RollState.CacheExpire1 ttl))
-            (λ q. after_report rolltype First now.now)) }
+        ensures ok { OnOk result
+            (Changes self.old (Report rolltype First ttl now.now) self.new) }
         ensures err { OnErr result (self.new ≡ self.old) }
     {
         self.report(rolltype, Half::First, ttl, now)
@@ -114,8 +105,8 @@ impl KeySet {
             (actions_of rolltype RollState.Propagation2) result }
         ensures actions { IfOk result (λ actions.
             actions.items ≡ actions_of rolltype RollState.Propagation2) }
-        ensures ok { OnOk result (MovesOn self.old self.new rolltype (Some RollState.Propagation2)
-            (λ q. after_wait rolltype First now.now)) }
+        ensures ok { OnOk result
+            (Changes self.old (Wait rolltype First now.now) self.new) }
         ensures err { OnErr result (self.new ≡ self.old) }
     {
         self.go_on(rolltype, Half::First, now)
@@ -132,9 +123,8 @@ impl KeySet {
         ensures reply { AnswersExactly
             (report_refusal Second (phase_of self.old.rolls rolltype)) result }
         ensures actions { IfOk result (λ actions. actions.items ≡ []) }
-        ensures ok { OnOk result (MovesOn self.old self.new rolltype
-            (Some (RollState.CacheExpire2 ttl))
-            (λ q. after_report rolltype Second now.now)) }
+        ensures ok { OnOk result
+            (Changes self.old (Report rolltype Second ttl now.now) self.new) }
         ensures err { OnErr result (self.new ≡ self.old) }
     {
         self.report(rolltype, Half::Second, ttl, now)
@@ -152,8 +142,8 @@ impl KeySet {
             (actions_of rolltype RollState.Done) result }
         ensures actions { IfOk result (λ actions.
             actions.items ≡ actions_of rolltype RollState.Done) }
-        ensures ok { OnOk result (MovesOn self.old self.new rolltype (Some RollState.Done)
-            (λ q. after_wait rolltype Second now.now)) }
+        ensures ok { OnOk result
+            (Changes self.old (Wait rolltype Second now.now) self.new) }
         ensures err { OnErr result (self.new ≡ self.old) }
     {
         self.go_on(rolltype, Half::Second, now)
@@ -169,13 +159,11 @@ impl KeySet {
     pub fn roll_done(&mut self, rolltype: RollType) -> Result<Vec<Action>, Error>
         ensures reply { AnswersExactly (end_refusal (phase_of self.old.rolls rolltype)) result }
         ensures actions { IfOk result (λ actions. actions.items ≡ []) }
-        ensures ok { OnOk result (MovesOn self.old self.new rolltype None (λ q k. k)) }
+        ensures ok { OnOk result (Changes self.old (RollDone rolltype) self.new) }
         ensures err { OnErr result (self.new ≡ self.old) }
     {
-        let Some(RollState::Done) = phase_of(&self.rollstates, rolltype) else {
-            return Err(Error::WrongStateForRollOperation);
-        };
-        take_out(&mut self.rollstates, rolltype);
+        self.rolls.check_end(rolltype)?;
+        self.rolls.take_out(rolltype);
         Ok(Vec::new(self.alloc))
     }
 
@@ -193,7 +181,7 @@ impl KeySet {
         ensures none { actions_at rolltype (phase_of self.now.rolls rolltype) ≡ [] → IsOk result }
         ensures err { IfErr result (λ e. e ≡ OutOfMemory) }
     {
-        match phase_of(&self.rollstates, rolltype) {
+        match self.rolls.phase_of(rolltype) {
             None => Ok(Vec::new(self.alloc)),
             Some(phase) => list_actions(self.alloc, rolltype, phase),
         }
@@ -211,14 +199,13 @@ impl KeySet {
         ensures reply { AnswersExactly
             (report_refusal (which half) (phase_of self.old.rolls rolltype)) result }
         ensures actions { IfOk result (λ actions. actions.items ≡ []) }
-        ensures ok { OnOk result (MovesOn self.old self.new rolltype
-            (Some (expiring (which half) ttl))
-            (λ q. after_report rolltype (which half) now.now)) }
+        ensures ok { OnOk result
+            (Changes self.old (Report rolltype (which half) ttl now.now) self.new) }
         ensures err { OnErr result (self.new ≡ self.old) }
     {
-        check_report(&self.rollstates, rolltype, half)?;
-        report_all(&mut self.keys, rolltype, half, *now);
-        move_to(&mut self.rollstates, rolltype, half.expiring(ttl));
+        self.rolls.check_report(rolltype, half)?;
+        self.keys.report_all(rolltype, half, *now);
+        self.rolls.move_to(rolltype, half.expiring(ttl));
         Ok(Vec::new(self.alloc))
     }
 
@@ -234,32 +221,15 @@ impl KeySet {
             self.old.keys (actions_of rolltype (behind (which half))) result }
         ensures actions { IfOk result (λ actions.
             actions.items ≡ actions_of rolltype (behind (which half))) }
-        ensures ok { OnOk result (MovesOn self.old self.new rolltype (Some (behind (which half)))
-            (λ q. after_wait rolltype (which half) now.now)) }
+        ensures ok { OnOk result
+            (Changes self.old (Wait rolltype (which half) now.now) self.new) }
         ensures err { OnErr result (self.new ≡ self.old) }
     {
         self.check_wait(rolltype, half, now)?;
         let actions = list_actions(self.alloc, rolltype, half.behind())?;
-        go_on_all(&mut self.keys, rolltype, half, *now);
-        move_to(&mut self.rollstates, rolltype, half.behind());
+        self.keys.go_on_all(rolltype, half, *now);
+        self.rolls.move_to(rolltype, half.behind());
         Ok(actions)
-    }
-}
-
-/// Refuses a report that the roll isn't waiting for.
-fn check_report(
-    rolls: &HashMap<RollType, RollState>,
-    roll: RollType,
-    half: Half,
-) -> Result<(), Error>
-    ensures reply { AnswersExactly
-        (report_refusal (which half) (phase_of (rolls_shown rolls.now) roll)) result }
-    ensures there { OnOk result (IsSome (phase_of (rolls_shown rolls.now) roll)) }
-{
-    match (half, phase_of(rolls, roll)) {
-        (Half::First, Some(RollState::Propagation1)) => Ok(()),
-        (Half::Second, Some(RollState::Propagation2)) => Ok(()),
-        _ => Err(Error::WrongStateForRollOperation),
     }
 }
 
@@ -277,116 +247,4 @@ fn list_actions(alloc: Global, roll: RollType, phase: RollState) -> Result<Vec<A
         Ok(actions) => Ok(actions),
         Err(_) => Err(Error::OutOfMemory),
     }
-}
-
-// Every growth comes before the first write, so that what is written here can't fail.
-
-/// Makes room for one more roll.
-#[tactic(auto, using(crate::proofs::Phases::phases))]
-fn reserve_roll(rolls: &mut HashMap<RollType, RollState>) -> Result<(), Error>
-    ensures same { rolls_shown rolls.new ≡ rolls_shown rolls.old }
-    ensures room { OnOk result (0 < hash.spare rolls.new) }
-    ensures err { IfErr result (λ e. e ≡ OutOfMemory) }
-{
-    match rolls.reserve(1) {
-        Ok(()) => Ok(()),
-        Err(_) => Err(Error::OutOfMemory),
-    }
-}
-
-/// Puts a roll into a phase, where there is room for it.
-#[tactic(auto, using(crate::proofs::Phases::phases))]
-fn put_in(rolls: &mut HashMap<RollType, RollState>, roll: RollType, phase: RollState)
-    requires { 0 < hash.spare rolls.old }
-    ensures { rolls_shown rolls.new ≡ with_phase (rolls_shown rolls.old) roll (Some phase) }
-{
-    match rolls.insert(roll, phase) {
-        Ok(_) => {}
-        Err(_) => {}
-    }
-}
-
-/// Moves a roll in progress to another phase.
-#[tactic(auto, using(crate::proofs::Phases::phases))]
-fn move_to(rolls: &mut HashMap<RollType, RollState>, roll: RollType, phase: RollState)
-    requires { IsSome (phase_of (rolls_shown rolls.old) roll) }
-    ensures { rolls_shown rolls.new ≡ with_phase (rolls_shown rolls.old) roll (Some phase) }
-{
-    if let Some(state) = rolls.get_mut(&roll) {
-        *state = phase;
-    }
-}
-
-#[tactic(auto, using(crate::proofs::Phases::phases))]
-fn take_out(rolls: &mut HashMap<RollType, RollState>, roll: RollType)
-    ensures { rolls_shown rolls.new ≡ with_phase (rolls_shown rolls.old) roll None }
-{
-    rolls.remove(&roll);
-}
-
-/// Marks the keys that a start lists as old.
-fn mark_old(keys: &mut HashMap<String, Key>, old: &[&str])
-    ensures { (q : List ℕ) → hash.get_by_text keys.new q
-        ≡ option_map (λ k. if is_listed (texts old.now) q then marked_old k else k)
-        (hash.get_by_text keys.old q) }
-{
-    for reference in old {
-        mark_old_at(keys, reference);
-    }
-}
-
-#[tactic(auto, using(crate::proofs::Shown::shown))]
-fn mark_old_at(keys: &mut HashMap<String, Key>, reference: &str)
-    ensures { (q : List ℕ) → hash.get_by_text keys.new q
-        ≡ option_map (λ k. if bytes_eq reference.now q then marked_old k else k)
-        (hash.get_by_text keys.old q) }
-{
-    if let Some(key) = keys.get_mut(reference) {
-        key.mark_old();
-    }
-}
-
-/// Marks the keys that a start lists as new.
-fn mark_new(keys: &mut HashMap<String, Key>, roll: RollType, new: &[&str], now: UnixTime)
-    ensures { (q : List ℕ) → hash.get_by_text keys.new q
-        ≡ option_map (λ k. if is_listed (texts new.now) q then marked_new roll now k else k)
-        (hash.get_by_text keys.old q) }
-{
-    for reference in new {
-        mark_new_at(keys, roll, reference, now);
-    }
-}
-
-#[tactic(auto, using(crate::proofs::Shown::shown))]
-fn mark_new_at(keys: &mut HashMap<String, Key>, roll: RollType, reference: &str, now: UnixTime)
-    ensures { (q : List ℕ) → hash.get_by_text keys.new q
-        ≡ option_map (λ k. if bytes_eq reference.now q then marked_new roll now k else k)
-        (hash.get_by_text keys.old q) }
-{
-    if let Some(key) = keys.get_mut(reference) {
-        key.mark_new(roll, now);
-    }
-}
-
-/// Stamps every key that a report speaks of.
-fn report_all(keys: &mut HashMap<String, Key>, roll: RollType, half: Half, now: UnixTime)
-    ensures { (q : List ℕ) → hash.get_by_text keys.new q
-        ≡ option_map (after_report roll (which half) now) (hash.get_by_text keys.old q) }
-{
-    // `retain` says of each key what is written there; it keeps them all.
-    keys.retain(|_, key| {
-        key.report(roll, half, now);
-        true
-    });
-}
-
-/// Moves every key on, once a wait is over.
-fn go_on_all(keys: &mut HashMap<String, Key>, roll: RollType, half: Half, now: UnixTime)
-    ensures { (q : List ℕ) → hash.get_by_text keys.new q
-        ≡ option_map (after_wait roll (which half) now) (hash.get_by_text keys.old q) }
-{
-    keys.retain(|_, key| {
-        key.go_on(roll, half, now);
-        true
-    });
 }

@@ -1,23 +1,20 @@
 //! The key set: its keys and its rolls in progress.
-ghost use Rattle.std.specs.Prelude.{◌≡◌, ℕ, List, None, Some, IfOk, IfErr, OnOk, OnErr, nat_eq};
-ghost use Rattle.std.specs.Prelude.{string_bytes};
-ghost use Rattle.std.specs.List.{list_any};
+ghost use Rattle.std.specs.Prelude.{◌≡◌, ℕ, List, None, IfOk, IfErr, OnOk, OnErr, string_bytes};
 ghost use Rattle.std.specs.Option.{option_map};
-ghost use Rattle.std.specs.String.{string_eq};
 ghost use Rattle.std.specs.FinMap as map;
 ghost use Rattle.std.specs.HashMap as hash;
 ghost use Rattle.dnssec_key.specs.declared.error.Error.TheVariants.{OutOfMemory};
 ghost use Rattle.dnssec_key.specs.declared.key.KeyType.TheVariants.{Ksk, Zsk, Csk, Include};
+ghost use Rattle.dnssec_key.specs.Key.{new_key, new_state, is_available};
 ghost use Rattle.dnssec_key.specs.Setters.{Decoupled, Present, Signer, AtParent, Stale};
 ghost use Rattle.dnssec_key.specs.Setters.{VisibleAt, DsVisibleAt, RrsigVisibleAt};
-ghost use Rattle.dnssec_key.specs.Key.{new_key, new_state, is_available};
-ghost use Rattle.dnssec_keyset.specs.KeySet.{PutsKey, keys_shown, rolls_shown, new_set};
-ghost use Rattle.dnssec_key.specs.Setters.{meant, set_by};
-ghost use Rattle.dnssec_keyset.specs.KeySet.{ChangesKey};
-ghost use Rattle.dnssec_keyset.specs.Step.{deletion_refusal};
-ghost use Rattle.dnssec_keyset.specs.Step.{setting_refusal};
-ghost use Rattle.dnssec_keyset.specs.Step.{Answers, AnswersExactly, add_refusal, has_tag};
+ghost use Rattle.dnssec_keyset.specs.KeySet.{keys_shown, rolls_shown, new_set};
+ghost use Rattle.dnssec_keyset.specs.Step.{AddKey, Set, DeleteKey, Changes};
+ghost use Rattle.dnssec_keyset.specs.Step.{Answers, AnswersExactly, add_refusal};
+ghost use Rattle.dnssec_keyset.specs.Step.{setting_refusal, deletion_refusal};
 
+use crate::keys::Keys;
+use crate::rolls::Rolls;
 use dnssec_base::{Name, SecurityAlgorithm};
 use dnssec_key::{
     Available, Error, Key, KeyState, KeyType, RollState, RollType, Setting, UnixTime,
@@ -32,14 +29,14 @@ use std::marker::Model;
 #[derive(Drop)]
 pub struct KeySet {
     name: Name<Vec<u8>>,
-    pub(crate) keys: HashMap<String, Key>,
-    pub(crate) rollstates: HashMap<RollType, RollState>,
+    pub(crate) keys: Keys,
+    pub(crate) rolls: Rolls,
     pub(crate) alloc: Global,
 }
 
 impl Model for KeySet {
     ghost use Rattle.std.specs.Coded.{codes};
-    ghost use Rattle.dnssec_keyset.specs.KeySet.{KeySetParts, keys_code, keys_shown, rolls_shown};
+    ghost use Rattle.dnssec_keyset.specs.KeySet.{KeySetParts, keys_code};
 
     ghost Value = { KeySetParts };
 
@@ -47,8 +44,8 @@ impl Model for KeySet {
 
     ghost view = { λ s. record {
       name = s.name;
-      keys = keys_shown s.keys;
-      rolls = rolls_shown s.rollstates;
+      keys = s.keys;
+      rolls = s.rolls;
     } };
 }
 
@@ -60,8 +57,8 @@ impl KeySet {
     {
         KeySet {
             name,
-            keys: HashMap::new(alloc),
-            rollstates: HashMap::new(alloc),
+            keys: Keys::new(alloc),
+            rolls: Rolls::new(alloc),
             alloc,
         }
     }
@@ -77,8 +74,8 @@ impl KeySet {
     {
         Ok(KeySet {
             name: clone_name(&self.name)?,
-            keys: clone_keys(&self.keys)?,
-            rollstates: clone_rolls(&self.rollstates)?,
+            keys: self.keys.try_clone()?,
+            rolls: self.rolls.try_clone()?,
             alloc: self.alloc,
         })
     }
@@ -95,14 +92,14 @@ impl KeySet {
         ensures shown { keys_shown result.now ≡ self.now.keys }
         ensures at { (q : List ℕ) → hash.get_by_text result.now q ≡ map.get self.now.keys q }
     {
-        &self.keys
+        self.keys.as_map()
     }
 
     /// The rolls in progress, each in its phase.
     pub fn rollstates(&self) -> &HashMap<RollType, RollState>
         ensures { rolls_shown result.now ≡ self.now.rolls }
     {
-        &self.rollstates
+        self.rolls.as_map()
     }
 
     /// Adds a KSK, which may come in by a roll if it is available.
@@ -128,14 +125,14 @@ impl KeySet {
         available: Available,
     ) -> Result<(), Error>
         ensures reply { Answers (add_refusal self.old.keys (string_bytes pubref) key_tag) result }
-        ensures ok { OnOk result (PutsKey self.old self.new (string_bytes pubref) (Some
+        ensures ok { OnOk result (Changes self.old (AddKey (string_bytes pubref)
             (new_key (option_map string_bytes privref) (Ksk (new_state (is_available available)))
-            algorithm key_tag creation_ts))) }
+            algorithm key_tag creation_ts)) self.new) }
         ensures err { OnErr result (self.new ≡ self.old) }
     {
         let keytype = KeyType::Ksk(KeyState::new(available));
         let key = Key::new(privref, keytype, algorithm, key_tag, creation_ts);
-        self.add_key(pubref, key)
+        self.keys.add(pubref, key)
     }
 
     /// Adds a ZSK, as `add_key_ksk` adds a KSK.
@@ -149,14 +146,14 @@ impl KeySet {
         available: Available,
     ) -> Result<(), Error>
         ensures reply { Answers (add_refusal self.old.keys (string_bytes pubref) key_tag) result }
-        ensures ok { OnOk result (PutsKey self.old self.new (string_bytes pubref) (Some
+        ensures ok { OnOk result (Changes self.old (AddKey (string_bytes pubref)
             (new_key (option_map string_bytes privref) (Zsk (new_state (is_available available)))
-            algorithm key_tag creation_ts))) }
+            algorithm key_tag creation_ts)) self.new) }
         ensures err { OnErr result (self.new ≡ self.old) }
     {
         let keytype = KeyType::Zsk(KeyState::new(available));
         let key = Key::new(privref, keytype, algorithm, key_tag, creation_ts);
-        self.add_key(pubref, key)
+        self.keys.add(pubref, key)
     }
 
     /// Adds a CSK, as `add_key_ksk` adds a KSK. Both its roles are new.
@@ -170,10 +167,10 @@ impl KeySet {
         available: Available,
     ) -> Result<(), Error>
         ensures reply { Answers (add_refusal self.old.keys (string_bytes pubref) key_tag) result }
-        ensures ok { OnOk result (PutsKey self.old self.new (string_bytes pubref) (Some
+        ensures ok { OnOk result (Changes self.old (AddKey (string_bytes pubref)
             (new_key (option_map string_bytes privref)
             (Csk (new_state (is_available available)) (new_state (is_available available)))
-            algorithm key_tag creation_ts))) }
+            algorithm key_tag creation_ts)) self.new) }
         ensures err { OnErr result (self.new ≡ self.old) }
     {
         let state = KeyState::new(available);
@@ -184,7 +181,7 @@ impl KeySet {
             key_tag,
             creation_ts,
         );
-        self.add_key(pubref, key)
+        self.keys.add(pubref, key)
     }
 
     /// Adds a key of another signer, which may be published beside those of the set. It has no
@@ -199,8 +196,9 @@ impl KeySet {
         available: bool,
     ) -> Result<(), Error>
         ensures reply { Answers (add_refusal self.old.keys (string_bytes pubref) key_tag) result }
-        ensures ok { OnOk result (PutsKey self.old self.new (string_bytes pubref) (Some
-            (new_key None (Include (new_state available)) algorithm key_tag creation_ts))) }
+        ensures ok { OnOk result (Changes self.old (AddKey (string_bytes pubref)
+            (new_key None (Include (new_state available)) algorithm key_tag creation_ts))
+            self.new) }
         ensures err { OnErr result (self.new ≡ self.old) }
     {
         let available = if available {
@@ -210,7 +208,7 @@ impl KeySet {
         };
         let keytype = KeyType::Include(KeyState::new(available));
         let key = Key::new(None, keytype, algorithm, key_tag, creation_ts);
-        self.add_key(pubref, key)
+        self.keys.add(pubref, key)
     }
 
     /// Sets whether a key is decoupled from the caller's storage of keys. No memory is taken.
@@ -221,11 +219,11 @@ impl KeySet {
     pub fn set_decoupled(&mut self, pubref: &str, value: bool) -> Result<(), Error>
         ensures reply { AnswersExactly
             (setting_refusal (Decoupled value) (map.get self.old.keys pubref.now)) result }
-        ensures ok { OnOk result (ChangesKey self.old self.new pubref.now
-            (set_by (Decoupled value))) }
+        ensures ok { OnOk result
+            (Changes self.old (Set pubref.now (Decoupled value)) self.new) }
         ensures err { OnErr result (self.new ≡ self.old) }
     {
-        self.set(pubref, Setting::Decoupled(value))
+        self.keys.set(pubref, Setting::Decoupled(value))
     }
 
     /// Puts a key into the DNSKEY set, or takes it out, by hand, in each of its roles. A key that
@@ -238,11 +236,11 @@ impl KeySet {
     pub fn set_present(&mut self, pubref: &str, value: bool, now: &UnixTime) -> Result<(), Error>
         ensures reply { AnswersExactly
             (setting_refusal (Present value now.now) (map.get self.old.keys pubref.now)) result }
-        ensures ok { OnOk result (ChangesKey self.old self.new pubref.now
-            (set_by (Present value now.now))) }
+        ensures ok { OnOk result
+            (Changes self.old (Set pubref.now (Present value now.now)) self.new) }
         ensures err { OnErr result (self.new ≡ self.old) }
     {
-        self.set(pubref, Setting::Present(value, *now))
+        self.keys.set(pubref, Setting::Present(value, *now))
     }
 
     /// Sets whether a key signs, by hand, in each of its roles. No memory is taken.
@@ -254,10 +252,11 @@ impl KeySet {
     pub fn set_signer(&mut self, pubref: &str, value: bool) -> Result<(), Error>
         ensures reply { AnswersExactly
             (setting_refusal (Signer value) (map.get self.old.keys pubref.now)) result }
-        ensures ok { OnOk result (ChangesKey self.old self.new pubref.now (set_by (Signer value))) }
+        ensures ok { OnOk result
+            (Changes self.old (Set pubref.now (Signer value)) self.new) }
         ensures err { OnErr result (self.new ≡ self.old) }
     {
-        self.set(pubref, Setting::Signer(value))
+        self.keys.set(pubref, Setting::Signer(value))
     }
 
     /// Sets whether the parent has to have a DS record for a KSK or a CSK, by hand. No memory is
@@ -270,11 +269,11 @@ impl KeySet {
     pub fn set_at_parent(&mut self, pubref: &str, value: bool) -> Result<(), Error>
         ensures reply { AnswersExactly
             (setting_refusal (AtParent value) (map.get self.old.keys pubref.now)) result }
-        ensures ok { OnOk result (ChangesKey self.old self.new pubref.now
-            (set_by (AtParent value))) }
+        ensures ok { OnOk result
+            (Changes self.old (Set pubref.now (AtParent value)) self.new) }
         ensures err { OnErr result (self.new ≡ self.old) }
     {
-        self.set(pubref, Setting::AtParent(value))
+        self.keys.set(pubref, Setting::AtParent(value))
     }
 
     /// Makes a key stale by hand: in each role old, and neither signer, present nor at the parent.
@@ -286,10 +285,11 @@ impl KeySet {
     pub fn set_stale(&mut self, pubref: &str) -> Result<(), Error>
         ensures reply { AnswersExactly
             (setting_refusal Stale (map.get self.old.keys pubref.now)) result }
-        ensures ok { OnOk result (ChangesKey self.old self.new pubref.now (set_by Stale)) }
+        ensures ok { OnOk result
+            (Changes self.old (Set pubref.now Stale) self.new) }
         ensures err { OnErr result (self.new ≡ self.old) }
     {
-        self.set(pubref, Setting::Stale)
+        self.keys.set(pubref, Setting::Stale)
     }
 
     /// Stamps the key as seen in the DNSKEY set by all servers from `time` on. No memory is taken.
@@ -300,11 +300,11 @@ impl KeySet {
     pub fn set_visible(&mut self, pubref: &str, time: UnixTime) -> Result<(), Error>
         ensures reply { AnswersExactly
             (setting_refusal (VisibleAt time) (map.get self.old.keys pubref.now)) result }
-        ensures ok { OnOk result (ChangesKey self.old self.new pubref.now
-            (set_by (VisibleAt time))) }
+        ensures ok { OnOk result
+            (Changes self.old (Set pubref.now (VisibleAt time)) self.new) }
         ensures err { OnErr result (self.new ≡ self.old) }
     {
-        self.set(pubref, Setting::VisibleAt(time))
+        self.keys.set(pubref, Setting::VisibleAt(time))
     }
 
     /// Stamps the key's DS record as seen by all servers of the parent from `time` on. No memory is
@@ -316,11 +316,11 @@ impl KeySet {
     pub fn set_ds_visible(&mut self, pubref: &str, time: UnixTime) -> Result<(), Error>
         ensures reply { AnswersExactly
             (setting_refusal (DsVisibleAt time) (map.get self.old.keys pubref.now)) result }
-        ensures ok { OnOk result (ChangesKey self.old self.new pubref.now
-            (set_by (DsVisibleAt time))) }
+        ensures ok { OnOk result
+            (Changes self.old (Set pubref.now (DsVisibleAt time)) self.new) }
         ensures err { OnErr result (self.new ≡ self.old) }
     {
-        self.set(pubref, Setting::DsVisibleAt(time))
+        self.keys.set(pubref, Setting::DsVisibleAt(time))
     }
 
     /// Stamps the key's signatures as seen by all servers from `time` on. No memory is taken.
@@ -331,11 +331,11 @@ impl KeySet {
     pub fn set_rrsig_visible(&mut self, pubref: &str, time: UnixTime) -> Result<(), Error>
         ensures reply { AnswersExactly
             (setting_refusal (RrsigVisibleAt time) (map.get self.old.keys pubref.now)) result }
-        ensures ok { OnOk result (ChangesKey self.old self.new pubref.now
-            (set_by (RrsigVisibleAt time))) }
+        ensures ok { OnOk result
+            (Changes self.old (Set pubref.now (RrsigVisibleAt time)) self.new) }
         ensures err { OnErr result (self.new ≡ self.old) }
     {
-        self.set(pubref, Setting::RrsigVisibleAt(time))
+        self.keys.set(pubref, Setting::RrsigVisibleAt(time))
     }
 
     /// Deletes a key that has left in each of its roles, whether rolls are in progress or not. No
@@ -345,95 +345,13 @@ impl KeySet {
     ///
     /// `KeyNotFound` where no key has the reference, `KeyNotOld` while some role isn't stale.
     /// Nothing is then changed.
-    #[tactic(auto, using(crate::proofs::Shown::shown))]
     pub fn delete_key(&mut self, pubref: &str) -> Result<(), Error>
         ensures reply { AnswersExactly
             (deletion_refusal (map.get self.old.keys pubref.now)) result }
-        ensures ok { OnOk result (PutsKey self.old self.new pubref.now None) }
+        ensures ok { OnOk result (Changes self.old (DeleteKey pubref.now) self.new) }
         ensures err { OnErr result (self.new ≡ self.old) }
     {
-        let Some(key) = self.keys.get(pubref) else {
-            return Err(Error::KeyNotFound);
-        };
-        if !key.is_stale() {
-            return Err(Error::KeyNotOld);
-        }
-        self.keys.remove(pubref);
-        Ok(())
-    }
-
-    #[tactic(auto, using(crate::proofs::Shown::shown))]
-    fn set(&mut self, pubref: &str, setting: Setting) -> Result<(), Error>
-        ensures reply { AnswersExactly
-            (setting_refusal (meant setting) (map.get self.old.keys pubref.now)) result }
-        ensures ok { OnOk result
-            (ChangesKey self.old self.new pubref.now (set_by (meant setting))) }
-        ensures err { OnErr result (self.new ≡ self.old) }
-    {
-        let Some(key) = self.keys.get(pubref) else {
-            return Err(Error::KeyNotFound);
-        };
-        if !key.keytype().suits(&setting) {
-            return Err(Error::WrongKeyType);
-        }
-        if let Some(key) = self.keys.get_mut(pubref) {
-            key.set(setting);
-        }
-        Ok(())
-    }
-
-    #[tactic(auto, using(crate::proofs::Shown::shown))]
-    fn add_key(&mut self, pubref: String, key: Key) -> Result<(), Error>
-        ensures reply { Answers
-            (add_refusal self.old.keys (string_bytes pubref) key.key_tag) result }
-        ensures ok { OnOk result (PutsKey self.old self.new (string_bytes pubref) (Some key)) }
-        ensures err { OnErr result (self.new ≡ self.old) }
-    {
-        if self.has_tag(key.key_tag()) {
-            return Err(Error::DuplicateKeyTag);
-        }
-        if self.keys.contains_key(pubref.as_str()) {
-            return Err(Error::KeyExists);
-        }
-        match self.keys.insert(pubref, key) {
-            Ok(_) => Ok(()),
-            Err(_) => Err(Error::OutOfMemory),
-        }
-    }
-
-    /// Whether some key has the tag.
-    #[tactic(auto, using(crate::proofs::Walks::walked))]
-    fn has_tag(&self, key_tag: u16) -> bool
-        ensures { result ≡ has_tag key_tag self.now.keys }
-    {
-        any_has_tag(&self.keys, key_tag)
-    }
-}
-
-fn any_has_tag(keys: &HashMap<String, Key>, key_tag: u16) -> bool
-    ensures any { result ≡ list_any (λ k. nat_eq k.key_tag key_tag) (hash.values keys.now) }
-    ensures unique { hash.IsUnique string_eq keys.now }
-{
-    keys.values().any(|key| key.key_tag() == key_tag)
-}
-
-fn clone_keys(keys: &HashMap<String, Key>) -> Result<HashMap<String, Key>, Error>
-    ensures same { IfOk result (λ m. keys_shown m ≡ keys_shown keys.now) }
-    ensures err { IfErr result (λ e. e ≡ OutOfMemory) }
-{
-    match keys.clone() {
-        Ok(made) => Ok(made),
-        Err(_) => Err(Error::OutOfMemory),
-    }
-}
-
-fn clone_rolls(rolls: &HashMap<RollType, RollState>) -> Result<HashMap<RollType, RollState>, Error>
-    ensures same { IfOk result (λ m. rolls_shown m ≡ rolls_shown rolls.now) }
-    ensures err { IfErr result (λ e. e ≡ OutOfMemory) }
-{
-    match rolls.clone() {
-        Ok(made) => Ok(made),
-        Err(_) => Err(Error::OutOfMemory),
+        self.keys.delete(pubref)
     }
 }
 

@@ -1,22 +1,15 @@
 //! When a wait is over, and what it is refused for until then. Nothing is changed here.
-ghost use Rattle.std.specs.Prelude.{◌≡◌, ◌-◌, ◌*◌, ◌^◌, ◌≤◌, [], Some, max, min, OnOk, IsSome};
+ghost use Rattle.std.specs.Prelude.{◌≡◌, ◌-◌, ◌*◌, ◌^◌, ◌≤◌, [], min, OnOk, IsSome};
 ghost use Rattle.std.specs.Prelude.{IfSome, IfNone};
 ghost use Rattle.std.specs.Duration.{as_nanos};
-ghost use Rattle.std.specs.List.{fold};
-ghost use Rattle.std.specs.Option.{option_map, option_and_then};
-ghost use Rattle.std.specs.String.{string_eq};
-ghost use Rattle.std.specs.HashMap as hash;
-ghost use Rattle.dnssec_keyset.specs.KeySet.{phase_of, rolls_shown};
 ghost use Rattle.dnssec_key.specs.RollTable.{which};
+ghost use Rattle.dnssec_keyset.specs.KeySet.{phase_of};
 ghost use Rattle.dnssec_keyset.specs.Step.{AnswersWait, wait_verdict};
-ghost use Rattle.dnssec_keyset.specs.Wait.{over_at, ttl_in};
 ghost use Rattle.dnssec_keyset.specs.WaitEnd.{EndsAt, HasNoWait, IsOverFrom, LacksStamp};
 ghost use Rattle.dnssec_keyset.specs.WaitEnd.{TellsEnd};
 
-use crate::check::phase_of;
 use crate::set::KeySet;
-use dnssec_key::{Error, Half, Key, RollState, RollType, UnixTime};
-use std::collections::HashMap;
+use dnssec_key::{Error, Half, RollState, RollType, UnixTime};
 use std::time::Duration;
 
 /// When the wait of a roll is over.
@@ -26,56 +19,6 @@ pub enum WaitEnd {
     At(UnixTime),
     /// Past the greatest moment that a `UnixTime` can tell.
     PastTime,
-}
-
-/// The TTL that a wait goes by, in its phase alone.
-fn ttl_in(rolls: &HashMap<RollType, RollState>, roll: RollType, half: Half) -> Option<u32>
-    ensures { result ≡ ttl_in (which half) (phase_of (rolls_shown rolls.now) roll) }
-{
-    match (half, phase_of(rolls, roll)) {
-        (Half::First, Some(RollState::CacheExpire1(ttl))) => Some(ttl),
-        (Half::Second, Some(RollState::CacheExpire2(ttl))) => Some(ttl),
-        _ => None,
-    }
-}
-
-/// The nanosecond since 1970 from which a wait is over for a key, or `None` where its stamp is
-/// missing.
-fn over_at(key: &Key, roll: RollType, half: Half, ttl: u32) -> Option<u128>
-    ensures { result ≡ over_at roll (which half) ttl key.now }
-{
-    if !key.keytype().is_checked(roll, half) {
-        return Some(0);
-    }
-    let stamp = key.timestamps().at(roll.stamp_read(half))?;
-    if ttl == 0 {
-        return Some(0);
-    }
-    Some(Duration::from(stamp).as_nanos() + u128::from(ttl) * 1_000_000_000)
-}
-
-/// The later of two moments, where both are known.
-fn later(a: Option<u128>, b: Option<u128>) -> Option<u128>
-    ensures { result ≡ option_and_then (λ x. option_map (λ y. max x y) b) a }
-{
-    match (a, b) {
-        (Some(a), Some(b)) => Some(a.max(b)),
-        _ => None,
-    }
-}
-
-/// The last of the moments from which a wait is over for a key, or `None` where a stamp is missing.
-fn latest_over(keys: &HashMap<String, Key>, roll: RollType, half: Half, ttl: u32) -> Option<u128>
-    ensures latest { result ≡ fold
-        (λ a k. option_and_then (λ x. option_map (λ y. max x y)
-        (over_at roll (which half) ttl k)) a)
-        (Some 0) (hash.values keys.now) }
-    ensures unique { hash.IsUnique string_eq keys.now }
-{
-    keys.values().fold(
-        Some(0),
-        |latest, key| later(latest, over_at(key, roll, half, ttl)),
-    )
 }
 
 /// What is left at `now` of a wait that is over at `end`, both in nanoseconds since 1970: at most
@@ -105,7 +48,7 @@ impl KeySet {
             IsOverFrom rolltype (which half) ttl self.now.keys end) }
         ensures missing { IfNone result (LacksStamp rolltype (which half) ttl self.now.keys) }
     {
-        latest_over(&self.keys, rolltype, half, ttl)
+        self.keys.over_from(rolltype, half, ttl)
     }
 
     /// Whether a wait is over: refused out of its phase, then for a missing stamp, then early.
@@ -119,7 +62,7 @@ impl KeySet {
             (wait_verdict rolltype (which half) now.now self.now) self.now.keys [] result }
         ensures there { OnOk result (IsSome (phase_of self.now.rolls rolltype)) }
     {
-        let Some(ttl) = ttl_in(&self.rollstates, rolltype, half) else {
+        let Some(ttl) = self.rolls.ttl_in(rolltype, half) else {
             return Err(Error::WrongStateForRollOperation);
         };
         let Some(end) = self.over_from(rolltype, half, ttl) else {
@@ -138,7 +81,7 @@ impl KeySet {
         ensures end { IfSome result (EndsAt rolltype self.now) }
         ensures none { IfNone result (HasNoWait rolltype self.now) }
     {
-        match phase_of(&self.rollstates, rolltype) {
+        match self.rolls.phase_of(rolltype) {
             Some(RollState::CacheExpire1(ttl)) => self.over_from(rolltype, Half::First, ttl),
             Some(RollState::CacheExpire2(ttl)) => self.over_from(rolltype, Half::Second, ttl),
             Some(RollState::Propagation1) => None,

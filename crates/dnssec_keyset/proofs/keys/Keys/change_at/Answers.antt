@@ -1,0 +1,40 @@
+-- Where no key has the reference, nothing is changed; else one key is, and is counted anew.
+use Rattle.std.proofs.Common.{◌≡◌, Bool, true, false, None, Some, refl, rules, ap, sym, ◌∙◌}
+use Rattle.std.specs.Prelude.{nat_eq, if◌then◌else◌}
+use Rattle.std.specs.HashSet.{contains}
+use Rattle.std.specs.Str.{bytes_eq}
+use Rattle.std.specs.Option.{option_map}
+use Rattle.std.specs.FinMap as map
+use Rattle.dnssec_key.specs.Key.{KeyParts}
+use Rattle.dnssec_keyset.specs.Inner.Change.{made}
+use Rattle.dnssec_keyset.specs.KeySet.{keys_shown}
+use Rattle.dnssec_keyset.proofs.Counted.{counts-at, fits-shown}
+use Rattle.dnssec_keyset.proofs.Shown.{shown, get-absent}
+use Rattle.dnssec_keyset.proofs.Tags.{TagsAgree-mapped, kept_at, kept_made}
+use Rattle.dnssec_keyset.proofs.keys.Keys.change_at.Goals as goal
+
+pub returns-in_default : goal.returns-in_default
+returns-in_default c =
+    let same : c.get_mut.follows.lender-at-none ≡ c.self.inside.map = search rules in
+    let none : map.get c.args.self.now c.args.reference.now ≡ None = search (rules, shown) in
+    let is : keys_shown c.get_mut.follows.lender-at-none ≡ c.args.self.now =
+        ap keys_shown same ∙ c.self.view_is in
+    λ q. rw is (get-absent (made c.args.change) c.args.reference.now c.args.self.now none q)
+
+pub invariant_of-self-2 : goal.invariant_of-self-2
+invariant_of-self-2 c =
+    let i = c.self.inside in
+    let r = c.args.reference.now in
+    let f = made c.args.change in
+    let n = c.get_mut.follows.lender c.make.new.key in
+    let k = c.in-Some.key.now in
+    let found : map.get (keys_shown i.map) r ≡ Some k = search (rules, shown) in
+    let is = λ q. search (rules, shown) in
+    (
+      TagsAgree-mapped (contains nat_eq i.tags) (keys_shown i.map) (keys_shown n)
+          (λ q k. if bytes_eq r q then f k else k)
+          (λ q k. kept_at f (kept_made c.args.change) _ k) is c.self.invariant.0,
+      rw (c.with.ensures, c.without.ensures, c.keytype-before.ensures, c.keytype-after.ensures)
+          (counts-at f i.counts (keys_shown i.map) (keys_shown n) r k found is
+          (fits-shown n c.is_sound.ensures.unique c.is_sound.ensures.fits) c.self.invariant.1),
+    )

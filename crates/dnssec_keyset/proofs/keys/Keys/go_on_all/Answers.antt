@@ -1,0 +1,28 @@
+-- The walk moves each key as an accepted wait does; all is counted again.
+use Rattle.std.proofs.Common.{refl, rules}
+use Rattle.std.specs.Prelude.{nat_eq}
+use Rattle.std.specs.HashSet.{contains}
+use Rattle.std.proofs.lemmas.Map.Made.{map_same_pairs}
+use Rattle.dnssec_key.specs.RollTable.{which, after_wait}
+use Rattle.dnssec_keyset.specs.KeySet.{keys_shown}
+use Rattle.dnssec_keyset.proofs.Shown.{get-walked}
+use Rattle.dnssec_keyset.proofs.Tags.{TagsAgree-mapped}
+use Rattle.dnssec_keyset.proofs.keys.Keys.go_on_all.Goals as goal
+
+pub returns : goal.returns
+returns c =
+    let step = after_wait c.args.roll (which c.args.half) c.args.now in
+    let e = map_same_pairs _ step _ (λ k v b w f' t. search rules) _ _ c.retain.ensures.filtered in
+    get-walked step c.self.inside.map c.retain.new.self c.args.self.now c.self.view_is e
+
+pub invariant_of-self : goal.invariant_of-self
+invariant_of-self c =
+    let i = c.self.inside in
+    let n = c.retain.new.self in
+    let step = after_wait c.args.roll (which c.args.half) c.args.now in
+    let e = map_same_pairs _ step _ (λ k v b w f' t. search rules) _ _ c.retain.ensures.filtered in
+    (
+      TagsAgree-mapped (contains nat_eq i.tags) (keys_shown i.map) (keys_shown n) (λ q. step)
+          (λ q k. refl) (get-walked step i.map n _ refl e) c.self.invariant.0,
+      c.recount.ensures,
+    )

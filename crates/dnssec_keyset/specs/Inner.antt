@@ -1,0 +1,6 @@
+-- What only the inside of the crate needs: no contract of a public call names it.
+pub mod Bits
+pub mod Code
+pub mod Change
+pub mod Tags
+pub mod Counts

@@ -1,0 +1,165 @@
+//! The rolls in progress, each in its phase. No other module opens the map that has them.
+ghost use Rattle.std.specs.Prelude.{◌≡◌, not, ◌&&◌, is_some, IsSome, None, Some, IfOk, IfErr};
+ghost use Rattle.std.specs.Prelude.{OnOk, OnErr};
+ghost use Rattle.std.specs.List.{list_any};
+ghost use Rattle.dnssec_key.specs.declared.error.Error.TheVariants.{OutOfMemory};
+ghost use Rattle.dnssec_key.specs.RollTable.{which};
+ghost use Rattle.dnssec_keyset.specs.KeySet.{phase_of, with_phase, no_rolls, rolls_shown};
+ghost use Rattle.dnssec_keyset.specs.Start.{has_conflict, conflict};
+ghost use Rattle.dnssec_keyset.specs.Step.{AnswersExactly, report_refusal, end_refusal};
+ghost use Rattle.dnssec_keyset.specs.Wait.{ttl_in};
+
+use crate::side::go_together;
+use dnssec_key::{Error, Half, RollState, RollType};
+use std::alloc::Global;
+use std::collections::HashMap;
+use std::marker::Model;
+
+const ALL_ROLLS: [RollType; 6] = [
+    RollType::KskRoll,
+    RollType::KskDoubleDsRoll,
+    RollType::ZskRoll,
+    RollType::ZskDoubleSignatureRoll,
+    RollType::CskRoll,
+    RollType::AlgorithmRoll,
+];
+
+/// The rolls in progress.
+#[derive(Drop)]
+pub(crate) struct Rolls {
+    phases: HashMap<RollType, RollState>,
+}
+
+impl Model for Rolls {
+    ghost use Rattle.std.specs.Coded.{codes};
+    ghost use Rattle.dnssec_keyset.specs.KeySet.{Rolls as Phases, rolls_shown};
+
+    ghost Value = { Phases };
+
+    ghost coded = { Prim.hlevel codes };
+
+    ghost view = { λ s. rolls_shown s.phases };
+}
+
+impl Rolls {
+    pub(crate) fn new(alloc: Global) -> Self
+        ensures { result ≡ no_rolls }
+    {
+        Rolls {
+            phases: HashMap::new(alloc),
+        }
+    }
+
+    pub(crate) fn try_clone(&self) -> Result<Rolls, Error>
+        ensures same { IfOk result (λ rolls. rolls ≡ self.now) }
+        ensures err { IfErr result (λ e. e ≡ OutOfMemory) }
+    {
+        match self.phases.clone() {
+            Ok(phases) => Ok(Rolls { phases }),
+            Err(_) => Err(Error::OutOfMemory),
+        }
+    }
+
+    /// The map itself, for callers to read.
+    pub(crate) fn as_map(&self) -> &HashMap<RollType, RollState>
+        ensures { rolls_shown result.now ≡ self.now }
+    {
+        &self.phases
+    }
+
+    /// The phase of a roll, where it is in progress.
+    #[tactic(auto, using(crate::proofs::Phases::phases))]
+    pub(crate) fn phase_of(&self, roll: RollType) -> Option<RollState>
+        ensures { result ≡ phase_of self.now roll }
+    {
+        self.phases.get(&roll).copied()
+    }
+
+    /// Puts a roll into a phase. Without memory for it nothing is changed.
+    #[tactic(auto, using(crate::proofs::Phases::phases))]
+    pub(crate) fn put_in(&mut self, roll: RollType, phase: RollState) -> Result<(), Error>
+        ensures ok { OnOk result (self.new ≡ with_phase self.old roll (Some phase)) }
+        ensures err { OnErr result (self.new ≡ self.old) }
+        ensures memory { IfErr result (λ e. e ≡ OutOfMemory) }
+    {
+        match self.phases.insert(roll, phase) {
+            Ok(_) => Ok(()),
+            Err(_) => Err(Error::OutOfMemory),
+        }
+    }
+
+    /// Moves a roll in progress to another phase.
+    #[tactic(auto, using(crate::proofs::Phases::phases))]
+    pub(crate) fn move_to(&mut self, roll: RollType, phase: RollState)
+        requires { IsSome (phase_of self.old roll) }
+        ensures { self.new ≡ with_phase self.old roll (Some phase) }
+    {
+        if let Some(state) = self.phases.get_mut(&roll) {
+            *state = phase;
+        }
+    }
+
+    #[tactic(auto, using(crate::proofs::Phases::phases))]
+    pub(crate) fn take_out(&mut self, roll: RollType)
+        ensures { self.new ≡ with_phase self.old roll None }
+    {
+        self.phases.remove(&roll);
+    }
+}
+
+// What is read of the phases alone.
+impl Rolls {
+    fn has_conflict(&self, roll: RollType) -> bool
+        ensures { result ≡ has_conflict roll self.now }
+    {
+        ALL_ROLLS.iter().any(|other| self.phase_of(*other).is_some() && !go_together(roll, *other))
+    }
+
+    /// Refuses a roll that is in progress, or that doesn't go with one in progress.
+    #[tactic(auto, unfolding(crate::specs::Start::conflict))]
+    pub(crate) fn check_conflict(&self, roll: RollType) -> Result<(), Error>
+        ensures { AnswersExactly (conflict roll self.now) result }
+    {
+        if self.phase_of(roll).is_some() {
+            return Err(Error::WrongStateForRollOperation);
+        }
+        if self.has_conflict(roll) {
+            return Err(Error::ConflictingRollInProgress);
+        }
+        Ok(())
+    }
+
+    /// Refuses a report that the roll isn't waiting for.
+    pub(crate) fn check_report(&self, roll: RollType, half: Half) -> Result<(), Error>
+        ensures reply { AnswersExactly
+            (report_refusal (which half) (phase_of self.now roll)) result }
+        ensures there { OnOk result (IsSome (phase_of self.now roll)) }
+    {
+        match (half, self.phase_of(roll)) {
+            (Half::First, Some(RollState::Propagation1)) => Ok(()),
+            (Half::Second, Some(RollState::Propagation2)) => Ok(()),
+            _ => Err(Error::WrongStateForRollOperation),
+        }
+    }
+
+    /// Refuses the end of a roll that isn't in its last phase.
+    pub(crate) fn check_end(&self, roll: RollType) -> Result<(), Error>
+        ensures { AnswersExactly (end_refusal (phase_of self.now roll)) result }
+    {
+        match self.phase_of(roll) {
+            Some(RollState::Done) => Ok(()),
+            _ => Err(Error::WrongStateForRollOperation),
+        }
+    }
+
+    /// The TTL that a wait goes by, in its phase alone.
+    pub(crate) fn ttl_in(&self, roll: RollType, half: Half) -> Option<u32>
+        ensures { result ≡ ttl_in (which half) (phase_of self.now roll) }
+    {
+        match (half, self.phase_of(roll)) {
+            (Half::First, Some(RollState::CacheExpire1(ttl))) => Some(ttl),
+            (Half::Second, Some(RollState::CacheExpire2(ttl))) => Some(ttl),
+            _ => None,
+        }
+    }
+}
