@@ -269,6 +269,7 @@ module _ {Y : Type 0} (p : KeyType → Bool) where
 
 none_counted : (p : List ℕ → KeyParts → Bool) (m : Keys) → ((q : List ℕ) → get m q ≡ None) →
     count_in p m ≡ 0
+unfolding AreApart
 none_counted p m none = ap (count_in p) (same_keys m fin.empty (λ q. none q ∙ sym (get-empty q)))
     ∙ count-entries p [] tt
   where
@@ -279,16 +280,17 @@ at_most : (p : List ℕ → KeyParts → Bool) (es : List (List ℕ × KeyParts)
 at_most p [] = omega arith
 at_most p (e ∷ es) = at (p e.0 e.1) (at_most p es)
   where
-    at : (b : Bool) → count p es ≤ length es → bit b + count p es ≤ 1 + length es
+    at : (b : Bool) → count p es ≤ length es → bit b + count p es ≤ suc (length es)
     at true h = omega (arith, h)
     at false h = omega (arith, h)
 
-module _ {Y S : Type 0} where
+module _ {Y : Type 0} where
   length-by_bytes : (es : List (String Y × KeyParts)) → length (map {B = List ℕ × KeyParts}
       (λ (e : String Y × KeyParts). (string_bytes e.0, e.1)) es) ≡ length es
   length-by_bytes [] = refl
   length-by_bytes (e ∷ es) = ap suc (length-by_bytes es)
 
+module _ {Y S : Type 0} where
   -- no more keys pass than there are in the hash map
   pub count-fits : (p : List ℕ → KeyParts → Bool) (m : HashMap (String Y) KeyParts S) →
       IsUnique string_eq m → length m.entries ≤ 18446744073709551615 →
@@ -366,7 +368,7 @@ counts-changed c m n r k l before after others fits old w =
     let here : share p r (get n r) ≡ bit (serves_as_kept w l.keytype) = ap (share p r) after in
     let change = count-changed p m n r others in
     with-of l.keytype (without_key k.keytype c) w
-    ∙ omega (arith, there, here, change, old w, fits w, without-of k.keytype c w)
+    ∙ omega (arith, there, here, change, old w, fits w, without-of k.keytype c w, count-at p m r)
 
 -- the key at a reference is changed
 pub counts-at : (f : KeyParts → KeyParts) (c : Counts) (m n : Keys) (r : List ℕ) (k : KeyParts)
@@ -389,7 +391,8 @@ module _ {Y S : Type 0} where
   unfolding Fits
   fits-shown m unique fits w = count-fits (passes (serves_as_kept w)) m unique fits
 
-  module _ (step : KeyParts → KeyParts) (kept : (k : KeyParts) → (step k).keytype ≡ k.keytype) where
+module _ (step : KeyParts → KeyParts) (kept : (k : KeyParts) → (step k).keytype ≡ k.keytype) where
+  module _ {Y : Type 0} where
     as_many : (p : KeyType → Bool) (es : List (String Y × KeyParts)) →
         length (filter (λ (k : KeyParts). p k.keytype)
         (map (λ (e : String Y × KeyParts). e.1)
@@ -411,6 +414,7 @@ module _ {Y S : Type 0} where
         at true h = ap suc h
         at false h = h
 
+  module _ {Y S : Type 0} where
     -- a walk that keeps the kind and the flags of every key
     pub counts-kept : (c : Counts) (m n : HashMap (String Y) KeyParts S) →
         IsUnique string_eq m → IsUnique string_eq n
@@ -423,24 +427,25 @@ module _ {Y S : Type 0} where
         (map (λ (e : String Y × KeyParts). e.1) es))) (sym is)
         ∙ count-shown p n two
 
-  folded : (w : Want) (ks : List KeyParts) (c : Counts) → count_of c w ≤ 18446744073709551615 →
-      count_of (fold (λ c k. with_key k.keytype c) c ks) w ≡ min 18446744073709551615
-      (count_of c w + length (filter (λ (k : KeyParts). serves_as_kept w k.keytype) ks))
-  folded w [] c low = omega (arith, low)
-  folded w (k ∷ ks) c low =
-      let one = with-of k.keytype c w in
-      folded w ks (with_key k.keytype c) (omega (arith, one))
-      ∙ at (serves_as_kept w k.keytype) one
-    where
-      rest : List KeyParts
-      rest = filter (λ (k : KeyParts). serves_as_kept w k.keytype) ks
-      at : (b : Bool) → count_of (with_key k.keytype c) w
-          ≡ min 18446744073709551615 (count_of c w + bit b) → min 18446744073709551615
-          (count_of (with_key k.keytype c) w + length rest)
-          ≡ min 18446744073709551615 (count_of c w + length (cond b (k ∷ rest) rest))
-      at true h = omega (arith, h)
-      at false h = omega (arith, h)
+folded : (w : Want) (ks : List KeyParts) (c : Counts) → count_of c w ≤ 18446744073709551615 →
+    count_of (fold (λ c k. with_key k.keytype c) c ks) w ≡ min 18446744073709551615
+    (count_of c w + length (filter (λ (k : KeyParts). serves_as_kept w k.keytype) ks))
+folded w [] c low = omega (arith, low)
+folded w (k ∷ ks) c low =
+    let one = with-of k.keytype c w in
+    folded w ks (with_key k.keytype c) (omega (arith, one))
+    ∙ at (serves_as_kept w k.keytype) one
+  where
+    rest : List KeyParts
+    rest = filter (λ (k : KeyParts). serves_as_kept w k.keytype) ks
+    at : (b : Bool) → count_of (with_key k.keytype c) w
+        ≡ min 18446744073709551615 (count_of c w + bit b) → min 18446744073709551615
+        (count_of (with_key k.keytype c) w + length rest)
+        ≡ min 18446744073709551615 (count_of c w + length (cond b (k ∷ rest) rest))
+    at true h = omega (arith, h)
+    at false h = omega (arith, h)
 
+module _ {Y S : Type 0} where
   -- the counts by a walk
   pub counts-walked : (m : HashMap (String Y) KeyParts S) → IsUnique string_eq m →
       length m.entries ≤ 18446744073709551615 →

@@ -8,6 +8,7 @@ pub mod Counted
 pub mod Lists
 pub mod Starts
 pub mod Marks
+pub mod Entries
 pub mod Waits
 pub mod Steps
 pub mod After

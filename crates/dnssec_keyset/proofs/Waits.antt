@@ -388,6 +388,17 @@ module _ (T : Type 0) (roll : RollType) (half : Half) (ttl : ℕ) (keys : Keys) 
       at (Barred cause) none = absurd none
       at Clear none = absurd none
 
+  -- a wait at the end or later
+  pub told-over : (now : ℕ) → end ≤ now → (x : T) →
+      AnswersWait {T = T} (wait_in_phase roll half t now keys) keys [] (Ok x)
+  told-over now late x = rw (phase, over.over now late) refl
+
+-- a wait for a key that lacks its stamp
+pub told-missing : (T : Type 0) (roll : RollType) (half : Half) (ttl : ℕ) (keys : Keys)
+    (t : Option ℕ) → t ≡ Some ttl → LacksStamp roll half ttl keys → (now : ℕ) →
+    AnswersWait {T = T} (wait_in_phase roll half t now keys) keys [] (Err WrongKeyState)
+told-missing T roll half ttl keys t phase lacks now = rw (phase, lacks now) refl
+
 -- what is left, where the moment is told as a duration
 pub left-now : (ttl end : ℕ) {now nanos : ℕ} → nanos ≡ now →
     min (ttl * 1_000_000_000) (end - nanos) ≡ min (ttl * 1_000_000_000) (end - now)

@@ -121,7 +121,9 @@ impl Keys {
     /// No two keys have one tag.
     pub(crate) fn differ_in_tags(&self)
         ensures { DifferInTags self.now }
-    {}
+    {
+        let _ = &self.map;
+    }
 
     /// Whether some key has the tag.
     fn has_tag(&self, key_tag: u16) -> bool

@@ -4,7 +4,6 @@ use Rattle.std.proofs.Common.{length, bit_or, get_or}
 use Rattle.std.specs.Prelude.{nat_eq}
 use Rattle.std.specs.Int.{w64, bit_at}
 use Rattle.std.proofs.lemmas.Nat.Bits.{bit_at_set_same, bit_at_set_other}
-use Rattle.std.proofs.lemmas.Grind.{get_or_default_zero}
 use Rattle.dnssec_keyset.proofs.Words.{written}
 use Rattle.dnssec_keyset.proofs.bits.set.Goals as goal
 
@@ -12,12 +11,7 @@ pub returns-clause-put : goal.returns-clause-put
 returns-clause-put c =
     let ws = c.args.words.now in
     let k = c.args.number % 64 in
-    let old = c.index_mut.result.now in
-    let room : c.args.number / 64 < length ws = search rules in
-    let is : old ≡ get_or ws (c.args.number / 64) 0 = c.index_mut.ensures.value
-        ∙ ap (λ i. get_or ws i old) c.from-at.ensures
-        ∙ get_or_default_zero ws (c.args.number / 64) old room in
-    λ t. rw (c.from-at.ensures)
-        (written ws c.args.number _ true room
+    let old = get_or ws (c.args.number / 64) 0 in
+    λ n. rw (c.from-at.ensures) (written ws c.args.number _ true c.requires
         (ap (λ x. nat_eq x 1) (bit_at_set_same w64 old k (omega arith)))
-        (λ i low d. bit_at_set_other w64 old k (omega arith) i d ∙ ap (λ x. bit_at x i) is) t)
+        (λ i low d. bit_at_set_other w64 old k (omega arith) i d) n)

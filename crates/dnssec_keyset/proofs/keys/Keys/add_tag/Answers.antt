@@ -4,8 +4,8 @@ use Rattle.std.specs.FinMap.{get}
 use Rattle.dnssec_keyset.proofs.Tags.{listed-none, listed-put}
 use Rattle.dnssec_keyset.proofs.keys.Keys.add_tag.Goals as goal
 
-pub returns-clause-listed : goal.returns-clause-listed
-returns-clause-listed c =
+pub returns-in_default-clause-listed : goal.returns-in_default-clause-listed
+returns-in_default-clause-listed c =
     let none : get c.args.self.now c.args.reference.now ≡ None = search rules in
     listed-none c.args.self.now c.args.tags.now c.args.reference.now none
 

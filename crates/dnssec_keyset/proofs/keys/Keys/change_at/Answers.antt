@@ -1,5 +1,5 @@
 -- Where no key has the reference, nothing is changed; else one key is, and is counted anew.
-use Rattle.std.proofs.Common.{◌≡◌, Bool, true, false, None, Some, refl, rules, ap, sym, ◌∙◌}
+use Rattle.std.proofs.Common.{◌≡◌, ℕ, List, None, Some, rules, sym, ap, subst, ◌∙◌}
 use Rattle.std.specs.Prelude.{nat_eq, if◌then◌else◌}
 use Rattle.std.specs.HashSet.{contains}
 use Rattle.std.specs.Str.{bytes_eq}
@@ -7,6 +7,7 @@ use Rattle.std.specs.Option.{option_map}
 use Rattle.std.specs.FinMap as map
 use Rattle.dnssec_key.specs.Key.{KeyParts}
 use Rattle.dnssec_keyset.specs.Inner.Change.{made}
+use Rattle.dnssec_keyset.specs.Inner.Counts.{CountsAgree, with_key, without_key}
 use Rattle.dnssec_keyset.specs.KeySet.{keys_shown}
 use Rattle.dnssec_keyset.proofs.Counted.{counts-at, fits-shown}
 use Rattle.dnssec_keyset.proofs.Shown.{shown, get-absent}
@@ -29,12 +30,20 @@ invariant_of-self-2 c =
     let n = c.get_mut.follows.lender c.make.new.key in
     let k = c.in-Some.key.now in
     let found : map.get (keys_shown i.map) r ≡ Some k = search (rules, shown) in
-    let is = λ q. search (rules, shown) in
+    let is : (q : List ℕ) → map.get (keys_shown n) q
+        ≡ option_map (λ k. if bytes_eq r q then f k else k) (map.get (keys_shown i.map) q) =
+        λ q. search (rules, shown) in
+    let after : c.keytype-after.result ≡ (f k).keytype = c.keytype-after.ensures
+        ∙ ap (λ (x : KeyParts). x.keytype) c.make.ensures in
+    let counts : c.with-self-inside.result ≡ with_key (f k).keytype (without_key k.keytype i.counts) =
+        c.with-self-inside.ensures ∙ ap (λ t. with_key t c.without.result) after
+        ∙ ap (with_key (f k).keytype) (c.without.ensures
+        ∙ ap (λ t. without_key t i.counts) c.keytype-before.ensures) in
     (
       TagsAgree-mapped (contains nat_eq i.tags) (keys_shown i.map) (keys_shown n)
           (λ q k. if bytes_eq r q then f k else k)
           (λ q k. kept_at f (kept_made c.args.change) _ k) is c.self.invariant.0,
-      rw (c.with.ensures, c.without.ensures, c.keytype-before.ensures, c.keytype-after.ensures)
+      subst (λ counts. CountsAgree counts (keys_shown n)) (sym counts)
           (counts-at f i.counts (keys_shown i.map) (keys_shown n) r k found is
           (fits-shown n c.is_sound.ensures.unique c.is_sound.ensures.fits) c.self.invariant.1),
     )

@@ -24,6 +24,6 @@ invariant_of-self c =
           (keys_shown i.map) n r x found is
           (λ t. rw (← c.key_tag-key_tag.ensures) (c.remove-3.ensures.updates.0 t))
           c.self.invariant.0,
-      rw (c.without.ensures, c.keytype-keytype.ensures)
+      rw (c.without-self-inside.ensures, c.keytype-keytype.ensures)
           (counts-removed i.counts (keys_shown i.map) n r x found is c.self.invariant.1),
     )

@@ -24,5 +24,5 @@ invariant_of-self c =
     (
       TagsAgree-mapped (contains nat_eq i.tags) (keys_shown i.map) (keys_shown n) (λ q. step)
           (λ q k. refl) (get-walked step i.map n _ refl e) c.self.invariant.0,
-      c.recount.ensures,
+      c.recount-self-inside.ensures,
     )

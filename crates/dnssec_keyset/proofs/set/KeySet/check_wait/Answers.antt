@@ -1,7 +1,11 @@
--- An early wait is told what is left of it.
-use Rattle.std.proofs.Common.{sym, ◌∙◌, arith}
+-- A wait is told by the end that the walk finds.
+use Rattle.std.proofs.Common.{◌≡◌, Some, None, sym, subst, ◌∙◌, arith, IfSome}
+use Rattle.std.specs.Prelude.{IfNone}
 use Rattle.dnssec_key.specs.RollTable.{which}
-use Rattle.dnssec_keyset.proofs.Waits.{ttl-shown, told-early, left-now}
+use Rattle.dnssec_keyset.specs.KeySet.{phase_of}
+use Rattle.dnssec_keyset.specs.Wait.{ttl_in}
+use Rattle.dnssec_keyset.specs.WaitEnd.{LacksStamp}
+use Rattle.dnssec_keyset.proofs.Waits.{ttl-shown, told-early, told-over, told-missing, left-now}
 use Rattle.dnssec_keyset.proofs.set.KeySet.check_wait.Goals as goal
 
 pub returns-then-now-end-clause-reply : goal.returns-then-now-end-clause-reply
@@ -11,7 +15,24 @@ returns-then-now-end-clause-reply c =
     ∙ sym c.in-Some.ensures in
     let now = c.as_nanos-now.ensures ∙ c.from.ensures in
     told-early _ a.rolltype
-    (which a.half) c.in-Some.ttl a.self.now.keys c.in-Some-over_from.end _ phase
-        c.in-Some-over_from.ensures.over
+    (which a.half) c.in-Some.ttl a.self.now.keys c.in-Some-over_from.end _ phase c.in-Some-over_from.ensures.over
     a.now.now (omega (arith, now, c.if-now-end.true)) c.left_until.result
     (c.left_until.ensures ∙ left-now _ _ now)
+
+pub returns-in_default-over_from-clause-reply : goal.returns-in_default-over_from-clause-reply
+returns-in_default-over_from-clause-reply c =
+    let a = c.args in
+    let phase = ttl-shown (which a.half) a.rolltype c.self.inside a.self.now c.self.view_is
+    ∙ sym c.in-Some.ensures in
+    told-missing _ a.rolltype (which a.half) c.in-Some.ttl a.self.now.keys _ phase
+        (subst (λ o. IfNone o (LacksStamp a.rolltype (which a.half) c.in-Some.ttl a.self.now.keys))
+        c.in_default-over_from.is c.over_from.ensures.missing) a.now.now
+
+pub returns-clause-reply : goal.returns-clause-reply
+returns-clause-reply c =
+    let a = c.args in
+    let phase = ttl-shown (which a.half) a.rolltype c.self.inside a.self.now c.self.view_is
+    ∙ sym c.in-Some.ensures in
+    let now = c.as_nanos-now.ensures ∙ c.from.ensures in
+    told-over _ a.rolltype (which a.half) c.in-Some.ttl a.self.now.keys c.in-Some-over_from.end _
+        phase c.in-Some-over_from.ensures.over a.now.now (omega (arith, now, c.if-now-end.false)) _
