@@ -1,8 +1,8 @@
 -- How many keys pass a test, kept as the keys change; and from it, whether a key passes that isn't listed.
-use Rattle.std.proofs.Common.{◌≡◌, ◌≢◌, ℕ, suc, min, ◌+◌, ◌-◌, ◌≤◌, ◌<◌, Bool, true, false, cond}
-use Rattle.std.proofs.Common.{not, List, [], ◌∷◌, Some, None, refl, sym, ap, subst, ◌∙◌, inl, inr}
+use Rattle.std.proofs.Common.{◌≡◌, ℕ, suc, min, ◌+◌, ◌-◌, ◌≤◌, Bool, true, false, cond}
+use Rattle.std.proofs.Common.{not, List, [], ◌∷◌, Some, None, refl, sym, ap, ◌∙◌}
 use Rattle.std.proofs.Common.{arith}
-use Rattle.std.specs.Prelude.{Option, ◌⊎◌, ◌&&◌, ◌||◌, T, nat_lt, if◌then◌else◌}
+use Rattle.std.specs.Prelude.{Option, ◌&&◌, ◌||◌, T, nat_lt, if◌then◌else◌}
 use Rattle.std.proofs.Common.{map, length, filter, string_bytes}
 use Rattle.std.specs.declared.string.String.{String}
 use Rattle.std.specs.String.{string_eq}
@@ -31,7 +31,7 @@ use Rattle.dnssec_keyset.specs.Start.{PresentZskRole}
 use Rattle.dnssec_keyset.specs.Inner.Counts.{bit, count, count_in, share, kept, listed, passes}
 use Rattle.dnssec_keyset.specs.Inner.Counts.{CountsAgree}
 use Rattle.dnssec_keyset.specs.Inner.Counts.{count_of, no_counts, with_key, without_key}
-use Rattle.dnssec_keyset.proofs.Quantified.{split, first, second, same_key, itself, apart}
+use Rattle.dnssec_keyset.proofs.Quantified.{first, second, itself, apart}
 use Rattle.dnssec_keyset.proofs.Quantified.{below_found}
 use Rattle.dnssec_keyset.proofs.Shown.{same_keys}
 use Rattle.dnssec_keyset.proofs.Walks.{AreApart, apart_by_bytes, none_of_length}

@@ -2,7 +2,9 @@
 ghost use Rattle.std.specs.Prelude.{◌≡◌, not, ◌&&◌, is_some, IsSome, None, Some, IfOk, IfErr};
 ghost use Rattle.std.specs.Prelude.{OnOk, OnErr};
 ghost use Rattle.std.specs.List.{list_any};
+ghost use Rattle.std.specs.HashMap as hash;
 ghost use Rattle.dnssec_key.specs.declared.error.Error.TheVariants.{OutOfMemory};
+ghost use Rattle.dnssec_key.specs.declared.roll.RollType.{RollType as AnyRoll};
 ghost use Rattle.dnssec_key.specs.RollTable.{which};
 ghost use Rattle.dnssec_keyset.specs.KeySet.{phase_of, with_phase, no_rolls, rolls_shown};
 ghost use Rattle.dnssec_keyset.specs.Start.{has_conflict, conflict};
@@ -61,8 +63,11 @@ impl Rolls {
     }
 
     /// The map itself, for callers to read.
+    #[tactic(auto, using(crate::proofs::Phases::phases))]
     pub(crate) fn as_map(&self) -> &HashMap<RollType, RollState>
-        ensures { rolls_shown result.now ≡ self.now }
+        ensures shown { rolls_shown result.now ≡ self.now }
+        ensures at { (roll : AnyRoll) → hash.get_by (⟦<RollType as PartialEq>⟧.eq roll) result.now
+            ≡ phase_of self.now roll }
     {
         &self.phases
     }

@@ -5,10 +5,11 @@ ghost use Rattle.std.specs.FinMap as map;
 ghost use Rattle.std.specs.HashMap as hash;
 ghost use Rattle.dnssec_key.specs.declared.error.Error.TheVariants.{OutOfMemory};
 ghost use Rattle.dnssec_key.specs.declared.key.KeyType.TheVariants.{Ksk, Zsk, Csk, Include};
+ghost use Rattle.dnssec_key.specs.declared.roll.RollType.{RollType as AnyRoll};
 ghost use Rattle.dnssec_key.specs.Key.{new_key, new_state, is_available};
 ghost use Rattle.dnssec_key.specs.Setters.{Decoupled, Present, Signer, AtParent, Stale};
 ghost use Rattle.dnssec_key.specs.Setters.{VisibleAt, DsVisibleAt, RrsigVisibleAt};
-ghost use Rattle.dnssec_keyset.specs.KeySet.{keys_shown, rolls_shown, new_set};
+ghost use Rattle.dnssec_keyset.specs.KeySet.{keys_shown, rolls_shown, new_set, phase_of};
 ghost use Rattle.dnssec_keyset.specs.Step.{AddKey, Set, DeleteKey, Changes};
 ghost use Rattle.dnssec_keyset.specs.Step.{Answers, AnswersExactly, add_refusal};
 ghost use Rattle.dnssec_keyset.specs.Step.{setting_refusal, deletion_refusal};
@@ -97,7 +98,9 @@ impl KeySet {
 
     /// The rolls in progress, each in its phase.
     pub fn rollstates(&self) -> &HashMap<RollType, RollState>
-        ensures { rolls_shown result.now ≡ self.now.rolls }
+        ensures shown { rolls_shown result.now ≡ self.now.rolls }
+        ensures at { (roll : AnyRoll) → hash.get_by (⟦<RollType as PartialEq>⟧.eq roll) result.now
+            ≡ phase_of self.now.rolls roll }
     {
         self.rolls.as_map()
     }

@@ -1,7 +1,7 @@
 -- How many keys pass a test.
 use Rattle.std.specs.Prelude.{◌≡◌, ℕ, ◌+◌, ◌-◌, min, Bool, true, false, not, ◌&&◌, Option, None}
-use Rattle.std.specs.Prelude.{Some, List, [], ◌∷◌, if◌then◌else◌}
-use Rattle.std.specs.FinMap.{get, entries}
+use Rattle.std.specs.Prelude.{Some, List, [], ◌∷◌}
+use Rattle.std.specs.FinMap.{entries}
 use Rattle.dnssec_key.specs.declared.key.KeyType.{KeyType}
 use Rattle.dnssec_key.specs.Key.{KeyParts}
 use Rattle.dnssec_keyset.specs.KeySet.{Keys}

@@ -1,8 +1,8 @@
 -- One bit of one word is set, and no other.
-use Rattle.std.proofs.Common.{◌≡◌, ◌≢◌, ℕ, ◌*◌, ◌<◌, ◌/◌, ◌%◌, true, ap, sym, ◌∙◌, arith, rules}
-use Rattle.std.proofs.Common.{length, bit_or, get_or}
+use Rattle.std.proofs.Common.{◌/◌, ◌%◌, true, ap, arith}
+use Rattle.std.proofs.Common.{get_or}
 use Rattle.std.specs.Prelude.{nat_eq}
-use Rattle.std.specs.Int.{w64, bit_at}
+use Rattle.std.specs.Int.{w64}
 use Rattle.std.proofs.lemmas.Nat.Bits.{bit_at_set_same, bit_at_set_other}
 use Rattle.dnssec_keyset.proofs.Words.{written}
 use Rattle.dnssec_keyset.proofs.bits.set.Goals as goal

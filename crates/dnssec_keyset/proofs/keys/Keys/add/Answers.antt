@@ -1,6 +1,6 @@
 -- The new key's tag comes into the index with it, and it is counted.
-use Rattle.std.proofs.Common.{◌≡◌, Bool, true, false, None, Some, string_bytes, rules, sym, ap, ◌∙◌}
-use Rattle.std.specs.Prelude.{nat_eq, if◌then◌else◌}
+use Rattle.std.proofs.Common.{◌≡◌, false, None, Some, string_bytes, rules, ap, ◌∙◌}
+use Rattle.std.specs.Prelude.{nat_eq}
 use Rattle.std.specs.FinMap.{get}
 use Rattle.std.specs.HashSet.{contains}
 use Rattle.std.proofs.lemmas.Map.Text.{hash_map_updates_text}

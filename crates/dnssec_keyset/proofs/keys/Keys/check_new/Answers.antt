@@ -1,6 +1,5 @@
 -- An entry is refused by the tags of those before it, as it is by their references.
 use Rattle.std.proofs.Common.{rules, sym}
-use Rattle.std.specs.FinMap.{get}
 use Rattle.dnssec_keyset.specs.Start.{texts}
 use Rattle.dnssec_keyset.proofs.Entries.{fault-found, fault-behind, listed-behind}
 use Rattle.dnssec_keyset.proofs.keys.Keys.check_new.Goals as goal

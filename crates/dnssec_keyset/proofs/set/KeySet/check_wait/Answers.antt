@@ -1,9 +1,7 @@
 -- A wait is told by the end that the walk finds.
-use Rattle.std.proofs.Common.{◌≡◌, Some, None, sym, subst, ◌∙◌, arith, IfSome}
+use Rattle.std.proofs.Common.{sym, subst, ◌∙◌, arith}
 use Rattle.std.specs.Prelude.{IfNone}
 use Rattle.dnssec_key.specs.RollTable.{which}
-use Rattle.dnssec_keyset.specs.KeySet.{phase_of}
-use Rattle.dnssec_keyset.specs.Wait.{ttl_in}
 use Rattle.dnssec_keyset.specs.WaitEnd.{LacksStamp}
 use Rattle.dnssec_keyset.proofs.Waits.{ttl-shown, told-early, told-over, told-missing, left-now}
 use Rattle.dnssec_keyset.proofs.set.KeySet.check_wait.Goals as goal
