@@ -4,10 +4,10 @@ use Rattle.std.specs.Io.KnownBytes.{Appends, Keeps}
 use Rattle.dnssec_keyset.specs.KeySet.{KeySetParts}
 use Rattle.dnssec_run.specs.declared.call.Call.{Call}
 use Rattle.dnssec_run.specs.declared.record.Entry.{Entry}
-use Rattle.dnssec_run.specs.declared.verdict.Broken.{Broken}
 use Rattle.dnssec_run.specs.Plain.{IsPlain, StaysSafe}
 use Rattle.dnssec_run.specs.Record.{IsRun, world_at}
-use Rattle.dnssec_run.specs.Verdict.{IsVerdict}
+use Rattle.dnssec_judge.specs.declared.verdict.Broken.{Broken}
+use Rattle.dnssec_judge.specs.Verdict.{IsVerdict}
 use Rattle.dnssec_record.specs.Output.{output}
 use Rattle.dnssec_record.specs.Script.{IsScript, IsFirstMalformed}
 use Rattle.dnssec_record.specs.declared.script.ScriptFault.{ScriptFault}

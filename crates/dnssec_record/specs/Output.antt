@@ -23,7 +23,7 @@ use Rattle.dnssec_run.specs.declared.record.Published.{Published}
 use Rattle.dnssec_run.specs.declared.record.PublishedKey.{PublishedKey}
 use Rattle.dnssec_run.specs.declared.record.Reply.{Reply}
 use Rattle.dnssec_run.specs.declared.record.Reply.TheVariants.{Done, Actions, Refused}
-use Rattle.dnssec_run.specs.declared.verdict.Broken.{Broken}
+use Rattle.dnssec_judge.specs.declared.verdict.Broken.{Broken}
 
 -- the name of each action
 abbrev pub action_name : Action → List ℕ

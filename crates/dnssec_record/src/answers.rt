@@ -5,8 +5,9 @@ ghost use Rattle.dnssec_record.specs.Output.{action_name, actions_text, answers,
 ghost use Rattle.dnssec_record.specs.Output.{chain_line, output, published_text, reply_text};
 ghost use Rattle.dnssec_record.specs.Output.{set_line, set_text};
 
+use dnssec_judge::Broken;
 use dnssec_keyset::Action;
-use dnssec_run::{Broken, Entry, Published, PublishedKey, Reply};
+use dnssec_run::{Entry, Published, PublishedKey, Reply};
 use std::alloc::{AllocError, Global};
 
 /// What is written for a run with this verdict.

@@ -10,8 +10,8 @@ mod script;
 mod statement;
 
 pub use device::{DeviceFault, Sink, Source, Std};
-pub use dnssec_run::{
-    Broken, Call, Entry, Judge, Mark, Published, PublishedKey, Reply, Run, audit, audit_window,
-    plain_runs_pass, records_have_one_verdict, run, runs_stay_safe,
+pub use dnssec_judge::{
+    Broken, Judge, audit, audit_window, plain_runs_pass, records_have_one_verdict, runs_stay_safe,
 };
+pub use dnssec_run::{Call, Entry, Mark, Published, PublishedKey, Reply, Run, run};
 pub use script::{ScriptFault, record_script, run_script};

@@ -14,7 +14,8 @@ ghost use Rattle.dnssec_record.specs.declared.script.ScriptFault.TheVariants.{De
 use crate::answers::answer;
 use crate::device::{DeviceFault, Sink, Source};
 use crate::lines::{lines, read_calls, with_lists, zone};
-use dnssec_run::{Run, audit_window, run};
+use dnssec_judge::audit_window;
+use dnssec_run::{Run, run};
 use std::alloc::{AllocError, AllocFailed, Global};
 use std::fmt;
 

@@ -5,5 +5,3 @@ pub mod Laws
 pub mod Chain
 pub mod WholeRolls
 pub mod Asked
-pub mod Verdicts
-pub mod OneByOne

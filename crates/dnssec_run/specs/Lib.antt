@@ -1,13 +1,7 @@
 pub mod Asked
-pub mod Chained
-pub mod Floor
-pub mod Judge
 pub mod Plain
 pub mod Published
 pub mod Record
 pub mod Recorder
 pub mod Safe
-pub mod Search
-pub mod Verdict
 pub mod WholeRolls
-pub mod Window

@@ -25,7 +25,7 @@ use std::collections::{BTreeMap, HashMap};
 
 /// The sets of an entry.
 #[derive(Clone, Copy, Debug, PartialEq, Eq)]
-pub(crate) enum Shown {
+pub enum Shown {
     Ds,
     Dnskey,
     DnskeySigners,
@@ -89,7 +89,12 @@ fn is_shown(keys: &HashMap<String, Key>, reference: &str, shown: Shown) -> bool
     }
 }
 
-pub(crate) fn published_key(reference: &String, added: usize) -> Result<PublishedKey, Error>
+/// A key of a record, with a copy of its reference.
+///
+/// # Errors
+///
+/// `OutOfMemory` alone.
+pub fn published_key(reference: &String, added: usize) -> Result<PublishedKey, Error>
     ensures ok { IfOk result (λ k. id_of k ≡ (string_bytes reference.now, added)) }
     ensures err { IfErr result (λ e. e ≡ OutOfMemory) }
 {

@@ -1,6 +1,6 @@
 -- The answer to a script is the output of its run, with the verdict of a judge.
 use Rattle.std.proofs.Common.{◌∙◌, ap, subst}
-use Rattle.dnssec_run.specs.Verdict.{IsVerdict}
+use Rattle.dnssec_judge.specs.Verdict.{IsVerdict}
 use Rattle.dnssec_record.specs.Output.{output}
 use Rattle.dnssec_record.proofs.script.answer_to.Goals as goal
 

@@ -1,0 +1,18 @@
+-- The `any` of an iterator, read at what its keys are.
+use Rattle.std.proofs.Common.{sym, ◌∙◌, map, rules, tests}
+use Rattle.std.specs.Prelude.{◌&&◌}
+use Rattle.std.proofs.lemmas.Iterator.{YieldsList-from_slice}
+use Rattle.std.proofs.lemmas.Iterator.Search.{any_from_yields_List}
+use Rattle.dnssec_run.specs.Published.{id_of}
+use Rattle.dnssec_judge.specs.Chained.{is_in}
+use Rattle.dnssec_judge.proofs.safety.trusts_keys.Goals as goal
+use Rattle.dnssec_judge.proofs.Verdicts.Chains.{list_any-map}
+
+pub returns : goal.returns
+returns c =
+    let dnskey = map id_of c.args.dnskey.now in
+    let signers = map id_of c.args.signers.now in
+    any_from_yields_List
+    (λ x. is_in dnskey (id_of x) && is_in signers (id_of x)) _ _ _ c.any.ensures.ran
+    (YieldsList-from_slice c.args.ds.now cc) (λ x b q k. search (rules, tests))
+    ∙ sym (list_any-map (λ k. is_in dnskey k && is_in signers k) id_of c.args.ds.now)

@@ -1,0 +1,15 @@
+-- The `any` of an iterator, read at what its keys are.
+use Rattle.std.proofs.Common.{sym, ◌∙◌, map, rules, tests}
+use Rattle.std.proofs.lemmas.Iterator.{YieldsList-from_slice}
+use Rattle.std.proofs.lemmas.Iterator.Search.{any_from_yields_List}
+use Rattle.dnssec_run.specs.Published.{id_of}
+use Rattle.dnssec_judge.specs.Chained.{is_in}
+use Rattle.dnssec_judge.proofs.safety.trusts_zone.Goals as goal
+use Rattle.dnssec_judge.proofs.Verdicts.Chains.{list_any-map}
+
+pub returns : goal.returns
+returns c =
+    let zone = map id_of c.args.zone.now in
+    any_from_yields_List (λ x. is_in zone (id_of x)) _ _ _ c.any.ensures.ran
+    (YieldsList-from_slice c.args.dnskey.now cc) (λ x b q k. search (rules, tests))
+    ∙ sym (list_any-map (is_in zone) id_of c.args.dnskey.now)

@@ -1,0 +1,23 @@
+-- What a judge knows of the entries that it has taken.
+use Rattle.std.specs.Prelude.{◌≡◌, suc, List, length, None}
+use Rattle.dnssec_key.specs.declared.roll.RollType.{RollType}
+use Rattle.dnssec_run.specs.declared.record.Entry.{Entry}
+use Rattle.dnssec_run.specs.Safe.{Ds, Dnskey, ZoneSigners, base_below, time_at}
+use Rattle.dnssec_judge.specs.declared.judging.Judge.{Judge}
+use Rattle.dnssec_judge.specs.Verdict.{IsVerdict}
+use Rattle.dnssec_judge.specs.Window.{Watches, step_of}
+
+-- of the entries so far, as much as the next ones ask for
+pub record Follows (entries : List Entry) (j : Judge) : Type 0 where
+  pub steps : (roll : RollType) →
+      step_of j.steps roll ≡ base_below entries roll (suc (length entries))
+  pub time : j.time ≡ time_at entries (length entries)
+  pub ds : Watches entries Ds (length entries) j.ds
+  pub dnskey : Watches entries Dnskey (length entries) j.dnskey
+  pub zone : Watches entries ZoneSigners (length entries) j.zone
+
+-- the verdict on the entries so far; and where every position was safe, what the next ones ask for
+pub record Knows (entries : List Entry) (j : Judge) : Type 0 where
+  pub at : j.at ≡ length entries
+  pub verdict : IsVerdict entries j.found
+  pub follows : j.found ≡ None → Follows entries j

@@ -1,0 +1,137 @@
+//! A judge of a record: it takes the entries one by one, and has the verdict on them so far.
+ghost use Rattle.std.specs.Prelude.{◌≡◌, ◌++◌, ◌∷◌, suc, List, [], length, IfOk, IfErr, OnOk};
+ghost use Rattle.dnssec_key.specs.declared.error.Error.TheVariants.{OutOfMemory};
+ghost use Rattle.dnssec_run.specs.declared.record.Entry.{Entry};
+ghost use Rattle.dnssec_judge.specs.Judge.{Follows, Knows};
+ghost use Rattle.dnssec_judge.specs.Verdict.{IsVerdict};
+
+use crate::safety::{Kind, later};
+use crate::steps::Steps;
+use crate::verdict::Broken;
+use crate::window::{Due, Window};
+use dnssec_keyset::{Error, UnixTime};
+use dnssec_run::Entry;
+use std::alloc::Global;
+use std::time::Duration;
+
+/// Takes the entries of a record one by one, and has the verdict on those that it has taken: what
+/// `audit` answers of them.
+///
+/// It keeps no entry. Of each kind of sets (DS sets, DNSKEY sets with their signers, zone signers)
+/// it keeps the least position that isn't retired, the reports that aren't over, and the sets from
+/// that position on, once for each span of neighbouring positions that publish the same. So where
+/// reports retire what is old, its memory and the time for an entry don't grow with the record.
+///
+/// ```rust
+/// let mut judge = Judge::new(alloc)?;
+/// for entry in &run.entries {
+///     judge = judge.take(alloc, entry)?;
+/// }
+/// let safe = judge.verdict().is_none();
+/// ```
+#[derive(Debug, Drop)]
+pub struct Judge {
+    /// How many entries it has taken.
+    at: usize,
+    /// The greatest moment so far.
+    time: UnixTime,
+    steps: Steps,
+    ds: Window,
+    dnskey: Window,
+    zone: Window,
+    /// The first sets without a chain. Once there are some, nothing else is kept up.
+    found: Option<Broken>,
+}
+
+impl Judge {
+    /// A judge that has taken no entry. It takes its memory from `alloc`.
+    ///
+    /// # Errors
+    ///
+    /// `OutOfMemory` alone.
+    pub fn new(alloc: Global) -> Result<Self, Error>
+        ensures ok { IfOk result (λ j. Knows [] j) }
+        ensures err { IfErr result (λ e. e ≡ OutOfMemory) }
+    {
+        Ok(Judge {
+            at: 0,
+            time: UnixTime::from(Duration::from_secs(0)),
+            steps: Steps::new(),
+            ds: Window::new(alloc)?,
+            dnskey: Window::new(alloc)?,
+            zone: Window::new(alloc)?,
+            found: None,
+        })
+    }
+
+    /// Takes the next entry, which stands at the next position of the record.
+    ///
+    /// # Errors
+    ///
+    /// `OutOfMemory` alone. The judge is then gone: begin anew with the first entry.
+    pub fn take(mut self, alloc: Global, entry: &Entry) -> Result<Self, Error>
+        ensures ok { IfOk result (λ j. (entries : List Entry) → Knows entries self →
+            Knows (entries ++ entry.now ∷ []) j) }
+        ensures err { IfErr result (λ e. e ≡ OutOfMemory) }
+    {
+        let Some(at) = self.at.checked_add(1) else {
+            return Err(Error::OutOfMemory);
+        };
+        self.at = at;
+        if self.found.is_some() {
+            return Ok(self);
+        }
+        self.follow(alloc, entry)?;
+        self.found = self.ds.find_ds(&self.dnskey, &self.zone, at);
+        Ok(self)
+    }
+
+    /// Notes the next entry, which stands at position `at`.
+    fn follow(&mut self, alloc: Global, entry: &Entry) -> Result<(), Error>
+        ensures at { OnOk result (self.new.at ≡ self.old.at) }
+        ensures follows { OnOk result ((entries : List Entry) → self.old.at ≡ suc (length entries) →
+            Follows entries self.old → Follows (entries ++ entry.now ∷ []) self.new) }
+        ensures err { IfErr result (λ e. e ≡ OutOfMemory) }
+    {
+        let at = self.at;
+        let time = later(self.time, entry.moment);
+        let sets = &entry.published;
+        let due = Due::of(entry.mark, entry.moment, self.steps, Kind::Ds);
+        self.ds.take(alloc, at, time, due, &sets.ds, &[])?;
+        let due = Due::of(entry.mark, entry.moment, self.steps, Kind::Dnskey);
+        self.dnskey
+            .take(alloc, at, time, due, &sets.dnskey, &sets.dnskey_signers)?;
+        let due = Due::of(entry.mark, entry.moment, self.steps, Kind::ZoneSigners);
+        self.zone
+            .take(alloc, at, time, due, &sets.zone_signers, &[])?;
+        self.time = time;
+        self.steps = self.steps.after(entry.mark, at);
+        Ok(())
+    }
+
+    /// The verdict on the entries so far: None exactly where every position is safe, else the first
+    /// three sets without a chain.
+    pub fn verdict(&self) -> Option<Broken>
+        ensures { (entries : List Entry) → Knows entries self.now →
+            IsVerdict entries result }
+    {
+        self.found
+    }
+}
+
+/// The verdict on the entries of a record, of any origin, by one walk over them with a `Judge`:
+/// what `audit` answers, but for want of memory.
+///
+/// # Errors
+///
+/// `OutOfMemory` alone.
+pub fn audit_window(alloc: Global, entries: &[Entry]) -> Result<Option<Broken>, Error>
+    ensures ok { IfOk result (λ verdict. IsVerdict entries.now verdict) }
+    ensures err { IfErr result (λ e. e ≡ OutOfMemory) }
+{
+    let mut judge = Judge::new(alloc)?;
+    for entry in entries {
+        judge = judge.take(alloc, entry)?;
+    }
+    Ok(judge.verdict())
+}

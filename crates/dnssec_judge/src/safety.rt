@@ -1,0 +1,85 @@
+//! What makes a record safe, as tests: what a report retires and when, and whether sets have a
+//! chain.
+ghost use Rattle.std.specs.Prelude.{◌≡◌, ◌+◌, ◌*◌, map, max, nat_lt, not, unwrap_or};
+ghost use Rattle.dnssec_run.specs.Published.{id_of};
+ghost use Rattle.dnssec_run.specs.Safe.{retires};
+ghost use Rattle.dnssec_judge.specs.Chained.{is_in, trusts_keys, trusts_zone};
+ghost use Rattle.dnssec_judge.specs.Search.{kind_of};
+
+use dnssec_keyset::{RollType, UnixTime};
+use dnssec_run::PublishedKey;
+use std::time::Duration;
+
+/// The kinds of sets that caches hold.
+#[derive(Clone, Copy, Debug, PartialEq)]
+pub(crate) enum Kind {
+    Ds,
+    /// With its signers.
+    Dnskey,
+    ZoneSigners,
+}
+
+/// Whether a report retires sets of the kind.
+pub(crate) fn retires(roll: RollType, second: bool, kind: Kind) -> bool
+    ensures { result ≡ retires roll second (kind_of kind) }
+{
+    match (roll, second, kind) {
+        (RollType::KskRoll, false, Kind::Dnskey)
+        | (RollType::KskRoll, true, Kind::Ds)
+        | (RollType::KskDoubleDsRoll, false, Kind::Ds)
+        | (RollType::KskDoubleDsRoll, true, Kind::Dnskey)
+        | (RollType::ZskRoll, false, Kind::Dnskey)
+        | (RollType::ZskRoll, true, Kind::ZoneSigners)
+        | (RollType::ZskDoubleSignatureRoll, _, Kind::Dnskey | Kind::ZoneSigners)
+        | (RollType::CskRoll, false, Kind::Dnskey)
+        | (RollType::CskRoll, true, Kind::Ds | Kind::ZoneSigners)
+        | (RollType::AlgorithmRoll, false, Kind::Dnskey | Kind::ZoneSigners)
+        | (RollType::AlgorithmRoll, true, Kind::Ds) => true,
+        _ => false,
+    }
+}
+
+/// Whether the TTL has passed since the moment. Where their sum is past the greatest moment, it
+/// never has.
+pub(crate) fn is_over(moment: UnixTime, ttl: u32, time: UnixTime) -> bool
+    ensures { result ≡ not (nat_lt time (moment + ttl * 1_000_000_000)) }
+{
+    let ttl = Duration::from_secs(u64::from(ttl));
+    moment.fits(ttl) && moment + ttl <= time
+}
+
+/// The later one of the time so far and of a moment, if there is one.
+pub(crate) fn later(time: UnixTime, moment: Option<UnixTime>) -> UnixTime
+    ensures { result ≡ max time (unwrap_or moment 0) }
+{
+    match moment {
+        Some(moment) if time < moment => moment,
+        _ => time,
+    }
+}
+
+fn is_in(keys: &[PublishedKey], key: &PublishedKey) -> bool
+    ensures { result ≡ is_in (map id_of keys.now) (id_of key.now) }
+{
+    keys.contains(key)
+}
+
+/// Whether a DS key is in the DNSKEY set and signs it.
+pub(crate) fn trusts_keys(
+    ds: &[PublishedKey],
+    dnskey: &[PublishedKey],
+    signers: &[PublishedKey],
+) -> bool
+    ensures { result ≡ trusts_keys (map id_of ds.now) (map id_of dnskey.now)
+        (map id_of signers.now) }
+{
+    ds.iter()
+        .any(|key| is_in(dnskey, key) && is_in(signers, key))
+}
+
+/// Whether a key of the DNSKEY set signs the zone.
+pub(crate) fn trusts_zone(dnskey: &[PublishedKey], zone: &[PublishedKey]) -> bool
+    ensures { result ≡ trusts_zone (map id_of dnskey.now) (map id_of zone.now) }
+{
+    dnskey.iter().any(|key| is_in(zone, key))
+}

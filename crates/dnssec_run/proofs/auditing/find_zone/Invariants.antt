@@ -1,7 +1,0 @@
--- The zone signers so far have a chain with the two sets.
-use Rattle.std.proofs.Common.{ℕ, ◌<◌, ◌≤◌}
-use Rattle.dnssec_run.specs.Search.{IsChained}
-use Rattle.dnssec_run.proofs.auditing.find_zone.Given as goal
-
-abbrev pub invariant-loop-zone : goal.invariant-loop-zone
-invariant-loop-zone l = (k : ℕ) → l.from ≤ k → k < l.zone → IsChained l.entries l.ds l.dnskey k
