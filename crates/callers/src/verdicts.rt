@@ -1,0 +1,15 @@
+//! A caller of `dnssec_record`.
+use anyhow::Result;
+use dnssec_record::{audit_window, record_script};
+use std::alloc::Global;
+
+/// Runs a script, and tells whether its chain of trust held after every call.
+pub fn judge(alloc: Global, script: &str) -> Result<String> {
+    let run = record_script(alloc, script.as_bytes())?;
+    match audit_window(alloc, &run.entries)? {
+        None => Ok(format!(in alloc; "safe after all {} calls", run.entries.len())?),
+        Some(broken) => Ok(format!(in alloc; "broken after call {}: no key of the DNSKEY set of \
+            call {} signs the zone, or none has a DS of call {}", broken.at, broken.dnskey,
+            broken.ds)?),
+    }
+}
