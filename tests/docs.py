@@ -9,8 +9,8 @@ A fenced block that shows a script, answers or a source names its file behind th
     ```text examples/ksk-roll.script 10- answered
 
 that is: the lines from 10 on, each call with its answer behind it, and at the end the lines of the
-published sets and of the chain. Without `answered` the lines stand alone, and without a range all of
-them. `after-first-roll` puts `(first roll)` in the place of a script's first nine lines.
+published sets and of the chain. Without `answered` the lines stand alone, and without a range all
+of them do. `after-first-roll` puts `(first roll)` in the place of a script's first nine lines.
 
 What is compared:
 
@@ -165,19 +165,19 @@ def anchors(path):
 
 def check_links(path, wrong):
     """Compares the links of a text with what they lead to, and counts them."""
-    count = 0
-    for number, line in enumerate(path.read_text().splitlines()):
-        for link in LINK.findall(line):
-            if "://" in link:
-                continue
-            count += 1
-            file, _, anchor = link.partition("#")
-            target = (path.parent / file).resolve() if file else path
-            where = f"{path.relative_to(TOP)}:{number + 1}"
-            if not target.exists():
-                wrong.append(f"{where}: the link {link} leads nowhere")
-            elif anchor and anchor not in anchors(target):
-                wrong.append(f"{where}: the link {link} leads to no heading")
+    count, text = 0, path.read_text()
+    for match in LINK.finditer(text):
+        link = match[1]
+        if "://" in link:
+            continue
+        count += 1
+        file, _, anchor = link.partition("#")
+        target = (path.parent / file).resolve() if file else path
+        where = f"{path.relative_to(TOP)}:{text.count(chr(10), 0, match.start()) + 1}"
+        if not target.exists():
+            wrong.append(f"{where}: the link {link} leads nowhere")
+        elif anchor and anchor not in anchors(target):
+            wrong.append(f"{where}: the link {link} leads to no heading")
     return count
 
 
