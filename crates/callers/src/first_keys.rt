@@ -31,8 +31,8 @@ pub fn bring_in(alloc: Global) -> Result<Vec<Action>> {
 
     // All servers had it at 100, and its TTL is an hour. Sleep until the wait is over.
     set.propagation1_complete(roll, 3600, &at(100))?;
-    match set.wait_end(roll) {
-        Some(WaitEnd::At(end)) => Ok(set.cache_expired1(roll, &end)?),
+    match &set.wait_end(roll) {
+        Some(WaitEnd::At(end)) => Ok(set.cache_expired1(roll, end)?),
         _ => bail!("no wait"),
     }
 }

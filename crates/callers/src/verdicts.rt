@@ -7,9 +7,11 @@ use std::alloc::Global;
 pub fn judge(alloc: Global, script: &str) -> Result<String> {
     let run = record_script(alloc, script.as_bytes())?;
     match audit_window(alloc, &run.entries)? {
-        None => Ok(format!(in alloc; "safe after all {} calls", run.entries.len())?),
-        Some(broken) => Ok(format!(in alloc; "broken after call {}: no key of the DNSKEY set of \
-            call {} signs the zone, or none has a DS of call {}", broken.at, broken.dnskey,
-            broken.ds)?),
+        None => Ok(format!(in alloc; "safe after each of {} calls", run.entries.len())?),
+        // After call `at` caches may hold the sets of three calls, and these have no chain.
+        Some(broken) => Ok(format!(in alloc;
+            "broken after call {}: ds={} dnskey={} zone={}",
+            broken.at, broken.ds, broken.dnskey, broken.zone
+        )?),
     }
 }
