@@ -5,7 +5,7 @@ PROGRAM = crates/keyset/out/keyset
 PARTS = dnssec_base dnssec_key dnssec_keyset dnssec_run dnssec_judge dnssec_record keyset
 SOURCES = crates.txt $(wildcard $(foreach part,$(PARTS),$(addprefix crates/$(part)/,src specs proofs)))
 
-.PHONY: run build test memory
+.PHONY: run build test docs memory
 
 # Answers SCRIPT. The proved program does it where `make build` has made it from these sources;
 # else one that is built at once, without a proof.
@@ -22,10 +22,14 @@ build:
 	@mkdir -p crates/keyset/out
 	@cd crates/keyset && rt run <stdin >out/build.log 2>&1 || { cat out/build.log >&2; exit 1; }
 
-# Each request for memory fails in turn; then every proof, edit, test and program. It tells when
-# each step was done.
+# What the documents print is compared with the examples; each request for memory fails in turn;
+# then every proof, edit, test and program. It tells when each step was done.
 test:
 	@tests/gate.py
+
+# What the documents print is compared with the examples and with the callers.
+docs:
+	@tests/docs.py
 
 # Each request for memory of the example scripts, and of calls of a key set and of names, fails in
 # turn.

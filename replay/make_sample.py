@@ -60,10 +60,13 @@ def choose(count):
 
 
 def examples():
-    """The scripts of examples/, by name."""
+    """The scripts of examples/, each by its name here: those of its folders last."""
     folder = Path(__file__).parent.parent / "examples"
-    paths = sorted(folder.glob("*.script"))
-    return {f"example-{path.stem}": path.read_text().splitlines() for path in paths}
+    paths = sorted(folder.rglob("*.script"), key=lambda path: (len(path.parts), path))
+    return {
+        "-".join(["example", *path.relative_to(folder).with_suffix("").parts]): path
+        for path in paths
+    }
 
 
 def main():
@@ -71,7 +74,8 @@ def main():
     parser.add_argument("--original")
     parser.add_argument("--count", type=int, default=210)
     given = parser.parse_args()
-    chosen = {**choose(given.count), **examples()}
+    chosen = choose(given.count)
+    chosen.update((name, path.read_text().splitlines()) for name, path in examples().items())
     if given.original:
         original = [*shlex.split(given.original), "--canon", "--alts"]
         for name, lines in chosen.items():

@@ -1,6 +1,6 @@
 #!/usr/bin/env python3
-"""The gate: `tests/memory.py`, then `rt ci`. Before the last line of `rt ci` it tells when, in
-minutes and seconds since the start, each step was done, so that a rise is seen."""
+"""The gate: `tests/docs.py`, `tests/memory.py`, then `rt ci`. Before the last line of `rt ci` it
+tells when, in minutes and seconds since the start, each step was done, so that a rise is seen."""
 
 import os
 import re
@@ -68,9 +68,10 @@ def prove(edits):
 
 
 def main():
-    if subprocess.run([TOP / "tests" / "memory.py"]).returncode:
-        return 1
-    note("memory")
+    for step in ("docs", "memory"):
+        if subprocess.run([TOP / "tests" / f"{step}.py"]).returncode:
+            return 1
+        note(step)
     edits = Edits()
     edits.start()
     status, last = prove(edits)

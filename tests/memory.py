@@ -1,6 +1,6 @@
 #!/usr/bin/env python3
-"""Lets each request for memory fail in turn: of all example scripts, and of the calls of a key set
-and of names.
+"""Lets each request for memory fail in turn: of all scripts right in examples/, and of the calls of
+a key set and of names.
 
 Two programs serve for it, each built a few times. They make some requests before their work. So
 with the request at one fixed place failing, each number of such requests lets another one of the
@@ -21,9 +21,6 @@ TOP = Path(__file__).resolve().parent.parent
 
 # What the letters of the program memory_of_calls stand for.
 CALLS = {"names": "n", "rolls": "r", "copies of keys": "k", "copies of key sets": "s", "verdicts": "v"}
-
-# The script whose answers are stored beside the program `keyset`.
-STORED = "algorithm-roll.script"
 
 # Three digits hold the number of requests before the work.
 MOST = 999
@@ -160,9 +157,9 @@ def in_turn(program, works, judge):
 
 
 def is_not_stored(title, outcome):
-    """This is the script whose answers are stored, and they are others."""
-    stored = (TOP / "crates" / "keyset" / "stdout").read_text().splitlines()
-    return title == STORED and outcome.written != stored
+    """This is a script, and its answers are others than those that stand beside it."""
+    stored = (TOP / "examples" / title).with_suffix(".answers")
+    return stored.is_file() and outcome.written != stored.read_text().splitlines()
 
 
 def judge_script(where, has_failed, outcome, whole):

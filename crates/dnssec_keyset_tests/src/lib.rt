@@ -8,8 +8,6 @@ mod algorithm_roll;
 #[cfg(test)]
 mod csk_roll;
 #[cfg(test)]
-mod guide;
-#[cfg(test)]
 mod keys;
 #[cfg(test)]
 mod ksk_rolls;

@@ -1,0 +1,25 @@
+//! The callers that the READMEs show: one of each crate that a user names.
+#![tactic(auto)]
+
+mod first_keys;
+mod names;
+mod verdicts;
+
+use anyhow::Result;
+
+/// A KSK roll before the first keys have come in.
+const TOO_SOON: &str = "zone example.com
+add-ksk F - 13 0 0 yes
+add-ksk K - 13 1 0 yes
+start ksk-roll F K 0
+report1 ksk-roll 60 10
+wait1 ksk-roll 70
+";
+
+fn main(rt: HostRuntime) -> Result<()> {
+    println!(rt; "{}", names::describe(rt.alloc(), "a\\.b.example.com.")?)?;
+    println!(rt; "{}", names::describe(rt.alloc(), "a..b")?)?;
+    println!(rt; "{:?}", first_keys::bring_in(rt.alloc())?)?;
+    println!(rt; "{}", verdicts::judge(rt.alloc(), TOO_SOON)?)?;
+    Ok(())
+}

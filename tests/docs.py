@@ -1,0 +1,259 @@
+#!/usr/bin/env python3
+"""Compares what the documents print with what it was taken from, without a build.
+
+    tests/docs.py            compares, and fails with the place of each difference
+    tests/docs.py --write    writes the answers, the stored examples and the blocks anew
+
+A fenced block that shows a script, answers or a source names its file behind the language:
+
+    ```text examples/ksk-roll.script 10- answered
+
+that is: the lines from 10 on, each call with its answer behind it, and at the end the lines of the
+published sets and of the chain. Without `answered` the lines stand alone, and without a range all
+of them do. `after-first-roll` puts `(first roll)` in the place of a script's first nine lines.
+
+What is compared:
+
+- each block with its file; a block that names none may show neither calls nor answers;
+- each answer that a text quotes, as `chain safe`: it has to be an answer of an example, and behind
+  a script that is shown without answers one of that script's;
+- each `NAME.answers` with what `replay/tables.py` answers to `NAME.script`, and both with the
+  script of this name that the crate `replay` runs: so `rt ci` compares them with the program;
+- what `examples/due.py` prints with `examples/due.stdout`;
+- each link with the file and the heading that it leads to.
+"""
+
+import re
+import subprocess
+import sys
+from pathlib import Path
+
+sys.dont_write_bytecode = True
+TOP = Path(__file__).resolve().parent.parent
+sys.path.insert(0, str(TOP / "replay"))
+
+from make_sample import examples  # noqa: E402
+from tables import answers  # noqa: E402
+
+STORED = TOP / "crates" / "replay" / "data" / "scripts.txt"
+FIRST_ROLL = (TOP / "examples" / "ksk-roll.script").read_text().splitlines()[:9]
+
+FENCE = re.compile(r"```(?P<language>\w*) ?(?P<path>\S*)(?P<how>.*)")
+RANGE = re.compile(r"(?P<first>\d+)-(?P<last>\d*)")
+# A line of a script or of its answers.
+SAID = re.compile(
+    r"(zone|add-\w+|set-[\w-]+|delete|start|report[12]|wait[12]|done) \S"
+    r"|ok($| [A-Z])|refused: |ds=\S+ dnskey=|chain (safe|broken)"
+)
+# A whole answer in a line of text, between backticks.
+QUOTED = re.compile(
+    r"`(ok(?: [A-Z]\w+)+|refused: [^`]*[^` ]|ds=\S+ dnskey=\S+ signers=\S+ zone=\S+"
+    r"|chain safe|chain broken at=\d[^`]*)`"
+)
+# What another program answers.
+OF_ANOTHER = "| Original |"
+LINK = re.compile(r"\[[^][]*\]\(([^)\s]+)\)")
+
+
+def documents():
+    """The texts that are compared."""
+    found = [TOP / "README.md", *sorted((TOP / "docs").glob("*.md"))]
+    return found + sorted(TOP.glob("crates/*/README.md")) + [TOP / "replay" / "README.md"]
+
+
+def in_range(lines, how):
+    """The lines that the range among these words names; all without one. And whether they reach the
+    end."""
+    for word in how:
+        if match := RANGE.fullmatch(word):
+            last = int(match["last"] or len(lines))
+            return lines[int(match["first"]) - 1 : last], last == len(lines)
+    return lines, True
+
+
+def rendered(path, how):
+    """The lines of a block that shows a file."""
+    lines = (TOP / path).read_text().splitlines()
+    if "after-first-roll" in how:
+        if lines[:9] != FIRST_ROLL:
+            raise ValueError(f"{path} doesn't begin with the first roll")
+        return ["(first roll)", *lines[9:]]
+    if "answered" not in how:
+        return in_range(lines, how)[0]
+    told = (TOP / path).with_suffix(".answers").read_text().splitlines()
+    pairs, is_whole = in_range(list(zip(lines, ["", *told])), how)
+    if is_whole:
+        pairs = pairs + [("", line) for line in told[-2:]]
+    width = max(len(line) for line, _ in pairs)
+    return [f"{line:{width}}  {answer}".rstrip() for line, answer in pairs]
+
+
+class Document:
+    """A text with its blocks. `wrong` gathers what differs."""
+
+    def __init__(self, path, known, wrong):
+        self.path, self.known, self.wrong = path, known, wrong
+        self.name = str(path.relative_to(TOP))
+        self.lines = path.read_text().splitlines()
+        self.blocks = self.quoted = 0
+        # The answers of the script that was shown last without them.
+        self.shown = None
+
+    def fault(self, number, text):
+        self.wrong.append(f"{self.name}:{number + 1}: {text}")
+
+    def walk(self):
+        """Compares all, and gives the lines as they ought to be."""
+        made, number, paragraph = [], 0, []
+        while number < len(self.lines):
+            line = self.lines[number]
+            made.append(line)
+            if paragraph and (not line or line[0] in "#|`"):
+                self.text(number - len(paragraph), " ".join(paragraph))
+                paragraph = []
+            if line.startswith("```"):
+                end = self.lines.index("```", number + 1)
+                made += self.block(number, line, self.lines[number + 1 : end])
+                made.append("```")
+                number = end
+            elif line:
+                paragraph.append(line.strip())
+            number += 1
+        self.text(number - len(paragraph), " ".join(paragraph))
+        return made
+
+    def block(self, number, fence, body):
+        match = FENCE.fullmatch(fence)
+        path, how = match["path"], match["how"].split()
+        if not path:
+            if any(SAID.match(line) for line in body):
+                self.fault(number, "a block of calls or answers that names no file")
+            return body
+        self.blocks += 1
+        if not (TOP / path).is_file():
+            self.fault(number, f"there is no {path}")
+            return body
+        wanted = rendered(path, how)
+        if body != wanted:
+            self.fault(number, f"the block is not that of {path}")
+        self.shown = None
+        if path.endswith(".script") and "answered" not in how:
+            self.shown = (TOP / path).with_suffix(".answers").read_text().splitlines()
+        return wanted
+
+    def text(self, number, line):
+        if line.startswith("#"):
+            self.shown = None
+        if line.startswith(OF_ANOTHER):
+            return
+        for answer in QUOTED.findall(line):
+            self.quoted += 1
+            if answer not in (self.known if self.shown is None else self.shown):
+                self.fault(number, f"no example answers {answer!r} here")
+
+
+def anchors(path):
+    """The headings of a text, as links name them."""
+    found, is_block = set(), False
+    for line in path.read_text().splitlines():
+        is_block ^= line.startswith("```")
+        if line.startswith("#") and not is_block:
+            words = re.sub(r"[^\w\- ]", "", line.lstrip("#").strip().lower())
+            found.add(words.replace(" ", "-"))
+    return found
+
+
+def check_links(path, wrong):
+    """Compares the links of a text with what they lead to, and counts them."""
+    count, text = 0, path.read_text()
+    for match in LINK.finditer(text):
+        link = match[1]
+        if "://" in link:
+            continue
+        count += 1
+        file, _, anchor = link.partition("#")
+        target = (path.parent / file).resolve() if file else path
+        where = f"{path.relative_to(TOP)}:{text.count(chr(10), 0, match.start()) + 1}"
+        if not target.exists():
+            wrong.append(f"{where}: the link {link} leads nowhere")
+        elif anchor and anchor not in anchors(target):
+            wrong.append(f"{where}: the link {link} leads to no heading")
+    return count
+
+
+def stored_text(scripts):
+    """The stored scripts: all but the examples as they are, and behind them the examples."""
+    text = STORED.read_text()
+    parts = [text[: text.index("\n== example-")]]
+    for name, path in scripts.items():
+        told = path.with_suffix(".answers").read_text()
+        parts.append(f"\n== {name}\n{path.read_text()}-- answers\n{told}")
+    return "".join(parts)
+
+
+def check_examples(scripts, wrong):
+    """Compares the answers beside the scripts with the tables and with what is replayed."""
+    for path in scripts.values():
+        name = path.relative_to(TOP)
+        beside = path.with_suffix(".answers")
+        if not beside.is_file():
+            wrong.append(f"{name}: no answers stand beside it")
+        elif beside.read_text().splitlines() != answers(path.read_text().splitlines()):
+            wrong.append(f"{name}: the tables answer otherwise")
+    for path in (TOP / "examples").rglob("*.answers"):
+        if not path.with_suffix(".script").is_file():
+            wrong.append(f"{path.relative_to(TOP)}: it has no script")
+    if not wrong and STORED.read_text() != stored_text(scripts):
+        wrong.append(f"{STORED.relative_to(TOP)}: its examples are not those of examples/")
+
+
+def check_due(wrong):
+    """Runs the caller in Python, with stored answers in the program's place."""
+    folder = TOP / "examples"
+    script = folder / "algorithm-roll.script"
+    done = subprocess.run(
+        [sys.executable, folder / "due.py", "cat", script.with_suffix(".answers")],
+        stdin=script.open(), capture_output=True, text=True,
+    )
+    if done.returncode or done.stdout != (folder / "due.stdout").read_text():
+        wrong.append(f"examples/due.py: status {done.returncode}\n{done.stdout}{done.stderr}")
+
+
+def write(scripts):
+    """Writes anew what is compared, from the scripts and the sources."""
+    for path in scripts.values():
+        told = answers(path.read_text().splitlines())
+        path.with_suffix(".answers").write_text("\n".join(told) + "\n")
+    STORED.write_text(stored_text(scripts))
+    for path in documents():
+        path.write_text("\n".join(Document(path, set(), []).walk()) + "\n")
+
+
+def main():
+    scripts = examples()
+    if sys.argv[1:] == ["--write"]:
+        write(scripts)
+    wrong, blocks, quoted, links = [], 0, 0, 0
+    check_examples(scripts, wrong)
+    check_due(wrong)
+    known = set()
+    for path in scripts.values():
+        beside = path.with_suffix(".answers")
+        known.update(beside.read_text().splitlines() if beside.is_file() else [])
+    for path in documents():
+        document = Document(path, known, wrong)
+        document.walk()
+        blocks, quoted = blocks + document.blocks, quoted + document.quoted
+        links += check_links(path, wrong)
+    if wrong:
+        print(*wrong, f"docs: {len(wrong)} differences", sep="\n")
+        return 1
+    print(
+        f"docs: {len(scripts)} examples, {blocks} blocks, {quoted} quoted answers and {links} links"
+        " are as they stand"
+    )
+    return 0
+
+
+if __name__ == "__main__":
+    sys.exit(main())
