@@ -1,0 +1,33 @@
+"""Plays a script line by line, as a tool does over days: makes each call on the key set that the
+calls before it have left, and prints what the program `keyset` prints.
+
+    python3 roll.py <../../examples/ksk-roll.script
+"""
+
+import sys
+
+from keyset import KeySet, Refused
+
+
+def text(keys: list[str]) -> str:
+    return ",".join(keys) or "-"
+
+
+def main() -> None:
+    keys = KeySet(next(sys.stdin).rstrip("\n").removeprefix("zone "))
+    for line in sys.stdin:
+        try:
+            print("ok", *(action.value for action in keys.call(line.rstrip("\n"))))
+        except Refused as reason:
+            # Too early, or out of turn: the call may be made again.
+            print(f"refused: {reason}")
+    now = keys.published
+    print(
+        f"ds={text(now.ds)} dnskey={text(now.dnskey)}"
+        f" signers={text(now.dnskey_signers)} zone={text(now.zone_signers)}"
+    )
+    print(f"chain {keys.chain}")
+
+
+if __name__ == "__main__":
+    main()

@@ -1,0 +1,45 @@
+//! Plays a script line by line, as a tool does over days: makes each call on the key set that the
+//! calls before it have left, and prints what the program `keyset` prints.
+//!
+//!     cargo run <../../examples/ksk-roll.script
+
+use keyset::{Error, KeySet, Published};
+use std::io::{BufRead, stdin};
+
+fn main() -> Result<(), Box<dyn std::error::Error>> {
+    let mut lines = stdin().lock().lines();
+    let first = lines.next().ok_or(Error::Malformed { line: 1 })??;
+    let zone = first
+        .strip_prefix("zone ")
+        .ok_or(Error::Malformed { line: 1 })?;
+    let mut keys = KeySet::new(zone)?;
+    for line in lines {
+        match keys.call(&line?) {
+            Ok(due) => {
+                let due: String = due.iter().map(|action| format!(" {action}")).collect();
+                println!("ok{due}");
+            }
+            // Too early, or out of turn: the call may be made again.
+            Err(error @ Error::Refused { .. }) => println!("{error}"),
+            Err(error) => return Err(error.into()),
+        }
+    }
+    let Published {
+        ds,
+        dnskey,
+        dnskey_signers,
+        zone_signers,
+    } = keys.published();
+    let [ds, dnskey, signers, zone] = [ds, dnskey, dnskey_signers, zone_signers].map(text);
+    println!("ds={ds} dnskey={dnskey} signers={signers} zone={zone}");
+    println!("chain {}", keys.chain());
+    Ok(())
+}
+
+fn text(keys: &Vec<String>) -> String {
+    if keys.is_empty() {
+        "-".to_owned()
+    } else {
+        keys.join(",")
+    }
+}
