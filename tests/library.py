@@ -54,24 +54,32 @@ def below(crate):
     return [name for name in listed[crate] if name in listed]
 
 
+def kit():
+    """The folder of the toolchain."""
+    return Path(run("rt", "doc").strip()).parent
+
+
 def build(archive):
     """Builds the static library over what `rt ci` has proved, and proves it once more by this."""
-    kit = Path(run("rt", "doc").strip()).parent
+    top = kit()
     words = ["--crate-name", "keyset_c", "src/lib.rt", "--crate-type", "staticlib"]
-    words += ["--extern", f"std={kit}/rlibs/std.rlib", "-L", f"dependency={kit}/rlibs"]
+    words += ["--extern", f"std={top}/rlibs/std.rlib", "-L", f"dependency={top}/rlibs"]
     for name in below("keyset_c"):
         words += ["--extern", f"{name}={CRATES / name}/out/rlib/{name}.rlib"]
     for folder in CRATES.glob("*/out/rlib"):
         words += ["-L", f"dependency={folder}"]
-    words += ["--antt-project", kit / "rattle" / "logic" / "antt-project.json"]
-    words += ["--logic-built", kit / "logic_built", "--toolchain", kit / "toolchain"]
-    run(kit / "bin" / "rattle", "build", *words, "-o", archive, cwd=CRATES / "keyset_c")
+    words += ["--antt-project", top / "rattle" / "logic" / "antt-project.json"]
+    words += ["--logic-built", top / "logic_built", "--toolchain", top / "toolchain"]
+    run(top / "bin" / "rattle", "build", *words, "-o", archive, cwd=CRATES / "keyset_c")
 
 
 def expect_exports(folder):
+    # The tools of the toolchain are one file, which does what its name says.
+    tools = kit() / "toolchain" / "bin" / "clang"
     for file, flags in (("libkeyset.a", []), ("libkeyset.so", ["-D"])):
-        said = run("nm", "--defined-only", "--extern-only", *flags, folder / "lib" / file)
-        exported = {line.split()[2] for line in said.splitlines() if len(line.split()) == 3}
+        words = ["llvm-nm", "--defined-only", "--extern-only", *flags, folder / "lib" / file]
+        named = [line.split() for line in run(*words, executable=tools).splitlines()]
+        exported = {words[2] for words in named if len(words) == 3}
         if exported != EXPORTS:
             raise Wrong(f"{file} exports {sorted(exported)}")
 
