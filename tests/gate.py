@@ -64,7 +64,8 @@ class Library(threading.Thread):
             self.start()
 
     def run(self):
-        self.test = subprocess.run([TOP / "tests" / "library.py"], stdout=subprocess.PIPE, text=True)
+        words = [TOP / "tests" / "library.py"]
+        self.test = subprocess.run(words, stdout=subprocess.PIPE, text=True)
         note("library")
 
     def has_failed(self):

@@ -121,13 +121,38 @@ def damaged(script, chance):
     return bytes(script)
 
 
-def test_damaged(folder):
-    """Scripts with damaged bytes are answered by the library as by the program."""
+def python_module(folder):
     os.environ["KEYSET_LIBRARY"] = str(folder / "lib" / "libkeyset.so")
     sys.dont_write_bytecode = True
     sys.path.insert(0, str(LIBRARY / "python"))
     import keyset
 
+    return keyset
+
+
+def test_resumed(keyset):
+    """After each call a key set goes on from its lines, whatever was being written behind them."""
+    calls = 0
+    for path in EXAMPLES:
+        zone, *lines = path.read_text().splitlines()
+        keys = keyset.KeySet(zone.removeprefix("zone "))
+        for line in lines:
+            before = keys.script
+            try:
+                due = keys.call(line)
+            except keyset.Refused:
+                if keys.script != before:
+                    raise Wrong(f"{path.name}: {line}: refused, and changed the key set") from None
+                continue
+            resumed = keyset.KeySet.resume(before + line[:-1])
+            if (resumed.call(line), vars(resumed)) != (due, vars(keys)):
+                raise Wrong(f"{path.name}: {line}: another key set goes on")
+            calls += 1
+    return f"a key set in Python goes on after each of {calls} calls"
+
+
+def test_damaged(keyset):
+    """Scripts with damaged bytes are answered by the library as by the program."""
     chance = random.Random("damaged")
     scripts = [b"", b"\n", b"zone .", b"zone example.com\n"]
     for path in EXAMPLES:
@@ -161,7 +186,8 @@ def test_c_caller(compiler, folder, room):
 
 def test_rust_caller(folder, room):
     made = {**os.environ, "KEYSET_LIB": str(folder / "lib"), "CARGO_TARGET_DIR": str(room / "rust")}
-    run("cargo", "build", "--quiet", "--offline", "--locked", cwd=LIBRARY / "rust", env=made)
+    for what in ("test", "build"):
+        run("cargo", what, "--quiet", "--offline", "--locked", cwd=LIBRARY / "rust", env=made)
     return expect_rolls("Rust", [room / "rust" / "debug" / "keyset"])
 
 
@@ -183,7 +209,9 @@ def test(folder, room):
     else:
         yield "there is no cargo here: the caller in Rust has not run"
     yield test_python_caller(folder)
-    yield test_damaged(folder)
+    keyset = python_module(folder)
+    yield test_resumed(keyset)
+    yield test_damaged(keyset)
 
 
 def main():

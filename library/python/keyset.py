@@ -43,6 +43,11 @@ class Published:
     dnskey_signers: list[str]
     zone_signers: list[str]
 
+    def __str__(self) -> str:
+        sets = (self.ds, self.dnskey, self.dnskey_signers, self.zone_signers)
+        ds, dnskey, signers, zone = (",".join(keys) or "-" for keys in sets)
+        return f"ds={ds} dnskey={dnskey} signers={signers} zone={zone}"
+
 
 class Refused(Exception):
     """The call was refused for this reason. Nothing has changed."""

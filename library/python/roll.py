@@ -9,10 +9,6 @@ import sys
 from keyset import KeySet, Refused
 
 
-def text(keys: list[str]) -> str:
-    return ",".join(keys) or "-"
-
-
 def main() -> None:
     keys = KeySet(next(sys.stdin).rstrip("\n").removeprefix("zone "))
     for line in sys.stdin:
@@ -21,11 +17,7 @@ def main() -> None:
         except Refused as reason:
             # Too early, or out of turn: the call may be made again.
             print(f"refused: {reason}")
-    now = keys.published
-    print(
-        f"ds={text(now.ds)} dnskey={text(now.dnskey)}"
-        f" signers={text(now.dnskey_signers)} zone={text(now.zone_signers)}"
-    )
+    print(keys.published)
     print(f"chain {keys.chain}")
 
 

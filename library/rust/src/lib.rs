@@ -119,6 +119,23 @@ impl Published {
     }
 }
 
+impl fmt::Display for Published {
+    /// Writes that line.
+    fn fmt(&self, f: &mut fmt::Formatter<'_>) -> fmt::Result {
+        let [ds, dnskey, signers, zone] = [
+            &self.ds,
+            &self.dnskey,
+            &self.dnskey_signers,
+            &self.zone_signers,
+        ]
+        .map(|keys| match keys.as_slice() {
+            [] => "-".to_owned(),
+            keys => keys.join(","),
+        });
+        write!(f, "ds={ds} dnskey={dnskey} signers={signers} zone={zone}")
+    }
+}
+
 /// A key set, as the lines that were accepted.
 #[derive(Clone, Debug)]
 pub struct KeySet {
@@ -222,5 +239,58 @@ fn actions(reply: &str) -> Result<Vec<Action>, Error> {
         Some(reason) => Err(Error::Refused {
             reason: reason.to_owned(),
         }),
+    }
+}
+
+#[cfg(test)]
+mod tests {
+    use super::*;
+
+    const FIRST: [&str; 5] = [
+        "add-ksk K1 - 13 0 0 yes",
+        "add-zsk Z1 - 13 1 0 yes",
+        "start algorithm-roll - K1,Z1 0",
+        "report1 algorithm-roll 3600 100",
+        "wait1 algorithm-roll 3700",
+    ];
+
+    #[test]
+    fn a_roll_goes_on_after_a_crash() -> Result<(), Error> {
+        let mut keys = KeySet::new("example.com")?;
+        for line in &FIRST[..4] {
+            keys.call(line)?;
+        }
+        let mut keys = KeySet::resume(&format!("{}wait1 algorithm-roll 37", keys.script()))?;
+        let due = keys.call(FIRST[4])?;
+        assert!(due.contains(&Action::UpdateDsRrset));
+        assert_eq!(keys.published().ds, ["K1"]);
+        assert_eq!(keys.chain(), "safe");
+        Ok(())
+    }
+
+    #[test]
+    fn a_refused_call_changes_nothing() -> Result<(), Error> {
+        let mut keys = KeySet::new("example.com")?;
+        for line in &FIRST[..4] {
+            keys.call(line)?;
+        }
+        let before = keys.script().to_owned();
+        let reason = "wait for duration 1s".to_owned();
+        let early = keys.call("wait1 algorithm-roll 3699");
+        assert_eq!(early, Err(Error::Refused { reason }));
+        assert_eq!(keys.script(), before);
+        Ok(())
+    }
+
+    #[test]
+    fn a_malformed_line_is_told() -> Result<(), Error> {
+        let mut keys = KeySet::new("example.com")?;
+        keys.call(FIRST[0])?;
+        let malformed = Err(Error::Malformed { line: 3 });
+        assert_eq!(keys.call("delete"), malformed);
+        assert_eq!(keys.call("delete K1\ndelete K1"), malformed);
+        assert!(KeySet::new("a..b").is_err());
+        assert!(KeySet::resume("").is_err());
+        Ok(())
     }
 }

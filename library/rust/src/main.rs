@@ -3,7 +3,7 @@
 //!
 //!     cargo run <../../examples/ksk-roll.script
 
-use keyset::{Error, KeySet, Published};
+use keyset::{Error, KeySet};
 use std::io::{BufRead, stdin};
 
 fn main() -> Result<(), Box<dyn std::error::Error>> {
@@ -24,22 +24,7 @@ fn main() -> Result<(), Box<dyn std::error::Error>> {
             Err(error) => return Err(error.into()),
         }
     }
-    let Published {
-        ds,
-        dnskey,
-        dnskey_signers,
-        zone_signers,
-    } = keys.published();
-    let [ds, dnskey, signers, zone] = [ds, dnskey, dnskey_signers, zone_signers].map(text);
-    println!("ds={ds} dnskey={dnskey} signers={signers} zone={zone}");
+    println!("{}", keys.published());
     println!("chain {}", keys.chain());
     Ok(())
-}
-
-fn text(keys: &Vec<String>) -> String {
-    if keys.is_empty() {
-        "-".to_owned()
-    } else {
-        keys.join(",")
-    }
 }
