@@ -15,6 +15,7 @@ from enum import Enum
 from pathlib import Path
 
 VERSION = 1
+EARLY = "wait for duration "
 MADE = Path(__file__).resolve().parent.parent / "out" / "lib" / "libkeyset.so"
 
 
@@ -51,6 +52,14 @@ class Published:
 
 class Refused(Exception):
     """The call was refused for this reason. Nothing has changed."""
+
+
+class Early(Refused):
+    """The wait isn't over: ask again after so many seconds."""
+
+    def __init__(self, reason: str) -> None:
+        super().__init__(reason)
+        self.seconds = int(reason.removeprefix(EARLY).removesuffix("s"))
 
 
 class Malformed(ValueError):
@@ -108,20 +117,22 @@ def answer(script: bytes) -> str:
 class KeySet:
     """A key set, as the lines that were accepted."""
 
+    due: dict[str, list[Action]]
+    """What is due now, by the roll in progress that asks for it."""
     published: Published
+    """What is to be published now."""
     chain: str
     """Whether the chain of trust held all the time: `safe`, or `broken` and where."""
 
     def __init__(self, zone: str) -> None:
-        self._keep([f"zone {zone}"], _replies([f"zone {zone}"]))
+        self._keep([f"zone {zone}"])
 
     @classmethod
     def resume(cls, script: str) -> KeySet:
         """Goes on with the lines of a script, each of which was accepted. What stands behind the
         last line feed was not written to its end, and is left out."""
         made = cls.__new__(cls)
-        lines = script.split("\n")[:-1]
-        made._keep(lines, _replies(lines))
+        made._keep(script.split("\n")[:-1])
         return made
 
     @property
@@ -130,33 +141,48 @@ class KeySet:
         return _text(self._lines)
 
     def call(self, line: str) -> list[Action]:
-        """Makes a call, a line of a script, and gives what is due. Refused, it changes nothing."""
-        lines = [*self._lines, line]
-        replies = _replies(lines)
-        self._keep(lines, replies)
-        return [Action(name) for name in replies[len(lines) - 2].split(" ")[1:]]
+        """Makes a call, a line of a script, and gives what it asks for. Refused, it changes
+        nothing."""
+        replies = self._keep([*self._lines, line])
+        return _actions(replies[-1])
 
-    def _keep(self, lines: list[str], replies: list[str]) -> None:
+    def _keep(self, lines: list[str]) -> list[str]:
+        """Goes over to these lines, if each is accepted, and gives the answers to the calls."""
+        *replies, sets, chain = _answers(lines)
         self._lines = lines
-        sets = (part.partition("=")[2] for part in replies[-2].split(" "))
-        self.published = Published(*([] if keys == "-" else keys.split(",") for keys in sets))
-        self.chain = replies[-1].removeprefix("chain ")
+        self.due = {}
+        for call, reply in zip(lines[1:], replies):
+            word, roll = call.split(" ")[:2]
+            if word in ("start", "report1", "wait1", "report2", "wait2"):
+                self.due[roll] = _actions(reply)
+            elif word == "done":
+                del self.due[roll]
+        keys = (part.partition("=")[2] for part in sets.split(" "))
+        self.published = Published(*([] if it == "-" else it.split(",") for it in keys))
+        self.chain = chain.removeprefix("chain ")
+        return replies
 
 
 def _text(lines: list[str]) -> str:
     return "".join(f"{line}\n" for line in lines)
 
 
-def _replies(lines: list[str]) -> list[str]:
+def _actions(reply: str) -> list[Action]:
+    return [Action(name) for name in reply.split(" ")[1:]]
+
+
+def _answers(lines: list[str]) -> list[str]:
     """The lines of the answer to a script of which each call is accepted. One that was accepted
     before is refused now only where memory is wanting."""
     if any("\n" in line for line in lines):
         raise Malformed(len(lines))
-    replies = answer(_text(lines).encode()).split("\n")[:-1]
-    for reply in replies:
+    answers = answer(_text(lines).encode()).split("\n")[:-1]
+    for reply in answers:
         reason = reply.removeprefix("refused: ")
         if reason == "out of memory":
             raise MemoryError
+        if reason.startswith(EARLY):
+            raise Early(reason)
         if reason != reply:
             raise Refused(reason)
-    return replies
+    return answers

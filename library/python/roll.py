@@ -15,7 +15,7 @@ def main() -> None:
         try:
             print("ok", *(action.value for action in keys.call(line.rstrip("\n"))))
         except Refused as reason:
-            # Too early, or out of turn: the call may be made again.
+            # Nothing has changed: a wait that is too early may be made again.
             print(f"refused: {reason}")
     print(keys.published)
     print(f"chain {keys.chain}")

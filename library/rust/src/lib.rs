@@ -3,6 +3,7 @@
 //! A [`KeySet`] keeps the lines of a script that were accepted. They are its whole state: write
 //! them to a file, and [`KeySet::resume`] goes on with them.
 
+use std::collections::BTreeMap;
 use std::{error, fmt};
 
 mod c {
@@ -28,11 +29,15 @@ mod c {
     }
 }
 
+const EARLY: &str = "wait for duration ";
+
 /// Why there is no answer.
 #[derive(Clone, Debug, PartialEq, Eq)]
 pub enum Error {
     /// This line of the script, counted from 1, is the first that hasn't its form.
     Malformed { line: usize },
+    /// The wait isn't over, and nothing has changed: ask again after so many seconds.
+    Early { seconds: u64 },
     /// The call was refused for this reason. Nothing has changed.
     Refused { reason: String },
     /// Nothing has changed, and the call may be made again.
@@ -43,6 +48,7 @@ impl fmt::Display for Error {
     fn fmt(&self, f: &mut fmt::Formatter<'_>) -> fmt::Result {
         match self {
             Error::Malformed { line } => write!(f, "line {line}: malformed"),
+            Error::Early { seconds } => write!(f, "refused: {EARLY}{seconds}s"),
             Error::Refused { reason } => write!(f, "refused: {reason}"),
             Error::OutOfMemory => f.write_str("out of memory"),
         }
@@ -140,6 +146,7 @@ impl fmt::Display for Published {
 #[derive(Clone, Debug)]
 pub struct KeySet {
     script: String,
+    due: BTreeMap<String, Vec<Action>>,
     published: Published,
     chain: String,
 }
@@ -160,7 +167,7 @@ impl KeySet {
         Ok(KeySet::accepting(script[..end].to_owned())?.0)
     }
 
-    /// Makes a call, a line of a script, and gives what is due. Refused, it changes nothing.
+    /// Makes a call, a line of a script, and gives what it asks for. Refused, it changes nothing.
     pub fn call(&mut self, line: &str) -> Result<Vec<Action>, Error> {
         if line.contains('\n') {
             let line = self.script.lines().count() + 1;
@@ -176,7 +183,12 @@ impl KeySet {
         &self.script
     }
 
-    /// What is published now.
+    /// What is due now, by the roll in progress that asks for it.
+    pub fn due(&self) -> &BTreeMap<String, Vec<Action>> {
+        &self.due
+    }
+
+    /// What is to be published now.
     pub fn published(&self) -> &Published {
         &self.published
     }
@@ -186,7 +198,7 @@ impl KeySet {
         &self.chain
     }
 
-    /// The key set of a script of which each call is accepted, and what is due after the last. A
+    /// The key set of a script of which each call is accepted, and what the last one asks for. A
     /// call that was accepted before is refused now only where memory is wanting.
     fn accepting(script: String) -> Result<(Self, Vec<Action>), Error> {
         let text = answer(&script)?;
@@ -194,16 +206,31 @@ impl KeySet {
         let [replies @ .., sets, chain] = lines.as_slice() else {
             unreachable!("an answer ends with the sets and the verdict");
         };
-        let mut due = Vec::new();
-        for reply in replies {
-            due = actions(reply)?;
+        let mut due = BTreeMap::new();
+        let mut asked = Vec::new();
+        for (call, reply) in script.lines().skip(1).zip(replies) {
+            asked = actions(reply)?;
+            match call.split(' ').collect::<Vec<_>>().as_slice() {
+                [
+                    "start" | "report1" | "wait1" | "report2" | "wait2",
+                    roll,
+                    ..,
+                ] => {
+                    due.insert(roll.to_string(), asked.clone());
+                }
+                ["done", roll] => {
+                    due.remove(*roll);
+                }
+                _ => {}
+            }
         }
         let set = KeySet {
             script,
+            due,
             published: Published::read(sets),
             chain: chain.trim_start_matches("chain ").to_owned(),
         };
-        Ok((set, due))
+        Ok((set, asked))
     }
 }
 
@@ -233,13 +260,21 @@ pub fn version() -> u32 {
 
 /// The actions of an accepted call.
 fn actions(reply: &str) -> Result<Vec<Action>, Error> {
-    match reply.strip_prefix("refused: ") {
-        None => Ok(reply.split(' ').filter_map(Action::named).collect()),
-        Some("out of memory") => Err(Error::OutOfMemory),
-        Some(reason) => Err(Error::Refused {
-            reason: reason.to_owned(),
-        }),
+    let Some(reason) = reply.strip_prefix("refused: ") else {
+        return Ok(reply.split(' ').filter_map(Action::named).collect());
+    };
+    if reason == "out of memory" {
+        return Err(Error::OutOfMemory);
     }
+    let left = reason
+        .strip_prefix(EARLY)
+        .and_then(|it| it.strip_suffix('s'));
+    Err(match left.and_then(|it| it.parse().ok()) {
+        Some(seconds) => Error::Early { seconds },
+        None => Error::Refused {
+            reason: reason.to_owned(),
+        },
+    })
 }
 
 #[cfg(test)]
@@ -261,8 +296,10 @@ mod tests {
             keys.call(line)?;
         }
         let mut keys = KeySet::resume(&format!("{}wait1 algorithm-roll 37", keys.script()))?;
-        let due = keys.call(FIRST[4])?;
-        assert!(due.contains(&Action::UpdateDsRrset));
+        assert_eq!(keys.due()["algorithm-roll"], []);
+        let asked = keys.call(FIRST[4])?;
+        assert!(asked.contains(&Action::UpdateDsRrset));
+        assert_eq!(keys.due()["algorithm-roll"], asked);
         assert_eq!(keys.published().ds, ["K1"]);
         assert_eq!(keys.chain(), "safe");
         Ok(())
@@ -275,9 +312,11 @@ mod tests {
             keys.call(line)?;
         }
         let before = keys.script().to_owned();
-        let reason = "wait for duration 1s".to_owned();
         let early = keys.call("wait1 algorithm-roll 3699");
-        assert_eq!(early, Err(Error::Refused { reason }));
+        assert_eq!(early, Err(Error::Early { seconds: 1 }));
+        let reason = "key already exists".to_owned();
+        let twice = keys.call("add-ksk K1 - 13 2 0 yes");
+        assert_eq!(twice, Err(Error::Refused { reason }));
         assert_eq!(keys.script(), before);
         Ok(())
     }

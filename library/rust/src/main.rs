@@ -15,12 +15,12 @@ fn main() -> Result<(), Box<dyn std::error::Error>> {
     let mut keys = KeySet::new(zone)?;
     for line in lines {
         match keys.call(&line?) {
-            Ok(due) => {
-                let due: String = due.iter().map(|action| format!(" {action}")).collect();
-                println!("ok{due}");
+            Ok(asked) => {
+                let asked: String = asked.iter().map(|action| format!(" {action}")).collect();
+                println!("ok{asked}");
             }
-            // Too early, or out of turn: the call may be made again.
-            Err(error @ Error::Refused { .. }) => println!("{error}"),
+            // Nothing has changed: a wait that is too early may be made again.
+            Err(error @ (Error::Early { .. } | Error::Refused { .. })) => println!("{error}"),
             Err(error) => return Err(error.into()),
         }
     }
