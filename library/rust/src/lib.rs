@@ -173,9 +173,9 @@ impl KeySet {
             let line = self.script.lines().count() + 1;
             return Err(Error::Malformed { line });
         }
-        let (set, due) = KeySet::accepting(format!("{}{line}\n", self.script))?;
+        let (set, asked) = KeySet::accepting(format!("{}{line}\n", self.script))?;
         *self = set;
-        Ok(due)
+        Ok(asked)
     }
 
     /// The lines that were accepted.
@@ -288,6 +288,11 @@ mod tests {
         "report1 algorithm-roll 3600 100",
         "wait1 algorithm-roll 3700",
     ];
+
+    #[test]
+    fn the_library_is_of_this_version() {
+        assert_eq!(version(), 1);
+    }
 
     #[test]
     fn a_roll_goes_on_after_a_crash() -> Result<(), Error> {
