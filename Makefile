@@ -1,11 +1,12 @@
-# `make run` answers a script, `make build` makes the proved program, `make test` is the gate.
+# `make run` answers a script, `make build` makes the proved program, `make lib` the library for C,
+# Rust and Python, `make test` is the gate.
 
 SCRIPT ?= examples/algorithm-roll.script
 PROGRAM = crates/keyset/out/keyset
 PARTS = dnssec_base dnssec_key dnssec_keyset dnssec_run dnssec_judge dnssec_record keyset
 SOURCES = crates.txt $(wildcard $(foreach part,$(PARTS),$(addprefix crates/$(part)/,src specs proofs)))
 
-.PHONY: run build test docs memory
+.PHONY: run build lib test docs memory test-lib valgrind asan
 
 # Answers SCRIPT. The proved program does it where `make build` has made it from these sources;
 # else one that is built at once, without a proof.
@@ -21,6 +22,19 @@ run:
 build:
 	@mkdir -p crates/keyset/out
 	@cd crates/keyset && rt run <stdin >out/build.log 2>&1 || { cat out/build.log >&2; exit 1; }
+
+# Proves the library and the crates below it, and makes of it what callers link: library/out has an
+# archive, a shared object, their header and a file for pkg-config.
+lib:
+	@mkdir -p crates/keyset_c/out
+	@cd crates/keyset_c && rt lib >out/build.log 2>&1 || { cat out/build.log >&2; exit 1; }
+	@library/pack.sh crates/keyset_c/out/libkeyset_c.a library/out
+
+# Tests what `make lib` has made; under a checker of memory its tests in C alone.
+test-lib: build lib
+	@tests/library.py library/out
+valgrind asan: lib
+	@tests/library.py library/out $@
 
 # What the documents print is compared with the examples; each request for memory fails in turn;
 # then every proof, edit, test and program. It tells when each step was done.

@@ -1,6 +1,7 @@
 #!/usr/bin/env python3
-"""The gate: `tests/docs.py`, `tests/memory.py`, then `rt ci`. Before the last line of `rt ci` it
-tells when, in minutes and seconds since the start, each step was done, so that a rise is seen."""
+"""The gate: `tests/docs.py`, `tests/memory.py`, then `rt ci`, and beside its edits
+`tests/library.py`. Before the last line of `rt ci` it tells when, in minutes and seconds since the
+start, each step was done, so that a rise is seen."""
 
 import os
 import re
@@ -47,7 +48,36 @@ class Edits(threading.Thread):
             time.sleep(0.5)
 
 
-def prove(edits):
+class Library(threading.Thread):
+    """Tests the library once it and the program are proved, over what `rt ci` has then built."""
+
+    WANTED = {"keyset proved", "keyset_c proved"}
+
+    def __init__(self):
+        super().__init__(daemon=True)
+        self.proved = set()
+        self.test = None
+
+    def note(self, proved):
+        self.proved.add(proved)
+        if self.ident is None and self.WANTED <= self.proved:
+            self.start()
+
+    def run(self):
+        words = [TOP / "tests" / "library.py"]
+        self.test = subprocess.run(words, stdout=subprocess.PIPE, text=True)
+        note("library")
+
+    def has_failed(self):
+        """Whether a test failed, of those that were begun."""
+        if self.ident is None:
+            return False
+        self.join()
+        print(self.test.stdout, end="")
+        return self.test.returncode != 0
+
+
+def prove(edits, library):
     """Runs `rt ci`, and prints all but its last line. Gives its status and that line."""
     last = ""
     gate = subprocess.Popen(
@@ -59,6 +89,7 @@ def prove(edits):
         proved = re.fullmatch(r"rt: (\S+( its tests are)? (proved|NOT PROVED))\n", line)
         if proved:
             note(proved[1])
+            library.note(proved[1])
         begun = re.match(r"rt: (\S+): trying its must-fail edits", line)
         if begun:
             edits.begun.append(begun[1])
@@ -72,9 +103,11 @@ def main():
         if subprocess.run([TOP / "tests" / f"{step}.py"]).returncode:
             return 1
         note(step)
-    edits = Edits()
+    edits, library = Edits(), Library()
     edits.start()
-    status, last = prove(edits)
+    status, last = prove(edits, library)
+    if library.has_failed():
+        status, last = 1, "the library has failed\n"
     print("Done after, in minutes and seconds:", *STEPS, sep="\n")
     print(last, end="", flush=True)
     return status

@@ -1,0 +1,30 @@
+//! Plays a script line by line, as a tool does over days: makes each call on the key set that the
+//! calls before it have left, and prints what the program `keyset` prints.
+//!
+//!     cargo run <../../examples/ksk-roll.script
+
+use keyset::{Error, KeySet};
+use std::io::{BufRead, stdin};
+
+fn main() -> Result<(), Box<dyn std::error::Error>> {
+    let mut lines = stdin().lock().lines();
+    let first = lines.next().ok_or(Error::Malformed { line: 1 })??;
+    let zone = first
+        .strip_prefix("zone ")
+        .ok_or(Error::Malformed { line: 1 })?;
+    let mut keys = KeySet::new(zone)?;
+    for line in lines {
+        match keys.call(&line?) {
+            Ok(asked) => {
+                let asked: String = asked.iter().map(|action| format!(" {action}")).collect();
+                println!("ok{asked}");
+            }
+            // Nothing has changed: a wait that is too early may be made again.
+            Err(error @ (Error::Early { .. } | Error::Refused { .. })) => println!("{error}"),
+            Err(error) => return Err(error.into()),
+        }
+    }
+    println!("{}", keys.published());
+    println!("chain {}", keys.chain());
+    Ok(())
+}

@@ -1,0 +1,230 @@
+/* Tests the library at its border, over stored scripts with their answers:
+
+       library STORED [STEP]
+
+   Each script is answered as stored, in a buffer of each length up to the one needed (every STEP of
+   these, where a checker of memory makes it slow), and side by side in threads. Each request for
+   memory fails in turn. The linker has malloc, realloc and free of the library come here:
+   -Wl,--wrap=malloc,--wrap=realloc,--wrap=free */
+
+#define _GNU_SOURCE
+#include <keyset.h>
+
+#include <pthread.h>
+#include <stdbool.h>
+#include <stdio.h>
+#include <stdlib.h>
+#include <string.h>
+
+#define THREADS 4
+#define REFUSED "refused: out of memory\n"
+#define FILLER 0xA5
+
+void *__real_malloc(size_t size);
+void *__real_realloc(void *block, size_t size);
+void __real_free(void *block);
+
+/* What the library asks for while it is called: how often, which request is to fail, and how many
+   blocks it holds. */
+static _Thread_local struct {
+    bool is_called;
+    size_t made, failing, held;
+} requests;
+
+static bool is_to_fail(void)
+{
+    return requests.is_called && ++requests.made == requests.failing;
+}
+
+void *__wrap_malloc(size_t size)
+{
+    void *block = is_to_fail() ? NULL : __real_malloc(size);
+    requests.held += requests.is_called && block != NULL;
+    return block;
+}
+
+void *__wrap_realloc(void *block, size_t size)
+{
+    void *grown = is_to_fail() ? NULL : __real_realloc(block, size);
+    requests.held += requests.is_called && block == NULL && grown != NULL;
+    return grown;
+}
+
+void __wrap_free(void *block)
+{
+    requests.held -= requests.is_called && block != NULL;
+    __real_free(block);
+}
+
+struct stored {
+    const char *name;
+    const char *script, *answer;
+    size_t script_length, answer_length;
+};
+
+static void expect(bool holds, const char *what, const char *name)
+{
+    if (!holds) {
+        fprintf(stderr, "%s: not as expected: %s\n", name, what);
+        exit(EXIT_FAILURE);
+    }
+}
+
+/* A buffer of this length, of its own, so that a checker of memory sees what is past its end. */
+static uint8_t *filled(size_t length)
+{
+    uint8_t *bytes = malloc(length > 0 ? length : 1);
+    expect(bytes != NULL, "memory for a buffer", "library");
+    memset(bytes, FILLER, length);
+    return bytes;
+}
+
+static bool is_filled(const uint8_t *bytes, size_t length)
+{
+    for (size_t i = 0; i < length; i++)
+        if (bytes[i] != FILLER)
+            return false;
+    return true;
+}
+
+/* A call in which the request of this number fails, or none for 0. */
+static struct keyset_answered ask(const char *script, size_t length, uint8_t *out, size_t room,
+                                  size_t failing)
+{
+    requests.made = requests.held = 0;
+    requests.failing = failing;
+    requests.is_called = true;
+    struct keyset_answered told =
+        keyset_answer((const uint8_t *)script, length, out, room);
+    requests.is_called = false;
+    expect(requests.held == 0, "nothing is kept", "library");
+    return told;
+}
+
+static void expect_answer(const struct stored *it, size_t room)
+{
+    uint8_t *out = filled(room);
+    struct keyset_answered told = ask(it->script, it->script_length, out, room, 0);
+    expect(told.length == it->answer_length, "the length", it->name);
+    expect(told.line == 0, "no line", it->name);
+    if (room < it->answer_length) {
+        expect(told.status == KEYSET_SHORT, "short of room", it->name);
+        expect(is_filled(out, room), "nothing is written where it is short", it->name);
+    } else {
+        expect(told.status == KEYSET_ANSWERED, "answered", it->name);
+        expect(memcmp(out, it->answer, told.length) == 0, "the answer", it->name);
+        expect(is_filled(out + told.length, room - told.length), "what stands behind", it->name);
+    }
+    free(out);
+}
+
+static void expect_malformed(const char *script, size_t length, size_t line)
+{
+    uint8_t out[64];
+    memset(out, FILLER, sizeof out);
+    struct keyset_answered told = ask(script, length, out, sizeof out, 0);
+    expect(told.status == KEYSET_MALFORMED, "malformed", script);
+    expect(told.line == line && told.length == 0, "its line", script);
+    expect(is_filled(out, sizeof out), "nothing is written where it is malformed", script);
+}
+
+/* What stands before the first call that was refused for want of memory is a beginning of the
+   answer; if there is none, it is the answer. */
+static bool is_answer_until_refused(const struct stored *it, const uint8_t *out, size_t length)
+{
+    const char *refused = memmem(out, length, REFUSED, strlen(REFUSED));
+    size_t before = refused == NULL ? length : (size_t)(refused - (const char *)out);
+    return before <= it->answer_length && memcmp(out, it->answer, before) == 0
+           && (refused != NULL || length == it->answer_length);
+}
+
+/* Lets each request of a call fail. Gives how many these are. */
+static size_t fail_in_turn(const struct stored *it)
+{
+    size_t room = it->script_length + it->answer_length + 1024;
+    for (size_t failing = 1;; failing++) {
+        uint8_t *out = filled(room);
+        struct keyset_answered told = ask(it->script, it->script_length, out, room, failing);
+        if (told.status == KEYSET_OUT_OF_MEMORY) {
+            expect(told.length == 0 && told.line == 0, "no length and no line", it->name);
+            expect(is_filled(out, room), "nothing is written without memory", it->name);
+        } else {
+            expect(told.status == KEYSET_ANSWERED, "answered, or out of memory", it->name);
+            expect(is_answer_until_refused(it, out, told.length), "its calls", it->name);
+        }
+        free(out);
+        if (requests.made < failing)
+            return failing - 1;
+    }
+}
+
+static struct stored *stored;
+static size_t scripts;
+
+static void read_stored(const char *path)
+{
+    static char text[1 << 22];
+    FILE *file = fopen(path, "r");
+    expect(file != NULL, "the file of stored scripts", path);
+    text[fread(text, 1, sizeof text - 1, file)] = '\0';
+    fclose(file);
+    char *at = strstr(text, "\n== ");
+    while (at != NULL) {
+        char *name = at + strlen("\n== "), *next = strstr(name, "\n== ");
+        if (next != NULL)
+            *next = '\0';
+        char *script = strchr(name, '\n') + 1, *end = strstr(script, "-- answers\n");
+        expect(end != NULL, "a script with answers", path);
+        script[-1] = *end = '\0';
+        char *answer = end + strlen("-- answers\n");
+        stored = realloc(stored, (scripts + 1) * sizeof *stored);
+        expect(stored != NULL, "memory for the scripts", path);
+        stored[scripts++] = (struct stored){name, script, answer, strlen(script), strlen(answer)};
+        at = next;
+    }
+}
+
+static void *answer_all(void *unused)
+{
+    for (size_t i = 0; i < scripts; i++)
+        expect_answer(&stored[i], stored[i].answer_length);
+    return unused;
+}
+
+int main(int argc, char **argv)
+{
+    size_t step = argc > 2 ? strtoul(argv[2], NULL, 10) : 1, lengths = 0, failed = 0;
+    expect(argc > 1, "library STORED [STEP]", argv[0]);
+    expect(keyset_version() == KEYSET_VERSION, "the version", argv[0]);
+    read_stored(argv[1]);
+
+    for (size_t i = 0; i < scripts; i++) {
+        size_t needed = stored[i].answer_length;
+        for (size_t room = 0; room + 1 < needed; room += step, lengths++)
+            expect_answer(&stored[i], room);
+        for (size_t room = needed - 1; room < needed + 2; room++, lengths++)
+            expect_answer(&stored[i], room);
+        if (i % step == 0)
+            failed += fail_in_turn(&stored[i]);
+    }
+
+    expect_malformed("", 0, 1);
+    expect_malformed("\n", 1, 1);
+    expect_malformed("zone", 4, 1);
+    expect_malformed("zone example.com\n\n", 18, 2);
+    expect_malformed("zone example.com\ndelete K1\ndelete K1 \n", 38, 3);
+    expect_malformed("zone example.com\ndelete K1\ndelete\0K1\n", 37, 3);
+    expect_malformed("zone example.com\r\ndelete K1\n", 28, 1);
+
+    pthread_t threads[THREADS];
+    for (size_t i = 0; i < THREADS; i++)
+        expect(pthread_create(&threads[i], NULL, answer_all, NULL) == 0, "a thread", argv[0]);
+    for (size_t i = 0; i < THREADS; i++)
+        pthread_join(threads[i], NULL);
+
+    free(stored);
+    printf("%zu scripts in buffers of %zu lengths, and in %d threads; "
+           "%zu requests for memory failed in turn\n",
+           scripts, lengths, THREADS, failed);
+    return EXIT_SUCCESS;
+}

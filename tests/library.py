@@ -1,0 +1,239 @@
+#!/usr/bin/env python3
+"""Tests the library that `make lib` makes, and its callers in C, Rust and Python.
+
+    tests/library.py            builds it over the libraries that a running `rt ci` has just proved
+    tests/library.py FOLDER     takes the one that `make lib` has left there
+    tests/library.py FOLDER valgrind|asan     its tests in C alone, under a checker of memory
+
+A script and its answers are those that the crate `replay` has stored. The program `keyset` answers
+damaged scripts beside the library.
+"""
+
+import os
+import random
+import shutil
+import subprocess
+import sys
+import tempfile
+import time
+from pathlib import Path
+
+TOP = Path(__file__).resolve().parent.parent
+CRATES = TOP / "crates"
+LIBRARY = TOP / "library"
+PROGRAM = CRATES / "keyset" / "out" / "keyset"
+STORED = CRATES / "replay" / "data" / "scripts.txt"
+EXAMPLES = sorted((TOP / "examples").glob("*.script"))
+
+EXPORTS = {"keyset_answer", "keyset_version"}
+WRAPPED = [f"-Wl,--wrap={name}" for name in ("malloc", "realloc", "free")]
+STRICT = ["-std=gnu11", "-O2", "-Wall", "-Wextra", "-Werror", "-pthread"]
+# Under a checker of memory each length is too much.
+STEP = 61
+# How often each example is damaged.
+DAMAGES = 20
+
+
+class Wrong(Exception):
+    pass
+
+
+def run(*command, **how):
+    """What a command writes, where it ends well."""
+    words = [str(word) for word in command]
+    ran = subprocess.run(words, capture_output=True, **how)
+    if ran.returncode:
+        raise Wrong(f"{' '.join(words)}: status {ran.returncode}\n{ran.stderr.decode()}")
+    return ran.stdout.decode()
+
+
+def below(crate):
+    """The crates of the repository that a crate stands on."""
+    rows = (line.partition("#")[0].partition(":") for line in open(TOP / "crates.txt"))
+    listed = {name.split()[0]: on.split() for name, _, on in rows if name.strip()}
+    return [name for name in listed[crate] if name in listed]
+
+
+def kit():
+    """The folder of the toolchain."""
+    return Path(run("rt", "doc").strip()).parent
+
+
+def build(archive):
+    """Builds the static library over what `rt ci` has proved, and proves it once more by this."""
+    top = kit()
+    words = ["--crate-name", "keyset_c", "src/lib.rt", "--crate-type", "staticlib"]
+    words += ["--extern", f"std={top}/rlibs/std.rlib", "-L", f"dependency={top}/rlibs"]
+    for name in below("keyset_c"):
+        words += ["--extern", f"{name}={CRATES / name}/out/rlib/{name}.rlib"]
+    for folder in CRATES.glob("*/out/rlib"):
+        words += ["-L", f"dependency={folder}"]
+    words += ["--antt-project", top / "rattle" / "logic" / "antt-project.json"]
+    words += ["--logic-built", top / "logic_built", "--toolchain", top / "toolchain"]
+    run(top / "bin" / "rattle", "build", *words, "-o", archive, cwd=CRATES / "keyset_c")
+
+
+def expect_exports(folder):
+    # The tools of the toolchain are one file, which does what its name says.
+    tools = kit() / "toolchain" / "bin" / "clang"
+    for file, flags in (("libkeyset.a", []), ("libkeyset.so", ["-D"])):
+        words = ["llvm-nm", "--defined-only", "--extern-only", *flags, folder / "lib" / file]
+        named = [line.split() for line in run(*words, executable=tools).splitlines()]
+        exported = {words[2] for words in named if len(words) == 3}
+        if exported != EXPORTS:
+            raise Wrong(f"{file} exports {sorted(exported)}")
+
+
+def c_flags(folder):
+    return [f"-I{folder}/include", f"-L{folder}/lib", "-l:libkeyset.a"]
+
+
+def test_in_c(compiler, folder, room, checker=None):
+    program = room / "library"
+    flags = [*STRICT, *WRAPPED, *["-g", "-fsanitize=address,undefined"] * (checker == "asan")]
+    run(compiler, *flags, "-o", program, TOP / "tests" / "library.c", *c_flags(folder))
+    before = ["valgrind", "--error-exitcode=9", "--leak-check=full", "--errors-for-leak-kinds=all"]
+    before = before if checker == "valgrind" else []
+    step = [STEP] if checker else []
+    return run(*before, program, STORED, *step).strip()
+
+
+def as_program(script):
+    """How the program answers: its status, what it writes, and what it tells its user."""
+    ran = subprocess.run([PROGRAM], input=script, capture_output=True)
+    return ran.returncode, ran.stdout.decode(), ran.stderr.decode()
+
+
+def as_library(keyset, script):
+    try:
+        return 0, keyset.answer(script), ""
+    except keyset.Malformed as malformed:
+        return 1, "", f"{malformed}\n"
+
+
+def damaged(script, chance):
+    """The script with some bytes changed, left out or put in."""
+    script = bytearray(script)
+    for _ in range(chance.randint(1, 3)):
+        at = chance.randrange(len(script))
+        byte = chance.choice([0, 10, 13, 32, 44, 45, 48, 57, 120, 127, 255, chance.randrange(256)])
+        script[at : at + chance.randint(0, 2)] = bytes([byte] * chance.randint(0, 2))
+    return bytes(script)
+
+
+def python_module(folder):
+    os.environ["KEYSET_LIBRARY"] = str(folder / "lib" / "libkeyset.so")
+    sys.dont_write_bytecode = True
+    sys.path.insert(0, str(LIBRARY / "python"))
+    import keyset
+
+    return keyset
+
+
+def test_resumed(keyset):
+    """After each call a key set goes on from its lines, whatever was being written behind them."""
+    calls = 0
+    for path in EXAMPLES:
+        zone, *lines = path.read_text().splitlines()
+        keys = keyset.KeySet(zone.removeprefix("zone "))
+        for line in lines:
+            before = keys.script
+            try:
+                due = keys.call(line)
+            except keyset.Refused:
+                if keys.script != before:
+                    raise Wrong(f"{path.name}: {line}: refused, and changed the key set") from None
+                continue
+            resumed = keyset.KeySet.resume(before + line[:-1])
+            if (resumed.call(line), vars(resumed)) != (due, vars(keys)):
+                raise Wrong(f"{path.name}: {line}: another key set goes on")
+            calls += 1
+    return f"a key set in Python goes on after each of {calls} calls"
+
+
+def test_damaged(keyset):
+    """Scripts with damaged bytes are answered by the library as by the program."""
+    chance = random.Random("damaged")
+    scripts = [b"", b"\n", b"zone .", b"zone example.com\n"]
+    for path in EXAMPLES:
+        whole = path.read_bytes()
+        scripts += [whole, whole[:-1], *(damaged(whole, chance) for _ in range(DAMAGES))]
+    statuses = []
+    for script in scripts:
+        wanted = as_program(script)
+        statuses.append(wanted[0])
+        if as_library(keyset, script) != wanted:
+            raise Wrong(f"the library doesn't answer as the program: {script!r}")
+    malformed = statuses.count(1)
+    return f"{len(scripts)} scripts answered as by the program, {malformed} of them malformed"
+
+
+def expect_rolls(caller, command, **how):
+    """A caller that plays an example line by line prints what the program prints of the whole. It
+    drops the calls that are refused, so a broken chain may have other positions."""
+    for path in EXAMPLES:
+        script = path.read_bytes()
+        played = run(*command, input=script, **how)
+        if played.partition(" at=")[0] != as_program(script)[1].partition(" at=")[0]:
+            raise Wrong(f"{caller} doesn't answer {path.name} as the program")
+    return f"the caller in {caller} answers {len(EXAMPLES)} examples as the program"
+
+
+def test_c_caller(compiler, folder, room):
+    run(compiler, *STRICT, "-o", room / "roll", LIBRARY / "c" / "roll.c", *c_flags(folder))
+    return expect_rolls("C", [room / "roll"])
+
+
+def test_rust_caller(folder, room):
+    made = {**os.environ, "KEYSET_LIB": str(folder / "lib"), "CARGO_TARGET_DIR": str(room / "rust")}
+    for what in ("test", "build"):
+        run("cargo", what, "--quiet", "--offline", "--locked", cwd=LIBRARY / "rust", env=made)
+    return expect_rolls("Rust", [room / "rust" / "debug" / "keyset"])
+
+
+def test_python_caller(folder):
+    made = {**os.environ, "KEYSET_LIBRARY": str(folder / "lib" / "libkeyset.so")}
+    return expect_rolls("Python", [sys.executable, "-B", LIBRARY / "python" / "roll.py"], env=made)
+
+
+def test(folder, room):
+    compiler = shutil.which("cc") or shutil.which("gcc") or shutil.which("clang")
+    expect_exports(folder)
+    if compiler:
+        yield test_in_c(compiler, folder, room)
+        yield test_c_caller(compiler, folder, room)
+    else:
+        yield "there is no C compiler here: neither the tests in C nor the caller in C have run"
+    if shutil.which("cargo") and shutil.which("rustc"):
+        yield test_rust_caller(folder, room)
+    else:
+        yield "there is no cargo here: the caller in Rust has not run"
+    yield test_python_caller(folder)
+    keyset = python_module(folder)
+    yield test_resumed(keyset)
+    yield test_damaged(keyset)
+
+
+def main():
+    began = time.monotonic()
+    with tempfile.TemporaryDirectory() as room:
+        room = Path(room)
+        folder = Path(*sys.argv[1:2]).resolve() if sys.argv[1:] else room / "out"
+        try:
+            if sys.argv[2:]:
+                print(test_in_c("cc", folder, room, sys.argv[2]))
+                return 0
+            if not sys.argv[1:]:
+                build(room / "libkeyset_c.a")
+                run(LIBRARY / "pack.sh", room / "libkeyset_c.a", folder)
+            for line in test(folder, room):
+                print(f"library: {line}", flush=True)
+        except Wrong as wrong:
+            print(f"library: {wrong}")
+            return 1
+    print(f"library: {time.monotonic() - began:.0f} s")
+    return 0
+
+
+if __name__ == "__main__":
+    sys.exit(main())
