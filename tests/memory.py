@@ -152,7 +152,7 @@ def in_turn(program, works, judge):
             where = f"{title}: request {request}"
             refused += judge(where, request <= requests, outcome, whole[key])
         if refused == 0:
-            raise Wrong(f"{title}: no call was refused for want of memory")
+            raise Wrong(f"{title}: no call was refused for lack of memory")
         print(f"{title}: {requests} requests for memory failed in turn, {refused} of a call")
 
 

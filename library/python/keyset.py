@@ -173,7 +173,7 @@ def _actions(reply: str) -> list[Action]:
 
 def _answers(lines: list[str]) -> list[str]:
     """The lines of the answer to a script of which each call is accepted. One that was accepted
-    before is refused now only where memory is wanting."""
+    before is refused now only where memory runs out."""
     if any("\n" in line for line in lines):
         raise Malformed(len(lines))
     answers = answer(_text(lines).encode()).split("\n")[:-1]

@@ -40,7 +40,7 @@ pub(crate) fn make(
     }
 }
 
-/// A call that was refused for want of memory takes some, and has changed nothing.
+/// A call that was refused for lack of memory takes some, and has changed nothing.
 fn check_refusal(set: &KeySet, call: Call, before: &Seen) -> Result<(), Trouble> {
     if takes_memory(call) {
         check_same(set, before)

@@ -24,7 +24,7 @@ pub enum Trouble {
     Asked,
     /// `actions` doesn't tell what the call asked.
     ToldAgain,
-    /// The call was refused for want of memory, and needs none.
+    /// The call was refused for lack of memory, and needs none.
     TakesNone,
     /// The call was refused, and changed something.
     Changed,

@@ -120,7 +120,7 @@ impl Judge {
 }
 
 /// The verdict on the entries of a record, of any origin, by one walk over them with a `Judge`:
-/// what `audit` answers, but for want of memory.
+/// what `audit` answers, but for lack of memory.
 ///
 /// # Errors
 ///

@@ -33,7 +33,7 @@ pub enum Error {
     Wait(Duration),
     /// The text names no roll.
     UnknownRollType,
-    /// Memory is wanting. The same call may succeed later.
+    /// Memory has run out. The same call may succeed later.
     OutOfMemory,
 }
 

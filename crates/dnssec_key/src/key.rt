@@ -530,7 +530,7 @@ impl Key {
     ///
     /// # Errors
     ///
-    /// `OutOfMemory` alone, where memory is wanting for the copy.
+    /// `OutOfMemory` alone, where there is no memory for the copy.
     pub fn try_clone(&self) -> Result<Key, Error>
         ensures same { IfOk result (λ key. key ≡ self.now) }
         ensures err { IfErr result (λ e. e ≡ OutOfMemory) }

@@ -33,7 +33,7 @@ impl KeySet {
     /// - `NoSuitableKeyPresent` where the roll would leave no KSK (or ZSK; for `CskRoll` and
     ///   `AlgorithmRoll` no KSK role or no ZSK role) that is present and not old.
     ///   `KskDoubleDsRoll` asks at the parent in place of present.
-    /// - `OutOfMemory` where memory is wanting.
+    /// - `OutOfMemory` where memory runs out.
     #[tactic(auto, using(crate::proofs::Steps::steps))]
     pub fn start_roll(
         &mut self,
@@ -95,7 +95,7 @@ impl KeySet {
     /// - `WrongStateForRollOperation` where the roll isn't waiting for the caches.
     /// - `WrongKeyState` where a key that the wait checks lacks the stamp that it reads.
     /// - `Wait` with the longest time that is left for such a key, while there is some.
-    /// - `OutOfMemory` where memory is wanting for the answer.
+    /// - `OutOfMemory` where there is no memory for the answer.
     pub fn cache_expired1(
         &mut self,
         rolltype: RollType,
@@ -174,7 +174,7 @@ impl KeySet {
     ///
     /// # Errors
     ///
-    /// `OutOfMemory` alone, where memory is wanting for the list.
+    /// `OutOfMemory` alone, where there is no memory for the list.
     pub fn actions(&self, rolltype: RollType) -> Result<Vec<Action>, Error>
         ensures list { IfOk result (λ actions.
             actions.items ≡ actions_at rolltype (phase_of self.now.rolls rolltype)) }

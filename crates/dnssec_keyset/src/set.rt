@@ -68,7 +68,7 @@ impl KeySet {
     ///
     /// # Errors
     ///
-    /// `OutOfMemory` alone, where memory is wanting for the copy.
+    /// `OutOfMemory` alone, where there is no memory for the copy.
     pub fn try_clone(&self) -> Result<KeySet, Error>
         ensures same { IfOk result (λ set. set ≡ self.now) }
         ensures err { IfErr result (λ e. e ≡ OutOfMemory) }
@@ -117,7 +117,7 @@ impl KeySet {
     ///
     /// - `DuplicateKeyTag` where a key has the tag.
     /// - `KeyExists` where a key has the reference.
-    /// - `OutOfMemory` where memory is wanting.
+    /// - `OutOfMemory` where memory runs out.
     pub fn add_key_ksk(
         &mut self,
         pubref: String,

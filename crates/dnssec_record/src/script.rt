@@ -38,7 +38,7 @@ const PIECE: usize = 4096;
 /// - `Malformed` with the number of the first line that hasn't its form. Nothing was written.
 /// - `Device` where `input` or `output` has failed. What was written is a beginning of the
 ///   answers.
-/// - `OutOfMemory` where memory is wanting. Nothing was written.
+/// - `OutOfMemory` where memory runs out. Nothing was written.
 pub fn run_script<R: Source, W: Sink>(
     alloc: Global,
     input: &mut R,
@@ -128,7 +128,7 @@ fn answer_to(alloc: Global, script: &[u8]) -> Result<String, ScriptFault>
 /// # Errors
 ///
 /// - `Malformed` with the number of the first line that hasn't its form. Nothing was run.
-/// - `OutOfMemory` where memory is wanting for the script or its record.
+/// - `OutOfMemory` where there is no memory for the script or its record.
 ///
 /// ```rust
 /// let run = record_script(alloc, script.as_bytes())?;
@@ -179,7 +179,7 @@ pub enum ScriptFault {
     Malformed(usize),
     /// The input or the output failed. What was written is a beginning of the answers.
     Device,
-    /// Memory is wanting. Nothing was written.
+    /// Memory has run out. Nothing was written.
     OutOfMemory,
 }
 

@@ -115,7 +115,7 @@ fn try_verdict(
     verdict(alloc, &run.entries)
 }
 
-/// The same, once more where memory was wanting.
+/// The same, once more where memory ran out.
 fn verdict_on(
     alloc: Global,
     parts: &[&str],

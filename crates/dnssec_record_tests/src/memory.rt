@@ -4,7 +4,7 @@ use crate::support::{WHOLE, assert_written, attempt, wanted_memory};
 use std::process::Abort;
 use std::test::Fail;
 
-/// The call of a script that was refused for want of memory stands behind the answers of the calls
+/// The call of a script that was refused for lack of memory stands behind the answers of the calls
 /// before it.
 fn assert_begun(rt: &impl Abort, text: &str, want: &str) {
     if let Some((before, _)) = text.split_once("refused: out of memory\n") {

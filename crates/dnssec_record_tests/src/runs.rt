@@ -43,7 +43,7 @@ fn public(alloc: Global, reference: &str, key_tag: u16) -> Result<Call<'static>,
     })
 }
 
-/// Runs calls for `example.com`, where no call is refused for want of memory.
+/// Runs calls for `example.com`, where no call is refused for lack of memory.
 fn try_run(alloc: Global, calls: Result<Vec<Call<'_>>, AllocError>) -> Option<Run> {
     let octets = b"\x07example\x03com\x00".to_vec(alloc).ok()?;
     let name = Name::from_octets(octets).ok()?;

@@ -149,26 +149,26 @@ pub(crate) fn attempt(
     Ok(Answer { result, output })
 }
 
-/// Whether memory was wanting: for the script as a whole, and then nothing was written, or for one
+/// Whether memory ran out: for the script as a whole, and then nothing was written, or for one
 /// of its calls.
 pub(crate) fn wanted_memory(rt: &impl Abort, answer: &Answer) -> bool {
     if answer.result == Err(ScriptFault::OutOfMemory) {
         assert!(rt;
             answer.output.taken().is_empty(),
-            "written after want of memory"
+            "written after lack of memory"
         );
         return true;
     }
     has_refused_memory(answer.output.taken())
 }
 
-/// Whether a line says that a call was refused for want of memory.
+/// Whether a line says that a call was refused for lack of memory.
 fn has_refused_memory(text: &[u8]) -> bool {
     text.split(|byte| *byte == b'\n')
         .any(|line| line == b"refused: out of memory".as_slice())
 }
 
-/// Runs a script, and once more where memory was wanting. Then it isn't again.
+/// Runs a script, and once more where memory ran out. Then it isn't again.
 pub(crate) fn follow(
     rt: &impl Abort,
     alloc: Global,

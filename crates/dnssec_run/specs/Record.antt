@@ -180,7 +180,7 @@ KeepsSidesApart name calls entries = (n : ℕ) (call : Call) (entry : Entry) →
     LeavesOthers (world_at name calls entries n).set (call_of call)
     (world_at name calls entries (suc n)).set
 
--- two neighbouring calls of rolls that go together, neither answered with want of memory, may be
+-- two neighbouring calls of rolls that go together, neither answered with lack of memory, may be
 -- exchanged: the second with its reply and then the first with its reply are allowed steps too, and
 -- end in the same set
 abbrev pub NeighboursMayBeExchanged : List ℕ → List Call → List Entry → Type 0

@@ -17,7 +17,7 @@ use std::alloc::Global;
 const ANSWERED: u32 = 0;
 /// A line hasn't the form of a script's line.
 const MALFORMED: u32 = 1;
-/// Memory is wanting.
+/// Memory has run out.
 const OUT_OF_MEMORY: u32 = 3;
 /// The answer is longer than the room for it.
 const SHORT: u32 = 4;
@@ -82,7 +82,7 @@ pub extern "C" fn keyset_answer(alloc: Global, script: &[u8], out: &mut [u8]) ->
             length: 0,
             line,
         },
-        // A slice never fails, and a vector only for want of memory.
+        // A slice never fails, and a vector only for lack of memory.
         Err(ScriptFault::Device | ScriptFault::OutOfMemory) => Answered {
             status: OUT_OF_MEMORY,
             length: 0,

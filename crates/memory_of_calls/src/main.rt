@@ -2,7 +2,7 @@
 //!
 //! Its standard input is three digits, the number of these requests, and a letter that names the
 //! calls. Where all went as it should, it ends with status 0 and writes `refused` if a call was
-//! refused for want of memory: that call changed nothing, and was accepted when it was made again.
+//! refused for lack of memory: that call changed nothing, and was accepted when it was made again.
 //! It writes `ample` if none was. Else it writes what went otherwise, and ends with status 1.
 #![tactic(auto)]
 

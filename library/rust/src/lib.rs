@@ -199,7 +199,7 @@ impl KeySet {
     }
 
     /// The key set of a script of which each call is accepted, and what the last one asks for. A
-    /// call that was accepted before is refused now only where memory is wanting.
+    /// call that was accepted before is refused now only where memory runs out.
     fn accepting(script: String) -> Result<(Self, Vec<Action>), Error> {
         let text = answer(&script)?;
         let lines: Vec<&str> = text.lines().collect();

@@ -1,5 +1,5 @@
 //! The wire bytes of a name while its text is read. They take no memory but the stack's, so that
-//! want of memory is no answer to a text with a fault.
+//! lack of memory is no answer to a text with a fault.
 ghost use Rattle.std.specs.Prelude.{◌≡◌, ◌≢◌, [], ◌∷◌, ◌++◌, length, OnOk, IfErr};
 ghost use Rattle.dnssec_base.specs.Draft.{HasRoom, IsLimit};
 ghost use Rattle.dnssec_base.specs.NameText.{ended};

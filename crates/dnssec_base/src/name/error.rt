@@ -7,7 +7,7 @@ use std::alloc::AllocError;
 use std::error::Error;
 use std::fmt;
 
-/// The fault that stands first in a text, or want of memory.
+/// The fault that stands first in a text, or lack of memory.
 #[derive(Clone, Copy, Debug, PartialEq, Eq)]
 pub enum NameError {
     /// The text is empty, or a dot ends a label without bytes (RFC 1035, section 3.1).
