@@ -320,15 +320,15 @@ without-of t c PresentZskRole = refl
 pub Fits : Keys → Type 0
 Fits keys = (w : Want) → count_in (passes (serves_as_kept w)) keys ≤ 18446744073709551615
 
+none-of : (w : Want) → count_of no_counts w ≡ 0
+none-of PresentKsk = refl
+none-of KskAtParent = refl
+none-of PresentZsk = refl
+none-of PresentKskRole = refl
+none-of PresentZskRole = refl
+
 pub counts-none : (m : Keys) → ((q : List ℕ) → get m q ≡ None) → CountsAgree no_counts m
-counts-none m none w = none_of w ∙ sym (none_counted (passes (serves_as_kept w)) m none)
-  where
-    none_of : (w : Want) → count_of no_counts w ≡ 0
-    none_of PresentKsk = refl
-    none_of KskAtParent = refl
-    none_of PresentZsk = refl
-    none_of PresentKskRole = refl
-    none_of PresentZskRole = refl
+counts-none m none w = none-of w ∙ sym (none_counted (passes (serves_as_kept w)) m none)
 
 -- a key is new
 pub counts-added : (c : Counts) (m n : Keys) (r : List ℕ) (x : KeyParts) → get m r ≡ None
@@ -454,15 +454,9 @@ module _ {Y S : Type 0} where
       let all = folded w (values m) no_counts (zero_at w) in
       let these = count-shown (serves_as_kept w) m unique in
       let some = count-fits (passes (serves_as_kept w)) m unique fits in
-      all ∙ omega (arith, zero_of w, these, some)
+      all ∙ omega (arith, none-of w, these, some)
     where
-      zero_of : (w : Want) → count_of no_counts w ≡ 0
-      zero_of PresentKsk = refl
-      zero_of KskAtParent = refl
-      zero_of PresentZsk = refl
-      zero_of PresentKskRole = refl
-      zero_of PresentZskRole = refl
       zero_at : (w : Want) → count_of no_counts w ≤ 18446744073709551615
-      zero_at w = let zero = zero_of w in omega (arith, zero)
+      zero_at w = let zero = none-of w in omega (arith, zero)
 
 pub ruleset counts = (some_kept-counted)
