@@ -1,0 +1,233 @@
+"""What the calls of a key set cost, beside those of the original.
+
+    python3 bench/calls.py [--original FOLDER] [--build FOLDER]
+
+Each row is a course of calls on key sets. A small program makes them on this tree's key set
+(`calls.rt.in`), and one with the same calls on the original's (`calls.rs`). A program makes some
+rounds of the calls, and then as many idle ones, which make only what the calls need, as a reference
+or a copy of a set. The difference is what the calls cost; the start of a program and its setting up
+are no part of it. Both have to be answered alike.
+
+Printed are the calls of a round, and for one call the instructions, as valgrind counts them where
+it is at hand, the processor's nanoseconds, by the least of some runs, and the ratios of ours to the
+original's. The nanoseconds have in them what else the machine does.
+
+Ours is built in a copy of what it needs of the tree, in a temporary folder or in that of `--build`,
+which is left for the next time. It is proved, as only a proved program is built without checks of
+its own; what `make build` has proved is taken over, and else it takes some minutes. The gate wants
+each file of Rattle to be of a crate that it proves, so the program has another suffix here.
+
+The folder of `--original` has a `build.sh OUT`, which makes a program of its `main.rs` and of the
+original's text, and a `stubs.rs` for what that text imports. `calls.rs` takes the place of `main.rs`.
+Without it the figures are of ours alone.
+"""
+
+import argparse
+import os
+import re
+import shutil
+import subprocess
+import sys
+import tempfile
+from pathlib import Path
+
+from successive_rolls import COUNT
+
+BENCH = Path(__file__).resolve().parent
+TOP = BENCH.parent
+
+# The libraries of the program, and the parts of a crate that are read.
+LIBRARIES = ["dnssec_keyset", "dnssec_base"]
+PARTS = ["src", "specs", "proofs"]
+
+# A title, and the course with its number of keys.
+ROWS = [
+    *((f"adds to a new set, up to {n:,} keys", "adds", n) for n in (2**i for i in range(10, 17))),
+    ("a KSK roll on four keys, start to end", "ksk-roll", 4),
+    ("a KSK double-DS roll on four keys", "ksk-double-ds-roll", 4),
+    ("a ZSK roll on four keys", "zsk-roll", 4),
+    ("a ZSK double-signature roll on four keys", "zsk-double-signature-roll", 4),
+    ("a CSK roll on four keys", "csk-roll", 4),
+    ("an algorithm roll on four keys", "algorithm-roll", 4),
+    ("deletions of all of 4 keys", "deletions", 4),
+    ("deletions of all of 1,024 keys", "deletions", 1024),
+    ("each setter on each of 4 keys", "setters", 4),
+    ("both waits of each roll on four keys, over", "waits", 4),
+    ("both waits of each roll on four keys, early", "early-waits", 4),
+    ("a wait on 500 keys, all early", "crowded-waits", 500),
+    ("a wait on 500 keys, 4 early, the others unused", "crowded-waits", 4),
+    ("a wait on 500 keys, 1 early, the others unused", "crowded-waits", 1),
+    ("the start of a ZSK roll from 2,000 to 2,000 keys", "start-of-zsks", 2000),
+    ("the start of a CSK roll from 2,000 to 2,000 keys", "start-of-csks", 2000),
+    ("that of ZSKs, the last new key listed twice", "start-listed-twice", 2000),
+    ("that of ZSKs, one more of another algorithm", "start-other-algorithm", 2000),
+]
+
+# A timed run takes at least so many seconds; there are so many, and fewer of one that takes long.
+SECONDS = 0.1
+RUNS = 9
+RUNS_OF_LONG = 3
+
+# So many times fewer rounds are counted than timed.
+FEWER = 8
+
+
+def crates_below(names, lines):
+    """The lines of crates.txt of these crates and of all on which they stand."""
+    found = {}
+    for name in names:
+        if name in lines:
+            found |= crates_below(lines[name].split(":")[1].split(), lines)
+            found[name] = lines[name]
+    return found
+
+
+def copy_tree(folder):
+    """Copies what the program needs of the tree, with the program as a crate of it."""
+    lines = {}
+    for line in (TOP / "crates.txt").read_text().splitlines():
+        if line and not line.startswith("#"):
+            lines[re.match(r"\w+", line)[0]] = line
+    needed = crates_below(LIBRARIES, lines)
+    for name in needed:
+        source, target = TOP / "crates" / name, folder / "crates" / name
+        for part in PARTS:
+            shutil.rmtree(target / part, ignore_errors=True)
+            if (source / part).is_dir():
+                shutil.copytree(source / part, target / part)
+        proved = Path("out", "rlib")
+        if (source / proved).is_dir() and not (target / proved).is_dir():
+            shutil.copytree(source / proved, target / proved)
+    own = folder / "crates" / "calls" / "src"
+    own.mkdir(parents=True, exist_ok=True)
+    shutil.copyfile(BENCH / "calls.rt.in", own / "main.rt")
+    text = [*needed.values(), f"calls: {' '.join(LIBRARIES)}"]
+    (folder / "crates.txt").write_text("\n".join(text) + "\n")
+
+
+def build(folder):
+    """Builds our program in this folder."""
+    copy_tree(folder)
+    crate = folder / "crates" / "calls"
+    (crate / "out").mkdir(exist_ok=True)
+    command = ["rt", "run", "--", "adds", "1", "1", "calls"]
+    subprocess.run(command, cwd=crate, stdout=sys.stderr, check=True)
+    return crate / "out" / "calls"
+
+
+def build_original(original, folder):
+    """Builds the program of the original in this folder, over what stands in another and beside."""
+    for path in original.parent.iterdir():
+        if path != original:
+            (folder / path.name).symlink_to(path)
+    copy = folder / original.name
+    shutil.copytree(original, copy, copy_function=shutil.copyfile)
+    shutil.copyfile(BENCH / "calls.rs", copy / "main.rs")
+    program = folder / "calls-of-the-original"
+    command = ["sh", copy / "build.sh", program]
+    subprocess.run(command, stdout=sys.stderr, check=True)
+    return program
+
+
+def run(command, course, keys, rounds, mode):
+    """The processor seconds of a run, how many calls were accepted and how many refused, and what
+    stands on standard error."""
+    words = [*command, course, str(keys), str(rounds), mode]
+    child = subprocess.Popen(words, stdout=subprocess.PIPE, stderr=subprocess.PIPE, text=True)
+    written, said = child.stdout.read(), child.stderr.read()
+    _, status, used = os.wait4(child.pid, 0)
+    answers = re.fullmatch(r"(\d+) accepted, (\d+) refused\n", written)
+    if status != 0 or not answers:
+        sys.exit(f"{words}: status {status}, {written}{said}")
+    return used.ru_utime + used.ru_stime, (int(answers[1]), int(answers[2])), said
+
+
+def rounds_of(program, course, keys):
+    """So many rounds that a run takes long enough, and how long it takes."""
+    rounds, setting_up = 1, run([program], course, keys, 0, "calls")[0]
+    while True:
+        seconds = run([program], course, keys, rounds, "calls")[0]
+        if seconds - setting_up >= SECONDS:
+            return rounds, seconds
+        rounds *= 2
+
+
+def count(program, course, keys, rounds):
+    """The instructions that the calls of so many rounds run."""
+    found = []
+    for mode in ("calls", "idle"):
+        said = run([*COUNT, program], course, keys, rounds, mode)[2]
+        found.append(int(re.search(r"I +refs: +([0-9,]+)", said)[1].replace(",", "")))
+    return found[0] - found[1]
+
+
+def measure(program, course, keys):
+    """The accepted and the refused calls of a round; and of one call the instructions, or None where
+    nothing counts them, and the nanoseconds."""
+    rounds, seconds = rounds_of(program, course, keys)
+    runs = RUNS if seconds < 1 else RUNS_OF_LONG
+    least = {"calls": None, "idle": None}
+    for _ in range(runs):
+        for mode, before in least.items():
+            taken, answers, _ = run([program], course, keys, rounds, mode)
+            least[mode] = taken if before is None else min(taken, before)
+            if mode == "calls":
+                told = answers
+    told = tuple(number // rounds for number in told)
+    calls = sum(told)
+    nanos = (least["calls"] - least["idle"]) * 1e9 / (rounds * calls)
+    instructions = None
+    if shutil.which(COUNT[0]):
+        counted = max(1, rounds // FEWER)
+        instructions = count(program, course, keys, counted) / (counted * calls)
+    return told, instructions, nanos
+
+
+def words_of(told):
+    """How the calls of a round are answered."""
+    named = zip(told, ("accepted", "refused"))
+    return ", ".join(f"{number:,} {answer}" for number, answer in named if number)
+
+
+def cells(figures):
+    """A figure of ours, and with the original's also that and the ratio."""
+    if None in figures:
+        return ["" for _ in range(2 * len(figures) - 1)]
+    ratio = [f"{figures[0] / figures[1]:.2f}"] if len(figures) == 2 else []
+    return [f"{figure:,.0f}" for figure in figures] + ratio
+
+
+def compare(programs):
+    """Prints the table of these programs: ours, and the original's where there is one."""
+    heads = ["What", "Calls"]
+    for unit in ("Instructions a call", "Nanoseconds a call"):
+        heads += [unit, "Original", "Ratio"] if len(programs) == 2 else [unit]
+    print(f"| {' | '.join(heads)} |\n|{'---|' * len(heads)}", flush=True)
+    for title, course, keys in ROWS:
+        measured = [measure(program, course, keys) for program in programs]
+        told = {one[0] for one in measured}
+        if len(told) != 1:
+            sys.exit(f"{title}: answered otherwise by the original: {told}")
+        row = [title, words_of(told.pop())]
+        row += cells([one[1] for one in measured]) + cells([one[2] for one in measured])
+        print(f"| {' | '.join(row)} |", flush=True)
+
+
+def main():
+    parser = argparse.ArgumentParser()
+    parser.add_argument("--original", type=Path)
+    parser.add_argument("--build", type=Path)
+    given = parser.parse_args()
+    with tempfile.TemporaryDirectory() as folder:
+        ours = given.build or Path(folder, "ours")
+        ours.mkdir(parents=True, exist_ok=True)
+        programs = [build(ours.resolve())]
+        if given.original:
+            theirs = Path(folder, "original")
+            theirs.mkdir()
+            programs.append(build_original(given.original.resolve(), theirs))
+        compare(programs)
+
+
+if __name__ == "__main__":
+    main()
