@@ -140,7 +140,7 @@ module _ (p r : List ℕ → KeyParts → Bool) where
 
 -- ---- the keys of a list
 
-or_nothing : (b : Bool) → (b || false) ≡ b
+pub or_nothing : (b : Bool) → (b || false) ≡ b
 or_nothing true = refl
 or_nothing false = refl
 

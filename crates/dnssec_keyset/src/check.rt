@@ -65,17 +65,6 @@ impl Keys {
         }
     }
 
-    /// The tags of the keys that a list names.
-    fn tags_of(&self, references: &[&str]) -> TagSet
-        ensures { HasListed result self.now (is_listed (texts references.now)) }
-    {
-        let mut tags = [0; 1024];
-        for reference in references {
-            self.add_tag(&mut tags, reference);
-        }
-        tags
-    }
-
     /// Refuses the first old entry that has a fault.
     fn check_old(&self, roll: RollType, old: &[&str]) -> Result<(), Error>
         ensures { AnswersExactly (old_fault roll (map.get self.now) (texts old.now)) result }
@@ -94,7 +83,10 @@ impl Keys {
         ensures { AnswersExactly
             (new_fault roll (map.get self.now) (texts old.now) [] (texts new.now)) result }
     {
-        let mut taken = self.tags_of(old);
+        let mut taken = [0; 1024];
+        for entry in old {
+            self.add_tag(&mut taken, entry);
+        }
         for reference in new {
             if let Some(fault) = self.new_entry_fault(roll, reference, &taken) {
                 return Err(fault);

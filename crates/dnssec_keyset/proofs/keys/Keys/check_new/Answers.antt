@@ -1,8 +1,39 @@
 -- An entry is refused by the tags of those before it, as it is by their references.
-use Rattle.std.proofs.Common.{rules, sym}
-use Rattle.dnssec_keyset.specs.Start.{texts}
+use Rattle.std.proofs.Common.{◌≡◌, refl, rules, arith, sym, ap, ◌∙◌, length, replicate, take}
+use Rattle.std.proofs.Math.Seq.{take-length}
+use Rattle.dnssec_keyset.specs.Start.{texts, is_listed}
 use Rattle.dnssec_keyset.proofs.Entries.{fault-found, fault-behind, listed-behind}
+use Rattle.dnssec_keyset.proofs.Counted.{or_nothing}
+use Rattle.dnssec_keyset.proofs.Marks.{listed_more}
+use Rattle.dnssec_keyset.proofs.Tags.{listed-nothing, listed-same}
+use Rattle.dnssec_keyset.proofs.Words.{zeros}
 use Rattle.dnssec_keyset.proofs.keys.Keys.check_new.Goals as goal
+
+pub loop-entry-init : goal.loop-entry-init
+loop-entry-init c = (refl, listed-nothing c.args.self.now (replicate 1024 0) (zeros 1024))
+
+pub loop-entry-preserved : goal.loop-entry-preserved
+loop-entry-preserved c = (
+  search rules,
+  listed-same c.args.self.now _ _ _
+      (λ q. listed_more c.args.old.now c.loop-entry.entry-index _ q c.loop-entry-test.true)
+      (c.add_tag.ensures.listed _ c.loop-entry.invariant.1),
+)
+
+pub loop-reference-init : goal.loop-reference-init
+loop-reference-init c =
+    let rs = c.args.old.now in
+    let i = c.loop-entry.entry-index in
+    let end : i ≡ length rs =
+        omega (arith, c.loop-entry.auto.entry-index-end, c.loop-entry-test.false) in
+    let all : take i rs ≡ rs = ap (λ i. take i rs) end ∙ take-length rs in
+    (
+      refl,
+      c.loop-entry.invariant.0,
+      listed-same c.args.self.now _ _ _
+          (λ q. or_nothing (is_listed (texts rs) q) ∙ ap (λ rs. is_listed (texts rs) q) (sym all))
+          c.loop-entry.invariant.1,
+    )
 
 pub returns-in-Some : goal.returns-in-Some
 returns-in-Some c =
@@ -20,5 +51,5 @@ loop-reference-preserved c =
           c.in_default.is c.new_entry_fault.ensures,
       search rules,
       listed-behind c.args.self.now (texts c.args.old.now) c.args.new.now _ l.reference-index _
-          c.loop-reference-test.true (c.add_tag.ensures.listed _ l.invariant.2),
+          c.loop-reference-test.true (c.add_tag-in-loop-reference.ensures.listed _ l.invariant.2),
     )

@@ -5,6 +5,11 @@ use Rattle.dnssec_keyset.specs.Inner.Tags.{HasListed}
 use Rattle.dnssec_keyset.specs.Start.{texts, is_listed, new_fault}
 use Rattle.dnssec_keyset.proofs.keys.Keys.check_new.Given as goal
 
+-- the tags of the old keys so far
+abbrev pub invariant-loop-entry : goal.invariant-loop-entry
+invariant-loop-entry l = (length l.taken ≡ 1024)
+    × HasListed l.taken l.self (is_listed (texts (take l.entry-index l.old)))
+
 -- what is wrong first stands in what is left; and the tags of the keys listed so far
 abbrev pub invariant-loop-reference : goal.invariant-loop-reference
 invariant-loop-reference l =
