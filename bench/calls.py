@@ -60,7 +60,7 @@ ROWS = [
     ("a wait on 500 keys, 1 early, the others unused", "crowded-waits", 1),
     ("the start of a ZSK roll from 2,000 to 2,000 keys", "start-of-zsks", 2000),
     ("the start of a CSK roll from 2,000 to 2,000 keys", "start-of-csks", 2000),
-    ("that of ZSKs, the keys of 256 algorithms", "start-of-many-algorithms", 2000),
+    ("that of ZSKs, two algorithms, each last in the other list", "start-of-two-algorithms", 2000),
     ("that of ZSKs, the last new key listed twice", "start-listed-twice", 2000),
     ("that of ZSKs, one more of another algorithm", "start-other-algorithm", 2000),
 ]

@@ -83,14 +83,14 @@ enum Kind {
 #[derive(Clone, Copy)]
 enum Algorithms {
     One,
-    Many,
+    Two,
 }
 
 #[derive(Clone, Copy)]
 enum Case {
     Zsks,
     Csks,
-    ManyAlgorithms,
+    TwoAlgorithms,
     ListedTwice,
     OtherAlgorithm,
 }
@@ -139,7 +139,7 @@ fn make(course: &str, keys: usize, rounds: Rounds) -> Option<Answers> {
         "crowded-waits" => crowded_waits(keys, rounds),
         "start-of-zsks" => starts(Case::Zsks, keys, rounds),
         "start-of-csks" => starts(Case::Csks, keys, rounds),
-        "start-of-many-algorithms" => starts(Case::ManyAlgorithms, keys, rounds),
+        "start-of-two-algorithms" => starts(Case::TwoAlgorithms, keys, rounds),
         "start-listed-twice" => starts(Case::ListedTwice, keys, rounds),
         "start-other-algorithm" => starts(Case::OtherAlgorithm, keys, rounds),
         _ => rolls(RollType::from_str(course).ok()?, rounds),
@@ -293,14 +293,14 @@ fn starts(case: Case, keys: usize, rounds: Rounds) -> Option<Answers> {
         _ => (ZskRoll, Kind::Zsk),
     };
     let algorithms = match case {
-        Case::ManyAlgorithms => Algorithms::Many,
+        Case::TwoAlgorithms => Algorithms::Two,
         _ => Algorithms::One,
     };
     let mut set = set_of(kind, algorithms, 2 * keys)?;
     let references = references(2 * keys);
     let mut names: Vec<&str> = references.iter().map(String::as_str).collect();
     match case {
-        Case::Zsks | Case::Csks | Case::ManyAlgorithms => {}
+        Case::Zsks | Case::Csks | Case::TwoAlgorithms => {}
         Case::ListedTwice => names.push(names.last()?),
         Case::OtherAlgorithm => {
             if !add(&mut set, kind, "other".to_string(), 14, u16::MAX) {
@@ -356,13 +356,19 @@ fn set_of(kind: Kind, algorithms: Algorithms, keys: usize) -> Option<KeySet> {
     for tag in (0..=u16::MAX).take(keys) {
         let algorithm = match algorithms {
             Algorithms::One => 13,
-            Algorithms::Many => (tag & 0xff) as u8,
+            Algorithms::Two => algorithm_of_two(usize::from(tag), keys),
         };
         if !add(&mut set, kind, reference(tag), algorithm, tag) {
             return None;
         }
     }
     Some(set)
+}
+
+fn algorithm_of_two(place: usize, keys: usize) -> u8 {
+    let half = keys / 2;
+    let is_last = place + 1 == half || place + 1 == keys;
+    if (place < half) == is_last { 14 } else { 13 }
 }
 
 fn four_keys() -> Option<KeySet> {
