@@ -12,14 +12,15 @@ Printed are the calls of a round, and for one call the instructions, as valgrind
 it is at hand, the processor's nanoseconds, by the least of some runs, and the ratios of ours to the
 original's. The nanoseconds have in them what else the machine does.
 
-Ours is built in a copy of what it needs of the tree, in a temporary folder or in that of `--build`,
-which is left for the next time. It is proved, as only a proved program is built without checks of
-its own; what `make build` has proved is taken over, and else it takes some minutes. The gate wants
-each file of Rattle to be of a crate that it proves, so the program has another suffix here.
+Ours is built in a copy of what it needs of the tree, in a temporary folder, or in the folder of
+`--build`, outside the tree, which is left for the next time. It is proved, since what is built
+without a proof (`rt try`) checks itself as it runs. What `make build` has proved is taken over, and
+the rest takes some minutes. The gate wants each file of Rattle to be of a crate that it proves, so
+the program has another suffix here.
 
 The folder of `--original` has a `build.sh OUT`, which makes a program of its `main.rs` and of the
-original's text, and a `stubs.rs` for what that text imports. `calls.rs` takes the place of `main.rs`.
-Without it the figures are of ours alone.
+original's text, and a `stubs.rs` for what that text imports. `calls.rs` takes the place of its
+`main.rs`. Without it the figures are of ours alone.
 """
 
 import argparse
@@ -59,6 +60,7 @@ ROWS = [
     ("a wait on 500 keys, 1 early, the others unused", "crowded-waits", 1),
     ("the start of a ZSK roll from 2,000 to 2,000 keys", "start-of-zsks", 2000),
     ("the start of a CSK roll from 2,000 to 2,000 keys", "start-of-csks", 2000),
+    ("that of ZSKs, two algorithms, each last in the other list", "start-of-two-algorithms", 2000),
     ("that of ZSKs, the last new key listed twice", "start-listed-twice", 2000),
     ("that of ZSKs, one more of another algorithm", "start-other-algorithm", 2000),
 ]
@@ -66,7 +68,7 @@ ROWS = [
 # A timed run takes at least so many seconds; there are so many, and fewer of one that takes long.
 SECONDS = 0.1
 RUNS = 9
-RUNS_OF_LONG = 3
+RUNS_OF_LONG = 2
 
 # So many times fewer rounds are counted than timed.
 FEWER = 8
@@ -162,8 +164,8 @@ def count(program, course, keys, rounds):
 
 
 def measure(program, course, keys):
-    """The accepted and the refused calls of a round; and of one call the instructions, or None where
-    nothing counts them, and the nanoseconds."""
+    """The accepted and the refused calls of a round; and of one call the instructions, or None
+    where nothing counts them, and the nanoseconds."""
     rounds, seconds = rounds_of(program, course, keys)
     runs = RUNS if seconds < 1 else RUNS_OF_LONG
     least = {"calls": None, "idle": None}

@@ -81,8 +81,16 @@ enum Kind {
 }
 
 #[derive(Clone, Copy)]
-enum Fault {
-    None,
+enum Algorithms {
+    One,
+    Two,
+}
+
+#[derive(Clone, Copy)]
+enum Case {
+    Zsks,
+    Csks,
+    TwoAlgorithms,
     ListedTwice,
     OtherAlgorithm,
 }
@@ -129,10 +137,11 @@ fn make(course: &str, keys: usize, rounds: Rounds) -> Option<Answers> {
         "waits" => waits(rounds),
         "early-waits" => early_waits(rounds),
         "crowded-waits" => crowded_waits(keys, rounds),
-        "start-of-zsks" => starts(ZskRoll, Kind::Zsk, Fault::None, keys, rounds),
-        "start-of-csks" => starts(CskRoll, Kind::Csk, Fault::None, keys, rounds),
-        "start-listed-twice" => starts(ZskRoll, Kind::Zsk, Fault::ListedTwice, keys, rounds),
-        "start-other-algorithm" => starts(ZskRoll, Kind::Zsk, Fault::OtherAlgorithm, keys, rounds),
+        "start-of-zsks" => starts(Case::Zsks, keys, rounds),
+        "start-of-csks" => starts(Case::Csks, keys, rounds),
+        "start-of-two-algorithms" => starts(Case::TwoAlgorithms, keys, rounds),
+        "start-listed-twice" => starts(Case::ListedTwice, keys, rounds),
+        "start-other-algorithm" => starts(Case::OtherAlgorithm, keys, rounds),
         _ => rolls(RollType::from_str(course).ok()?, rounds),
     }
 }
@@ -153,7 +162,7 @@ fn adds(keys: usize, rounds: Rounds) -> Answers {
 
 fn deletions(keys: usize, rounds: Rounds) -> Option<Answers> {
     let mut answers = Answers::new();
-    let mut set = set_of(Kind::Ksk, keys)?;
+    let mut set = set_of(Kind::Ksk, Algorithms::One, keys)?;
     let references = references(keys);
     for reference in &references {
         set.set_stale(reference).ok()?;
@@ -171,7 +180,7 @@ fn deletions(keys: usize, rounds: Rounds) -> Option<Answers> {
 
 fn setters(keys: usize, rounds: Rounds) -> Option<Answers> {
     let mut answers = Answers::new();
-    let mut set = set_of(Kind::Csk, keys)?;
+    let mut set = set_of(Kind::Csk, Algorithms::One, keys)?;
     let references = references(keys);
     for _ in 0..rounds.number {
         if !rounds.are_idle {
@@ -255,7 +264,7 @@ fn crowded_waits(keys: usize, rounds: Rounds) -> Option<Answers> {
 }
 
 fn crowd(names: &[&str]) -> Option<Waiting> {
-    let mut set = set_of(Kind::Csk, CROWD)?;
+    let mut set = set_of(Kind::Csk, Algorithms::One, CROWD)?;
     set_clock(START);
     set.start_roll(AlgorithmRoll, &[], names).ok()?;
     set.propagation1_complete(AlgorithmRoll, FIRST_TTL).ok()?;
@@ -277,21 +286,23 @@ fn ask_early(sets: &mut [Waiting], answers: &mut Answers) {
     }
 }
 
-fn starts(
-    roll: RollType,
-    kind: Kind,
-    fault: Fault,
-    keys: usize,
-    rounds: Rounds,
-) -> Option<Answers> {
+fn starts(case: Case, keys: usize, rounds: Rounds) -> Option<Answers> {
     let mut answers = Answers::new();
-    let mut set = set_of(kind, 2 * keys)?;
+    let (roll, kind) = match case {
+        Case::Csks => (CskRoll, Kind::Csk),
+        _ => (ZskRoll, Kind::Zsk),
+    };
+    let algorithms = match case {
+        Case::TwoAlgorithms => Algorithms::Two,
+        _ => Algorithms::One,
+    };
+    let mut set = set_of(kind, algorithms, 2 * keys)?;
     let references = references(2 * keys);
     let mut names: Vec<&str> = references.iter().map(String::as_str).collect();
-    match fault {
-        Fault::None => {}
-        Fault::ListedTwice => names.push(names.last()?),
-        Fault::OtherAlgorithm => {
+    match case {
+        Case::Zsks | Case::Csks | Case::TwoAlgorithms => {}
+        Case::ListedTwice => names.push(names.last()?),
+        Case::OtherAlgorithm => {
             if !add(&mut set, kind, "other".to_string(), 14, u16::MAX) {
                 return None;
             }
@@ -340,14 +351,24 @@ fn add(set: &mut KeySet, kind: Kind, reference: String, algorithm: u8, tag: u16)
     add.is_ok()
 }
 
-fn set_of(kind: Kind, keys: usize) -> Option<KeySet> {
+fn set_of(kind: Kind, algorithms: Algorithms, keys: usize) -> Option<KeySet> {
     let mut set = new_set();
     for tag in (0..=u16::MAX).take(keys) {
-        if !add(&mut set, kind, reference(tag), 13, tag) {
+        let algorithm = match algorithms {
+            Algorithms::One => 13,
+            Algorithms::Two => algorithm_of_two(usize::from(tag), keys),
+        };
+        if !add(&mut set, kind, reference(tag), algorithm, tag) {
             return None;
         }
     }
     Some(set)
+}
+
+fn algorithm_of_two(place: usize, keys: usize) -> u8 {
+    let half = keys / 2;
+    let is_last = place + 1 == half || place + 1 == keys;
+    if (place < half) == is_last { 14 } else { 13 }
 }
 
 fn four_keys() -> Option<KeySet> {
