@@ -128,7 +128,7 @@ static void expect_malformed(const char *script, size_t length, size_t line)
     expect(is_filled(out, sizeof out), "nothing is written where it is malformed", script);
 }
 
-/* What stands before the first call that was refused for want of memory is a beginning of the
+/* What stands before the first call that was refused for lack of memory is a beginning of the
    answer; if there is none, it is the answer. */
 static bool is_answer_until_refused(const struct stored *it, const uint8_t *out, size_t length)
 {
