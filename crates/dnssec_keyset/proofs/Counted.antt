@@ -46,10 +46,10 @@ module _ (p : List ℕ → KeyParts → Bool) where
   count-put r x [] none = refl
   count-put r x (e ∷ es) none =
       elim (slice_cmp nat_cmp r e.0) as
-          (λ o. cond (is_eq o) (Some e.1) (find (slice_cmp nat_cmp) r es) ≡ None
-          → count p
-              (by_order o ((r, x) ∷ e ∷ es) ((e.0, x) ∷ es) (e ∷ put (slice_cmp nat_cmp) r x es))
-              ≡ bit (p r x) + (bit (p e.0 e.1) + count p es)) [
+      (λ o. cond (is_eq o) (Some e.1) (find (slice_cmp nat_cmp) r es) ≡ None
+      → count p
+      (by_order o ((r, x) ∷ e ∷ es) ((e.0, x) ∷ es) (e ∷ put (slice_cmp nat_cmp) r x es))
+      ≡ bit (p r x) + (bit (p e.0 e.1) + count p es)) [
         | Less ↦ λ h. refl
         | Equal ↦ λ h. cc
         | Greater ↦ λ h. let rest = count-put r x es h in omega (arith, rest)
@@ -82,6 +82,7 @@ module _ (p : List ℕ → KeyParts → Bool) where
     where
       none_there : get (remove m r) r ≡ None
       none_there = get-without m r r ∙ ap (λ b. if b then None else get m r) (same_itself r)
+
       at : (o : Option KeyParts) → get m r ≡ o → count_in p m ≡ share p r o
           + count_in p (remove m r)
       at None e = let same : count_in p m ≡ count_in p (remove m r) =
@@ -109,8 +110,8 @@ module _ (p : List ℕ → KeyParts → Bool) where
       → count_in p n + share p r (get m r) ≡ count_in p m + share p r (get n r)
   count-changed m n r others =
       let rest : remove n r ≡ remove m r =
-          same_keys _ _ (λ q. get-without n r q ∙ by q (bytes_eq r q) refl
-          ∙ sym (get-without m r q)) in
+      same_keys _ _ (λ q. get-without n r q ∙ by q (bytes_eq r q) refl
+      ∙ sym (get-without m r q)) in
       let same : count_in p (remove n r) ≡ count_in p (remove m r) = ap (count_in p) rest in
       omega (arith, same, count-at m r, count-at n r)
     where
@@ -127,11 +128,11 @@ module _ (p r : List ℕ → KeyParts → Bool) where
   count-alike [] s h = refl
   count-alike (e ∷ es) s h =
       let here : p e.0 e.1 ≡ r e.0 e.1 =
-          h e.0 e.1 (ap (λ c. cond c (Some e.1) (find (slice_cmp nat_cmp) e.0 es)) (itself e.0)) in
+      h e.0 e.1 (ap (λ c. cond c (Some e.1) (find (slice_cmp nat_cmp) e.0 es)) (itself e.0)) in
       let rest : count p es ≡ count r es =
-          count-alike es (second _ _ s)
-          (λ q k f. h q k (ap (λ c. cond c (Some e.1) (find (slice_cmp nat_cmp) q es))
-          (apart e.0 q (below_found e.0 q k es (first _ _ s) f)) ∙ f)) in
+      count-alike es (second _ _ s)
+      (λ q k f. h q k (ap (λ c. cond c (Some e.1) (find (slice_cmp nat_cmp) q es))
+      (apart e.0 q (below_found e.0 q k es (first _ _ s) f)) ∙ f)) in
       λ i. bit (here i) + rest i
 
   pub count-same : (m : Keys) → ((q : List ℕ) (k : KeyParts) → get m q ≡ Some k → p q k ≡ r q k) →
@@ -152,7 +153,7 @@ module _ (p : KeyType → Bool) where
       + bit (option_map_or (λ k. p k.keytype && not (is_listed qs x)) (get m x) false)
   count-listed qs more x m grown =
       let rest : count_in (listed p more) (remove m x) ≡ count_in (listed p qs) (remove m x) =
-          count-same (listed p more) (listed p qs) (remove m x) other in
+      count-same (listed p more) (listed p qs) (remove m x) other in
       omega (arith, rest, one (get m x), count-at (listed p more) m x, count-at (listed p qs) m x)
     where
       other : (q : List ℕ) (k : KeyParts) → get (remove m x) q ≡ Some k →
@@ -164,11 +165,13 @@ module _ (p : KeyType → Bool) where
           at true h = let gone : None ≡ Some k = sym (get-without m x q
               ∙ ap (λ b. if b then None else get m q) h) ∙ f in cc
           at false h = ap (λ b. p k.keytype && b) (or_nothing (is_listed qs q))
+
       one_key : (k b : Bool) → bit (k && (b || true)) ≡ bit (k && b) + bit (k && not b)
       one_key true true = refl
       one_key true false = refl
       one_key false true = refl
       one_key false false = refl
+
       one : (o : Option KeyParts) → share (listed p more) x o ≡ share (listed p qs) x o
           + bit (option_map_or (λ k. p k.keytype && not (is_listed qs x)) o false)
       one None = refl
@@ -195,7 +198,7 @@ module _ (p : KeyType → Bool) where
     where
       at : (k b : Bool) → count (passes p) es ≡ count (listed p qs) es + count (kept p qs) es
           → bit k + count (passes p) es ≡ (bit (k && b) + count (listed p qs) es)
-              + (bit (k && not b) + count (kept p qs) es)
+          + (bit (k && not b) + count (kept p qs) es)
       at true true h = omega (arith, h)
       at true false h = omega (arith, h)
       at false true h = omega (arith, h)
@@ -249,12 +252,12 @@ module _ {Y : Type 0} (p : KeyType → Bool) where
           ≡ length (filter (λ (k : KeyParts). p k.keytype)
           (map (λ (e : String Y × KeyParts). e.1) es))
           → bit b + count (passes p)
-              (map {B = List ℕ × KeyParts} (λ (e : String Y × KeyParts). (string_bytes e.0, e.1))
-              es)
+          (map {B = List ℕ × KeyParts} (λ (e : String Y × KeyParts). (string_bytes e.0, e.1))
+          es)
           ≡ length (cond b
-              (e.1 ∷ filter (λ (k : KeyParts). p k.keytype)
-              (map (λ (e : String Y × KeyParts). e.1) es))
-              (filter (λ (k : KeyParts). p k.keytype) (map (λ (e : String Y × KeyParts). e.1) es)))
+          (e.1 ∷ filter (λ (k : KeyParts). p k.keytype)
+          (map (λ (e : String Y × KeyParts). e.1) es))
+          (filter (λ (k : KeyParts). p k.keytype) (map (λ (e : String Y × KeyParts). e.1) es)))
       at true h = omega (arith, h)
       at false h = omega (arith, h)
 
@@ -338,10 +341,10 @@ unfolding Fits
 counts-added c m n r x absent is fits old w =
     let p : List ℕ → KeyParts → Bool = passes (serves_as_kept w) in
     let here : share p r (get n r) ≡ bit (serves_as_kept w x.keytype) =
-        ap (share p r) (is r ∙ ap (λ b. if b then Some x else get m r) (same_itself r)) in
+    ap (share p r) (is r ∙ ap (λ b. if b then Some x else get m r) (same_itself r)) in
     let gone : share p r (get m r) ≡ 0 = ap (share p r) absent in
     let change = count-changed p m n r (λ q h. is q
-        ∙ ap (λ b. if b then Some x else get m q) h) in
+    ∙ ap (λ b. if b then Some x else get m q) h) in
     with-of x.keytype c w ∙ omega (arith, here, gone, change, old w, fits w)
 
 -- a key is gone
@@ -352,9 +355,9 @@ counts-removed c m n r x found is old w =
     let p : List ℕ → KeyParts → Bool = passes (serves_as_kept w) in
     let here : share p r (get m r) ≡ bit (serves_as_kept w x.keytype) = ap (share p r) found in
     let gone : share p r (get n r) ≡ 0 =
-        ap (share p r) (is r ∙ ap (λ b. if b then None else get m r) (same_itself r)) in
+    ap (share p r) (is r ∙ ap (λ b. if b then None else get m r) (same_itself r)) in
     let change = count-changed p m n r (λ q h. is q
-        ∙ ap (λ b. if b then None else get m q) h) in
+    ∙ ap (λ b. if b then None else get m q) h) in
     without-of x.keytype c w ∙ omega (arith, here, gone, change, old w)
 
 -- a key is another one
@@ -406,9 +409,11 @@ module _ (step : KeyParts → KeyParts) (kept : (k : KeyParts) → (step k).keyt
         after : List KeyParts
         after = filter (λ (k : KeyParts). p k.keytype) (map (λ (e : String Y × KeyParts). e.1)
             (map (λ (e : String Y × KeyParts). (e.0, step e.1)) es))
+
         before : List KeyParts
         before = filter (λ (k : KeyParts). p k.keytype)
             (map (λ (e : String Y × KeyParts). e.1) es)
+
         at : (b : Bool) → length after ≡ length before →
             length (cond b (step e.1 ∷ after) after) ≡ length (cond b (e.1 ∷ before) before)
         at true h = ap suc h
@@ -438,6 +443,7 @@ folded w (k ∷ ks) c low =
   where
     rest : List KeyParts
     rest = filter (λ (k : KeyParts). serves_as_kept w k.keytype) ks
+
     at : (b : Bool) → count_of (with_key k.keytype c) w
         ≡ min 18446744073709551615 (count_of c w + bit b) → min 18446744073709551615
         (count_of (with_key k.keytype c) w + length rest)

@@ -27,10 +27,10 @@ module _ (roll : RollType) (at : List ℕ → Option KeyParts) (olds : List (Lis
   pub new_fault-at : (rs : List (Bor (List ℕ))) (i : ℕ) (d : Bor (List ℕ)) → i < length rs
       → new_fault roll at olds (texts (take i rs)) (texts (drop i rs))
       ≡ option_or
-          (new_entry_fault roll (at (get_or rs i d).now)
-          (is_listed olds (get_or rs i d).now || is_listed (texts (take i rs))
-          (get_or rs i d).now))
-          (new_fault roll at olds (texts (take (i + 1) rs)) (texts (drop (i + 1) rs)))
+      (new_entry_fault roll (at (get_or rs i d).now)
+      (is_listed olds (get_or rs i d).now || is_listed (texts (take i rs))
+      (get_or rs i d).now))
+      (new_fault roll at olds (texts (take (i + 1) rs)) (texts (drop (i + 1) rs)))
   new_fault-at rs i d h = rw (add-one, take-suc rs i d, drop-cons rs i d, texts-push) refl
 
 any-texts : (f : List ℕ → Bool) (rs : List (Bor (List ℕ))) → list_any f (texts rs)
@@ -53,8 +53,8 @@ has_algorithm-texts at rs a =
 pub algorithms_within-texts : (at : List ℕ → Option KeyParts) (rs : List (Bor (List ℕ)))
     (others : List (List ℕ))
     → algorithms_within at (texts rs) others
-        ≡ list_all (λ (r : Bor (List ℕ)). option_map_or (λ k. has_algorithm at others k.algorithm)
-        (at r.now) true) rs
+    ≡ list_all (λ (r : Bor (List ℕ)). option_map_or (λ k. has_algorithm at others k.algorithm)
+    (at r.now) true) rs
 algorithms_within-texts at rs others =
     all-texts (λ q. option_map_or (λ (k : KeyParts). has_algorithm at others k.algorithm) (at q)
     true) rs

@@ -45,8 +45,10 @@ at_zsk-twice f ff (Include s) = refl
 
 pub marked_old-twice : (k : KeyParts) → marked_old (marked_old k) ≡ marked_old k
 marked_old-twice k =
-    λ i. record k { keytype = at_roles-twice turns_old turns_old (λ s. refl) (λ s. refl) k.keytype
-    i }
+    λ i. record k {
+      keytype = at_roles-twice turns_old turns_old (λ s. refl) (λ s. refl) k.keytype
+          i;
+    }
 
 pub marked_new-twice : (roll : RollType) (now : ℕ) (k : KeyParts) →
     marked_new roll now (marked_new roll now k) ≡ marked_new roll now k
@@ -57,17 +59,20 @@ marked_new-twice KskRoll now k =
 marked_new-twice KskDoubleDsRoll now k = λ i. record (marked_new KskDoubleDsRoll now k)
     { keytype = at_ksk-twice ds_comes_in (λ s. refl) k.keytype i }
 marked_new-twice ZskRoll now k =
-    λ i. record (marked_new ZskRoll now k) { keytype = at_zsk-twice comes_in (λ s. refl) k.keytype
-    i }
+    λ i. record (marked_new ZskRoll now k) {
+      keytype = at_zsk-twice comes_in (λ s. refl) k.keytype
+          i;
+    }
 marked_new-twice ZskDoubleSignatureRoll now k =
     λ i. record (marked_new ZskDoubleSignatureRoll now k)
     { keytype = at_zsk-twice comes_in_signing (λ s. refl) k.keytype i }
 marked_new-twice CskRoll now k =
     λ i. record (marked_new CskRoll now k)
     { keytype = at_roles-twice comes_in_signing comes_in (λ s. refl) (λ s. refl) k.keytype i }
-marked_new-twice AlgorithmRoll now k = λ i. record (marked_new AlgorithmRoll now k)
-    { keytype = at_roles-twice comes_in_signing comes_in_signing (λ s. refl) (λ s. refl) k.keytype
-    i }
+marked_new-twice AlgorithmRoll now k = λ i. record (marked_new AlgorithmRoll now k) {
+  keytype = at_roles-twice comes_in_signing comes_in_signing (λ s. refl) (λ s. refl) k.keytype
+      i;
+}
 
 -- ---- a step of the loop
 
@@ -99,7 +104,7 @@ module _ (f : KeyParts → KeyParts) (twice : (k : KeyParts) → f (f k) ≡ f k
   pub mark_more : (rs : List (Bor (List ℕ))) (i : ℕ) (d : Bor (List ℕ)) (q : List ℕ)
       (o a n : Option KeyParts) → i < length rs
       → a ≡ option_map (λ k. if is_listed (texts (take i rs)) q then f k else k) o →
-          n ≡ option_map (λ k. if bytes_eq (get_or rs i d).now q then f k else k) a
+      n ≡ option_map (λ k. if bytes_eq (get_or rs i d).now q then f k else k) a
       → n ≡ option_map (λ k. if is_listed (texts (take (i + 1) rs)) q then f k else k) o
   mark_more rs i d q o a n h before now =
       now ∙ ap (option_map (λ k. if bytes_eq (get_or rs i d).now q then f k else k)) before

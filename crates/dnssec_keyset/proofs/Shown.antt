@@ -85,7 +85,7 @@ pub get-updated : {Y S : Type 0} (m n : HashMap (String Y) KeyParts S) (r : List
     (o : Option KeyParts)
     → ((q : List ℕ) → get_by_text n q ≡ (if bytes_eq r q then o else get_by_text m q))
     → (q : List ℕ) → fin.get (keys_shown n) q
-        ≡ (if bytes_eq r q then o else fin.get (keys_shown m) q)
+    ≡ (if bytes_eq r q then o else fin.get (keys_shown m) q)
 get-updated m n r o is q = get-keys_shown n q ∙ is q
     ∙ ap (λ (x : Option KeyParts). if bytes_eq r q then o else x) (sym (get-keys_shown m q))
 
@@ -95,7 +95,7 @@ pub ruleset shown = (get-keys_shown, get-shown, text_keys)
 pub entries_by_bytes-clones : {Y : Type 0} (es fs : List (String Y × KeyParts)) →
     AllZip (λ p q. (string_bytes q.0 ≡ string_bytes p.0) × (q.1 ≡ p.1)) es fs
     → map {B = List ℕ × KeyParts} (λ (e : String Y × KeyParts). (string_bytes e.0, e.1)) fs
-        ≡ map {B = List ℕ × KeyParts} (λ (e : String Y × KeyParts). (string_bytes e.0, e.1)) es
+    ≡ map {B = List ℕ × KeyParts} (λ (e : String Y × KeyParts). (string_bytes e.0, e.1)) es
 entries_by_bytes-clones [] [] h = refl
 entries_by_bytes-clones [] (f ∷ fs) h = absurd h
 entries_by_bytes-clones (e ∷ es) [] h = absurd h

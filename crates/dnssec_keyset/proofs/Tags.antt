@@ -63,14 +63,14 @@ TagsAgree-mapped has m n f keeps is old = record {
       let b = mapped _ (f q) k (sym (is q) ∙ e) in
       let c = mapped _ (f r) l (sym (is r) ∙ d) in
       old.apart q r b.0 c.0 b.1 c.1 (sym (keeps q b.0) ∙ ap (λ (x : KeyParts). x.key_tag) b.2
-          ∙ same ∙ sym (ap (λ (x : KeyParts). x.key_tag) c.2) ∙ keeps r c.0);
+      ∙ same ∙ sym (ap (λ (x : KeyParts). x.key_tag) c.2) ∙ keeps r c.0);
 }
 
 -- a key is gone, and its tag
 pub TagsAgree-removed : (has left : ℕ → Bool) (m n : Keys) (r : List ℕ) (x : KeyParts) → get m r
     ≡ Some x
     → ((q : List ℕ) → get n q ≡ (if bytes_eq r q then None else get m q)) →
-        ((t : ℕ) → left t ≡ (if nat_eq x.key_tag t then false else has t))
+    ((t : ℕ) → left t ≡ (if nat_eq x.key_tag t then false else has t))
     → TagsAgree has m → TagsAgree left n
 TagsAgree-removed has left m n r x found is gone old = record {
   covers = λ q k e. elim (split (bytes_eq r q)) [
@@ -78,7 +78,7 @@ TagsAgree-removed has left m n r x found is gone old = record {
         ∙ sym (is q) ∙ e in cc
     | inr h ↦
         let here : get m q ≡ Some k = sym (ap (λ (b : Bool). if b then None else get m q) h)
-            ∙ sym (is q) ∙ e in
+        ∙ sym (is q) ∙ e in
         elim (split (nat_eq x.key_tag k.key_tag)) [
           | inl same ↦
               let tied : x.key_tag ≡ k.key_tag = grind (arith, nat_tests) in
@@ -93,7 +93,7 @@ TagsAgree-removed has left m n r x found is gone old = record {
         ∙ sym (gone t) ∙ e in cc
     | inr differs ↦
         let o = old.owned t (sym (ap (λ (b : Bool). if b then false else has t) differs)
-            ∙ sym (gone t) ∙ e) in
+        ∙ sym (gone t) ∙ e) in
         elim (split (bytes_eq r o.0)) [
           | inl h ↦
               let one : r ≡ o.0 = (bytes_decides r o.0).0 h in
@@ -101,8 +101,13 @@ TagsAgree-removed has left m n r x found is gone old = record {
               let tied : x ≡ o.1 = cc in
               let tag : x.key_tag ≡ t = ap (λ (k : KeyParts). k.key_tag) tied ∙ o.3 in
               absurd (grind (arith, nat_tests))
-          | inr h ↦ (o.0, o.1, is o.0 ∙ ap (λ (b : Bool). if b then None else get m o.0) h
-              ∙ o.2, o.3)
+          | inr h ↦ (
+            o.0,
+            o.1,
+            is o.0 ∙ ap (λ (b : Bool). if b then None else get m o.0) h
+                ∙ o.2,
+            o.3,
+          )
         ]
   ];
   apart = λ q s k l e d same. old.apart q s k l (kept q k e) (kept s l d) same;
@@ -119,31 +124,40 @@ TagsAgree-removed has left m n r x found is gone old = record {
 pub TagsAgree-added : (has more : ℕ → Bool) (m n : Keys) (r : List ℕ) (x : KeyParts) → get m r
     ≡ None → has x.key_tag ≡ false
     → ((q : List ℕ) → get n q ≡ (if bytes_eq r q then Some x else get m q)) →
-        ((t : ℕ) → more t ≡ (if nat_eq x.key_tag t then true else has t))
+    ((t : ℕ) → more t ≡ (if nat_eq x.key_tag t then true else has t))
     → TagsAgree has m → TagsAgree more n
 TagsAgree-added has more m n r x absent free is gains old = record {
   covers = λ q k e. elim (split (nat_eq x.key_tag k.key_tag)) [
     | inl same ↦ gains k.key_tag ∙ ap (λ (b : Bool). if b then true else has k.key_tag) same
     | inr differs ↦ gains k.key_tag ∙ ap (λ (b : Bool). if b then true else has k.key_tag) differs
         ∙ elim (there q k e) [
-      | inl h ↦ let tag : x.key_tag ≡ k.key_tag = ap (λ (z : KeyParts). z.key_tag) h.1 in
-          absurd (grind (arith, nat_tests))
-      | inr h ↦ old.covers q k h
-    ]
+          | inl h ↦ let tag : x.key_tag ≡ k.key_tag = ap (λ (z : KeyParts). z.key_tag) h.1 in
+              absurd (grind (arith, nat_tests))
+          | inr h ↦ old.covers q k h
+        ]
   ];
   owned = λ t e. elim (split (nat_eq x.key_tag t)) [
-    | inl same ↦ let tag : x.key_tag ≡ t = grind (arith, nat_tests) in
-        (r, x, is r ∙ ap (λ (b : Bool). if b then Some x else get m r)
-        ((bytes_decides r r).1 refl), tag)
+    | inl same ↦ let tag : x.key_tag ≡ t = grind (arith, nat_tests) in (
+      r,
+      x,
+      is r ∙ ap (λ (b : Bool). if b then Some x else get m r)
+          ((bytes_decides r r).1 refl),
+      tag,
+    )
     | inr differs ↦
         let o = old.owned t (sym (ap (λ (b : Bool). if b then true else has t) differs)
-            ∙ sym (gains t) ∙ e) in
+        ∙ sym (gains t) ∙ e) in
         elim (split (bytes_eq r o.0)) [
           | inl h ↦
               let one : r ≡ o.0 = (bytes_decides r o.0).0 h in
               let f : None ≡ Some o.1 = sym absent ∙ ap (get m) one ∙ o.2 in cc
-          | inr h ↦ (o.0, o.1, is o.0 ∙ ap (λ (b : Bool). if b then Some x else get m o.0) h
-              ∙ o.2, o.3)
+          | inr h ↦ (
+            o.0,
+            o.1,
+            is o.0 ∙ ap (λ (b : Bool). if b then Some x else get m o.0) h
+                ∙ o.2,
+            o.3,
+          )
         ]
   ];
   apart = λ q s k l e d same. elim (there q k e) [
@@ -151,14 +165,14 @@ TagsAgree-added has more m n r x absent free is gains old = record {
       | inl g ↦ sym h.0 ∙ g.0
       | inr g ↦
           let tag : has x.key_tag ≡ true =
-              subst (λ t. has t ≡ true) (sym (ap (λ (z : KeyParts). z.key_tag) h.1 ∙ same))
-              (old.covers s l g) in cc
+          subst (λ t. has t ≡ true) (sym (ap (λ (z : KeyParts). z.key_tag) h.1 ∙ same))
+          (old.covers s l g) in cc
     ]
     | inr h ↦ elim (there s l d) [
       | inl g ↦
           let tag : has x.key_tag ≡ true =
-              subst (λ t. has t ≡ true) (same ∙ sym (ap (λ (z : KeyParts). z.key_tag) g.1))
-              (old.covers q k h) in cc
+          subst (λ t. has t ≡ true) (same ∙ sym (ap (λ (z : KeyParts). z.key_tag) g.1))
+          (old.covers q k h) in cc
       | inr g ↦ old.apart q s k l h g same
     ]
   ];
@@ -198,7 +212,7 @@ tags-has_tag has v t agree = elim (split (has t)) [
     | inr g ↦
         let o = agree.owned t h in
         let apart : nat_eq o.1.key_tag t ≡ false = some_key-none (λ k. nat_eq k.key_tag t) v o.0
-            o.1 g o.2 in
+        o.1 g o.2 in
         let tag : o.1.key_tag ≡ t = o.3 in
         absurd (grind (arith, nat_tests))
   ]
@@ -246,7 +260,7 @@ listed-put keys differ tags more r x found put listed old q k at =
     elim (split (bytes_eq r q)) [
       | inl same ↦
           let one : Some x ≡ Some k =
-              sym found ∙ ap (get keys) ((bytes_decides r q).0 same) ∙ at in
+          sym found ∙ ap (get keys) ((bytes_decides r q).0 same) ∙ at in
           let tag : x.key_tag ≡ k.key_tag = ap (λ (o : Option KeyParts). tag_in o) one in
           let yes : nat_eq x.key_tag k.key_tag ≡ true = grind (arith, nat_tests) in
           put k.key_tag ∙ ap (λ b. if b then true else is_set tags k.key_tag) yes
@@ -256,7 +270,7 @@ listed-put keys differ tags more r x found put listed old q k at =
             | inl e ↦
                 let tag : x.key_tag ≡ k.key_tag = grind (arith, nat_tests) in
                 let yes : bytes_eq r q ≡ true =
-                    (bytes_decides r q).1 (differ r q x k found at tag) in cc
+                (bytes_decides r q).1 (differ r q x k found at tag) in cc
             | inr e ↦ e
           ] in
           put k.key_tag ∙ ap (λ b. if b then true else is_set tags k.key_tag) no

@@ -125,7 +125,9 @@ impl Keys {
         ensures { result ≡ list_all (λ r. option_map_or (λ k. is_set algorithms.now k.algorithm)
             (map.get self.now r.now) true) references.now }
     {
-        references.iter().all(|reference| self.is_of(reference, algorithms))
+        references
+            .iter()
+            .all(|reference| self.is_of(reference, algorithms))
     }
 
     fn algorithms_within(&self, references: &[&str], others: &[&str]) -> bool
@@ -211,9 +213,7 @@ impl Keys {
     {
         match self.get(reference) {
             None => false,
-            Some(key) => {
-                want.is_met_by_kept(key.keytype()) && !is_set(earlier, key.key_tag())
-            }
+            Some(key) => { want.is_met_by_kept(key.keytype()) && !is_set(earlier, key.key_tag()) }
         }
     }
 
@@ -228,7 +228,8 @@ impl Keys {
         ensures { result ≡ list_any (λ r. option_map_or (λ k. serves_as_new (as_want want) k.keytype)
             (map.get self.now r.now) false) new.now }
     {
-        new.iter().any(|reference| self.serves_as_new(want, reference))
+        new.iter()
+            .any(|reference| self.serves_as_new(want, reference))
     }
 
     fn serves_as_new(&self, want: Want, reference: &str) -> bool

@@ -21,14 +21,22 @@ pub(crate) struct Counts {
 fn more(count: usize, serves: bool) -> usize
     ensures { result ≡ one_more serves count }
 {
-    if serves { count.saturating_add(1) } else { count }
+    if serves {
+        count.saturating_add(1)
+    } else {
+        count
+    }
 }
 
 /// A count, and one less where a key serves.
 fn less(count: usize, serves: bool) -> usize
     ensures { result ≡ one_less serves count }
 {
-    if serves { count.saturating_sub(1) } else { count }
+    if serves {
+        count.saturating_sub(1)
+    } else {
+        count
+    }
 }
 
 impl Counts {
@@ -63,7 +71,10 @@ impl Counts {
     {
         Counts {
             present_ksk: more(self.present_ksk, Want::PresentKsk.is_met_by_kept(*keytype)),
-            ksk_at_parent: more(self.ksk_at_parent, Want::KskAtParent.is_met_by_kept(*keytype)),
+            ksk_at_parent: more(
+                self.ksk_at_parent,
+                Want::KskAtParent.is_met_by_kept(*keytype),
+            ),
             present_zsk: more(self.present_zsk, Want::PresentZsk.is_met_by_kept(*keytype)),
             present_ksk_role: more(
                 self.present_ksk_role,
@@ -82,7 +93,10 @@ impl Counts {
     {
         Counts {
             present_ksk: less(self.present_ksk, Want::PresentKsk.is_met_by_kept(*keytype)),
-            ksk_at_parent: less(self.ksk_at_parent, Want::KskAtParent.is_met_by_kept(*keytype)),
+            ksk_at_parent: less(
+                self.ksk_at_parent,
+                Want::KskAtParent.is_met_by_kept(*keytype),
+            ),
             present_zsk: less(self.present_zsk, Want::PresentZsk.is_met_by_kept(*keytype)),
             present_ksk_role: less(
                 self.present_ksk_role,

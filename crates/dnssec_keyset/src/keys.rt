@@ -338,7 +338,8 @@ fn recount(keys: &HashMap<String, Key>) -> Counts
 fn count_all(keys: &HashMap<String, Key>) -> Counts
     ensures { result ≡ fold (λ c k. with_key k.keytype c) no_counts (hash.values keys.now) }
 {
-    keys.values().fold(Counts::none(), |counts, key| counts.with(&key.keytype()))
+    keys.values()
+        .fold(Counts::none(), |counts, key| counts.with(&key.keytype()))
 }
 
 /// What holds of every such map: no reference stands twice, and a `usize` tells how many do.

@@ -13,5 +13,5 @@ returns-clause-put c =
     let k = c.args.number % 64 in
     let old = get_or ws (c.args.number / 64) 0 in
     λ n. rw (c.from-at.ensures) (written ws c.args.number _ true c.requires
-        (ap (λ x. nat_eq x 1) (bit_at_set_same w64 old k (omega arith)))
-        (λ i low d. bit_at_set_other w64 old k (omega arith) i d) n)
+    (ap (λ x. nat_eq x 1) (bit_at_set_same w64 old k (omega arith)))
+    (λ i low d. bit_at_set_other w64 old k (omega arith) i d) n)

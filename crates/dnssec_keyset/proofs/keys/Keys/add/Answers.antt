@@ -19,11 +19,10 @@ invariant_of-self-2 c =
     let n = keys_shown c.insert.new.self in
     let absent : get (keys_shown i.map) r ≡ None = search (rules, shown) in
     let free : contains nat_eq i.tags x.key_tag ≡ false =
-        tags-has_tag (contains nat_eq i.tags) _ x.key_tag c.self.invariant.0
-        ∙ ap (has_tag x.key_tag) c.self.view_is ∙ search rules in
+    tags-has_tag (contains nat_eq i.tags) _ x.key_tag c.self.invariant.0
+    ∙ ap (has_tag x.key_tag) c.self.view_is ∙ search rules in
     let is = get-updated i.map c.insert.new.self r (Some x)
-        (hash_map_updates_text r i.map c.insert.new.self (Some x) c.in-Ok.ensures.updates) in
-    (
+    (hash_map_updates_text r i.map c.insert.new.self (Some x) c.in-Ok.ensures.updates) in (
       TagsAgree-added (contains nat_eq i.tags) (contains nat_eq c.put_tag.new.tags)
           (keys_shown i.map) n r x absent free is (λ t. search rules) c.self.invariant.0,
       rw (c.with-self-inside.ensures, c.keytype-keytype.ensures) (counts-added i.counts (keys_shown i.map) n r x

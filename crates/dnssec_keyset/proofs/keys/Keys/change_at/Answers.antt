@@ -19,7 +19,7 @@ returns-in_default c =
     let same : c.get_mut.follows.lender-at-none ≡ c.self.inside.map = search rules in
     let none : map.get c.args.self.now c.args.reference.now ≡ None = search (rules, shown) in
     let is : keys_shown c.get_mut.follows.lender-at-none ≡ c.args.self.now =
-        ap keys_shown same ∙ c.self.view_is in
+    ap keys_shown same ∙ c.self.view_is in
     λ q. rw is (get-absent (made c.args.change) c.args.reference.now c.args.self.now none q)
 
 pub invariant_of-self-2 : goal.invariant_of-self-2
@@ -31,15 +31,14 @@ invariant_of-self-2 c =
     let k = c.in-Some.key.now in
     let found : map.get (keys_shown i.map) r ≡ Some k = search (rules, shown) in
     let is : (q : List ℕ) → map.get (keys_shown n) q
-        ≡ option_map (λ k. if bytes_eq r q then f k else k) (map.get (keys_shown i.map) q) =
-        λ q. search (rules, shown) in
+    ≡ option_map (λ k. if bytes_eq r q then f k else k) (map.get (keys_shown i.map) q) =
+    λ q. search (rules, shown) in
     let after : c.keytype-after.result ≡ (f k).keytype = c.keytype-after.ensures
-        ∙ ap (λ (x : KeyParts). x.keytype) c.make.ensures in
+    ∙ ap (λ (x : KeyParts). x.keytype) c.make.ensures in
     let counts : c.with-self-inside.result ≡ with_key (f k).keytype (without_key k.keytype i.counts) =
-        c.with-self-inside.ensures ∙ ap (λ t. with_key t c.without.result) after
-        ∙ ap (with_key (f k).keytype) (c.without.ensures
-        ∙ ap (λ t. without_key t i.counts) c.keytype-before.ensures) in
-    (
+    c.with-self-inside.ensures ∙ ap (λ t. with_key t c.without.result) after
+    ∙ ap (with_key (f k).keytype) (c.without.ensures
+    ∙ ap (λ t. without_key t i.counts) c.keytype-before.ensures) in (
       TagsAgree-mapped (contains nat_eq i.tags) (keys_shown i.map) (keys_shown n)
           (λ q k. if bytes_eq r q then f k else k)
           (λ q k. kept_at f (kept_made c.args.change) _ k) is c.self.invariant.0,

@@ -25,9 +25,8 @@ loop-reference-init c =
     let rs = c.args.old.now in
     let i = c.loop-entry.entry-index in
     let end : i ≡ length rs =
-        omega (arith, c.loop-entry.auto.entry-index-end, c.loop-entry-test.false) in
-    let all : take i rs ≡ rs = ap (λ i. take i rs) end ∙ take-length rs in
-    (
+    omega (arith, c.loop-entry.auto.entry-index-end, c.loop-entry-test.false) in
+    let all : take i rs ≡ rs = ap (λ i. take i rs) end ∙ take-length rs in (
       refl,
       c.loop-entry.invariant.0,
       listed-same c.args.self.now _ _ _
@@ -39,13 +38,12 @@ pub returns-in-Some : goal.returns-in-Some
 returns-in-Some c =
     let l = c.loop-reference in
     fault-found c.args.roll c.args.self.now (texts c.args.old.now) c.args.new.now l.taken
-        l.reference-index _ c.loop-reference-test.true l.invariant.2 _ l.invariant.0
-        c.in-Some.fault (sym c.in-Some.is) c.new_entry_fault.ensures
+    l.reference-index _ c.loop-reference-test.true l.invariant.2 _ l.invariant.0
+    c.in-Some.fault (sym c.in-Some.is) c.new_entry_fault.ensures
 
 pub loop-reference-preserved : goal.loop-reference-preserved
 loop-reference-preserved c =
-    let l = c.loop-reference in
-    (
+    let l = c.loop-reference in (
       fault-behind c.args.roll c.args.self.now (texts c.args.old.now) c.args.new.now l.taken
           l.reference-index _ c.loop-reference-test.true l.invariant.2 _ l.invariant.0
           c.in_default.is c.new_entry_fault.ensures,

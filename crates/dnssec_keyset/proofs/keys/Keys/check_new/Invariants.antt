@@ -18,4 +18,4 @@ invariant-loop-reference l =
     ≡ new_fault l.roll (get l.self) (texts l.old) [] (texts l.new))
     × (length l.taken ≡ 1024)
     × HasListed l.taken l.self (λ q. is_listed (texts l.old) q || is_listed (texts (take i l.new))
-        q)
+    q)

@@ -24,12 +24,11 @@ loop-reference-preserved c =
     let l = c.loop-reference in
     let p = serves_as_kept (as_want c.args.want) in
     let more : c.if-serves_first.count ≡ l.count + bit c.serves_first.result =
-        elim c.if-serves_first.branch [
-          | then-serves_first w ↦ w.count-is ∙ ap (λ b. l.count + bit b) (sym w.if-serves_first.true)
-          | else-serves_first w ↦ w.count-is ∙ sym (nothing l.count)
-              ∙ ap (λ b. l.count + bit b) (sym w.if-serves_first.false)
-        ] in
-    (
+    elim c.if-serves_first.branch [
+      | then-serves_first w ↦ w.count-is ∙ ap (λ b. l.count + bit b) (sym w.if-serves_first.true)
+      | else-serves_first w ↦ w.count-is ∙ sym (nothing l.count)
+          ∙ ap (λ b. l.count + bit b) (sym w.if-serves_first.false)
+    ] in (
       low l.count c.if-serves_first.count l.reference-index c.serves_first.result l.invariant.0 more,
       counted-behind p c.args.self.now c.args.old.now l.earlier l.reference-index _
           c.loop-reference-test.true l.invariant.3 c.serves_first.result c.serves_first.ensures
@@ -42,6 +41,7 @@ loop-reference-preserved c =
   where
     nothing : (n : ℕ) → n + 0 ≡ n
     nothing n = omega arith
+
     low : (n m i : ℕ) (b : Bool) → n ≤ i → m ≡ n + bit b → m ≤ i + 1
     low n m i true h e = omega (arith, h, e)
     low n m i false h e = omega (arith, h, e)

@@ -18,8 +18,7 @@ invariant_of-self c =
     let n = keys_shown c.remove.new.self in
     let found : get (keys_shown i.map) r ≡ Some x = search (rules, shown) in
     let is = get-updated i.map c.remove.new.self r None
-        (hash_map_updates_text r i.map c.remove.new.self _ c.remove.ensures.updates) in
-    (
+    (hash_map_updates_text r i.map c.remove.new.self _ c.remove.ensures.updates) in (
       TagsAgree-removed (contains nat_eq i.tags) (contains nat_eq c.remove-3.new.self)
           (keys_shown i.map) n r x found is
           (λ t. rw (← c.key_tag-key_tag.ensures) (c.remove-3.ensures.updates.0 t))

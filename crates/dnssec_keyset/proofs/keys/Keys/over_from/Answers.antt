@@ -15,7 +15,7 @@ returns-clause-over c = at c.latest_over.result refl
     at None is = tt
     at (Some end) is = walk-over c.args.roll
         (which c.args.half) c.args.ttl c.self.inside c.args.self.now c.self.view_is
-            c.latest_over.ensures.unique end (is ∙ c.latest_over.ensures.latest)
+        c.latest_over.ensures.unique end (is ∙ c.latest_over.ensures.latest)
 
 pub returns-clause-missing : goal.returns-clause-missing
 returns-clause-missing c = at c.latest_over.result refl
@@ -24,5 +24,5 @@ returns-clause-missing c = at c.latest_over.result refl
         IfNone r (LacksStamp c.args.roll (which c.args.half) c.args.ttl c.args.self.now)
     at None is = walk-lacks c.args.roll
         (which c.args.half) c.args.ttl c.self.inside c.args.self.now c.self.view_is
-            c.latest_over.ensures.unique (is ∙ c.latest_over.ensures.latest)
+        c.latest_over.ensures.unique (is ∙ c.latest_over.ensures.latest)
     at (Some end) is = tt

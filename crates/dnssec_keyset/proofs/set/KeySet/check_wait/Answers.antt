@@ -23,8 +23,8 @@ returns-in_default-over_from-clause-reply c =
     let phase = ttl-shown (which a.half) a.rolltype c.self.inside a.self.now c.self.view_is
     ∙ sym c.in-Some.ensures in
     told-missing _ a.rolltype (which a.half) c.in-Some.ttl a.self.now.keys _ phase
-        (subst (λ o. IfNone o (LacksStamp a.rolltype (which a.half) c.in-Some.ttl a.self.now.keys))
-        c.in_default-over_from.is c.over_from.ensures.missing) a.now.now
+    (subst (λ o. IfNone o (LacksStamp a.rolltype (which a.half) c.in-Some.ttl a.self.now.keys))
+    c.in_default-over_from.is c.over_from.ensures.missing) a.now.now
 
 pub returns-clause-reply : goal.returns-clause-reply
 returns-clause-reply c =
@@ -33,4 +33,4 @@ returns-clause-reply c =
     ∙ sym c.in-Some.ensures in
     let now = c.as_nanos-now.ensures ∙ c.from.ensures in
     told-over _ a.rolltype (which a.half) c.in-Some.ttl a.self.now.keys c.in-Some-over_from.end _
-        phase c.in-Some-over_from.ensures.over a.now.now (omega (arith, now, c.if-now-end.false)) _
+    phase c.in-Some-over_from.ensures.over a.now.now (omega (arith, now, c.if-now-end.false)) _

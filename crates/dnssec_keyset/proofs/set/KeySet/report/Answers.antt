@@ -3,5 +3,9 @@ use Rattle.std.proofs.Common.{refl}
 use Rattle.dnssec_keyset.proofs.set.KeySet.report.Goals as goal
 
 pub returns-clause-ok : goal.returns-clause-ok
-returns-clause-ok c = rw (← c.expiring.ensures, ← c.self.view_is) record { name = refl; rolls =
-    c.move_to.ensures; keys = c.report_all.ensures }
+returns-clause-ok c = rw (← c.expiring.ensures, ← c.self.view_is) record {
+  name = refl;
+  rolls =
+      c.move_to.ensures;
+  keys = c.report_all.ensures;
+}
