@@ -2,9 +2,9 @@
 
     python3 make_sample.py [--original PROGRAM] [--count N] > scripts.txt
 
-The scripts written by hand come first, and one of 300 tags. Then come generated ones, N scripts in
-all: the next is always the one that has, for its length, the most calls that are answered in a
-state as no call before. Last come the examples. The answers are those of the tables, and the chain line that of
+The scripts written by hand come first. Then come generated ones, N scripts in all: the next is
+always the one that has, for its length, the most calls that are answered in a state as no call
+before. Last come the examples. The answers are those of the tables, and the chain line that of
 judge.py. With an original the answers are compared with it first.
 """
 
@@ -14,7 +14,7 @@ import sys
 from pathlib import Path
 
 import compare
-from make_scripts import Script, by_hand, each_tag_twice
+from make_scripts import Script, by_hand
 from tables import PHASES, KeySet, answers
 
 HEADER = """\
@@ -43,7 +43,7 @@ def what_is_shown(script):
 
 def choose(count):
     """The named scripts of the sample."""
-    chosen = by_hand() | {"three-hundred-tags": each_tag_twice(300)}
+    chosen = by_hand()
     shown = set().union(*(what_is_shown(lines) for lines in chosen.values()))
     made = [Script(SEED, number) for number in range(MADE)]
     left = [

@@ -313,13 +313,6 @@ def by_hand():
     return read_scripts(Path(__file__).with_name("by_hand.txt").read_text())
 
 
-def each_tag_twice(count):
-    """A script that adds so many keys, and then one more with each of their tags."""
-    adds = [f"add-zsk Z{tag} - 13 {tag} 0 yes" for tag in range(count)]
-    again = [f"add-zsk Y{tag} - 13 {tag} 0 yes" for tag in range(count)]
-    return ["zone .", *adds, *again]
-
-
 def generated(seed, count):
     return {f"{seed}-{number}": Script(seed, number).lines for number in range(count)}
 
