@@ -1,8 +1,8 @@
 /* keyset.h: a proved DNSSEC key set for C, and for what calls C.
 
    A script goes in, its answers come out. The script is the whole state: keep the lines that were
-   accepted, add one, and ask again. docs/CALLERS.md is the page for callers, docs/SCRIPTS.md has the
-   form of scripts and of answers.
+   accepted, add one, and ask again. docs/CALLERS.md is the page for callers, docs/SCRIPTS.md has
+   the form of scripts and of answers.
 
    Who owns what: both buffers are the caller's. The library reads the script and writes the answer
    while it is called, and keeps no pointer. What it allocates it frees before it returns.

@@ -1,4 +1,5 @@
--- How many keys pass a test, kept as the keys change; and from it, whether a key passes that isn't listed.
+-- How many keys pass a test, kept as the keys change; and from it, whether a key passes that isn't
+-- listed.
 use Rattle.std.proofs.Common.{◌≡◌, ℕ, suc, min, ◌+◌, ◌-◌, ◌≤◌, Bool, true, false, cond}
 use Rattle.std.proofs.Common.{not, List, [], ◌∷◌, Some, None, refl, sym, ap, ◌∙◌}
 use Rattle.std.proofs.Common.{arith}

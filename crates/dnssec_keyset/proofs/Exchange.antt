@@ -10,7 +10,8 @@ use Rattle.std.proofs.lemmas.Bool.Decides.{nat_tests}
 use Rattle.dnssec_key.specs.declared.key.KeyType.{KeyType}
 use Rattle.dnssec_key.specs.declared.key.KeyType.TheVariants.{Ksk, Zsk, Csk, Include}
 use Rattle.dnssec_keyset.specs.Start.{Want}
-use Rattle.dnssec_keyset.specs.Start.{PresentKsk, KskAtParent, PresentZsk, PresentKskRole, PresentZskRole}
+use Rattle.dnssec_keyset.specs.Start.{PresentKsk, KskAtParent, PresentZsk, PresentKskRole}
+use Rattle.dnssec_keyset.specs.Start.{PresentZskRole}
 use Rattle.dnssec_keyset.specs.Start.{Side}
 use Rattle.dnssec_keyset.specs.Start.{KskSide, ZskSide, BothSides}
 use Rattle.dnssec_key.specs.declared.roll.RollType.{RollType}

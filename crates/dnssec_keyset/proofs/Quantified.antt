@@ -43,13 +43,16 @@ same_key q x e = (bytes_decides q x).0 (sym (is_eq-slice_cmp q x) ∙ e)
 pub itself : (q : List ℕ) → is_eq (slice_cmp nat_cmp q q) ≡ true
 itself q = is_eq-slice_cmp q q ∙ (bytes_decides q q).1 refl
 
-pub apart : (x q : List ℕ) → T (is_lt (slice_cmp nat_cmp x q)) → is_eq (slice_cmp nat_cmp q x) ≡ false
+pub apart : (x q : List ℕ) → T (is_lt (slice_cmp nat_cmp x q)) →
+    is_eq (slice_cmp nat_cmp q x) ≡ false
 apart x q h = elim (split (is_eq (slice_cmp nat_cmp q x))) [
   | inl e ↦ absurd (not_both (slice_cmp nat_cmp x x) (subst (λ k. T (is_lt (slice_cmp nat_cmp x k))) (same_key q x e) h) (itself x))
   | inr e ↦ e
 ]
 
-pub below_found : (x q : List ℕ) (v : KeyParts) (es : List (List ℕ × KeyParts)) → T (below_all (slice_cmp nat_cmp) x es) → find (slice_cmp nat_cmp) q es ≡ Some v → T (is_lt (slice_cmp nat_cmp x q))
+pub below_found : (x q : List ℕ) (v : KeyParts) (es : List (List ℕ × KeyParts)) →
+    T (below_all (slice_cmp nat_cmp) x es) → find (slice_cmp nat_cmp) q es ≡ Some v →
+    T (is_lt (slice_cmp nat_cmp x q))
 below_found x q v [] b f = cc
 below_found x q v (e ∷ es) b f = elim (split (is_eq (slice_cmp nat_cmp q e.0))) [
   | inl h ↦ subst (λ k. T (is_lt (slice_cmp nat_cmp x k))) (sym (same_key q e.0 h)) (first _ _ b)

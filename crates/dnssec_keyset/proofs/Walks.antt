@@ -74,7 +74,8 @@ module _ {Y : Type 0} where
     some_key-shown p m unique = sym (list_any-IsPermutation p _ _ (values_permute m unique))
 
 -- what some key of a key set passes, through the hash map that it holds
-pub some_key-view : (p : KeyParts → Bool) (i : Inside) (v : Keys) → the_view i ≡ v → IsUnique string_eq i.map → some_key p v ≡ list_any p (values i.map)
+pub some_key-view : (p : KeyParts → Bool) (i : Inside) (v : Keys) → the_view i ≡ v →
+    IsUnique string_eq i.map → some_key p v ≡ list_any p (values i.map)
 some_key-view p i v e unique = sym (ap (some_key p) e) ∙ some_key-shown p i.map unique
 
 pub ruleset walked = (some_key-view, some_key-shown)

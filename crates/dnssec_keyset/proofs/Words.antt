@@ -25,9 +25,11 @@ module _ (ws : List ℕ) (tag w : ℕ) (b : Bool) (room : tag / 64 < length ws)
         ∙ ap (λ i. nat_eq (bit_at (get_or ws i 0) (t % 64)) 1) (sym e)
 
     itself : is_set (set ws (tag / 64) w) tag ≡ b
-    itself = ap (λ x. nat_eq (bit_at x (tag % 64)) 1) (get_or-set_same ws (tag / 64) w 0 room) ∙ here
+    itself = ap (λ x. nat_eq (bit_at x (tag % 64)) 1)
+        (get_or-set_same ws (tag / 64) w 0 room) ∙ here
 
-    pub written : (t : ℕ) → is_set (set ws (tag / 64) w) t ≡ (if nat_eq tag t then b else is_set ws t)
+    pub written : (t : ℕ) →
+        is_set (set ws (tag / 64) w) t ≡ (if nat_eq tag t then b else is_set ws t)
     written t = by (nat_eq tag t) refl (nat_eq (t / 64) (tag / 64)) refl
       where
         by : (c : Bool) → nat_eq tag t ≡ c → (d : Bool) → nat_eq (t / 64) (tag / 64) ≡ d →

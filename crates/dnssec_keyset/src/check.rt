@@ -219,13 +219,15 @@ impl Keys {
 
     #[tactic(auto, using(crate::proofs::Starts::starts))]
     fn has_new(&self, want: Want, new: &[&str]) -> bool
-        ensures { result ≡ some_listed (serves_as_new (as_want want)) (map.get self.now) (texts new.now) }
+        ensures { result ≡
+            some_listed (serves_as_new (as_want want)) (map.get self.now) (texts new.now) }
     {
         self.any_serves_as_new(want, new)
     }
 
     fn any_serves_as_new(&self, want: Want, new: &[&str]) -> bool
-        ensures { result ≡ list_any (λ r. option_map_or (λ k. serves_as_new (as_want want) k.keytype)
+        ensures { result ≡
+            list_any (λ r. option_map_or (λ k. serves_as_new (as_want want) k.keytype)
             (map.get self.now r.now) false) new.now }
     {
         new.iter()

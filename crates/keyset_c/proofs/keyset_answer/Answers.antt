@@ -19,7 +19,8 @@ pub returns-in-Ok-clause-chain : goal.returns-in-Ok-clause-chain
 returns-in-Ok-clause-chain c = λ answered a.
     let old = Some c.new-output.result.inner.items in
     let new = Some c.run_script.new.output.inner.items in
-    let told = subst (λ s. EndsSafe s.now old new) c.new-input.ensures.inner c.in-Ok.ensures.chain in
+    let told = subst (λ s. EndsSafe s.now old new) c.new-input.ensures.inner
+    c.in-Ok.ensures.chain in
     let empty = ap (λ v. v.items) c.new-output.ensures.inner ∙ c.new.ensures.items in
     let same = c.deref.ensures.value ∙ ap (λ v. v.items) c.into_inner.ensures in
     told _ a (took _ _ _ _ empty same (c.hand_out.ensures.written answered))

@@ -25,7 +25,8 @@ invariant_of-self-2 c =
     (hash_map_updates_text r i.map c.insert.new.self (Some x) c.in-Ok.ensures.updates) in (
       TagsAgree-added (contains nat_eq i.tags) (contains nat_eq c.put_tag.new.tags)
           (keys_shown i.map) n r x absent free is (λ t. search rules) c.self.invariant.0,
-      rw (c.with-self-inside.ensures, c.keytype-keytype.ensures) (counts-added i.counts (keys_shown i.map) n r x
+      rw (c.with-self-inside.ensures, c.keytype-keytype.ensures)
+          (counts-added i.counts (keys_shown i.map) n r x
           absent is (fits-shown c.insert.new.self c.is_sound.ensures.unique
           c.is_sound.ensures.fits) c.self.invariant.1),
     )

@@ -35,7 +35,8 @@ invariant_of-self-2 c =
     λ q. search (rules, shown) in
     let after : c.keytype-after.result ≡ (f k).keytype = c.keytype-after.ensures
     ∙ ap (λ (x : KeyParts). x.keytype) c.make.ensures in
-    let counts : c.with-self-inside.result ≡ with_key (f k).keytype (without_key k.keytype i.counts) =
+    let counts : c.with-self-inside.result
+    ≡ with_key (f k).keytype (without_key k.keytype i.counts) =
     c.with-self-inside.ensures ∙ ap (λ t. with_key t c.without.result) after
     ∙ ap (with_key (f k).keytype) (c.without.ensures
     ∙ ap (λ t. without_key t i.counts) c.keytype-before.ensures) in (

@@ -1,5 +1,6 @@
 -- Each turn counts one more of the listed keys, if it serves and stood nowhere before.
-use Rattle.std.proofs.Common.{◌≡◌, ℕ, ◌+◌, ◌≤◌, Bool, true, false, refl, rules, arith, sym, ap, ◌∙◌, replicate}
+use Rattle.std.proofs.Common.{◌≡◌, ℕ, ◌+◌, ◌≤◌, Bool, true, false, refl, rules, arith, sym, ap}
+use Rattle.std.proofs.Common.{◌∙◌, replicate}
 use Rattle.dnssec_keyset.specs.Inner.Code.{as_want}
 use Rattle.dnssec_keyset.specs.Inner.Counts.{bit}
 use Rattle.dnssec_keyset.specs.Start.{serves_as_kept}
@@ -29,7 +30,8 @@ loop-reference-preserved c =
       | else-serves_first w ↦ w.count-is ∙ sym (nothing l.count)
           ∙ ap (λ b. l.count + bit b) (sym w.if-serves_first.false)
     ] in (
-      low l.count c.if-serves_first.count l.reference-index c.serves_first.result l.invariant.0 more,
+      low l.count c.if-serves_first.count l.reference-index c.serves_first.result l.invariant.0
+          more,
       counted-behind p c.args.self.now c.args.old.now l.earlier l.reference-index _
           c.loop-reference-test.true l.invariant.3 c.serves_first.result c.serves_first.ensures
           l.count c.if-serves_first.count l.invariant.1 more,

@@ -13,7 +13,7 @@ use Rattle.dnssec_keyset.proofs.keys.Keys.report_all.Goals as goal
 pub returns : goal.returns
 returns c =
     let step = after_report c.args.roll (which c.args.half) c.args.now in
-    let e = map_same_pairs _ step _ (λ k v b w f' t. search rules) _ _ c.retain.ensures.filtered in
+    let e = map_same_pairs _ step _ (λ k v b w f t. search rules) _ _ c.retain.ensures.filtered in
     get-walked step c.self.inside.map c.retain.new.self c.args.self.now c.self.view_is e
 
 pub invariant_of-self : goal.invariant_of-self
@@ -21,7 +21,7 @@ invariant_of-self c =
     let i = c.self.inside in
     let n = c.retain.new.self in
     let step = after_report c.args.roll (which c.args.half) c.args.now in
-    let e = map_same_pairs _ step _ (λ k v b w f' t. search rules) _ _ c.retain.ensures.filtered in (
+    let e = map_same_pairs _ step _ (λ k v b w f t. search rules) _ _ c.retain.ensures.filtered in (
       TagsAgree-mapped (contains nat_eq i.tags) (keys_shown i.map) (keys_shown n) (λ q. step)
           (λ q k. refl) (get-walked step i.map n _ refl e) c.self.invariant.0,
       counts-kept step (λ k. refl) i.counts i.map n c.is_sound.ensures.unique
