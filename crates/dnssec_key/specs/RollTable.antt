@@ -77,6 +77,10 @@ leaves_parent s = record s { at_parent = false }
 abbrev pub leaves_silently : Flags → Flags
 leaves_silently s = record s { present = false }
 
+-- it is on its way out no more (RFC 6781, section 4.1)
+abbrev pub turns_back : Flags → Flags
+turns_back s = record s { old = false }
+
 -- nothing happens to it (RFC 6781, section 4.1)
 abbrev pub stays : Flags → Flags
 stays s = s
@@ -162,6 +166,9 @@ pub record Column : Type 0 where
   pub comes : KeyType → KeyType  -- what a start puts on a new key
   pub stamps : Stamping  -- and what it stamps
   pub asks : List Action  -- what is asked after the start
+  pub goes : KeyType → KeyType  -- what an early end takes from a new key
+  pub returns : KeyType → KeyType  -- and from an old one
+  pub asks_early : List Action  -- what is asked after an early end
   pub first : HalfRoll
   pub asks_between : List Action  -- what is asked after the first wait
   pub second : HalfRoll
@@ -173,6 +180,9 @@ ksk_double_signature = record {
   comes = at_ksk comes_in_signing;
   stamps = record no_stamp { published = every_key };
   asks = UpdateDnskeyRrset ∷ ReportDnskeyPropagated ∷ [];
+  goes = at_ksk leaves_dnskey;
+  returns = at_ksk turns_back;
+  asks_early = UpdateDnskeyRrset ∷ WaitDnskeyPropagated ∷ [];
   first = record {
     report = record no_stamp { visible = ksk kept_present };
     checks = ksk (λ s. is_leaving s || kept_present s);
@@ -197,6 +207,9 @@ ksk_double_ds = record {
   comes = at_ksk ds_comes_in;
   stamps = no_stamp;
   asks = CreateCdsRrset ∷ UpdateDsRrset ∷ ReportDsPropagated ∷ [];
+  goes = at_ksk leaves_parent;
+  returns = at_ksk turns_back;
+  asks_early = CreateCdsRrset ∷ UpdateDsRrset ∷ WaitDsPropagated ∷ [];
   first = record {
     report = record no_stamp { ds_visible = ksk kept_at_parent };
     checks = ksk kept_at_parent;
@@ -221,6 +234,9 @@ zsk_pre_publish = record {
   comes = at_zsk comes_in;
   stamps = record no_stamp { published = every_key };
   asks = UpdateDnskeyRrset ∷ ReportDnskeyPropagated ∷ [];
+  goes = at_zsk leaves_silently;
+  returns = at_zsk turns_back;
+  asks_early = UpdateDnskeyRrset ∷ WaitDnskeyPropagated ∷ [];
   first = record {
     report = record no_stamp { visible = zsk kept_present };
     checks = zsk kept_present;
@@ -245,6 +261,9 @@ zsk_double_signature = record {
   comes = at_zsk comes_in_signing;
   stamps = record no_stamp { published = every_key };
   asks = UpdateDnskeyRrset ∷ UpdateRrsig ∷ ReportDnskeyPropagated ∷ ReportRrsigPropagated ∷ [];
+  goes = at_zsk leaves_dnskey;
+  returns = at_zsk turns_back;
+  asks_early = UpdateDnskeyRrset ∷ UpdateRrsig ∷ WaitDnskeyPropagated ∷ WaitRrsigPropagated ∷ [];
   first = record {
     report = record no_stamp { visible = zsk kept_present; rrsig_visible = zsk kept_present };
     checks = zsk kept_present;
@@ -270,6 +289,9 @@ csk_roll = record {
   comes = at_roles comes_in_signing comes_in;
   stamps = record no_stamp { published = every_key };
   asks = UpdateDnskeyRrset ∷ ReportDnskeyPropagated ∷ [];
+  goes = at_roles leaves_dnskey leaves_silently;
+  returns = at_roles turns_back turns_back;
+  asks_early = UpdateDnskeyRrset ∷ WaitDnskeyPropagated ∷ [];
   first = record {
     report = record no_stamp { visible = any_key kept_present };
     checks = any_key kept_present;
@@ -298,6 +320,9 @@ algorithm_roll = record {
   comes = at_roles comes_in_signing comes_in_signing;
   stamps = record no_stamp { published = every_key };
   asks = UpdateDnskeyRrset ∷ UpdateRrsig ∷ ReportDnskeyPropagated ∷ ReportRrsigPropagated ∷ [];
+  goes = at_roles leaves_dnskey leaves_dnskey;
+  returns = at_roles turns_back turns_back;
+  asks_early = UpdateDnskeyRrset ∷ UpdateRrsig ∷ WaitDnskeyPropagated ∷ WaitRrsigPropagated ∷ [];
   first = record {
     report = record no_stamp {
       visible = any_key kept_present;
@@ -393,6 +418,22 @@ abbrev pub after_start : RollType → ℕ → Bool → Bool → KeyParts → Key
 after_start roll now is_old is_new k =
     let old = (if is_old then marked_old k else k) in
     if is_new then marked_new roll now old else old
+
+-- an old key of a roll that is ended early: it is old no more, and no stamp changes (RFC 6781, section
+-- 4.1)
+abbrev pub unmarked_old : RollType → KeyParts → KeyParts
+unmarked_old roll k = record k { keytype = (column roll).returns k.keytype }
+
+-- a new key of such a roll: it goes as it came, and no stamp changes (RFC 6781, section 4.1)
+abbrev pub unmarked_new : RollType → KeyParts → KeyParts
+unmarked_new roll k = record k { keytype = (column roll).goes k.keytype }
+
+-- a key after an early end, by whether it is kept as an old one of the roll, and whether as a new one
+-- (RFC 6781, section 4.1)
+abbrev pub after_early_end : RollType → Bool → Bool → KeyParts → KeyParts
+after_early_end roll was_old was_new k =
+    let old = (if was_old then unmarked_old roll k else k) in
+    if was_new then unmarked_new roll old else old
 
 -- a key after a report (RFC 6781, section 4.1)
 abbrev pub after_report : RollType → Half → ℕ → KeyParts → KeyParts

@@ -89,6 +89,17 @@ set_by (DsVisibleAt time) k = record k {
 set_by (RrsigVisibleAt time) k =
     record k { timestamps = record k.timestamps { rrsig_visible = Some time } }
 
+-- it sets a flag: neither a time, nor whether the key is decoupled (RFC 6781, section 4.1)
+abbrev pub sets_flag : Setting → Bool
+sets_flag (Decoupled value) = false
+sets_flag (Present value now) = true
+sets_flag (Signer value) = true
+sets_flag (AtParent value) = true
+sets_flag Stale = true
+sets_flag (VisibleAt time) = false
+sets_flag (DsVisibleAt time) = false
+sets_flag (RrsigVisibleAt time) = false
+
 -- ---- what it is refused for
 
 -- another signer's key signs nothing here, and only a KSK role has a DS (RFC 6781, section 3.1)

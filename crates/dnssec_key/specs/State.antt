@@ -48,6 +48,10 @@ is_any s = true
 abbrev pub is_old : Flags → Bool
 is_old s = s.old
 
+-- stays (RFC 6781, section 4.1)
+abbrev pub is_kept : Flags → Bool
+is_kept s = not s.old
+
 -- signs the DNSKEY set, or the zone (RFC 6781, section 3.1)
 abbrev pub is_signer : Flags → Bool
 is_signer s = s.signer

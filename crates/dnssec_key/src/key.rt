@@ -1,13 +1,13 @@
 //! Keys, and the states of their roles.
 ghost use Rattle.std.specs.Prelude.{◌≡◌, Some, IfOk, IfErr, string_bytes};
 ghost use Rattle.std.specs.Option.{option_map};
-ghost use Rattle.dnssec_key.specs.State.{is_stale, is_fresh};
+ghost use Rattle.dnssec_key.specs.State.{is_stale, is_fresh, is_kept};
 ghost use Rattle.dnssec_key.specs.Key.{all_states, is_available, new_key, new_state};
 ghost use Rattle.dnssec_key.specs.RollTable.{which, after_report, after_wait, marked_new};
-ghost use Rattle.dnssec_key.specs.RollTable.{marked_old, with_stamps};
+ghost use Rattle.dnssec_key.specs.RollTable.{marked_old, unmarked_new, unmarked_old, with_stamps};
 ghost use Rattle.dnssec_key.specs.declared.error.Error.TheVariants.{OutOfMemory};
 ghost use Rattle.dnssec_key.specs.Setters.{meant, at_ksk_role, at_states, first_published};
-ghost use Rattle.dnssec_key.specs.Setters.{set_by, suits_kind, turned_stale};
+ghost use Rattle.dnssec_key.specs.Setters.{set_by, sets_flag, suits_kind, turned_stale};
 ghost use Rattle.dnssec_key.specs.Setters.{with_at_parent, with_present, with_signer};
 ghost use Rattle.dnssec_key.specs.Texts.{ending, state_text};
 ghost use Rattle.dnssec_key.specs.RollTable.{stamp_at};
@@ -358,6 +358,18 @@ pub enum Setting {
     RrsigVisibleAt(UnixTime),
 }
 
+impl Setting {
+    /// Whether a flag is set: neither a time, nor whether the key is decoupled.
+    pub fn sets_flag(&self) -> bool
+        ensures { result ≡ sets_flag (meant self.now) }
+    {
+        matches!(
+            self,
+            Setting::Present(_, _) | Setting::Signer(_) | Setting::AtParent(_) | Setting::Stale
+        )
+    }
+}
+
 /// What the setters do to one role.
 impl KeyState {
     fn with_present(self, value: bool) -> KeyState
@@ -606,6 +618,16 @@ impl Key {
         }
     }
 
+    /// Whether no state of the key is old.
+    pub fn is_kept(&self) -> bool
+        ensures { result ≡ all_states is_kept self.now.keytype }
+    {
+        match self.keytype {
+            KeyType::Ksk(state) | KeyType::Zsk(state) | KeyType::Include(state) => !state.old,
+            KeyType::Csk(ksk, zsk) => !ksk.old && !zsk.old,
+        }
+    }
+
     /// Sets what is set, whatever the kind of the key.
     pub fn set(&mut self, setting: Setting)
         ensures { self.new ≡ set_by (meant setting) self.old }
@@ -659,6 +681,20 @@ impl Key {
         let stamped = self.keytype.stamped_at_start(roll);
         self.keytype = self.keytype.coming_in(roll);
         self.timestamps = self.timestamps.with(stamped, now);
+    }
+
+    /// A roll that listed the key as old is ended early.
+    pub fn unmark_old(&mut self, roll: RollType)
+        ensures { self.new ≡ unmarked_old roll self.old }
+    {
+        self.keytype = self.keytype.turned_back(roll);
+    }
+
+    /// A roll that listed the key as new is ended early.
+    pub fn unmark_new(&mut self, roll: RollType)
+        ensures { self.new ≡ unmarked_new roll self.old }
+    {
+        self.keytype = self.keytype.going_out(roll);
     }
 
     /// A report of a roll is made.

@@ -3,13 +3,14 @@
 
 ghost use Rattle.std.specs.Prelude.{◌≡◌, false, ◌&&◌, ◌||◌};
 ghost use Rattle.std.specs.Option.{option_map_or};
+ghost use Rattle.dnssec_key.specs.declared.key.KeyType.TheVariants.{Csk};
 ghost use Rattle.dnssec_key.specs.State.{is_old, is_leaving, kept_present, kept_signing};
 ghost use Rattle.dnssec_key.specs.State.{kept_at_parent, old_present, old_at_parent, old_silent};
 ghost use Rattle.dnssec_key.specs.Key.{ksk_state, zsk_state, ksk_role_state, zsk_role_state};
 ghost use Rattle.dnssec_key.specs.Key.{key_state, zone_key_state};
 ghost use Rattle.dnssec_key.specs.RollTable.{which, column, half_of, written, at_roles};
-ghost use Rattle.dnssec_key.specs.RollTable.{turns_old, comes_in, comes_in_signing, ds_comes_in};
-ghost use Rattle.dnssec_key.specs.RollTable.{ds_follows, keys_change_places, signatures_follow};
+ghost use Rattle.dnssec_key.specs.RollTable.{turns_old, turns_back, comes_in, comes_in_signing};
+ghost use Rattle.dnssec_key.specs.RollTable.{ds_comes_in, ds_follows, keys_change_places, signatures_follow};
 ghost use Rattle.dnssec_key.specs.RollTable.{only, leaves_dnskey, leaves_parent};
 ghost use Rattle.dnssec_key.specs.RollTable.{leaves_silently, actions_of};
 
@@ -26,6 +27,12 @@ impl KeyState {
         ensures { result ≡ turns_old self }
     {
         KeyState { old: true, ..self }
+    }
+
+    fn turns_back(self) -> KeyState
+        ensures { result ≡ turns_back self }
+    {
+        KeyState { old: false, ..self }
     }
 
     /// Goes into the DNSKEY set.
@@ -131,16 +138,31 @@ impl KeyState {
         }
     }
 
+    fn leaves_silently(self) -> KeyState
+        ensures { result ≡ leaves_silently self }
+    {
+        KeyState {
+            present: false,
+            ..self
+        }
+    }
+
     fn leaves_dnskey_if_silent(self) -> KeyState
         ensures { result ≡ only old_silent leaves_silently self }
     {
         if self.old && !self.signer {
-            KeyState {
-                present: false,
-                ..self
-            }
+            self.leaves_silently()
         } else {
             self
+        }
+    }
+
+    fn loses_ds(self) -> KeyState
+        ensures { result ≡ leaves_parent self }
+    {
+        KeyState {
+            at_parent: false,
+            ..self
         }
     }
 
@@ -148,10 +170,7 @@ impl KeyState {
         ensures { result ≡ only old_at_parent leaves_parent self }
     {
         if self.old && self.at_parent {
-            KeyState {
-                at_parent: false,
-                ..self
-            }
+            self.loses_ds()
         } else {
             self
         }
@@ -204,6 +223,13 @@ fn is_old_silent(role: Option<KeyState>) -> bool
     ensures { result ≡ option_map_or old_silent role false }
 {
     role.is_some_and(|state| state.old && !state.signer)
+}
+
+/// A CSK that leaves the DNSKEY set in both its roles.
+fn leaving_csk(ksk: KeyState, zsk: KeyState) -> KeyType
+    ensures { result ≡ Csk (leaves_dnskey ksk) (leaves_dnskey zsk) }
+{
+    KeyType::Csk(ksk.leaves_dnskey(), zsk.leaves_dnskey())
 }
 
 /// The roles that the rows speak of.
@@ -301,6 +327,51 @@ impl KeyType {
             KeyType::Csk(ksk, zsk) => match roll {
                 CskRoll => KeyType::Csk(ksk.comes_in_signing(), zsk.comes_in()),
                 AlgorithmRoll => KeyType::Csk(ksk.comes_in_signing(), zsk.comes_in_signing()),
+                _ => *self,
+            },
+            KeyType::Include(_) => *self,
+        }
+    }
+
+    /// What an early end takes from a new key: what its start put on it.
+    pub(crate) fn going_out(&self, roll: RollType) -> KeyType
+        ensures { result ≡ (column roll).goes self.now }
+    {
+        match *self {
+            KeyType::Ksk(state) => KeyType::Ksk(match roll {
+                KskRoll | CskRoll | AlgorithmRoll => state.leaves_dnskey(),
+                KskDoubleDsRoll => state.loses_ds(),
+                ZskRoll | ZskDoubleSignatureRoll => state,
+            }),
+            KeyType::Zsk(state) => KeyType::Zsk(match roll {
+                ZskRoll | CskRoll => state.leaves_silently(),
+                ZskDoubleSignatureRoll | AlgorithmRoll => state.leaves_dnskey(),
+                KskRoll | KskDoubleDsRoll => state,
+            }),
+            KeyType::Csk(ksk, zsk) => match roll {
+                CskRoll => KeyType::Csk(ksk.leaves_dnskey(), zsk.leaves_silently()),
+                AlgorithmRoll => leaving_csk(ksk, zsk),
+                _ => *self,
+            },
+            KeyType::Include(_) => *self,
+        }
+    }
+
+    /// What an early end leaves of an old key: it is old no more.
+    pub(crate) fn turned_back(&self, roll: RollType) -> KeyType
+        ensures { result ≡ (column roll).returns self.now }
+    {
+        match *self {
+            KeyType::Ksk(state) => KeyType::Ksk(match roll {
+                KskRoll | KskDoubleDsRoll | CskRoll | AlgorithmRoll => state.turns_back(),
+                ZskRoll | ZskDoubleSignatureRoll => state,
+            }),
+            KeyType::Zsk(state) => KeyType::Zsk(match roll {
+                ZskRoll | ZskDoubleSignatureRoll | CskRoll | AlgorithmRoll => state.turns_back(),
+                KskRoll | KskDoubleDsRoll => state,
+            }),
+            KeyType::Csk(ksk, zsk) => match roll {
+                CskRoll | AlgorithmRoll => KeyType::Csk(ksk.turns_back(), zsk.turns_back()),
                 _ => *self,
             },
             KeyType::Include(_) => *self,
@@ -437,9 +508,7 @@ impl KeyType {
                         zsk.leaves_dnskey_if_silent(),
                     )
                 }
-                AlgorithmRoll if ksk.old && ksk.present => {
-                    KeyType::Csk(ksk.leaves_dnskey(), zsk.leaves_dnskey())
-                }
+                AlgorithmRoll if ksk.old && ksk.present => leaving_csk(ksk, zsk),
                 _ => *self,
             },
             KeyType::Include(_) => *self,
@@ -529,6 +598,28 @@ impl RollType {
                 Action::UpdateRrsig,
                 Action::ReportDnskeyPropagated,
                 Action::ReportRrsigPropagated,
+            ],
+        }
+    }
+
+    /// What a roll that is ended early asks of the operator.
+    pub fn asks_at_early_end(self) -> &'static [Action]
+        ensures { result.now ≡ (column self).asks_early }
+    {
+        match self {
+            KskRoll | ZskRoll | CskRoll => {
+                &[Action::UpdateDnskeyRrset, Action::WaitDnskeyPropagated]
+            }
+            KskDoubleDsRoll => &[
+                Action::CreateCdsRrset,
+                Action::UpdateDsRrset,
+                Action::WaitDsPropagated,
+            ],
+            ZskDoubleSignatureRoll | AlgorithmRoll => &[
+                Action::UpdateDnskeyRrset,
+                Action::UpdateRrsig,
+                Action::WaitDnskeyPropagated,
+                Action::WaitRrsigPropagated,
             ],
         }
     }

@@ -33,6 +33,7 @@ refused_same keyset.Clear old new c cause (inl h) = absurd (accepts c h.0)
     accepts (keyset.Report r h ttl t) e = cc
     accepts (keyset.Wait r h t) e = cc
     accepts (keyset.RollDone r) e = cc
+    accepts (keyset.AbortRoll r) e = cc
 
 abbrev pub is_refused : keyset.Reply → Bool
 is_refused (keyset.Refused cause) = true
@@ -98,6 +99,15 @@ finishes (Some (CacheExpire1 ttl)) e = absurd (none-some _ (sym e))
 finishes (Some Propagation2) e = absurd (none-some _ (sym e))
 finishes (Some (CacheExpire2 ttl)) e = absurd (none-some _ (sym e))
 finishes (Some Done) e = refl
+
+-- the phase in which an early end is accepted
+pub ends_early : (o : Option RollState) → keyset.early_end_refusal o ≡ None → o ≡ Some Propagation1
+ends_early None e = absurd (none-some _ (sym e))
+ends_early (Some Propagation1) e = refl
+ends_early (Some (CacheExpire1 ttl)) e = absurd (none-some _ (sym e))
+ends_early (Some Propagation2) e = absurd (none-some _ (sym e))
+ends_early (Some (CacheExpire2 ttl)) e = absurd (none-some _ (sym e))
+ends_early (Some Done) e = absurd (none-some _ (sym e))
 
 -- whether it is decoupled is no matter of its kind
 pub decoupled_kind : (b value : Bool) (k : KeyParts)

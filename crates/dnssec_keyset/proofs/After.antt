@@ -10,9 +10,9 @@ use Rattle.dnssec_key.specs.declared.roll.RollState.{RollState}
 use Rattle.std.specs.FinMap.{find, get, insert, remove, entries, get-entries, get-from_entries, get-insert, get-remove}
 use Rattle.std.proofs.lemmas.Map.Text.{is_eq-slice_cmp}
 use Rattle.dnssec_key.specs.Key.{KeyParts}
-use Rattle.dnssec_keyset.specs.KeySet.{Keys, KeySetParts, PutsKey, MovesOn, with_phase}
+use Rattle.dnssec_keyset.specs.KeySet.{Keys, KeySetParts, Lists, PutsKey, MovesOn, with_phase, without}
 use Rattle.dnssec_key.specs.Setters.{set_by}
-use Rattle.dnssec_keyset.specs.Step.{Call, AddKey, Set, DeleteKey, StartRoll, Report, Wait, RollDone, Reply, Verdict, Barred, Early, Clear, Changes, Step, StepBy, verdict, accepted_reply, after, after_reply, keys_by}
+use Rattle.dnssec_keyset.specs.Step.{Call, AddKey, Set, DeleteKey, StartRoll, Report, Wait, RollDone, AbortRoll, Reply, Verdict, Barred, Early, Clear, Changes, Step, StepBy, verdict, accepted_reply, after, after_reply, keys_by}
 use Rattle.dnssec_keyset.proofs.Shown.{same_keys}
 
 split : (b : Bool) → (b ≡ true) ⊎ (b ≡ false)
@@ -45,22 +45,34 @@ module _ (f : List ℕ → KeyParts → KeyParts) where
 tied : (r q : List ℕ) → bytes_eq r q ≡ eq_by_cmp (slice_cmp nat_cmp) q r
 tied r q = nat_list_eq_equiv.symm r q ∙ sym (is_eq-slice_cmp q r)
 
-same_set : (a b : KeySetParts) → a.name ≡ b.name → a.keys ≡ b.keys → a.rolls ≡ b.rolls → a ≡ b
-same_set a b name keys rolls = λ i. record { name = name i; keys = keys i; rolls = rolls i }
+same_set : (a b : KeySetParts) → a.name ≡ b.name → a.keys ≡ b.keys → a.rolls ≡ b.rolls
+    → a.lists ≡ b.lists → a ≡ b
+same_set a b name keys rolls lists =
+    λ i. record { name = name i; keys = keys i; rolls = rolls i; lists = lists i }
 
 module _ (old new : KeySetParts) where
-  put : (r : List ℕ) (key : KeyParts) → PutsKey old new r (Some key) → new ≡ record old { keys = insert old.keys r key }
+  put : (r : List ℕ) (key : KeyParts) → PutsKey old new r (Some key) old.lists
+      → new ≡ record old { keys = insert old.keys r key }
   put r key puts = same_set _ _ puts.name
-      (same_keys _ _ (λ q. puts.keys q ∙ ap (λ b. cond b (Some key) (get old.keys q)) (tied r q) ∙ sym (get-insert nat_list_cmp_total old.keys r key q))) puts.rolls
+      (same_keys _ _ (λ q. puts.keys q ∙ ap (λ b. cond b (Some key) (get old.keys q)) (tied r q)
+      ∙ sym (get-insert nat_list_cmp_total old.keys r key q))) puts.rolls puts.lists
 
-  taken : (r : List ℕ) → PutsKey old new r None → new ≡ record old { keys = remove old.keys r }
+  taken : (r : List ℕ) → PutsKey old new r None (without r old.lists)
+      → new ≡ record old { keys = remove old.keys r; lists = without r old.lists }
   taken r puts = same_set _ _ puts.name
-      (same_keys _ _ (λ q. puts.keys q ∙ ap (λ b. cond b None (get old.keys q)) (tied r q) ∙ sym (get-remove nat_list_cmp_total old.keys r q))) puts.rolls
+      (same_keys _ _ (λ q. puts.keys q ∙ ap (λ b. cond b None (get old.keys q)) (tied r q)
+      ∙ sym (get-remove nat_list_cmp_total old.keys r q))) puts.rolls puts.lists
 
   -- every key goes by f, and the roll to the phase
-  moved : (roll : RollType) (phase : Option RollState) (f : List ℕ → KeyParts → KeyParts) → MovesOn old new roll phase f
-      → new ≡ record old { keys = keys_by f old.keys; rolls = with_phase old.rolls roll phase }
-  moved roll phase f moves = same_set _ _ moves.name (same_keys _ _ (λ q. moves.keys q ∙ sym (get-keys_by f old.keys q))) moves.rolls
+  moved : (roll : RollType) (phase : Option RollState) (lists : Lists)
+      (f : List ℕ → KeyParts → KeyParts) → MovesOn old new roll phase lists f
+      → new ≡ record old {
+        keys = keys_by f old.keys;
+        rolls = with_phase old.rolls roll phase;
+        lists = lists;
+      }
+  moved roll phase lists f moves = same_set _ _ moves.name
+      (same_keys _ _ (λ q. moves.keys q ∙ sym (get-keys_by f old.keys q))) moves.rolls moves.lists
 
   kept : (keys : Keys) → ((q : List ℕ) → get keys q ≡ option_map (λ k. k) (get old.keys q)) → keys ≡ old.keys
   kept keys h = same_keys _ _ (λ q. h q ∙ itself (get old.keys q))
@@ -73,12 +85,13 @@ module _ (old new : KeySetParts) where
   pub changes-after : (call : Call) → Changes old call new → new ≡ after call old
   unfolding after
   changes-after (AddKey r key) h = put r key h
-  changes-after (Set r setting) h = same_set _ _ h.name (same_keys _ _ (λ q. h.keys q ∙ sym (get-keys_by (λ p k. if bytes_eq r p then set_by setting k else k) old.keys q))) h.rolls
+  changes-after (Set r setting) h = same_set _ _ h.name (same_keys _ _ (λ q. h.keys q ∙ sym (get-keys_by (λ p k. if bytes_eq r p then set_by setting k else k) old.keys q))) h.rolls h.lists
   changes-after (DeleteKey r) h = taken r h
-  changes-after (StartRoll roll olds news now) h = moved _ _ _ h
-  changes-after (Report roll half ttl now) h = moved _ _ _ h
-  changes-after (Wait roll half now) h = moved _ _ _ h
-  changes-after (RollDone roll) h = same_set _ _ h.name (kept new.keys h.keys) h.rolls
+  changes-after (StartRoll roll olds news now) h = moved _ _ _ _ h
+  changes-after (Report roll half ttl now) h = moved _ _ _ _ h
+  changes-after (Wait roll half now) h = moved _ _ _ _ h
+  changes-after (RollDone roll) h = same_set _ _ h.name (kept new.keys h.keys) h.rolls h.lists
+  changes-after (AbortRoll roll) h = moved _ _ _ _ h
 
 -- ---- and the other way: what the function says of each key and roll
 
@@ -89,18 +102,21 @@ module _ (old : KeySetParts) where
   after-changes (AddKey r key) = record {
     name = refl;
     rolls = refl;
+    lists = refl;
     keys = λ q. get-insert nat_list_cmp_total old.keys r key q ∙ sym (ap (λ b. cond b (Some key) (get old.keys q)) (tied r q));
   }
-  after-changes (Set r setting) = record { name = refl; rolls = refl; keys = get-keys_by (λ p k. if bytes_eq r p then set_by setting k else k) old.keys }
+  after-changes (Set r setting) = record { name = refl; rolls = refl; lists = refl; keys = get-keys_by (λ p k. if bytes_eq r p then set_by setting k else k) old.keys }
   after-changes (DeleteKey r) = record {
     name = refl;
     rolls = refl;
+    lists = refl;
     keys = λ q. get-remove nat_list_cmp_total old.keys r q ∙ sym (ap (λ b. cond b None (get old.keys q)) (tied r q));
   }
-  after-changes (StartRoll roll olds news now) = record { name = refl; rolls = refl; keys = get-keys_by _ old.keys }
-  after-changes (Report roll half ttl now) = record { name = refl; rolls = refl; keys = get-keys_by _ old.keys }
-  after-changes (Wait roll half now) = record { name = refl; rolls = refl; keys = get-keys_by _ old.keys }
-  after-changes (RollDone roll) = record { name = refl; rolls = refl; keys = λ q. same (get old.keys q) }
+  after-changes (StartRoll roll olds news now) = record { name = refl; rolls = refl; lists = refl; keys = get-keys_by _ old.keys }
+  after-changes (Report roll half ttl now) = record { name = refl; rolls = refl; lists = refl; keys = get-keys_by _ old.keys }
+  after-changes (Wait roll half now) = record { name = refl; rolls = refl; lists = refl; keys = get-keys_by _ old.keys }
+  after-changes (AbortRoll roll) = record { name = refl; rolls = refl; lists = refl; keys = get-keys_by _ old.keys }
+  after-changes (RollDone roll) = record { name = refl; rolls = refl; lists = refl; keys = λ q. same (get old.keys q) }
     where
       same : (o : Option KeyParts) → o ≡ option_map (λ k. k) o
       same None = refl
@@ -116,6 +132,7 @@ accepted_after (StartRoll roll olds news now) old = refl
 accepted_after (Report roll half ttl now) old = refl
 accepted_after (Wait roll half now) old = refl
 accepted_after (RollDone roll) old = refl
+accepted_after (AbortRoll roll) old = refl
 
 step_by-after : (v : Verdict) (old new : KeySetParts) (call : Call) (reply : Reply) → StepBy v old call reply new → new ≡ after_reply reply call old
 step_by-after (Barred cause) old new call reply h = h.1 ∙ sym (ap (λ r. after_reply r call old) h.0)

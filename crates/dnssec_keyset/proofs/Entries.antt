@@ -17,7 +17,7 @@ use Rattle.dnssec_keyset.specs.Start.{texts, is_listed, new_entry_fault, new_fau
 use Rattle.dnssec_keyset.specs.Step.{AnswersExactly}
 use Rattle.dnssec_keyset.proofs.Counted.{count-listed}
 use Rattle.dnssec_keyset.proofs.Lists.{new_fault-at}
-use Rattle.dnssec_keyset.proofs.Marks.{listed_more}
+use Rattle.dnssec_keyset.proofs.Marks.{listed_more, referred}
 use Rattle.dnssec_keyset.proofs.Tags.{fault-listed, first-listed, listed-same}
 
 or_joined : (a b c : Bool) → (a || (b || c)) ≡ ((a || b) || c)
@@ -65,7 +65,7 @@ pub listed-behind : (keys : Keys) (olds : List (List ℕ)) (news : List (Bor (Li
     || bytes_eq (get_or news i d).now q)
     → HasListed tags keys (λ q. is_listed olds q || is_listed (texts (take (i + 1) news)) q)
 listed-behind keys olds news tags i d within has = listed-same keys tags _ _
-    (λ q. ap (λ b. is_listed olds q || b) (listed_more news i d q within)
+    (λ q. ap (λ b. is_listed olds q || b) (listed_more referred news i d q within)
     ∙ or_joined (is_listed olds q) _ _) has
 
 -- the entry at i counts where its key serves and isn't listed before
@@ -80,4 +80,4 @@ counted-behind p keys olds tags i d within has b first n m before more = more
     ∙ (λ j. before j + bit ((first
     ∙ first-listed p keys tags (is_listed (texts (take i olds))) (get_or olds i d).now has) j))
     ∙ sym (count-listed p (texts (take i olds)) (texts (take (i + 1) olds)) (get_or olds i d).now
-    keys (λ q. listed_more olds i d q within))
+    keys (λ q. listed_more referred olds i d q within))

@@ -1,6 +1,6 @@
 -- Two neighbouring calls of rolls that go together may be exchanged: neither sees what the other changes.
-use Rattle.std.proofs.Common.{◌≡◌, ℕ, ◌<◌, ◌≤◌, Bool, true, false, not, List, [], ◌∷◌, ◌++◌, Some, None, refl, inl, inr, sym, ap, subst, ◌∙◌, arith}
-use Rattle.std.specs.Prelude.{Option, ◌⊎◌, ◌||◌, ◌&&◌, ◌≢◌, if◌then◌else◌, nat_eq, nat_lt, is_some, unwrap_or}
+use Rattle.std.proofs.Common.{◌≡◌, ℕ, ◌<◌, ◌≤◌, Bool, true, false, cond, not, List, [], ◌∷◌, ◌++◌, Some, None, refl, inl, inr, sym, ap, subst, ◌∙◌, arith}
+use Rattle.std.specs.Prelude.{Option, ◌⊎◌, ◌||◌, ◌&&◌, ◌≢◌, filter, if◌then◌else◌, nat_eq, nat_lt, is_some, unwrap_or}
 use Rattle.std.specs.List.{list_all}
 use Rattle.std.specs.Option.{option_map, option_map_or, option_or}
 use Rattle.std.specs.Duration.{as_nanos}
@@ -20,19 +20,19 @@ use Rattle.dnssec_key.specs.declared.roll.RollState.{RollState}
 use Rattle.dnssec_key.specs.declared.roll.RollState.TheVariants.{Propagation1}
 use Rattle.dnssec_key.specs.declared.error.Error.{Error}
 use Rattle.dnssec_key.specs.declared.error.Error.TheVariants.{WrongKeyType, WrongKeyState, NoSuitableKeyPresent, AlgorithmSetsMismatch, WrongStateForRollOperation, ConflictingRollInProgress, OutOfMemory}
-use Rattle.dnssec_key.specs.State.{Flags, is_fresh, old_present}
+use Rattle.dnssec_key.specs.State.{Flags, is_fresh, is_kept, old_present}
 use Rattle.dnssec_key.specs.Key.{KeyParts, all_states}
-use Rattle.dnssec_keyset.specs.KeySet.{KeySetParts, MovesOn, Rolls, phase_of, with_phase, same_roll, some_entry, some_key}
-use Rattle.dnssec_key.specs.RollTable.{Half, First, Second, column, half_of, at_ksk, at_zsk, at_roles, at_whole_keys, turns_old, leaves_dnskey, after_start, after_report, after_wait, behind, expiring}
+use Rattle.dnssec_keyset.specs.KeySet.{KeySetParts, Listed, Lists, MovesOn, Rolls, listed_by, nothing_listed, with_listed, phase_of, with_phase, same_roll, some_entry, some_key}
+use Rattle.dnssec_key.specs.RollTable.{Half, First, Second, column, half_of, at_ksk, at_zsk, at_roles, at_whole_keys, turns_old, leaves_dnskey, after_start, after_report, after_wait, after_early_end, behind, expiring}
 use Rattle.dnssec_keyset.specs.Start.{algorithm_fault, algorithms_within, are_apart, conflict, first_of_causes, has_algorithm, has_conflict, is_listed, is_met, lists_kind, may_change_algorithms, new_entry_fault, new_fault, old_entry_fault, old_fault, serves_as_kept, serves_as_new, side_of, some_listed, start_refusal, together, wants}
 use Rattle.dnssec_keyset.specs.Wait.{left_since, stamp_read, IsLongest, is_early, lacks_stamp, time_left, ttl_in}
-use Rattle.dnssec_keyset.specs.Step.{Call, AddKey, Set, DeleteKey, StartRoll, Report, Wait, RollDone, Reply, Refused, Verdict, Barred, Early, Clear, Changes, Step, StepBy, accepted_reply, after, barred_by, end_refusal, report_refusal, verdict, wait_in_phase}
+use Rattle.dnssec_keyset.specs.Step.{Call, AddKey, Set, DeleteKey, StartRoll, Report, Wait, RollDone, AbortRoll, Reply, Refused, Verdict, Barred, Early, Clear, Changes, Step, StepBy, accepted_reply, after, barred_by, early_end_refusal, end_refusal, is_kept_at, listed_at_start, report_refusal, verdict, wait_in_phase}
 use Rattle.dnssec_keyset.specs.Laws.{AreApart, MayBeExchanged, roll_of}
 use Rattle.dnssec_keyset.proofs.After.{after-changes}
 use Rattle.dnssec_keyset.proofs.Laws.{no_cause, same-is}
-use Rattle.dnssec_keyset.proofs.Phases.{phase_of-with_phase, same_rolls}
+use Rattle.dnssec_keyset.proofs.Phases.{phase_of-with_phase, same_rolls, same_lists, listed_by-with_listed}
 use Rattle.dnssec_keyset.proofs.Quantified.{some_key-found, some_key-none, some_entry-found, some_entry-none}
-use Rattle.dnssec_keyset.proofs.Sides.{after_start-others, after_report-others, after_wait-others, starts-clear}
+use Rattle.dnssec_keyset.proofs.Sides.{after_start-others, after_report-others, after_wait-others, after_early_end-others, starts-clear, no_first, no_rest, old-kind}
 
 split : (b : Bool) → (b ≡ true) ⊎ (b ≡ false)
 split true = inl refl
@@ -107,6 +107,25 @@ number-comes ZskDoubleSignatureRoll t = number-at_zsk _ t
 number-comes CskRoll t = number-at_roles _ _ t
 number-comes AlgorithmRoll t = number-at_roles _ _ t
 
+number-goes : (roll : RollType) (t : KeyType) → kind_number ((column roll).goes t) ≡ kind_number t
+unfolding column
+number-goes KskRoll t = number-at_ksk _ t
+number-goes KskDoubleDsRoll t = number-at_ksk _ t
+number-goes ZskRoll t = number-at_zsk _ t
+number-goes ZskDoubleSignatureRoll t = number-at_zsk _ t
+number-goes CskRoll t = number-at_roles _ _ t
+number-goes AlgorithmRoll t = number-at_roles _ _ t
+
+number-returns : (roll : RollType) (t : KeyType)
+    → kind_number ((column roll).returns t) ≡ kind_number t
+unfolding column
+number-returns KskRoll t = number-at_ksk _ t
+number-returns KskDoubleDsRoll t = number-at_ksk _ t
+number-returns ZskRoll t = number-at_zsk _ t
+number-returns ZskDoubleSignatureRoll t = number-at_zsk _ t
+number-returns CskRoll t = number-at_roles _ _ t
+number-returns AlgorithmRoll t = number-at_roles _ _ t
+
 number-moves : (roll : RollType) (half : Half) (t : KeyType) → kind_number ((half_of roll half).moves t) ≡ kind_number t
 unfolding column
 number-moves KskRoll First t = number-at_ksk _ t
@@ -174,11 +193,15 @@ apart-rolls a b e = elim (split (same_roll a b)) [
 
 -- ---- a call on a roll, as a change of each key and of the roll's phase
 
-key_after : Call → List ℕ → KeyParts → KeyParts
-key_after (StartRoll roll olds news now) q k = after_start roll now (is_listed olds q) (is_listed news q) k
-key_after (Report roll half ttl now) q k = after_report roll half now k
-key_after (Wait roll half now) q k = after_wait roll half now k
-key_after _ q k = k
+key_after : Lists → Call → List ℕ → KeyParts → KeyParts
+key_after lists (StartRoll roll olds news now) q k =
+    after_start roll now (is_listed olds q) (is_listed news q) k
+key_after lists (Report roll half ttl now) q k = after_report roll half now k
+key_after lists (Wait roll half now) q k = after_wait roll half now k
+key_after lists (AbortRoll roll) q k =
+    after_early_end roll (is_listed (listed_by lists roll).olds q)
+    (is_listed (listed_by lists roll).news q) k
+key_after lists _ q k = k
 
 phase_after : Call → Option RollState
 phase_after (StartRoll roll olds news now) = Some Propagation1
@@ -186,25 +209,63 @@ phase_after (Report roll half ttl now) = Some (expiring half ttl)
 phase_after (Wait roll half now) = Some (behind half)
 phase_after _ = None
 
-moves-on : (old new : KeySetParts) (call : Call) (roll : RollType) → roll_of call ≡ Some roll → Changes old call new → MovesOn old new roll (phase_after call) (key_after call)
-unfolding key_after phase_after
-moves-on old new (AddKey r key) roll on h = cc
-moves-on old new (Set r setting) roll on h = cc
-moves-on old new (DeleteKey r) roll on h = cc
-moves-on old new (StartRoll r olds news now) roll on h = subst (λ x. MovesOn old new x (Some Propagation1) (λ q. after_start r now (is_listed olds q) (is_listed news q))) (same_Some _ _ on) h
-moves-on old new (Report r half ttl now) roll on h = subst (λ x. MovesOn old new x (Some (expiring half ttl)) (λ q. after_report r half now)) (same_Some _ _ on) h
-moves-on old new (Wait r half now) roll on h = subst (λ x. MovesOn old new x (Some (behind half)) (λ q. after_wait r half now)) (same_Some _ _ on) h
-moves-on old new (RollDone r) roll on h = subst (λ x. MovesOn old new x None (λ q k. k)) (same_Some _ _ on) h
+-- what is kept of its roll's start after the call
+listed_after : KeySetParts → Call → Listed
+listed_after set (StartRoll roll olds news now) = listed_at_start set.keys olds news
+listed_after set (Report roll First ttl now) = nothing_listed
+listed_after set (Report roll Second ttl now) = listed_by set.lists roll
+listed_after set (Wait roll half now) = listed_by set.lists roll
+listed_after set (RollDone roll) = listed_by set.lists roll
+listed_after set _ = nothing_listed
 
-moves-back : (old new : KeySetParts) (call : Call) (roll : RollType) → roll_of call ≡ Some roll → MovesOn old new roll (phase_after call) (key_after call) → Changes old call new
-unfolding key_after phase_after
-moves-back old new (AddKey r key) roll on h = cc
-moves-back old new (Set r setting) roll on h = cc
-moves-back old new (DeleteKey r) roll on h = cc
-moves-back old new (StartRoll r olds news now) roll on h = subst (λ x. MovesOn old new x (Some Propagation1) (λ q. after_start r now (is_listed olds q) (is_listed news q))) (sym (same_Some _ _ on)) h
-moves-back old new (Report r half ttl now) roll on h = subst (λ x. MovesOn old new x (Some (expiring half ttl)) (λ q. after_report r half now)) (sym (same_Some _ _ on)) h
-moves-back old new (Wait r half now) roll on h = subst (λ x. MovesOn old new x (Some (behind half)) (λ q. after_wait r half now)) (sym (same_Some _ _ on)) h
-moves-back old new (RollDone r) roll on h = subst (λ x. MovesOn old new x None (λ q k. k)) (sym (same_Some _ _ on)) h
+-- what is put in place of itself
+same-put : (l : Lists) (roll : RollType) → l ≡ with_listed l roll (listed_by l roll)
+same-put l roll = same_lists _ _ (λ q.
+    sym (listed_by-with_listed l roll (listed_by l roll) q ∙ at (same_roll roll q) q refl))
+  where
+    at : (b : Bool) (q : RollType) → same_roll roll q ≡ b
+        → (if b then listed_by l roll else listed_by l q) ≡ listed_by l q
+    at true q e = ap (listed_by l) (same-is roll q e)
+    at false q e = refl
+
+-- how a call on a roll changes a set
+abbrev MovesBy : KeySetParts → Call → RollType → KeySetParts → Type 0
+MovesBy old call roll new =
+    MovesOn old new roll (phase_after call) (with_listed old.lists roll (listed_after old call))
+    (key_after old.lists call)
+
+-- it is what the call changes
+moves-by : (old new : KeySetParts) (call : Call) (roll : RollType) → roll_of call ≡ Some roll
+    → Changes old call new ≡ MovesBy old call roll new
+unfolding key_after phase_after listed_after MovesBy
+moves-by old new (AddKey r key) roll on = cc
+moves-by old new (Set r setting) roll on = cc
+moves-by old new (DeleteKey r) roll on = cc
+moves-by old new (StartRoll r olds news now) roll on =
+    ap (λ x. MovesBy old (StartRoll r olds news now) x new) (same_Some _ _ on)
+moves-by old new (Report r First ttl now) roll on =
+    ap (λ x. MovesBy old (Report r First ttl now) x new) (same_Some _ _ on)
+moves-by old new (Report r Second ttl now) roll on =
+    (λ i. MovesOn old new r (Some (expiring Second ttl)) (same-put old.lists r i)
+    (λ q. after_report r Second now))
+    ∙ ap (λ x. MovesBy old (Report r Second ttl now) x new) (same_Some _ _ on)
+moves-by old new (Wait r half now) roll on =
+    (λ i. MovesOn old new r (Some (behind half)) (same-put old.lists r i)
+    (λ q. after_wait r half now))
+    ∙ ap (λ x. MovesBy old (Wait r half now) x new) (same_Some _ _ on)
+moves-by old new (RollDone r) roll on =
+    (λ i. MovesOn old new r None (same-put old.lists r i) (λ q k. k))
+    ∙ ap (λ x. MovesBy old (RollDone r) x new) (same_Some _ _ on)
+moves-by old new (AbortRoll r) roll on =
+    ap (λ x. MovesBy old (AbortRoll r) x new) (same_Some _ _ on)
+
+moves-on : (old new : KeySetParts) (call : Call) (roll : RollType) → roll_of call ≡ Some roll
+    → Changes old call new → MovesBy old call roll new
+moves-on old new call roll on h = subst (λ t. t) (moves-by old new call roll on) h
+
+moves-back : (old new : KeySetParts) (call : Call) (roll : RollType) → roll_of call ≡ Some roll
+    → MovesBy old call roll new → Changes old call new
+moves-back old new call roll on h = subst (λ t. t) (sym (moves-by old new call roll on)) h
 
 -- the kind and the algorithm of a key stay
 number-turned : (b : Bool) (roll : RollType) (now : ℕ) (c : Bool) (k : KeyParts) → kind_number (after_start roll now b c k).keytype ≡ kind_number k.keytype
@@ -213,18 +274,27 @@ number-turned true roll now false k = number-at_roles turns_old turns_old k.keyt
 number-turned false roll now true k = number-comes roll k.keytype
 number-turned false roll now false k = refl
 
-number-after : (call : Call) (q : List ℕ) (k : KeyParts) → kind_number (key_after call q k).keytype ≡ kind_number k.keytype
-unfolding key_after
-number-after (AddKey r key) q k = refl
-number-after (Set r setting) q k = refl
-number-after (DeleteKey r) q k = refl
-number-after (StartRoll r olds news now) q k = number-turned (is_listed olds q) r now (is_listed news q) k
-number-after (Report r half ttl now) q k = refl
-number-after (Wait r half now) q k = number-moves r half k.keytype
-number-after (RollDone r) q k = refl
+number-ended : (a b : Bool) (roll : RollType) (k : KeyParts)
+    → kind_number (after_early_end roll a b k).keytype ≡ kind_number k.keytype
+number-ended true true roll k = number-goes roll _ ∙ number-returns roll k.keytype
+number-ended true false roll k = number-returns roll k.keytype
+number-ended false true roll k = number-goes roll k.keytype
+number-ended false false roll k = refl
 
-kind-after : (sd : Side) (call : Call) (q : List ℕ) (k : KeyParts) → lists_kind sd (key_after call q k).keytype ≡ lists_kind sd k.keytype
-kind-after sd call q k = lists-number sd _ ∙ ap (lists_by sd) (number-after call q k) ∙ sym (lists-number sd k.keytype)
+number-after : (lists : Lists) (call : Call) (q : List ℕ) (k : KeyParts) → kind_number (key_after lists call q k).keytype ≡ kind_number k.keytype
+unfolding key_after
+number-after lists (AddKey r key) q k = refl
+number-after lists (Set r setting) q k = refl
+number-after lists (DeleteKey r) q k = refl
+number-after lists (StartRoll r olds news now) q k = number-turned (is_listed olds q) r now (is_listed news q) k
+number-after lists (Report r half ttl now) q k = refl
+number-after lists (Wait r half now) q k = number-moves r half k.keytype
+number-after lists (RollDone r) q k = refl
+number-after lists (AbortRoll r) q k =
+    number-ended (is_listed (listed_by lists r).olds q) (is_listed (listed_by lists r).news q) r k
+
+kind-after : (sd : Side) (lists : Lists) (call : Call) (q : List ℕ) (k : KeyParts) → lists_kind sd (key_after lists call q k).keytype ≡ lists_kind sd k.keytype
+kind-after sd lists call q k = lists-number sd _ ∙ ap (lists_by sd) (number-after lists call q k) ∙ sym (lists-number sd k.keytype)
 
 algorithm-turned : (b : Bool) (roll : RollType) (now : ℕ) (c : Bool) (k : KeyParts) → (after_start roll now b c k).algorithm ≡ k.algorithm
 algorithm-turned true roll now true k = refl
@@ -232,19 +302,28 @@ algorithm-turned true roll now false k = refl
 algorithm-turned false roll now true k = refl
 algorithm-turned false roll now false k = refl
 
-algorithm-after : (call : Call) (q : List ℕ) (k : KeyParts) → (key_after call q k).algorithm ≡ k.algorithm
+algorithm-ended : (a b : Bool) (roll : RollType) (k : KeyParts)
+    → (after_early_end roll a b k).algorithm ≡ k.algorithm
+algorithm-ended true true roll k = refl
+algorithm-ended true false roll k = refl
+algorithm-ended false true roll k = refl
+algorithm-ended false false roll k = refl
+
+algorithm-after : (lists : Lists) (call : Call) (q : List ℕ) (k : KeyParts) → (key_after lists call q k).algorithm ≡ k.algorithm
 unfolding key_after
-algorithm-after (AddKey r key) q k = refl
-algorithm-after (Set r setting) q k = refl
-algorithm-after (DeleteKey r) q k = refl
-algorithm-after (StartRoll r olds news now) q k = algorithm-turned (is_listed olds q) r now (is_listed news q) k
-algorithm-after (Report r half ttl now) q k = refl
-algorithm-after (Wait r half now) q k = refl
-algorithm-after (RollDone r) q k = refl
+algorithm-after lists (AddKey r key) q k = refl
+algorithm-after lists (Set r setting) q k = refl
+algorithm-after lists (DeleteKey r) q k = refl
+algorithm-after lists (StartRoll r olds news now) q k = algorithm-turned (is_listed olds q) r now (is_listed news q) k
+algorithm-after lists (Report r half ttl now) q k = refl
+algorithm-after lists (Wait r half now) q k = refl
+algorithm-after lists (RollDone r) q k = refl
+algorithm-after lists (AbortRoll r) q k =
+    algorithm-ended (is_listed (listed_by lists r).olds q) (is_listed (listed_by lists r).news q) r k
 
 -- a key of another kind stays as it was
 stays-after : (set : KeySetParts) (call : Call) (roll : RollType) (q : List ℕ) (k : KeyParts) → roll_of call ≡ Some roll → verdict set call ≡ Clear
-    → get set.keys q ≡ Some k → lists_kind (side_of roll) k.keytype ≡ false → key_after call q k ≡ k
+    → get set.keys q ≡ Some k → lists_kind (side_of roll) k.keytype ≡ false → key_after set.lists call q k ≡ k
 unfolding key_after
 stays-after set (AddKey r key) roll q k on clear is other = cc
 stays-after set (Set r setting) roll q k on clear is other = cc
@@ -253,6 +332,8 @@ stays-after set (StartRoll r olds news now) roll q k on clear is other = after_s
 stays-after set (Report r half ttl now) roll q k on clear is other = after_report-others r half now k (ap (λ x. lists_kind (side_of x) k.keytype) (same_Some _ _ on) ∙ other)
 stays-after set (Wait r half now) roll q k on clear is other = after_wait-others r half now k (ap (λ x. lists_kind (side_of x) k.keytype) (same_Some _ _ on) ∙ other)
 stays-after set (RollDone r) roll q k on clear is other = refl
+stays-after set (AbortRoll r) roll q k on clear is other =
+    after_early_end-others r _ _ k (ap (λ x. lists_kind (side_of x) k.keytype) (same_Some _ _ on) ∙ other)
 
 -- ---- what a roll sees of a key set
 
@@ -269,6 +350,7 @@ Alike b (Some k) (Some l) = AlikeKeys b k l
 
 record SameFor (b : RollType) (s t : KeySetParts) : Type 0 where
   phase : phase_of s.rolls b ≡ phase_of t.rolls b
+  listed : listed_by s.lists b ≡ listed_by t.lists b
   conflicts : has_conflict b s.rolls ≡ has_conflict b t.rolls
   keys : (q : List ℕ) → Alike b (get s.keys q) (get t.keys q)
 
@@ -280,7 +362,7 @@ alike-sym b (Some k) None h = absurd h
 alike-sym b (Some k) (Some l) h = record { kind = sym h.kind; same = λ e. sym (h.same (h.kind ∙ e)); algorithm = sym h.algorithm }
 
 same-sym : (b : RollType) (s t : KeySetParts) → SameFor b s t → SameFor b t s
-same-sym b s t h = record { phase = sym h.phase; conflicts = sym h.conflicts; keys = λ q. alike-sym b _ _ (h.keys q) }
+same-sym b s t h = record { phase = sym h.phase; listed = sym h.listed; conflicts = sym h.conflicts; keys = λ q. alike-sym b _ _ (h.keys q) }
 
 -- a key of the roll's own kind is the same key
 alike-found : (b : RollType) (o p : Option KeyParts) (k : KeyParts) → Alike b o p → o ≡ Some k → lists_kind (side_of b) k.keytype ≡ true → p ≡ Some k
@@ -339,9 +421,16 @@ module _ (a b : RollType) (apart : together a b ≡ true) where
   same-after s t call on clear changes =
       let moves = moves-on s t call a on changes in record {
         phase = sym (ap (λ r. phase_of r b) moves.rolls ∙ other-phase s.rolls (phase_after call) b (apart-rolls a b apart));
+        listed = sym (ap (λ l. listed_by l b) moves.lists
+            ∙ listed_by-with_listed s.lists a (listed_after s call) b
+            ∙ ap (λ (x : Bool). if x then listed_after s call else listed_by s.lists b)
+            (apart-rolls a b apart));
         conflicts = conflicts-kept s.rolls (phase_after call) ∙ ap (has_conflict b) (sym moves.rolls);
         keys = λ q. subst (Alike b (get s.keys q)) (sym (moves.keys q))
-            (alike-mapped (get s.keys q) (key_after call q) (λ k. kind-after (side_of b) call q k) (λ k is other. stays-after s call a q k on clear is other) (λ k. algorithm-after call q k));
+            (alike-mapped (get s.keys q) (key_after s.lists call q)
+            (λ k. kind-after (side_of b) s.lists call q k)
+            (λ k is other. stays-after s call a q k on clear is other)
+            (λ k. algorithm-after s.lists call q k));
       }
 
 -- ---- a roll's call is told the same where the roll sees the same
@@ -635,6 +724,7 @@ verdict-same b s t (Report r half ttl now) on same = ap (λ o. barred_by (report
 verdict-same b s t (Wait r half now) on same =
     let here : SameFor r s t = subst (λ x. SameFor x s t) (sym (same_Some _ _ on)) same in
     ap (λ o. wait_in_phase r half (ttl_in half o) now s.keys) here.phase ∙ wait-same r half (ttl_in half (phase_of t.rolls r)) now s t here
+verdict-same b s t (AbortRoll r) on same = ap (λ o. barred_by (early_end_refusal o)) (ap (phase_of s.rolls) (same_Some _ _ on) ∙ same.phase ∙ sym (ap (phase_of t.rolls) (same_Some _ _ on)))
 verdict-same b s t (RollDone r) on same = ap (λ o. barred_by (end_refusal o)) (ap (phase_of s.rolls) (same_Some _ _ on) ∙ same.phase ∙ sym (ap (phase_of t.rolls) (same_Some _ _ on)))
 
 -- ---- the longest time that is left
@@ -706,6 +796,7 @@ early-by (StartRoll r olds news now) b s left on e = absurd (not_early _ left e)
 early-by (Report r half ttl now) b s left on e = absurd (not_early _ left e)
 early-by (Wait r half now) b s left on e = subst (λ x. EarlyBy (Wait r half now) x s left) (same_Some _ _ on) (early-wait (Wait r half now) r half (ttl_in half (phase_of s.rolls r)) now s left e)
 early-by (RollDone r) b s left on e = absurd (not_early _ left e)
+early-by (AbortRoll r) b s left on e = absurd (not_early _ left e)
 
 -- ---- a refused call is refused in the other set too
 
@@ -744,60 +835,184 @@ accepted-step s new call reply clear is changes = subst (λ v. StepBy v s call r
 
 -- ---- both are accepted
 
-swapped_phases : (x y : Bool) (p r o : Option RollState) → (x ≡ true → y ≡ true → ⊥) → (if x then p else (if y then r else o)) ≡ (if y then r else (if x then p else o))
-swapped_phases true true p r o apart = absurd (apart refl refl)
-swapped_phases true false p r o apart = refl
-swapped_phases false true p r o apart = refl
-swapped_phases false false p r o apart = refl
+swapped_choices : {A : Type 0} (x y : Bool) (p r o : A) → (x ≡ true → y ≡ true → ⊥) → (if x then p else (if y then r else o)) ≡ (if y then r else (if x then p else o))
+swapped_choices true true p r o apart = absurd (apart refl refl)
+swapped_choices true false p r o apart = refl
+swapped_choices false true p r o apart = refl
+swapped_choices false false p r o apart = refl
 
 phases-swap : (a b : RollType) (rolls : Rolls) (p r : Option RollState) → same_roll a b ≡ false → with_phase (with_phase rolls a p) b r ≡ with_phase (with_phase rolls b r) a p
 phases-swap a b rolls p r apart = same_rolls _ _ (λ q.
     phase_of-with_phase (with_phase rolls a p) b r q
     ∙ ap (λ o. if same_roll b q then r else o) (phase_of-with_phase rolls a p q)
-    ∙ swapped_phases (same_roll b q) (same_roll a q) r p (phase_of rolls q) (λ x y. let no : true ≡ false = sym y ∙ ap (same_roll a) (sym (same-is b q x)) ∙ apart in cc)
+    ∙ swapped_choices (same_roll b q) (same_roll a q) r p (phase_of rolls q) (λ x y. let no : true ≡ false = sym y ∙ ap (same_roll a) (sym (same-is b q x)) ∙ apart in cc)
     ∙ sym (ap (λ o. if same_roll a q then p else o) (phase_of-with_phase rolls b r q))
     ∙ sym (phase_of-with_phase (with_phase rolls b r) a p q))
+
+lists-swap : (a b : RollType) (l : Lists) (x y : Listed) → same_roll a b ≡ false
+    → with_listed (with_listed l a x) b y ≡ with_listed (with_listed l b y) a x
+lists-swap a b l x y apart = same_lists _ _ (λ q.
+    listed_by-with_listed (with_listed l a x) b y q
+    ∙ ap (λ o. if same_roll b q then y else o) (listed_by-with_listed l a x q)
+    ∙ swapped_choices (same_roll b q) (same_roll a q) y x (listed_by l q)
+    (λ e f. let no : true ≡ false = sym f ∙ ap (same_roll a) (sym (same-is b q e)) ∙ apart in cc)
+    ∙ sym (ap (λ o. if same_roll a q then x else o) (listed_by-with_listed l b y q))
+    ∙ sym (listed_by-with_listed (with_listed l b y) a x q))
+
+-- what a start keeps is told by the keys that the roll sees
+kept-same : (b : RollType) (o p : Option KeyParts) → Alike b o p
+    → old_entry_fault b o ≡ None → option_map_or (λ (k : KeyParts). all_states is_kept k.keytype) o false
+    ≡ option_map_or (λ (k : KeyParts). all_states is_kept k.keytype) p false
+unfolding Alike
+kept-same b None None h own = refl
+kept-same b None (Some l) h own = absurd h
+kept-same b (Some k) None h own = absurd h
+kept-same b (Some k) (Some l) h own = elim (split (lists_kind (side_of b) k.keytype)) [
+  | inl is ↦ ap (λ (x : KeyParts). all_states is_kept x.keytype) (h.same is)
+  | inr other ↦ absurd (old-kind b (Some k) k refl other own)
+]
+
+module _ (b : RollType) (s t : KeySetParts) (same : SameFor b s t) where
+  olds-same : (olds : List (List ℕ)) → old_fault b (get s.keys) olds ≡ None
+      → filter (is_kept_at s.keys) olds ≡ filter (is_kept_at t.keys) olds
+  olds-same [] none = refl
+  olds-same (q ∷ qs) none = λ i.
+      cond (kept-same b _ _ (same.keys q) (no_first _ _ none) i)
+      (q ∷ olds-same qs (no_rest _ _ none) i) (olds-same qs (no_rest _ _ none) i)
+
+  listed-at : (r : RollType) → Some r ≡ Some b → listed_by s.lists r ≡ listed_by t.lists r
+  listed-at r on = ap (listed_by s.lists) (same_Some _ _ on) ∙ same.listed
+      ∙ sym (ap (listed_by t.lists) (same_Some _ _ on))
+
+  listed-alike : (call : Call) → roll_of call ≡ Some b → verdict s call ≡ Clear
+      → listed_after s call ≡ listed_after t call
+  unfolding listed_after
+  listed-alike (AddKey r key) on clear = cc
+  listed-alike (Set r setting) on clear = cc
+  listed-alike (DeleteKey r) on clear = cc
+  listed-alike (StartRoll r olds news now) on clear =
+      let none : start_refusal r s olds news ≡ None = no_cause _ clear in
+      let here : start_refusal b s olds news ≡ None =
+      ap (λ x. start_refusal x s olds news) (sym (same_Some _ _ on)) ∙ none in
+      λ i. record { olds = olds-same olds (starts-clear b s olds news here).olds_are i; news = news }
+  listed-alike (Report r First ttl now) on clear = refl
+  listed-alike (Report r Second ttl now) on clear = listed-at r on
+  listed-alike (Wait r half now) on clear = listed-at r on
+  listed-alike (RollDone r) on clear = listed-at r on
+  listed-alike (AbortRoll r) on clear = refl
+
+  key-alike : (call : Call) → roll_of call ≡ Some b → (q : List ℕ) (k : KeyParts)
+      → key_after s.lists call q k ≡ key_after t.lists call q k
+  unfolding key_after
+  key-alike (AddKey r key) on q k = cc
+  key-alike (Set r setting) on q k = cc
+  key-alike (DeleteKey r) on q k = cc
+  key-alike (StartRoll r olds news now) on q k = refl
+  key-alike (Report r half ttl now) on q k = refl
+  key-alike (Wait r half now) on q k = refl
+  key-alike (RollDone r) on q k = refl
+  key-alike (AbortRoll r) on q k =
+      ap (λ (l : Listed). after_early_end r (is_listed l.olds q) (is_listed l.news q) k)
+      (listed-at r on)
 
 module _ (a b : RollType) (apart : together a b ≡ true) (s s1 s2 m : KeySetParts) (first second : Call)
     (first_on : roll_of first ≡ Some a) (second_on : roll_of second ≡ Some b)
     (first_clear : verdict s first ≡ Clear) (second_clear : verdict s1 second ≡ Clear)
     (first_changes : Changes s first s1) (second_changes : Changes s1 second s2)
-    (between_clear : verdict s second ≡ Clear) (between_changes : Changes s second m) (later_clear : verdict m first ≡ Clear) where
-  m1 : MovesOn s s1 a (phase_after first) (key_after first)
+    (between_clear : verdict s second ≡ Clear) (between_changes : Changes s second m) (later_clear : verdict m first ≡ Clear)
+    (seen : SameFor b s s1) (later : SameFor a s m) where
+  m1 : MovesBy s first a s1
   m1 = moves-on s s1 first a first_on first_changes
 
-  m2 : MovesOn s1 s2 b (phase_after second) (key_after second)
+  m2 : MovesBy s1 second b s2
   m2 = moves-on s1 s2 second b second_on second_changes
 
-  mm : MovesOn s m b (phase_after second) (key_after second)
+  mm : MovesBy s second b m
   mm = moves-on s m second b second_on between_changes
 
+  -- each call as the set before both tells it
+  key_first : List ℕ → KeyParts → KeyParts
+  key_first = key_after s.lists first
+
+  key_second : List ℕ → KeyParts → KeyParts
+  key_second = key_after s.lists second
+
+  m2-keys : (q : List ℕ) → get s2.keys q ≡ option_map (key_second q) (get s1.keys q)
+  unfolding key_second
+  m2-keys q = m2.keys q ∙ mapped-alike (get s1.keys q)
+    where
+      mapped-alike : (o : Option KeyParts)
+          → option_map (key_after s1.lists second q) o ≡ option_map (key_after s.lists second q) o
+      mapped-alike None = refl
+      mapped-alike (Some k) = ap Some (sym (key-alike b s s1 seen second second_on q k))
+
   -- the two changes of one key
-  one-key : (q : List ℕ) (k : KeyParts) → get s.keys q ≡ Some k → key_after second q (key_after first q k) ≡ key_after first q (key_after second q k)
+  one-key : (q : List ℕ) (k : KeyParts) → get s.keys q ≡ Some k
+      → key_second q (key_first q k) ≡ key_first q (key_second q k)
+  unfolding key_first key_second
   one-key q k is = elim (split (lists_kind (side_of b) k.keytype)) [
     | inl own ↦
-        let off : lists_kind (side_of a) k.keytype ≡ false = apart-kinds (side_of a) (side_of b) k.keytype apart own in
-        let first_stays : key_after first q k ≡ k = stays-after s first a q k first_on first_clear is off in
-        let there : get m.keys q ≡ Some (key_after second q k) = mm.keys q ∙ ap (option_map (key_after second q)) is in
-        let off2 : lists_kind (side_of a) (key_after second q k).keytype ≡ false = kind-after (side_of a) second q k ∙ off in
-        ap (key_after second q) first_stays ∙ sym (stays-after m first a q (key_after second q k) first_on later_clear there off2)
+        let off : lists_kind (side_of a) k.keytype ≡ false =
+        apart-kinds (side_of a) (side_of b) k.keytype apart own in
+        let first_stays : key_first q k ≡ k = stays-after s first a q k first_on first_clear is off in
+        let there : get m.keys q ≡ Some (key_second q k) =
+        mm.keys q ∙ ap (option_map (key_second q)) is in
+        let off2 : lists_kind (side_of a) (key_second q k).keytype ≡ false =
+        kind-after (side_of a) s.lists second q k ∙ off in
+        let stays : key_after m.lists first q (key_second q k) ≡ key_second q k =
+        stays-after m first a q (key_second q k) first_on later_clear there off2 in
+        ap (key_second q) first_stays
+        ∙ sym (key-alike a s m later first first_on q (key_second q k) ∙ stays)
     | inr off ↦
-        let second_stays : key_after second q k ≡ k = stays-after s second b q k second_on between_clear is off in
-        let there : get s1.keys q ≡ Some (key_after first q k) = m1.keys q ∙ ap (option_map (key_after first q)) is in
-        let off1 : lists_kind (side_of b) (key_after first q k).keytype ≡ false = kind-after (side_of b) first q k ∙ off in
-        stays-after s1 second b q (key_after first q k) second_on second_clear there off1 ∙ sym (ap (key_after first q) second_stays)
+        let second_stays : key_second q k ≡ k =
+        stays-after s second b q k second_on between_clear is off in
+        let there : get s1.keys q ≡ Some (key_first q k) =
+        m1.keys q ∙ ap (option_map (key_first q)) is in
+        let off1 : lists_kind (side_of b) (key_first q k).keytype ≡ false =
+        kind-after (side_of b) s.lists first q k ∙ off in
+        let stays : key_after s1.lists second q (key_first q k) ≡ key_first q k =
+        stays-after s1 second b q (key_first q k) second_on second_clear there off1 in
+        (key-alike b s s1 seen second second_on q (key_first q k) ∙ stays)
+        ∙ sym (ap (key_first q) second_stays)
   ]
 
-  one-option : (q : List ℕ) (o : Option KeyParts) → get s.keys q ≡ o → option_map (key_after second q) (option_map (key_after first q) o) ≡ option_map (key_after first q) (option_map (key_after second q) o)
+  one-option : (q : List ℕ) (o : Option KeyParts) → get s.keys q ≡ o
+      → option_map (key_second q) (option_map (key_first q) o)
+      ≡ option_map (key_first q) (option_map (key_second q) o)
   one-option q None is = refl
   one-option q (Some k) is = ap Some (one-key q k is)
 
+  m-keys : (q : List ℕ)
+      → option_map (key_first q) (get m.keys q) ≡ option_map (key_after m.lists first q) (get m.keys q)
+  unfolding key_first
+  m-keys q = at (get m.keys q)
+    where
+      at : (o : Option KeyParts)
+          → option_map (key_after s.lists first q) o ≡ option_map (key_after m.lists first q) o
+      at None = refl
+      at (Some k) = ap Some (key-alike a s m later first first_on q k)
+
+  lists-swapped : s2.lists ≡ with_listed m.lists a (listed_after m first)
+  lists-swapped =
+      m2.lists ∙ ap (λ l. with_listed l b (listed_after s1 second)) m1.lists
+      ∙ ap (with_listed (with_listed s.lists a (listed_after s first)) b)
+      (sym (listed-alike b s s1 seen second second_on between_clear))
+      ∙ lists-swap a b s.lists (listed_after s first) (listed_after s second) (apart-rolls a b apart)
+      ∙ ap (with_listed (with_listed s.lists b (listed_after s second)) a)
+      (listed-alike a s m later first first_on first_clear)
+      ∙ sym (ap (λ l. with_listed l a (listed_after m first)) mm.lists)
+
   exchanged : Changes m first s2
+  unfolding key_first key_second
   exchanged = moves-back m s2 first a first_on (record {
     name = m2.name ∙ m1.name ∙ sym mm.name;
-    rolls = m2.rolls ∙ ap (λ r. with_phase r b (phase_after second)) m1.rolls ∙ phases-swap a b s.rolls (phase_after first) (phase_after second) (apart-rolls a b apart)
+    rolls = m2.rolls ∙ ap (λ r. with_phase r b (phase_after second)) m1.rolls
+        ∙ phases-swap a b s.rolls (phase_after first) (phase_after second) (apart-rolls a b apart)
         ∙ sym (ap (λ r. with_phase r a (phase_after first)) mm.rolls);
-    keys = λ q. m2.keys q ∙ ap (option_map (key_after second q)) (m1.keys q) ∙ one-option q (get s.keys q) refl ∙ sym (ap (option_map (key_after first q)) (mm.keys q));
+    lists = lists-swapped;
+    keys = λ q. m2-keys q ∙ ap (option_map (key_second q)) (m1.keys q)
+        ∙ one-option q (get s.keys q) refl ∙ sym (ap (option_map (key_first q)) (mm.keys q))
+        ∙ m-keys q;
   })
 
 -- ---- the law
@@ -808,7 +1023,7 @@ alike-itself b None = tt
 alike-itself b (Some k) = record { kind = refl; same = λ e. refl; algorithm = refl }
 
 same-itself : (b : RollType) (s : KeySetParts) → SameFor b s s
-same-itself b s = record { phase = refl; conflicts = refl; keys = λ q. alike-itself b (get s.keys q) }
+same-itself b s = record { phase = refl; listed = refl; conflicts = refl; keys = λ q. alike-itself b (get s.keys q) }
 
 apart-back : (a b : RollType) → together a b ≡ true → together b a ≡ true
 apart-back a b e = apart-side a b e
@@ -840,7 +1055,7 @@ exchange s s1 s2 first second r1 r2 calls step1 step2 = elim (answered s s1 firs
               between = m;
               second_step = accepted-step s m second r2 between_clear ok2.reply_is between_changes;
               first_step = accepted-step m s2 first r1 later_clear ok1.reply_is
-                  (exchanged a b calls.apart s s1 s2 m first second calls.first_is calls.second_is ok1.clear ok2.clear ok1.changes ok2.changes between_clear between_changes later_clear);
+                  (exchanged a b calls.apart s s1 s2 m first second calls.first_is calls.second_is ok1.clear ok2.clear ok1.changes ok2.changes between_clear between_changes later_clear seen later);
             }
       ]
 ]

@@ -17,12 +17,12 @@ use Rattle.dnssec_key.specs.declared.roll.RollState.TheVariants.{Propagation1}
 use Rattle.dnssec_key.specs.declared.error.Error.{Error}
 use Rattle.dnssec_key.specs.declared.error.Error.TheVariants.{DuplicateKeyTag, KeyExists, WrongStateForRollOperation, ConflictingRollInProgress}
 use Rattle.dnssec_key.specs.Key.{KeyParts}
-use Rattle.dnssec_keyset.specs.KeySet.{Keys, KeySetParts, Rolls, PutsKey, new_set, phase_of, with_phase, same_roll}
-use Rattle.dnssec_key.specs.RollTable.{Half, First, Second, after_start}
+use Rattle.dnssec_keyset.specs.KeySet.{Keys, KeySetParts, Lists, Rolls, PutsKey, new_set, phase_of, with_phase, same_roll, without}
+use Rattle.dnssec_key.specs.RollTable.{Half, First, Second, after_start, after_early_end}
 use Rattle.dnssec_key.specs.Setters.{Setting, Decoupled, Present, Signer, AtParent, Stale, VisibleAt, DsVisibleAt, RrsigVisibleAt, set_by}
 use Rattle.dnssec_keyset.specs.Start.{all_rolls, are_apart, conflict, has_conflict, side_of, together}
 use Rattle.dnssec_keyset.specs.Wait.{ttl_in}
-use Rattle.dnssec_keyset.specs.Step.{Call, AddKey, Set, DeleteKey, StartRoll, Report, Wait, RollDone, Reply, Verdict, Barred, Early, Clear, Changes, Step, StepBy, add_refusal, barred_by, has_tag, report_refusal, verdict, wait_in_phase}
+use Rattle.dnssec_keyset.specs.Step.{Call, AddKey, Set, DeleteKey, StartRoll, Report, Wait, RollDone, AbortRoll, Reply, Verdict, Barred, Early, Clear, Changes, Step, StepBy, add_refusal, barred_by, has_tag, report_refusal, verdict, wait_in_phase}
 use Rattle.dnssec_keyset.specs.Laws.{TagsApart, RollsTogether, in_progress}
 use Rattle.dnssec_keyset.proofs.Phases.{phase_of-with_phase}
 use Rattle.dnssec_keyset.proofs.Quantified.{some_key-none}
@@ -64,8 +64,8 @@ module _ (old new : KeySetParts) (apart : TagsApart old.keys) where
       apart q r b.0 c.0 b.1 c.1 (sym (keeps q b.0) ∙ ap (λ (x : KeyParts). x.key_tag) b.2 ∙ same ∙ sym (ap (λ (x : KeyParts). x.key_tag) c.2) ∙ keeps r c.0)
 
   -- a key put where its tag is no other key's
-  apart-puts : (r : List ℕ) (o : Option KeyParts) → ((x k : KeyParts) (q : List ℕ) → o ≡ Some x → get old.keys q ≡ Some k → k.key_tag ≡ x.key_tag → q ≡ r) → PutsKey old new r o → TagsApart new.keys
-  apart-puts r o own puts = λ q s k l e d same. elim (there q k e) [
+  apart-puts : (r : List ℕ) (o : Option KeyParts) (kept : Lists) → ((x k : KeyParts) (q : List ℕ) → o ≡ Some x → get old.keys q ≡ Some k → k.key_tag ≡ x.key_tag → q ≡ r) → PutsKey old new r o kept → TagsApart new.keys
+  apart-puts r o kept own puts = λ q s k l e d same. elim (there q k e) [
     | inl h ↦ elim (there s l d) [
       | inl g ↦ sym h.0 ∙ g.0
       | inr g ↦ sym (own k l s h.1 g (sym same) ∙ h.0)
@@ -88,6 +88,13 @@ started-tag roll now true false k = refl
 started-tag roll now false true k = refl
 started-tag roll now false false k = refl
 
+ended-tag : (roll : RollType) (a b : Bool) (k : KeyParts)
+    → (after_early_end roll a b k).key_tag ≡ k.key_tag
+ended-tag roll true true k = refl
+ended-tag roll true false k = refl
+ended-tag roll false true k = refl
+ended-tag roll false false k = refl
+
 set-tag : (setting : Setting) (b : Bool) (k : KeyParts) → (if b then set_by setting k else k).key_tag ≡ k.key_tag
 set-tag (Decoupled value) true k = refl
 set-tag (Present value now) true k = refl
@@ -106,16 +113,18 @@ no_tag keys r t e = elim (split (has_tag t keys)) [
 ]
 
 apart-changes : (old new : KeySetParts) → TagsApart old.keys → (call : Call) → verdict old call ≡ Clear → Changes old call new → TagsApart new.keys
-apart-changes old new apart (AddKey r key) clear puts = apart-puts old new apart r (Some key) (λ x k q e g same.
+apart-changes old new apart (AddKey r key) clear puts = apart-puts old new apart r (Some key) old.lists (λ x k q e g same.
     let free : nat_eq k.key_tag key.key_tag ≡ false = some_key-none (λ (y : KeyParts). nat_eq y.key_tag key.key_tag) old.keys q k (no_tag old.keys r key.key_tag (no_cause _ clear)) g in
     let is : key.key_tag ≡ x.key_tag = ap (λ (o : Option KeyParts). unwrap_or (option_map (λ (y : KeyParts). y.key_tag) o) 0) e in
     absurd (grind (arith, nat_tests))) puts
 apart-changes old new apart (Set r setting) clear h = apart-moves old new apart _ (λ q k. set-tag setting (bytes_eq r q) k) h.keys
-apart-changes old new apart (DeleteKey r) clear puts = apart-puts old new apart r None (λ x k q e g same. cc) puts
+apart-changes old new apart (DeleteKey r) clear puts = apart-puts old new apart r None (without r old.lists) (λ x k q e g same. cc) puts
 apart-changes old new apart (StartRoll roll olds news now) clear h = apart-moves old new apart _ (λ q k. started-tag roll now _ _ k) h.keys
 apart-changes old new apart (Report roll half ttl now) clear h = apart-moves old new apart _ (λ q k. refl) h.keys
 apart-changes old new apart (Wait roll half now) clear h = apart-moves old new apart _ (λ q k. refl) h.keys
 apart-changes old new apart (RollDone roll) clear h = apart-moves old new apart _ (λ q k. refl) h.keys
+apart-changes old new apart (AbortRoll roll) clear h =
+    apart-moves old new apart _ (λ q k. ended-tag roll _ _ k) h.keys
 
 pub apart-step : (old new : KeySetParts) (call : Call) (reply : Reply) → TagsApart old.keys → Step old call reply new → TagsApart new.keys
 apart-step old new call reply apart h = elim (moved old new call reply h) [
@@ -278,6 +287,8 @@ together-changes old new all (Report roll half ttl now) clear h = subst RollsTog
 together-changes old new all (Wait roll half now) clear h = subst RollsTogether (sym h.rolls)
     (together-fewer old.rolls _ all (there-moves old.rolls roll _ (waited-there roll half (phase_of old.rolls roll) now old.keys clear)))
 together-changes old new all (RollDone roll) clear h = subst RollsTogether (sym h.rolls) (together-fewer old.rolls _ all (there-ends old.rolls roll))
+together-changes old new all (AbortRoll roll) clear h =
+    subst RollsTogether (sym h.rolls) (together-fewer old.rolls _ all (there-ends old.rolls roll))
 
 pub together-step : (old new : KeySetParts) (call : Call) (reply : Reply) → RollsTogether old.rolls → Step old call reply new → RollsTogether new.rolls
 together-step old new call reply all h = elim (moved old new call reply h) [

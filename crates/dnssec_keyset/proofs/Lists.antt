@@ -1,10 +1,11 @@
 -- The two lists of a start, entry by entry.
 use Rattle.std.proofs.Common.{◌≡◌, ℕ, ◌+◌, ◌<◌, Bool, true, false, List, [], ◌∷◌, ◌++◌, length}
-use Rattle.std.proofs.Common.{take, drop, get_or, refl, ap, Bor, arith, add-one}
+use Rattle.std.proofs.Common.{take, drop, get_or, refl, sym, ap, ◌∙◌, cond, map, Bor, arith, add-one}
 use Rattle.std.proofs.Math.Seq.{take-suc, drop-cons}
 use Rattle.std.specs.Prelude.{◌||◌}
-use Rattle.std.specs.Prelude.{Option, ◌&&◌, nat_eq}
-use Rattle.std.specs.List.{list_any, list_all}
+use Rattle.std.proofs.lemmas.List.Elements.{filter-append}
+use Rattle.std.specs.Prelude.{Option, ◌&&◌, filter, nat_eq}
+use Rattle.std.specs.List.{AllZip, list_any, list_all}
 use Rattle.std.specs.Option.{option_or, option_map_or}
 use Rattle.std.specs.Str.{bytes_eq}
 use Rattle.dnssec_key.specs.declared.roll.RollType.{RollType}
@@ -17,10 +18,70 @@ pub is_listed-texts : (rs : List (Bor (List ℕ))) (q : List ℕ) → is_listed 
 is_listed-texts [] q = refl
 is_listed-texts (r ∷ rs) q = grind (arith, is_listed-texts rs q)
 
-pub texts-push : (rs : List (Bor (List ℕ))) (r : Bor (List ℕ)) → texts (rs ++ r ∷ [])
-    ≡ texts rs ++ r.now ∷ []
-texts-push [] r = refl
-texts-push (x ∷ rs) r = ap (λ qs. x.now ∷ qs) (texts-push rs r)
+pub map-push : {A B : Type 0} (f : A → B) (xs : List A) (x : A) → map f (xs ++ x ∷ [])
+    ≡ map f xs ++ f x ∷ []
+map-push f [] x = refl
+map-push f (y ∷ ys) x = ap (λ zs. f y ∷ zs) (map-push f ys x)
+
+-- one entry more of a list of references
+pub texts-more : (rs : List (Bor (List ℕ))) (i : ℕ) (d : Bor (List ℕ)) → i < length rs
+    → texts (take (i + 1) rs) ≡ texts (take i rs) ++ (get_or rs i d).now ∷ []
+texts-more rs i d h = rw (add-one, take-suc rs i d, map-push) refl
+
+pub copied-more : (rs : List (Bor (List ℕ))) (i : ℕ) (d : Bor (List ℕ)) (a n : List (List ℕ))
+    → i < length rs → a ≡ texts (take i rs) → n ≡ a ++ (get_or rs i d).now ∷ []
+    → n ≡ texts (take (i + 1) rs)
+copied-more rs i d a n h before now =
+    now ∙ ap (λ qs. qs ++ (get_or rs i d).now ∷ []) before ∙ sym (texts-more rs i d h)
+
+-- and one entry more of those of its references that pass
+module _ (p : List ℕ → Bool) (rs : List (Bor (List ℕ))) (i : ℕ) (d : Bor (List ℕ))
+    (h : i < length rs) where
+  kept-more : filter p (texts (take (i + 1) rs))
+      ≡ filter p (texts (take i rs)) ++ cond (p (get_or rs i d).now) ((get_or rs i d).now ∷ []) []
+  kept-more = ap (filter p) (texts-more rs i d h)
+      ∙ filter-append p (texts (take i rs)) ((get_or rs i d).now ∷ [])
+
+  pub kept-passes : (a n : List (List ℕ)) → p (get_or rs i d).now ≡ true
+      → a ≡ filter p (texts (take i rs)) → n ≡ a ++ (get_or rs i d).now ∷ []
+      → n ≡ filter p (texts (take (i + 1) rs))
+  kept-passes a n passes before now =
+      now ∙ ap (λ qs. qs ++ (get_or rs i d).now ∷ []) before
+      ∙ sym (kept-more ∙ ap (λ b. filter p (texts (take i rs)) ++ cond b ((get_or rs i d).now ∷ []) [])
+      passes)
+
+  pub kept-fails : (a : List (List ℕ)) → p (get_or rs i d).now ≡ false
+      → a ≡ filter p (texts (take i rs)) → a ≡ filter p (texts (take (i + 1) rs))
+  kept-fails a fails before =
+      before ∙ sym (kept-more
+      ∙ ap (λ b. filter p (texts (take i rs)) ++ cond b ((get_or rs i d).now ∷ []) []) fails
+      ∙ none-more (filter p (texts (take i rs))))
+    where
+      none-more : (qs : List (List ℕ)) → qs ++ [] ≡ qs
+      none-more [] = refl
+      none-more (q ∷ qs) = ap (λ rest. q ∷ rest) (none-more qs)
+
+-- ---- lists of strings
+
+-- a test of strings by their bytes
+pub filter-map : {A B : Type 0} (f : A → B) (p : B → Bool) (xs : List A)
+    → map f (filter (λ x. p (f x)) xs) ≡ filter p (map f xs)
+filter-map f p [] = refl
+filter-map f p (x ∷ xs) = at (p (f x)) (filter-map f p xs)
+  where
+    at : (b : Bool) → map f (filter (λ y. p (f y)) xs) ≡ filter p (map f xs)
+        → map f (cond b (x ∷ filter (λ y. p (f y)) xs) (filter (λ y. p (f y)) xs))
+        ≡ cond b (f x ∷ filter p (map f xs)) (filter p (map f xs))
+    at true e = ap (λ ys. f x ∷ ys) e
+    at false e = e
+
+-- copies, one by one, of a list
+pub same-copies : {A B : Type 0} (f : A → B) (xs ys : List A)
+    → AllZip (λ x y. f y ≡ f x) xs ys → map f ys ≡ map f xs
+same-copies f [] [] h = refl
+same-copies f [] (y ∷ ys) h = absurd h
+same-copies f (x ∷ xs) [] h = absurd h
+same-copies f (x ∷ xs) (y ∷ ys) h = λ i. h.0 i ∷ same-copies f xs ys h.1 i
 
 module _ (roll : RollType) (at : List ℕ → Option KeyParts) (olds : List (List ℕ)) where
   -- the new entry at i, and then the rest
@@ -31,7 +92,7 @@ module _ (roll : RollType) (at : List ℕ → Option KeyParts) (olds : List (Lis
       (is_listed olds (get_or rs i d).now || is_listed (texts (take i rs))
       (get_or rs i d).now))
       (new_fault roll at olds (texts (take (i + 1) rs)) (texts (drop (i + 1) rs)))
-  new_fault-at rs i d h = rw (add-one, take-suc rs i d, drop-cons rs i d, texts-push) refl
+  new_fault-at rs i d h = rw (add-one, take-suc rs i d, drop-cons rs i d, map-push) refl
 
 any-texts : (f : List ℕ → Bool) (rs : List (Bor (List ℕ))) → list_any f (texts rs)
     ≡ list_any (λ (r : Bor (List ℕ)). f r.now) rs

@@ -1,6 +1,6 @@
 -- The marks of a start, reference by reference: a key that is listed twice is marked as one that is listed once.
 use Rattle.std.proofs.Common.{◌≡◌, ℕ, ◌+◌, ◌<◌, Bool, true, false, List, length, take, get_or, Some}
-use Rattle.std.proofs.Common.{None, refl, sym, ap, ◌∙◌, Bor, add-one}
+use Rattle.std.proofs.Common.{None, refl, sym, ap, ◌∙◌, map, Bor, add-one}
 use Rattle.std.proofs.Math.Seq.{take-suc}
 use Rattle.std.specs.Prelude.{Option, if◌then◌else◌, ◌||◌}
 use Rattle.std.specs.Option.{option_map}
@@ -17,8 +17,10 @@ use Rattle.dnssec_key.specs.State.{Flags}
 use Rattle.dnssec_key.specs.Key.{KeyParts}
 use Rattle.dnssec_key.specs.RollTable.{column, at_ksk, at_zsk, at_roles, turns_old, comes_in}
 use Rattle.dnssec_key.specs.RollTable.{comes_in_signing, ds_comes_in, marked_old, marked_new}
-use Rattle.dnssec_keyset.specs.Start.{texts, is_listed}
-use Rattle.dnssec_keyset.proofs.Lists.{texts-push}
+use Rattle.dnssec_key.specs.RollTable.{turns_back, leaves_dnskey, leaves_parent, leaves_silently}
+use Rattle.dnssec_key.specs.RollTable.{unmarked_old, unmarked_new}
+use Rattle.dnssec_keyset.specs.Start.{is_listed}
+use Rattle.dnssec_keyset.proofs.Lists.{map-push}
 
 -- ---- a mark that is made twice
 
@@ -74,17 +76,50 @@ marked_new-twice AlgorithmRoll now k = λ i. record (marked_new AlgorithmRoll no
       i;
 }
 
+returns-twice : (roll : RollType) (t : KeyType)
+    → (column roll).returns ((column roll).returns t) ≡ (column roll).returns t
+unfolding column
+returns-twice KskRoll t = at_ksk-twice turns_back (λ s. refl) t
+returns-twice KskDoubleDsRoll t = at_ksk-twice turns_back (λ s. refl) t
+returns-twice ZskRoll t = at_zsk-twice turns_back (λ s. refl) t
+returns-twice ZskDoubleSignatureRoll t = at_zsk-twice turns_back (λ s. refl) t
+returns-twice CskRoll t = at_roles-twice turns_back turns_back (λ s. refl) (λ s. refl) t
+returns-twice AlgorithmRoll t = at_roles-twice turns_back turns_back (λ s. refl) (λ s. refl) t
+
+pub unmarked_old-twice : (roll : RollType) (k : KeyParts)
+    → unmarked_old roll (unmarked_old roll k) ≡ unmarked_old roll k
+unmarked_old-twice roll k = λ i. record k { keytype = returns-twice roll k.keytype i }
+
+goes-twice : (roll : RollType) (t : KeyType)
+    → (column roll).goes ((column roll).goes t) ≡ (column roll).goes t
+unfolding column
+goes-twice KskRoll t = at_ksk-twice leaves_dnskey (λ s. refl) t
+goes-twice KskDoubleDsRoll t = at_ksk-twice leaves_parent (λ s. refl) t
+goes-twice ZskRoll t = at_zsk-twice leaves_silently (λ s. refl) t
+goes-twice ZskDoubleSignatureRoll t = at_zsk-twice leaves_dnskey (λ s. refl) t
+goes-twice CskRoll t = at_roles-twice leaves_dnskey leaves_silently (λ s. refl) (λ s. refl) t
+goes-twice AlgorithmRoll t = at_roles-twice leaves_dnskey leaves_dnskey (λ s. refl) (λ s. refl) t
+
+pub unmarked_new-twice : (roll : RollType) (k : KeyParts)
+    → unmarked_new roll (unmarked_new roll k) ≡ unmarked_new roll k
+unmarked_new-twice roll k = λ i. record k { keytype = goes-twice roll k.keytype i }
+
 -- ---- a step of the loop
 
 or_false : (a b c : Bool) → b ≡ c → (a || (b || false)) ≡ (a || c)
 or_false a true c e = λ i. a || e i
 or_false a false c e = λ i. a || e i
 
-pub listed_more : (rs : List (Bor (List ℕ))) (i : ℕ) (d : Bor (List ℕ)) (q : List ℕ) →
-    i < length rs → is_listed (texts (take (i + 1) rs)) q
-    ≡ (is_listed (texts (take i rs)) q || bytes_eq (get_or rs i d).now q)
-listed_more rs i d q h = rw (add-one, take-suc rs i d, texts-push, list_any-append)
-    (or_false _ _ _ (nat_list_eq_equiv.symm q (get_or rs i d).now))
+-- the reference that an entry of a caller's list is
+abbrev pub referred : Bor (List ℕ) → List ℕ
+referred r = r.now
+
+-- of a list whose entries name keys
+pub listed_more : {A : Type 0} (name : A → List ℕ) (xs : List A) (i : ℕ) (d : A) (q : List ℕ)
+    → i < length xs → is_listed (map name (take (i + 1) xs)) q
+    ≡ (is_listed (map name (take i xs)) q || bytes_eq (name (get_or xs i d)) q)
+listed_more name xs i d q h = rw (add-one, take-suc xs i d, map-push name, list_any-append)
+    (or_false _ _ _ (nat_list_eq_equiv.symm q (name (get_or xs i d))))
 
 module _ (f : KeyParts → KeyParts) (twice : (k : KeyParts) → f (f k) ≡ f k) where
   both_marks : (a b : Bool) (k : KeyParts) →
@@ -101,12 +136,14 @@ module _ (f : KeyParts → KeyParts) (twice : (k : KeyParts) → f (f k) ≡ f k
   map_marks a b (Some k) = ap Some (both_marks a b k)
 
   -- the mark of the reference at i, after those before it
-  pub mark_more : (rs : List (Bor (List ℕ))) (i : ℕ) (d : Bor (List ℕ)) (q : List ℕ)
-      (o a n : Option KeyParts) → i < length rs
-      → a ≡ option_map (λ k. if is_listed (texts (take i rs)) q then f k else k) o →
-      n ≡ option_map (λ k. if bytes_eq (get_or rs i d).now q then f k else k) a
-      → n ≡ option_map (λ k. if is_listed (texts (take (i + 1) rs)) q then f k else k) o
-  mark_more rs i d q o a n h before now =
-      now ∙ ap (option_map (λ k. if bytes_eq (get_or rs i d).now q then f k else k)) before
+  pub mark_more : {A : Type 0} (name : A → List ℕ) (xs : List A) (i : ℕ) (d : A) (q : List ℕ)
+      (r : List ℕ) (o a n : Option KeyParts) → i < length xs → r ≡ name (get_or xs i d)
+      → a ≡ option_map (λ k. if is_listed (map name (take i xs)) q then f k else k) o →
+      n ≡ option_map (λ k. if bytes_eq r q then f k else k) a
+      → n ≡ option_map (λ k. if is_listed (map name (take (i + 1) xs)) q then f k else k) o
+  mark_more name xs i d q r o a n h is before now =
+      now ∙ ap (λ s. option_map (λ k. if bytes_eq s q then f k else k) a) is
+      ∙ ap (option_map (λ k. if bytes_eq (name (get_or xs i d)) q then f k else k)) before
       ∙ map_marks _ _ o
-      ∙ ap (λ (b : Bool). option_map (λ k. if b then f k else k) o) (sym (listed_more rs i d q h))
+      ∙ ap (λ (b : Bool). option_map (λ k. if b then f k else k) o)
+      (sym (listed_more name xs i d q h))

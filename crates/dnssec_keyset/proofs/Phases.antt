@@ -7,6 +7,7 @@ use Rattle.dnssec_key.specs.declared.roll.RollType.{RollType}
 use Rattle.dnssec_key.specs.declared.roll.RollType.TheVariants.{KskRoll, KskDoubleDsRoll, ZskRoll, ZskDoubleSignatureRoll, CskRoll, AlgorithmRoll}
 use Rattle.dnssec_key.specs.declared.roll.RollState.{RollState}
 use Rattle.dnssec_key.specs.contracts.roll.RollTypePartialEq.TheImpl.{eq-value}
+use Rattle.dnssec_keyset.specs.KeySet.{Listed, Lists, listed_by, with_listed}
 use Rattle.dnssec_keyset.specs.KeySet.{Rolls, same_roll, rolls_shown, phase_of, with_phase, roll_number}
 use Rattle.dnssec_key.specs.contracts.roll.RollType.{the_type}
 use denote.Enum.Declared.{tag_of}
@@ -39,6 +40,26 @@ phase_of-with_phase r roll phase ZskRoll = refl
 phase_of-with_phase r roll phase ZskDoubleSignatureRoll = refl
 phase_of-with_phase r roll phase CskRoll = refl
 phase_of-with_phase r roll phase AlgorithmRoll = refl
+
+-- the same of what is kept of starts
+pub same_lists : (a b : Lists) → ((q : RollType) → listed_by a q ≡ listed_by b q) → a ≡ b
+same_lists a b h = λ i. record {
+  ksk_roll = h KskRoll i;
+  ksk_double_ds_roll = h KskDoubleDsRoll i;
+  zsk_roll = h ZskRoll i;
+  zsk_double_signature_roll = h ZskDoubleSignatureRoll i;
+  csk_roll = h CskRoll i;
+  algorithm_roll = h AlgorithmRoll i;
+}
+
+pub listed_by-with_listed : (l : Lists) (roll : RollType) (listed : Listed) (q : RollType)
+    → listed_by (with_listed l roll listed) q ≡ (if same_roll roll q then listed else listed_by l q)
+listed_by-with_listed l roll listed KskRoll = refl
+listed_by-with_listed l roll listed KskDoubleDsRoll = refl
+listed_by-with_listed l roll listed ZskRoll = refl
+listed_by-with_listed l roll listed ZskDoubleSignatureRoll = refl
+listed_by-with_listed l roll listed CskRoll = refl
+listed_by-with_listed l roll listed AlgorithmRoll = refl
 
 module _ {S : Type 0} where
   pub phase_of-shown : (m : HashMap RollType RollState S) (roll : RollType) → phase_of (rolls_shown m) roll ≡ get eq-value.it m roll

@@ -16,9 +16,9 @@ use Rattle.dnssec_key.specs.declared.error.Error.TheVariants.{WrongKeyType, Wron
 use Rattle.dnssec_key.specs.Key.{KeyParts, all_states}
 use Rattle.dnssec_key.specs.State.{is_fresh}
 use Rattle.dnssec_keyset.specs.KeySet.{KeySetParts}
-use Rattle.dnssec_key.specs.RollTable.{Half, First, Second, column, half_of, written, with_stamps, after_start, after_report, after_wait}
+use Rattle.dnssec_key.specs.RollTable.{Half, First, Second, column, half_of, written, with_stamps, after_start, after_report, after_wait, after_early_end}
 use Rattle.dnssec_keyset.specs.Start.{algorithm_fault, conflict, is_listed, lists_kind, new_entry_fault, new_fault, old_entry_fault, old_fault, side_of, start_refusal, suitability_fault}
-use Rattle.dnssec_keyset.specs.Step.{Call, AddKey, Set, DeleteKey, StartRoll, Report, Wait, RollDone, Reply, Clear, Changes, Step, verdict}
+use Rattle.dnssec_keyset.specs.Step.{Call, AddKey, Set, DeleteKey, StartRoll, Report, Wait, RollDone, AbortRoll, Reply, Clear, Changes, Step, verdict}
 use Rattle.dnssec_keyset.specs.Laws.{LeavesOthers, roll_of}
 use Rattle.dnssec_keyset.proofs.Laws.{moved, no_cause}
 
@@ -189,17 +189,85 @@ pub after_wait-others : (roll : RollType) (half : Half) (now : ℕ) (k : KeyPart
 unfolding unstamped
 after_wait-others roll half now k e = λ i. record k { keytype = moves-others roll half k.keytype e i; timestamps = with_stamps (wait-others roll half k.keytype e i) now k.timestamps }
 
+returns-others : (roll : RollType) (t : KeyType) → lists_kind (side_of roll) t ≡ false
+    → (column roll).returns t ≡ t
+unfolding column
+returns-others KskRoll (Ksk s) e = cc
+returns-others KskRoll (Zsk s) e = refl
+returns-others KskRoll (Csk s t) e = refl
+returns-others KskRoll (Include s) e = refl
+returns-others KskDoubleDsRoll (Ksk s) e = cc
+returns-others KskDoubleDsRoll (Zsk s) e = refl
+returns-others KskDoubleDsRoll (Csk s t) e = refl
+returns-others KskDoubleDsRoll (Include s) e = refl
+returns-others ZskRoll (Ksk s) e = refl
+returns-others ZskRoll (Zsk s) e = cc
+returns-others ZskRoll (Csk s t) e = refl
+returns-others ZskRoll (Include s) e = refl
+returns-others ZskDoubleSignatureRoll (Ksk s) e = refl
+returns-others ZskDoubleSignatureRoll (Zsk s) e = cc
+returns-others ZskDoubleSignatureRoll (Csk s t) e = refl
+returns-others ZskDoubleSignatureRoll (Include s) e = refl
+returns-others CskRoll (Ksk s) e = cc
+returns-others CskRoll (Zsk s) e = cc
+returns-others CskRoll (Csk s t) e = cc
+returns-others CskRoll (Include s) e = refl
+returns-others AlgorithmRoll (Ksk s) e = cc
+returns-others AlgorithmRoll (Zsk s) e = cc
+returns-others AlgorithmRoll (Csk s t) e = cc
+returns-others AlgorithmRoll (Include s) e = refl
+
+goes-others : (roll : RollType) (t : KeyType) → lists_kind (side_of roll) t ≡ false
+    → (column roll).goes t ≡ t
+unfolding column
+goes-others KskRoll (Ksk s) e = cc
+goes-others KskRoll (Zsk s) e = refl
+goes-others KskRoll (Csk s t) e = refl
+goes-others KskRoll (Include s) e = refl
+goes-others KskDoubleDsRoll (Ksk s) e = cc
+goes-others KskDoubleDsRoll (Zsk s) e = refl
+goes-others KskDoubleDsRoll (Csk s t) e = refl
+goes-others KskDoubleDsRoll (Include s) e = refl
+goes-others ZskRoll (Ksk s) e = refl
+goes-others ZskRoll (Zsk s) e = cc
+goes-others ZskRoll (Csk s t) e = refl
+goes-others ZskRoll (Include s) e = refl
+goes-others ZskDoubleSignatureRoll (Ksk s) e = refl
+goes-others ZskDoubleSignatureRoll (Zsk s) e = cc
+goes-others ZskDoubleSignatureRoll (Csk s t) e = refl
+goes-others ZskDoubleSignatureRoll (Include s) e = refl
+goes-others CskRoll (Ksk s) e = cc
+goes-others CskRoll (Zsk s) e = cc
+goes-others CskRoll (Csk s t) e = cc
+goes-others CskRoll (Include s) e = refl
+goes-others AlgorithmRoll (Ksk s) e = cc
+goes-others AlgorithmRoll (Zsk s) e = cc
+goes-others AlgorithmRoll (Csk s t) e = cc
+goes-others AlgorithmRoll (Include s) e = refl
+
+pub after_early_end-others : (roll : RollType) (was_old was_new : Bool) (k : KeyParts)
+    → lists_kind (side_of roll) k.keytype ≡ false → after_early_end roll was_old was_new k ≡ k
+after_early_end-others roll true true k e = λ i. record k {
+  keytype = (ap (column roll).goes (returns-others roll k.keytype e)
+      ∙ goes-others roll k.keytype e) i;
+}
+after_early_end-others roll true false k e =
+    λ i. record k { keytype = returns-others roll k.keytype e i }
+after_early_end-others roll false true k e =
+    λ i. record k { keytype = goes-others roll k.keytype e i }
+after_early_end-others roll false false k e = refl
+
 -- ---- a start lists none of them
 
 split : (b : Bool) → (b ≡ true) ⊎ (b ≡ false)
 split true = inl refl
 split false = inr refl
 
-no_first : (a b : Option Error) → option_or a b ≡ None → a ≡ None
+pub no_first : (a b : Option Error) → option_or a b ≡ None → a ≡ None
 no_first None b e = refl
 no_first (Some cause) b e = cc
 
-no_rest : (a b : Option Error) → option_or a b ≡ None → b ≡ None
+pub no_rest : (a b : Option Error) → option_or a b ≡ None → b ≡ None
 no_rest None b e = e
 no_rest (Some cause) b e = cc
 
@@ -210,7 +278,7 @@ listed_cases q x xs e = elim (split (bytes_eq q x)) [
 ]
 
 module _ (roll : RollType) (at : List ℕ → Option KeyParts) where
-  old-listed : (olds : List (List ℕ)) (q : List ℕ) → old_fault roll at olds ≡ None → is_listed olds q ≡ true → old_entry_fault roll (at q) ≡ None
+  pub old-listed : (olds : List (List ℕ)) (q : List ℕ) → old_fault roll at olds ≡ None → is_listed olds q ≡ true → old_entry_fault roll (at q) ≡ None
   old-listed [] q none e = cc
   old-listed (x ∷ xs) q none e = elim (listed_cases q x xs e) [
     | inl same ↦ ap (λ r. old_entry_fault roll (at r)) same ∙ no_first _ _ none
@@ -224,7 +292,7 @@ module _ (roll : RollType) (at : List ℕ → Option KeyParts) where
     | inr later ↦ new-listed olds (earlier ++ x ∷ []) xs q (no_rest _ _ none) later
   ]
 
-old-kind : (roll : RollType) (o : Option KeyParts) (k : KeyParts) → o ≡ Some k → lists_kind (side_of roll) k.keytype ≡ false → old_entry_fault roll o ≡ None → ⊥
+pub old-kind : (roll : RollType) (o : Option KeyParts) (k : KeyParts) → o ≡ Some k → lists_kind (side_of roll) k.keytype ≡ false → old_entry_fault roll o ≡ None → ⊥
 old-kind roll o k is other none =
     let wrong : Some WrongKeyType ≡ None = sym (ap (λ (b : Bool). if b then None else Some WrongKeyType) other) ∙ sym (ap (old_entry_fault roll) is) ∙ none in cc
 
@@ -284,6 +352,10 @@ leaves old new (Wait r half now) roll q k on clear h is other =
     let same : r ≡ roll = same_Some _ _ on in
     h.keys q ∙ ap (option_map _) is ∙ ap Some (after_wait-others r half now k (ap (λ x. lists_kind (side_of x) k.keytype) same ∙ other))
 leaves old new (RollDone r) roll q k on clear h is other = h.keys q ∙ ap (option_map _) is
+leaves old new (AbortRoll r) roll q k on clear h is other =
+    let kind : lists_kind (side_of r) k.keytype ≡ false =
+    ap (λ x. lists_kind (side_of x) k.keytype) (same_Some _ _ on) ∙ other in
+    h.keys q ∙ ap (option_map _) is ∙ ap Some (after_early_end-others r _ _ k kind)
 
 pub leaves-others : (old new : KeySetParts) (call : Call) (reply : Reply) → Step old call reply new → LeavesOthers old call new
 leaves-others old new call reply step roll q k on is other = elim (moved old new call reply step) [

@@ -14,6 +14,7 @@ use Rattle.dnssec_key.specs.Setters.{VisibleAt, DsVisibleAt, RrsigVisibleAt, set
 use Rattle.dnssec_keyset.specs.Step.{has_tag}
 use Rattle.dnssec_keyset.specs.declared.keys.Change.{Change}
 use Rattle.dnssec_keyset.specs.declared.keys.Change.TheVariants.{Set, MarkOld, MarkNew}
+use Rattle.dnssec_keyset.specs.declared.keys.Change.TheVariants.{UnmarkOld, UnmarkNew}
 use Rattle.dnssec_keyset.specs.Inner.Change.{made}
 use Rattle.dnssec_key.specs.declared.key.KeyType.{KeyType}
 use Rattle.dnssec_key.specs.declared.roll.RollType.{RollType}
@@ -42,6 +43,8 @@ pub kept_made : (change : Change) (k : KeyParts) → (made change k).key_tag ≡
 kept_made (Set setting) k = kept_set (meant setting) k
 kept_made MarkOld k = refl
 kept_made (MarkNew roll now) k = refl
+kept_made (UnmarkOld roll) k = refl
+kept_made (UnmarkNew roll) k = refl
 
 -- a value that f gives of what was there
 mapped : (o : Option KeyParts) (f : KeyParts → KeyParts) (l : KeyParts) → option_map f o ≡ Some l

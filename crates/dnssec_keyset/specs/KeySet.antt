@@ -1,7 +1,7 @@
 -- What a contract sees of a key set: its name, its keys by reference, and its rolls in progress (RFC
 -- 6781, section 3.1: the keys of a zone; section 4.1: their rolls).
 use Rattle.std.specs.Prelude.{◌≡◌, ℕ, List, map, Bool, Option, None, if◌then◌else◌}
-use Rattle.std.specs.Prelude.{nat_eq, string_bytes}
+use Rattle.std.specs.Prelude.{[], filter, nat_eq, not, string_bytes}
 use Rattle.std.specs.declared.string.String.{String}
 use Rattle.std.specs.Ordering.{nat_cmp}
 use Rattle.std.specs.Cmp.Lexicographic.{slice_cmp}
@@ -88,6 +88,66 @@ abbrev pub with_phase : Rolls → RollType → Option RollState → Rolls
 with_phase r roll phase =
     rolls_by (λ other. if same_roll roll other then phase else phase_of r other)
 
+-- ---- what starts have listed, for rolls that may be ended early
+
+-- what is kept of a start until its first report
+pub record Listed : Type 0 where
+  pub olds : List (List ℕ)  -- the old references whose keys were not old
+  pub news : List (List ℕ)  -- the new references
+
+-- nothing is kept
+abbrev pub nothing_listed : Listed
+nothing_listed = record { olds = []; news = [] }
+
+-- what is kept for each roll
+pub record Lists : Type 0 where
+  pub ksk_roll : Listed
+  pub ksk_double_ds_roll : Listed
+  pub zsk_roll : Listed
+  pub zsk_double_signature_roll : Listed
+  pub csk_roll : Listed
+  pub algorithm_roll : Listed
+
+-- what is kept for one roll
+abbrev pub listed_by : Lists → RollType → Listed
+listed_by lists KskRoll = lists.ksk_roll
+listed_by lists KskDoubleDsRoll = lists.ksk_double_ds_roll
+listed_by lists ZskRoll = lists.zsk_roll
+listed_by lists ZskDoubleSignatureRoll = lists.zsk_double_signature_roll
+listed_by lists CskRoll = lists.csk_roll
+listed_by lists AlgorithmRoll = lists.algorithm_roll
+
+-- the lists that f tells
+abbrev pub lists_by : (RollType → Listed) → Lists
+lists_by f = record {
+  ksk_roll = f KskRoll;
+  ksk_double_ds_roll = f KskDoubleDsRoll;
+  zsk_roll = f ZskRoll;
+  zsk_double_signature_roll = f ZskDoubleSignatureRoll;
+  csk_roll = f CskRoll;
+  algorithm_roll = f AlgorithmRoll;
+}
+
+-- no start has listed a key
+abbrev pub no_lists : Lists
+no_lists = lists_by (λ roll. nothing_listed)
+
+-- the lists with those of one roll put in place
+abbrev pub with_listed : Lists → RollType → Listed → Lists
+with_listed lists roll listed =
+    lists_by (λ other. if same_roll roll other then listed else listed_by lists other)
+
+-- a list without a reference
+abbrev pub others : List ℕ → List (List ℕ) → List (List ℕ)
+others reference = filter (λ q. not (bytes_eq reference q))
+
+-- the lists without a reference
+abbrev pub without : List ℕ → Lists → Lists
+without reference lists = lists_by (λ roll. record {
+  olds = others reference (listed_by lists roll).olds;
+  news = others reference (listed_by lists roll).news;
+})
+
 -- ---- the whole set
 
 -- the parts of a key set (RFC 6781, section 3.1)
@@ -95,31 +155,36 @@ pub record KeySetParts : Type 0 where
   pub name : List ℕ  -- the zone's name on the wire
   pub keys : Keys
   pub rolls : Rolls
+  pub lists : Lists  -- what the starts of rolls in `Propagation1` listed
 
 -- a set without keys and rolls (RFC 6781, section 3.1)
 abbrev pub new_set : List ℕ → KeySetParts
-new_set name = record { name = name; keys = empty; rolls = no_rolls }
+new_set name = record { name = name; keys = empty; rolls = no_rolls; lists = no_lists }
 
--- only the key at the reference is changed, by f (RFC 6781, section 4.1)
+-- only the key at the reference is changed, by f; these lists are kept (RFC 6781, section 4.1)
 pub record ChangesKey (old new : KeySetParts) (reference : List ℕ) (f : KeyParts → KeyParts)
-    : Type 0 where
+    (kept : Lists) : Type 0 where
   pub name : new.name ≡ old.name
   pub rolls : new.rolls ≡ old.rolls
+  pub lists : new.lists ≡ kept
   pub keys : (q : List ℕ) →
       get new.keys q ≡ option_map (λ k. if bytes_eq reference q then f k else k) (get old.keys q)
 
--- only the key at the reference is another one, or none (RFC 6781, section 3.1)
+-- only the key at the reference is another one, or none; these lists are kept (RFC 6781, section 3.1)
 pub record PutsKey (old new : KeySetParts) (reference : List ℕ) (key : Option KeyParts)
-    : Type 0 where
+    (kept : Lists) : Type 0 where
   pub name : new.name ≡ old.name
   pub rolls : new.rolls ≡ old.rolls
+  pub lists : new.lists ≡ kept
   pub keys : (q : List ℕ) → get new.keys q ≡ (if bytes_eq reference q then key else get old.keys q)
 
--- every key goes by f, none comes or goes; the roll is in the phase, if any (RFC 6781, section 4.1)
+-- every key goes by f, none comes or goes; the roll is in the phase, if any; these lists are kept (RFC
+-- 6781, section 4.1)
 pub record MovesOn (old new : KeySetParts) (roll : RollType) (phase : Option RollState)
-    (f : List ℕ → KeyParts → KeyParts) : Type 0 where
+    (kept : Lists) (f : List ℕ → KeyParts → KeyParts) : Type 0 where
   pub name : new.name ≡ old.name
   pub rolls : new.rolls ≡ with_phase old.rolls roll phase
+  pub lists : new.lists ≡ kept
   pub keys : (q : List ℕ) → get new.keys q ≡ option_map (f q) (get old.keys q)
 
 -- ---- the hash maps that a key set holds

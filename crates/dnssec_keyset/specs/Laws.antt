@@ -8,7 +8,8 @@ use Rattle.dnssec_key.specs.Key.{KeyParts}
 use Rattle.dnssec_key.specs.declared.error.Error.TheVariants.{OutOfMemory}
 use Rattle.dnssec_keyset.specs.KeySet.{Keys, KeySetParts, Rolls, phase_of, same_roll}
 use Rattle.dnssec_keyset.specs.Start.{lists_kind, side_of, together}
-use Rattle.dnssec_keyset.specs.Step.{Call, StartRoll, Report, Wait, RollDone, Reply, Refused, Step}
+use Rattle.dnssec_keyset.specs.Step.{Call, StartRoll, Report, Wait, RollDone, AbortRoll}
+use Rattle.dnssec_keyset.specs.Step.{Reply, Refused, Step}
 
 -- no two keys have one tag (RFC 4034, appendix B)
 abbrev pub TagsApart : Keys → Type 0
@@ -30,6 +31,7 @@ roll_of (StartRoll roll olds news now) = Some roll
 roll_of (Report roll half ttl now) = Some roll
 roll_of (Wait roll half now) = Some roll
 roll_of (RollDone roll) = Some roll
+roll_of (AbortRoll roll) = Some roll
 roll_of _ = None
 
 -- a call on a roll leaves every key as it was that the roll doesn't change (RFC 6781, section 3.1)

@@ -1,13 +1,14 @@
 -- The allowed step: from a key set, which reply a call may have and which key set it then leaves. A
 -- cause is answered before anything is changed; without one the call is accepted, or has run out of
 -- memory where it takes some, and then too nothing is changed.
-use Rattle.std.specs.Prelude.{◌≡◌, ◌≢◌, ℕ, Bool, Option, None, Some, List, [], ◌∷◌}
-use Rattle.std.specs.Prelude.{map, ◌⊎◌, Result, Ok, Err, IsOk, if◌then◌else◌, is_some, nat_eq}
+use Rattle.std.specs.Prelude.{◌≡◌, ◌≢◌, ℕ, Bool, false, Option, None, Some, List, [], ◌∷◌}
+use Rattle.std.specs.Prelude.{filter, map, ◌⊎◌, Result, Ok, Err, IsOk, if◌then◌else◌, is_some, nat_eq}
 use Rattle.std.specs.declared.vec.Vec.{Vec}
 use Rattle.std.specs.Global.{Global}
 use Rattle.std.specs.Duration.{as_nanos}
 use Rattle.std.specs.declared.time.Duration.{Duration}
 use Rattle.std.specs.FinMap.{get, insert, remove, entries, from_entries}
+use Rattle.std.specs.Option.{option_map_or}
 use Rattle.std.specs.Str.{bytes_eq}
 use Rattle.dnssec_key.specs.declared.roll.RollType.{RollType}
 use Rattle.dnssec_key.specs.declared.roll.RollState.{RollState}
@@ -21,13 +22,14 @@ use Rattle.dnssec_key.specs.declared.error.Error.TheVariants.{KeyNotFound, KeyNo
 use Rattle.dnssec_key.specs.declared.error.Error.TheVariants.{WrongKeyState}
 use Rattle.dnssec_key.specs.declared.error.Error.TheVariants.{WrongStateForRollOperation}
 use Rattle.dnssec_key.specs.declared.error.Error.TheVariants.{Wait as WaitFor, OutOfMemory}
-use Rattle.dnssec_key.specs.State.{is_stale}
+use Rattle.dnssec_key.specs.State.{is_kept, is_stale}
 use Rattle.dnssec_key.specs.Key.{KeyParts, all_states}
 use Rattle.dnssec_keyset.specs.KeySet.{Keys, KeySetParts, PutsKey, MovesOn, phase_of, with_phase}
-use Rattle.dnssec_keyset.specs.KeySet.{some_key}
-use Rattle.dnssec_key.specs.RollTable.{Half, First, Second, after_start, after_report}
-use Rattle.dnssec_key.specs.RollTable.{after_wait, actions_of, expiring, behind}
-use Rattle.dnssec_key.specs.Setters.{Setting, kind_refusal, set_by}
+use Rattle.dnssec_keyset.specs.KeySet.{some_key, Listed, Lists, listed_by, nothing_listed}
+use Rattle.dnssec_keyset.specs.KeySet.{with_listed, without}
+use Rattle.dnssec_key.specs.RollTable.{Half, First, Second, column, after_start, after_report}
+use Rattle.dnssec_key.specs.RollTable.{after_early_end, after_wait, actions_of, expiring, behind}
+use Rattle.dnssec_key.specs.Setters.{Setting, kind_refusal, set_by, sets_flag}
 use Rattle.dnssec_keyset.specs.KeySet.{ChangesKey}
 use Rattle.dnssec_keyset.specs.Start.{start_refusal, is_listed}
 use Rattle.dnssec_keyset.specs.Wait.{ttl_in, lacks_stamp, is_early, time_left, IsLongest}
@@ -64,6 +66,12 @@ report_refusal half _ = Some WrongStateForRollOperation
 abbrev pub end_refusal : Option RollState → Option Error
 end_refusal (Some Finishing) = None
 end_refusal _ = Some WrongStateForRollOperation
+
+-- why a roll can't be ended early: only until its first report, as from then on caches may hold what
+-- its start changed
+abbrev pub early_end_refusal : Option RollState → Option Error
+early_end_refusal (Some Propagation1) = None
+early_end_refusal _ = Some WrongStateForRollOperation
 
 -- a cause, or too early (with the time left for a key), or neither (RFC 6781, section 4.1)
 pub data Verdict : Type 0 where
@@ -123,6 +131,7 @@ pub data Call : Type 0 where
   Report : RollType → Half → ℕ → ℕ → Call
   Wait : RollType → Half → ℕ → Call
   RollDone : RollType → Call
+  AbortRoll : RollType → Call
 
 -- what a call answers: done, actions for the operator, or why it is refused (RFC 6781, section 4.1)
 pub data Reply : Type 0 where
@@ -149,6 +158,7 @@ verdict set (StartRoll roll olds news now) = barred_by (start_refusal roll set o
 verdict set (Report roll half ttl now) = barred_by (report_refusal half (phase_of set.rolls roll))
 verdict set (Wait roll half now) = wait_verdict roll half now set
 verdict set (RollDone roll) = barred_by (end_refusal (phase_of set.rolls roll))
+verdict set (AbortRoll roll) = barred_by (early_end_refusal (phase_of set.rolls roll))
 
 -- what an accepted call answers: the actions due in the phase behind it (RFC 6781, section 4.1)
 abbrev pub accepted_reply : Call → Reply
@@ -159,22 +169,54 @@ accepted_reply (StartRoll roll olds news now) = Actions (actions_of roll Propaga
 accepted_reply (Report roll half ttl now) = Actions []
 accepted_reply (Wait roll half now) = Actions (actions_of roll (behind half))
 accepted_reply (RollDone roll) = Actions []
+accepted_reply (AbortRoll roll) = Actions (column roll).asks_early
+
+-- ---- what is kept of starts
+
+-- the key at a reference is there, and not old
+abbrev pub is_kept_at : Keys → List ℕ → Bool
+is_kept_at keys q = option_map_or (λ k. all_states is_kept k.keytype) (get keys q) false
+
+-- what a start lists: its old references whose keys are not old yet, and its new ones
+abbrev pub listed_at_start : Keys → List (List ℕ) → List (List ℕ) → Listed
+listed_at_start keys olds news = record { olds = filter (is_kept_at keys) olds; news = news }
+
+-- a key whose flag is set by hand is kept in no list
+abbrev pub lists_after_setting : Setting → List ℕ → Lists → Lists
+lists_after_setting setting reference lists =
+    if sets_flag setting then without reference lists else lists
+
+-- from the first report on nothing is kept for the roll
+abbrev pub lists_after_report : RollType → Half → Lists → Lists
+lists_after_report roll First lists = with_listed lists roll nothing_listed
+lists_after_report roll Second lists = lists
+
+-- ---- what a call changes
 
 -- what an accepted call changes (RFC 6781, section 4.1)
 abbrev pub Changes : KeySetParts → Call → KeySetParts → Type 0
-Changes old (AddKey reference key) new = PutsKey old new reference (Some key)
-Changes old (Set reference setting) new = ChangesKey old new reference (set_by setting)
-Changes old (DeleteKey reference) new = PutsKey old new reference None
+Changes old (AddKey reference key) new = PutsKey old new reference (Some key) old.lists
+Changes old (Set reference setting) new =
+    ChangesKey old new reference (set_by setting) (lists_after_setting setting reference old.lists)
+Changes old (DeleteKey reference) new =
+    PutsKey old new reference None (without reference old.lists)
 Changes old (StartRoll roll olds news now) new =
     MovesOn old new roll (Some Propagation1)
+    (with_listed old.lists roll (listed_at_start old.keys olds news))
     (λ q. after_start roll now (is_listed olds q) (is_listed news q))
 Changes old (Report roll half ttl now) new =
-    MovesOn old new roll (Some (expiring half ttl)) (λ q. after_report roll half now)
+    MovesOn old new roll (Some (expiring half ttl)) (lists_after_report roll half old.lists)
+    (λ q. after_report roll half now)
 Changes old (Wait roll half now) new =
-    MovesOn old new roll (Some (behind half)) (λ q. after_wait roll half now)
-Changes old (RollDone roll) new = MovesOn old new roll None (λ q k. k)
+    MovesOn old new roll (Some (behind half)) old.lists (λ q. after_wait roll half now)
+Changes old (RollDone roll) new = MovesOn old new roll None old.lists (λ q k. k)
+Changes old (AbortRoll roll) new =
+    let listed = listed_by old.lists roll in
+    MovesOn old new roll None (with_listed old.lists roll nothing_listed)
+    (λ q. after_early_end roll (is_listed listed.olds q) (is_listed listed.news q))
 
--- the calls that take memory: adds, starts, and waits with a list to answer (RFC 6781, section 4.1)
+-- the calls that take memory: adds, starts, early ends, and waits with a list to answer (RFC 6781,
+-- section 4.1)
 abbrev pub TakesMemory : Call → Type 0
 TakesMemory (AddKey reference key) = Unit {0}
 TakesMemory (Set reference setting) = ⊥
@@ -183,6 +225,7 @@ TakesMemory (StartRoll roll olds news now) = Unit {0}
 TakesMemory (Report roll half ttl now) = ⊥
 TakesMemory (Wait roll half now) = actions_of roll (behind half) ≢ []
 TakesMemory (RollDone roll) = ⊥
+TakesMemory (AbortRoll roll) = Unit {0}
 
 -- a call with this verdict may have the reply and leave new (RFC 6781, section 4.1)
 abbrev pub StepBy : Verdict → KeySetParts → Call → Reply → KeySetParts → Type 0
@@ -209,21 +252,35 @@ unfoldable pub after : Call → KeySetParts → KeySetParts
 after (AddKey reference key) set = record set { keys = insert set.keys reference key }
 after (Set reference setting) set = record set {
   keys = keys_by (λ q k. if bytes_eq reference q then set_by setting k else k) set.keys;
+  lists = lists_after_setting setting reference set.lists;
 }
-after (DeleteKey reference) set = record set { keys = remove set.keys reference }
+after (DeleteKey reference) set = record set {
+  keys = remove set.keys reference;
+  lists = without reference set.lists;
+}
 after (StartRoll roll olds news now) set = record set {
   keys = keys_by (λ q. after_start roll now (is_listed olds q) (is_listed news q)) set.keys;
   rolls = with_phase set.rolls roll (Some Propagation1);
+  lists = with_listed set.lists roll (listed_at_start set.keys olds news);
 }
 after (Report roll half ttl now) set = record set {
   keys = keys_by (λ q. after_report roll half now) set.keys;
   rolls = with_phase set.rolls roll (Some (expiring half ttl));
+  lists = lists_after_report roll half set.lists;
 }
 after (Wait roll half now) set = record set {
   keys = keys_by (λ q. after_wait roll half now) set.keys;
   rolls = with_phase set.rolls roll (Some (behind half));
 }
 after (RollDone roll) set = record set { rolls = with_phase set.rolls roll None }
+after (AbortRoll roll) set =
+    let listed = listed_by set.lists roll in
+    record set {
+      keys = keys_by
+          (λ q. after_early_end roll (is_listed listed.olds q) (is_listed listed.news q)) set.keys;
+      rolls = with_phase set.rolls roll None;
+      lists = with_listed set.lists roll nothing_listed;
+    }
 
 -- the set after a call with this reply (RFC 6781, section 4.1)
 abbrev pub after_reply : Reply → Call → KeySetParts → KeySetParts

@@ -1,7 +1,8 @@
 //! The keys by their public references. No other module opens the map that has them.
 ghost use Rattle.std.specs.Prelude.{◌≡◌, ◌<◌, ℕ, List, None, Some, true, max, nat_eq, string_bytes};
 ghost use Rattle.std.specs.Prelude.{IfOk, IfErr, IfSome, IfNone, OnOk, OnErr, if◌then◌else◌};
-ghost use Rattle.std.specs.Prelude.{length, ◌≤◌};
+ghost use Rattle.std.specs.Prelude.{filter, length, ◌≤◌};
+ghost use Rattle.std.specs.Prelude.{map as list_map};
 ghost use Rattle.std.specs.List.{fold};
 ghost use Rattle.std.specs.Option.{option_map, option_and_then};
 ghost use Rattle.std.specs.Str.{bytes_eq};
@@ -11,7 +12,8 @@ ghost use Rattle.std.specs.HashMap as hash;
 ghost use Rattle.std.specs.HashSet.{contains, spare};
 ghost use Rattle.dnssec_key.specs.declared.error.Error.TheVariants.{OutOfMemory};
 ghost use Rattle.dnssec_key.specs.RollTable.{which, after_report, after_wait, marked_new};
-ghost use Rattle.dnssec_key.specs.RollTable.{marked_old};
+ghost use Rattle.dnssec_key.specs.RollTable.{after_early_end, marked_old, unmarked_new};
+ghost use Rattle.dnssec_key.specs.RollTable.{unmarked_old};
 ghost use Rattle.dnssec_key.specs.Setters.{meant, set_by};
 ghost use Rattle.dnssec_keyset.specs.Inner.Change.{made};
 ghost use Rattle.dnssec_keyset.specs.Inner.Code.{as_want};
@@ -21,11 +23,13 @@ ghost use Rattle.dnssec_keyset.specs.Inner.Tags.{DifferInTags};
 ghost use Rattle.dnssec_keyset.specs.KeySet.{keys_shown};
 ghost use Rattle.dnssec_keyset.specs.Start.{is_listed, serves_as_kept, texts};
 ghost use Rattle.dnssec_keyset.specs.Step.{Answers, AnswersExactly, add_refusal, has_tag};
-ghost use Rattle.dnssec_keyset.specs.Step.{deletion_refusal, setting_refusal};
+ghost use Rattle.dnssec_keyset.specs.Step.{deletion_refusal, is_kept_at, listed_at_start};
+ghost use Rattle.dnssec_keyset.specs.Step.{setting_refusal};
 ghost use Rattle.dnssec_keyset.specs.Wait.{over_at};
 ghost use Rattle.dnssec_keyset.specs.WaitEnd.{IsOverFrom, LacksStamp};
 
 use crate::counts::Counts;
+use crate::listed::{Listed, copy_list, push_copy};
 use crate::side::Want;
 use dnssec_key::{Error, Half, Key, RollType, Setting, UnixTime};
 use std::alloc::Global;
@@ -67,6 +71,8 @@ pub(crate) enum Change {
     Set(Setting),
     MarkOld,
     MarkNew(RollType, UnixTime),
+    UnmarkOld(RollType),
+    UnmarkNew(RollType),
 }
 
 impl Change {
@@ -77,6 +83,8 @@ impl Change {
             Change::Set(setting) => key.set(setting),
             Change::MarkOld => key.mark_old(),
             Change::MarkNew(roll, now) => key.mark_new(roll, now),
+            Change::UnmarkOld(roll) => key.unmark_old(roll),
+            Change::UnmarkNew(roll) => key.unmark_new(roll),
         }
     }
 }
@@ -227,6 +235,74 @@ impl Keys {
     {
         for reference in new {
             self.change_at(reference, Change::MarkNew(roll, now));
+        }
+    }
+
+    /// Makes keys old no more, as their roll is ended early.
+    fn unmark_old(&mut self, roll: RollType, references: &[String])
+        ensures { (q : List ℕ) → map.get self.new q ≡ option_map
+            (λ k. if is_listed (list_map string_bytes references.now) q then unmarked_old roll k else k)
+            (map.get self.old q) }
+    {
+        for reference in references {
+            self.change_at(reference.as_str(), Change::UnmarkOld(roll));
+        }
+    }
+
+    /// Takes from keys what the start put on them, as their roll is ended early.
+    fn unmark_new(&mut self, roll: RollType, references: &[String])
+        ensures { (q : List ℕ) → map.get self.new q ≡ option_map
+            (λ k. if is_listed (list_map string_bytes references.now) q then unmarked_new roll k else k)
+            (map.get self.old q) }
+    {
+        for reference in references {
+            self.change_at(reference.as_str(), Change::UnmarkNew(roll));
+        }
+    }
+
+    /// Undoes a start on the keys that are kept of it.
+    pub(crate) fn unmark(&mut self, roll: RollType, listed: &Listed)
+        ensures { (q : List ℕ) → map.get self.new q ≡ option_map
+            (after_early_end roll (is_listed listed.now.olds q) (is_listed listed.now.news q))
+            (map.get self.old q) }
+    {
+        self.unmark_old(roll, listed.olds.as_slice());
+        self.unmark_new(roll, listed.news.as_slice());
+    }
+
+    /// What is kept of a start while its roll may be ended early.
+    pub(crate) fn list(&self, alloc: Global, old: &[&str], new: &[&str]) -> Result<Listed, Error>
+        ensures ok { IfOk result (λ listed.
+            listed ≡ listed_at_start self.now (texts old.now) (texts new.now)) }
+        ensures err { IfErr result (λ e. e ≡ OutOfMemory) }
+    {
+        Ok(Listed {
+            olds: self.copy_kept(alloc, old)?,
+            news: copy_list(alloc, new)?,
+        })
+    }
+
+    /// Copies of the references whose keys are not old.
+    fn copy_kept(&self, alloc: Global, references: &[&str]) -> Result<Vec<String>, Error>
+        ensures ok { IfOk result (λ list. list_map string_bytes list.items
+            ≡ filter (is_kept_at self.now) (texts references.now)) }
+        ensures err { IfErr result (λ e. e ≡ OutOfMemory) }
+    {
+        let mut list = Vec::new(alloc);
+        for reference in references {
+            if self.is_kept(reference) {
+                push_copy(alloc, &mut list, reference)?;
+            }
+        }
+        Ok(list)
+    }
+
+    fn is_kept(&self, reference: &str) -> bool
+        ensures { result ≡ is_kept_at self.now reference.now }
+    {
+        match self.get(reference) {
+            None => false,
+            Some(key) => key.is_kept(),
         }
     }
 

@@ -11,6 +11,7 @@ mod bits;
 mod check;
 mod counts;
 mod keys;
+mod listed;
 mod roll;
 mod rolls;
 mod set;

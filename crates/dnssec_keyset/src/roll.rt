@@ -2,11 +2,13 @@
 ghost use Rattle.std.specs.Prelude.{◌≡◌, [], IfOk, IfErr, IsOk, OnOk, OnErr};
 ghost use Rattle.dnssec_key.specs.declared.error.Error.TheVariants.{OutOfMemory};
 ghost use Rattle.dnssec_key.specs.RollTable.{which, First, Second, actions_at, actions_of, behind};
+ghost use Rattle.dnssec_key.specs.RollTable.{column};
 ghost use Rattle.dnssec_keyset.specs.KeySet.{phase_of};
 ghost use Rattle.dnssec_keyset.specs.Start.{start_refusal, texts};
 ghost use Rattle.dnssec_keyset.specs.Step.{Answers, AnswersExactly, AnswersWait};
-ghost use Rattle.dnssec_keyset.specs.Step.{StartRoll, Report, Wait, RollDone, Changes};
-ghost use Rattle.dnssec_keyset.specs.Step.{report_refusal, end_refusal, wait_verdict};
+ghost use Rattle.dnssec_keyset.specs.Step.{StartRoll, Report, Wait, RollDone, AbortRoll, Changes};
+ghost use Rattle.dnssec_keyset.specs.Step.{early_end_refusal, report_refusal, end_refusal};
+ghost use Rattle.dnssec_keyset.specs.Step.{wait_verdict};
 
 use crate::set::KeySet;
 use dnssec_key::{Action, Error, Half, RollState, RollType, UnixTime};
@@ -52,8 +54,10 @@ impl KeySet {
     {
         self.check_start(rolltype, old, new)?;
         let actions = list_actions(self.alloc, rolltype, RollState::Propagation1)?;
+        let listed = self.keys.list(self.alloc, old, new)?;
         // The last growth is the first write: what comes behind it can't fail.
         self.rolls.put_in(rolltype, RollState::Propagation1)?;
+        self.lists.put(rolltype, listed);
         self.keys.mark_old(old);
         self.keys.mark_new(rolltype, new, *now);
         Ok(actions)
@@ -167,6 +171,35 @@ impl KeySet {
         Ok(Vec::new(self.alloc))
     }
 
+    /// Ends a roll early, before its first report.
+    ///
+    /// The roll is taken out. The keys that its start made old are not old any more, and the flags
+    /// that the start set on its new keys are cleared, so that each may come in by another roll;
+    /// stamps stay. A key whose flag was set by hand since the start, or that was deleted, is left
+    /// alone. Answers what is asked of the operator now.
+    ///
+    /// # Errors
+    ///
+    /// The first of these that stands, and then nothing is changed:
+    ///
+    /// - `WrongStateForRollOperation` where the roll isn't waiting for its first report: from then
+    ///   on caches may hold what the start changed.
+    /// - `OutOfMemory` where there is no memory for the answer.
+    #[tactic(auto, using(crate::proofs::Steps::steps))]
+    pub fn abort_roll(&mut self, rolltype: RollType) -> Result<Vec<Action>, Error>
+        ensures reply { Answers (early_end_refusal (phase_of self.old.rolls rolltype)) result }
+        ensures actions { IfOk result (λ actions. actions.items ≡ (column rolltype).asks_early) }
+        ensures ok { OnOk result (Changes self.old (AbortRoll rolltype) self.new) }
+        ensures err { OnErr result (self.new ≡ self.old) }
+    {
+        self.rolls.check_early_end(rolltype)?;
+        let actions = copy_actions(self.alloc, rolltype.asks_at_early_end())?;
+        let listed = self.lists.take(self.alloc, rolltype);
+        self.keys.unmark(rolltype, &listed);
+        self.rolls.take_out(rolltype);
+        Ok(actions)
+    }
+
     /// What a roll asks of the operator in its phase: what the accepted call before answered.
     ///
     /// Empty for a roll that isn't in progress, while caches expire, and at the end of
@@ -206,6 +239,7 @@ impl KeySet {
         self.rolls.check_report(rolltype, half)?;
         self.keys.report_all(rolltype, half, *now);
         self.rolls.move_to(rolltype, half.expiring(ttl));
+        self.lists.report(self.alloc, rolltype, half);
         Ok(Vec::new(self.alloc))
     }
 
@@ -239,12 +273,19 @@ fn list_actions(alloc: Global, roll: RollType, phase: RollState) -> Result<Vec<A
     ensures none { actions_of roll phase ≡ [] → IsOk result }
     ensures err { IfErr result (λ e. e ≡ OutOfMemory) }
 {
-    let actions = roll.actions_in(phase);
+    copy_actions(alloc, roll.actions_in(phase))
+}
+
+fn copy_actions(alloc: Global, actions: &[Action]) -> Result<Vec<Action>, Error>
+    ensures list { IfOk result (λ list. list.items ≡ actions.now) }
+    ensures none { actions.now ≡ [] → IsOk result }
+    ensures err { IfErr result (λ e. e ≡ OutOfMemory) }
+{
     if actions.is_empty() {
         return Ok(Vec::new(alloc));
     }
     match actions.to_vec(alloc) {
-        Ok(actions) => Ok(actions),
+        Ok(list) => Ok(list),
         Err(_) => Err(Error::OutOfMemory),
     }
 }

@@ -9,6 +9,7 @@ ghost use Rattle.dnssec_key.specs.RollTable.{which};
 ghost use Rattle.dnssec_keyset.specs.KeySet.{phase_of, with_phase, no_rolls, rolls_shown};
 ghost use Rattle.dnssec_keyset.specs.Start.{has_conflict, conflict};
 ghost use Rattle.dnssec_keyset.specs.Step.{AnswersExactly, report_refusal, end_refusal};
+ghost use Rattle.dnssec_keyset.specs.Step.{early_end_refusal};
 ghost use Rattle.dnssec_keyset.specs.Wait.{ttl_in};
 
 use crate::side::go_together;
@@ -153,6 +154,16 @@ impl Rolls {
     {
         match self.phase_of(roll) {
             Some(RollState::Done) => Ok(()),
+            _ => Err(Error::WrongStateForRollOperation),
+        }
+    }
+
+    /// Refuses an early end of a roll behind its first report.
+    pub(crate) fn check_early_end(&self, roll: RollType) -> Result<(), Error>
+        ensures { AnswersExactly (early_end_refusal (phase_of self.now roll)) result }
+    {
+        match self.phase_of(roll) {
+            Some(RollState::Propagation1) => Ok(()),
             _ => Err(Error::WrongStateForRollOperation),
         }
     }

@@ -8,13 +8,14 @@ ghost use Rattle.dnssec_key.specs.declared.key.KeyType.TheVariants.{Ksk, Zsk, Cs
 ghost use Rattle.dnssec_key.specs.declared.roll.RollType.{RollType as AnyRoll};
 ghost use Rattle.dnssec_key.specs.Key.{new_key, new_state, is_available};
 ghost use Rattle.dnssec_key.specs.Setters.{Decoupled, Present, Signer, AtParent, Stale};
-ghost use Rattle.dnssec_key.specs.Setters.{VisibleAt, DsVisibleAt, RrsigVisibleAt};
+ghost use Rattle.dnssec_key.specs.Setters.{VisibleAt, DsVisibleAt, RrsigVisibleAt, meant};
 ghost use Rattle.dnssec_keyset.specs.KeySet.{keys_shown, rolls_shown, new_set, phase_of};
 ghost use Rattle.dnssec_keyset.specs.Step.{AddKey, Set, DeleteKey, Changes};
 ghost use Rattle.dnssec_keyset.specs.Step.{Answers, AnswersExactly, add_refusal};
 ghost use Rattle.dnssec_keyset.specs.Step.{setting_refusal, deletion_refusal};
 
 use crate::keys::Keys;
+use crate::listed::Lists;
 use crate::rolls::Rolls;
 use dnssec_base::{Name, SecurityAlgorithm};
 use dnssec_key::{
@@ -27,12 +28,26 @@ use std::marker::Model;
 /// The keys that sign one zone, by their public references, and the rolls in progress.
 ///
 /// A call that is refused changes nothing: neither a key, nor a stamp, nor a roll.
-#[derive(Drop)]
 pub struct KeySet {
     name: Name<Vec<u8>>,
     pub(crate) keys: Keys,
     pub(crate) rolls: Rolls,
+    /// What the starts of rolls that may be ended early listed.
+    pub(crate) lists: Lists,
     pub(crate) alloc: Global,
+}
+
+// By hand, so that a caller drops a key set by one call.
+impl Drop for KeySet {
+    fn drop(self) {
+        let KeySet {
+            name: _,
+            keys: _,
+            rolls: _,
+            lists: _,
+            alloc: _,
+        } = self;
+    }
 }
 
 impl Model for KeySet {
@@ -47,6 +62,7 @@ impl Model for KeySet {
       name = s.name;
       keys = s.keys;
       rolls = s.rolls;
+      lists = s.lists;
     } };
 }
 
@@ -60,6 +76,7 @@ impl KeySet {
             name,
             keys: Keys::new(alloc),
             rolls: Rolls::new(alloc),
+            lists: Lists::new(alloc),
             alloc,
         }
     }
@@ -77,6 +94,7 @@ impl KeySet {
             name: clone_name(&self.name)?,
             keys: self.keys.try_clone()?,
             rolls: self.rolls.try_clone()?,
+            lists: self.lists.try_clone()?,
             alloc: self.alloc,
         })
     }
@@ -226,7 +244,7 @@ impl KeySet {
             (Changes self.old (Set pubref.now (Decoupled value)) self.new) }
         ensures err { OnErr result (self.new ≡ self.old) }
     {
-        self.keys.set(pubref, Setting::Decoupled(value))
+        self.set(pubref, Setting::Decoupled(value))
     }
 
     /// Puts a key into the DNSKEY set, or takes it out, by hand, in each of its roles. A key that
@@ -243,7 +261,7 @@ impl KeySet {
             (Changes self.old (Set pubref.now (Present value now.now)) self.new) }
         ensures err { OnErr result (self.new ≡ self.old) }
     {
-        self.keys.set(pubref, Setting::Present(value, *now))
+        self.set(pubref, Setting::Present(value, *now))
     }
 
     /// Sets whether a key signs, by hand, in each of its roles. No memory is taken.
@@ -259,7 +277,7 @@ impl KeySet {
             (Changes self.old (Set pubref.now (Signer value)) self.new) }
         ensures err { OnErr result (self.new ≡ self.old) }
     {
-        self.keys.set(pubref, Setting::Signer(value))
+        self.set(pubref, Setting::Signer(value))
     }
 
     /// Sets whether the parent has to have a DS record for a KSK or a CSK, by hand. No memory is
@@ -276,7 +294,7 @@ impl KeySet {
             (Changes self.old (Set pubref.now (AtParent value)) self.new) }
         ensures err { OnErr result (self.new ≡ self.old) }
     {
-        self.keys.set(pubref, Setting::AtParent(value))
+        self.set(pubref, Setting::AtParent(value))
     }
 
     /// Makes a key stale by hand: in each role old, and neither signer, present nor at the parent.
@@ -292,7 +310,7 @@ impl KeySet {
             (Changes self.old (Set pubref.now Stale) self.new) }
         ensures err { OnErr result (self.new ≡ self.old) }
     {
-        self.keys.set(pubref, Setting::Stale)
+        self.set(pubref, Setting::Stale)
     }
 
     /// Stamps the key as seen in the DNSKEY set by all servers from `time` on. No memory is taken.
@@ -307,7 +325,7 @@ impl KeySet {
             (Changes self.old (Set pubref.now (VisibleAt time)) self.new) }
         ensures err { OnErr result (self.new ≡ self.old) }
     {
-        self.keys.set(pubref, Setting::VisibleAt(time))
+        self.set(pubref, Setting::VisibleAt(time))
     }
 
     /// Stamps the key's DS record as seen by all servers of the parent from `time` on. No memory is
@@ -323,7 +341,7 @@ impl KeySet {
             (Changes self.old (Set pubref.now (DsVisibleAt time)) self.new) }
         ensures err { OnErr result (self.new ≡ self.old) }
     {
-        self.keys.set(pubref, Setting::DsVisibleAt(time))
+        self.set(pubref, Setting::DsVisibleAt(time))
     }
 
     /// Stamps the key's signatures as seen by all servers from `time` on. No memory is taken.
@@ -338,7 +356,7 @@ impl KeySet {
             (Changes self.old (Set pubref.now (RrsigVisibleAt time)) self.new) }
         ensures err { OnErr result (self.new ≡ self.old) }
     {
-        self.keys.set(pubref, Setting::RrsigVisibleAt(time))
+        self.set(pubref, Setting::RrsigVisibleAt(time))
     }
 
     /// Deletes a key that has left in each of its roles, whether rolls are in progress or not. No
@@ -354,7 +372,23 @@ impl KeySet {
         ensures ok { OnOk result (Changes self.old (DeleteKey pubref.now) self.new) }
         ensures err { OnErr result (self.new ≡ self.old) }
     {
-        self.keys.delete(pubref)
+        self.keys.delete(pubref)?;
+        self.lists.forget(pubref);
+        Ok(())
+    }
+
+    /// Sets something of a key. A key whose flag is set by hand is left alone by an early end.
+    fn set(&mut self, pubref: &str, setting: Setting) -> Result<(), Error>
+        ensures reply { AnswersExactly
+            (setting_refusal (meant setting) (map.get self.old.keys pubref.now)) result }
+        ensures ok { OnOk result (Changes self.old (Set pubref.now (meant setting)) self.new) }
+        ensures err { OnErr result (self.new ≡ self.old) }
+    {
+        self.keys.set(pubref, setting)?;
+        if setting.sets_flag() {
+            self.lists.forget(pubref);
+        }
+        Ok(())
     }
 }
 

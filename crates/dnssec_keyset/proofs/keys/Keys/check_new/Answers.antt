@@ -4,7 +4,7 @@ use Rattle.std.proofs.Math.Seq.{take-length}
 use Rattle.dnssec_keyset.specs.Start.{texts, is_listed}
 use Rattle.dnssec_keyset.proofs.Entries.{fault-found, fault-behind, listed-behind}
 use Rattle.dnssec_keyset.proofs.Counted.{or_nothing}
-use Rattle.dnssec_keyset.proofs.Marks.{listed_more}
+use Rattle.dnssec_keyset.proofs.Marks.{listed_more, referred}
 use Rattle.dnssec_keyset.proofs.Tags.{listed-nothing, listed-same}
 use Rattle.dnssec_keyset.proofs.Words.{zeros}
 use Rattle.dnssec_keyset.proofs.keys.Keys.check_new.Goals as goal
@@ -16,7 +16,7 @@ pub loop-entry-preserved : goal.loop-entry-preserved
 loop-entry-preserved c = (
   search rules,
   listed-same c.args.self.now _ _ _
-      (λ q. listed_more c.args.old.now c.loop-entry.entry-index _ q c.loop-entry-test.true)
+      (λ q. listed_more referred c.args.old.now c.loop-entry.entry-index _ q c.loop-entry-test.true)
       (c.add_tag.ensures.listed _ c.loop-entry.invariant.1),
 )
 

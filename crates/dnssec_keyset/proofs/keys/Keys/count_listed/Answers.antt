@@ -6,7 +6,7 @@ use Rattle.dnssec_keyset.specs.Inner.Counts.{bit}
 use Rattle.dnssec_keyset.specs.Start.{serves_as_kept}
 use Rattle.dnssec_keyset.proofs.Counted.{none_listed}
 use Rattle.dnssec_keyset.proofs.Entries.{counted-behind}
-use Rattle.dnssec_keyset.proofs.Marks.{listed_more}
+use Rattle.dnssec_keyset.proofs.Marks.{listed_more, referred}
 use Rattle.dnssec_keyset.proofs.Tags.{listed-nothing, listed-same}
 use Rattle.dnssec_keyset.proofs.Words.{zeros}
 use Rattle.dnssec_keyset.proofs.keys.Keys.count_listed.Goals as goal
@@ -37,7 +37,7 @@ loop-reference-preserved c =
           l.count c.if-serves_first.count l.invariant.1 more,
       search rules,
       listed-same c.args.self.now _ _ _
-          (λ q. listed_more c.args.old.now l.reference-index _ q c.loop-reference-test.true)
+          (λ q. listed_more referred c.args.old.now l.reference-index _ q c.loop-reference-test.true)
           (c.add_tag.ensures.listed _ l.invariant.3),
     )
   where

@@ -7,5 +7,6 @@ returns-clause-ok c = rw (← c.behind-2.ensures, ← c.self.view_is) record {
   name = refl;
   rolls =
       c.move_to.ensures;
+  lists = refl;
   keys = c.go_on_all.ensures;
 }

@@ -7,5 +7,6 @@ returns-clause-ok c = rw (← c.expiring.ensures, ← c.self.view_is) record {
   name = refl;
   rolls =
       c.move_to.ensures;
+  lists = c.report.ensures;
   keys = c.report_all.ensures;
 }
