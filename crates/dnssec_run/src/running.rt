@@ -237,7 +237,7 @@ pub fn run<'a>(alloc: Global, name: Name<Vec<u8>>, calls: Vec<Call<'a>>) -> Resu
     ensures finishes { IfOk result (λ run. RollsFinish name calls.entry.items run.entries.items) }
     ensures changes { IfOk result (λ run. ChangesAsAsked calls.entry.items run.entries.items) }
     ensures retires { IfOk result (λ run. RetiresAsAsked run.entries.items) }
-    ensures chain { IfOk result (λ run. StaysSafe calls.entry.items run.entries.items) }
+    ensures chain { IfOk result (λ run. StaysSafe name calls.entry.items run.entries.items) }
     ensures err { IfErr result (λ e. e ≡ OutOfMemory) }
 {
     let Ok(mut entries) = Vec::with_capacity(alloc, calls.len()) else {
