@@ -97,7 +97,8 @@ pub record IsPlainByStarts (name : List ℕ) (calls : List Call) (entries : List
   pub setters : SetsNothing name calls entries
   pub first : AlgorithmRollFirst start_of calls entries
 
--- that suffices: until an algorithm roll is past its first wait, no roll of KSKs or CSKs starts
+-- that suffices: no call ends a roll early, and until an algorithm roll is past its first wait, no
+-- roll of KSKs or CSKs starts
 abbrev pub StartsSuffice : Type 0
 StartsSuffice = (name : List ℕ) (calls : List Call) (entries : List Entry) →
     IsRun name calls entries → IsPlainByStarts name calls entries → IsPlain name calls entries
