@@ -134,8 +134,9 @@ module _ (name : List ℕ) (calls : List Call) (entries : List Entry) (run : IsR
         → (keyset.verdict (set_at n) (call_of d.call) ≡ keyset.Clear)
         × keyset.Changes (set_at n) (call_of d.call) (set_at (suc n))
     step_of does n roll d =
-        let x = accepted_step (keyset.verdict (set_at n) (call_of d.call)) (set_at n) (set_at (suc n))
-        (call_of d.call) d.entry.reply d.accepted (run.each n d.call d.entry d.call_is d.entry_is).step
+        let x = accepted_step (keyset.verdict (set_at n) (call_of d.call)) (set_at n)
+        (set_at (suc n)) (call_of d.call) d.entry.reply d.accepted
+        (run.each n d.call d.entry d.call_is d.entry_is).step
         in
         (x.0, x.1)
 
@@ -152,8 +153,8 @@ module _ (name : List ℕ) (calls : List Call) (entries : List Entry) (run : IsR
             (refused_step (keyset.verdict (set_at n) (call_of c)) (set_at n) (set_at (suc n))
             (call_of c) e.reply t step) ∙ h)
         by true t =
-            let x = accepted_step (keyset.verdict (set_at n) (call_of c)) (set_at n) (set_at (suc n))
-            (call_of c) e.reply t step in
+            let x = accepted_step (keyset.verdict (set_at n) (call_of c)) (set_at n)
+            (set_at (suc n)) (call_of c) e.reply t step in
             elim (moves-on (set_at n) (set_at (suc n)) (call_of c) x.0 x.1 h) [
               | inl passes ↦ inl (
                 n,

@@ -19,8 +19,8 @@ use Rattle.dnssec_run.specs.Safe.{IsSafe}
 
 -- ---- what is set by hand
 
--- another signer's key, as `add_public_key` adds it: it signs nothing here, and has no DS (RFC 8901,
--- section 2.1)
+-- another signer's key, as `add_public_key` adds it: it signs nothing here, and has no DS
+-- (RFC 8901, section 2.1)
 abbrev pub is_another_signers : KeyType → Bool
 is_another_signers (Include s) = true
 is_another_signers _ = false

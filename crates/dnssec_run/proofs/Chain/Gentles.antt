@@ -409,34 +409,57 @@ with_keys w f = record w { key = λ q. option_map (f q) (w.key q) }
 abbrev pub AllHarmless : (Key → Key) → Option Key → Type 0
 AllHarmless f o = (k : Key) → o ≡ Some k → Harmless k (f k)
 
-was_busy : (p : KeyType → Bool) → Busy p → (f : Key → Key) (o : Option Key) → AllHarmless f o → (d : Bool) → if_some p (if d then option_map f o else None) ≡ true → if_some p (if d then o else None) ≡ true
+was_busy : (p : KeyType → Bool) → Busy p → (f : Key → Key) (o : Option Key) → AllHarmless f o
+    → (d : Bool) → if_some p (if d then option_map f o else None) ≡ true
+    → if_some p (if d then o else None) ≡ true
 was_busy p busy f None h true e = e
-was_busy p busy f (Some k) h true e = ap p (sym (harmless-busy k (f k) (h k refl) (busy (f k).keytype e))) ∙ e
+was_busy p busy f (Some k) h true e =
+    ap p (sym (harmless-busy k (f k) (h k refl) (busy (f k).keytype e))) ∙ e
 was_busy p busy f o h false e = e
 
-still_busy : (p : KeyType → Bool) → Busy p → (f : Key → Key) (o : Option Key) → AllHarmless f o → (d : Bool) → if_some p (if d then o else None) ≡ true → if_some p (if d then option_map f o else None) ≡ true
+still_busy : (p : KeyType → Bool) → Busy p → (f : Key → Key) (o : Option Key) → AllHarmless f o
+    → (d : Bool) → if_some p (if d then o else None) ≡ true
+    → if_some p (if d then option_map f o else None) ≡ true
 still_busy p busy f None h true e = e
-still_busy p busy f (Some k) h true e = ap p (harmless-busy k (f k) (h k refl) (harmless-alike is_idle true others-idle k (f k) (h k refl) ∙ busy k.keytype e)) ∙ e
+still_busy p busy f (Some k) h true e =
+    let same = harmless-alike is_idle true others-idle k (f k) (h k refl) in
+    ap p (harmless-busy k (f k) (h k refl) (same ∙ busy k.keytype e)) ∙ e
 still_busy p busy f o h false e = e
 
-still_fits : (sd : SideOf) (st : Stage) (f : Key → Key) (o : Option Key) → AllHarmless f o → (d : Bool) → all_ok (fits sd st) (if d then o else None) ≡ true → all_ok (fits sd st) (if d then option_map f o else None) ≡ true
+still_fits : (sd : SideOf) (st : Stage) (f : Key → Key) (o : Option Key) → AllHarmless f o
+    → (d : Bool) → all_ok (fits sd st) (if d then o else None) ≡ true
+    → all_ok (fits sd st) (if d then option_map f o else None) ≡ true
 still_fits sd st f None h true e = e
-still_fits sd st f (Some k) h true e = harmless-alike (fits sd st) true (λ t o. idle-fits sd st t (others-idle t o)) k (f k) (h k refl) ∙ e
+still_fits sd st f (Some k) h true e =
+    harmless-alike (fits sd st) true (λ t o. idle-fits sd st t (others-idle t o)) k (f k) (h k refl)
+    ∙ e
 still_fits sd st f o h false e = e
 
-key_changed : (f : Key → Key) (o : Option Key) → AllHarmless f o → (j : Key) → option_map f o ≡ Some j → is_idle j.keytype ≡ false
-    → (k : Key) × (o ≡ Some k) × (k.keytype ≡ j.keytype) × ((s : Stamp) → stamp_of s k ≡ stamp_of s j)
+key_changed : (f : Key → Key) (o : Option Key) → AllHarmless f o → (j : Key)
+    → option_map f o ≡ Some j → is_idle j.keytype ≡ false → (k : Key) × (o ≡ Some k)
+    × (k.keytype ≡ j.keytype) × ((s : Stamp) → stamp_of s k ≡ stamp_of s j)
 key_changed f None h j e u = absurd (none-some j e)
-key_changed f (Some k) h j e u = let image : f k ≡ j = same_Some _ _ e in
-    (k, refl, sym (harmless-busy k (f k) (h k refl) (ap (λ j. is_idle j.keytype) image ∙ u)) ∙ ap (λ j. j.keytype) image, λ s. sym ((h k refl).stamps s) ∙ ap (stamp_of s) image)
+key_changed f (Some k) h j e u =
+    let image : f k ≡ j = same_Some _ _ e in
+    let a = h k refl in
+    let same = harmless-busy k (f k) a (ap (λ j. is_idle j.keytype) image ∙ u) in (
+      k,
+      refl,
+      sym same ∙ ap (λ j. j.keytype) image,
+      λ s. sym (a.stamps s) ∙ ap (stamp_of s) image,
+    )
 
-pub kept_changed : (w : World) (f : List ℕ → Key → Key) → ((q : List ℕ) → AllHarmless (f q) (w.key q)) → Kept w (with_keys w f)
+pub kept_changed : (w : World) (f : List ℕ → Key → Key)
+    → ((q : List ℕ) → AllHarmless (f q) (w.key q)) → Kept w (with_keys w f)
 kept_changed w f h = record {
   rolls = λ q. refl;
   keys = λ q. key_changed (f q) (w.key q) (h q);
-  fore = λ p busy id. was_busy p busy (f id.0) (w.key id.0) (h id.0) (w.added id.0 == id.1);
-  back = λ p busy id. still_busy p busy (f id.0) (w.key id.0) (h id.0) (w.added id.0 == id.1);
-  flags = λ sd st was id. still_fits sd st (f id.0) (w.key id.0) (h id.0) (w.added id.0 == id.1) (was id);
+  fore = λ p busy id.
+      was_busy p busy (f id.0) (w.key id.0) (h id.0) (w.added id.0 == id.1);
+  back = λ p busy id.
+      still_busy p busy (f id.0) (w.key id.0) (h id.0) (w.added id.0 == id.1);
+  flags = λ sd st was id.
+      still_fits sd st (f id.0) (w.key id.0) (h id.0) (w.added id.0 == id.1) (was id);
 }
 
 pub gentle_kept : (tale : Tale) (n : ℕ) (v : World) → world_at tale (suc n) ≡ v → Kept (world_at tale n) v → (position_at tale.es (suc n)).mark ≡ Other → (NoDs tale.es n → NoDs tale.es (suc n))

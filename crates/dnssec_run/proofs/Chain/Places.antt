@@ -179,8 +179,12 @@ side tale sd r = record {
 }
 
 -- what an accepted call does for a roll is done by the call of its place
-pub same_call : (does : keyset.Call → Option RollType) (tale : Tale) (n : ℕ) (p : Place tale n) (q : RollType) → DoesAt does tale.calls tale.es n q → (rec.is_accepted p.entry.reply ≡ true) × (does (rec.call_of p.call) ≡ Some q)
+pub same_call : (does : keyset.Call → Option RollType) (tale : Tale) (n : ℕ) (p : Place tale n)
+    (q : RollType) → DoesAt does tale.calls tale.es n q
+    → (rec.is_accepted p.entry.reply ≡ true) × (does (rec.call_of p.call) ≡ Some q)
 same_call does tale n p q s =
     let c : p.call ≡ s.call = same_Some _ _ (sym p.call_is ∙ s.call_is) in
-    let e : p.entry ≡ s.entry = same_Some _ _ (sym p.entry_is ∙ s.entry_is) in
-    (ap (λ (e : Entry). rec.is_accepted e.reply) e ∙ s.accepted, ap (λ c. does (rec.call_of c)) c ∙ s.roll_is)
+    let e : p.entry ≡ s.entry = same_Some _ _ (sym p.entry_is ∙ s.entry_is) in (
+      ap (λ (e : Entry). rec.is_accepted e.reply) e ∙ s.accepted,
+      ap (λ c. does (rec.call_of c)) c ∙ s.roll_is,
+    )

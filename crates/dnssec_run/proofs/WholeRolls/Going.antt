@@ -1,7 +1,7 @@
 -- The keys that a roll lists, over one call while it is in progress: for the clause `finishes`.
 use Rattle.dnssec_keyset.proofs.Accepted.{add_free}
-use Rattle.std.proofs.Common.{◌≡◌, ℕ, inl, inr, Bool, true, false, not, ◌&&◌, refl, sym, ◌∙◌, ap, List}
-use Rattle.std.proofs.Common.{None, Some}
+use Rattle.std.proofs.Common.{◌≡◌, ℕ, inl, inr, Bool, true, false, not, ◌&&◌, refl, sym, ◌∙◌, ap}
+use Rattle.std.proofs.Common.{List, None, Some}
 use Rattle.std.specs.Prelude.{is_some, if◌then◌else◌}
 use Rattle.std.specs.Option.{option_map}
 use Rattle.std.specs.Str.{bytes_eq}

@@ -95,8 +95,10 @@ module _ (t u : ℕ) (le : t ≤ u) (old new : KeySetParts) (late : NoneLater t 
             (let top = at now refl in omega arith)
       ])
   late-step (keyset.Wait r First now) plain fresh at m =
-      later-moved t old new late _ u le m.keys (λ q k there s x e. inl (wait_stamps r false now k s ∙ e))
+      later-moved t old new late _ u le m.keys
+      (λ q k there s x e. inl (wait_stamps r false now k s ∙ e))
   late-step (keyset.Wait r Second now) plain fresh at m =
-      later-moved t old new late _ u le m.keys (λ q k there s x e. inl (wait_stamps r true now k s ∙ e))
+      later-moved t old new late _ u le m.keys
+      (λ q k there s x e. inl (wait_stamps r true now k s ∙ e))
   late-step (keyset.RollDone r) plain fresh at m =
       later-moved t old new late (λ q k. k) u le m.keys (λ q k there s x e. inl e)
