@@ -43,10 +43,11 @@ HasOneVerdict = (entries : List Entry) (one other : Option Broken) →
 -- every record that is a run of a plain list stays safe, whoever made its calls and kept it
 abbrev pub RunsStaySafe : Type 0
 RunsStaySafe = (name : List ℕ) (calls : List Call) (entries : List Entry) →
-    IsRun name calls entries → StaysSafe calls entries
+    IsRun name calls entries → StaysSafe name calls entries
 
 -- and so the verdict on it is none
 abbrev pub PlainRunsPass : Type 0
 PlainRunsPass = (name : List ℕ) (calls : List Call) (entries : List Entry)
     (verdict : Option Broken) →
-    IsRun name calls entries → IsPlain calls entries → IsVerdict entries verdict → verdict ≡ None
+    IsRun name calls entries → IsPlain name calls entries → IsVerdict entries verdict →
+    verdict ≡ None

@@ -11,7 +11,6 @@ use Rattle.dnssec_key.specs.declared.roll.RollState.TheVariants.{Done}
 use Rattle.dnssec_key.specs.declared.error.Error.{Error}
 use Rattle.dnssec_keyset.specs.KeySet.{KeySetParts}
 use Rattle.dnssec_key.specs.RollTable.{First, Second}
-use Rattle.dnssec_key.specs.Setters.{Decoupled, set_by}
 use Rattle.dnssec_keyset.specs.Step.{deletion_refusal}
 use Rattle.dnssec_keyset.specs.Step as keyset
 use Rattle.dnssec_keyset.proofs.Flags.{is_stale}
@@ -108,12 +107,6 @@ ends_early (Some (CacheExpire1 ttl)) e = absurd (none-some _ (sym e))
 ends_early (Some Propagation2) e = absurd (none-some _ (sym e))
 ends_early (Some (CacheExpire2 ttl)) e = absurd (none-some _ (sym e))
 ends_early (Some Done) e = absurd (none-some _ (sym e))
-
--- whether it is decoupled is no matter of its kind
-pub decoupled_kind : (b value : Bool) (k : KeyParts)
-    → (if b then set_by (Decoupled value) k else k).keytype ≡ k.keytype
-decoupled_kind true value k = refl
-decoupled_kind false value k = refl
 
 -- an add is accepted only at a reference that no key has
 pub add_free : (a b : Bool) (x y : Error)

@@ -149,11 +149,12 @@ has_role _ _ = false
 abbrev pub idle_state : KeyState → Bool
 idle_state s = not s.signer && not s.present && not s.at_parent
 
+-- in no use on any side: another signer's key never is
 abbrev pub is_idle : KeyType → Bool
 is_idle (Ksk s) = idle_state s
 is_idle (Zsk s) = idle_state s
 is_idle (Csk s t) = idle_state s && idle_state t
-is_idle (Include s) = idle_state s
+is_idle (Include s) = true
 
 -- a key that a side doesn't see, or that is idle, fits any stage of it
 fit_table : SideOf → Stage → KeyType → Bool

@@ -50,7 +50,7 @@ pub last-line-safe : (left old new : Option (List ℕ))
     → IfSome left (λ script. EndsSafe script old new)
 last-line-safe None old new = tt
 last-line-safe (Some script) old new = λ text a taken plain.
-    let none = plain-passes a.calls a.entries (chain-holds a.name a.calls a.entries a.is_run) plain
-    a.verdict a.is_verdict in
+    let none = plain-passes a.name a.calls a.entries (chain-holds a.name a.calls a.entries a.is_run)
+    plain a.verdict a.is_verdict in
     let ends = ends-safe a.entries a.verdict none in
     (ends.0, a.is_output ∙ ends.1)

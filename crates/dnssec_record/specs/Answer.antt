@@ -40,13 +40,14 @@ TakesAnswer script old new = (text : List ℕ) × Answers script text × Appends
 -- of whatever run a text is the output that a device took: if its list is plain, it stays safe
 abbrev pub IsSafeAnswer : List ℕ → Option (List ℕ) → Option (List ℕ) → Type 0
 IsSafeAnswer script old new =
-    (text : List ℕ) (a : Answers script text) → Appends old new text → StaysSafe a.calls a.entries
+    (text : List ℕ) (a : Answers script text) → Appends old new text →
+    StaysSafe a.name a.calls a.entries
 
 -- and if its list is plain, the last line that was taken says so
 abbrev pub EndsSafe : List ℕ → Option (List ℕ) → Option (List ℕ) → Type 0
 EndsSafe script old new =
     (text : List ℕ) (a : Answers script text) → Appends old new text →
-    IsPlain a.calls a.entries → (front : List ℕ) × (text ≡ front ++ codes "\nchain safe\n")
+    IsPlain a.name a.calls a.entries → (front : List ℕ) × (text ≡ front ++ codes "\nchain safe\n")
 
 -- a device took a beginning of such a text
 abbrev pub TakesBeginning : List ℕ → Option (List ℕ) → Option (List ℕ) → Type 0

@@ -8,6 +8,7 @@ pub mod Tables
 pub mod Flags
 pub mod Facts
 pub mod Tale
+pub mod Setters
 pub mod Shown
 pub mod Rolls
 pub mod History

@@ -5,3 +5,4 @@ pub mod Laws
 pub mod Chain
 pub mod WholeRolls
 pub mod Asked
+pub mod Starts

@@ -1,5 +1,6 @@
--- The laws of whole rolls: what holds of every run in which nothing is set by hand. A roll that was
--- started can be finished, its waits are over at an exact moment, and nothing is left half done.
+-- The laws of whole rolls: what holds of every run in which nothing of the zone's own keys is set
+-- by hand. A roll that was started can be finished, its waits are over at an exact moment, and
+-- nothing is left half done.
 use Rattle.std.specs.Prelude.{◌≡◌, ◌≢◌, ℕ, suc, ◌+◌, ◌-◌, ◌*◌, ◌<◌, ◌≤◌, ◌⊎◌}
 use Rattle.std.specs.Prelude.{Bool, true, false, ◌&&◌, ◌||◌, List, length, slice_get, Some}
 use Rattle.std.specs.Duration.{as_nanos}
@@ -16,7 +17,7 @@ use Rattle.dnssec_key.specs.declared.roll.RollState.TheVariants.{Propagation1, P
 use Rattle.dnssec_key.specs.declared.roll.RollState.TheVariants.{Done}
 use Rattle.dnssec_key.specs.State.{Flags, is_future, is_active_ksk, is_active_zsk, is_stale}
 use Rattle.dnssec_key.specs.Key.{KeyParts, all_states}
-use Rattle.dnssec_keyset.specs.KeySet.{KeySetParts, phase_of}
+use Rattle.dnssec_keyset.specs.KeySet.{phase_of}
 use Rattle.dnssec_key.specs.RollTable.{Half, First, Second, expiring}
 use Rattle.dnssec_keyset.specs.Start.{is_listed}
 use Rattle.dnssec_keyset.specs.Laws.{in_progress}
@@ -24,21 +25,12 @@ use Rattle.dnssec_keyset.specs.Step as keyset
 use Rattle.dnssec_run.specs.declared.call.Call.{Call}
 use Rattle.dnssec_run.specs.declared.record.Entry.{Entry}
 use Rattle.dnssec_run.specs.declared.record.Mark.TheVariants.{Report}
-use Rattle.dnssec_run.specs.Plain.{is_plain_call}
+use Rattle.dnssec_run.specs.Plain.{SetsNothing}
 use Rattle.dnssec_run.specs.Published.{World}
 use Rattle.dnssec_run.specs.Record.{call_of, is_accepted, moment_of, reply_of, world_at}
 use Rattle.dnssec_run.specs.Safe.{position_at}
 
 -- ---- words of these laws
-
--- with this set before it, the call sets neither a flag nor a time by hand
-abbrev pub sets_nothing : KeySetParts → keyset.Call → Bool
-sets_nothing set call = is_plain_call call
-
--- no call sets a flag or a time by hand
-abbrev pub SetsNothing : List ℕ → List Call → List Entry → Type 0
-SetsNothing name calls entries = (n : ℕ) (call : Call) → slice_get calls n ≡ Some call →
-    sets_nothing (world_at name calls entries n).set (call_of call) ≡ true
 
 -- of two calls with moments the later one's is not below the earlier one's
 abbrev pub NeverFalls : List Call → Type 0

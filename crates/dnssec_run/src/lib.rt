@@ -5,9 +5,11 @@
 #![tactic(auto)]
 
 mod call;
+mod plain;
 mod record;
 mod running;
 
 pub use call::Call;
+pub use plain::starts_suffice;
 pub use record::{Entry, Mark, Published, PublishedKey, Reply, Run};
 pub use running::{Shown, published_key, run};

@@ -5,12 +5,12 @@ use Rattle.dnssec_record.specs.Answer.{Answers}
 
 -- of whatever run of the script the text is the output: if its list is plain, it stays safe
 abbrev pub StaysSafeIfPlain : List ℕ → List ℕ → Type 0
-StaysSafeIfPlain script text = (a : Answers script text) → StaysSafe a.calls a.entries
+StaysSafeIfPlain script text = (a : Answers script text) → StaysSafe a.name a.calls a.entries
 
 -- and if its list is plain, the last line of the text says so
 abbrev pub EndsSafe : List ℕ → List ℕ → Type 0
 EndsSafe script text =
-    (a : Answers script text) → IsPlain a.calls a.entries →
+    (a : Answers script text) → IsPlain a.name a.calls a.entries →
     (front : List ℕ) × (text ≡ front ++ codes "\nchain safe\n")
 
 -- an answer to the script has this length

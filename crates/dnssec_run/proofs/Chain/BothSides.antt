@@ -20,7 +20,7 @@ use Rattle.dnssec_key.specs.RollTable.{column}
 use Rattle.dnssec_run.specs.declared.record.Mark.TheVariants.{Other, Step, Report}
 use Rattle.dnssec_run.specs.Published.{Id, in_ds}
 use Rattle.dnssec_run.specs.Safe.{SetKind, Ds, position_at, is_step, IsSafe}
-use Rattle.dnssec_run.specs.Plain.{StartsAt, wants_first}
+use Rattle.dnssec_run.specs.Plain.{DoesAt, start_of, first_wait_of, wants_first}
 use Rattle.dnssec_keyset.proofs.Flags.{SideOf, Keys, Zone, affects, tolerates, started, waited1}
 use Rattle.dnssec_keyset.proofs.Flags.{waited2, Stage, Quiet, Early, Late, fits}
 use Rattle.dnssec_run.proofs.Chain.Tale.{Tale, World, Key, found, if_some, world_at, put_roll}
@@ -81,7 +81,7 @@ waited2_ds : (r : RollType) → affects Keys r ≡ false → (k : KeyType) → i
 unfolding waited_table
 waited2_ds r out k = alike-same _ _ (each_key-at (waited_table r true) (λ a b. free_or (affects Keys r) _ (each_roll-at (λ r. affects Keys r || each_key a b (waited_table r true)) (waited_all true a b) r) out) k)
 
-alone_first : (r : RollType) → tolerates r AlgorithmRoll ≡ false
+pub alone_first : (r : RollType) → tolerates r AlgorithmRoll ≡ false
 alone_first KskRoll = refl
 alone_first KskDoubleDsRoll = refl
 alone_first ZskRoll = refl
@@ -149,11 +149,11 @@ switch_timed Zone ZskDoubleSignatureRoll own e = absurd (true≢false (sym e))
 switch_timed Zone CskRoll own e = refl
 switch_timed Zone AlgorithmRoll own e = refl
 
-first_or : (r : RollType) → wants_first r ≡ false → (r ≡ AlgorithmRoll) ⊎ ((affects Keys r ≡ false) × (same_roll r AlgorithmRoll ≡ false))
+first_or : (r : RollType) → wants_first r ≡ false → (r ≡ AlgorithmRoll) ⊎ (affects Keys r ≡ false)
 first_or KskRoll e = absurd (true≢false e)
 first_or KskDoubleDsRoll e = absurd (true≢false e)
-first_or ZskRoll e = inr (refl, refl)
-first_or ZskDoubleSignatureRoll e = inr (refl, refl)
+first_or ZskRoll e = inr refl
+first_or ZskDoubleSignatureRoll e = inr refl
 first_or CskRoll e = absurd (true≢false e)
 first_or AlgorithmRoll e = inl refl
 
@@ -179,11 +179,17 @@ early-same q r e = cc
 
 -- the invariant ---------------------------------------------------------------------------------
 
-abbrev pub Unstarted : Tale → ℕ → Type 0
-Unstarted tale n = (m : ℕ) → m < n → StartsAt tale.calls tale.es m AlgorithmRoll → ⊥
+-- the call behind position n ends the first wait of an algorithm roll
+abbrev pub PassesAt : Tale → ℕ → Type 0
+PassesAt tale n = DoesAt first_wait_of tale.calls tale.es n AlgorithmRoll
 
+-- no algorithm roll is past its first wait
+abbrev pub Unpassed : Tale → ℕ → Type 0
+Unpassed tale n = (m : ℕ) → m < n → PassesAt tale m → ⊥
+
+-- then no roll of KSKs or CSKs is in progress but an algorithm roll before its first wait
 abbrev pub Unborn : Tale → Stage → Stage → ℕ → Type 0
-Unborn tale ks zs n = ((ks ≡ Quiet) × Unstarted tale n) ⊎ ((ks ≡ Early AlgorithmRoll) × (zs ≡ Early AlgorithmRoll))
+Unborn tale ks zs n = Unpassed tale n × ((ks ≡ Quiet) ⊎ ((ks ≡ Early AlgorithmRoll) × (zs ≡ Early AlgorithmRoll)))
 
 abbrev pub Life : Tale → Stage → Stage → ℕ → Type 0
 Life tale ks zs n = (Alive tale Keys n × Alive tale Zone n) ⊎ (NoDs tale.es n × Unborn tale ks zs n)
@@ -227,10 +233,10 @@ module _ (tale : Tale) (n : ℕ) (here : suc n ≤ length tale.es) where
   born a d = let c : Contains (position_at tale.es n).ds a.0 = shows_ds tale n (omega arith) a.0 (some_weaker (in_use Keys) in_ds (λ k e. (and_parts (in_keys Keys k) (in_other Keys k) e).1) (found (world_at tale n) a.0) a.1) in
       not_in_empty a.0 (subst (λ l. Contains l a.0) (d n (omega arith)) c)
 
-  unstarted-next : ((r : RollType) → StartsAt tale.calls tale.es n r → r ≡ AlgorithmRoll → ⊥) → Unstarted tale n → Unstarted tale (suc n)
-  unstarted-next none h m lt s = elim (cases_lt m n) [
+  unpassed-next : (PassesAt tale n → ⊥) → Unpassed tale n → Unpassed tale (suc n)
+  unpassed-next none h m lt s = elim (cases_lt m n) [
     | inl before ↦ h m before s
-    | inr ge ↦ let e : m ≡ n = omega arith in none AlgorithmRoll (subst (λ m. StartsAt tale.calls tale.es m AlgorithmRoll) e s) refl
+    | inr ge ↦ let e : m ≡ n = omega arith in none (subst (PassesAt tale) e s)
   ]
 
   ds_less : (f : List ℕ → Key → Key) (r : RollType) (o : Option RollState) → Mapped tale n f r o → ((q : List ℕ) (k : Key) → in_ds (f q k).keytype ≡ in_ds k.keytype) → NoDs tale.es n → NoDs tale.es (suc n)
@@ -263,7 +269,7 @@ module _ (tale : Tale) (n : ℕ) (here : suc n ≤ length tale.es) where
   step_other r q d mark = ap (is_step q) mark ∙ same-sym q r ∙ d
 
   -- a refusal, an add, a deletion
-  pub calm : (v : World) → world_at tale (suc n) ≡ v → Kept (world_at tale n) v → (position_at tale.es (suc n)).mark ≡ Other → ((r : RollType) → StartsAt tale.calls tale.es n r → ⊥) → Inv tale n → Inv tale (suc n)
+  pub calm : (v : World) → world_at tale (suc n) ≡ v → Kept (world_at tale n) v → (position_at tale.es (suc n)).mark ≡ Other → (PassesAt tale n → ⊥) → Inv tale n → Inv tale (suc n)
   calm v e k mark none h =
       let dead = no_ds-next tale n here (λ id f. k.fore in_ds (λ t x. (test-seen Keys Ds t x).1) id (sym (ap (λ w. if_some in_ds (found w id)) e) ∙ f)) in
       let gk = gentle_kept tale n v e k mark dead Keys h.ks h.keys.rolls h.keys.flags in
@@ -278,17 +284,13 @@ module _ (tale : Tale) (n : ℕ) (here : suc n ≤ length tale.es) where
         phases = λ r p f. phase-aside tale n r p (aside-kept tale n v e k mark r) (h.phases r p (sym (same r) ∙ f));
         life = elim (h.life) [
           | inl a ↦ inl (alive-gentle tale n here Keys h.ks gk a.0, alive-gentle tale n here Zone h.zs gz a.1)
-          | inr d ↦ inr (dead d.0, unborn (λ r s eq. none r s) d.1)
+          | inr d ↦ inr (dead d.0, (unpassed-next none d.1.0, d.1.1))
         ];
       }
-    where
-      unborn : ((r : RollType) → StartsAt tale.calls tale.es n r → r ≡ AlgorithmRoll → ⊥) → Unborn tale h.ks h.zs n → Unborn tale h.ks h.zs (suc n)
-      unborn none (inl u) = inl (u.0, unstarted-next none u.1)
-      unborn none (inr u) = inr u
 
   -- a report
   pub report : (r : RollType) (second : Bool) (ttl now : ℕ) → Mapped tale n (λ q. report_key r second now) r (Some (waiting second ttl)) → (world_at tale n).roll r ≡ Some (spreading second)
-      → (position_at tale.es (suc n)).mark ≡ Report r second ttl → (position_at tale.es (suc n)).moment ≡ Some now → ((r : RollType) → StartsAt tale.calls tale.es n r → ⊥) → Inv tale n → Inv tale (suc n)
+      → (position_at tale.es (suc n)).mark ≡ Report r second ttl → (position_at tale.es (suc n)).moment ≡ Some now → (PassesAt tale n → ⊥) → Inv tale n → Inv tale (suc n)
   report r second ttl now m phase mark moment none h =
       let dead = ds_less (λ q. report_key r second now) r (Some (waiting second ttl)) m (λ q k. refl) in
       let gk = gentle-report tale n Keys h.ks h.keys.rolls h.keys.flags dead r second ttl now m phase mark in
@@ -303,7 +305,7 @@ module _ (tale : Tale) (n : ℕ) (here : suc n ≤ length tale.es) where
             (λ q x e d. aside-report tale n r second ttl now q m (h.pairs r q (spreading second) x phase e d) (ap (is_step q) mark)) h.phases;
         life = elim (h.life) [
           | inl a ↦ inl (alive-gentle tale n here Keys h.ks gk a.0, alive-gentle tale n here Zone h.zs gz a.1)
-          | inr d ↦ inr (dead d.0, unborn d.1)
+          | inr d ↦ inr (dead d.0, (unpassed-next none d.1.0, d.1.1))
         ];
       }
     where
@@ -311,14 +313,10 @@ module _ (tale : Tale) (n : ℕ) (here : suc n ≤ length tale.es) where
       this false phase told reads = (reads (h.phases r Propagation1 phase), told)
       this true phase told reads = (reads (h.phases r Propagation2 phase), told)
 
-      unborn : Unborn tale h.ks h.zs n → Unborn tale h.ks h.zs (suc n)
-      unborn (inl u) = inl (u.0, unstarted-next (λ r s eq. none r s) u.1)
-      unborn (inr u) = inr u
-
   -- the end of a roll
   pub done : (r : RollType) → ((q : List ℕ) → (world_at tale (suc n)).key q ≡ (world_at tale n).key q) → ((id : Id) → found (world_at tale (suc n)) id ≡ found (world_at tale n) id)
       → ((q : RollType) → (world_at tale (suc n)).roll q ≡ put_roll (world_at tale n).roll r None q) → (world_at tale n).roll r ≡ Some Done
-      → (position_at tale.es (suc n)).mark ≡ Other → ((r : RollType) → StartsAt tale.calls tale.es n r → ⊥) → Inv tale n → Inv tale (suc n)
+      → (position_at tale.es (suc n)).mark ≡ Other → (PassesAt tale n → ⊥) → Inv tale n → Inv tale (suc n)
   done r keys same rolls phase mark none h =
       let dead = no_ds-next tale n here (λ id e. sym (ap (if_some in_ds) (same id)) ∙ e) in
       let gk = gentle-done tale n Keys h.ks h.keys.rolls h.keys.flags dead r same rolls phase mark in
@@ -332,7 +330,7 @@ module _ (tale : Tale) (n : ℕ) (here : suc n ≤ length tale.es) where
         phases = λ q x e. phase-aside tale n q x (record { back = λ second id f. ap (if_some _) (same id) ∙ f; keys = λ t j f l b. (j, sym (keys t) ∙ f, refl, λ s. refl); no_step = ap (is_step q) mark }) (h.phases q x (was q x e));
         life = elim (h.life) [
           | inl a ↦ inl (alive-gentle tale n here Keys h.ks gk a.0, alive-gentle tale n here Zone h.zs gz a.1)
-          | inr d ↦ inr (dead d.0, unborn d.1)
+          | inr d ↦ inr (dead d.0, (unpassed-next none d.1.0, d.1.1))
         ];
       }
     where
@@ -342,10 +340,6 @@ module _ (tale : Tale) (n : ℕ) (here : suc n ≤ length tale.es) where
           at_same : (b : Bool) → same_roll r q ≡ b → (world_at tale n).roll q ≡ Some x
           at_same true t = absurd (none-some x (sym (put-same (world_at tale n).roll r None) ∙ sym (rolls r) ∙ ap (world_at tale (suc n)).roll (same-true r q t) ∙ e))
           at_same false t = sym (put-other (world_at tale n).roll r None q t) ∙ sym (rolls q) ∙ e
-
-      unborn : Unborn tale h.ks h.zs n → Unborn tale h.ks h.zs (suc n)
-      unborn (inl u) = inl (u.0, unstarted-next (λ r s eq. none r s) u.1)
-      unborn (inr u) = inr u
 
 -- the calls of a roll, side by side ----------------------------------------------------------------
 
@@ -409,8 +403,8 @@ module _ (tale : Tale) (n : ℕ) (here : suc n ≤ length tale.es) where
             at_tol false f = absurd (none-some x (sym (can.alone q f) ∙ e))
 
     -- from no DS at all
-    start_unborn : wants_first r ≡ false → StartsAt tale.calls tale.es n r → ((q : RollType) → StartsAt tale.calls tale.es n q → r ≡ q) → Unstarted tale n → NoDs tale.es n → (h : Inv tale n) → h.ks ≡ Quiet → Inv tale (suc n)
-    start_unborn free starts only none d h quiet =
+    start_unborn : wants_first r ≡ false → Unpassed tale (suc n) → NoDs tale.es n → (h : Inv tale n) → h.ks ≡ Quiet → Inv tale (suc n)
+    start_unborn free none d h quiet =
         let d' : NoDs tale.es (suc n) = ds_less tale n here (start_key r now old new) r (Some Propagation1) m (λ q k. still_ds r free (is_listed q old) (is_listed q new) k.keytype) d in
         let a = start_side Keys h.ks h.keys (λ _. d') (inl d') in
         let b = start_side Zone h.zs h.zone (λ _. d') (inl d') in
@@ -423,29 +417,32 @@ module _ (tale : Tale) (n : ℕ) (here : suc n ≤ length tale.es) where
           phases = start_phases h;
           life = inr (
             d',
-            elim (first_or r free) [
-              | inl first ↦ inr (a.0.2 (ap (affects Keys) first) ∙ ap Early first, b.0.2 (ap (affects Zone) first) ∙ ap Early first)
-              | inr x ↦ inl (a.0.3 x.0 ∙ quiet, unstarted-next tale n here (λ q s e. true≢false (sym (same-same AlgorithmRoll) ∙ ap (λ q. same_roll q AlgorithmRoll) (sym e ∙ sym (only q s)) ∙ x.1)) none)
-            ],
+            (
+              none,
+              elim (first_or r free) [
+                | inl first ↦ inr (a.0.2 (ap (affects Keys) first) ∙ ap Early first, b.0.2 (ap (affects Zone) first) ∙ ap Early first)
+                | inr out ↦ inl (a.0.3 out ∙ quiet)
+              ],
+            ),
           );
         }
 
-    pub start : StartsAt tale.calls tale.es n r → ((q : RollType) → StartsAt tale.calls tale.es n q → r ≡ q) → Inv tale n → Inv tale (suc n)
-    start starts only h = elim (h.life) [
+    pub start : DoesAt start_of tale.calls tale.es n r → (PassesAt tale n → ⊥) → Inv tale n → Inv tale (suc n)
+    start starts none h = elim (h.life) [
       | inl a ↦
           let dead = λ (d : NoDs tale.es n). absurd {A = NoDs tale.es (suc n)} (born tale n here a.0 d) in
           let x = start_side Keys h.ks h.keys dead (inr a.0) in
           let y = start_side Zone h.zs h.zone dead (inr a.1) in
           record { ks = x.0.0; zs = y.0.0; keys = x.0.1; zone = y.0.1; pairs = start_pairs h.pairs; phases = start_phases h; life = inl (x.1 a.0, y.1 a.1) }
-      | inr d ↦ elim (d.1) [
-        | inl u ↦ by_first (wants_first r) refl u d.0
+      | inr d ↦ elim (d.1.1) [
+        | inl u ↦ by_first (wants_first r) refl u d.1.0 d.0
         | inr u ↦ absurd (true≢false (sym ((subst (λ s. At tale Keys s n) u.0 h.keys).rolls AlgorithmRoll refl) ∙ ap (stage_fits (Early AlgorithmRoll) AlgorithmRoll) (can.alone AlgorithmRoll (alone_first r))))
       ]
     ]
       where
-        by_first : (b : Bool) → wants_first r ≡ b → (h.ks ≡ Quiet) × Unstarted tale n → NoDs tale.es n → Inv tale (suc n)
-        by_first true w u d = let x = tale.plain.first n r w starts in absurd (u.1 x.0 x.1 x.2)
-        by_first false w u d = start_unborn w starts only u.1 d h u.0
+        by_first : (b : Bool) → wants_first r ≡ b → h.ks ≡ Quiet → Unpassed tale n → NoDs tale.es n → Inv tale (suc n)
+        by_first true w quiet none_before d = let x = tale.plain.first n r w starts in absurd (none_before x.0 x.1 x.2)
+        by_first false w quiet none_before d = start_unborn w (unpassed-next tale n here none none_before) d h quiet
 
   -- the first wait
   module _ (r : RollType) (ttl now : ℕ) (m : Mapped tale n (λ q. wait1_key r now) r (Some Propagation2)) (phase : (world_at tale n).roll r ≡ Some (CacheExpire1 ttl))
@@ -496,26 +493,27 @@ module _ (tale : Tale) (n : ℕ) (here : suc n ≤ length tale.es) where
         record { ks = x.0.0; zs = y.0.0; keys = x.0.1; zone = y.0.1; pairs = wait1_pairs h.pairs; phases = wait1_phases h; life = inl (x.1 (ap (affects Keys) first), y.1 (ap (affects Zone) first)) }
 
     -- a zone roll before any DS
-    wait1_unborn : affects Keys r ≡ false → NoDs tale.es n → (h : Inv tale n) → h.ks ≡ Quiet → Unstarted tale (suc n) → Inv tale (suc n)
+    wait1_unborn : affects Keys r ≡ false → NoDs tale.es n → (h : Inv tale n) → h.ks ≡ Quiet → Unpassed tale (suc n) → Inv tale (suc n)
     wait1_unborn out d h quiet none =
         let d' : NoDs tale.es (suc n) = ds_less tale n here (λ q. wait1_key r now) r (Some Propagation2) m (λ q k. waited1_ds r out k.keytype) d in
         let x = wait1_side Keys h.ks h.phases h.keys (λ _ _. d') (λ own w. inr (inr d')) in
         let y = wait1_side Zone h.zs h.phases h.zone (λ _ _. d') (λ own w. inr (inr d')) in
-        record { ks = x.0.0; zs = y.0.0; keys = x.0.1; zone = y.0.1; pairs = wait1_pairs h.pairs; phases = wait1_phases h; life = inr (d', inl (x.0.3 out ∙ quiet, none)) }
+        record { ks = x.0.0; zs = y.0.0; keys = x.0.1; zone = y.0.1; pairs = wait1_pairs h.pairs; phases = wait1_phases h; life = inr (d', (none, inl (x.0.3 out ∙ quiet))) }
 
-    pub wait1 : ((r : RollType) → StartsAt tale.calls tale.es n r → ⊥) → Inv tale n → Inv tale (suc n)
-    wait1 none h = elim (h.life) [
+    pub wait1 : (PassesAt tale n → r ≡ AlgorithmRoll) → Inv tale n → Inv tale (suc n)
+    wait1 only h = elim (h.life) [
       | inl a ↦
           let dead = λ (d : NoDs tale.es n). absurd {A = NoDs tale.es (suc n)} (born tale n here a.0 d) in
           let x = wait1_side Keys h.ks h.phases h.keys (λ _. dead) (λ own w. inl a.0) in
           let y = wait1_side Zone h.zs h.phases h.zone (λ _. dead) (λ own w. inl a.1) in
           record { ks = x.0.0; zs = y.0.0; keys = x.0.1; zone = y.0.1; pairs = wait1_pairs h.pairs; phases = wait1_phases h; life = inl (alive_next Keys x.1 x.2 a.0, alive_next Zone y.1 y.2 a.1) }
-      | inr d ↦ elim (d.1) [ inl u ↦ unborn (affects Keys r) refl d.0 u | inr u ↦ first (affects Keys r) refl d.0 u ]
+      | inr d ↦ elim (d.1.1) [ inl u ↦ unborn (affects Keys r) refl d.0 d.1.0 u | inr u ↦ first (affects Keys r) refl d.0 u ]
     ]
       where
-        unborn : (b : Bool) → affects Keys r ≡ b → NoDs tale.es n → (h.ks ≡ Quiet) × Unstarted tale n → Inv tale (suc n)
-        unborn true own d u = absurd (quiet-early r (sym u.0 ∙ early_stage Keys h.ks own h.keys))
-        unborn false out d u = wait1_unborn out d h u.0 (unstarted-next tale n here (λ r s e. none r s) u.1)
+        unborn : (b : Bool) → affects Keys r ≡ b → NoDs tale.es n → Unpassed tale n → h.ks ≡ Quiet → Inv tale (suc n)
+        unborn true own d none quiet = absurd (quiet-early r (sym quiet ∙ early_stage Keys h.ks own h.keys))
+        unborn false out d none quiet = wait1_unborn out d h quiet
+            (unpassed-next tale n here (λ s. true≢false (sym (ap (affects Keys) (only s)) ∙ out)) none)
 
         first : (b : Bool) → affects Keys r ≡ b → NoDs tale.es n → (h.ks ≡ Early AlgorithmRoll) × (h.zs ≡ Early AlgorithmRoll) → Inv tale (suc n)
         first true own d u = wait1_first (sym (early-same AlgorithmRoll r (sym u.0 ∙ early_stage Keys h.ks own h.keys))) d h
@@ -547,26 +545,26 @@ module _ (tale : Tale) (n : ℕ) (here : suc n ≤ length tale.es) where
     wait2_pairs : Pairs tale n → Pairs tale (suc n)
     wait2_pairs = pairs-on tale n here r (CacheExpire2 ttl) Done phase m.rolls
 
-    wait2_unborn : affects Keys r ≡ false → NoDs tale.es n → (h : Inv tale n) → h.ks ≡ Quiet → Unstarted tale (suc n) → Inv tale (suc n)
+    wait2_unborn : affects Keys r ≡ false → NoDs tale.es n → (h : Inv tale n) → h.ks ≡ Quiet → Unpassed tale (suc n) → Inv tale (suc n)
     wait2_unborn out d h quiet none =
         let d' : NoDs tale.es (suc n) = ds_less tale n here (λ q. wait2_key r now) r (Some Done) m (λ q k. waited2_ds r out k.keytype) d in
         let x = wait2_side Keys h.ks h.phases h.keys (λ _. d') in
         let y = wait2_side Zone h.zs h.phases h.zone (λ _. d') in
-        record { ks = x.0.0; zs = y.0.0; keys = x.0.1; zone = y.0.1; pairs = wait2_pairs h.pairs; phases = wait2_phases h; life = inr (d', inl (x.0.3 out ∙ quiet, none)) }
+        record { ks = x.0.0; zs = y.0.0; keys = x.0.1; zone = y.0.1; pairs = wait2_pairs h.pairs; phases = wait2_phases h; life = inr (d', (none, inl (x.0.3 out ∙ quiet))) }
 
-    pub wait2 : ((r : RollType) → StartsAt tale.calls tale.es n r → ⊥) → Inv tale n → Inv tale (suc n)
+    pub wait2 : (PassesAt tale n → ⊥) → Inv tale n → Inv tale (suc n)
     wait2 none h = elim (h.life) [
       | inl a ↦
           let dead = λ (d : NoDs tale.es n). absurd {A = NoDs tale.es (suc n)} (born tale n here a.0 d) in
           let x = wait2_side Keys h.ks h.phases h.keys dead in
           let y = wait2_side Zone h.zs h.phases h.zone dead in
           record { ks = x.0.0; zs = y.0.0; keys = x.0.1; zone = y.0.1; pairs = wait2_pairs h.pairs; phases = wait2_phases h; life = inl (x.1 a.0, y.1 a.1) }
-      | inr d ↦ elim (d.1) [ inl u ↦ unborn (affects Keys r) refl d.0 u | inr u ↦ absurd (first (affects Keys r) refl u) ]
+      | inr d ↦ elim (d.1.1) [ inl u ↦ unborn (affects Keys r) refl d.0 d.1.0 u | inr u ↦ absurd (first (affects Keys r) refl u) ]
     ]
       where
-        unborn : (b : Bool) → affects Keys r ≡ b → NoDs tale.es n → (h.ks ≡ Quiet) × Unstarted tale n → Inv tale (suc n)
-        unborn true own d u = absurd (quiet-late r (sym u.0 ∙ late_stage Keys h.ks own h.keys))
-        unborn false out d u = wait2_unborn out d h u.0 (unstarted-next tale n here (λ r s e. none r s) u.1)
+        unborn : (b : Bool) → affects Keys r ≡ b → NoDs tale.es n → Unpassed tale n → h.ks ≡ Quiet → Inv tale (suc n)
+        unborn true own d before quiet = absurd (quiet-late r (sym quiet ∙ late_stage Keys h.ks own h.keys))
+        unborn false out d before quiet = wait2_unborn out d h quiet (unpassed-next tale n here none before)
 
         first : (b : Bool) → affects Keys r ≡ b → (h.ks ≡ Early AlgorithmRoll) × (h.zs ≡ Early AlgorithmRoll) → ⊥
         first true own u = early-late AlgorithmRoll r (sym u.0 ∙ late_stage Keys h.ks own h.keys)

@@ -29,6 +29,7 @@ use Rattle.dnssec_run.proofs.Chain.Tale.{start_key, report_key, wait1_key, wait2
 use Rattle.dnssec_run.proofs.Chain.Tale.{waiting, spreading, stamp_of}
 use Rattle.dnssec_keyset.proofs.Tests.{both, both-at, each_roll, each_roll-at, each_key}
 use Rattle.dnssec_keyset.proofs.Tests.{each_key-at, alike, alike-same}
+use Rattle.dnssec_run.proofs.Chain.Setters.{Harmless, harmless-alike, harmless-busy, others-idle}
 use Rattle.dnssec_run.proofs.Chain.Facts.{Seen, apart, untouched_start, untouched_wait1}
 use Rattle.dnssec_run.proofs.Chain.Facts.{untouched_wait2}
 use Rattle.dnssec_run.proofs.Chain.Rolls.{stage_fits, same-sym, same-true, put-fits}
@@ -401,32 +402,64 @@ kept_deleted w r k at idle = record {
         let pass : p k.keytype ≡ true = subst (λ o. if_some p o ≡ true) at_q s in
         true≢false (sym idle ∙ busy k.keytype pass)
 
--- a call that changes neither flags nor stamps that a wait reads
+-- a call that changes only keys of other signers, but for what no wait reads
 abbrev pub with_keys : World → (List ℕ → Key → Key) → World
 with_keys w f = record w { key = λ q. option_map (f q) (w.key q) }
 
-same_some : (p : KeyType → Bool) (f : Key → Key) → ((k : Key) → (f k).keytype ≡ k.keytype) → (d : Bool) (o : Option Key) → if_some p (if d then option_map f o else None) ≡ if_some p (if d then o else None)
-same_some p f same true None = refl
-same_some p f same true (Some k) = ap p (same k)
-same_some p f same false o = refl
+abbrev pub AllHarmless : (Key → Key) → Option Key → Type 0
+AllHarmless f o = (k : Key) → o ≡ Some k → Harmless k (f k)
 
-same_ok : (p : KeyType → Bool) (f : Key → Key) → ((k : Key) → (f k).keytype ≡ k.keytype) → (d : Bool) (o : Option Key) → all_ok p (if d then option_map f o else None) ≡ all_ok p (if d then o else None)
-same_ok p f same true None = refl
-same_ok p f same true (Some k) = ap p (same k)
-same_ok p f same false o = refl
+was_busy : (p : KeyType → Bool) → Busy p → (f : Key → Key) (o : Option Key) → AllHarmless f o
+    → (d : Bool) → if_some p (if d then option_map f o else None) ≡ true
+    → if_some p (if d then o else None) ≡ true
+was_busy p busy f None h true e = e
+was_busy p busy f (Some k) h true e =
+    ap p (sym (harmless-busy k (f k) (h k refl) (busy (f k).keytype e))) ∙ e
+was_busy p busy f o h false e = e
 
-key_changed : (f : Key → Key) → ((k : Key) → (f k).keytype ≡ k.keytype) → ((k : Key) (s : Stamp) → stamp_of s k ≡ stamp_of s (f k)) → (o : Option Key) (j : Key) → option_map f o ≡ Some j
-    → (k : Key) × (o ≡ Some k) × (k.keytype ≡ j.keytype) × ((s : Stamp) → stamp_of s k ≡ stamp_of s j)
-key_changed f kinds stamps None j e = absurd (none-some j e)
-key_changed f kinds stamps (Some k) j e = let image : f k ≡ j = same_Some _ _ e in (k, refl, sym (kinds k) ∙ ap (λ j. j.keytype) image, λ s. stamps k s ∙ ap (stamp_of s) image)
+still_busy : (p : KeyType → Bool) → Busy p → (f : Key → Key) (o : Option Key) → AllHarmless f o
+    → (d : Bool) → if_some p (if d then o else None) ≡ true
+    → if_some p (if d then option_map f o else None) ≡ true
+still_busy p busy f None h true e = e
+still_busy p busy f (Some k) h true e =
+    let same = harmless-alike is_idle true others-idle k (f k) (h k refl) in
+    ap p (harmless-busy k (f k) (h k refl) (same ∙ busy k.keytype e)) ∙ e
+still_busy p busy f o h false e = e
 
-pub kept_changed : (w : World) (f : List ℕ → Key → Key) → ((q : List ℕ) (k : Key) → (f q k).keytype ≡ k.keytype) → ((q : List ℕ) (k : Key) (s : Stamp) → stamp_of s k ≡ stamp_of s (f q k)) → Kept w (with_keys w f)
-kept_changed w f kinds stamps = record {
+still_fits : (sd : SideOf) (st : Stage) (f : Key → Key) (o : Option Key) → AllHarmless f o
+    → (d : Bool) → all_ok (fits sd st) (if d then o else None) ≡ true
+    → all_ok (fits sd st) (if d then option_map f o else None) ≡ true
+still_fits sd st f None h true e = e
+still_fits sd st f (Some k) h true e =
+    harmless-alike (fits sd st) true (λ t o. idle-fits sd st t (others-idle t o)) k (f k) (h k refl)
+    ∙ e
+still_fits sd st f o h false e = e
+
+key_changed : (f : Key → Key) (o : Option Key) → AllHarmless f o → (j : Key)
+    → option_map f o ≡ Some j → is_idle j.keytype ≡ false → (k : Key) × (o ≡ Some k)
+    × (k.keytype ≡ j.keytype) × ((s : Stamp) → stamp_of s k ≡ stamp_of s j)
+key_changed f None h j e u = absurd (none-some j e)
+key_changed f (Some k) h j e u =
+    let image : f k ≡ j = same_Some _ _ e in
+    let a = h k refl in
+    let same = harmless-busy k (f k) a (ap (λ j. is_idle j.keytype) image ∙ u) in (
+      k,
+      refl,
+      sym same ∙ ap (λ j. j.keytype) image,
+      λ s. sym (a.stamps s) ∙ ap (stamp_of s) image,
+    )
+
+pub kept_changed : (w : World) (f : List ℕ → Key → Key)
+    → ((q : List ℕ) → AllHarmless (f q) (w.key q)) → Kept w (with_keys w f)
+kept_changed w f h = record {
   rolls = λ q. refl;
-  keys = λ q j e u. key_changed (f q) (kinds q) (stamps q) (w.key q) j e;
-  fore = λ p busy id e. sym (same_some p (f id.0) (kinds id.0) (w.added id.0 == id.1) (w.key id.0)) ∙ e;
-  back = λ p busy id e. same_some p (f id.0) (kinds id.0) (w.added id.0 == id.1) (w.key id.0) ∙ e;
-  flags = λ sd st h id. same_ok (fits sd st) (f id.0) (kinds id.0) (w.added id.0 == id.1) (w.key id.0) ∙ h id;
+  keys = λ q. key_changed (f q) (w.key q) (h q);
+  fore = λ p busy id.
+      was_busy p busy (f id.0) (w.key id.0) (h id.0) (w.added id.0 == id.1);
+  back = λ p busy id.
+      still_busy p busy (f id.0) (w.key id.0) (h id.0) (w.added id.0 == id.1);
+  flags = λ sd st was id.
+      still_fits sd st (f id.0) (w.key id.0) (h id.0) (w.added id.0 == id.1) (was id);
 }
 
 pub gentle_kept : (tale : Tale) (n : ℕ) (v : World) → world_at tale (suc n) ≡ v → Kept (world_at tale n) v → (position_at tale.es (suc n)).mark ≡ Other → (NoDs tale.es n → NoDs tale.es (suc n))

@@ -10,7 +10,6 @@ use Rattle.std.specs.Ordering.{nat_cmp}
 use Rattle.std.specs.Cmp.Lexicographic.{slice_cmp}
 use Rattle.std.proofs.lemmas.Option.{slice_get_cases, same_Some, none-some}
 use Rattle.std.proofs.lemmas.Bool.{true≢false, and_parts, eqb-true, eq-eqb}
-use Rattle.dnssec_key.specs.declared.roll.RollType.{RollType}
 use Rattle.dnssec_key.specs.declared.key.KeyType.{KeyType}
 use Rattle.dnssec_key.specs.declared.key.KeyType.TheVariants.{Ksk, Zsk, Csk, Include}
 use Rattle.dnssec_run.specs.declared.call.Call.{Call}
@@ -19,7 +18,9 @@ use Rattle.dnssec_run.specs.Published.{Id, World as RealWorld, shown, in_ds, in_
 use Rattle.dnssec_run.specs.Published.{signs_dnskey as signs_keys, signs_zone}
 use Rattle.dnssec_run.specs.Record as rec
 use Rattle.dnssec_run.specs.Safe.{SetKind, Ds, Dnskey, ZoneSigners, told, position_at, Retired}
-use Rattle.dnssec_run.specs.Plain.{is_plain_call, start_of, StartsAt}
+use Rattle.dnssec_key.specs.declared.roll.RollType.{RollType}
+use Rattle.dnssec_keyset.specs.Step as keyset
+use Rattle.dnssec_run.specs.Plain.{sets_nothing, DoesAt}
 use Rattle.dnssec_keyset.proofs.Flags.{SideOf, Keys, Zone}
 use Rattle.dnssec_run.proofs.Chain.Tale.{Tale, World, Key, seen, found, if_some, world_at}
 use Rattle.dnssec_run.proofs.Chain.Shown.{shown-found}
@@ -68,7 +69,7 @@ pub record Place (tale : Tale) (i : ℕ) : Type 0 where
   pub call_is : slice_get tale.calls i ≡ Some call
   pub entry_is : slice_get tale.es i ≡ Some entry
   pub ok : rec.IsEntry (real tale i) (real tale (suc i)) call entry
-  pub plain : is_plain_call (rec.call_of call) ≡ true
+  pub plain : sets_nothing (real tale i).set (rec.call_of call) ≡ true
   pub position_is : position_at tale.es (suc i) ≡ told entry
   pub added_is : (world_at tale (suc i)).added ≡ rec.added_by (suc i) call entry.reply (world_at tale i).added
   pub ds : Shows (told entry).ds (real tale (suc i)) in_ds
@@ -177,9 +178,13 @@ side tale sd r = record {
   showY = shows tale sd (second_kind sd r);
 }
 
--- an accepted start of a place is the start of its call
-pub same_start : (tale : Tale) (n : ℕ) (p : Place tale n) (q : RollType) → StartsAt tale.calls tale.es n q → (rec.is_accepted p.entry.reply ≡ true) × (start_of (rec.call_of p.call) ≡ Some q)
-same_start tale n p q s =
+-- what an accepted call does for a roll is done by the call of its place
+pub same_call : (does : keyset.Call → Option RollType) (tale : Tale) (n : ℕ) (p : Place tale n)
+    (q : RollType) → DoesAt does tale.calls tale.es n q
+    → (rec.is_accepted p.entry.reply ≡ true) × (does (rec.call_of p.call) ≡ Some q)
+same_call does tale n p q s =
     let c : p.call ≡ s.call = same_Some _ _ (sym p.call_is ∙ s.call_is) in
-    let e : p.entry ≡ s.entry = same_Some _ _ (sym p.entry_is ∙ s.entry_is) in
-    (ap (λ (e : Entry). rec.is_accepted e.reply) e ∙ s.accepted, ap (λ c. start_of (rec.call_of c)) c ∙ s.start)
+    let e : p.entry ≡ s.entry = same_Some _ _ (sym p.entry_is ∙ s.entry_is) in (
+      ap (λ (e : Entry). rec.is_accepted e.reply) e ∙ s.accepted,
+      ap (λ c. does (rec.call_of c)) c ∙ s.roll_is,
+    )

@@ -32,7 +32,7 @@ pub record Tale : Type 0 where
   pub calls : List Call
   pub es : List Entry
   pub run : rec.IsRun name calls es
-  pub plain : IsPlain calls es
+  pub plain : IsPlain name calls es
 
 abbrev pub Key : Type 0
 Key = KeyParts

@@ -1,7 +1,7 @@
 -- Each call of a run keeps the invariant of the chain, so each position of a plain run is safe.
 use Rattle.dnssec_keyset.proofs.Accepted.{refused_same, is_refused, accepted_changes, no_some}
 use Rattle.dnssec_keyset.proofs.Accepted.{no_error, gone_key, spreads_first, spreads_second}
-use Rattle.dnssec_keyset.proofs.Accepted.{finishes, decoupled_kind}
+use Rattle.dnssec_keyset.proofs.Accepted.{finishes}
 use Rattle.std.proofs.Common.{[], ◌≡◌, ℕ, zero, suc, ◌≤◌, inl, inr, Bool, true, false, refl, sym}
 use Rattle.std.proofs.Common.{◌∙◌, ap, subst, arith, List, length, Option, None, Some}
 use Rattle.std.specs.Prelude.{if◌then◌else◌, ◌==◌}
@@ -23,8 +23,8 @@ use Rattle.dnssec_key.specs.declared.roll.RollState.TheVariants.{Done}
 use Rattle.dnssec_key.specs.declared.key.KeyType.{KeyType}
 use Rattle.dnssec_keyset.specs.KeySet.{KeySetParts, Rolls, MovesOn, phase_of, with_phase, no_rolls}
 use Rattle.dnssec_key.specs.RollTable.{First, Second}
-use Rattle.dnssec_key.specs.Setters.{Decoupled, Present, Signer, AtParent, Stale, VisibleAt}
-use Rattle.dnssec_key.specs.Setters.{DsVisibleAt, RrsigVisibleAt, set_by}
+use Rattle.dnssec_key.specs.Setters.{Present}
+use Rattle.dnssec_key.specs.Setters.{set_by}
 use Rattle.dnssec_keyset.specs.Step as keyset
 use Rattle.dnssec_run.specs.declared.call.Call.{Call}
 use Rattle.dnssec_run.specs.declared.call.Call.TheVariants as call
@@ -35,20 +35,19 @@ use Rattle.dnssec_run.specs.declared.record.Mark.{Mark}
 use Rattle.dnssec_run.specs.declared.record.Mark.TheVariants.{Other, Step, Report}
 use Rattle.dnssec_run.specs.Record as rec
 use Rattle.dnssec_run.specs.Safe.{position_at}
-use Rattle.dnssec_run.specs.Plain.{StartsAt, StaysSafe, start_of, is_plain_call}
+use Rattle.dnssec_run.specs.Plain.{DoesAt, StaysSafe, start_of, first_wait_of, sets_nothing}
 use Rattle.dnssec_keyset.proofs.Flags.{SideOf, Keys, Zone, is_blank, Quiet, fits, stale-idle}
 use Rattle.dnssec_keyset.proofs.Flags.{blank-idle}
-use Rattle.dnssec_run.proofs.Chain.Tables.{Stamp}
 use Rattle.dnssec_run.proofs.Chain.Tale.{Tale, World, Key, world_at, put_roll, rolled, start_key}
 use Rattle.dnssec_run.proofs.Chain.Tale.{start-parts, report_key, wait1_key, wait2_key, is_listed}
-use Rattle.dnssec_run.proofs.Chain.Tale.{stamp_of}
+use Rattle.dnssec_run.proofs.Chain.Setters.{harmless}
 use Rattle.dnssec_run.proofs.Chain.Rolls.{stage_fits}
-use Rattle.dnssec_run.proofs.Chain.Places.{place_at, real, all_ok, same_start, none_at_start}
+use Rattle.dnssec_run.proofs.Chain.Places.{place_at, real, all_ok, same_call, none_at_start}
 use Rattle.dnssec_run.proofs.Chain.Invariant.{At}
 use Rattle.dnssec_run.proofs.Chain.Gentles.{kept_same, kept_added, kept_deleted, kept_changed}
 use Rattle.dnssec_run.proofs.Chain.Gentles.{with_key, without_key, with_keys}
 use Rattle.dnssec_run.proofs.Chain.BothSides.{Inv, mapped, calm, report, done, start, wait1, wait2}
-use Rattle.dnssec_run.proofs.Chain.BothSides.{safe_of}
+use Rattle.dnssec_run.proofs.Chain.BothSides.{safe_of, PassesAt}
 use Rattle.dnssec_run.proofs.Chain.Allowed.{can_start, waits_in_phase, clear_cause}
 
 -- ---- replies
@@ -126,13 +125,6 @@ map_id (Some k) = refl
 worlds : (w v : World) → ((q : List ℕ) → w.key q ≡ v.key q) → ((q : List ℕ) → w.added q ≡ v.added q) → ((q : RollType) → w.roll q ≡ v.roll q) → w ≡ v
 worlds w v keys added rolls = λ i. record { key = λ q. keys q i; added = λ q. added q i; roll = λ q. rolls q i }
 
-decoupled : Bool → List ℕ → List ℕ → Key → Key
-decoupled value r q k = if bytes_eq r q then set_by (Decoupled value) k else k
-
-decoupled_stamp : (b value : Bool) (k : Key) (s : Stamp) → stamp_of s k ≡ stamp_of s (if b then set_by (Decoupled value) k else k)
-decoupled_stamp true value k s = refl
-decoupled_stamp false value k s = refl
-
 -- ---- one call
 
 module _ (tale : Tale) (n : ℕ) (here : suc n ≤ length tale.es) where
@@ -148,72 +140,65 @@ module _ (tale : Tale) (n : ℕ) (here : suc n ≤ length tale.es) where
       (λ q. h.keys q ∙ map_by (f q) (g q) (same q) (get before.keys q)) added
       (λ q. ap (λ rolls. phase_of rolls q) h.rolls ∙ phase_with before.rolls r o q)
 
-  accepted : (c : keyset.Call) → keyset.verdict before c ≡ keyset.Clear → keyset.Changes before c after → is_plain_call c ≡ true → adds_blank c ≡ true
+  accepted : (c : keyset.Call) → keyset.verdict before c ≡ keyset.Clear → keyset.Changes before c after → sets_nothing before c ≡ true → adds_blank c ≡ true
       → ((q : List ℕ) → (world_at tale (suc n)).added q ≡ rec.with_added (suc n) (rec.reference_added c) (world_at tale n).added q)
       → (position_at tale.es (suc n)).mark ≡ mark c → (position_at tale.es (suc n)).moment ≡ moment c
-      → ((q : RollType) → StartsAt tale.calls tale.es n q → start_of c ≡ Some q) → ((q : RollType) → start_of c ≡ Some q → StartsAt tale.calls tale.es n q)
+      → (PassesAt tale n → first_wait_of c ≡ Some AlgorithmRoll) → ((q : RollType) → start_of c ≡ Some q → DoesAt start_of tale.calls tale.es n q)
       → Inv tale n → Inv tale (suc n)
   accepted (keyset.AddKey r k) v h plain blank added m t only some inv =
       calm tale n here (with_key (world_at tale n) r (suc n) k)
       (worlds (world_at tale (suc n)) (with_key (world_at tale n) r (suc n) k) h.keys added (λ q. ap (λ rolls. phase_of rolls q) h.rolls))
       (kept_added (world_at tale n) r (suc n) k (no_some _ (no_error _ _ _ (no_error _ _ _ (clear_cause _ v)).1).0) (blank-idle k.keytype blank)) m
-      (λ q s. none-some q (only q s)) inv
-  accepted (keyset.Set r (Decoupled value)) v h plain blank added m t only some inv =
-      calm tale n here (with_keys (world_at tale n) (λ q k. if bytes_eq r q then set_by (Decoupled value) k else k))
-      (worlds (world_at tale (suc n)) (with_keys (world_at tale n) (λ q k. if bytes_eq r q then set_by (Decoupled value) k else k)) h.keys added (λ q. ap (λ rolls. phase_of rolls q) h.rolls))
-      (kept_changed (world_at tale n) (λ q k. if bytes_eq r q then set_by (Decoupled value) k else k) (λ q. decoupled_kind (bytes_eq r q) value) (λ q. decoupled_stamp (bytes_eq r q) value)) m
-      (λ q s. none-some q (only q s)) inv
-  accepted (keyset.Set r (Present value now)) v h plain blank added m t only some inv = absurd (true≢false (sym plain))
-  accepted (keyset.Set r (Signer value)) v h plain blank added m t only some inv = absurd (true≢false (sym plain))
-  accepted (keyset.Set r (AtParent value)) v h plain blank added m t only some inv = absurd (true≢false (sym plain))
-  accepted (keyset.Set r Stale) v h plain blank added m t only some inv = absurd (true≢false (sym plain))
-  accepted (keyset.Set r (VisibleAt time)) v h plain blank added m t only some inv = absurd (true≢false (sym plain))
-  accepted (keyset.Set r (DsVisibleAt time)) v h plain blank added m t only some inv = absurd (true≢false (sym plain))
-  accepted (keyset.Set r (RrsigVisibleAt time)) v h plain blank added m t only some inv = absurd (true≢false (sym plain))
+      (λ s. none-some AlgorithmRoll (only s)) inv
+  accepted (keyset.Set r s) v h plain blank added m t only some inv =
+      calm tale n here (with_keys (world_at tale n) (λ q k. if bytes_eq r q then set_by s k else k))
+      (worlds (world_at tale (suc n)) (with_keys (world_at tale n) (λ q k. if bytes_eq r q then set_by s k else k)) h.keys added (λ q. ap (λ rolls. phase_of rolls q) h.rolls))
+      (kept_changed (world_at tale n) (λ q k. if bytes_eq r q then set_by s k else k) (harmless before r s plain)) m
+      (λ s. none-some AlgorithmRoll (only s)) inv
   accepted (keyset.DeleteKey r) v h plain blank added m t only some inv =
       let k = gone_key (get before.keys r) (clear_cause _ v) in
       calm tale n here (without_key (world_at tale n) r)
       (worlds (world_at tale (suc n)) (without_key (world_at tale n) r) h.keys added (λ q. ap (λ rolls. phase_of rolls q) h.rolls))
-      (kept_deleted (world_at tale n) r k.0 k.1 (stale-idle k.0.keytype k.2)) m (λ q s. none-some q (only q s)) inv
+      (kept_deleted (world_at tale n) r k.0 k.1 (stale-idle k.0.keytype k.2)) m (λ s. none-some AlgorithmRoll (only s)) inv
   accepted (keyset.StartRoll r old new now) v h plain blank added m t only some inv =
       start tale n here r now old new
       (mapped tale n (start_key r now old new) r (Some Propagation1) (moved _ (start_key r now old new) r (Some Propagation1) h (λ q. start-parts r now (is_listed q old) (is_listed q new)) added))
-      (can_start (real tale n) r old new (clear_cause _ v)) m (some r refl) (λ q s. same_Some r q (only q s)) inv
+      (can_start (real tale n) r old new (clear_cause _ v)) m (some r refl) (λ s. none-some AlgorithmRoll (only s)) inv
   accepted (keyset.Report r First ttl now) v h plain blank added m t only some inv =
       report tale n here r false ttl now (mapped tale n (λ q. report_key r false now) r (Some (CacheExpire1 ttl)) (moved _ (λ q. report_key r false now) r (Some (CacheExpire1 ttl)) h (λ q k. refl) added))
-      (spreads_first _ (clear_cause _ v)) m t (λ q s. none-some q (only q s)) inv
+      (spreads_first _ (clear_cause _ v)) m t (λ s. none-some AlgorithmRoll (only s)) inv
   accepted (keyset.Report r Second ttl now) v h plain blank added m t only some inv =
       report tale n here r true ttl now (mapped tale n (λ q. report_key r true now) r (Some (CacheExpire2 ttl)) (moved _ (λ q. report_key r true now) r (Some (CacheExpire2 ttl)) h (λ q k. refl) added))
-      (spreads_second _ (clear_cause _ v)) m t (λ q s. none-some q (only q s)) inv
+      (spreads_second _ (clear_cause _ v)) m t (λ s. none-some AlgorithmRoll (only s)) inv
   accepted (keyset.Wait r First now) v h plain blank added m t only some inv =
       let w = waits_in_phase r false now (real tale n) v in
       wait1 tale n here r w.0 now (mapped tale n (λ q. wait1_key r now) r (Some Propagation2) (moved _ (λ q. wait1_key r now) r (Some Propagation2) h (λ q k. refl) added))
-      w.1 w.2 m t (λ q s. none-some q (only q s)) inv
+      w.1 w.2 m t (λ s. same_Some r AlgorithmRoll (only s)) inv
   accepted (keyset.Wait r Second now) v h plain blank added m t only some inv =
       let w = waits_in_phase r true now (real tale n) v in
       wait2 tale n here r w.0 now (mapped tale n (λ q. wait2_key r now) r (Some Done) (moved _ (λ q. wait2_key r now) r (Some Done) h (λ q k. refl) added))
-      w.1 w.2 m t (λ q s. none-some q (only q s)) inv
+      w.1 w.2 m t (λ s. none-some AlgorithmRoll (only s)) inv
   accepted (keyset.RollDone r) v h plain blank added m t only some inv =
       let keys = λ (q : List ℕ). h.keys q ∙ map_id (get before.keys q) in
       done tale n here r keys (λ id. λ i. if added id.0 i == id.1 then keys id.0 i else None)
-      (λ q. ap (λ rolls. phase_of rolls q) h.rolls ∙ phase_with before.rolls r None q) (finishes _ (clear_cause _ v)) m (λ q s. none-some q (only q s)) inv
+      (λ q. ap (λ rolls. phase_of rolls q) h.rolls ∙ phase_with before.rolls r None q) (finishes _ (clear_cause _ v)) m (λ s. none-some AlgorithmRoll (only s)) inv
 
-  by_reply : (c : keyset.Call) (r : Reply) → keyset.Step before c (rec.reply_of r) after → is_plain_call c ≡ true → adds_blank c ≡ true
+  by_reply : (c : keyset.Call) (r : Reply) → keyset.Step before c (rec.reply_of r) after → sets_nothing before c ≡ true → adds_blank c ≡ true
       → ((q : List ℕ) → (world_at tale (suc n)).added q ≡ (if rec.is_accepted r then rec.with_added (suc n) (rec.reference_added c) (world_at tale n).added else (world_at tale n).added) q)
       → (position_at tale.es (suc n)).mark ≡ (if rec.is_accepted r then mark c else Other) → (position_at tale.es (suc n)).moment ≡ moment c
-      → ((q : RollType) → StartsAt tale.calls tale.es n q → (rec.is_accepted r ≡ true) × (start_of c ≡ Some q)) → ((q : RollType) → rec.is_accepted r ≡ true → start_of c ≡ Some q → StartsAt tale.calls tale.es n q)
+      → (PassesAt tale n → (rec.is_accepted r ≡ true) × (first_wait_of c ≡ Some AlgorithmRoll)) → ((q : RollType) → rec.is_accepted r ≡ true → start_of c ≡ Some q → DoesAt start_of tale.calls tale.es n q)
       → Inv tale n → Inv tale (suc n)
   by_reply c (reply.Refused cause) step plain blank added m t only some inv =
       let same = refused_same (keyset.verdict before c) before after c cause step in
       calm tale n here (world_at tale n)
       (worlds (world_at tale (suc n)) (world_at tale n) (λ q. ap (λ s. get s.keys q) same) added (λ q. ap (λ s. phase_of s.rolls q) same))
-      (kept_same (world_at tale n)) m (λ q s. true≢false (sym (only q s).0)) inv
+      (kept_same (world_at tale n)) m (λ s. true≢false (sym (only s).0)) inv
   by_reply c reply.Done step plain blank added m t only some inv =
       let h = accepted_changes (keyset.verdict before c) before after c keyset.Done refl step in
-      accepted c h.0 h.1 plain blank added m t (λ q s. (only q s).1) (λ q. some q refl) inv
+      accepted c h.0 h.1 plain blank added m t (λ s. (only s).1) (λ q. some q refl) inv
   by_reply c (reply.Actions actions) step plain blank added m t only some inv =
       let h = accepted_changes (keyset.verdict before c) before after c (keyset.Actions actions.items) refl step in
-      accepted c h.0 h.1 plain blank added m t (λ q s. (only q s).1) (λ q. some q refl) inv
+      accepted c h.0 h.1 plain blank added m t (λ s. (only s).1) (λ q. some q refl) inv
 
   mark_after : (c : Call) (r : Reply) → rec.mark_after c r ≡ (if rec.is_accepted r then mark (rec.call_of c) else Other)
   mark_after c reply.Done = (plainly c).mark_is
@@ -227,8 +212,8 @@ module _ (tale : Tale) (n : ℕ) (here : suc n ≤ length tale.es) where
       by_reply c p.entry.reply p.ok.step p.plain (plainly p.call).blank (λ q. ap (λ f. f q) p.added_is)
       (ap (λ q. q.mark) p.position_is ∙ p.ok.mark ∙ mark_after p.call p.entry.reply)
       (ap (λ q. q.moment) p.position_is ∙ p.ok.moment ∙ (plainly p.call).moment_is)
-      (same_start tale n p)
-      (λ q a e. record { call = p.call; entry = p.entry; call_is = p.call_is; entry_is = p.entry_is; accepted = a; start = e }) inv
+      (same_call first_wait_of tale n p AlgorithmRoll)
+      (λ q a e. record { call = p.call; entry = p.entry; call_is = p.call_is; entry_is = p.entry_is; accepted = a; roll_is = e }) inv
 
 -- ---- the whole run
 
@@ -263,7 +248,7 @@ first tale = record {
   zone = first_at tale Zone;
   pairs = λ r q o p e f d. absurd (none-some o (sym (no_phases r) ∙ e));
   phases = λ r p e. absurd (none-some p (sym (no_phases r) ∙ e));
-  life = inr ((λ q le. let e : zero ≡ q = omega arith in subst (λ q. (position_at tale.es q).ds ≡ []) e refl), inl (refl, λ m lt s. omega arith));
+  life = inr ((λ q le. let e : zero ≡ q = omega arith in subst (λ q. (position_at tale.es q).ds ≡ []) e refl), ((λ m lt s. omega arith), inl refl));
 }
 
 always : (tale : Tale) (n : ℕ) → n ≤ length tale.es → Inv tale n
@@ -271,7 +256,7 @@ always tale zero le = first tale
 always tale (suc n) le = next tale n le (always tale n (omega arith))
 
 -- where the list is plain, every position of its record is safe
-pub chain-holds : (name : List ℕ) (calls : List Call) (entries : List Entry) → rec.IsRun name calls entries → StaysSafe calls entries
+pub chain-holds : (name : List ℕ) (calls : List Call) (entries : List Entry) → rec.IsRun name calls entries → StaysSafe name calls entries
 chain-holds name calls entries run plain n le =
     let tale : Tale = record { name = name; calls = calls; es = entries; run = run; plain = plain } in
     safe_of tale n le (always tale n le)

@@ -22,6 +22,7 @@ use Rattle.dnssec_keyset.proofs.Flags.{is_idle}
 use Rattle.dnssec_run.proofs.Chain.Tables.{written, Stamp, Visible, DsVisible, RrsigVisible, read}
 use Rattle.dnssec_run.proofs.Chain.Tables.{checked}
 use Rattle.dnssec_run.proofs.Chain.Tale.{stamp_of}
+use Rattle.dnssec_run.proofs.Chain.Setters.{Harmless, harmless-alike, harmless-busy, others-idle}
 use Rattle.dnssec_keyset.proofs.Tests.{each_key, each_key-at, ◌⇒◌, mp, and-both}
 use Rattle.dnssec_run.proofs.Chain.Facts.{stays, timed, stays_facts, timer, other, stays_wait}
 use Rattle.dnssec_run.proofs.Chain.Phases.{wait_stamps}
@@ -208,21 +209,30 @@ beside-puts r old new p o m fresh gone =
       λ s. refl,
     )
 
--- a call that changes neither flags nor stamps of any key
+-- a call that changes neither flags nor stamps but of other signers' keys
 pub beside-alike : (r : RollType) (old new : KeySetParts) (f : List ℕ → KeyParts → KeyParts)
     → ((q : List ℕ) → get new.keys q ≡ option_map (f q) (get old.keys q))
-    → ((q : List ℕ) (k : KeyParts) → (f q k).keytype ≡ k.keytype)
-    → ((q : List ℕ) (k : KeyParts) (s : Stamp) → stamp_of s (f q k) ≡ stamp_of s k)
+    → ((q : List ℕ) (k : KeyParts) → get old.keys q ≡ Some k → Harmless k (f q k))
     → Beside r old new
-beside-alike r old new f keys kinds stamps = record {
-  fore = λ q j e l i. let b = back (f q) (get old.keys q) j (sym (keys q) ∙ e) in (
-    b.0,
-    b.1,
-    sym (kinds q b.0) ∙ ap (λ (k : KeyParts). k.keytype) b.2,
-    λ s. sym (stamps q b.0 s)
-        ∙ ap (stamp_of s) b.2,
-  );
-  aft = λ q k e l i. (f q k, keys q ∙ ap (option_map (f q)) e, kinds q k, stamps q k);
+beside-alike r old new f keys alike = record {
+  fore = λ q j e l i.
+      let b = back (f q) (get old.keys q) j (sym (keys q) ∙ e) in
+      let a = alike q b.0 b.1 in
+      let busy : is_idle (f q b.0).keytype ≡ false = ap (λ (k : KeyParts). is_idle k.keytype) b.2
+      ∙ i in (
+        b.0,
+        b.1,
+        sym (harmless-busy b.0 (f q b.0) a busy) ∙ ap (λ (k : KeyParts). k.keytype) b.2,
+        λ s. sym (a.stamps s) ∙ ap (stamp_of s) b.2,
+      );
+  aft = λ q k e l i.
+      let a = alike q k e in
+      let busy = harmless-alike is_idle true others-idle k (f q k) a ∙ i in (
+        f q k,
+        keys q ∙ ap (option_map (f q)) e,
+        harmless-busy k (f q k) a busy,
+        a.stamps,
+      );
 }
 
 -- a call of a roll that may go on beside r
@@ -376,11 +386,11 @@ reads-armed r second m set h = (h.key, h.parts, h.there, h.goes_on)
 module _ (t : ℕ) (old new : KeySetParts) (late : NoneLater t old) where
   pub later-moved : (f : List ℕ → KeyParts → KeyParts) (u : ℕ) → t ≤ u
       → ((q : List ℕ) → get new.keys q ≡ option_map (f q) (get old.keys q))
-      → ((q : List ℕ) (k : KeyParts) (s : Stamp) (x : ℕ) → stamp_of s (f q k) ≡ Some x
-      → (stamp_of s k ≡ Some x) ⊎ (x ≤ u)) → NoneLater u new
+      → ((q : List ℕ) (k : KeyParts) → get old.keys q ≡ Some k → (s : Stamp) (x : ℕ)
+      → stamp_of s (f q k) ≡ Some x → (stamp_of s k ≡ Some x) ⊎ (x ≤ u)) → NoneLater u new
   later-moved f u le keys stamps q j s x e h =
       let b = back (f q) (get old.keys q) j (sym (keys q) ∙ e) in
-      elim (stamps q b.0 s x (ap (stamp_of s) b.2 ∙ h)) [
+      elim (stamps q b.0 b.1 s x (ap (stamp_of s) b.2 ∙ h)) [
         | inl was ↦ let before : x ≤ t = late q b.0 s x b.1 was in omega arith
         | inr at_most ↦ at_most
       ]

@@ -18,7 +18,8 @@ use Rattle.dnssec_key.specs.RollTable.{Half, First, Second, after_start}
 use Rattle.dnssec_keyset.specs.Start.{is_listed}
 use Rattle.dnssec_keyset.specs.Step as keyset
 use Rattle.dnssec_keyset.proofs.Sides.{leaves-others}
-use Rattle.dnssec_run.specs.WholeRolls.{SetsNothing, GoesOn, IsAccepted, HasLeft, IsAtWork}
+use Rattle.dnssec_run.specs.Plain.{SetsNothing}
+use Rattle.dnssec_run.specs.WholeRolls.{GoesOn, IsAccepted, HasLeft, IsAtWork}
 use Rattle.dnssec_run.specs.WholeRolls.{RollsFinish, spreading}
 use Rattle.dnssec_run.specs.declared.call.Call.{Call}
 use Rattle.dnssec_run.specs.declared.record.Entry.{Entry}
@@ -229,7 +230,7 @@ module _ (name : List ℕ) (calls : List Call) (entries : List Entry) (run : IsR
         by true t =
             let ok = accepted_step (keyset.verdict (at n).set (call_of c)) (at n).set
             (at (suc n)).set (call_of c) e.reply t step in
-            let clean = nothing_set c (plain n c ci) in
+            let clean = nothing_set (at n).set c (plain n c ci) in
             let all = (stays-sound name calls entries run n within).rolls in
             let on = still roll (at n).set (at (suc n)).set all h.phase h.going (call_of c) ok.1
             (λ x. not_end (

@@ -1,7 +1,7 @@
 -- The keys that a roll lists, over one call while it is in progress: for the clause `finishes`.
-use Rattle.dnssec_keyset.proofs.Accepted.{decoupled_kind, add_free}
-use Rattle.std.proofs.Common.{◌≡◌, ℕ, inl, inr, Bool, true, false, not, refl, sym, ◌∙◌, ap, List}
-use Rattle.std.proofs.Common.{None, Some}
+use Rattle.dnssec_keyset.proofs.Accepted.{add_free}
+use Rattle.std.proofs.Common.{◌≡◌, ℕ, inl, inr, Bool, true, false, not, ◌&&◌, refl, sym, ◌∙◌, ap}
+use Rattle.std.proofs.Common.{List, None, Some}
 use Rattle.std.specs.Prelude.{is_some, if◌then◌else◌}
 use Rattle.std.specs.Option.{option_map}
 use Rattle.std.specs.Str.{bytes_eq}
@@ -14,12 +14,15 @@ use Rattle.dnssec_key.specs.declared.roll.RollState.{RollState}
 use Rattle.dnssec_key.specs.declared.roll.RollState.TheVariants.{Propagation1, CacheExpire1}
 use Rattle.dnssec_key.specs.declared.roll.RollState.TheVariants.{CacheExpire2}
 use Rattle.dnssec_key.specs.declared.error.Error.{Error}
-use Rattle.dnssec_key.specs.Key.{KeyParts}
+use Rattle.dnssec_key.specs.Key.{KeyParts, all_states}
 use Rattle.dnssec_keyset.specs.KeySet.{KeySetParts, phase_of, with_phase, same_roll}
 use Rattle.dnssec_key.specs.RollTable.{First, Second, after_report, after_wait}
 use Rattle.dnssec_keyset.specs.Step.{deletion_refusal}
-use Rattle.dnssec_key.specs.Setters.{Decoupled, Present, Signer, AtParent}
-use Rattle.dnssec_key.specs.Setters.{Stale, VisibleAt, DsVisibleAt, RrsigVisibleAt, set_by}
+use Rattle.dnssec_key.specs.Setters.{set_by}
+use Rattle.dnssec_key.specs.State.{is_old}
+use Rattle.dnssec_key.specs.declared.key.KeyType.{KeyType}
+use Rattle.dnssec_run.specs.Plain.{is_another_signers}
+use Rattle.dnssec_run.proofs.Chain.Setters.{harmless, harmless-alike, others-unlisted}
 use Rattle.dnssec_keyset.specs.Start.{is_listed}
 use Rattle.dnssec_keyset.specs.Laws.{LeavesOthers, RollsTogether}
 use Rattle.dnssec_keyset.specs.Step as keyset
@@ -39,34 +42,35 @@ abbrev pub IsNoAdd : keyset.Call → List ℕ → Type 0
 IsNoAdd (keyset.AddKey r k) q = bytes_eq r q ≡ false
 IsNoAdd _ q = Unit {0}
 
+others-new : (r : RollType) (k : KeyType) → is_another_signers k ≡ true → newly r k ≡ false
+others-new r k other = by (newly r k) refl
+  where
+    by : (b : Bool) → newly r k ≡ b → b ≡ false
+    by true t = absurd (true≢false (sym (new_facts r k t).listed ∙ others-unlisted r k other))
+    by false t = refl
+
 module _ (roll : RollType) (old new : KeySetParts) where
   old-moved : (f : List ℕ → KeyParts → KeyParts)
       → ((q : List ℕ) → get new.keys q ≡ option_map (f q) (get old.keys q))
-      → ((q : List ℕ) (k : KeyParts) → oldly roll k.keytype ≡ true
+      → ((q : List ℕ) (k : KeyParts) → get old.keys q ≡ Some k → oldly roll k.keytype ≡ true
       → oldly roll (f q k).keytype ≡ true)
       → (q : List ℕ) → ((k : KeyParts) → get old.keys q ≡ Some k → oldly roll k.keytype ≡ true)
       → (j : KeyParts) → get new.keys q ≡ Some j → oldly roll j.keytype ≡ true
   old-moved f keys on q h j e = let b = back (f q) (get old.keys q) j (sym (keys q) ∙ e) in
-      ap (λ (k : KeyParts). oldly roll k.keytype) (sym b.2) ∙ on q b.0 (h b.0 b.1)
+      ap (λ (k : KeyParts). oldly roll k.keytype) (sym b.2) ∙ on q b.0 b.1 (h b.0 b.1)
 
   -- an old key stays old
-  pub old-step : (c : keyset.Call) → is_calm c ≡ true → keyset.Changes old c new → (q : List ℕ)
+  pub old-step : (c : keyset.Call) → is_calm old c ≡ true → keyset.Changes old c new → (q : List ℕ)
       → IsNoAdd c q → ((k : KeyParts) → get old.keys q ≡ Some k → oldly roll k.keytype ≡ true)
       → (j : KeyParts) → get new.keys q ≡ Some j → oldly roll j.keytype ≡ true
   old-step (keyset.AddKey r k) plain m q apart h j e =
       h j (sym (ap (λ b. if b then Some k else get old.keys q) apart) ∙ sym (m.keys q) ∙ e)
-  old-step (keyset.Set r (Decoupled value)) plain m q apart h j e =
-      old-moved _ m.keys (λ q k o. ap (oldly roll) (decoupled_kind (bytes_eq r q) value k)
+  old-step (keyset.Set r s) plain m q apart h j e = old-moved _ m.keys
+      (λ q k at o. harmless-alike (oldly roll) false others_kept k _ (harmless old r s plain q k at)
       ∙ o) q h j e
-  old-step (keyset.Set r (Present value now)) plain m q apart h j e =
-      absurd (true≢false (sym plain))
-  old-step (keyset.Set r (Signer value)) plain m q apart h j e = absurd (true≢false (sym plain))
-  old-step (keyset.Set r (AtParent value)) plain m q apart h j e = absurd (true≢false (sym plain))
-  old-step (keyset.Set r Stale) plain m q apart h j e = absurd (true≢false (sym plain))
-  old-step (keyset.Set r (VisibleAt time)) plain m q apart h j e = absurd (true≢false (sym plain))
-  old-step (keyset.Set r (DsVisibleAt time)) plain m q apart h j e = absurd (true≢false (sym plain))
-  old-step (keyset.Set r (RrsigVisibleAt time)) plain m q apart h j e =
-      absurd (true≢false (sym plain))
+    where
+      others_kept : (k : KeyType) → is_another_signers k ≡ true → oldly roll k ≡ false
+      others_kept k other = ap (λ b. b && all_states is_old k) (others-unlisted roll k other)
   old-step (keyset.DeleteKey r) plain m q apart h j e = by (bytes_eq r q) refl
     where
       by : (b : Bool) → bytes_eq r q ≡ b → oldly roll j.keytype ≡ true
@@ -74,16 +78,16 @@ module _ (roll : RollType) (old new : KeySetParts) where
           ∙ sym (m.keys q) ∙ e))
       by false t = h j (sym (ap (λ b. if b then None else get old.keys q) t) ∙ sym (m.keys q) ∙ e)
   old-step (keyset.StartRoll p olds news now) plain m q apart h j e = old-moved _ m.keys
-      (λ q k o. ap (λ (k : KeyParts). oldly roll k.keytype)
+      (λ q k at o. ap (λ (k : KeyParts). oldly roll k.keytype)
       (start-parts p now (is_listed olds q) (is_listed news q) k)
       ∙ old_start roll p (is_listed olds q) (is_listed news q) k.keytype o) q h j e
   old-step (keyset.Report p half ttl now) plain m q apart h j e =
-      old-moved _ m.keys (λ q k o. o) q h j e
+      old-moved _ m.keys (λ q k at o. o) q h j e
   old-step (keyset.Wait p First now) plain m q apart h j e =
-      old-moved _ m.keys (λ q k o. (old_wait roll p k.keytype o).0) q h j e
+      old-moved _ m.keys (λ q k at o. (old_wait roll p k.keytype o).0) q h j e
   old-step (keyset.Wait p Second now) plain m q apart h j e =
-      old-moved _ m.keys (λ q k o. (old_wait roll p k.keytype o).1) q h j e
-  old-step (keyset.RollDone p) plain m q apart h j e = old-moved _ m.keys (λ q k o. o) q h j e
+      old-moved _ m.keys (λ q k at o. (old_wait roll p k.keytype o).1) q h j e
+  old-step (keyset.RollDone p) plain m q apart h j e = old-moved _ m.keys (λ q k at o. o) q h j e
 
   abbrev Stays : List ℕ → Type 0
   Stays q = (j : KeyParts) × (get new.keys q ≡ Some j) × (newly roll j.keytype ≡ true)
@@ -100,7 +104,7 @@ module _ (roll : RollType) (old new : KeySetParts) where
           ]
 
       -- a new key stays new
-      pub new-step : (c : keyset.Call) → is_calm c ≡ true → keyset.verdict old c ≡ keyset.Clear
+      pub new-step : (c : keyset.Call) → is_calm old c ≡ true → keyset.verdict old c ≡ keyset.Clear
           → keyset.Changes old c new → LeavesOthers old c new
           → (q : List ℕ) (k : KeyParts) → get old.keys q ≡ Some k → newly roll k.keytype ≡ true
           → Stays q
@@ -111,25 +115,11 @@ module _ (roll : RollType) (old new : KeySetParts) where
               (sym (ap is_some (ap (get old.keys) ((bytes_decides r q).0 t) ∙ e))
               ∙ add_free _ _ _ _ (clear_cause _ v)))
           by false t = (k, m.keys q ∙ ap (λ b. if b then Some key else get old.keys q) t ∙ e, w)
-      new-step (keyset.Set r (Decoupled value)) plain v m leaves q k e w = (
-        (if bytes_eq r q then set_by (Decoupled value) k else k),
-        m.keys q
-            ∙ ap (option_map (λ k. if bytes_eq r q then set_by (Decoupled value) k else k)) e,
-        ap (newly roll) (decoupled_kind (bytes_eq r q) value k) ∙ w,
+      new-step (keyset.Set r s) plain v m leaves q k e w = (
+        (if bytes_eq r q then set_by s k else k),
+        m.keys q ∙ ap (option_map (λ k. if bytes_eq r q then set_by s k else k)) e,
+        harmless-alike (newly roll) false (others-new roll) k _ (harmless old r s plain q k e) ∙ w,
       )
-      new-step (keyset.Set r (Present value now)) plain v m leaves q k e w =
-          absurd (true≢false (sym plain))
-      new-step (keyset.Set r (Signer value)) plain v m leaves q k e w =
-          absurd (true≢false (sym plain))
-      new-step (keyset.Set r (AtParent value)) plain v m leaves q k e w =
-          absurd (true≢false (sym plain))
-      new-step (keyset.Set r Stale) plain v m leaves q k e w = absurd (true≢false (sym plain))
-      new-step (keyset.Set r (VisibleAt time)) plain v m leaves q k e w =
-          absurd (true≢false (sym plain))
-      new-step (keyset.Set r (DsVisibleAt time)) plain v m leaves q k e w =
-          absurd (true≢false (sym plain))
-      new-step (keyset.Set r (RrsigVisibleAt time)) plain v m leaves q k e w =
-          absurd (true≢false (sym plain))
       new-step (keyset.DeleteKey r) plain v m leaves q k e w = by (bytes_eq r q) refl
         where
           stale : (b : Bool) → is_stale k.keytype ≡ b → deletion_refusal (Some k) ≡ None → b ≡ true

@@ -3,13 +3,11 @@ use Rattle.std.proofs.Common.{◌≡◌, ℕ, ◌≤◌, ◌⊎◌, inl, inr, Bo
 use Rattle.std.proofs.Common.{arith, Option, None, Some}
 use Rattle.std.specs.Prelude.{if◌then◌else◌}
 use Rattle.std.specs.Str.{bytes_eq}
-use Rattle.std.proofs.lemmas.Bool.{true≢false}
 use Rattle.std.proofs.lemmas.Option.{same_Some, none-some}
 use Rattle.dnssec_key.specs.declared.roll.RollType.{RollType}
 use Rattle.dnssec_key.specs.Key.{KeyParts}
 use Rattle.dnssec_keyset.specs.Start.{is_listed}
-use Rattle.dnssec_key.specs.Setters.{Decoupled, Present, Signer, AtParent, Stale, VisibleAt}
-use Rattle.dnssec_key.specs.Setters.{DsVisibleAt, RrsigVisibleAt, set_by}
+use Rattle.dnssec_key.specs.Setters.{set_by}
 use Rattle.dnssec_run.specs.declared.call.Call.TheVariants as call
 use Rattle.dnssec_run.proofs.Chain.Phases.{start_stamps, wait_stamps}
 use Rattle.dnssec_run.proofs.Chain.Trust.{moment}
@@ -20,6 +18,7 @@ use Rattle.dnssec_run.specs.declared.call.Call.{Call}
 use Rattle.dnssec_run.specs.Record.{call_of}
 use Rattle.dnssec_run.proofs.Chain.Tables.{Stamp, Visible, DsVisible, RrsigVisible}
 use Rattle.dnssec_run.proofs.Chain.Tale.{stamp_of, start-parts}
+use Rattle.dnssec_run.proofs.Chain.Setters.{harmless}
 use Rattle.dnssec_run.proofs.WholeRolls.Armed.{NoneLater, later-moved, later-puts, report-stamp}
 use Rattle.dnssec_run.proofs.WholeRolls.Order.{is_calm}
 
@@ -74,42 +73,32 @@ report-late r h now k Visible x e = report-stamp r true now k Visible x _ _ e
 report-late r h now k DsVisible x e = report-stamp r true now k DsVisible x _ _ e
 report-late r h now k RrsigVisible x e = report-stamp r true now k RrsigVisible x _ _ e
 
-pub decoupled_stamp : (b value : Bool) (k : KeyParts) (s : Stamp)
-    → stamp_of s (if b then set_by (Decoupled value) k else k) ≡ stamp_of s k
-decoupled_stamp true value k s = refl
-decoupled_stamp false value k s = refl
-
 module _ (t u : ℕ) (le : t ≤ u) (old new : KeySetParts) (late : NoneLater t old) where
-  pub late-step : (c : keyset.Call) → is_calm c ≡ true → Unstamped c
+  pub late-step : (c : keyset.Call) → is_calm old c ≡ true → Unstamped c
       → ((now : ℕ) → moment c ≡ Some now → now ≤ u) → keyset.Changes old c new → NoneLater u new
   late-step (keyset.AddKey r k) plain fresh at m =
       later-puts t old new late r (Some k) u le m (λ j e s. ap (stamp_of s) (sym (same_Some k j e))
       ∙ no_stamp_of k fresh s)
-  late-step (keyset.Set r (Decoupled value)) plain fresh at m =
-      later-moved t old new late (λ q k. if bytes_eq r q then set_by (Decoupled value) k else k) u
-      le m.keys (λ q k s x e. inl (sym (decoupled_stamp (bytes_eq r q) value k s) ∙ e))
-  late-step (keyset.Set r (Present value now)) plain fresh at m = absurd (true≢false (sym plain))
-  late-step (keyset.Set r (Signer value)) plain fresh at m = absurd (true≢false (sym plain))
-  late-step (keyset.Set r (AtParent value)) plain fresh at m = absurd (true≢false (sym plain))
-  late-step (keyset.Set r Stale) plain fresh at m = absurd (true≢false (sym plain))
-  late-step (keyset.Set r (VisibleAt time)) plain fresh at m = absurd (true≢false (sym plain))
-  late-step (keyset.Set r (DsVisibleAt time)) plain fresh at m = absurd (true≢false (sym plain))
-  late-step (keyset.Set r (RrsigVisibleAt time)) plain fresh at m = absurd (true≢false (sym plain))
+  late-step (keyset.Set r setting) plain fresh at m =
+      later-moved t old new late (λ q k. if bytes_eq r q then set_by setting k else k) u le m.keys
+      (λ q k there s x e. inl (sym ((harmless old r setting plain q k there).stamps s) ∙ e))
   late-step (keyset.DeleteKey r) plain fresh at m =
       later-puts t old new late r None u le m (λ j e. absurd (none-some j e))
   late-step (keyset.StartRoll r olds news now) plain fresh at m =
       later-moved t old new late _ u le m.keys
-      (λ q k s x e. inl (start-late r now (is_listed olds q) (is_listed news q) k s x e))
+      (λ q k there s x e. inl (start-late r now (is_listed olds q) (is_listed news q) k s x e))
   late-step (keyset.Report r h ttl now) plain fresh at m =
       later-moved t old new late _ u le m.keys
-      (λ q k s x e. elim (report-late r h now k s x e) [
+      (λ q k there s x e. elim (report-late r h now k s x e) [
         | inl was ↦ inl was
         | inr most ↦ inr
             (let top = at now refl in omega arith)
       ])
   late-step (keyset.Wait r First now) plain fresh at m =
-      later-moved t old new late _ u le m.keys (λ q k s x e. inl (wait_stamps r false now k s ∙ e))
+      later-moved t old new late _ u le m.keys
+      (λ q k there s x e. inl (wait_stamps r false now k s ∙ e))
   late-step (keyset.Wait r Second now) plain fresh at m =
-      later-moved t old new late _ u le m.keys (λ q k s x e. inl (wait_stamps r true now k s ∙ e))
+      later-moved t old new late _ u le m.keys
+      (λ q k there s x e. inl (wait_stamps r true now k s ∙ e))
   late-step (keyset.RollDone r) plain fresh at m =
-      later-moved t old new late (λ q k. k) u le m.keys (λ q k s x e. inl e)
+      later-moved t old new late (λ q k. k) u le m.keys (λ q k there s x e. inl e)

@@ -7,7 +7,6 @@ use Rattle.std.specs.Str.{bytes_eq}
 use Rattle.std.specs.FinMap.{get, get-empty}
 use Rattle.std.specs.Ordering.{nat_cmp}
 use Rattle.std.specs.Cmp.Lexicographic.{slice_cmp}
-use Rattle.std.proofs.lemmas.Bool.{true≢false}
 use Rattle.std.proofs.lemmas.Option.{same_Some, none-some}
 use Rattle.dnssec_key.specs.declared.roll.RollType.{RollType}
 use Rattle.dnssec_key.specs.declared.roll.RollState.{RollState}
@@ -18,18 +17,18 @@ use Rattle.dnssec_key.specs.Key.{KeyParts}
 use Rattle.dnssec_keyset.specs.KeySet.{KeySetParts, PutsKey, MovesOn, new_set, phase_of, same_roll}
 use Rattle.dnssec_key.specs.RollTable.{First, Second, stamp_if, after_start, after_report}
 use Rattle.dnssec_key.specs.RollTable.{after_wait}
-use Rattle.dnssec_key.specs.Setters.{Decoupled, Present, Signer, AtParent, Stale, VisibleAt}
-use Rattle.dnssec_key.specs.Setters.{DsVisibleAt, RrsigVisibleAt, set_by}
+use Rattle.dnssec_key.specs.Setters.{set_by}
 use Rattle.dnssec_keyset.specs.Laws.{LeavesOthers}
 use Rattle.dnssec_keyset.specs.Step as keyset
 use Rattle.dnssec_keyset.proofs.Sides.{leaves-others}
 use Rattle.dnssec_keyset.proofs.Laws.{moved}
 use Rattle.dnssec_run.specs.Published.{World as RealWorld}
-use Rattle.dnssec_run.specs.Plain.{is_plain_call}
+use Rattle.dnssec_run.specs.Plain.{sets_nothing}
 use Rattle.dnssec_keyset.proofs.Flags.{SideOf, affects, may_list, is_blank, started, waited1}
 use Rattle.dnssec_keyset.proofs.Flags.{waited2, has_role, may_start, is_idle}
 use Rattle.dnssec_run.proofs.Chain.Tables.{written, Visible, DsVisible, RrsigVisible}
 use Rattle.dnssec_run.proofs.Chain.Tale.{seen, is_listed, CanStart, start-parts, started_key}
+use Rattle.dnssec_run.proofs.Chain.Setters.{Harmless, harmless, harmless-alike, others-role}
 use Rattle.dnssec_run.proofs.Chain.Facts.{apart}
 use Rattle.dnssec_run.proofs.Chain.Rolls.{same-true, clash}
 use Rattle.dnssec_run.proofs.Chain.Steps.{may_by}
@@ -193,17 +192,21 @@ wait_second sd r now k own e =
     ∙ wait2_orderly sd r k.keytype (is_some k.timestamps.visible) (is_some k.timestamps.ds_visible)
     (is_some k.timestamps.rrsig_visible) own e
 
-decoupled_key : (sd : SideOf) (ph : Phase) (b value : Bool) (k : KeyParts)
-    → in_order sd ph (if b then set_by (Decoupled value) k else k) ≡ in_order sd ph k
-decoupled_key sd ph true value k = refl
-decoupled_key sd ph false value k = refl
+harmless_key : (sd : SideOf) (ph : Phase) (k j : KeyParts) → Harmless k j
+    → in_order sd ph j ≡ in_order sd ph k
+harmless_key sd ph k j h =
+    harmless-alike (λ t. orderly sd ph t (is_some j.timestamps.visible)
+    (is_some j.timestamps.ds_visible) (is_some j.timestamps.rrsig_visible)) true
+    (λ t other. unseen_orderly sd ph t _ _ _ (others-role sd t other)) k j h
+    ∙ (λ x. orderly sd ph k.keytype (is_some (h.stamps Visible x))
+    (is_some (h.stamps DsVisible x)) (is_some (h.stamps RrsigVisible x)))
 
 -- one step
 
--- a call that sets nothing, and adds only keys in no use
-abbrev pub is_calm : keyset.Call → Bool
-is_calm (keyset.AddKey r k) = is_idle k.keytype
-is_calm call = is_plain_call call
+-- with this set before it, a call that sets nothing, and adds only keys in no use
+abbrev pub is_calm : KeySetParts → keyset.Call → Bool
+is_calm set (keyset.AddKey r k) = is_idle k.keytype
+is_calm set call = sets_nothing set call
 
 -- a set as a world, for what a start or a wait tells
 abbrev pub world_of : KeySetParts → RealWorld
@@ -294,27 +297,17 @@ module _ (sd : SideOf) (old new : KeySetParts) where
   role_started r now o i k = ap (λ (k : KeyParts). has_role sd k.keytype) (start-parts r now o i k)
       ∙ role_start sd r o i k.keytype
 
-  changed_side : (c : keyset.Call) → is_calm c ≡ true → LeavesOthers old c new
+  changed_side : (c : keyset.Call) → is_calm old c ≡ true → LeavesOthers old c new
       → keyset.verdict old c ≡ keyset.Clear → keyset.Changes old c new → Order sd old → Order sd new
   changed_side (keyset.AddKey r k) plain leaves v m h =
       puts_side r (Some k) m h (λ j e. ap (in_order sd h.ph) (sym (same_Some k j e))
       ∙ blank_orderly sd h.ph k.keytype _ _ _ plain)
-  changed_side (keyset.Set r (Decoupled value)) plain leaves v m h =
+  changed_side (keyset.Set r s) plain leaves v m h =
       calm_side sd old new m.rolls h (λ q j e.
-      let b = back (λ k. if bytes_eq r q then set_by (Decoupled value) k else k) (get old.keys q) j
+      let b = back (λ k. if bytes_eq r q then set_by s k else k) (get old.keys q) j
       (sym (m.keys q) ∙ e) in
-      ap (in_order sd h.ph) (sym b.2) ∙ decoupled_key sd h.ph (bytes_eq r q) value b.0
-      ∙ h.keys q b.0 b.1)
-  changed_side (keyset.Set r (Present value now)) plain leaves v m h =
-      absurd (true≢false (sym plain))
-  changed_side (keyset.Set r (Signer value)) plain leaves v m h = absurd (true≢false (sym plain))
-  changed_side (keyset.Set r (AtParent value)) plain leaves v m h = absurd (true≢false (sym plain))
-  changed_side (keyset.Set r Stale) plain leaves v m h = absurd (true≢false (sym plain))
-  changed_side (keyset.Set r (VisibleAt time)) plain leaves v m h = absurd (true≢false (sym plain))
-  changed_side (keyset.Set r (DsVisibleAt time)) plain leaves v m h =
-      absurd (true≢false (sym plain))
-  changed_side (keyset.Set r (RrsigVisibleAt time)) plain leaves v m h =
-      absurd (true≢false (sym plain))
+      ap (in_order sd h.ph) (sym b.2)
+      ∙ harmless_key sd h.ph b.0 _ (harmless old r s plain q b.0 b.1) ∙ h.keys q b.0 b.1)
   changed_side (keyset.DeleteKey r) plain leaves v m h =
       puts_side r None m h (λ j e. absurd (none-some j e))
   changed_side (keyset.StartRoll r olds news now) plain leaves v m h =
@@ -363,7 +356,7 @@ module _ (sd : SideOf) (old new : KeySetParts) where
         (λ q k. refl) h
   ]
 
-  pub order-step : (c : keyset.Call) (reply : keyset.Reply) → is_calm c ≡ true
+  pub order-step : (c : keyset.Call) (reply : keyset.Reply) → is_calm old c ≡ true
       → keyset.Step old c reply new → Order sd old → Order sd new
   order-step c reply plain step h = elim (moved old new c reply step) [
     | inl same ↦ subst (Order sd) (sym same) h

@@ -19,12 +19,12 @@ use Rattle.dnssec_keyset.specs.Wait.{ttl_in, lacks_stamp, is_early, time_left, l
 use Rattle.dnssec_keyset.specs.Wait.{stamp_read}
 use Rattle.dnssec_keyset.specs.Step as keyset
 use Rattle.dnssec_keyset.proofs.Quantified.{some_key-found}
-use Rattle.dnssec_run.specs.WholeRolls.{SetsNothing, NeverMissesStamp, SettlesBetweenRolls}
+use Rattle.dnssec_run.specs.WholeRolls.{NeverMissesStamp, SettlesBetweenRolls}
 use Rattle.dnssec_run.specs.declared.call.Call.{Call}
 use Rattle.dnssec_run.specs.declared.call.Call.TheVariants as call
 use Rattle.dnssec_run.specs.declared.record.Entry.{Entry}
 use Rattle.dnssec_run.specs.Published.{World}
-use Rattle.dnssec_run.specs.Plain.{is_plain_call}
+use Rattle.dnssec_run.specs.Plain.{SetsNothing, sets_nothing}
 use Rattle.dnssec_run.specs.Record.{IsRun, call_of, reply_of, stepped_by, world_at}
 use Rattle.dnssec_keyset.proofs.Flags.{SideOf, Keys, Zone, affects}
 use Rattle.dnssec_run.proofs.Chain.Tables.{half, read, reads-stamp, checked, Stamp, Visible}
@@ -37,26 +37,27 @@ use Rattle.dnssec_run.proofs.WholeRolls.Phases.{at_phase, idle_is, phase_fits, p
 -- ---- at each position
 
 -- a call of a plain list sets nothing, and a key that it adds is in no use
-pub nothing_set : (c : Call) → is_plain_call (call_of c) ≡ true → is_calm (call_of c) ≡ true
-nothing_set (call.AddKeyKsk a b c d e f) p = refl
-nothing_set (call.AddKeyZsk a b c d e f) p = refl
-nothing_set (call.AddKeyCsk a b c d e f) p = refl
-nothing_set (call.AddPublicKey a b c d e) p = refl
-nothing_set (call.SetDecoupled a b) p = p
-nothing_set (call.SetPresent a b c) p = p
-nothing_set (call.SetSigner a b) p = p
-nothing_set (call.SetAtParent a b) p = p
-nothing_set (call.SetStale a) p = p
-nothing_set (call.SetVisible a b) p = p
-nothing_set (call.SetDsVisible a b) p = p
-nothing_set (call.SetRrsigVisible a b) p = p
-nothing_set (call.DeleteKey a) p = p
-nothing_set (call.StartRoll a b c d) p = p
-nothing_set (call.Propagation1Complete a b c) p = p
-nothing_set (call.CacheExpired1 a b) p = p
-nothing_set (call.Propagation2Complete a b c) p = p
-nothing_set (call.CacheExpired2 a b) p = p
-nothing_set (call.RollDone a) p = p
+pub nothing_set : (set : KeySetParts) (c : Call) → sets_nothing set (call_of c) ≡ true
+    → is_calm set (call_of c) ≡ true
+nothing_set set (call.AddKeyKsk a b c d e f) p = refl
+nothing_set set (call.AddKeyZsk a b c d e f) p = refl
+nothing_set set (call.AddKeyCsk a b c d e f) p = refl
+nothing_set set (call.AddPublicKey a b c d e) p = refl
+nothing_set set (call.SetDecoupled a b) p = p
+nothing_set set (call.SetPresent a b c) p = p
+nothing_set set (call.SetSigner a b) p = p
+nothing_set set (call.SetAtParent a b) p = p
+nothing_set set (call.SetStale a) p = p
+nothing_set set (call.SetVisible a b) p = p
+nothing_set set (call.SetDsVisible a b) p = p
+nothing_set set (call.SetRrsigVisible a b) p = p
+nothing_set set (call.DeleteKey a) p = p
+nothing_set set (call.StartRoll a b c d) p = p
+nothing_set set (call.Propagation1Complete a b c) p = p
+nothing_set set (call.CacheExpired1 a b) p = p
+nothing_set set (call.Propagation2Complete a b c) p = p
+nothing_set set (call.CacheExpired2 a b) p = p
+nothing_set set (call.RollDone a) p = p
 
 module _ (name : List ℕ) (calls : List Call) (entries : List Entry) (run : IsRun name calls entries)
     (plain : SetsNothing name calls entries) where
@@ -74,7 +75,8 @@ module _ (name : List ℕ) (calls : List Call) (entries : List Entry) (run : IsR
           let step_to : world_at name calls entries (suc n)
           ≡ stepped_by (suc n) (world_at name calls entries n) (Some c) (Some e) =
           λ i. stepped_by (suc n) (world_at name calls entries n) (ci i) (ei i) in
-          order-step sd _ _ (call_of c) (reply_of e.reply) (nothing_set c (plain n c ci))
+          order-step sd _ _ (call_of c) (reply_of e.reply)
+          (nothing_set (world_at name calls entries n).set c (plain n c ci))
           (subst (λ (w : World). keyset.Step (world_at name calls entries n).set (call_of c)
           (reply_of e.reply) w.set) step_to (run.each n c e ci ei).step) before
 

@@ -254,8 +254,9 @@ module _ (entries : List Entry) where
                   (ap (is_report ZskDoubleSignatureRoll false) mark) a.0,
               armed-beside ZskDoubleSignatureRoll true a.0.moment old new
                   (beside-alike ZskDoubleSignatureRoll old new
-                  (λ q. after_report ZskDoubleSignatureRoll Second now) keys (λ q k. refl)
-                  (λ q k s. sym (silent s now k))) a.1,
+                  (λ q. after_report ZskDoubleSignatureRoll Second now) keys
+                  (λ q k there. record { kind = inl refl; stamps = λ s. sym (silent s now k) }))
+                  a.1,
             )
         at_from CskRoll mark keys d = (
           last_here CskRoll true (suc n) ttl now mark moment,

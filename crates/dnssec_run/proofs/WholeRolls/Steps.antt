@@ -1,5 +1,5 @@
 -- What the record tells of a roll is kept by each call: for the clause `waits`.
-use Rattle.dnssec_keyset.proofs.Accepted.{add_free, decoupled_kind, finishes, spreads_first}
+use Rattle.dnssec_keyset.proofs.Accepted.{add_free, finishes, spreads_first}
 use Rattle.dnssec_keyset.proofs.Accepted.{spreads_second}
 use Rattle.std.proofs.Common.{◌≡◌, ℕ, suc, inl, inr, Bool, true, false, ◌&&◌, refl, sym, ◌∙◌, ap}
 use Rattle.std.proofs.Common.{subst, List, Option, None, Some}
@@ -18,8 +18,7 @@ use Rattle.dnssec_key.specs.declared.error.Error.{Error}
 use Rattle.dnssec_key.specs.Key.{KeyParts}
 use Rattle.dnssec_keyset.specs.Start.{is_listed}
 use Rattle.dnssec_keyset.specs.Step.{deletion_refusal}
-use Rattle.dnssec_key.specs.Setters.{Decoupled, Present, Signer, AtParent}
-use Rattle.dnssec_key.specs.Setters.{Stale, VisibleAt, DsVisibleAt, RrsigVisibleAt, set_by}
+use Rattle.dnssec_key.specs.Setters.{set_by}
 use Rattle.dnssec_run.proofs.Chain.Rolls.{same-true, same-sym, clash}
 use Rattle.dnssec_run.proofs.Chain.Allowed.{can_start, clear_cause, waits_in_phase}
 use Rattle.dnssec_run.proofs.Chain.Steps.{may_by, suits}
@@ -36,13 +35,13 @@ use Rattle.dnssec_keyset.proofs.Flags.{SideOf, Keys, Zone, may_list, is_blank, i
 use Rattle.dnssec_keyset.proofs.Flags.{Quiet, fits, may_start, is_idle, stale-idle}
 use Rattle.dnssec_run.proofs.Chain.Tables.{serves_new, serves_kept}
 use Rattle.dnssec_run.proofs.Chain.Tale.{start-parts, seen, CanStart}
+use Rattle.dnssec_run.proofs.Chain.Setters.{harmless}
 use Rattle.dnssec_run.proofs.Chain.Facts.{stays, timer, timer-affects, stays_start}
 use Rattle.dnssec_run.proofs.WholeRolls.Reports.{Data, data-beside, data-first, data-between}
 use Rattle.dnssec_run.proofs.WholeRolls.Reports.{data-second, is_report, same_half}
 use Rattle.dnssec_run.proofs.WholeRolls.Armed.{Beside, NoneLater, beside-alike, beside-puts}
 use Rattle.dnssec_run.proofs.WholeRolls.Armed.{beside-roll}
 use Rattle.dnssec_run.proofs.WholeRolls.Keys.{fits_of, Idle, Phase, stage_in}
-use Rattle.dnssec_run.proofs.WholeRolls.Moments.{decoupled_stamp}
 use Rattle.dnssec_run.proofs.WholeRolls.Order.{Order, in_order, is_calm, world_of}
 use Rattle.dnssec_run.proofs.WholeRolls.Phases.{at_phase, idle_is, phase_fits, phase_is, put_aside}
 use Rattle.dnssec_run.proofs.WholeRolls.Phases.{put_there, roll_now, split_by}
@@ -139,7 +138,7 @@ module _ (entries : List Entry) (n : ℕ) (old new : KeySetParts) (ks : Order Ke
         data-beside entries r y n old new (beside r y was t) (none r t) (h r y was)
   ]
 
-  pub data-step : (c : keyset.Call) → is_calm c ≡ true → keyset.verdict old c ≡ keyset.Clear
+  pub data-step : (c : keyset.Call) → is_calm old c ≡ true → keyset.verdict old c ≡ keyset.Clear
       → keyset.Changes old c new → LeavesOthers old c new
       → (position_at entries (suc n)).mark ≡ mark c
       → (position_at entries (suc n)).moment ≡ moment c
@@ -150,24 +149,10 @@ module _ (entries : List Entry) (n : ℕ) (old new : KeySetParts) (ks : Order Ke
       (λ j e. ap (λ (j : KeyParts). is_idle j.keytype) (sym (same_Some k j e)) ∙ plain)
       (λ j e. absurd (true≢false (sym (ap is_some e) ∙ add_free _ _ _ _ (clear_cause _ v)))))
       (λ q s. ap (is_report q s) mk) h
-  data-step (keyset.Set r (Decoupled value)) plain v m leaves mk mo late h = data-calm m.rolls
-      (λ q. beside-alike q old new (λ x k. if bytes_eq r x then set_by (Decoupled value) k else k)
-      m.keys (λ x k. decoupled_kind (bytes_eq r x) value k)
-      (λ x k s. decoupled_stamp (bytes_eq r x) value k s))
+  data-step (keyset.Set r setting) plain v m leaves mk mo late h = data-calm m.rolls
+      (λ q. beside-alike q old new (λ x k. if bytes_eq r x then set_by setting k else k) m.keys
+      (λ x k there. harmless old r setting plain x k there))
       (λ q s. ap (is_report q s) mk) h
-  data-step (keyset.Set r (Present value now)) plain v m leaves mk mo late h =
-      absurd (true≢false (sym plain))
-  data-step (keyset.Set r (Signer value)) plain v m leaves mk mo late h =
-      absurd (true≢false (sym plain))
-  data-step (keyset.Set r (AtParent value)) plain v m leaves mk mo late h =
-      absurd (true≢false (sym plain))
-  data-step (keyset.Set r Stale) plain v m leaves mk mo late h = absurd (true≢false (sym plain))
-  data-step (keyset.Set r (VisibleAt time)) plain v m leaves mk mo late h =
-      absurd (true≢false (sym plain))
-  data-step (keyset.Set r (DsVisibleAt time)) plain v m leaves mk mo late h =
-      absurd (true≢false (sym plain))
-  data-step (keyset.Set r (RrsigVisibleAt time)) plain v m leaves mk mo late h =
-      absurd (true≢false (sym plain))
   data-step (keyset.DeleteKey r) plain v m leaves mk mo late h = data-calm m.rolls
       (λ q. beside-puts q old new r None m (λ j e. absurd (none-some j e))
       (λ k e. stale_gone k (ap deletion_refusal (sym e) ∙ clear_cause _ v)))

@@ -13,7 +13,8 @@ use Rattle.dnssec_key.specs.declared.roll.RollType.TheVariants.{ZskRoll, ZskDoub
 use Rattle.dnssec_key.specs.declared.roll.RollType.TheVariants.{CskRoll, AlgorithmRoll}
 use Rattle.dnssec_key.specs.declared.roll.RollState.{RollState}
 use Rattle.dnssec_key.specs.declared.roll.RollState.TheVariants.{CacheExpire1, CacheExpire2}
-use Rattle.dnssec_run.specs.WholeRolls.{IsMade, SetsNothing, NeverFalls, LastReport, counts_from}
+use Rattle.dnssec_run.specs.Plain.{SetsNothing}
+use Rattle.dnssec_run.specs.WholeRolls.{IsMade, NeverFalls, LastReport, counts_from}
 use Rattle.dnssec_run.specs.WholeRolls.{WaitsUntil, WaitsExactly}
 use Rattle.dnssec_run.proofs.Chain.Trust.{moment, plainly}
 use Rattle.dnssec_keyset.specs.KeySet.{KeySetParts, phase_of}
@@ -124,7 +125,7 @@ module _ (name : List ℕ) (calls : List Call) (entries : List Entry) (run : IsR
       by true t =
           let ok = accepted_step (keyset.verdict (set_at n) (call_of c)) (set_at n) (set_at (suc n))
           (call_of c) e.reply t step in
-          let clean = nothing_set c (plain n c ci) in
+          let clean = nothing_set (set_at n) c (plain n c ci) in
           let mo : (position_at entries (suc n)).moment ≡ moment (call_of c) = a.when
           ∙ (plainly c).moment_is in
           let late : NoneLater (time_at entries (suc n)) (set_at (suc n)) =

@@ -1,0 +1,116 @@
+-- What a setter of a plain list leaves as it was: all but another signer's key.
+use Rattle.std.proofs.Common.{◌≡◌, ℕ, ◌⊎◌, inl, inr, Bool, true, false, refl, sym, ◌∙◌, ap, List}
+use Rattle.std.proofs.Common.{Some}
+use Rattle.std.specs.Prelude.{if◌then◌else◌}
+use Rattle.std.specs.Str.{bytes_eq}
+use Rattle.std.specs.Cmp.Lexicographic.{bytes_decides}
+use Rattle.std.specs.FinMap.{get}
+use Rattle.std.proofs.lemmas.Bool.{true≢false}
+use Rattle.dnssec_key.specs.declared.roll.RollType.{RollType}
+use Rattle.dnssec_key.specs.declared.roll.RollType.TheVariants.{KskRoll, KskDoubleDsRoll}
+use Rattle.dnssec_key.specs.declared.roll.RollType.TheVariants.{ZskRoll, ZskDoubleSignatureRoll}
+use Rattle.dnssec_key.specs.declared.roll.RollType.TheVariants.{CskRoll, AlgorithmRoll}
+use Rattle.dnssec_key.specs.declared.key.KeyType.{KeyType}
+use Rattle.dnssec_key.specs.declared.key.KeyType.TheVariants.{Ksk, Zsk, Csk, Include}
+use Rattle.dnssec_key.specs.Key.{KeyParts}
+use Rattle.dnssec_key.specs.Setters.{Setting, Decoupled, Present, Signer, AtParent, Stale}
+use Rattle.dnssec_key.specs.Setters.{VisibleAt, DsVisibleAt, RrsigVisibleAt, set_by}
+use Rattle.dnssec_key.specs.Setters.{at_states, with_present}
+use Rattle.dnssec_keyset.specs.KeySet.{KeySetParts}
+use Rattle.dnssec_keyset.proofs.Flags.{SideOf, Keys, Zone, has_role, is_idle, may_list}
+use Rattle.dnssec_run.specs.Plain.{is_another_signers, is_plain_setting}
+use Rattle.dnssec_run.proofs.Chain.Tables.{Stamp, Visible, DsVisible, RrsigVisible}
+use Rattle.dnssec_run.proofs.Chain.Tale.{stamp_of}
+
+-- ---- another signer's key
+
+pub others-role : (sd : SideOf) (k : KeyType) → is_another_signers k ≡ true
+    → has_role sd k ≡ false
+others-role sd (Ksk s) e = absurd (true≢false (sym e))
+others-role sd (Zsk s) e = absurd (true≢false (sym e))
+others-role sd (Csk s t) e = absurd (true≢false (sym e))
+others-role Keys (Include s) e = refl
+others-role Zone (Include s) e = refl
+
+pub others-idle : (k : KeyType) → is_another_signers k ≡ true → is_idle k ≡ true
+others-idle (Ksk s) e = absurd (true≢false (sym e))
+others-idle (Zsk s) e = absurd (true≢false (sym e))
+others-idle (Csk s t) e = absurd (true≢false (sym e))
+others-idle (Include s) e = refl
+
+pub others-unlisted : (r : RollType) (k : KeyType) → is_another_signers k ≡ true
+    → may_list r k ≡ false
+others-unlisted r (Ksk s) e = absurd (true≢false (sym e))
+others-unlisted r (Zsk s) e = absurd (true≢false (sym e))
+others-unlisted r (Csk s t) e = absurd (true≢false (sym e))
+others-unlisted KskRoll (Include s) e = refl
+others-unlisted KskDoubleDsRoll (Include s) e = refl
+others-unlisted ZskRoll (Include s) e = refl
+others-unlisted ZskDoubleSignatureRoll (Include s) e = refl
+others-unlisted CskRoll (Include s) e = refl
+others-unlisted AlgorithmRoll (Include s) e = refl
+
+-- ---- a key before and after a setter
+
+-- j is k with its flags and stamps, or both are another signer's
+pub record Harmless (k j : KeyParts) : Type 0 where
+  pub kind : (j.keytype ≡ k.keytype)
+      ⊎ ((is_another_signers k.keytype ≡ true) × (is_another_signers j.keytype ≡ true))
+  pub stamps : (s : Stamp) → stamp_of s j ≡ stamp_of s k
+
+-- what is the same of all keys of other signers is the same of both
+pub harmless-alike : (p : KeyType → Bool) (c : Bool)
+    → ((k : KeyType) → is_another_signers k ≡ true → p k ≡ c) → (k j : KeyParts) → Harmless k j
+    → p j.keytype ≡ p k.keytype
+harmless-alike p c others k j h = elim (h.kind) [
+  | inl e ↦ ap p e
+  | inr e ↦ others j.keytype e.1 ∙ sym (others k.keytype e.0)
+]
+
+-- a key in use is as it was
+pub harmless-busy : (k j : KeyParts) → Harmless k j → is_idle j.keytype ≡ false
+    → j.keytype ≡ k.keytype
+harmless-busy k j h busy = elim (h.kind) [
+  | inl e ↦ e
+  | inr e ↦ absurd (true≢false (sym (others-idle j.keytype e.1) ∙ busy))
+]
+
+pub harmless-same : (k : KeyParts) → Harmless k k
+harmless-same k = record { kind = inl refl; stamps = λ s. refl }
+
+still_another : (value : Bool) (k : KeyType) → is_another_signers k ≡ true
+    → is_another_signers (at_states (with_present value) k) ≡ true
+still_another value (Ksk s) e = e
+still_another value (Zsk s) e = e
+still_another value (Csk s t) e = e
+still_another value (Include s) e = e
+
+present_stamp : (value : Bool) (now : ℕ) (k : KeyParts) (s : Stamp)
+    → stamp_of s (set_by (Present value now) k) ≡ stamp_of s k
+present_stamp value now k Visible = refl
+present_stamp value now k DsVisible = refl
+present_stamp value now k RrsigVisible = refl
+
+set_alike : (s : Setting) (k : KeyParts) → is_plain_setting s (Some k) ≡ true
+    → Harmless k (set_by s k)
+set_alike (Decoupled value) k e = record { kind = inl refl; stamps = λ s. refl }
+set_alike (Present value now) k e = record {
+  kind = inr (e, still_another value k.keytype e);
+  stamps = present_stamp value now k;
+}
+set_alike (Signer value) k e = absurd (true≢false (sym e))
+set_alike (AtParent value) k e = absurd (true≢false (sym e))
+set_alike Stale k e = absurd (true≢false (sym e))
+set_alike (VisibleAt time) k e = absurd (true≢false (sym e))
+set_alike (DsVisibleAt time) k e = absurd (true≢false (sym e))
+set_alike (RrsigVisibleAt time) k e = absurd (true≢false (sym e))
+
+pub harmless : (set : KeySetParts) (r : List ℕ) (s : Setting)
+    → is_plain_setting s (get set.keys r) ≡ true → (q : List ℕ) (k : KeyParts)
+    → get set.keys q ≡ Some k → Harmless k (if bytes_eq r q then set_by s k else k)
+harmless set r s plain q k at = by (bytes_eq r q) refl
+  where
+    by : (b : Bool) → bytes_eq r q ≡ b → Harmless k (if b then set_by s k else k)
+    by true t = set_alike s k
+        (sym (ap (is_plain_setting s) (ap (get set.keys) ((bytes_decides r q).0 t) ∙ at)) ∙ plain)
+    by false t = harmless-same k

@@ -1,0 +1,209 @@
+-- A start of an algorithm roll before each roll of KSKs or CSKs makes a list plain: until its first
+-- wait is over, the algorithm roll is in the way of every such roll.
+--
+-- | Law             | Lemma            |
+-- |-----------------|------------------|
+-- | `StartsSuffice` | `starts-suffice` |
+use Rattle.std.proofs.Common.{◌≡◌, ℕ, zero, suc, ◌<◌, ◌≤◌, ◌⊎◌, inl, inr, Bool, true, false, refl}
+use Rattle.std.proofs.Common.{sym, ◌∙◌, ap, subst, arith, List, length, Option, None, Some}
+use Rattle.std.specs.Prelude.{slice_get}
+use Rattle.std.proofs.lemmas.Bool.{true≢false, cases_lt}
+use Rattle.std.proofs.lemmas.Option.{same_Some, none-some, slice_get_cases}
+use Rattle.dnssec_key.specs.declared.roll.RollType.{RollType}
+use Rattle.dnssec_key.specs.declared.roll.RollType.TheVariants.{AlgorithmRoll}
+use Rattle.dnssec_key.specs.declared.roll.RollState.{RollState}
+use Rattle.dnssec_key.specs.declared.roll.RollState.TheVariants.{Propagation1, CacheExpire1}
+use Rattle.dnssec_key.specs.RollTable.{First, Second}
+use Rattle.dnssec_keyset.specs.KeySet.{KeySetParts, phase_of, same_roll, with_phase}
+use Rattle.dnssec_keyset.specs.Step as keyset
+use Rattle.dnssec_keyset.proofs.Accepted.{finishes, spreads_second}
+use Rattle.dnssec_run.specs.declared.call.Call.{Call}
+use Rattle.dnssec_run.specs.declared.record.Entry.{Entry}
+use Rattle.dnssec_run.specs.Plain.{DoesAt, IsPlain, IsPlainByStarts, start_of, first_wait_of}
+use Rattle.dnssec_run.specs.Record.{IsRun, call_of, is_accepted, reply_of, world_at}
+use Rattle.dnssec_run.proofs.Chain.Allowed.{can_start, clear_cause, waits_in_phase}
+use Rattle.dnssec_run.proofs.Chain.BothSides.{alone_first}
+use Rattle.dnssec_run.proofs.Chain.Rolls.{same-same, same-true}
+use Rattle.dnssec_run.proofs.WholeRolls.Order.{world_of}
+use Rattle.dnssec_run.proofs.WholeRolls.Phases.{put_aside, put_there, split_by}
+use Rattle.dnssec_run.proofs.WholeRolls.Replies.{accepted_step, refused_step}
+
+-- ---- one call
+
+-- before its first wait is over
+abbrev is_early : Option RollState → Bool
+is_early (Some Propagation1) = true
+is_early (Some (CacheExpire1 ttl)) = true
+is_early _ = false
+
+module _ (old new : KeySetParts) where
+  abbrev IsEarly : KeySetParts → Type 0
+  IsEarly set = is_early (phase_of set.rolls AlgorithmRoll) ≡ true
+
+  -- the phase of an algorithm roll after another roll's
+  aside : (r : RollType) (o : Option RollState) → new.rolls ≡ with_phase old.rolls r o
+      → same_roll r AlgorithmRoll ≡ false → IsEarly old → IsEarly new
+  aside r o rolls d e = ap is_early (put_aside old.rolls new.rolls r o AlgorithmRoll rolls d) ∙ e
+
+  there : (r : RollType) (o : Option RollState) → new.rolls ≡ with_phase old.rolls r o
+      → same_roll r AlgorithmRoll ≡ true → is_early o ≡ true → IsEarly new
+  there r o rolls s e = ap is_early (put_there old.rolls new.rolls r o AlgorithmRoll rolls s) ∙ e
+
+  -- a roll that is past its first wait isn't one before it
+  not_early : (r : RollType) (o : Option RollState) → phase_of old.rolls r ≡ o
+      → is_early o ≡ false → same_roll r AlgorithmRoll ≡ true → IsEarly old → ⊥
+  not_early r o phase past s e = true≢false (sym e
+      ∙ ap (λ r. is_early (phase_of old.rolls r)) (sym (same-true r AlgorithmRoll s))
+      ∙ ap is_early phase ∙ past)
+
+  -- only the end of its first wait takes an algorithm roll further
+  moves-on : (c : keyset.Call) → keyset.verdict old c ≡ keyset.Clear → keyset.Changes old c new
+      → IsEarly old → (first_wait_of c ≡ Some AlgorithmRoll) ⊎ IsEarly new
+  moves-on (keyset.AddKey q k) v m e =
+      inr (ap (λ x. is_early (phase_of x AlgorithmRoll)) m.rolls ∙ e)
+  moves-on (keyset.Set q s) v m e =
+      inr (ap (λ x. is_early (phase_of x AlgorithmRoll)) m.rolls ∙ e)
+  moves-on (keyset.DeleteKey q) v m e =
+      inr (ap (λ x. is_early (phase_of x AlgorithmRoll)) m.rolls ∙ e)
+  moves-on (keyset.StartRoll r olds news now) v m e = elim (split_by (same_roll r AlgorithmRoll)) [
+    | inl s ↦ inr (there r (Some Propagation1) m.rolls s refl)
+    | inr d ↦ inr (aside r (Some Propagation1) m.rolls d e)
+  ]
+  moves-on (keyset.Report r First ttl now) v m e = elim (split_by (same_roll r AlgorithmRoll)) [
+    | inl s ↦ inr (there r _ m.rolls s refl)
+    | inr d ↦ inr (aside r _ m.rolls d e)
+  ]
+  moves-on (keyset.Report r Second ttl now) v m e = elim (split_by (same_roll r AlgorithmRoll)) [
+    | inl s ↦ absurd (not_early r _ (spreads_second _ (clear_cause _ v)) refl s e)
+    | inr d ↦ inr (aside r _ m.rolls d e)
+  ]
+  moves-on (keyset.Wait r First now) v m e = elim (split_by (same_roll r AlgorithmRoll)) [
+    | inl s ↦ inl (ap Some (same-true r AlgorithmRoll s))
+    | inr d ↦ inr (aside r _ m.rolls d e)
+  ]
+  moves-on (keyset.Wait r Second now) v m e = elim (split_by (same_roll r AlgorithmRoll)) [
+    | inl s ↦ absurd
+        (not_early r _ (waits_in_phase r true now (world_of old) v).1 refl s e)
+    | inr d ↦ inr (aside r _ m.rolls d e)
+  ]
+  moves-on (keyset.RollDone r) v m e = elim (split_by (same_roll r AlgorithmRoll)) [
+    | inl s ↦ absurd (not_early r _ (finishes _ (clear_cause _ v)) refl s e)
+    | inr d ↦ inr (aside r _ m.rolls d e)
+  ]
+
+  -- a started one is before it
+  started : (c : keyset.Call) → keyset.Changes old c new → start_of c ≡ Some AlgorithmRoll
+      → IsEarly new
+  started (keyset.AddKey q k) m s = absurd (none-some AlgorithmRoll s)
+  started (keyset.Set q x) m s = absurd (none-some AlgorithmRoll s)
+  started (keyset.DeleteKey q) m s = absurd (none-some AlgorithmRoll s)
+  started (keyset.StartRoll r olds news now) m s = there r (Some Propagation1) m.rolls
+      (ap (λ r. same_roll r AlgorithmRoll) (same_Some r AlgorithmRoll s) ∙ same-same AlgorithmRoll)
+      refl
+  started (keyset.Report r h ttl now) m s = absurd (none-some AlgorithmRoll s)
+  started (keyset.Wait r h now) m s = absurd (none-some AlgorithmRoll s)
+  started (keyset.RollDone r) m s = absurd (none-some AlgorithmRoll s)
+
+-- where a roll is accepted to start, no algorithm roll is in progress
+alone : (set : KeySetParts) (c : keyset.Call) → keyset.verdict set c ≡ keyset.Clear
+    → (roll : RollType) → start_of c ≡ Some roll → phase_of set.rolls AlgorithmRoll ≡ None
+alone set (keyset.AddKey q k) v roll s = absurd (none-some roll s)
+alone set (keyset.Set q x) v roll s = absurd (none-some roll s)
+alone set (keyset.DeleteKey q) v roll s = absurd (none-some roll s)
+alone set (keyset.StartRoll r olds news now) v roll s =
+    (can_start (world_of set) r olds news (clear_cause _ v)).alone AlgorithmRoll (alone_first r)
+alone set (keyset.Report r h ttl now) v roll s = absurd (none-some roll s)
+alone set (keyset.Wait r h now) v roll s = absurd (none-some roll s)
+alone set (keyset.RollDone r) v roll s = absurd (none-some roll s)
+
+-- ---- the run
+
+module _ (name : List ℕ) (calls : List Call) (entries : List Entry) (run : IsRun name calls entries)
+  where
+    abbrev set_at : ℕ → KeySetParts
+    set_at n = (world_at name calls entries n).set
+
+    -- an algorithm roll is past its first wait, or before it
+    abbrev Began : ℕ → Type 0
+    Began n = ((m : ℕ) × (m < n) × DoesAt first_wait_of calls entries m AlgorithmRoll)
+        ⊎ (is_early (phase_of (set_at n).rolls AlgorithmRoll) ≡ true)
+
+    -- what an accepted call found and did
+    step_of : (does : keyset.Call → Option RollType) (n : ℕ) (roll : RollType)
+        → (d : DoesAt does calls entries n roll)
+        → (keyset.verdict (set_at n) (call_of d.call) ≡ keyset.Clear)
+        × keyset.Changes (set_at n) (call_of d.call) (set_at (suc n))
+    step_of does n roll d =
+        let x = accepted_step (keyset.verdict (set_at n) (call_of d.call)) (set_at n)
+        (set_at (suc n)) (call_of d.call) d.entry.reply d.accepted
+        (run.each n d.call d.entry d.call_is d.entry_is).step
+        in
+        (x.0, x.1)
+
+    began-next : (n : ℕ) (c : Call) (e : Entry) → slice_get calls n ≡ Some c
+        → slice_get entries n ≡ Some e → Began n → Began (suc n)
+    began-next n c e ci ei (inl w) = inl (w.0, omega (arith, w.1), w.2)
+    began-next n c e ci ei (inr h) = by (is_accepted e.reply) refl
+      where
+        step : keyset.Step (set_at n) (call_of c) (reply_of e.reply) (set_at (suc n))
+        step = (run.each n c e ci ei).step
+
+        by : (b : Bool) → is_accepted e.reply ≡ b → Began (suc n)
+        by false t = inr (ap (λ (x : KeySetParts). is_early (phase_of x.rolls AlgorithmRoll))
+            (refused_step (keyset.verdict (set_at n) (call_of c)) (set_at n) (set_at (suc n))
+            (call_of c) e.reply t step) ∙ h)
+        by true t =
+            let x = accepted_step (keyset.verdict (set_at n) (call_of c)) (set_at n)
+            (set_at (suc n)) (call_of c) e.reply t step in
+            elim (moves-on (set_at n) (set_at (suc n)) (call_of c) x.0 x.1 h) [
+              | inl passes ↦ inl (
+                n,
+                omega arith,
+                record {
+                  call = c;
+                  entry = e;
+                  call_is = ci;
+                  entry_is = ei;
+                  accepted = t;
+                  roll_is = passes;
+                },
+              )
+              | inr early ↦ inr early
+            ]
+
+    began : (m : ℕ) → DoesAt start_of calls entries m AlgorithmRoll → (n : ℕ) → m < n
+        → n ≤ length entries → Began n
+    began m s zero lt within = absurd (omega arith)
+    began m s (suc n) lt within = elim (cases_lt m n) [
+      | inl before ↦ elim ((slice_get_cases entries n).1) [
+        | inl e ↦ elim ((slice_get_cases calls n).1) [
+          | inl c ↦ began-next n c.0 e.0 c.2 e.2 (began m s n before (omega arith))
+          | inr c ↦ absurd (omega (arith, c.0, run.count))
+        ]
+        | inr e ↦ absurd (omega (arith, e.0))
+      ]
+      | inr ge ↦ let same : m ≡ n = omega arith in
+          subst (λ n. Began (suc n)) same (inr
+          (started (set_at m) (set_at (suc m)) (call_of s.call)
+          (step_of start_of m AlgorithmRoll s).1 s.roll_is))
+    ]
+
+    -- so it is past its first wait where another roll starts
+    passed : (n : ℕ) (roll : RollType) → DoesAt start_of calls entries n roll → Began n
+        → (m : ℕ) × (m < n) × DoesAt first_wait_of calls entries m AlgorithmRoll
+    passed n roll s (inl w) = w
+    passed n roll s (inr early) = absurd (true≢false (sym early ∙ ap is_early
+        (alone (set_at n) (call_of s.call) (step_of start_of n roll s).0 roll s.roll_is)))
+
+    within : (n : ℕ) (roll : RollType) → DoesAt start_of calls entries n roll → n ≤ length entries
+    within n roll s = elim ((slice_get_cases entries n).1) [
+      | inl x ↦ let lt = x.1 in omega arith
+      | inr x ↦ absurd (none-some _ (sym x.1 ∙ s.entry_is))
+    ]
+
+    pub starts-suffice : IsPlainByStarts name calls entries → IsPlain name calls entries
+    starts-suffice plain = record {
+      setters = plain.setters;
+      first = λ n roll wants s. let a = plain.first n roll wants s in
+          passed n roll s (began a.0 a.2 n a.1 (within n roll s));
+    }
