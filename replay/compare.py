@@ -9,10 +9,10 @@ answers that a wait could give by the order of its hashed map it then gives one,
 program if that is among them, else the longest wait, and it lists them all.
 
 The two are to give the same answers, and the same published sets at the end, up to the first call
-in which they are meant to differ. From there on the original is left out. The port is to answer
-by the tables throughout, and to end with the verdict of judge.py on the record, which the original
-has not. Any other difference is a finding, printed with the smallest script that
-shows it. The status is 1 if there is one.
+in which they are meant to differ. From there on the original is left out. It gets the number of an
+algorithm where the script has its name. The port is to answer by the tables throughout, and to end
+with the verdict of judge.py on the record, which the original has not. Any other difference is a
+finding, printed with the smallest script that shows it. The status is 1 if there is one.
 """
 
 import argparse
@@ -25,7 +25,7 @@ from pathlib import Path
 
 from judge import chain_line
 from make_scripts import by_hand, generated, read_scripts
-from tables import ROLLS, KeySet, answers
+from tables import ROLLS, KeySet, answers, number_of
 
 # The answer of an original that ends without one.
 ENDED = "panic"
@@ -102,11 +102,19 @@ def run(command, script):
     return done.stdout.splitlines(), done.returncode
 
 
+def by_number(line):
+    """The line as the original gets it: with an algorithm's number in the place of its name."""
+    fields = line.split(" ")
+    if fields[0].startswith("add-"):
+        fields[-4] = str(number_of(fields[-4]))
+    return " ".join(fields)
+
+
 def compare(original, port, script):
     """The intended differences that a script shows, by their words, how many answers of the two
     were compared, and the finding or None."""
     seen, there, same = set(), [], 0
-    lines, status = run(original, script)
+    lines, status = run(original, [by_number(line) for line in script])
     if status not in (0, 5):
         return seen, same, f"the original ends with status {status}"
     for line in lines:

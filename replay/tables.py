@@ -159,6 +159,16 @@ PHASES = {"report1": "wait1", "wait1": "report2", "report2": "wait2", "wait2": "
 # The calls on rolls that are given a moment, which stands last.
 MOMENTS = ("start", "report1", "wait1", "report2", "wait2")
 
+# The algorithms that have a name, by their numbers in IANA's registry.
+ALGORITHMS = {
+    "RSASHA256": 8,
+    "RSASHA512": 10,
+    "ECDSAP256SHA256": 13,
+    "ECDSAP384SHA384": 14,
+    "ED25519": 15,
+    "ED448": 16,
+}
+
 # The published sets: which roles they show, and by which flag.
 SETS = {
     "ds": ("KSK", "at_parent"),
@@ -182,6 +192,11 @@ class Key:
     def role(self, word):
         """The state that the word picks, by its number; None where it picks none."""
         return ROLES[self.kind].get(word)
+
+
+def number_of(algorithm):
+    """The number of an algorithm, which a script calls by its number or its name."""
+    return ALGORITHMS[algorithm] if algorithm in ALGORITHMS else int(algorithm)
 
 
 def is_stale(state):
@@ -322,7 +337,7 @@ class KeySet:
         if word.startswith("add-"):
             algorithm, tag, _, available = fields[-4:]
             kind = "include" if word == "add-public" else word[4:]
-            self.keys[fields[0]] = Key(kind, int(algorithm), int(tag), available == "yes")
+            self.keys[fields[0]] = Key(kind, number_of(algorithm), int(tag), available == "yes")
         elif word == "delete":
             del self.keys[fields[0]]
         elif word.startswith("set-"):

@@ -1,3 +1,4 @@
+pub mod AlgorithmNames
 pub mod Complete
 pub mod OneFault
 pub mod NoFault

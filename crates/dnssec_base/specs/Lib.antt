@@ -1,3 +1,4 @@
+pub mod AlgorithmNames
 pub mod Draft
 pub mod DraftName
 pub mod NameLaws

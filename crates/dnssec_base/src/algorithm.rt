@@ -1,5 +1,6 @@
-//! Algorithm numbers of DNSSEC.
+//! Algorithm numbers of DNSSEC, and the names of some.
 ghost use Rattle.std.specs.Prelude.{◌≡◌, ◌↔◌, IsTrue};
+ghost use Rattle.dnssec_base.specs.AlgorithmNames.{algorithm_named};
 
 use std::marker::Model;
 
@@ -45,6 +46,23 @@ impl SecurityAlgorithm {
         ensures { result ≡ number }
     {
         SecurityAlgorithm { number }
+    }
+
+    /// The algorithm with this name, if it is that of a constant above: `ED25519` names number 15.
+    /// Upper case alone is read, and `15` is no name.
+    #[tactic(auto, unfolding(crate::specs::AlgorithmNames::algorithm_named))]
+    pub fn from_name(name: &str) -> Option<SecurityAlgorithm>
+        ensures { result ≡ algorithm_named name.now }
+    {
+        match name {
+            "RSASHA256" => Some(SecurityAlgorithm::RSASHA256),
+            "RSASHA512" => Some(SecurityAlgorithm::RSASHA512),
+            "ECDSAP256SHA256" => Some(SecurityAlgorithm::ECDSAP256SHA256),
+            "ECDSAP384SHA384" => Some(SecurityAlgorithm::ECDSAP384SHA384),
+            "ED25519" => Some(SecurityAlgorithm::ED25519),
+            "ED448" => Some(SecurityAlgorithm::ED448),
+            _ => None,
+        }
     }
 
     /// The number of the algorithm.

@@ -1,8 +1,10 @@
-//! The lower layers of a key set: zone names, the numbers of DNSSEC algorithms, and timestamps.
+//! The lower layers of a key set: zone names, the numbers of DNSSEC algorithms with the names of
+//! six, and timestamps.
 //!
 //! A contract sees each of them as a plain value: a name as its wire bytes, an algorithm and a
 //! timestamp as numbers. What a wire name is, which text spells it and where a fault stands in a
-//! text is in `specs/`: read `WireName`, `NameText` and then `NameLaws`.
+//! text is in `specs/`: read `WireName`, `NameText` and then `NameLaws`. `AlgorithmNames` has the
+//! names of algorithms.
 #![tactic(auto)]
 
 mod algorithm;

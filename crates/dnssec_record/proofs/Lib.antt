@@ -2,6 +2,7 @@ pub mod Cuts
 pub mod References
 pub mod Zone
 pub mod Rolls
+pub mod Algorithms
 pub mod Texts
 pub mod Reading
 pub mod Judging

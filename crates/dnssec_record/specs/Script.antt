@@ -8,6 +8,7 @@ use denote.Bor.{now}
 use Rattle.std.specs.Option.{option_map}
 use Rattle.std.specs.List.{slice_split, list_all}
 use Rattle.std.specs.Str.{bytes_eq}
+use Rattle.dnssec_base.specs.AlgorithmNames.{algorithm_named}
 use Rattle.dnssec_base.specs.NameText as names
 use Rattle.dnssec_key.specs.declared.roll.RollType.{RollType}
 use Rattle.dnssec_key.specs.declared.roll.RollType.TheVariants.{
@@ -120,9 +121,11 @@ is_number most text =
 unfoldable pub as_number : ℕ → Form
 as_number most text = if is_number most text then Some (Number (number_of text)) else None
 
--- the number of an algorithm
-abbrev pub as_algorithm : Form
-as_algorithm = as_number 255
+-- an algorithm: its number, or its name
+unfoldable pub as_algorithm : Form
+as_algorithm text =
+    if is_number 255 text then Some (Number (number_of text))
+    else option_map Number (algorithm_named text)
 
 -- a key tag
 abbrev pub as_tag : Form

@@ -6,6 +6,7 @@ ghost use Rattle.std.specs.Prelude.{map, find, position, is_some, IfSome, ◌==�
 ghost use Rattle.std.specs.Prelude.{None, slice_index};
 ghost use Rattle.std.specs.Option.{option_map};
 ghost use Rattle.std.specs.Str.{bytes_eq};
+ghost use Rattle.dnssec_base.specs.AlgorithmNames.{algorithm_named};
 ghost use Rattle.dnssec_record.specs.Script.{Value, Reference, Private, References, Flag, Roll};
 ghost use Rattle.dnssec_record.specs.Script.{Number, Moment};
 ghost use Rattle.dnssec_record.specs.Script.{is_reference_byte, is_reference, as_reference};
@@ -222,6 +223,27 @@ fn roll(text: &[u8]) -> Option<RollType>
     roll_named(text)
 }
 
+/// The algorithm with this name.
+fn algorithm_named(name: &[u8]) -> Option<SecurityAlgorithm>
+    ensures { result ≡ algorithm_named name.now }
+{
+    match str::from_utf8(name) {
+        Ok(name) => SecurityAlgorithm::from_name(name),
+        Err(_) => None,
+    }
+}
+
+/// An algorithm, by its number or its name.
+#[tactic(auto, unfolding(crate::specs::Script::as_algorithm))]
+fn algorithm(text: &[u8]) -> Option<SecurityAlgorithm>
+    ensures { option_map Number result ≡ as_algorithm text.now }
+{
+    match number(255, text) {
+        Some(number) => Some(SecurityAlgorithm::from_int(number as u8)),
+        None => algorithm_named(text),
+    }
+}
+
 #[tactic(auto, unfolding(crate::specs::Script::as_time))]
 fn time(text: &[u8]) -> Option<UnixTime>
     ensures { option_map Moment result ≡ as_time text.now }
@@ -358,12 +380,12 @@ impl<'a> Fields<'a> {
         Some((roll(text)?, fields))
     }
 
-    /// The next field as the number of an algorithm.
+    /// The next field as an algorithm.
     pub(crate) fn algorithm(self) -> Option<(SecurityAlgorithm, Fields<'a>)>
         ensures { option_map (λ x. (Number x.0, x.1)) result ≡ value_at as_algorithm self.entry }
     {
-        let (number, fields) = self.number(255)?;
-        Some((SecurityAlgorithm::from_int(number as u8), fields))
+        let (text, fields) = self.next()?;
+        Some((algorithm(text)?, fields))
     }
 
     /// The next field as a key tag.

@@ -145,6 +145,28 @@ fn numbers(rt: HostRuntime) -> Result<(), Fail> {
     assert_malformed(&rt, rt.alloc(), &scripts)
 }
 
+/// Algorithms by another word than their six names, and a name where there is none.
+#[test]
+fn algorithms(rt: HostRuntime) -> Result<(), Fail> {
+    let scripts: [Row; 14] = [
+        (b"zone a\nadd-ksk K - ecdsap256sha256 0 0 yes\n", 2),
+        (b"zone a\nadd-zsk K - Ed25519 0 0 yes\n", 2),
+        (b"zone a\nadd-csk K - ED25519. 0 0 yes\n", 2),
+        (b"zone a\nadd-public K ED4488 0 0 yes\n", 2),
+        (b"zone a\nadd-public K ED44 0 0 yes\n", 2),
+        (b"zone a\nadd-public K 16ED448 0 0 yes\n", 2),
+        (b"zone a\nadd-public K RSASHA1 0 0 yes\n", 2),
+        (b"zone a\nadd-public K RSA 0 0 yes\n", 2),
+        (b"zone a\nadd-public K - 0 0 yes\n", 2),
+        (b"zone a\nadd-public K  0 0 yes\n", 2),
+        (b"zone a\nadd-public K ED448\x00 0 0 yes\n", 2),
+        (b"zone a\nadd-public K \xFFED448 0 0 yes\n", 2),
+        (b"zone a\nadd-public K 16 ED448 0 yes\n", 2),
+        (b"zone a\nreport1 ksk-roll ED448 0\n", 2),
+    ];
+    assert_malformed(&rt, rt.alloc(), &scripts)
+}
+
 /// References, lists of them, flags and rolls of another form.
 #[test]
 fn references_flags_and_rolls(rt: HostRuntime) -> Result<(), Fail> {

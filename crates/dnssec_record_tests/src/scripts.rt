@@ -273,6 +273,20 @@ fn the_last_line_needs_no_end(rt: HostRuntime) -> Result<(), Fail> {
     assert_answers(&rt, rt.alloc(), script, FIRST_ANSWERS)
 }
 
+/// The names of algorithms in the place of their numbers.
+#[test]
+fn algorithms_have_names(rt: HostRuntime) -> Result<(), Fail> {
+    let script = "zone example.com
+add-ksk K1 - ECDSAP256SHA256 0 0 yes
+add-zsk Z1 - ECDSAP256SHA256 1 0 yes
+start algorithm-roll - K1,Z1 0
+report1 algorithm-roll 3600 100
+wait1 algorithm-roll 3699
+wait1 algorithm-roll 3700
+";
+    assert_answers(&rt, rt.alloc(), script, FIRST_ANSWERS)
+}
+
 /// The greatest numbers, numbers of 20 digits, and references of other bytes than letters.
 #[test]
 fn the_edges_of_fields_are_read(rt: HostRuntime) -> Result<(), Fail> {

@@ -22,7 +22,7 @@ use Rattle.dnssec_run.specs.declared.call.Call.TheVariants.{SetStale, SetVisible
 use Rattle.dnssec_run.specs.declared.call.Call.TheVariants.{SetRrsigVisible, DeleteKey}
 use Rattle.dnssec_run.specs.declared.call.Call.TheVariants.{StartRoll, Propagation1Complete}
 use Rattle.dnssec_run.specs.declared.call.Call.TheVariants.{CacheExpired1, Propagation2Complete}
-use Rattle.dnssec_run.specs.declared.call.Call.TheVariants.{CacheExpired2, RollDone}
+use Rattle.dnssec_run.specs.declared.call.Call.TheVariants.{CacheExpired2, RollDone, AbortRoll}
 use Rattle.dnssec_run.specs.declared.record.Reply.{Reply}
 use Rattle.dnssec_run.specs.declared.record.Reply.TheVariants.{Done, Actions, Refused}
 use Rattle.dnssec_run.specs.declared.record.Mark.{Mark}
@@ -64,6 +64,7 @@ call_of (CacheExpired1 roll now) = keyset.Wait roll First now
 call_of (Propagation2Complete roll ttl now) = keyset.Report roll Second ttl now
 call_of (CacheExpired2 roll now) = keyset.Wait roll Second now
 call_of (RollDone roll) = keyset.RollDone roll
+call_of (AbortRoll roll) = keyset.AbortRoll roll
 
 -- a reply, as the key set gave it
 abbrev pub reply_of : Reply → keyset.Reply

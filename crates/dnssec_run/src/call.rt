@@ -108,6 +108,9 @@ pub enum Call<'a> {
     RollDone {
         rolltype: RollType,
     },
+    AbortRoll {
+        rolltype: RollType,
+    },
 }
 
 impl<'a> Call<'a> {
@@ -231,6 +234,7 @@ impl<'a> Call<'a> {
             }
             Call::CacheExpired2 { rolltype, now } => listed(set.cache_expired2(rolltype, &now)),
             Call::RollDone { rolltype } => listed(set.roll_done(rolltype)),
+            Call::AbortRoll { rolltype } => listed(set.abort_roll(rolltype)),
         }
     }
 }
