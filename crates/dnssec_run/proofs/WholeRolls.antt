@@ -1,5 +1,4 @@
--- The laws of whole rolls: clauses of `run` on lists that set nothing of the zone's own keys by
--- hand.
+-- The laws of whole rolls: clauses of `run` on lists that set nothing by hand.
 --
 -- | Clause     | Law                  | Lemma             | Files                               |
 -- |------------|----------------------|-------------------|-------------------------------------|

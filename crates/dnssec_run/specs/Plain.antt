@@ -31,14 +31,15 @@ is_plain_setting (Decoupled value) key = true
 is_plain_setting (Present value now) (Some k) = is_another_signers k.keytype
 is_plain_setting _ _ = false
 
--- with this set before it, the call sets neither a flag nor a time of the zone's own keys by hand
+-- with this set before it, the call sets neither a flag nor a time by hand: whether another
+-- signer's key is in the DNSKEY set doesn't count
 abbrev pub sets_nothing : KeySetParts → keyset.Call → Bool
 sets_nothing set (keyset.Set reference setting) =
     is_plain_setting setting (get set.keys reference)
 sets_nothing set (keyset.AbortRoll roll) = false
 sets_nothing set _ = true
 
--- no call sets a flag or a time of the zone's own keys by hand
+-- no call sets a flag or a time by hand, but whether another signer's key is in the DNSKEY set
 abbrev pub SetsNothing : List ℕ → List Call → List Entry → Type 0
 SetsNothing name calls entries = (n : ℕ) (call : Call) → slice_get calls n ≡ Some call →
     sets_nothing (world_at name calls entries n).set (call_of call) ≡ true
@@ -81,8 +82,8 @@ AlgorithmRollFirst does calls entries = (n : ℕ) (roll : RollType) → wants_fi
 
 -- ---- plain lists
 
--- nothing of the zone's own keys is set by hand, and before each accepted start of a KSK roll or of
--- a CSK roll the first wait of an algorithm roll is over
+-- nothing is set by hand, and before each accepted start of a KSK roll or of a CSK roll the first
+-- wait of an algorithm roll is over
 pub record IsPlain (name : List ℕ) (calls : List Call) (entries : List Entry) : Type 0 where
   pub setters : SetsNothing name calls entries
   pub first : AlgorithmRollFirst first_wait_of calls entries

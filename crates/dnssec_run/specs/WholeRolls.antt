@@ -1,6 +1,5 @@
--- The laws of whole rolls: what holds of every run in which nothing of the zone's own keys is set
--- by hand. A roll that was started can be finished, its waits are over at an exact moment, and
--- nothing is left half done.
+-- The laws of whole rolls: what holds of every run in which nothing is set by hand. A roll that was
+-- started can be finished, its waits are over at an exact moment, and nothing is left half done.
 use Rattle.std.specs.Prelude.{◌≡◌, ◌≢◌, ℕ, suc, ◌+◌, ◌-◌, ◌*◌, ◌<◌, ◌≤◌, ◌⊎◌}
 use Rattle.std.specs.Prelude.{Bool, true, false, ◌&&◌, ◌||◌, List, length, slice_get, Some}
 use Rattle.std.specs.Duration.{as_nanos}

@@ -204,16 +204,17 @@ fn record(
 /// The key set and the record take their memory from `alloc`. A call that is refused, also for want
 /// of memory, is recorded, and the run goes on.
 ///
-/// Where the list sets no flag and no time of the zone's own keys by hand, and an algorithm roll
-/// comes before the first roll of KSKs or CSKs, every position of the record is safe: of whatever
-/// DS set, DNSKEY set and zone signers no report has retired, there is no DS, or a DS key signs that
-/// DNSKEY set, and a key of it signs the zone (RFC 4035, section 5).
+/// Where the list sets no flag and no time by hand, and an algorithm roll comes before the first
+/// roll of KSKs or CSKs, every position of the record is safe: of whatever DS set, DNSKEY set and
+/// zone signers no report has retired, there is no DS, or a DS key signs that DNSKEY set, and a key
+/// of it signs the zone (RFC 4035, section 5). Another signer's key may be published and taken out
+/// by hand at any time.
 ///
-/// Where the list sets no flag and no time of the zone's own keys by hand, no wait lacks a stamp,
-/// and between the rolls each role of a key is future, active or stale. A started roll goes on by
-/// its reports, waits and its end; then each key that it listed as old is stale or was deleted, and
-/// each that it listed as new is at work. If moreover the moments never fall, a wait is over once
-/// the TTL of its report has passed since (RFC 7583, section 3).
+/// Where nothing else is set by hand, no wait lacks a stamp, and between the rolls each role of a
+/// key is future, active or stale. A started roll goes on by its reports, waits and its end; then
+/// each key that it listed as old is stale or was deleted, and each that it listed as new is at
+/// work. If moreover the moments never fall, a wait is over once the TTL of its report has passed
+/// since (RFC 7583, section 3).
 ///
 /// Unless a flag is set by hand, what is published changes only where the reply asks to publish it.
 ///
