@@ -90,15 +90,12 @@ set_by (RrsigVisibleAt time) k =
     record k { timestamps = record k.timestamps { rrsig_visible = Some time } }
 
 -- it sets a flag: neither a time, nor whether the key is decoupled (RFC 6781, section 4.1)
-abbrev pub sets_flag : Setting → Bool
-sets_flag (Decoupled value) = false
-sets_flag (Present value now) = true
-sets_flag (Signer value) = true
-sets_flag (AtParent value) = true
-sets_flag Stale = true
-sets_flag (VisibleAt time) = false
-sets_flag (DsVisibleAt time) = false
-sets_flag (RrsigVisibleAt time) = false
+abbrev pub is_flag_setting : Setting → Bool
+is_flag_setting (Present value now) = true
+is_flag_setting (Signer value) = true
+is_flag_setting (AtParent value) = true
+is_flag_setting Stale = true
+is_flag_setting _ = false
 
 -- ---- what it is refused for
 

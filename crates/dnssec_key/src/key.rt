@@ -7,7 +7,7 @@ ghost use Rattle.dnssec_key.specs.RollTable.{which, after_report, after_wait, ma
 ghost use Rattle.dnssec_key.specs.RollTable.{marked_old, unmarked_new, unmarked_old, with_stamps};
 ghost use Rattle.dnssec_key.specs.declared.error.Error.TheVariants.{OutOfMemory};
 ghost use Rattle.dnssec_key.specs.Setters.{meant, at_ksk_role, at_states, first_published};
-ghost use Rattle.dnssec_key.specs.Setters.{set_by, sets_flag, suits_kind, turned_stale};
+ghost use Rattle.dnssec_key.specs.Setters.{is_flag_setting, set_by, suits_kind, turned_stale};
 ghost use Rattle.dnssec_key.specs.Setters.{with_at_parent, with_present, with_signer};
 ghost use Rattle.dnssec_key.specs.Texts.{ending, state_text};
 ghost use Rattle.dnssec_key.specs.RollTable.{stamp_at};
@@ -361,7 +361,7 @@ pub enum Setting {
 impl Setting {
     /// Whether a flag is set: neither a time, nor whether the key is decoupled.
     pub fn sets_flag(&self) -> bool
-        ensures { result ≡ sets_flag (meant self.now) }
+        ensures { result ≡ is_flag_setting (meant self.now) }
     {
         matches!(
             self,

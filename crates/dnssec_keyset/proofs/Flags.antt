@@ -23,6 +23,15 @@ abbrev pub started : RollType → Bool → Bool → KeyType → KeyType
 started r o true k = (column r).comes (aged o k)
 started r o false k = aged o k
 
+-- and one of a roll that is ended early
+abbrev pub returned : RollType → Bool → KeyType → KeyType
+returned r true k = (column r).returns k
+returned r false k = k
+
+abbrev pub ended : RollType → Bool → Bool → KeyType → KeyType
+ended r o true k = (column r).goes (returned r o k)
+ended r o false k = returned r o k
+
 abbrev pub waited1 : RollType → KeyType → KeyType
 waited1 r k = (half_of r First).moves k
 

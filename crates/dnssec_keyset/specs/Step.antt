@@ -29,7 +29,7 @@ use Rattle.dnssec_keyset.specs.KeySet.{some_key, Listed, Lists, listed_by, nothi
 use Rattle.dnssec_keyset.specs.KeySet.{with_listed, without}
 use Rattle.dnssec_key.specs.RollTable.{Half, First, Second, column, after_start, after_report}
 use Rattle.dnssec_key.specs.RollTable.{after_early_end, after_wait, actions_of, expiring, behind}
-use Rattle.dnssec_key.specs.Setters.{Setting, kind_refusal, set_by, sets_flag}
+use Rattle.dnssec_key.specs.Setters.{Setting, is_flag_setting, kind_refusal, set_by}
 use Rattle.dnssec_keyset.specs.KeySet.{ChangesKey}
 use Rattle.dnssec_keyset.specs.Start.{start_refusal, is_listed}
 use Rattle.dnssec_keyset.specs.Wait.{ttl_in, lacks_stamp, is_early, time_left, IsLongest}
@@ -184,7 +184,7 @@ listed_at_start keys olds news = record { olds = filter (is_kept_at keys) olds; 
 -- a key whose flag is set by hand is kept in no list
 abbrev pub lists_after_setting : Setting → List ℕ → Lists → Lists
 lists_after_setting setting reference lists =
-    if sets_flag setting then without reference lists else lists
+    if is_flag_setting setting then without reference lists else lists
 
 -- from the first report on nothing is kept for the roll
 abbrev pub lists_after_report : RollType → Half → Lists → Lists

@@ -15,7 +15,7 @@ use Rattle.std.proofs.Common.{[], string_bytes, Global}
 use Rattle.dnssec_key.specs.Key.{KeyParts}
 use Rattle.dnssec_keyset.specs.KeySet.{KeySetParts, new_set}
 use Rattle.dnssec_keyset.specs.Step as keyset
-use Rattle.dnssec_keyset.specs.Step.{AddKey, Set, DeleteKey, StartRoll, Report, Wait, RollDone}
+use Rattle.dnssec_keyset.specs.Step.{AddKey, Set, DeleteKey, StartRoll, Report, Wait, RollDone, AbortRoll}
 use Rattle.dnssec_keyset.specs.Step.{after, after_reply}
 use Rattle.dnssec_keyset.proofs.After.{after-changes}
 use Rattle.dnssec_run.specs.declared.call.Call.{Call}
@@ -74,6 +74,7 @@ module _ (n : ℕ) (w : World) (at : List ℕ → Option ℕ) (agrees : (q : Lis
   next (Report roll half ttl now) q = moved _ _ q ((after-changes w.set (Report roll half ttl now)).keys q)
   next (Wait roll half now) q = moved _ _ q ((after-changes w.set (Wait roll half now)).keys q)
   next (RollDone roll) q = moved _ _ q ((after-changes w.set (RollDone roll)).keys q)
+  next (AbortRoll roll) q = moved _ _ q ((after-changes w.set (AbortRoll roll)).keys q)
 
 -- an accepted call
 pub agrees-accepted : (n : ℕ) (w : World) (old new : KeySetParts) (at later : List ℕ → Option ℕ) (call : Call) (reply : Reply) → is_accepted reply ≡ true

@@ -6,7 +6,7 @@
 -- | `StartsSuffice` | `starts-suffice` |
 use Rattle.std.proofs.Common.{◌≡◌, ℕ, zero, suc, ◌<◌, ◌≤◌, ◌⊎◌, inl, inr, Bool, true, false, refl}
 use Rattle.std.proofs.Common.{sym, ◌∙◌, ap, subst, arith, List, length, Option, None, Some}
-use Rattle.std.specs.Prelude.{slice_get}
+use Rattle.std.specs.Prelude.{◌≢◌, slice_get}
 use Rattle.std.proofs.lemmas.Bool.{true≢false, cases_lt}
 use Rattle.std.proofs.lemmas.Option.{same_Some, none-some, slice_get_cases}
 use Rattle.dnssec_key.specs.declared.roll.RollType.{RollType}
@@ -19,7 +19,8 @@ use Rattle.dnssec_keyset.specs.Step as keyset
 use Rattle.dnssec_keyset.proofs.Accepted.{finishes, spreads_second}
 use Rattle.dnssec_run.specs.declared.call.Call.{Call}
 use Rattle.dnssec_run.specs.declared.record.Entry.{Entry}
-use Rattle.dnssec_run.specs.Plain.{DoesAt, IsPlain, IsPlainByStarts, start_of, first_wait_of}
+use Rattle.dnssec_run.specs.Plain.{DoesAt, IsPlain, EndsNoneEarly, IsPlainByStarts, start_of}
+use Rattle.dnssec_run.specs.Plain.{early_end_of, first_wait_of}
 use Rattle.dnssec_run.specs.Record.{IsRun, call_of, is_accepted, reply_of, world_at}
 use Rattle.dnssec_run.proofs.Chain.Allowed.{can_start, clear_cause, waits_in_phase}
 use Rattle.dnssec_run.proofs.Chain.BothSides.{alone_first}
@@ -58,35 +59,39 @@ module _ (old new : KeySetParts) where
 
   -- only the end of its first wait takes an algorithm roll further
   moves-on : (c : keyset.Call) → keyset.verdict old c ≡ keyset.Clear → keyset.Changes old c new
-      → IsEarly old → (first_wait_of c ≡ Some AlgorithmRoll) ⊎ IsEarly new
-  moves-on (keyset.AddKey q k) v m e =
+      → early_end_of c ≢ Some AlgorithmRoll → IsEarly old → (first_wait_of c ≡ Some AlgorithmRoll) ⊎ IsEarly new
+  moves-on (keyset.AddKey q k) v m none e =
       inr (ap (λ x. is_early (phase_of x AlgorithmRoll)) m.rolls ∙ e)
-  moves-on (keyset.Set q s) v m e =
+  moves-on (keyset.Set q s) v m none e =
       inr (ap (λ x. is_early (phase_of x AlgorithmRoll)) m.rolls ∙ e)
-  moves-on (keyset.DeleteKey q) v m e =
+  moves-on (keyset.DeleteKey q) v m none e =
       inr (ap (λ x. is_early (phase_of x AlgorithmRoll)) m.rolls ∙ e)
-  moves-on (keyset.StartRoll r olds news now) v m e = elim (split_by (same_roll r AlgorithmRoll)) [
+  moves-on (keyset.StartRoll r olds news now) v m none e = elim (split_by (same_roll r AlgorithmRoll)) [
     | inl s ↦ inr (there r (Some Propagation1) m.rolls s refl)
     | inr d ↦ inr (aside r (Some Propagation1) m.rolls d e)
   ]
-  moves-on (keyset.Report r First ttl now) v m e = elim (split_by (same_roll r AlgorithmRoll)) [
+  moves-on (keyset.Report r First ttl now) v m none e = elim (split_by (same_roll r AlgorithmRoll)) [
     | inl s ↦ inr (there r _ m.rolls s refl)
     | inr d ↦ inr (aside r _ m.rolls d e)
   ]
-  moves-on (keyset.Report r Second ttl now) v m e = elim (split_by (same_roll r AlgorithmRoll)) [
+  moves-on (keyset.Report r Second ttl now) v m none e = elim (split_by (same_roll r AlgorithmRoll)) [
     | inl s ↦ absurd (not_early r _ (spreads_second _ (clear_cause _ v)) refl s e)
     | inr d ↦ inr (aside r _ m.rolls d e)
   ]
-  moves-on (keyset.Wait r First now) v m e = elim (split_by (same_roll r AlgorithmRoll)) [
+  moves-on (keyset.Wait r First now) v m none e = elim (split_by (same_roll r AlgorithmRoll)) [
     | inl s ↦ inl (ap Some (same-true r AlgorithmRoll s))
     | inr d ↦ inr (aside r _ m.rolls d e)
   ]
-  moves-on (keyset.Wait r Second now) v m e = elim (split_by (same_roll r AlgorithmRoll)) [
+  moves-on (keyset.Wait r Second now) v m none e = elim (split_by (same_roll r AlgorithmRoll)) [
     | inl s ↦ absurd
         (not_early r _ (waits_in_phase r true now (world_of old) v).1 refl s e)
     | inr d ↦ inr (aside r _ m.rolls d e)
   ]
-  moves-on (keyset.RollDone r) v m e = elim (split_by (same_roll r AlgorithmRoll)) [
+  moves-on (keyset.AbortRoll r) v m none e = elim (split_by (same_roll r AlgorithmRoll)) [
+    | inl s ↦ absurd (none (ap Some (same-true r AlgorithmRoll s)))
+    | inr d ↦ inr (aside r _ m.rolls d e)
+  ]
+  moves-on (keyset.RollDone r) v m none e = elim (split_by (same_roll r AlgorithmRoll)) [
     | inl s ↦ absurd (not_early r _ (finishes _ (clear_cause _ v)) refl s e)
     | inr d ↦ inr (aside r _ m.rolls d e)
   ]
@@ -103,6 +108,7 @@ module _ (old new : KeySetParts) where
   started (keyset.Report r h ttl now) m s = absurd (none-some AlgorithmRoll s)
   started (keyset.Wait r h now) m s = absurd (none-some AlgorithmRoll s)
   started (keyset.RollDone r) m s = absurd (none-some AlgorithmRoll s)
+  started (keyset.AbortRoll r) m s = absurd (none-some AlgorithmRoll s)
 
 -- where a roll is accepted to start, no algorithm roll is in progress
 alone : (set : KeySetParts) (c : keyset.Call) → keyset.verdict set c ≡ keyset.Clear
@@ -115,95 +121,97 @@ alone set (keyset.StartRoll r olds news now) v roll s =
 alone set (keyset.Report r h ttl now) v roll s = absurd (none-some roll s)
 alone set (keyset.Wait r h now) v roll s = absurd (none-some roll s)
 alone set (keyset.RollDone r) v roll s = absurd (none-some roll s)
+alone set (keyset.AbortRoll r) v roll s = absurd (none-some roll s)
 
 -- ---- the run
 
 module _ (name : List ℕ) (calls : List Call) (entries : List Entry) (run : IsRun name calls entries)
-  where
-    abbrev set_at : ℕ → KeySetParts
-    set_at n = (world_at name calls entries n).set
+    (none : EndsNoneEarly calls) where
+  abbrev set_at : ℕ → KeySetParts
+  set_at n = (world_at name calls entries n).set
 
-    -- an algorithm roll is past its first wait, or before it
-    abbrev Began : ℕ → Type 0
-    Began n = ((m : ℕ) × (m < n) × DoesAt first_wait_of calls entries m AlgorithmRoll)
-        ⊎ (is_early (phase_of (set_at n).rolls AlgorithmRoll) ≡ true)
+  -- an algorithm roll is past its first wait, or before it
+  abbrev Began : ℕ → Type 0
+  Began n = ((m : ℕ) × (m < n) × DoesAt first_wait_of calls entries m AlgorithmRoll)
+      ⊎ (is_early (phase_of (set_at n).rolls AlgorithmRoll) ≡ true)
 
-    -- what an accepted call found and did
-    step_of : (does : keyset.Call → Option RollType) (n : ℕ) (roll : RollType)
-        → (d : DoesAt does calls entries n roll)
-        → (keyset.verdict (set_at n) (call_of d.call) ≡ keyset.Clear)
-        × keyset.Changes (set_at n) (call_of d.call) (set_at (suc n))
-    step_of does n roll d =
-        let x = accepted_step (keyset.verdict (set_at n) (call_of d.call)) (set_at n)
-        (set_at (suc n)) (call_of d.call) d.entry.reply d.accepted
-        (run.each n d.call d.entry d.call_is d.entry_is).step
-        in
-        (x.0, x.1)
+  -- what an accepted call found and did
+  step_of : (does : keyset.Call → Option RollType) (n : ℕ) (roll : RollType)
+      → (d : DoesAt does calls entries n roll)
+      → (keyset.verdict (set_at n) (call_of d.call) ≡ keyset.Clear)
+      × keyset.Changes (set_at n) (call_of d.call) (set_at (suc n))
+  step_of does n roll d =
+      let x = accepted_step (keyset.verdict (set_at n) (call_of d.call)) (set_at n)
+      (set_at (suc n)) (call_of d.call) d.entry.reply d.accepted
+      (run.each n d.call d.entry d.call_is d.entry_is).step
+      in
+      (x.0, x.1)
 
-    began-next : (n : ℕ) (c : Call) (e : Entry) → slice_get calls n ≡ Some c
-        → slice_get entries n ≡ Some e → Began n → Began (suc n)
-    began-next n c e ci ei (inl w) = inl (w.0, omega (arith, w.1), w.2)
-    began-next n c e ci ei (inr h) = by (is_accepted e.reply) refl
-      where
-        step : keyset.Step (set_at n) (call_of c) (reply_of e.reply) (set_at (suc n))
-        step = (run.each n c e ci ei).step
+  began-next : (n : ℕ) (c : Call) (e : Entry) → slice_get calls n ≡ Some c
+      → slice_get entries n ≡ Some e → Began n → Began (suc n)
+  began-next n c e ci ei (inl w) = inl (w.0, omega (arith, w.1), w.2)
+  began-next n c e ci ei (inr h) = by (is_accepted e.reply) refl
+    where
+      step : keyset.Step (set_at n) (call_of c) (reply_of e.reply) (set_at (suc n))
+      step = (run.each n c e ci ei).step
 
-        by : (b : Bool) → is_accepted e.reply ≡ b → Began (suc n)
-        by false t = inr (ap (λ (x : KeySetParts). is_early (phase_of x.rolls AlgorithmRoll))
-            (refused_step (keyset.verdict (set_at n) (call_of c)) (set_at n) (set_at (suc n))
-            (call_of c) e.reply t step) ∙ h)
-        by true t =
-            let x = accepted_step (keyset.verdict (set_at n) (call_of c)) (set_at n)
-            (set_at (suc n)) (call_of c) e.reply t step in
-            elim (moves-on (set_at n) (set_at (suc n)) (call_of c) x.0 x.1 h) [
-              | inl passes ↦ inl (
-                n,
-                omega arith,
-                record {
-                  call = c;
-                  entry = e;
-                  call_is = ci;
-                  entry_is = ei;
-                  accepted = t;
-                  roll_is = passes;
-                },
-              )
-              | inr early ↦ inr early
-            ]
+      by : (b : Bool) → is_accepted e.reply ≡ b → Began (suc n)
+      by false t = inr (ap (λ (x : KeySetParts). is_early (phase_of x.rolls AlgorithmRoll))
+          (refused_step (keyset.verdict (set_at n) (call_of c)) (set_at n) (set_at (suc n))
+          (call_of c) e.reply t step) ∙ h)
+      by true t =
+          let x = accepted_step (keyset.verdict (set_at n) (call_of c)) (set_at n)
+          (set_at (suc n)) (call_of c) e.reply t step in
+          elim (moves-on (set_at n) (set_at (suc n)) (call_of c) x.0 x.1
+          (none n c AlgorithmRoll ci) h) [
+            | inl passes ↦ inl (
+              n,
+              omega arith,
+              record {
+                call = c;
+                entry = e;
+                call_is = ci;
+                entry_is = ei;
+                accepted = t;
+                roll_is = passes;
+              },
+            )
+            | inr early ↦ inr early
+          ]
 
-    began : (m : ℕ) → DoesAt start_of calls entries m AlgorithmRoll → (n : ℕ) → m < n
-        → n ≤ length entries → Began n
-    began m s zero lt within = absurd (omega arith)
-    began m s (suc n) lt within = elim (cases_lt m n) [
-      | inl before ↦ elim ((slice_get_cases entries n).1) [
-        | inl e ↦ elim ((slice_get_cases calls n).1) [
-          | inl c ↦ began-next n c.0 e.0 c.2 e.2 (began m s n before (omega arith))
-          | inr c ↦ absurd (omega (arith, c.0, run.count))
-        ]
-        | inr e ↦ absurd (omega (arith, e.0))
+  began : (m : ℕ) → DoesAt start_of calls entries m AlgorithmRoll → (n : ℕ) → m < n
+      → n ≤ length entries → Began n
+  began m s zero lt within = absurd (omega arith)
+  began m s (suc n) lt within = elim (cases_lt m n) [
+    | inl before ↦ elim ((slice_get_cases entries n).1) [
+      | inl e ↦ elim ((slice_get_cases calls n).1) [
+        | inl c ↦ began-next n c.0 e.0 c.2 e.2 (began m s n before (omega arith))
+        | inr c ↦ absurd (omega (arith, c.0, run.count))
       ]
-      | inr ge ↦ let same : m ≡ n = omega arith in
-          subst (λ n. Began (suc n)) same (inr
-          (started (set_at m) (set_at (suc m)) (call_of s.call)
-          (step_of start_of m AlgorithmRoll s).1 s.roll_is))
+      | inr e ↦ absurd (omega (arith, e.0))
     ]
+    | inr ge ↦ let same : m ≡ n = omega arith in
+        subst (λ n. Began (suc n)) same (inr
+        (started (set_at m) (set_at (suc m)) (call_of s.call)
+        (step_of start_of m AlgorithmRoll s).1 s.roll_is))
+  ]
 
-    -- so it is past its first wait where another roll starts
-    passed : (n : ℕ) (roll : RollType) → DoesAt start_of calls entries n roll → Began n
-        → (m : ℕ) × (m < n) × DoesAt first_wait_of calls entries m AlgorithmRoll
-    passed n roll s (inl w) = w
-    passed n roll s (inr early) = absurd (true≢false (sym early ∙ ap is_early
-        (alone (set_at n) (call_of s.call) (step_of start_of n roll s).0 roll s.roll_is)))
+  -- so it is past its first wait where another roll starts
+  passed : (n : ℕ) (roll : RollType) → DoesAt start_of calls entries n roll → Began n
+      → (m : ℕ) × (m < n) × DoesAt first_wait_of calls entries m AlgorithmRoll
+  passed n roll s (inl w) = w
+  passed n roll s (inr early) = absurd (true≢false (sym early ∙ ap is_early
+      (alone (set_at n) (call_of s.call) (step_of start_of n roll s).0 roll s.roll_is)))
 
-    within : (n : ℕ) (roll : RollType) → DoesAt start_of calls entries n roll → n ≤ length entries
-    within n roll s = elim ((slice_get_cases entries n).1) [
-      | inl x ↦ let lt = x.1 in omega arith
-      | inr x ↦ absurd (none-some _ (sym x.1 ∙ s.entry_is))
-    ]
+  within : (n : ℕ) (roll : RollType) → DoesAt start_of calls entries n roll → n ≤ length entries
+  within n roll s = elim ((slice_get_cases entries n).1) [
+    | inl x ↦ let lt = x.1 in omega arith
+    | inr x ↦ absurd (none-some _ (sym x.1 ∙ s.entry_is))
+  ]
 
-    pub starts-suffice : IsPlainByStarts name calls entries → IsPlain name calls entries
-    starts-suffice plain = record {
-      setters = plain.setters;
-      first = λ n roll wants s. let a = plain.first n roll wants s in
-          passed n roll s (began a.0 a.2 n a.1 (within n roll s));
-    }
+  pub starts-suffice : IsPlainByStarts name calls entries → IsPlain name calls entries
+  starts-suffice plain = record {
+    setters = plain.setters;
+    first = λ n roll wants s. let a = plain.first n roll wants s in
+        passed n roll s (began a.0 a.2 n a.1 (within n roll s));
+  }

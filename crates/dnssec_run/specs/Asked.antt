@@ -11,7 +11,7 @@ use Rattle.dnssec_key.specs.declared.roll.Action.TheVariants.{ReportDnskeyPropag
 use Rattle.dnssec_key.specs.declared.roll.Action.TheVariants.{ReportDsPropagated}
 use Rattle.dnssec_key.specs.declared.roll.Action.TheVariants.{ReportRrsigPropagated}
 use Rattle.dnssec_key.specs.declared.roll.RollType.{RollType}
-use Rattle.dnssec_key.specs.Setters.{Setting, Present, Signer, AtParent, Stale}
+use Rattle.dnssec_key.specs.Setters.{is_flag_setting}
 use Rattle.dnssec_keyset.specs.Step as keyset
 use Rattle.dnssec_run.specs.declared.call.Call.{Call}
 use Rattle.dnssec_run.specs.declared.record.Entry.{Entry}
@@ -49,14 +49,6 @@ report_of Dnskey = ReportDnskeyPropagated
 report_of ZoneSigners = ReportRrsigPropagated
 
 -- ---- what changes
-
--- it sets a flag by hand; the stamps that a setter writes are published nowhere
-abbrev pub is_flag_setting : Setting → Bool
-is_flag_setting (Present value now) = true
-is_flag_setting (Signer value) = true
-is_flag_setting (AtParent value) = true
-is_flag_setting Stale = true
-is_flag_setting _ = false
 
 -- a call that sets a flag by hand
 abbrev pub sets_flag : keyset.Call → Bool

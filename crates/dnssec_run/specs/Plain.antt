@@ -1,5 +1,5 @@
 -- The lists of calls for which every position of the record is safe.
-use Rattle.std.specs.Prelude.{◌≡◌, ℕ, ◌<◌, ◌≤◌, Bool, true, false, List, length, slice_get}
+use Rattle.std.specs.Prelude.{◌≡◌, ◌≢◌, ℕ, ◌<◌, ◌≤◌, Bool, true, false, List, length, slice_get}
 use Rattle.std.specs.Prelude.{Option, None, Some}
 use Rattle.std.specs.FinMap.{get}
 use Rattle.dnssec_key.specs.declared.key.KeyType.{KeyType}
@@ -56,6 +56,16 @@ abbrev pub first_wait_of : keyset.Call → Option RollType
 first_wait_of (keyset.Wait roll First now) = Some roll
 first_wait_of _ = None
 
+-- the roll that a call ends early, if any
+abbrev pub early_end_of : keyset.Call → Option RollType
+early_end_of (keyset.AbortRoll roll) = Some roll
+early_end_of _ = None
+
+-- no call ends a roll early
+abbrev pub EndsNoneEarly : List Call → Type 0
+EndsNoneEarly calls = (n : ℕ) (call : Call) (roll : RollType) → slice_get calls n ≡ Some call →
+    early_end_of (call_of call) ≢ Some roll
+
 -- the call behind position n is accepted, and does this for the roll
 pub record DoesAt (does : keyset.Call → Option RollType) (calls : List Call) (entries : List Entry)
     (n : ℕ) (roll : RollType) : Type 0 where
@@ -93,14 +103,15 @@ abbrev pub StaysSafe : List ℕ → List Call → List Entry → Type 0
 StaysSafe name calls entries =
     IsPlain name calls entries → (n : ℕ) → n ≤ length entries → IsSafe entries n
 
--- the same, said by what an operator starts: an algorithm roll before each KSK roll or CSK roll
+-- the same without early ends, said by what an operator starts: an algorithm roll before each KSK
+-- roll or CSK roll
 pub record IsPlainByStarts (name : List ℕ) (calls : List Call) (entries : List Entry)
     : Type 0 where
   pub setters : SetsNothing name calls entries
+  pub no_early_end : EndsNoneEarly calls
   pub first : AlgorithmRollFirst start_of calls entries
 
--- that suffices: no call ends a roll early, and until an algorithm roll is past its first wait, no
--- roll of KSKs or CSKs starts
+-- that suffices: until an algorithm roll is past its first wait, no roll of KSKs or CSKs starts
 abbrev pub StartsSuffice : Type 0
 StartsSuffice = (name : List ℕ) (calls : List Call) (entries : List Entry) →
     IsRun name calls entries → IsPlainByStarts name calls entries → IsPlain name calls entries

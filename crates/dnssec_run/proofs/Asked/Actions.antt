@@ -12,7 +12,7 @@ use Rattle.dnssec_run.specs.Asked.{update_of, report_of}
 use Rattle.dnssec_run.specs.WholeRolls.{spreading}
 use Rattle.dnssec_run.specs.Published.{in_ds, in_dnskey, signs_dnskey, signs_zone}
 use Rattle.dnssec_run.specs.Safe.{SetKind, Ds, Dnskey, ZoneSigners, retires}
-use Rattle.dnssec_keyset.proofs.Flags.{started, is_blank, is_stale}
+use Rattle.dnssec_keyset.proofs.Flags.{started, ended, is_blank, is_stale}
 use Rattle.dnssec_run.proofs.Chain.Tables.{half}
 use Rattle.dnssec_keyset.proofs.Tests.{both, both-at, each_key, each_key-at, each_roll}
 use Rattle.dnssec_keyset.proofs.Tests.{each_roll-at, ◌⇒◌, mp, alike, alike-same, and-both}
@@ -157,6 +157,27 @@ start-asks r o i kind = each_key-at (start_table r o i kind) (λ a b.
     (each_roll-at
     (λ r. both (λ o. both (λ i. each_kind (λ kind. each_key a b (start_table r o i kind)))))
     (start_all a b) r) o) i) kind)
+
+early_end_table : RollType → Bool → Bool → SetKind → KeyType → Bool
+early_end_table r o i kind k =
+    list_any (updates kind) (column r).asks_early || same_in kind (ended r o i k) k
+
+early_end_all : (a b : Bool)
+    → each_roll (λ r.
+    both (λ o. both (λ i. each_kind (λ kind. each_key a b (early_end_table r o i kind))))) ≡ true
+unfolding early_end_table column
+early_end_all a b = refl
+
+pub early-end-asks : (r : RollType) (o i : Bool) (kind : SetKind) (k : KeyType)
+    → (list_any (updates kind) (column r).asks_early || same_in kind (ended r o i k) k) ≡ true
+unfolding early_end_table
+early-end-asks r o i kind = each_key-at (early_end_table r o i kind) (λ a b.
+    each_kind-at (λ kind. each_key a b (early_end_table r o i kind))
+    (both-at (λ i. each_kind (λ kind. each_key a b (early_end_table r o i kind)))
+    (both-at (λ o. both (λ i. each_kind (λ kind. each_key a b (early_end_table r o i kind))))
+    (each_roll-at
+    (λ r. both (λ o. both (λ i. each_kind (λ kind. each_key a b (early_end_table r o i kind)))))
+    (early_end_all a b) r) o) i) kind)
 
 wait_table : RollType → Bool → SetKind → KeyType → Bool
 wait_table r second kind k = list_any (updates kind) (actions_of r (behind (half second)))

@@ -13,28 +13,29 @@ use Rattle.std.proofs.lemmas.Option.{none-some, slice_get_cases}
 use Rattle.dnssec_key.specs.declared.roll.Action.{Action}
 use Rattle.dnssec_key.specs.declared.key.KeyType.{KeyType}
 use Rattle.dnssec_key.specs.Key.{KeyParts}
-use Rattle.dnssec_keyset.specs.KeySet.{KeySetParts}
+use Rattle.dnssec_keyset.specs.KeySet.{KeySetParts, listed_by}
 use Rattle.dnssec_key.specs.RollTable.{First, Second}
 use Rattle.dnssec_key.specs.Setters.{Setting, Decoupled, Present, Signer, AtParent, Stale}
-use Rattle.dnssec_key.specs.Setters.{VisibleAt, DsVisibleAt, RrsigVisibleAt, set_by}
+use Rattle.dnssec_key.specs.Setters.{VisibleAt, DsVisibleAt, RrsigVisibleAt, is_flag_setting, set_by}
 use Rattle.dnssec_keyset.specs.Start.{is_listed}
 use Rattle.dnssec_keyset.specs.Step as keyset
 use Rattle.dnssec_run.specs.declared.call.Call.{Call}
 use Rattle.dnssec_run.specs.declared.record.Entry.{Entry}
 use Rattle.dnssec_run.specs.declared.record.Reply.{Reply}
 use Rattle.dnssec_run.specs.declared.record.Reply.TheVariants as reply
-use Rattle.dnssec_run.specs.Asked.{asked_by, asked_at, update_of, is_flag_setting, sets_flag}
+use Rattle.dnssec_run.specs.Asked.{asked_by, asked_at, update_of, sets_flag}
 use Rattle.dnssec_run.specs.Asked.{SamePublished, ChangesAsAsked}
 use Rattle.dnssec_run.specs.Published.{World, shown, in_ds, in_dnskey, signs_dnskey, signs_zone}
 use Rattle.dnssec_run.specs.Record.{IsRun, call_of, reply_of, is_accepted, world_at, with_added}
 use Rattle.dnssec_run.specs.Record.{reference_added, added_by}
 use Rattle.dnssec_run.specs.Safe.{SetKind, Ds, Dnskey, ZoneSigners, position_at, told, blank}
 use Rattle.dnssec_run.proofs.Positions.{same-shown, shown-none}
-use Rattle.dnssec_run.proofs.Chain.Tale.{start-parts}
+use Rattle.dnssec_run.proofs.Chain.Tale.{start-parts, early-end-parts}
 use Rattle.dnssec_keyset.proofs.Tests.{alike-same}
 use Rattle.dnssec_run.proofs.Chain.Allowed.{clear_cause}
 use Rattle.dnssec_run.proofs.Chain.Trust.{adds_blank, plainly}
 use Rattle.dnssec_run.proofs.Asked.Actions.{updates, asks_update, start-asks, wait-asks, same_in}
+use Rattle.dnssec_run.proofs.Asked.Actions.{early-end-asks}
 use Rattle.dnssec_run.proofs.Asked.Actions.{none_in, idle-unseen, same-itself}
 use Rattle.dnssec_run.proofs.WholeRolls.Replies.{accepted_step, refused_step, added-next}
 
@@ -167,6 +168,13 @@ module _ (kind : SetKind) (old new : KeySetParts) where
   agree-step (keyset.Wait r Second now) calm fresh v m none =
       by_keys _ m.keys (λ q. agree-mapped kind _ (get old.keys q)
       (λ k. or_right _ _ (wait-asks r true kind k.keytype) none))
+  agree-step (keyset.AbortRoll r) calm fresh v m none =
+      by_keys _ m.keys (λ q. agree-mapped kind _ (get old.keys q)
+      (λ k. ap (λ (j : KeyParts). same_in kind j.keytype k.keytype)
+      (early-end-parts r (is_listed (listed_by old.lists r).olds q)
+      (is_listed (listed_by old.lists r).news q) k)
+      ∙ or_right _ _ (early-end-asks r (is_listed (listed_by old.lists r).olds q)
+      (is_listed (listed_by old.lists r).news q) kind k.keytype) none))
   agree-step (keyset.RollDone r) calm fresh v m none =
       by_keys _ m.keys (λ q. agree-mapped kind _ (get old.keys q)
       (λ k. same-itself kind k.keytype))
@@ -256,6 +264,7 @@ module _ (name : List ℕ) (calls : List Call) (entries : List Entry)
   added-same n (keyset.Report a b c d) f set v q k there = refl
   added-same n (keyset.Wait a b c) f set v q k there = refl
   added-same n (keyset.RollDone a) f set v q k there = refl
+  added-same n (keyset.AbortRoll a) f set v q k there = refl
 
   stays-same : (n : ℕ) (c : Call) (e : Entry) → slice_get calls n ≡ Some c
       → slice_get entries n ≡ Some e → suc n ≤ length entries → sets_flag (call_of c) ≡ false

@@ -128,6 +128,8 @@ module _ (entries : List Entry) (n : ℕ) (old new : KeySetParts) where
       (based-on entries n q (CacheExpire2 w.0) Done refl (ap (is_step q) mk)
       (h q (CacheExpire2 w.0) w.1)))
       (λ r t. ap (is_step r) mk) h
+  based-step (keyset.AbortRoll q) v m mk asked h =
+      on_roll q None m.rolls (λ x e. absurd (none-some x e)) (λ r t. ap (is_step r) mk) h
   based-step (keyset.RollDone q) v m mk asked h =
       on_roll q None m.rolls (λ x e. absurd (none-some x e)) (λ r t. ap (is_step r) mk) h
 
@@ -224,6 +226,7 @@ module _ (name : List ℕ) (calls : List Call) (entries : List Entry)
   reported n le (keyset.Wait a First b) v roll second ttl e = absurd (cc)
   reported n le (keyset.Wait a Second b) v roll second ttl e = absurd (cc)
   reported n le (keyset.RollDone a) v roll second ttl e = absurd (cc)
+  reported n le (keyset.AbortRoll a) v roll second ttl e = absurd (cc)
 
   retires-at : (n : ℕ) (roll : RollType) (second : Bool) (ttl : ℕ)
       → (position_at entries n).mark ≡ Report roll second ttl → Retires n roll second

@@ -13,7 +13,7 @@ use Rattle.dnssec_key.specs.declared.roll.RollState.TheVariants.{Propagation2, C
 use Rattle.dnssec_key.specs.declared.key.KeyType.{KeyType}
 use Rattle.dnssec_key.specs.Key.{KeyParts}
 use Rattle.dnssec_keyset.specs.KeySet.{phase_of, same_roll}
-use Rattle.dnssec_key.specs.RollTable.{after_start, after_report, after_wait, First, Second}
+use Rattle.dnssec_key.specs.RollTable.{after_start, after_report, after_wait, after_early_end, First, Second}
 use Rattle.dnssec_key.specs.RollTable.{column, with_stamps, written as stamped}
 use Rattle.dnssec_keyset.specs.Start.{is_listed as listed}
 use Rattle.dnssec_run.specs.declared.call.Call.{Call}
@@ -21,7 +21,7 @@ use Rattle.dnssec_run.specs.declared.record.Entry.{Entry}
 use Rattle.dnssec_run.specs.Published.{Id, World as RealWorld}
 use Rattle.dnssec_run.specs.Record as rec
 use Rattle.dnssec_run.specs.Plain.{IsPlain}
-use Rattle.dnssec_keyset.proofs.Flags.{started, aged, tolerates, may_list, is_blank, SideOf}
+use Rattle.dnssec_keyset.proofs.Flags.{started, ended, aged, tolerates, may_list, is_blank, SideOf}
 use Rattle.dnssec_keyset.proofs.Flags.{affects}
 use Rattle.dnssec_run.proofs.Chain.Tables.{Stamp, stamp_in, half, read, checked, serves_new}
 use Rattle.dnssec_run.proofs.Chain.Tables.{serves_kept}
@@ -80,6 +80,13 @@ start-parts r now true true k = refl
 start-parts r now true false k = refl
 start-parts r now false true k = refl
 start-parts r now false false k = refl
+
+pub early-end-parts : (r : RollType) (o i : Bool) (k : Key)
+    → after_early_end r o i k ≡ record k { keytype = ended r o i k.keytype }
+early-end-parts r true true k = refl
+early-end-parts r true false k = refl
+early-end-parts r false true k = refl
+early-end-parts r false false k = refl
 
 abbrev pub start_key : RollType → ℕ → List (List ℕ) → List (List ℕ) → List ℕ → Key → Key
 start_key r now old new q k = started_key r now (is_listed q old) (is_listed q new) k

@@ -21,7 +21,7 @@ use Rattle.dnssec_key.specs.declared.roll.RollState.TheVariants.{Propagation1, C
 use Rattle.dnssec_key.specs.declared.roll.RollState.TheVariants.{Propagation2, CacheExpire2}
 use Rattle.dnssec_key.specs.declared.roll.RollState.TheVariants.{Done}
 use Rattle.dnssec_key.specs.declared.key.KeyType.{KeyType}
-use Rattle.dnssec_keyset.specs.KeySet.{KeySetParts, Rolls, MovesOn, phase_of, with_phase, no_rolls}
+use Rattle.dnssec_keyset.specs.KeySet.{Lists, KeySetParts, Rolls, MovesOn, phase_of, with_phase, no_rolls}
 use Rattle.dnssec_key.specs.RollTable.{First, Second}
 use Rattle.dnssec_key.specs.Setters.{Present}
 use Rattle.dnssec_key.specs.Setters.{set_by}
@@ -102,6 +102,7 @@ plainly (call.CacheExpired1 a b) = record { mark_is = refl; moment_is = refl; bl
 plainly (call.Propagation2Complete a b c) = record { mark_is = refl; moment_is = refl; blank = refl }
 plainly (call.CacheExpired2 a b) = record { mark_is = refl; moment_is = refl; blank = refl }
 plainly (call.RollDone a) = record { mark_is = refl; moment_is = refl; blank = refl }
+plainly (call.AbortRoll a) = record { mark_is = refl; moment_is = refl; blank = refl }
 
 -- ---- worlds
 
@@ -134,7 +135,7 @@ module _ (tale : Tale) (n : ℕ) (here : suc n ≤ length tale.es) where
   abbrev after : KeySetParts
   after = (real tale (suc n)).set
 
-  moved : (f g : List ℕ → Key → Key) (r : RollType) (o : Option RollState) → MovesOn before after r o f → ((q : List ℕ) (k : Key) → f q k ≡ g q k)
+  moved : (f g : List ℕ → Key → Key) (r : RollType) (o : Option RollState) {kept : Lists} → MovesOn before after r o kept f → ((q : List ℕ) (k : Key) → f q k ≡ g q k)
       → ((q : List ℕ) → (world_at tale (suc n)).added q ≡ (world_at tale n).added q) → world_at tale (suc n) ≡ rolled (world_at tale n) g r o
   moved f g r o h same added = worlds (world_at tale (suc n)) (rolled (world_at tale n) g r o)
       (λ q. h.keys q ∙ map_by (f q) (g q) (same q) (get before.keys q)) added
@@ -178,6 +179,7 @@ module _ (tale : Tale) (n : ℕ) (here : suc n ≤ length tale.es) where
       let w = waits_in_phase r true now (real tale n) v in
       wait2 tale n here r w.0 now (mapped tale n (λ q. wait2_key r now) r (Some Done) (moved _ (λ q. wait2_key r now) r (Some Done) h (λ q k. refl) added))
       w.1 w.2 m t (λ s. none-some AlgorithmRoll (only s)) inv
+  accepted (keyset.AbortRoll r) v h plain blank added m t only some inv = absurd (true≢false (sym plain))
   accepted (keyset.RollDone r) v h plain blank added m t only some inv =
       let keys = λ (q : List ℕ). h.keys q ∙ map_id (get before.keys q) in
       done tale n here r keys (λ id. λ i. if added id.0 i == id.1 then keys id.0 i else None)

@@ -15,7 +15,7 @@ use Rattle.dnssec_key.specs.declared.roll.RollType.TheVariants.{CskRoll, Algorit
 use Rattle.dnssec_key.specs.declared.key.KeyType.{KeyType}
 use Rattle.dnssec_key.specs.declared.key.KeyType.TheVariants.{Ksk, Zsk, Csk, Include}
 use Rattle.dnssec_key.specs.Key.{KeyParts}
-use Rattle.dnssec_keyset.specs.KeySet.{KeySetParts, PutsKey, same_roll}
+use Rattle.dnssec_keyset.specs.KeySet.{Lists, KeySetParts, PutsKey, same_roll}
 use Rattle.dnssec_key.specs.RollTable.{First, Second, column, stamp_if, after_report, after_wait}
 use Rattle.dnssec_keyset.proofs.Flags.{Zone, may_list, waited1, tolerates, Early, Late, fits}
 use Rattle.dnssec_keyset.proofs.Flags.{is_idle}
@@ -174,8 +174,8 @@ beside-same r old new e = record {
 }
 
 -- a key put or taken that is in no use, nor the one before it
-pub beside-puts : (r : RollType) (old new : KeySetParts) (p : List ℕ) (o : Option KeyParts)
-    → PutsKey old new p o
+pub beside-puts : {kept : Lists} (r : RollType) (old new : KeySetParts) (p : List ℕ)
+    (o : Option KeyParts) → PutsKey old new p o kept
     → ((j : KeyParts) → o ≡ Some j → is_idle j.keytype ≡ true)
     → ((k : KeyParts) → get old.keys p ≡ Some k → is_idle k.keytype ≡ true) → Beside r old new
 beside-puts r old new p o m fresh gone =
@@ -395,7 +395,8 @@ module _ (t : ℕ) (old new : KeySetParts) (late : NoneLater t old) where
         | inr at_most ↦ at_most
       ]
 
-  pub later-puts : (p : List ℕ) (o : Option KeyParts) (u : ℕ) → t ≤ u → PutsKey old new p o
+  pub later-puts : {kept : Lists} (p : List ℕ) (o : Option KeyParts) (u : ℕ) → t ≤ u
+      → PutsKey old new p o kept
       → ((j : KeyParts) → o ≡ Some j → (s : Stamp) → stamp_of s j ≡ None) → NoneLater u new
   later-puts p o u le m fresh q j s x e h = by (bytes_eq p q) refl (sym (m.keys q) ∙ e)
     where

@@ -38,7 +38,7 @@ use Rattle.dnssec_run.proofs.Chain.Allowed.{can_start, clear_cause}
 use Rattle.dnssec_run.proofs.WholeRolls.Going.{old-step, new-step, still, IsNoAdd}
 use Rattle.dnssec_run.proofs.WholeRolls.Keys.{Idle}
 use Rattle.dnssec_run.proofs.WholeRolls.Listed.{began, newly, oldly, over_facts}
-use Rattle.dnssec_run.proofs.WholeRolls.Order.{back, in_order, world_of}
+use Rattle.dnssec_run.proofs.WholeRolls.Order.{is_calm, back, in_order, world_of}
 use Rattle.dnssec_keyset.proofs.Accepted.{finishes, add_free}
 use Rattle.dnssec_run.proofs.WholeRolls.Phases.{phase_fits, phase_is, put_there, roll_now}
 use Rattle.dnssec_run.proofs.WholeRolls.Positions.{in-order, nothing_set}
@@ -66,6 +66,7 @@ accepts v old new c r clear free step =
     refused (keyset.Report r h ttl t) cause e = cc
     refused (keyset.Wait r h t) cause e = cc
     refused (keyset.RollDone r) cause e = cc
+    refused (keyset.AbortRoll r) cause e = cc
 
     by : (r : Reply) → keyset.StepBy keyset.Clear old c (reply_of r) new → is_accepted r ≡ true
     by reply.Done s = refl
@@ -110,6 +111,7 @@ module _ (name : List ℕ) (calls : List Call) (entries : List Entry) (run : IsR
   with_same n (keyset.Report a b c d) f q = inr (refl, tt)
   with_same n (keyset.Wait a b c) f q = inr (refl, tt)
   with_same n (keyset.RollDone a) f q = inr (refl, tt)
+  with_same n (keyset.AbortRoll a) f q = inr (refl, tt)
 
   by_added : (n : ℕ) (c : Call) (r : Reply) (f : List ℕ → ℕ) (q : List ℕ) → (added_by n c r f q ≡ n)
       ⊎ ((added_by n c r f q ≡ f q) × (is_accepted r ≡ true → IsNoAdd (call_of c) q))
@@ -188,6 +190,7 @@ module _ (name : List ℕ) (calls : List Call) (entries : List Entry) (run : IsR
         no_add (keyset.Report a b c d) v = refl
         no_add (keyset.Wait a b c) v = refl
         no_add (keyset.RollDone a) v = refl
+        no_add (keyset.AbortRoll a) v = refl
 
         by : (b : Bool) → is_accepted e.reply ≡ b → (at (suc n)).added q ≡ (at n).added q
         by false t = is
@@ -242,7 +245,7 @@ module _ (name : List ℕ) (calls : List Call) (entries : List Entry) (run : IsR
                 call_is = x;
               },
               t,
-            )) in
+            )) (λ x. true≢false (sym clean ∙ ap (is_calm (at n).set) x)) in
             record {
               phase = on.0;
               going = on.1;

@@ -88,6 +88,7 @@ module _ (roll : RollType) (old new : KeySetParts) where
   old-step (keyset.Wait p Second now) plain m q apart h j e =
       old-moved _ m.keys (λ q k at o. (old_wait roll p k.keytype o).1) q h j e
   old-step (keyset.RollDone p) plain m q apart h j e = old-moved _ m.keys (λ q k at o. o) q h j e
+  old-step (keyset.AbortRoll p) plain m q apart h j e = absurd (true≢false (sym plain))
 
   abbrev Stays : List ℕ → Type 0
   Stays q = (j : KeyParts) × (get new.keys q ≡ Some j) × (newly roll j.keytype ≡ true)
@@ -185,6 +186,7 @@ module _ (roll : RollType) (old new : KeySetParts) where
           ]
       new-step (keyset.RollDone p) plain v m leaves q k e w =
           (k, m.keys q ∙ ap (option_map (λ k. k)) e, w)
+      new-step (keyset.AbortRoll p) plain v m leaves q k e w = absurd (true≢false (sym plain))
 
       -- the roll goes on unless it ends
       abbrev GoesOnStill : Type 0
@@ -198,14 +200,18 @@ module _ (roll : RollType) (old new : KeySetParts) where
       ]
 
       pub still : (c : keyset.Call) → keyset.Changes old c new → (c ≡ keyset.RollDone roll → ⊥)
-          → GoesOnStill
-      still (keyset.AddKey r k) m not_end = (x, ap (λ s. phase_of s roll) m.rolls ∙ going)
-      still (keyset.Set r s) m not_end = (x, ap (λ s. phase_of s roll) m.rolls ∙ going)
-      still (keyset.DeleteKey r) m not_end = (x, ap (λ s. phase_of s roll) m.rolls ∙ going)
-      still (keyset.StartRoll p olds news now) m not_end = still-roll p Propagation1 m.rolls
-      still (keyset.Report p half ttl now) m not_end = still-roll p _ m.rolls
-      still (keyset.Wait p half now) m not_end = still-roll p _ m.rolls
-      still (keyset.RollDone p) m not_end = elim (split_by (same_roll p roll)) [
+          → (c ≡ keyset.AbortRoll roll → ⊥) → GoesOnStill
+      still (keyset.AddKey r k) m not_end not_early = (x, ap (λ s. phase_of s roll) m.rolls ∙ going)
+      still (keyset.Set r s) m not_end not_early = (x, ap (λ s. phase_of s roll) m.rolls ∙ going)
+      still (keyset.DeleteKey r) m not_end not_early = (x, ap (λ s. phase_of s roll) m.rolls ∙ going)
+      still (keyset.StartRoll p olds news now) m not_end not_early = still-roll p Propagation1 m.rolls
+      still (keyset.Report p half ttl now) m not_end not_early = still-roll p _ m.rolls
+      still (keyset.Wait p half now) m not_end not_early = still-roll p _ m.rolls
+      still (keyset.RollDone p) m not_end not_early = elim (split_by (same_roll p roll)) [
         | inl t ↦ absurd (not_end (ap keyset.RollDone (same-true p roll t)))
+        | inr t ↦ (x, put_aside old.rolls new.rolls p None roll m.rolls t ∙ going)
+      ]
+      still (keyset.AbortRoll p) m not_end not_early = elim (split_by (same_roll p roll)) [
+        | inl t ↦ absurd (not_early (ap keyset.AbortRoll (same-true p roll t)))
         | inr t ↦ (x, put_aside old.rolls new.rolls p None roll m.rolls t ∙ going)
       ]

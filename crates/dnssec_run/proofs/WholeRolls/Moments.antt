@@ -8,6 +8,7 @@ use Rattle.dnssec_key.specs.declared.roll.RollType.{RollType}
 use Rattle.dnssec_key.specs.Key.{KeyParts}
 use Rattle.dnssec_keyset.specs.Start.{is_listed}
 use Rattle.dnssec_key.specs.Setters.{set_by}
+use Rattle.std.proofs.lemmas.Bool.{true≢false}
 use Rattle.dnssec_run.specs.declared.call.Call.TheVariants as call
 use Rattle.dnssec_run.proofs.Chain.Phases.{start_stamps, wait_stamps}
 use Rattle.dnssec_run.proofs.Chain.Trust.{moment}
@@ -56,6 +57,7 @@ unstamped (call.CacheExpired1 a b) = tt
 unstamped (call.Propagation2Complete a b c) = tt
 unstamped (call.CacheExpired2 a b) = tt
 unstamped (call.RollDone a) = tt
+unstamped (call.AbortRoll a) = tt
 
 -- the moments of calls are no earlier than the time of the set before
 abbrev AtLeast : ℕ → Option ℕ → Type 0
@@ -102,3 +104,4 @@ module _ (t u : ℕ) (le : t ≤ u) (old new : KeySetParts) (late : NoneLater t 
       (λ q k there s x e. inl (wait_stamps r true now k s ∙ e))
   late-step (keyset.RollDone r) plain fresh at m =
       later-moved t old new late (λ q k. k) u le m.keys (λ q k there s x e. inl e)
+  late-step (keyset.AbortRoll r) plain fresh at m = absurd (true≢false (sym plain))

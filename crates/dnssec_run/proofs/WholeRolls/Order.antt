@@ -14,7 +14,7 @@ use Rattle.dnssec_key.specs.declared.roll.RollState.TheVariants.{Propagation1, C
 use Rattle.dnssec_key.specs.declared.roll.RollState.TheVariants.{Propagation2, CacheExpire2}
 use Rattle.dnssec_key.specs.declared.roll.RollState.TheVariants.{Done}
 use Rattle.dnssec_key.specs.Key.{KeyParts}
-use Rattle.dnssec_keyset.specs.KeySet.{KeySetParts, PutsKey, MovesOn, new_set, phase_of, same_roll}
+use Rattle.dnssec_keyset.specs.KeySet.{Lists, KeySetParts, PutsKey, MovesOn, new_set, phase_of, same_roll}
 use Rattle.dnssec_key.specs.RollTable.{First, Second, stamp_if, after_start, after_report}
 use Rattle.dnssec_key.specs.RollTable.{after_wait}
 use Rattle.dnssec_key.specs.Setters.{set_by}
@@ -22,6 +22,7 @@ use Rattle.dnssec_keyset.specs.Laws.{LeavesOthers}
 use Rattle.dnssec_keyset.specs.Step as keyset
 use Rattle.dnssec_keyset.proofs.Sides.{leaves-others}
 use Rattle.dnssec_keyset.proofs.Laws.{moved}
+use Rattle.std.proofs.lemmas.Bool.{true≢false}
 use Rattle.dnssec_run.specs.Published.{World as RealWorld}
 use Rattle.dnssec_run.specs.Plain.{sets_nothing}
 use Rattle.dnssec_keyset.proofs.Flags.{SideOf, affects, may_list, is_blank, started, waited1}
@@ -70,9 +71,9 @@ stamped false now s = refl
 
 module _ (sd : SideOf) (old new : KeySetParts) where
   -- a call of a roll of this side
-  own_side : (r : RollType) (p p' : RollState) (f : List ℕ → KeyParts → KeyParts)
+  own_side : {kept : Lists} (r : RollType) (p p' : RollState) (f : List ℕ → KeyParts → KeyParts)
       → affects sd r ≡ true → is_live p ≡ true → phase_of old.rolls r ≡ Some p
-      → MovesOn old new r (Some p') f
+      → MovesOn old new r (Some p') kept f
       → ((q : List ℕ) (k : KeyParts) → in_order sd (at_phase r p) k ≡ true
       → in_order sd (at_phase r p') (f q k) ≡ true) → Order sd old → Order sd new
   own_side r p p' f own live was m step h = record {
@@ -102,8 +103,8 @@ module _ (sd : SideOf) (old new : KeySetParts) where
           ∙ none) ∙ none_fits r p' q t
 
   -- a call of a roll of the other side
-  other_side : (r : RollType) (o : Option RollState) (f : List ℕ → KeyParts → KeyParts)
-      → affects sd r ≡ false → MovesOn old new r o f
+  other_side : {kept : Lists} (r : RollType) (o : Option RollState)
+      (f : List ℕ → KeyParts → KeyParts) → affects sd r ≡ false → MovesOn old new r o kept f
       → ((q : List ℕ) (k : KeyParts) → get old.keys q ≡ Some k → may_list r k.keytype ≡ false
       → get new.keys q ≡ Some k)
       → ((q : List ℕ) (k : KeyParts) → has_role sd (f q k).keytype ≡ has_role sd k.keytype)
@@ -213,7 +214,8 @@ abbrev pub world_of : KeySetParts → RealWorld
 world_of set = record { set = set; added = λ q. 0 }
 
 module _ (sd : SideOf) (old new : KeySetParts) where
-  puts_side : (r : List ℕ) (o : Option KeyParts) → PutsKey old new r o → (h : Order sd old)
+  puts_side : {kept : Lists} (r : List ℕ) (o : Option KeyParts) → PutsKey old new r o kept
+      → (h : Order sd old)
       → ((j : KeyParts) → o ≡ Some j → in_order sd h.ph j ≡ true) → Order sd new
   puts_side r o p h fresh = calm_side sd old new p.rolls h
       (λ q j e. by q j (bytes_eq r q) refl (sym (p.keys q) ∙ e))
@@ -223,9 +225,9 @@ module _ (sd : SideOf) (old new : KeySetParts) where
       by q j true t e = fresh j (sym (ap (λ b. if b then o else get old.keys q) t) ∙ e)
       by q j false t e = h.keys q j (sym (ap (λ b. if b then o else get old.keys q) t) ∙ e)
 
-  start_side : (r : RollType) (olds news : List (List ℕ)) (now : ℕ)
+  start_side : {kept : Lists} (r : RollType) (olds news : List (List ℕ)) (now : ℕ)
       → CanStart r (seen (world_of old)) olds news
-      → MovesOn old new r (Some Propagation1)
+      → MovesOn old new r (Some Propagation1) kept
       (λ q. after_start r now (is_listed q olds) (is_listed q news))
       → affects sd r ≡ true → Order sd old → Order sd new
   start_side r olds news now can m own h = record {
@@ -267,7 +269,8 @@ module _ (sd : SideOf) (old new : KeySetParts) where
       at_roll q e false t = ap (phase_fits (Spreading false r) q)
           (put_aside old.rolls new.rolls r (Some Propagation1) q m.rolls t ∙ alone q e) ∙ ap not t
 
-  done_side : (r : RollType) → phase_of old.rolls r ≡ Some Done → MovesOn old new r None (λ q k. k)
+  done_side : {kept : Lists} (r : RollType) → phase_of old.rolls r ≡ Some Done
+      → MovesOn old new r None kept (λ q k. k)
       → affects sd r ≡ true → Order sd old → Order sd new
   done_side r was m own h = record {
     ph = Idle;
@@ -350,6 +353,7 @@ module _ (sd : SideOf) (old new : KeySetParts) where
     | inr out ↦ other_side sd old new r (Some Done) (λ q. after_wait r Second now) out m
         (λ q k e l. leaves r q k refl e l) (λ q k. role_waited2 sd r k.keytype) h
   ]
+  changed_side (keyset.AbortRoll r) plain leaves v m h = absurd (true≢false (sym plain))
   changed_side (keyset.RollDone r) plain leaves v m h = elim (split_by (affects sd r)) [
     | inl own ↦ done_side r (finishes _ (clear_cause _ v)) m own h
     | inr out ↦ other_side sd old new r None (λ q k. k) out m (λ q k e l. leaves r q k refl e l)

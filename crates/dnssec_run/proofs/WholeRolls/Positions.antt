@@ -58,6 +58,7 @@ nothing_set set (call.CacheExpired1 a b) p = p
 nothing_set set (call.Propagation2Complete a b c) p = p
 nothing_set set (call.CacheExpired2 a b) p = p
 nothing_set set (call.RollDone a) p = p
+nothing_set set (call.AbortRoll a) p = p
 
 module _ (name : List ℕ) (calls : List Call) (entries : List Entry) (run : IsRun name calls entries)
     (plain : SetsNothing name calls entries) where

@@ -75,6 +75,7 @@ no_report r (keyset.Report q Second ttl now) h s = by (same_roll r q) refl
 no_report r (keyset.Wait a First c) h s = refl
 no_report r (keyset.Wait a Second c) h s = refl
 no_report r (keyset.RollDone a) h s = refl
+no_report r (keyset.AbortRoll a) h s = refl
 
 stale_gone : (k : KeyParts) → deletion_refusal (Some k) ≡ None → is_idle k.keytype ≡ true
 stale_gone k e = by (is_stale k.keytype) refl
@@ -255,6 +256,7 @@ module _ (entries : List Entry) (n : ℕ) (old new : KeySetParts) (ks : Order Ke
     where
       finished : Data entries new (suc n) r Done
       finished = tt
+  data-step (keyset.AbortRoll r) plain v m leaves mk mo late h = absurd (true≢false (sym plain))
   data-step (keyset.RollDone r) plain v m leaves mk mo late h =
       let was = finishes _ (clear_cause _ v) in
       data-roll r None m.rolls (λ x e. absurd (none-some x e))

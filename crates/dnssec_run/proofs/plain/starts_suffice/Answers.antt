@@ -3,4 +3,5 @@ use Rattle.dnssec_run.proofs.Starts.{starts-suffice}
 use Rattle.dnssec_run.proofs.plain.starts_suffice.Goals as goal
 
 pub returns : goal.returns
-returns c = starts-suffice
+returns c = λ name calls entries run plain.
+    starts-suffice name calls entries run plain.no_early_end plain

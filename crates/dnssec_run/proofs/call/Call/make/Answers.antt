@@ -58,5 +58,11 @@ returns-in-Propagation2Complete c = let e = c.propagation2_complete.ensures in r
 pub returns-in-CacheExpired2 : goal.returns-in-CacheExpired2
 returns-in-CacheExpired2 c = let e = c.cache_expired2.ensures in rw (c.in-CacheExpired2.is, c.listed-in-CacheExpired2.ensures) (list_waited _ _ _ _ refl (λ some. some) _ _ e.reply e.actions e.ok e.err)
 
+pub returns-in-AbortRoll : goal.returns-in-AbortRoll
+returns-in-AbortRoll c =
+    let e = c.abort_roll.ensures in
+    rw (c.in-AbortRoll.is, c.listed-in-AbortRoll.ensures)
+    (list_or_memory _ _ _ _ refl _ _ tt e.reply e.actions e.ok e.err)
+
 pub returns-in-RollDone : goal.returns-in-RollDone
 returns-in-RollDone c = let e = c.roll_done.ensures in rw (c.in-RollDone.is, c.listed-in-RollDone.ensures) (list_exactly _ _ _ _ refl _ _ e.reply e.actions e.ok e.err)
