@@ -26,7 +26,7 @@ def due(calls, answers):
             continue
         if word in NEXT or word == "wait2":
             rolls[roll] = [*answer.split(" ")[1:], f"then {NEXT.get(word, 'done')}"]
-        elif word == "done":
+        elif word in ("done", "abort"):
             del rolls[roll]
     return rolls
 

@@ -155,7 +155,7 @@ class KeySet:
             word, roll = call.split(" ")[:2]
             if word in ("start", "report1", "wait1", "report2", "wait2"):
                 self.due[roll] = _actions(reply)
-            elif word == "done":
+            elif word in ("done", "abort"):
                 del self.due[roll]
         keys = (part.partition("=")[2] for part in sets.split(" "))
         self.published = Published(*([] if it == "-" else it.split(",") for it in keys))

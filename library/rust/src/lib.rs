@@ -218,7 +218,7 @@ impl KeySet {
                 ] => {
                     due.insert(roll.to_string(), asked.clone());
                 }
-                ["done", roll] => {
+                ["done" | "abort", roll] => {
                     due.remove(*roll);
                 }
                 _ => {}
