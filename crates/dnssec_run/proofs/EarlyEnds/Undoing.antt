@@ -7,6 +7,7 @@ use Rattle.std.specs.Option.{option_map, option_map_or}
 use Rattle.std.specs.FinMap.{get}
 use Rattle.std.proofs.lemmas.Bool.{true≢false, and_parts, cases_lt}
 use Rattle.std.proofs.lemmas.Option.{same_Some, none-some, slice_get_cases}
+use Rattle.dnssec_key.specs.declared.key.KeyType.{KeyType}
 use Rattle.dnssec_key.specs.declared.roll.RollType.{RollType}
 use Rattle.dnssec_key.specs.declared.roll.RollState.TheVariants.{Propagation1}
 use Rattle.dnssec_key.specs.State.{is_kept}
@@ -66,6 +67,14 @@ unmapped : (o : Option KeyParts) (f : KeyParts → KeyParts) → ((k : KeyParts)
     → option_map f o ≡ o
 unmapped None f same = refl
 unmapped (Some k) f same = ap Some (same k)
+
+-- the set has a key with these flags there
+abbrev HasKind : KeySetParts → List ℕ → KeyType → Type 0
+HasKind set q t = (j : KeyParts) × (get set.keys q ≡ Some j) × (j.keytype ≡ t)
+
+onto : (set : KeySetParts) (q : List ℕ) (t u : KeyType) → HasKind set q t → t ≡ u
+    → HasKind set q u
+onto set q t u h e = (h.0, h.1, h.2 ∙ e)
 
 module _ (name : List ℕ) (calls : List Call) (entries : List Entry)
     (run : IsRun name calls entries) where
@@ -180,8 +189,8 @@ module _ (name : List ℕ) (calls : List Call) (entries : List Entry)
         news_are : U → is_listed (listed_by set.lists roll).news q ≡ is_new
         key : (k : KeyParts) → get old.keys q ≡ Some k
             → (may_start roll is_old is_new k.keytype && tied k.keytype) ≡ true
-            → (is_old || is_new) ≡ true → U → (j : KeyParts) × (get set.keys q ≡ Some j)
-            × (j.keytype ≡ started roll is_old is_new k.keytype)
+            → (is_old || is_new) ≡ true → U
+            → HasKind set q (started roll is_old is_new k.keytype)
 
       standing-same : (set : KeySetParts) (U V : Type 0) → (U → V) → (V → U) → Standing set U
           → Standing set V
@@ -269,7 +278,7 @@ module _ (name : List ℕ) (calls : List Call) (entries : List Entry)
                     (call_of c) ok.0 ok.1
                     (leaves-others (at n).set (at (suc n)).set (call_of c) (reply_of e.reply) step)
                     was.1 (here u) in
-                    (y.0, y.1, y.2 ∙ x.2);
+                    onto (at (suc n)).set q x.0.keytype _ y x.2;
               }
 
       standing : (n : ℕ) → s < n → n ≤ length entries → NoStart n
