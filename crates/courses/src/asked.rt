@@ -49,6 +49,14 @@ pub fn asked_after(call: Call) -> &'static [Action] {
             WaitDnskeyPropagated,
             WaitRrsigPropagated,
         ],
+        Call::Abort(KskRoll | ZskRoll | CskRoll) => &[UpdateDnskeyRrset, WaitDnskeyPropagated],
+        Call::Abort(KskDoubleDsRoll) => &[CreateCdsRrset, UpdateDsRrset, WaitDsPropagated],
+        Call::Abort(ZskDoubleSignatureRoll | AlgorithmRoll) => &[
+            UpdateDnskeyRrset,
+            UpdateRrsig,
+            WaitDnskeyPropagated,
+            WaitRrsigPropagated,
+        ],
         _ => &[],
     }
 }

@@ -1,16 +1,41 @@
 //! One call, and what holds of it whatever the course.
 use crate::asked::asked_after;
-use crate::look::{Seen, at, look, tags};
+use crate::look::{Seen, are_alike, at, look, tags};
 use crate::mismatch::Trouble;
 use crate::steps::{Call, Kind, Memory, Names, Told};
 use dnssec_base::SecurityAlgorithm;
 use dnssec_keyset::{Action, Available, Error, KeySet, RollType, UnixTime};
 use std::alloc::{AllocError, Global};
 
+/// Makes one call, and with ample memory beside it the same on a copy of the set: the copy is told
+/// the same, and tells the same then.
+pub(crate) fn make(
+    alloc: Global,
+    set: &mut KeySet,
+    call: Call,
+    now: u64,
+    memory: &mut Memory,
+) -> Result<Told, Trouble> {
+    // A copy would take the request that is to fail.
+    if *memory != Memory::Ample {
+        return make_alone(alloc, set, call, now, memory);
+    }
+    let Ok(mut copy) = set.try_clone() else {
+        return Err(Trouble::NoMemory);
+    };
+    let told = make_alone(alloc, set, call, now, memory)?;
+    let told_beside = make_alone(alloc, &mut copy, call, now, memory)?;
+    if told_beside == told && are_alike(set, &copy) {
+        Ok(told)
+    } else {
+        Err(Trouble::CopyGoesOtherwise)
+    }
+}
+
 /// Makes one call. Where it is refused nothing may have changed; where it is accepted it asks what
 /// the operator's table says, and `actions` then tells the same. A call that is refused for want of
 /// memory is made once more.
-pub(crate) fn make(
+fn make_alone(
     alloc: Global,
     set: &mut KeySet,
     call: Call,
@@ -78,7 +103,7 @@ fn check_roll(
     if tags(set) != *tags_before {
         return Err(Trouble::TagWritten);
     }
-    check_told_again(set, roll, asked_after(call), memory)
+    check_told_again(set, roll, due_after(call), memory)
 }
 
 fn check_told_again(
@@ -100,6 +125,15 @@ fn check_told_again(
     }
 }
 
+/// What is asked of the operator while the roll of an accepted call stands where it is then. A roll
+/// that was ended early stands nowhere.
+fn due_after(call: Call) -> &'static [Action] {
+    match call {
+        Call::Abort(_) => &[],
+        _ => asked_after(call),
+    }
+}
+
 fn as_told(error: Error) -> Told {
     match error {
         Error::Wait(left) if left.subsec_nanos() == 0 => Told::Wait(left.as_secs()),
@@ -109,7 +143,7 @@ fn as_told(error: Error) -> Told {
 
 fn takes_memory(call: Call) -> bool {
     match call {
-        Call::Add(..) | Call::AddUnavailable(..) | Call::Start(..) => true,
+        Call::Add(..) | Call::AddUnavailable(..) | Call::Start(..) | Call::Abort(_) => true,
         Call::Wait1(_) | Call::Wait2(_) => !asked_after(call).is_empty(),
         _ => false,
     }
@@ -122,7 +156,8 @@ fn roll_of(call: Call) -> Option<RollType> {
         | Call::Wait1(roll)
         | Call::Report2(roll, _)
         | Call::Wait2(roll)
-        | Call::Finish(roll) => Some(roll),
+        | Call::Finish(roll)
+        | Call::Abort(roll) => Some(roll),
         _ => None,
     }
 }
@@ -141,6 +176,7 @@ fn attempt(
         Call::Report2(roll, ttl) => set.propagation2_complete(roll, ttl, now),
         Call::Wait2(roll) => set.cache_expired2(roll, now),
         Call::Finish(roll) => set.roll_done(roll),
+        Call::Abort(roll) => set.abort_roll(roll),
         _ => match attempt_on_key(alloc, set, call, now) {
             Ok(()) => Ok(Vec::new(alloc)),
             Err(error) => Err(error),

@@ -40,6 +40,8 @@ pub enum Trouble {
     NotSo(Option<SeenKey>),
     /// The end of a wait isn't what waits are told.
     WaitEnd,
+    /// The call goes otherwise on a copy of the set.
+    CopyGoesOtherwise,
     /// Two courses that have to end alike don't.
     EndsOtherwise,
 }
@@ -73,6 +75,7 @@ impl fmt::Display for Trouble {
             Trouble::Added(key) => write!(f, "a key isn't as it was added: {key:?}"),
             Trouble::NotSo(key) => write!(f, "it isn't so: {key:?}"),
             Trouble::WaitEnd => f.write_str("the end of a wait isn't what waits are told"),
+            Trouble::CopyGoesOtherwise => f.write_str("a copy of the set goes otherwise"),
             Trouble::EndsOtherwise => f.write_str("it doesn't end as the first course"),
         }
     }

@@ -79,6 +79,8 @@ pub enum Call {
     Report2(RollType, u32),
     Wait2(RollType),
     Finish(RollType),
+    /// Ends a roll early.
+    Abort(RollType),
     SetDecoupled(&'static str, bool),
     SetPresent(&'static str, bool),
     SetSigner(&'static str, bool),

@@ -8,6 +8,16 @@ mod algorithm_roll;
 #[cfg(test)]
 mod csk_roll;
 #[cfg(test)]
+mod early_ends;
+#[cfg(test)]
+mod early_ends_beside_others;
+#[cfg(test)]
+mod early_ends_of_csks;
+#[cfg(test)]
+mod early_ends_of_ksks;
+#[cfg(test)]
+mod early_ends_of_zsks;
+#[cfg(test)]
 mod keys;
 #[cfg(test)]
 mod ksk_rolls;
@@ -17,6 +27,8 @@ mod side_by_side;
 mod starts;
 #[cfg(test)]
 mod states;
+#[cfg(test)]
+mod tags;
 #[cfg(test)]
 mod texts;
 #[cfg(test)]
