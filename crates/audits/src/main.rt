@@ -1,4 +1,4 @@
-//! Makes records at random, also such as no run makes, and compares the verdicts of `audit` and of
+//! Makes records at random, also ones that no run makes, and compares the verdicts of `audit` and of
 //! `audit_window` on them.
 #![tactic(auto)]
 

@@ -33,8 +33,8 @@ pub(crate) fn make(
 }
 
 /// Makes one call. Where it is refused nothing may have changed; where it is accepted it asks what
-/// the operator's table says, and `actions` then tells the same. A call that is refused for want of
-/// memory is made once more.
+/// the operator's table says, and `actions` then tells the same. A call that is refused because
+/// memory ran out is made once more.
 fn make_alone(
     alloc: Global,
     set: &mut KeySet,
@@ -125,7 +125,7 @@ fn check_told_again(
     }
 }
 
-/// What is asked of the operator while the roll of an accepted call stands where it is then. A roll
+/// The actions due while the roll of an accepted call stands where it is then. A roll
 /// that was ended early stands nowhere.
 fn due_after(call: Call) -> &'static [Action] {
     match call {

@@ -1,6 +1,6 @@
 -- The six rolls as columns of one table. A column says what a start puts on a new key, and for each
 -- half of the roll which stamps its report writes, which keys its wait checks and what the wait
--- then does, with what is asked of the operator. Tests are on the flags before the call; what a
+-- then does, with the actions due. Tests are on the flags before the call; what a
 -- column doesn't name stays.
 use Rattle.std.specs.Prelude.{ℕ, Bool, true, false, not, ◌||◌, if◌then◌else◌, Option, None}
 use Rattle.std.specs.Prelude.{Some, List, [], ◌∷◌}
@@ -161,18 +161,18 @@ pub record HalfRoll : Type 0 where
   pub moves : KeyType → KeyType  -- what happens once the wait is over
   pub stamps : Stamping  -- and what is stamped then
 
--- a roll: its start, its two halves, and what is asked of the operator (RFC 6781, section 4.1)
+-- a roll: its start, its two halves, and the actions due (RFC 6781, section 4.1)
 pub record Column : Type 0 where
   pub comes : KeyType → KeyType  -- what a start puts on a new key
   pub stamps : Stamping  -- and what it stamps
-  pub asks : List Action  -- what is asked after the start
+  pub asks : List Action  -- the actions due after the start
   pub goes : KeyType → KeyType  -- what an early end takes from a new key
   pub returns : KeyType → KeyType  -- and from an old one
-  pub asks_early : List Action  -- what is asked after an early end
+  pub asks_early : List Action  -- the actions due after an early end
   pub first : HalfRoll
-  pub asks_between : List Action  -- what is asked after the first wait
+  pub asks_between : List Action  -- the actions due after the first wait
   pub second : HalfRoll
-  pub asks_last : List Action  -- what is asked after the second wait
+  pub asks_last : List Action  -- the actions due after the second wait
 
 -- Double-Signature KSK roll: both sign the DNSKEY set, then the DS moves (RFC 6781, section 4.1.2)
 abbrev pub ksk_double_signature : Column

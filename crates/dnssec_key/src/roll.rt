@@ -68,7 +68,7 @@ pub enum Half {
     Second,
 }
 
-/// What a roll asks of the operator.
+/// What the operator has to do in a roll.
 #[derive(Clone, Copy, Debug, PartialEq, Eq, Hash)]
 pub enum Action {
     /// Publish a version of the zone with an updated DNSKEY set.
@@ -81,18 +81,20 @@ pub enum Action {
     UpdateDsRrset,
     /// Publish a version of the zone with updated signatures.
     UpdateRrsig,
-    /// Report once all secondaries of the zone have the DNSKEY set, with its TTL.
+    /// Report once all secondaries of the zone have the DNSKEY set, with the
+    /// highest TTL under which a cache may still hold an older one.
     ReportDnskeyPropagated,
     /// Wait until all secondaries of the zone have the DNSKEY set. A correct roll doesn't need it,
     /// but without it the key set may run ahead of what is published.
     WaitDnskeyPropagated,
-    /// Report once all secondaries of the parent zone have the DS records, with their TTL.
+    /// Report once all secondaries of the parent zone have the DS records, with
+    /// the highest TTL under which a cache may still hold older ones.
     ReportDsPropagated,
     /// Wait until all secondaries of the parent zone have the DS records. This is needed, so that
     /// the CDS and CDNSKEY sets aren't removed too soon.
     WaitDsPropagated,
     /// Report once all secondaries of the zone have the signatures (those of the SOA record tell
-    /// enough), with the highest TTL of all signatures.
+    /// enough), with the highest TTL under which a cache may still hold older ones.
     ReportRrsigPropagated,
     /// Wait until all secondaries of the zone have the signatures. A correct roll doesn't need it,
     /// but without it the key set may run ahead of what is published.

@@ -554,7 +554,7 @@ impl KeyType {
     }
 }
 
-/// What a roll reads and asks.
+/// What a roll reads, and the actions due in it.
 impl RollType {
     /// The stamp that a wait reads.
     pub fn stamp_read(self, half: Half) -> Stamp
@@ -569,7 +569,7 @@ impl RollType {
         }
     }
 
-    /// What a roll asks of the operator in a phase.
+    /// The actions due in a phase.
     pub fn actions_in(self, phase: RollState) -> &'static [Action]
         ensures { result.now ≡ actions_of self phase }
     {
@@ -602,7 +602,7 @@ impl RollType {
         }
     }
 
-    /// What a roll that is ended early asks of the operator.
+    /// The actions due once the roll is ended early.
     pub fn asks_at_early_end(self) -> &'static [Action]
         ensures { result.now ≡ (column self).asks_early }
     {

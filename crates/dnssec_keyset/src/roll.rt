@@ -17,7 +17,7 @@ use std::alloc::Global;
 impl KeySet {
     /// Starts a roll from the keys of `old` to those of `new`, at the moment `now`.
     ///
-    /// Both lists are of public references. Answers what is asked of the operator now. An old key
+    /// Both lists are of public references. Answers the actions that are due now. An old key
     /// may be one that has not come in yet or has left already, and may be listed twice.
     ///
     /// # Errors
@@ -65,8 +65,9 @@ impl KeySet {
 
     /// Reports that what the start changed has reached all servers, at the moment `now`.
     ///
-    /// `ttl` is the highest TTL, in seconds, of what the actions asked to report. Nothing new is
-    /// asked of the operator, so the answer is empty; no memory is taken.
+    /// `ttl` is the highest TTL, in seconds, under which a cache may still hold an older set of the
+    /// kinds that the actions asked to report. No new action is due, so the answer is empty; no
+    /// memory is taken.
     ///
     /// # Errors
     ///
@@ -90,7 +91,7 @@ impl KeySet {
 
     /// Goes on to the second half of a roll, once old data has left the caches at `now`.
     ///
-    /// Answers what is asked of the operator now.
+    /// Answers the actions that are due now.
     ///
     /// # Errors
     ///
@@ -135,7 +136,7 @@ impl KeySet {
     }
 
     /// Goes on to the end of a roll, once old data has left the caches at `now`. It answers and
-    /// is refused as `cache_expired1` is. Where nothing is asked, which is so for
+    /// is refused as `cache_expired1` is. Where no action is due, which is so for
     /// `ZskDoubleSignatureRoll`, no memory is taken.
     pub fn cache_expired2(
         &mut self,
@@ -176,7 +177,7 @@ impl KeySet {
     /// The roll is taken out. The keys that its start made old are not old any more, and the flags
     /// that the start set on its new keys are cleared, so that each may come in by another roll;
     /// stamps stay. A key whose flag was set by hand since the start, or that was deleted, is left
-    /// alone. Answers what is asked of the operator now.
+    /// alone. Answers the actions that are due now.
     ///
     /// # Errors
     ///
@@ -200,7 +201,7 @@ impl KeySet {
         Ok(actions)
     }
 
-    /// What a roll asks of the operator in its phase: what the accepted call before answered.
+    /// The actions of a roll in its phase: what the accepted call before answered.
     ///
     /// Empty for a roll that isn't in progress, while caches expire, and at the end of
     /// `ZskDoubleSignatureRoll`. An empty list takes no memory.
@@ -267,7 +268,7 @@ impl KeySet {
     }
 }
 
-/// What a roll asks of the operator in a phase. An empty list takes no memory.
+/// The actions of a roll in a phase. An empty list takes no memory.
 fn list_actions(alloc: Global, roll: RollType, phase: RollState) -> Result<Vec<Action>, Error>
     ensures list { IfOk result (λ actions. actions.items ≡ actions_of roll phase) }
     ensures none { actions_of roll phase ≡ [] → IsOk result }

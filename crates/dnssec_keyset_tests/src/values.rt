@@ -28,7 +28,7 @@ fn moments(rt: HostRuntime) {
     assert!(rt; at(10) < moment && moment < at(11));
 }
 
-/// A set lends the name that it was made with.
+/// A set has the name that it was made with.
 #[test]
 fn name_of_the_zone(rt: HostRuntime) -> Result<(), Fail> {
     let name = Name::<Vec<u8>>::from_str(rt.alloc(), "example.com")?;

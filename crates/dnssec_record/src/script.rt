@@ -66,7 +66,7 @@ pub fn run_script<R: Source, W: Sink>(
     ensures malformed_silent { (n : ℕ) → result ≡ Err (ScriptFault.Malformed n) →
         Keeps (W.taken output.old) (W.taken output.new) }
 
-    // Want of memory is told before anything is written.
+    // That memory ran out is told before anything is written.
     ensures memory_silent { result ≡ Err OutOfMemory →
         Keeps (W.taken output.old) (W.taken output.new) }
 

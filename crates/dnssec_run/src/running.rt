@@ -202,13 +202,13 @@ fn record(
 
 /// Makes the calls in turn on a new key set for the zone of this name, and records each.
 ///
-/// The key set and the record take their memory from `alloc`. A call that is refused, also for want
-/// of memory, is recorded, and the run goes on.
+/// The key set and the record take their memory from `alloc`. A call that is refused, also because
+/// memory ran out, is recorded, and the run goes on.
 ///
-/// Where the list sets no flag and no time by hand, and an algorithm roll comes before the first
-/// roll of KSKs or CSKs, every position of the record is safe: of whatever DS set, DNSKEY set and
-/// zone signers no report has retired, there is no DS, or a DS key signs that DNSKEY set, and a key
-/// of it signs the zone (RFC 4035, section 5). Another signer's key may be published and taken out
+/// Where the list sets no flag and no time by hand, and the first wait of an algorithm roll is over
+/// before the first roll of KSKs or CSKs, every position of the record is safe: of any DS set,
+/// DNSKEY set and zone signers that no report has retired, there is no DS, or a DS key signs that
+/// DNSKEY set, and a key of it signs the zone (RFC 4035, section 5). Another signer's key may be published and taken out
 /// by hand at any time.
 ///
 /// Where nothing else is set by hand, no wait lacks a stamp, and between the rolls each role of a
