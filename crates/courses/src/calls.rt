@@ -125,8 +125,8 @@ fn check_told_again(
     }
 }
 
-/// The actions due while the roll of an accepted call stands where it is then. A roll
-/// that was ended early stands nowhere.
+/// The actions due while the roll of an accepted call stands where it is then. A roll that was
+/// ended early stands nowhere.
 fn due_after(call: Call) -> &'static [Action] {
     match call {
         Call::Abort(_) => &[],
