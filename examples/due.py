@@ -18,7 +18,8 @@ def answers(program, script):
 
 
 def due(calls, answers):
-    """Of each roll in progress its last actions, and the call that comes next."""
+    """Of each roll in progress its last actions, and the call that comes next; of one that was
+    ended early its last actions."""
     rolls = {}
     for call, answer in zip(calls, answers):
         word, roll = call.split(" ")[:2]
@@ -26,6 +27,8 @@ def due(calls, answers):
             continue
         if word in NEXT or word == "wait2":
             rolls[roll] = [*answer.split(" ")[1:], f"then {NEXT.get(word, 'done')}"]
+        elif word == "abort":
+            rolls[roll] = answer.split(" ")[1:]
         elif word == "done":
             del rolls[roll]
     return rolls

@@ -1,17 +1,20 @@
 """Compares a port of the key set with the original program, script by script.
 
-    python3 compare.py --original PROGRAM [--port PROGRAM] [--seed SEED] [--count N] [--file FILE]
+    python3 compare.py --original PROGRAM [--port PROGRAM] [--seed SEED] [--count N]
+                       [--early-ends] [--file FILE]
 
-The scripts are those written by hand and N generated ones, or those of a file in the format of
-by_hand.txt. PROGRAM is a command that reads a script on standard input. Without a port the tables
-stand in its place, and are what is compared. The original is run with --canon --alts: of the
-answers that a wait could give by the order of its hashed map it then gives one, the end of the
-program if that is among them, else the longest wait, and it lists them all.
+The scripts are those written by hand and N generated ones, with --early-ends such as end some rolls
+early, or those of a file in the format of by_hand.txt. PROGRAM is a command that reads a script on
+standard input. Without a port the tables stand in its place, and are what is compared. The original
+is run with --canon --alts: of the answers that a wait could give by the order of its hashed map it
+then gives one, the end of the program if that is among them, else the longest wait, and it lists
+them all.
 
 The two are to give the same answers, and the same published sets at the end, up to the first call
 in which they are meant to differ. From there on the original is left out. It gets the number of an
-algorithm where the script has its name. The port is to answer by the tables throughout, and to end
-with the verdict of judge.py on the record, which the original has not. Any other difference is a
+algorithm where the script has its name, and no early end: one that is refused changes nothing, and
+one that is accepted is such a call. The port is to answer by the tables throughout, and to end with
+the verdict of judge.py on the record, which the original has not. Any other difference is a
 finding, printed with the smallest script that shows it. The status is 1 if there is one.
 """
 
@@ -55,6 +58,8 @@ DIFFERENCES = [
 ]
 # This one is seen in the list of the answers that the original could give.
 LONGEST = "Wait tells the longest time that is left"
+# And this one in the call itself.
+EARLY_END = "Rolls can be ended early"
 
 
 def with_cells(cells):
@@ -81,6 +86,8 @@ def answer_of(keyset, line, rolls, lacking):
 def intended(keyset, line):
     """The difference that this call of a script falls into, by its words, and whether the
     original accepts the call or how it refuses it; else None."""
+    if is_early_end(line):
+        return None if keyset.refusal(line) else (EARLY_END, None)
     if line.split(" ")[0] not in ("start", "wait1", "wait2"):
         return None
     by_tables = keyset.refusal(line)
@@ -102,8 +109,24 @@ def run(command, script):
     return done.stdout.splitlines(), done.returncode
 
 
+def is_early_end(line):
+    return line.startswith("abort ")
+
+
+def for_original(script):
+    """The script as the original gets it: without early ends, and up to one that is accepted."""
+    keyset, lines = KeySet(), script[:1]
+    for line in script[1:]:
+        answer = keyset.call(line)
+        if not is_early_end(line):
+            lines.append(by_number(line))
+        elif answer.startswith("ok"):
+            break
+    return lines
+
+
 def by_number(line):
-    """The line as the original gets it: with an algorithm's number in the place of its name."""
+    """The line with an algorithm's number in the place of its name."""
     fields = line.split(" ")
     if fields[0].startswith("add-"):
         fields[-4] = str(number_of(fields[-4]))
@@ -114,7 +137,7 @@ def compare(original, port, script):
     """The intended differences that a script shows, by their words, how many answers of the two
     were compared, and the finding or None."""
     seen, there, same = set(), [], 0
-    lines, status = run(original, [by_number(line) for line in script])
+    lines, status = run(original, for_original(script))
     if status not in (0, 5):
         return seen, same, f"the original ends with status {status}"
     for line in lines:
@@ -125,23 +148,27 @@ def compare(original, port, script):
     here, status = run(port, script)
     if status != 0 or len(here) != len(script) + 1:
         return seen, same, f"the port ends with status {status} after {len(here)} answers"
-    keyset, together = KeySet(), True
+    keyset, together, told = KeySet(), True, iter(there)
     for index, line in enumerate(script[1:]):
         difference = intended(keyset, line) if together else None
         answer = keyset.call(line)
+        is_asked = together and not is_early_end(line)
+        original_says = next(told) if is_asked else None
         if difference:
             together = False
             seen.add(difference[0])
             refused = difference[1]
-            if there[index] != refused and (refused or not there[index].startswith("ok")):
-                both = f"  original: {there[index]}\n  meant to be: {refused}"
+            if is_asked and original_says != refused and (
+                refused or not original_says.startswith("ok")
+            ):
+                both = f"  original: {original_says}\n  meant to be: {refused}"
                 return seen, same, f"{line}\n{both}"
-        elif together and there[index] != here[index]:
-            both = f"  original: {there[index]}\n  port: {here[index]}"
+        elif is_asked and original_says != here[index]:
+            both = f"  original: {original_says}\n  port: {here[index]}"
             return seen, same, f"{line}\n{both}\n  by the tables: {answer}"
         if here[index] != answer:
             return seen, same, f"{line}\n  port: {here[index]}\n  by the tables: {answer}"
-        same += together
+        same += is_asked and together
     sets, chain = keyset.published(), chain_line(keyset.record)
     if together and there[-1] != here[-2]:
         return seen, same, f"published sets\n  original: {there[-1]}\n  port: {here[-2]}"
@@ -170,6 +197,7 @@ def main():
     parser.add_argument("--port", default="")
     parser.add_argument("--seed", default="1")
     parser.add_argument("--count", type=int, default=1000)
+    parser.add_argument("--early-ends", action="store_true")
     parser.add_argument("--file")
     given = parser.parse_args()
     original = [*shlex.split(given.original), "--canon", "--alts"]
@@ -177,7 +205,7 @@ def main():
     if given.file:
         scripts = read_scripts(Path(given.file).read_text())
     else:
-        scripts = {**by_hand(), **generated(given.seed, given.count)}
+        scripts = {**by_hand(), **generated(given.seed, given.count, given.early_ends)}
     tally, findings, compared = collections.Counter(), [], 0
     with ThreadPoolExecutor(3) as pool:
         results = pool.map(lambda lines: compare(original, port, lines), scripts.values())

@@ -2,10 +2,10 @@
 
     python3 make_sample.py [--original PROGRAM] [--count N] > scripts.txt
 
-The scripts written by hand come first. Then come generated ones, N scripts in all: the next is
-always the one that has, for its length, the most calls that are answered in a state as no call
-before. Last come the examples. The answers are those of the tables, and the chain line that of
-judge.py. With an original the answers are compared with it first.
+The scripts written by hand come first. Then come generated ones, N scripts in all, the last of them
+with early ends: the next is always the one that has, for its length, the most calls that are
+answered in a state as no call before. Last come the examples. The answers are those of the tables,
+and the chain line that of judge.py. With an original the answers are compared with it first.
 """
 
 import argparse
@@ -22,8 +22,9 @@ HEADER = """\
 # the line that each call is answered with, then that of the published sets and the chain line. An
 # empty line stands between two scripts. Made by replay/make_sample.py.
 """
-# The seed and the number of the scripts to choose from, and how many lines one may have.
-SEED, MADE, LONGEST = "sample", 6000, 40
+# The seed and the number of the scripts to choose from, how many lines one may have, and how many
+# are chosen from such with early ends.
+SEED, MADE, LONGEST, EARLY = "sample", 6000, 40, 12
 
 
 def what_is_shown(script):
@@ -31,7 +32,7 @@ def what_is_shown(script):
     shown, keyset, last = set(), KeySet(), ""
     for line in script[1:]:
         word, *fields = line.split(" ")
-        roll = fields[0] if word == "start" or word in PHASES or word == "done" else ""
+        roll = fields[0] if word == "start" or word in PHASES or word in ("done", "abort") else ""
         phases = keyset.phases.get(roll, ("none", 0))[0], len(keyset.phases)
         meant = compare.intended(keyset, line)
         answer = keyset.call(line)
@@ -45,17 +46,18 @@ def choose(count):
     """The named scripts of the sample."""
     chosen = by_hand()
     shown = set().union(*(what_is_shown(lines) for lines in chosen.values()))
-    made = [Script(SEED, number) for number in range(MADE)]
-    left = [
-        (script.lines, what_is_shown(script.lines) | script.causes)
-        for script in made
-        if len(script.lines) <= LONGEST
-    ]
-    while len(chosen) < count:
-        best = max(left, key=lambda one: (len(one[1] - shown) / len(one[0]), -len(one[0])))
-        left.remove(best)
-        shown |= best[1]
-        chosen[f"generated-{len(chosen) + 1}"] = best[0]
+    for early_ends, most in ((False, count - EARLY), (True, count)):
+        made = [Script(SEED, number, early_ends) for number in range(MADE)]
+        left = [
+            (script.lines, what_is_shown(script.lines) | script.causes)
+            for script in made
+            if len(script.lines) <= LONGEST
+        ]
+        while len(chosen) < most:
+            best = max(left, key=lambda one: (len(one[1] - shown) / len(one[0]), -len(one[0])))
+            left.remove(best)
+            shown |= best[1]
+            chosen[f"generated-{len(chosen) + 1}"] = best[0]
     return chosen
 
 
@@ -72,7 +74,7 @@ def examples():
 def main():
     parser = argparse.ArgumentParser()
     parser.add_argument("--original")
-    parser.add_argument("--count", type=int, default=212)
+    parser.add_argument("--count", type=int, default=242)
     given = parser.parse_args()
     chosen = choose(given.count)
     chosen.update((name, path.read_text().splitlines()) for name, path in examples().items())

@@ -1,11 +1,12 @@
 """Makes scripts of every roll, with all that may go wrong between their calls.
 
-    python3 make_scripts.py SEED COUNT
+    python3 make_scripts.py [--early-ends] SEED COUNT
 
 Each script has a first roll that gives its zone a chain, then one or two rolls of the types in
-turn. Between two calls stands what a Habit names. A script is made by its seed and number alone.
-The key set of tables.py is run along with it, so as to know what stands; what it answers is used
-for nothing else.
+turn. Between two calls stands what a Habit names. Where early ends are asked for, some rolls are
+ended before their first report. Beside that a script is made by its seed and number alone. The key
+set of tables.py is run along with it, so as to know what stands; what it answers is used for
+nothing else.
 """
 
 import random
@@ -39,7 +40,8 @@ HABITS = [
 class Script:
     """A script in the making, and the key set that it leads to."""
 
-    def __init__(self, seed, number):
+    def __init__(self, seed, number, early_ends=False):
+        self.early_ends = early_ends
         self.random = random.Random(f"{seed} {number}")
         self.lines = ["zone " + self.random.choice(ZONES)]
         self.keyset = KeySet()
@@ -121,6 +123,8 @@ class Script:
         while (self.wanted or self.keyset.phases) and len(self.lines) < self.longest:
             while self.habits and self.chance(self.rate / 2):
                 getattr(self, self.random.choice(self.habits))()
+            if self.early_ends and self.chance(0.2):
+                self.end_early()
             rolls = sorted(self.keyset.phases)
             if self.wanted and self.may_start(self.wanted[0], rolls):
                 if "refused_start" in self.habits:
@@ -172,6 +176,22 @@ class Script:
             for name in self.named(["ksk", "zsk", "csk"], "stale"):
                 if self.chance(0.4):
                     self.call("delete", name)
+
+    def end_early(self):
+        """Ends a roll that waits for its first report, and starts it again at once or later; at
+        times tries it where no roll waits so."""
+        waiting = [roll for roll, (word, _) in self.keyset.phases.items() if word == "report1"]
+        if not waiting or self.chance(0.1):
+            if self.chance(0.2):
+                self.call("abort", self.random.choice(list(ROLLS)))
+            return
+        roll = self.random.choice(sorted(waiting))
+        self.call("abort", roll)
+        if self.chance(0.4):
+            start = next(line for line in reversed(self.lines) if line.startswith(f"start {roll} "))
+            self.call(*start.split(" ")[:-1], self.tick())
+        elif not self.wanted:
+            self.wanted.append(roll)
 
     # What may stand between two calls.
 
@@ -313,10 +333,12 @@ def by_hand():
     return read_scripts(Path(__file__).with_name("by_hand.txt").read_text())
 
 
-def generated(seed, count):
-    return {f"{seed}-{number}": Script(seed, number).lines for number in range(count)}
+def generated(seed, count, early_ends=False):
+    return {f"{seed}-{number}": Script(seed, number, early_ends).lines for number in range(count)}
 
 
 if __name__ == "__main__":
-    for name, lines in generated(sys.argv[1], int(sys.argv[2])).items():
+    asked = "--early-ends" in sys.argv
+    seed, count = [word for word in sys.argv[1:] if word != "--early-ends"]
+    for name, lines in generated(seed, int(count), asked).items():
         print("\n".join([f"== {name}", *lines, ""]))

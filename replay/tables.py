@@ -26,7 +26,7 @@ from judge import NEW_SET, Position, Report, chain_line
 
 # For each roll: the kinds of key that its lists may name; the flags and the stamp that the start
 # gives a new key; what suits the start; which stamps the reports set; which stamp of which keys
-# the waits read; what an accepted wait writes; and the actions of the phases.
+# the waits read; what an accepted wait writes; the actions of the phases, and of an early end.
 ROLLS = {
     "ksk-roll": {
         "kinds": "ksk",
@@ -43,6 +43,7 @@ ROLLS = {
         "started": "UpdateDnskeyRrset ReportDnskeyPropagated",
         "halfway": "CreateCdsRrset UpdateDsRrset ReportDsPropagated",
         "ended": "RemoveCdsRrset UpdateDnskeyRrset WaitDnskeyPropagated",
+        "early": "UpdateDnskeyRrset WaitDnskeyPropagated",
     },
     "ksk-double-ds-roll": {
         "kinds": "ksk",
@@ -62,6 +63,7 @@ ROLLS = {
         "started": "CreateCdsRrset UpdateDsRrset ReportDsPropagated",
         "halfway": "RemoveCdsRrset UpdateDnskeyRrset ReportDnskeyPropagated",
         "ended": "CreateCdsRrset UpdateDsRrset WaitDsPropagated",
+        "early": "CreateCdsRrset UpdateDsRrset WaitDsPropagated",
     },
     "zsk-roll": {
         "kinds": "zsk",
@@ -78,6 +80,7 @@ ROLLS = {
         "started": "UpdateDnskeyRrset ReportDnskeyPropagated",
         "halfway": "UpdateRrsig ReportRrsigPropagated",
         "ended": "UpdateDnskeyRrset WaitDnskeyPropagated",
+        "early": "UpdateDnskeyRrset WaitDnskeyPropagated",
     },
     "zsk-double-signature-roll": {
         "kinds": "zsk",
@@ -94,6 +97,7 @@ ROLLS = {
         "started": "UpdateDnskeyRrset UpdateRrsig ReportDnskeyPropagated ReportRrsigPropagated",
         "halfway": "UpdateDnskeyRrset UpdateRrsig ReportDnskeyPropagated ReportRrsigPropagated",
         "ended": "",
+        "early": "UpdateDnskeyRrset UpdateRrsig WaitDnskeyPropagated WaitRrsigPropagated",
     },
     "csk-roll": {
         "kinds": "ksk zsk csk",
@@ -122,6 +126,7 @@ ROLLS = {
         "halfway": "CreateCdsRrset UpdateDsRrset UpdateRrsig"
         " ReportDsPropagated ReportRrsigPropagated",
         "ended": "RemoveCdsRrset UpdateDnskeyRrset WaitDnskeyPropagated",
+        "early": "UpdateDnskeyRrset WaitDnskeyPropagated",
     },
     "algorithm-roll": {
         "kinds": "ksk zsk csk",
@@ -142,6 +147,7 @@ ROLLS = {
         "halfway": "CreateCdsRrset UpdateDsRrset ReportDsPropagated",
         "ended": "RemoveCdsRrset UpdateDnskeyRrset UpdateRrsig"
         " WaitDnskeyPropagated WaitRrsigPropagated",
+        "early": "UpdateDnskeyRrset UpdateRrsig WaitDnskeyPropagated WaitRrsigPropagated",
     },
 }
 
@@ -158,6 +164,9 @@ PHASES = {"report1": "wait1", "wait1": "report2", "report2": "wait2", "wait2": "
 
 # The calls on rolls that are given a moment, which stands last.
 MOMENTS = ("start", "report1", "wait1", "report2", "wait2")
+
+# The setters that write a flag.
+FLAG_SETTERS = ("set-present", "set-signer", "set-at-parent", "set-stale")
 
 # The algorithms that have a name, by their numbers in IANA's registry.
 ALGORITHMS = {
@@ -218,6 +227,7 @@ class KeySet:
 
     def __init__(self, rolls=None, lacking="refused: " + WRONG_STATE):
         self.keys, self.phases = {}, {}
+        self.listed = {}  # what a roll turns back that is ended early: keys by their references
         self.record, self.added = [NEW_SET], {}
         self.rolls, self.lacking = rolls or ROLLS, lacking
 
@@ -269,6 +279,9 @@ class KeySet:
             if phase != word:
                 return "refused: wrong roll state for operation"
             return self.waits(word, fields[0], ttl, int(fields[1])) if "wait" in word else None
+        if word == "abort":
+            is_early = self.phases.get(fields[0], (None, 0))[0] == "report1"
+            return None if is_early else "refused: wrong roll state for operation"
         return self.setter_refusal(word, self.keys.get(fields[0]))
 
     def setter_refusal(self, word, key):
@@ -340,7 +353,12 @@ class KeySet:
             self.keys[fields[0]] = Key(kind, number_of(algorithm), int(tag), available == "yes")
         elif word == "delete":
             del self.keys[fields[0]]
+            self.forget(fields[0])
+        elif word == "abort":
+            return self.end_early(fields[0])
         elif word.startswith("set-"):
+            if word in FLAG_SETTERS:
+                self.forget(fields[0])
             self.set(word, self.keys[fields[0]], fields[1:])
         elif word == "done":
             del self.phases[fields[0]]
@@ -364,9 +382,13 @@ class KeySet:
         rule, now = self.rolls[roll], int(fields[-1])
         if word == "start":
             old, new = ([] if names == "-" else names.split(",") for names in fields[:2])
+            kept = [name for name in old if not any("old" in s for s in self.keys[name].states)]
+            self.listed[roll] = set(kept), set(new)
             self.mark(rule, old, new, now)
             self.phases[roll] = ("report1", 0)
             return " ".join(["ok", rule["started"]])
+        if word == "report1":
+            del self.listed[roll]
         ttl = int(fields[0]) if word.startswith("report") else 0
         self.phases[roll] = (PHASES[word], ttl)
         changes = rule[word.replace("wait", "change")]
@@ -380,6 +402,27 @@ class KeySet:
             write(key, target, change, now)
         actions = {"wait1": rule["halfway"], "wait2": rule["ended"]}.get(word, "")
         return " ".join(["ok", *actions.split()])
+
+    def forget(self, name):
+        """An early end leaves this key alone from now on."""
+        for names in self.listed.values():
+            for listed in names:
+                listed.discard(name)
+
+    def end_early(self, roll):
+        """Turns back what a start wrote: flags alone, and of the keys that are still listed."""
+        rule = self.rolls[roll]
+        old, new = self.listed.pop(roll)
+        del self.phases[roll]
+        for name in old:
+            for state in self.keys[name].states:
+                state.discard("old")
+        for name in new:
+            for word, change in rule["new"]:
+                number = self.keys[name].role(word)
+                if number is not None:
+                    self.keys[name].states[number] -= set(change.replace("+", "").split())
+        return " ".join(["ok", *rule["early"].split()])
 
     def published(self):
         """The line of the published sets."""

@@ -42,7 +42,7 @@ FENCE = re.compile(r"```(?P<language>\w*) ?(?P<path>\S*)(?P<how>.*)")
 RANGE = re.compile(r"(?P<first>\d+)-(?P<last>\d*)")
 # A line of a script or of its answers.
 SAID = re.compile(
-    r"(zone|add-\w+|set-[\w-]+|delete|start|report[12]|wait[12]|done) \S"
+    r"(zone|add-\w+|set-[\w-]+|delete|start|report[12]|wait[12]|done|abort) \S"
     r"|ok($| [A-Z])|refused: |ds=\S+ dnskey=|chain (safe|broken)"
 )
 # A whole answer in a line of text, between backticks.

@@ -2,7 +2,7 @@
    were accepted before it, and prints what the program keyset prints.
 
        cc -o roll roll.c $(pkg-config --cflags --libs keyset)
-       ./roll <examples/ksk-roll.script */
+       ./roll <../../examples/ksk-roll.script */
 
 #include <keyset.h>
 

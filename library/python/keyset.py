@@ -118,7 +118,8 @@ class KeySet:
     """A key set, as the lines that were accepted."""
 
     due: dict[str, list[Action]]
-    """What is due now, by the roll in progress that asks for it."""
+    """What is due now, by the roll that asks for it: one in progress, or ended early and not
+    started again."""
     published: Published
     """What is to be published now."""
     chain: str
@@ -153,7 +154,7 @@ class KeySet:
         self.due = {}
         for call, reply in zip(lines[1:], replies):
             word, roll = call.split(" ")[:2]
-            if word in ("start", "report1", "wait1", "report2", "wait2"):
+            if word in ("start", "report1", "wait1", "report2", "wait2", "abort"):
                 self.due[roll] = _actions(reply)
             elif word == "done":
                 del self.due[roll]

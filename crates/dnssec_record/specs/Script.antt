@@ -181,6 +181,7 @@ row word.Wait1 = takes (codes "wait1") (as_roll ∷ as_time ∷ [])
 row word.Report2 = takes (codes "report2") (as_roll ∷ as_ttl ∷ as_time ∷ [])
 row word.Wait2 = takes (codes "wait2") (as_roll ∷ as_time ∷ [])
 row word.Done = takes (codes "done") (as_roll ∷ [])
+row word.Abort = takes (codes "abort") (as_roll ∷ [])
 
 -- all words
 abbrev pub words : List Word
@@ -188,7 +189,7 @@ words =
     word.AddKsk ∷ word.AddZsk ∷ word.AddCsk ∷ word.AddPublic ∷ word.SetDecoupled ∷ word.SetPresent
     ∷ word.SetSigner ∷ word.SetAtParent ∷ word.SetStale ∷ word.SetVisible ∷ word.SetDsVisible
     ∷ word.SetRrsigVisible ∷ word.Delete ∷ word.Start ∷ word.Report1 ∷ word.Report2 ∷ word.Wait1
-    ∷ word.Wait2 ∷ word.Done ∷ []
+    ∷ word.Wait2 ∷ word.Done ∷ word.Abort ∷ []
 
 -- a word, by its name
 unfoldable pub word_named : List ℕ → Option Word
@@ -263,6 +264,7 @@ said (call.CacheExpired1 r t) = (word.Wait1, Roll r ∷ Moment t ∷ [])
 said (call.Propagation2Complete r ttl t) = (word.Report2, Roll r ∷ Number ttl ∷ Moment t ∷ [])
 said (call.CacheExpired2 r t) = (word.Wait2, Roll r ∷ Moment t ∷ [])
 said (call.RollDone r) = (word.Done, Roll r ∷ [])
+said (call.AbortRoll r) = (word.Abort, Roll r ∷ [])
 
 -- the line makes this call
 abbrev pub Spells : List ℕ → Call → Type 0

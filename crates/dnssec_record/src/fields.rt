@@ -43,9 +43,10 @@ pub(crate) enum Word {
     Wait1,
     Wait2,
     Done,
+    Abort,
 }
 
-const WORDS: [Word; 19] = [
+const WORDS: [Word; 20] = [
     Word::AddKsk,
     Word::AddZsk,
     Word::AddCsk,
@@ -65,6 +66,7 @@ const WORDS: [Word; 19] = [
     Word::Wait1,
     Word::Wait2,
     Word::Done,
+    Word::Abort,
 ];
 
 impl Word {
@@ -91,6 +93,7 @@ impl Word {
             Word::Wait1 => "wait1",
             Word::Wait2 => "wait2",
             Word::Done => "done",
+            Word::Abort => "abort",
         }
     }
 

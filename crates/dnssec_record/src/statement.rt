@@ -361,6 +361,10 @@ fn borrowing<'a>(word: Word, fields: Fields<'a>) -> Option<Call<'a>>
             let rolltype = roll(fields)?;
             Some(Call::RollDone { rolltype })
         }
+        Word::Abort => {
+            let rolltype = roll(fields)?;
+            Some(Call::AbortRoll { rolltype })
+        }
         Word::AddKsk | Word::AddZsk | Word::AddCsk | Word::AddPublic | Word::Start =>
             unreachable!(),
     }

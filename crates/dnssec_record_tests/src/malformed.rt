@@ -89,7 +89,7 @@ fn lines_are_counted(rt: HostRuntime) -> Result<(), Fail> {
 /// Fields stand behind a word that there is, each after one space, and are as many as it takes.
 #[test]
 fn words_and_spaces(rt: HostRuntime) -> Result<(), Fail> {
-    let scripts: [Row; 25] = [
+    let scripts: [Row; 28] = [
         (b"zone a\ndelete  K1\n", 2),
         (b"zone a\ndelete K1 \n", 2),
         (b"zone a\n delete K1\n", 2),
@@ -115,6 +115,9 @@ fn words_and_spaces(rt: HostRuntime) -> Result<(), Fail> {
         (b"zone a\nreport1 ksk-roll 60\n", 2),
         (b"zone a\nwait2 ksk-roll 60 0\n", 2),
         (b"zone a\ndone ksk-roll 0\n", 2),
+        (b"zone a\nabort\n", 2),
+        (b"zone a\nabort ksk-roll 5\n", 2),
+        (b"zone a\naborted ksk-roll\n", 2),
     ];
     assert_malformed(&rt, rt.alloc(), &scripts)
 }
@@ -170,7 +173,7 @@ fn algorithms(rt: HostRuntime) -> Result<(), Fail> {
 /// References, lists of them, flags and rolls of another form.
 #[test]
 fn references_flags_and_rolls(rt: HostRuntime) -> Result<(), Fail> {
-    let scripts: [Row; 21] = [
+    let scripts: [Row; 22] = [
         (b"zone a\ndelete -\n", 2),
         (b"zone a\nadd-ksk - - 13 1 0 yes\n", 2),
         (b"zone a\ndelete K1,Z1\n", 2),
@@ -191,6 +194,7 @@ fn references_flags_and_rolls(rt: HostRuntime) -> Result<(), Fail> {
         (b"zone a\ndone roll\n", 2),
         (b"zone a\ndone CSK-roll\n", 2),
         (b"zone a\ndone ksk_roll\n", 2),
+        (b"zone a\nabort nope\n", 2),
         (b"zone a\nwait1 - 0\n", 2),
     ];
     assert_malformed(&rt, rt.alloc(), &scripts)

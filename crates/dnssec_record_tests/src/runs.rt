@@ -237,6 +237,50 @@ fn rolls_are_recorded(rt: HostRuntime) -> Result<(), Fail> {
     Ok(())
 }
 
+/// The first keys come in, and their roll is ended early; then once more, for nothing.
+fn ended_early(alloc: Global) -> Result<Vec<Call<'static>>, AllocError> {
+    let rolltype = RollType::AlgorithmRoll;
+    let mut calls = Vec::new(alloc);
+    calls.push(ksk(alloc, "K1", 1)?)?;
+    calls.push(zsk(alloc, "Z1", 2)?)?;
+    calls.push(Call::StartRoll {
+        rolltype,
+        old: &[],
+        new: &["K1", "Z1"],
+        now: at(0),
+    })?;
+    calls.push(Call::AbortRoll { rolltype })?;
+    calls.push(Call::AbortRoll { rolltype })?;
+    Ok(calls)
+}
+
+/// An early end has neither a mark nor a moment, accepted or refused.
+#[test]
+fn early_ends_are_recorded(rt: HostRuntime) -> Result<(), Fail> {
+    let alloc = rt.alloc();
+    let run = match try_run(alloc, ended_early(alloc)) {
+        Some(run) => run,
+        None => try_run(alloc, ended_early(alloc)).ok_or("no request was refused")?,
+    };
+    let [first, second, start, ..] = first_rows();
+    let asked = Told::Actions(&[
+        Action::UpdateDnskeyRrset,
+        Action::UpdateRrsig,
+        Action::WaitDnskeyPropagated,
+        Action::WaitRrsigPropagated,
+    ]);
+    let over = Told::Refused(Error::WrongStateForRollOperation);
+    let rows = [
+        first,
+        second,
+        start,
+        (asked, None, Mark::Other, NOTHING),
+        (over, None, Mark::Other, NOTHING),
+    ];
+    assert_entries(&rt, &run, &rows);
+    Ok(())
+}
+
 /// The calls that add a public key, set it, delete it, and add it again.
 fn added_again(alloc: Global) -> Result<Vec<Call<'static>>, AllocError> {
     let pubref = "I";

@@ -204,6 +204,37 @@ chain safe
     assert_answers(&rt, rt.alloc(), script, want)
 }
 
+/// A roll is ended early, once, and started again. From its first report on it isn't ended so.
+#[test]
+fn a_roll_is_ended_early(rt: HostRuntime) -> Result<(), Fail> {
+    let script = "zone example.com
+abort algorithm-roll
+add-ksk K1 - 13 0 0 yes
+add-zsk Z1 - 13 1 0 yes
+start algorithm-roll - K1,Z1 0
+abort algorithm-roll
+abort algorithm-roll
+start algorithm-roll - K1,Z1 5
+report1 algorithm-roll 60 10
+abort algorithm-roll
+wait1 algorithm-roll 70
+";
+    let want = "refused: wrong roll state for operation
+ok
+ok
+ok UpdateDnskeyRrset UpdateRrsig ReportDnskeyPropagated ReportRrsigPropagated
+ok UpdateDnskeyRrset UpdateRrsig WaitDnskeyPropagated WaitRrsigPropagated
+refused: wrong roll state for operation
+ok UpdateDnskeyRrset UpdateRrsig ReportDnskeyPropagated ReportRrsigPropagated
+ok
+refused: wrong roll state for operation
+ok CreateCdsRrset UpdateDsRrset ReportDsPropagated
+ds=K1 dnskey=K1,Z1 signers=K1 zone=Z1
+chain safe
+";
+    assert_answers(&rt, rt.alloc(), script, want)
+}
+
 /// Every setter by its word, and deletions.
 #[test]
 fn setters_are_called(rt: HostRuntime) -> Result<(), Fail> {

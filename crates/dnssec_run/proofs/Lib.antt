@@ -5,4 +5,5 @@ pub mod Laws
 pub mod Chain
 pub mod WholeRolls
 pub mod Asked
+pub mod EarlyEnds
 pub mod Starts

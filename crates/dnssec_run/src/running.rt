@@ -7,6 +7,7 @@ ghost use Rattle.std.specs.Option.{option_map, option_map_or};
 ghost use Rattle.std.specs.Prelude.{string_bytes, false};
 ghost use Rattle.dnssec_key.specs.declared.error.Error.TheVariants.{OutOfMemory};
 ghost use Rattle.dnssec_run.specs.Asked.{ChangesAsAsked, RetiresAsAsked};
+ghost use Rattle.dnssec_run.specs.EarlyEnds.{UndoesStarts};
 ghost use Rattle.dnssec_run.specs.WholeRolls.{GoesOn, NeverMissesStamp, RollsFinish};
 ghost use Rattle.dnssec_run.specs.WholeRolls.{SettlesBetweenRolls, WaitsExactly};
 ghost use Rattle.dnssec_run.specs.Plain.{StaysSafe};
@@ -216,6 +217,10 @@ fn record(
 /// work. If moreover the moments never fall, a wait is over once the TTL of its report has passed
 /// since (RFC 7583, section 3).
 ///
+/// An early end of a roll gives each key that the roll's start listed the flags that it had before
+/// that start, whatever calls came between, unless one of them set a flag of that key by hand or
+/// deleted it. It changes no other key, no stamp and no other roll.
+///
 /// Unless a flag is set by hand, what is published changes only where the reply asks to publish it.
 ///
 /// # Errors
@@ -236,6 +241,7 @@ pub fn run<'a>(alloc: Global, name: Name<Vec<u8>>, calls: Vec<Call<'a>>) -> Resu
     ensures waits { IfOk result (λ run. WaitsExactly name calls.entry.items run.entries.items) }
     ensures goes_on { IfOk result (λ run. GoesOn name calls.entry.items run.entries.items) }
     ensures finishes { IfOk result (λ run. RollsFinish name calls.entry.items run.entries.items) }
+    ensures undoes { IfOk result (λ run. UndoesStarts name calls.entry.items run.entries.items) }
     ensures changes { IfOk result (λ run. ChangesAsAsked calls.entry.items run.entries.items) }
     ensures retires { IfOk result (λ run. RetiresAsAsked run.entries.items) }
     ensures chain { IfOk result (λ run. StaysSafe name calls.entry.items run.entries.items) }

@@ -183,7 +183,8 @@ impl KeySet {
         &self.script
     }
 
-    /// What is due now, by the roll in progress that asks for it.
+    /// What is due now, by the roll that asks for it: one in progress, or ended early and not
+    /// started again.
     pub fn due(&self) -> &BTreeMap<String, Vec<Action>> {
         &self.due
     }
@@ -212,7 +213,7 @@ impl KeySet {
             asked = actions(reply)?;
             match call.split(' ').collect::<Vec<_>>().as_slice() {
                 [
-                    "start" | "report1" | "wait1" | "report2" | "wait2",
+                    "start" | "report1" | "wait1" | "report2" | "wait2" | "abort",
                     roll,
                     ..,
                 ] => {

@@ -10,6 +10,7 @@ use Rattle.dnssec_run.proofs.Next.{agrees-new}
 use Rattle.dnssec_run.proofs.Chain.Trust.{chain-holds}
 use Rattle.dnssec_run.proofs.Asked.Changes.{changes-as-asked}
 use Rattle.dnssec_run.proofs.Asked.Reports.{retires-as-asked}
+use Rattle.dnssec_run.proofs.EarlyEnds.Undoing.{undoes-starts}
 use Rattle.dnssec_run.proofs.WholeRolls.Positions.{never-misses, settles-between}
 use Rattle.dnssec_run.proofs.WholeRolls.Waits.{waits-exactly}
 use Rattle.dnssec_run.proofs.WholeRolls.Completion.{goes-on, rolls-finish}
@@ -123,6 +124,10 @@ returns-clause-goes_on c =
 pub returns-clause-finishes : goal.returns-clause-finishes
 returns-clause-finishes c =
     rolls-finish c.args.name c.args.calls.items c.loop-call.entries.items (returns-clause-run c)
+
+pub returns-clause-undoes : goal.returns-clause-undoes
+returns-clause-undoes c =
+    undoes-starts c.args.name c.args.calls.items c.loop-call.entries.items (returns-clause-run c)
 
 pub returns-clause-changes : goal.returns-clause-changes
 returns-clause-changes c =

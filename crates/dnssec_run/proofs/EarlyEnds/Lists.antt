@@ -1,0 +1,154 @@
+-- What is kept of a start over one call: a reference drops out just where a call touches its key.
+use Rattle.std.proofs.Common.{◌≡◌, ℕ, Bool, true, false, not, ◌&&◌, ◌||◌, cond, refl, sym, ◌∙◌, ap}
+use Rattle.std.proofs.Common.{List, [], ◌∷◌}
+use Rattle.std.specs.Prelude.{filter, if◌then◌else◌}
+use Rattle.std.specs.Str.{bytes_eq}
+use Rattle.std.specs.Cmp.Lexicographic.{bytes_decides}
+use Rattle.dnssec_key.specs.declared.roll.RollType.{RollType}
+use Rattle.dnssec_key.specs.declared.roll.RollType.TheVariants.{KskRoll, KskDoubleDsRoll}
+use Rattle.dnssec_key.specs.declared.roll.RollType.TheVariants.{ZskRoll, ZskDoubleSignatureRoll}
+use Rattle.dnssec_key.specs.declared.roll.RollType.TheVariants.{CskRoll, AlgorithmRoll}
+use Rattle.dnssec_key.specs.RollTable.{First, Second}
+use Rattle.dnssec_key.specs.Setters.{is_flag_setting}
+use Rattle.dnssec_keyset.specs.KeySet.{KeySetParts, Listed, Lists, listed_by, others, same_roll}
+use Rattle.dnssec_keyset.specs.KeySet.{with_listed, without}
+use Rattle.dnssec_keyset.specs.Start.{is_listed}
+use Rattle.dnssec_keyset.specs.Step as keyset
+use Rattle.dnssec_keyset.proofs.Phases.{listed_by-with_listed}
+use Rattle.dnssec_run.specs.EarlyEnds.{touches}
+
+-- ---- the references of a list that pass
+
+same_text : (q r : List ℕ) → bytes_eq q r ≡ true → q ≡ r
+same_text q r = (bytes_decides q r).0
+
+pub is_listed-filter : (p : List ℕ → Bool) (xs : List (List ℕ)) (q : List ℕ)
+    → is_listed (filter p xs) q ≡ (is_listed xs q && p q)
+is_listed-filter p [] q = refl
+is_listed-filter p (x ∷ xs) q = at (p x) refl (bytes_eq q x) refl (is_listed-filter p xs q)
+  where
+    more : (b c : Bool) → b ≡ c → (c || (is_listed xs q && b)) ≡ ((c || is_listed xs q) && b)
+    more true true e = refl
+    more true false e = cc
+    more false true e = cc
+    more false false e = refl
+
+    at : (b : Bool) → p x ≡ b → (c : Bool) → bytes_eq q x ≡ c
+        → is_listed (filter p xs) q ≡ (is_listed xs q && p q)
+        → is_listed (cond (p x) (x ∷ filter p xs) (filter p xs)) q
+        ≡ ((bytes_eq q x || is_listed xs q) && p q)
+    at true e true f rest =
+        ap (λ b. is_listed (cond b (x ∷ filter p xs) (filter p xs)) q) e
+        ∙ ap (λ c. c || is_listed (filter p xs) q) f
+        ∙ sym (ap (λ c. (c || is_listed xs q) && p q) f ∙ ap p (same_text q x f) ∙ e)
+    at true e false f rest =
+        ap (λ b. is_listed (cond b (x ∷ filter p xs) (filter p xs)) q) e
+        ∙ ap (λ c. c || is_listed (filter p xs) q) f
+        ∙ rest ∙ sym (ap (λ c. (c || is_listed xs q) && p q) f)
+    at false e true f rest =
+        ap (λ b. is_listed (cond b (x ∷ filter p xs) (filter p xs)) q) e
+        ∙ rest ∙ ap (λ b. is_listed xs q && b) (ap p (same_text q x f) ∙ e)
+        ∙ none (is_listed xs q)
+        ∙ sym (ap (λ c. (c || is_listed xs q) && p q) f ∙ ap p (same_text q x f) ∙ e)
+      where
+        none : (b : Bool) → (b && false) ≡ false
+        none true = refl
+        none false = refl
+    at false e false f rest =
+        ap (λ b. is_listed (cond b (x ∷ filter p xs) (filter p xs)) q) e
+        ∙ rest ∙ sym (ap (λ c. (c || is_listed xs q) && p q) f)
+
+-- ---- one call
+
+-- the call is on another roll, or on none
+abbrev pub IsAside : RollType → keyset.Call → Type 0
+IsAside roll (keyset.StartRoll r olds news now) = same_roll r roll ≡ false
+IsAside roll (keyset.Report r half ttl now) = same_roll r roll ≡ false
+IsAside roll (keyset.Wait r half now) = same_roll r roll ≡ false
+IsAside roll (keyset.RollDone r) = same_roll r roll ≡ false
+IsAside roll (keyset.AbortRoll r) = same_roll r roll ≡ false
+IsAside roll _ = Unit {0}
+
+-- it is kept where it was, but for a touched key
+pub record Follows (old new : Listed) (call : keyset.Call) (q : List ℕ) : Type 0 where
+  pub olds : is_listed new.olds q ≡ (is_listed old.olds q && not (touches call q))
+  pub news : is_listed new.news q ≡ (is_listed old.news q && not (touches call q))
+
+all_kept : (b : Bool) → b ≡ (b && true)
+all_kept true = refl
+all_kept false = refl
+
+listed_by-without : (r : List ℕ) (l : Lists) (roll : RollType) → listed_by (without r l) roll
+    ≡ record { olds = others r (listed_by l roll).olds; news = others r (listed_by l roll).news }
+listed_by-without r l KskRoll = refl
+listed_by-without r l KskDoubleDsRoll = refl
+listed_by-without r l ZskRoll = refl
+listed_by-without r l ZskDoubleSignatureRoll = refl
+listed_by-without r l CskRoll = refl
+listed_by-without r l AlgorithmRoll = refl
+
+module _ (roll : RollType) (old : Lists) (q : List ℕ) where
+  -- nothing of the roll is changed
+  same_kept : (new : Lists) (call : keyset.Call) → listed_by new roll ≡ listed_by old roll
+      → touches call q ≡ false → Follows (listed_by old roll) (listed_by new roll) call q
+  same_kept new call same none = record {
+    olds = ap (λ (l : Listed). is_listed l.olds q) same ∙ all_kept _
+        ∙ ap (λ b. is_listed (listed_by old roll).olds q && not b) (sym none);
+    news = ap (λ (l : Listed). is_listed l.news q) same ∙ all_kept _
+        ∙ ap (λ b. is_listed (listed_by old roll).news q && not b) (sym none);
+  }
+
+  -- a reference is dropped
+  dropped : (new : Lists) (call : keyset.Call) (r : List ℕ) → new ≡ without r old
+      → touches call q ≡ bytes_eq r q → Follows (listed_by old roll) (listed_by new roll) call q
+  dropped new call r is touched =
+      let at = ap (λ l. listed_by l roll) is ∙ listed_by-without r old roll in record {
+        olds = ap (λ (l : Listed). is_listed l.olds q) at
+            ∙ is_listed-filter (λ x. not (bytes_eq r x)) (listed_by old roll).olds q
+            ∙ ap (λ b. is_listed (listed_by old roll).olds q && not b) (sym touched);
+        news = ap (λ (l : Listed). is_listed l.news q) at
+            ∙ is_listed-filter (λ x. not (bytes_eq r x)) (listed_by old roll).news q
+            ∙ ap (λ b. is_listed (listed_by old roll).news q && not b) (sym touched);
+      }
+
+  -- what is kept of another roll is put
+  put_aside : (new : Lists) (call : keyset.Call) (r : RollType) (listed : Listed)
+      → new ≡ with_listed old r listed → same_roll r roll ≡ false → touches call q ≡ false
+      → Follows (listed_by old roll) (listed_by new roll) call q
+  put_aside new call r listed is aside none = same_kept new call
+      (ap (λ l. listed_by l roll) is ∙ listed_by-with_listed old r listed roll
+      ∙ ap (λ b. if b then listed else listed_by old roll) aside) none
+
+pub lists-step : (roll : RollType) (old new : KeySetParts) (c : keyset.Call)
+    → keyset.Changes old c new → IsAside roll c → (q : List ℕ)
+    → Follows (listed_by old.lists roll) (listed_by new.lists roll) c q
+lists-step roll old new (keyset.AddKey r k) m aside q =
+    same_kept roll old.lists q new.lists _ (ap (λ l. listed_by l roll) m.lists) refl
+lists-step roll old new (keyset.Set r s) m aside q = by (is_flag_setting s) refl
+  where
+    by : (b : Bool) → is_flag_setting s ≡ b
+        → Follows (listed_by old.lists roll) (listed_by new.lists roll) (keyset.Set r s) q
+    by true t = dropped roll old.lists q new.lists (keyset.Set r s) r
+        (m.lists ∙ ap (λ b. if b then without r old.lists else old.lists) t)
+        (ap (λ b. b && bytes_eq r q) t)
+    by false t = same_kept roll old.lists q new.lists (keyset.Set r s)
+        (ap (λ l. listed_by l roll)
+        (m.lists ∙ ap (λ b. if b then without r old.lists else old.lists) t))
+        (ap (λ b. b && bytes_eq r q) t)
+lists-step roll old new (keyset.DeleteKey r) m aside q =
+    dropped roll old.lists q new.lists (keyset.DeleteKey r) r m.lists refl
+lists-step roll old new (keyset.StartRoll r olds news now) m aside q =
+    put_aside roll old.lists q new.lists (keyset.StartRoll r olds news now) r _ m.lists aside refl
+lists-step roll old new (keyset.Report r First ttl now) m aside q =
+    put_aside roll old.lists q new.lists (keyset.Report r First ttl now) r _ m.lists aside refl
+lists-step roll old new (keyset.Report r Second ttl now) m aside q =
+    same_kept roll old.lists q new.lists (keyset.Report r Second ttl now)
+    (ap (λ l. listed_by l roll) m.lists) refl
+lists-step roll old new (keyset.Wait r half now) m aside q =
+    same_kept roll old.lists q new.lists (keyset.Wait r half now)
+    (ap (λ l. listed_by l roll) m.lists) refl
+lists-step roll old new (keyset.RollDone r) m aside q =
+    same_kept roll old.lists q new.lists (keyset.RollDone r)
+    (ap (λ l. listed_by l roll) m.lists) refl
+lists-step roll old new (keyset.AbortRoll r) m aside q =
+    put_aside roll old.lists q new.lists (keyset.AbortRoll r) r _ m.lists aside refl

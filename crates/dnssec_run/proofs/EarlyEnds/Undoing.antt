@@ -1,0 +1,394 @@
+-- From the start of a roll to its early end: for the clause `undoes`.
+use Rattle.std.proofs.Common.{◌≡◌, ℕ, zero, suc, ◌<◌, ◌≤◌, inl, inr, Bool, true, false, not, ◌&&◌}
+use Rattle.std.proofs.Common.{◌||◌, refl, sym, ◌∙◌, ap, subst, arith, List, length, Option, None}
+use Rattle.std.proofs.Common.{Some}
+use Rattle.std.specs.Prelude.{slice_get, if◌then◌else◌}
+use Rattle.std.specs.Option.{option_map, option_map_or}
+use Rattle.std.specs.FinMap.{get}
+use Rattle.std.proofs.lemmas.Bool.{true≢false, and_parts, cases_lt}
+use Rattle.std.proofs.lemmas.Option.{same_Some, none-some, slice_get_cases}
+use Rattle.dnssec_key.specs.declared.key.KeyType.{KeyType}
+use Rattle.dnssec_key.specs.declared.roll.RollType.{RollType}
+use Rattle.dnssec_key.specs.declared.roll.RollState.TheVariants.{Propagation1}
+use Rattle.dnssec_key.specs.State.{is_kept}
+use Rattle.dnssec_key.specs.Key.{KeyParts, all_states}
+use Rattle.dnssec_key.specs.RollTable.{after_early_end, after_start}
+use Rattle.dnssec_keyset.specs.KeySet.{KeySetParts, Listed, listed_by, phase_of}
+use Rattle.dnssec_keyset.specs.Start.{is_listed}
+use Rattle.dnssec_keyset.specs.Step.{is_kept_at, listed_at_start}
+use Rattle.dnssec_keyset.specs.Step as keyset
+use Rattle.dnssec_keyset.proofs.Accepted.{ends_early}
+use Rattle.dnssec_keyset.proofs.Flags.{ended, is_blank, may_list, may_start, started}
+use Rattle.dnssec_keyset.proofs.Phases.{listed_by-with_listed}
+use Rattle.dnssec_keyset.proofs.Sides.{leaves-others}
+use Rattle.dnssec_keyset.proofs.Tests.{and-both}
+use Rattle.dnssec_run.specs.declared.call.Call.{Call}
+use Rattle.dnssec_run.specs.declared.record.Entry.{Entry}
+use Rattle.dnssec_run.specs.EarlyEnds.{IsUntouched, Undoes, UndoesStarts, touches}
+use Rattle.dnssec_run.specs.Plain.{start_of}
+use Rattle.dnssec_run.specs.Published.{World}
+use Rattle.dnssec_run.specs.Record.{IsRun, call_of, is_accepted, reply_of, world_at}
+use Rattle.dnssec_run.specs.WholeRolls.{IsAccepted}
+use Rattle.dnssec_run.proofs.Chain.Allowed.{can_start, clear_cause}
+use Rattle.dnssec_run.proofs.Chain.Rolls.{same-same}
+use Rattle.dnssec_run.proofs.Chain.Steps.{may_by}
+use Rattle.dnssec_run.proofs.Chain.Tale.{CanStart, early-end-parts, seen, start-parts}
+use Rattle.dnssec_run.proofs.EarlyEnds.Keys.{key-step, phase-before}
+use Rattle.dnssec_run.proofs.EarlyEnds.Lists.{is_listed-filter, lists-step}
+use Rattle.dnssec_run.proofs.EarlyEnds.Roles.{all-tied}
+use Rattle.dnssec_run.proofs.EarlyEnds.Tables.{tied, undone_facts}
+use Rattle.dnssec_run.proofs.Laws.{stays-sound}
+use Rattle.dnssec_run.proofs.WholeRolls.Order.{world_of}
+use Rattle.dnssec_run.proofs.WholeRolls.Phases.{split_by}
+use Rattle.dnssec_run.proofs.WholeRolls.Replies.{accepted_step, refused_step, step-made}
+
+not_touched : (b : Bool) → not b ≡ true → b ≡ false
+not_touched true e = absurd (true≢false (sym e))
+not_touched false e = refl
+
+and_true : (b : Bool) → (b && true) ≡ b
+and_true true = refl
+and_true false = refl
+
+one_listed : (a b : Bool) → (a ≡ true → ⊥) → (b ≡ true → ⊥) → (a ≡ false) × (b ≡ false)
+one_listed true b p r = absurd (p refl)
+one_listed false true p r = absurd (r refl)
+one_listed false false p r = (refl, refl)
+
+or_left : (a b : Bool) → a ≡ true → (a || b) ≡ true
+or_left true b e = refl
+or_left false b e = absurd (true≢false (sym e))
+
+or_right : (a b : Bool) → b ≡ true → (a || b) ≡ true
+or_right true b e = refl
+or_right false b e = e
+
+unmapped : (o : Option KeyParts) (f : KeyParts → KeyParts) → ((k : KeyParts) → f k ≡ k)
+    → option_map f o ≡ o
+unmapped None f same = refl
+unmapped (Some k) f same = ap Some (same k)
+
+-- the set has a key with these flags there
+abbrev HasKind : KeySetParts → List ℕ → KeyType → Type 0
+HasKind set q t = (j : KeyParts) × (get set.keys q ≡ Some j) × (j.keytype ≡ t)
+
+onto : (set : KeySetParts) (q : List ℕ) (t u : KeyType) → HasKind set q t → t ≡ u
+    → HasKind set q u
+onto set q t u h e = (h.0, h.1, h.2 ∙ e)
+
+module _ (name : List ℕ) (calls : List Call) (entries : List Entry)
+    (run : IsRun name calls entries) where
+  abbrev at : ℕ → World
+  at n = world_at name calls entries n
+
+  -- ---- untouched keys
+
+  module _ (s : ℕ) (q : List ℕ) where
+    abbrev Untouched : ℕ → Type 0
+    Untouched n = IsUntouched calls entries s n q
+
+    untouched-before : (n : ℕ) → Untouched (suc n) → Untouched n
+    untouched-before n u m c after below = u m c after (omega arith)
+
+    module _ (n : ℕ) (c : Call) (e : Entry) (ci : slice_get calls n ≡ Some c)
+        (ei : slice_get entries n ≡ Some e) where
+      -- an accepted call behind n is that of the list
+      behind_n : (d : keyset.Call) → IsAccepted calls entries n d
+          → (call_of c ≡ d) × (is_accepted e.reply ≡ true)
+      behind_n d a = (
+        ap call_of (same_Some _ _ (sym ci ∙ a.0.made_is)) ∙ a.0.call_is,
+        ap (λ (e : Entry). is_accepted e.reply) (same_Some _ _ (sym ei ∙ a.0.entry_is)) ∙ a.1,
+      )
+
+      untouched-next : Untouched n
+          → (is_accepted e.reply ≡ true → touches (call_of c) q ≡ false) → Untouched (suc n)
+      untouched-next u none m d after below t a = elim (cases_lt m n) [
+        | inl lt ↦ u m d after lt t a
+        | inr ge ↦ let same : m ≡ n = omega arith in
+            let b = behind_n d (subst (λ m. IsAccepted calls entries m d) same a) in
+            true≢false (sym t ∙ ap (λ d. touches d q) (sym b.0) ∙ none b.1)
+      ]
+
+      untouched-here : s < n → is_accepted e.reply ≡ true → Untouched (suc n)
+          → touches (call_of c) q ≡ false
+      untouched-here after ok u = by (touches (call_of c) q) refl
+        where
+          by : (b : Bool) → touches (call_of c) q ≡ b → b ≡ false
+          by false t = refl
+          by true t = absurd (u n (call_of c) after (omega arith) t (
+            record { made = c; entry = e; made_is = ci; entry_is = ei; call_is = refl },
+            ok,
+          ))
+
+  module _ (s : ℕ) (roll : RollType) (olds news : List (List ℕ)) (now : ℕ)
+      (st : IsAccepted calls entries s (keyset.StartRoll roll olds news now)) where
+    -- ---- the start
+
+    abbrev old : KeySetParts
+    old = (at s).set
+
+    abbrev first : Listed
+    first = listed_at_start old.keys olds news
+
+    started_so : (keyset.verdict old (keyset.StartRoll roll olds news now) ≡ keyset.Clear)
+        × keyset.Changes old (keyset.StartRoll roll olds news now) (at (suc s)).set
+    started_so =
+        let ok = accepted_step (keyset.verdict old (keyset.StartRoll roll olds news now)) old
+        (at (suc s)).set (keyset.StartRoll roll olds news now) st.0.entry.reply st.1
+        (step-made name calls entries run s (keyset.StartRoll roll olds news now) st.0) in
+        (ok.0, ok.1)
+
+    -- no start of the roll is accepted before n
+    abbrev NoStart : ℕ → Type 0
+    NoStart n = (m : ℕ) (others more : List (List ℕ)) (later : ℕ) → s < m → m < n
+        → IsAccepted calls entries m (keyset.StartRoll roll others more later) → ⊥
+
+    module _ (q : List ℕ) where
+      abbrev is_old : Bool
+      is_old = is_listed olds q
+
+      abbrev is_new : Bool
+      is_new = is_listed news q
+
+      -- a listed key is there, and of a kind that the roll may list
+      abbrev Began : Type 0
+      Began = (k : KeyParts) × (get old.keys q ≡ Some k)
+          × ((may_start roll is_old is_new k.keytype && tied k.keytype) ≡ true)
+
+      began : (is_old || is_new) ≡ true → Began
+      began l = elim (split_by is_old) [
+        | inl t ↦ let x = can.old_is q t in (x.0, x.1, may x.0 x.1)
+        | inr t ↦ let x = can.new_is q (sym (ap (λ b. b || is_new) t) ∙ l) in
+            (x.0, x.1, may x.0 x.1)
+      ]
+        where
+          can : CanStart roll (seen (world_of old)) olds news
+          can = can_start (world_of old) roll olds news (clear_cause _ started_so.0)
+
+          may : (k : KeyParts) → get old.keys q ≡ Some k
+              → (may_start roll is_old is_new k.keytype && tied k.keytype) ≡ true
+          may k e = and-both _ _ (may_by roll is_old is_new k.keytype
+              (λ t. let x = can.old_is q t in
+              subst (λ (k : KeyParts). may_list roll k.keytype ≡ true)
+              (same_Some x.0 k (sym x.1 ∙ e)) x.2)
+              (λ t. let x = can.new_is q t in
+              let same : x.0 ≡ k = same_Some x.0 k (sym x.1 ∙ e) in (
+                subst (λ (k : KeyParts). may_list roll k.keytype ≡ true) same x.2,
+                subst (λ (k : KeyParts). is_blank k.keytype ≡ true) same x.3,
+                x.4,
+              )))
+              (all-tied name calls entries run s q k e)
+
+      -- ---- from the start on
+
+      -- what is kept of the key, and its flags; where U holds it is untouched
+      record Standing (set : KeySetParts) (U : Type 0) : Type 0 where
+        of_olds : is_listed (listed_by set.lists roll).olds q ≡ true → U
+        of_news : is_listed (listed_by set.lists roll).news q ≡ true → U
+        olds_are : U → is_listed (listed_by set.lists roll).olds q ≡ is_listed first.olds q
+        news_are : U → is_listed (listed_by set.lists roll).news q ≡ is_new
+        key : (k : KeyParts) → get old.keys q ≡ Some k
+            → (may_start roll is_old is_new k.keytype && tied k.keytype) ≡ true
+            → (is_old || is_new) ≡ true → U
+            → HasKind set q (started roll is_old is_new k.keytype)
+
+      standing-same : (set : KeySetParts) (U V : Type 0) → (U → V) → (V → U) → Standing set U
+          → Standing set V
+      standing-same set U V to from h = record {
+        of_olds = λ t. to (h.of_olds t);
+        of_news = λ t. to (h.of_news t);
+        olds_are = λ v. h.olds_are (from v);
+        news_are = λ v. h.news_are (from v);
+        key = λ k e m l v. h.key k e m l (from v);
+      }
+
+      standing-first : Standing (at (suc s)).set (Untouched s q (suc s))
+      standing-first =
+          let m = started_so.1 in
+          let lists : listed_by (at (suc s)).set.lists roll ≡ first =
+          ap (λ l. listed_by l roll) m.lists ∙ listed_by-with_listed old.lists roll first roll
+          ∙ ap (λ b. if b then first else listed_by old.lists roll) (same-same roll) in
+          record {
+            of_olds = λ t i c after below. absurd (omega arith);
+            of_news = λ t i c after below. absurd (omega arith);
+            olds_are = λ u. ap (λ (l : Listed). is_listed l.olds q) lists;
+            news_are = λ u. ap (λ (l : Listed). is_listed l.news q) lists;
+            key = λ k e may l u. (
+              after_start roll now is_old is_new k,
+              m.keys q ∙ ap (option_map (after_start roll now is_old is_new)) e,
+              ap (λ (k : KeyParts). k.keytype) (start-parts roll now is_old is_new k),
+            );
+          }
+
+      standing-next : (n : ℕ) (c : Call) (e : Entry) → n ≤ length entries → s < n
+          → slice_get calls n ≡ Some c → slice_get entries n ≡ Some e
+          → ((others more : List (List ℕ)) (later : ℕ)
+          → IsAccepted calls entries n (keyset.StartRoll roll others more later) → ⊥)
+          → phase_of (at (suc n)).set.rolls roll ≡ Some Propagation1
+          → (phase_of (at n).set.rolls roll ≡ Some Propagation1
+          → Standing (at n).set (Untouched s q n))
+          → Standing (at (suc n)).set (Untouched s q (suc n))
+      standing-next n c e within later ci ei no_start spreads before =
+          by (is_accepted e.reply) refl
+        where
+          step : keyset.Step (at n).set (call_of c) (reply_of e.reply) (at (suc n)).set
+          step = (run.each n c e ci ei).step
+
+          by : (b : Bool) → is_accepted e.reply ≡ b
+              → Standing (at (suc n)).set (Untouched s q (suc n))
+          by false t =
+              let same = refused_step (keyset.verdict (at n).set (call_of c)) (at n).set
+              (at (suc n)).set (call_of c) e.reply t step in
+              subst (λ set. Standing set (Untouched s q (suc n))) (sym same)
+              (standing-same (at n).set (Untouched s q n) (Untouched s q (suc n))
+              (λ u. untouched-next s q n c e ci ei u (λ a. absurd (true≢false (sym a ∙ t))))
+              (untouched-before s q n)
+              (before (ap (λ (set : KeySetParts). phase_of set.rolls roll) (sym same) ∙ spreads)))
+          by true t =
+              let ok = accepted_step (keyset.verdict (at n).set (call_of c)) (at n).set
+              (at (suc n)).set (call_of c) e.reply t step in
+              let was = phase-before roll (at n).set (at (suc n)).set spreads (call_of c) ok.1
+              (λ others more later is. no_start others more later (
+                record { made = c; entry = e; made_is = ci; entry_is = ei; call_is = is },
+                t,
+              )) in
+              let h = before was.0 in
+              let f = lists-step roll (at n).set (at (suc n)).set (call_of c) ok.1 was.1 q in
+              let next = λ (u : Untouched s q n) (none : touches (call_of c) q ≡ false).
+              untouched-next s q n c e ci ei u (λ a. none) in
+              let here = λ (u : Untouched s q (suc n)).
+              untouched-here s q n c e ci ei later t u in
+              record {
+                of_olds = λ l. let x = and_parts _ _ (sym f.olds ∙ l) in
+                    next (h.of_olds x.0) (not_touched _ x.1);
+                of_news = λ l. let x = and_parts _ _ (sym f.news ∙ l) in
+                    next (h.of_news x.0) (not_touched _ x.1);
+                olds_are = λ u. f.olds
+                    ∙ ap (λ b. is_listed (listed_by (at n).set.lists roll).olds q && not b) (here u)
+                    ∙ and_true _ ∙ h.olds_are (untouched-before s q n u);
+                news_are = λ u. f.news
+                    ∙ ap (λ b. is_listed (listed_by (at n).set.lists roll).news q && not b) (here u)
+                    ∙ and_true _ ∙ h.news_are (untouched-before s q n u);
+                key = λ k there may l u.
+                    let x = h.key k there may l (untouched-before s q n u) in
+                    let own : may_list roll x.0.keytype ≡ true = ap (may_list roll) x.2
+                    ∙ (undone_facts roll is_old is_new k.keytype may).1 l in
+                    let y = key-step roll (at n).set (at (suc n)).set
+                    (stays-sound name calls entries run n within).rolls was.0 q x.0 x.1 own
+                    (call_of c) ok.0 ok.1
+                    (leaves-others (at n).set (at (suc n)).set (call_of c) (reply_of e.reply) step)
+                    was.1 (here u) in
+                    onto (at (suc n)).set q x.0.keytype _ y x.2;
+              }
+
+      standing : (n : ℕ) → s < n → n ≤ length entries → NoStart n
+          → phase_of (at n).set.rolls roll ≡ Some Propagation1
+          → Standing (at n).set (Untouched s q n)
+      standing zero later within none spreads = absurd (omega arith)
+      standing (suc n) later within none spreads = elim (cases_lt s n) [
+        | inl lt ↦ elim ((slice_get_cases entries n).1) [
+          | inl e ↦ elim ((slice_get_cases calls n).1) [
+            | inl c ↦ standing-next n c.0 e.0 (omega arith) lt c.2 e.2
+                (λ others more later. none n others more later lt (omega arith)) spreads
+                (standing n lt (omega arith)
+                (λ m others more later a b. none m others more later a (omega arith)))
+            | inr c ↦ absurd (omega (arith, c.0, run.count))
+          ]
+          | inr e ↦ absurd (omega (arith, e.0))
+        ]
+        | inr ge ↦ let same : s ≡ n = omega arith in
+            subst (λ n. Standing (at (suc n)).set (Untouched s q (suc n))) same standing-first
+      ]
+
+    -- ---- the early end
+
+    module _ (n : ℕ) (later : s < n)
+        (end : IsAccepted calls entries n (keyset.AbortRoll roll)) (none : NoStart n) where
+      abbrev here : KeySetParts
+      here = (at n).set
+
+      abbrev new : KeySetParts
+      new = (at (suc n)).set
+
+      abbrev Own : List ℕ → Type 0
+      Own q = ((is_listed olds q || is_listed news q) ≡ true) × IsUntouched calls entries s n q
+
+      abbrev was_old : List ℕ → Bool
+      was_old q = is_listed (listed_by here.lists roll).olds q
+
+      abbrev was_new : List ℕ → Bool
+      was_new q = is_listed (listed_by here.lists roll).news q
+
+      ended_so : (keyset.verdict here (keyset.AbortRoll roll) ≡ keyset.Clear)
+          × keyset.Changes here (keyset.AbortRoll roll) new
+      ended_so =
+          let ok = accepted_step (keyset.verdict here (keyset.AbortRoll roll)) here new
+          (keyset.AbortRoll roll) end.0.entry.reply end.1
+          (step-made name calls entries run n (keyset.AbortRoll roll) end.0) in
+          (ok.0, ok.1)
+
+      stands : (q : List ℕ) → Standing q here (IsUntouched calls entries s n q)
+      stands q = standing q n later within none (ends_early _ (clear_cause _ ended_so.0))
+        where
+          within : n ≤ length entries
+          within = elim ((slice_get_cases entries n).1) [
+            | inl x ↦ let lt = x.1 in
+                omega arith
+            | inr x ↦ absurd (none-some _ (sym x.1 ∙ end.0.entry_is))
+          ]
+
+      undoes-start : Undoes roll Own (at s) (at n) (at (suc n))
+      undoes-start = record {
+        flags = λ q own.
+            let x = began q own.0 in
+            let y = (stands q).key x.0 x.1 x.2 own.0 own.1 in
+            let kept : was_old q ≡ (is_listed olds q && all_states is_kept x.0.keytype) =
+            (stands q).olds_are own.1 ∙ is_listed-filter (is_kept_at old.keys) olds q
+            ∙ ap (λ o. is_listed olds q
+            && option_map_or (λ (k : KeyParts). all_states is_kept k.keytype) o false) x.1 in (
+              x.0,
+              after_early_end roll (was_old q) (was_new q) y.0,
+              x.1,
+              ended_so.1.keys q
+                  ∙ ap (option_map (after_early_end roll (was_old q) (was_new q))) y.1,
+              ap (λ (k : KeyParts). k.keytype)
+                  (early-end-parts roll (was_old q) (was_new q) y.0)
+                  ∙ (λ i. ended roll (kept i) ((stands q).news_are own.1 i) (y.2 i))
+                  ∙ (undone_facts roll (is_listed olds q) (is_listed news q) x.0.keytype x.2).0,
+            );
+        others = λ q out.
+            let no = one_listed (was_old q) (was_new q)
+            (λ t. let u = (stands q).of_olds t in
+            out (
+              or_left _ _ (and_parts (is_listed olds q) (is_kept_at old.keys q)
+                  (sym (is_listed-filter (is_kept_at old.keys) olds q) ∙ sym ((stands q).olds_are u)
+                  ∙ t)).0,
+              u,
+            ))
+            (λ t. let u = (stands q).of_news t in
+            out (or_right (is_listed olds q) _ (sym ((stands q).news_are u) ∙ t), u)) in
+            ended_so.1.keys q
+            ∙ unmapped (get here.keys q) _ (λ k i. after_early_end roll (no.0 i) (no.1 i) k);
+        alone = λ q k j there is.
+            let made : j ≡ record k {
+              keytype = ended roll (was_old q) (was_new q) k.keytype;
+            } = same_Some _ _ (sym is ∙ ended_so.1.keys q
+            ∙ ap (option_map (after_early_end roll (was_old q) (was_new q))) there)
+            ∙ early-end-parts roll (was_old q) (was_new q) k in
+            made ∙ ap (λ t. record k { keytype = t })
+            (sym (ap (λ (k : KeyParts). k.keytype) made));
+        rolls = ended_so.1.rolls;
+      }
+
+pub undoes-starts : (name : List ℕ) (calls : List Call) (entries : List Entry)
+    → IsRun name calls entries → UndoesStarts name calls entries
+undoes-starts name calls entries run s n roll olds news now later st end none =
+    undoes-start name calls entries run s roll olds news now st n later end
+    (λ m others more later after before a. none m after before (record {
+      call = a.0.made;
+      entry = a.0.entry;
+      call_is = a.0.made_is;
+      entry_is = a.0.entry_is;
+      accepted = a.1;
+      roll_is = ap start_of a.0.call_is;
+    }))
