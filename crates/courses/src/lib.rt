@@ -2,8 +2,8 @@
 //!
 //! A [`Course`] tells, step by step, what an operator does with a key set, what it is told, and
 //! what can then be read of the set. [`walk`] makes its calls on a new set, and answers the first
-//! [`Mismatch`]. Whatever a course says, a refused call has to leave the set as it was, and an
-//! accepted one has to ask what the operator's table says.
+//! [`Mismatch`]. Whatever a course says, a refused call has to leave the set as it was, an accepted
+//! one has to ask what the operator's table says, and each goes the same on a copy of the set.
 #![tactic(auto)]
 
 mod asked;

@@ -1,4 +1,5 @@
-//! Rolls that are ended before their first report. The walk makes each call on a copy of the set too.
+//! Rolls that are ended before their first report. The walk makes each call on a copy of the set,
+//! too.
 use courses::Call::{Abort, Add, Delete, Finish, Report1, Report2, SetStale, Start, Wait1, Wait2};
 use courses::Kind::{Ksk, Zsk};
 use courses::Step::{At, Flags, Rolls, RollsOver, Stamps};

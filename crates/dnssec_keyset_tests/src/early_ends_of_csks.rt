@@ -1,5 +1,5 @@
-//! Rolls of CSKs that are ended early, where most of their keys were set by hand since the start. What
-//! is written by hand stays, and such a key is left alone; the others are as before the start.
+//! Rolls of CSKs that are ended early, where most of their keys were set by hand since the start.
+//! A key whose flag was set is left alone; the others are as before the start, but for stamps.
 use courses::Call::{
     Abort, Add, Delete, SetAtParent, SetDecoupled, SetDsVisible, SetPresent, SetRrsigVisible,
     SetSigner, SetStale, SetVisible, Start,

@@ -1,6 +1,7 @@
 //! What an operator sees of a key set, call by call, in a crate of its own, so that the key set
 //! isn't proved twice. The proofs say that each call meets its table; the values here come from
-//! worked examples. Most are courses, tables of calls: a row more costs no proof.
+//! worked examples. Most are courses, tables of calls: a row more costs hardly any proof, but a
+//! table of some 800 lines under one test is more than the prover takes.
 #![tactic(auto)]
 
 #[cfg(test)]

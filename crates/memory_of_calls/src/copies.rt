@@ -1,5 +1,5 @@
 //! Copies of keys and of key sets.
-use crate::rolls::{FIRST_ROLL, FIRST_ROLL_GOES_ON, REPORTED};
+use crate::rolls::{FIRST_KEYS, FIRST_ROLL_GOES_ON, REPORTED, STARTED, TURNED_BACK};
 use crate::wrong::Wrong;
 use courses::Call::Add;
 use courses::Kind::Ksk;
@@ -40,19 +40,42 @@ fn is_copied(key: &Key, memory: &mut Memory) -> bool {
     }
 }
 
-const BEGINNING: Course = Course {
-    name: "a set in the middle of a roll",
-    parts: &[FIRST_ROLL],
-};
+/// Two courses of a key set: up to its copy, and that of the copy.
+const IN_MID_ROLL: [Course; 2] = [
+    Course {
+        name: "a set in the middle of a roll",
+        parts: &[STARTED, REPORTED],
+    },
+    Course {
+        name: "its copy goes on",
+        parts: &[FIRST_ROLL_GOES_ON],
+    },
+];
 
-const REST: Course = Course {
-    name: "its copy goes on",
-    parts: &[FIRST_ROLL_GOES_ON],
-};
+const BEFORE_THE_REPORT: [Course; 2] = [
+    Course {
+        name: "a set whose roll has started",
+        parts: &[STARTED],
+    },
+    Course {
+        name: "its copy ends the roll early",
+        parts: &[TURNED_BACK],
+    },
+];
 
-/// A copy of a key set in the middle of a roll tells what the set tells, and goes its own way.
-pub(crate) fn copy_set(alloc: Global, memory: &mut Memory) -> Result<(), Wrong> {
-    let set = match walk(alloc, &BEGINNING, memory) {
+/// Copies of key sets in the middle of a roll, and at its start.
+pub(crate) fn copy_sets(alloc: Global, memory: &mut Memory) -> Result<(), Wrong> {
+    copy_set(alloc, &IN_MID_ROLL, memory)?;
+    copy_set(alloc, &BEFORE_THE_REPORT, memory)
+}
+
+/// A copy of a key set tells what the set tells, and goes its own way.
+fn copy_set(
+    alloc: Global,
+    [beginning, rest]: &[Course; 2],
+    memory: &mut Memory,
+) -> Result<(), Wrong> {
+    let set = match walk(alloc, beginning, memory) {
         Ok(set) => set,
         Err(mismatch) => return Err(Wrong::Course(mismatch)),
     };
@@ -61,7 +84,7 @@ pub(crate) fn copy_set(alloc: Global, memory: &mut Memory) -> Result<(), Wrong> 
         answer = set.try_clone();
     }
     match answer {
-        Ok(mut copy) => go_own_way(alloc, &set, &mut copy, memory),
+        Ok(mut copy) => go_own_way(alloc, &set, &mut copy, rest, memory),
         Err(_) => Err(Wrong::Copy),
     }
 }
@@ -70,12 +93,13 @@ fn go_own_way(
     alloc: Global,
     set: &KeySet,
     copy: &mut KeySet,
+    rest: &Course,
     memory: &mut Memory,
 ) -> Result<(), Wrong> {
     if copy.name().as_slice() != set.name().as_slice() || !are_alike(set, copy) {
         return Err(Wrong::Copy);
     }
-    match go_on(alloc, copy, REPORTED, &REST, memory) {
+    match go_on(alloc, copy, FIRST_KEYS, rest, memory) {
         Ok(()) if !are_alike(set, copy) => Ok(()),
         Ok(()) => Err(Wrong::Copy),
         Err(mismatch) => Err(Wrong::Course(mismatch)),

@@ -42,7 +42,7 @@ fn make_calls(alloc: Global, letter: u8, memory: &mut Memory) -> Result<(), Wron
         b'n' => names::read_copy_and_print(alloc, memory),
         b'r' => rolls::follow(alloc, memory),
         b'k' => copies::copy_key(alloc, memory),
-        b's' => copies::copy_set(alloc, memory),
+        b's' => copies::copy_sets(alloc, memory),
         b'v' => verdicts::judge(alloc, memory),
         _ => Err(Wrong::Letter),
     }

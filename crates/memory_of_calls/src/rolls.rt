@@ -1,34 +1,36 @@
 //! The rolls of a zone.
 use crate::wrong::Wrong;
-use courses::Call::{Add, Delete, Finish, Report1, Report2, SetPresent, Start, Wait1, Wait2};
+use courses::Call::{
+    Abort, Add, Delete, Finish, Report1, Report2, SetPresent, Start, Wait1, Wait2,
+};
 use courses::Kind::{Ksk, Public, Zsk};
 use courses::Step::At;
 use courses::Told::{Accepted, Refused, Wait};
 use courses::{Course, Memory, NOTHING, Published, SAME, Step, walk};
 use dnssec_keyset::Error;
-use dnssec_keyset::RollType::{AlgorithmRoll, ZskDoubleSignatureRoll};
+use dnssec_keyset::RollType::{AlgorithmRoll, KskRoll, ZskDoubleSignatureRoll, ZskRoll};
 use std::alloc::Global;
 
 /// Whichever request for memory is refused, the call that made it answers so and changes nothing,
 /// and the same call is then accepted.
 pub(crate) fn follow(alloc: Global, memory: &mut Memory) -> Result<(), Wrong> {
-    let _set = match walk(alloc, &TWO_ROLLS, memory) {
+    let _set = match walk(alloc, &ROLLS, memory) {
         Ok(set) => set,
         Err(mismatch) => return Err(Wrong::Course(mismatch)),
     };
     Ok(())
 }
 
-const TWO_ROLLS: Course = Course {
-    name: "two rolls",
-    parts: &[FIRST_ROLL, FIRST_ROLL_GOES_ON, LATER],
+const ROLLS: Course = Course {
+    name: "rolls",
+    parts: &[STARTED, REPORTED, FIRST_ROLL_GOES_ON, LATER, ENDED_EARLY],
 };
 
-/// What is published after the first roll's report.
-pub(crate) const REPORTED: Published = "K1,Z1 | K1 | Z1 | -";
+/// What is published from the start of the first roll to its first wait.
+pub(crate) const FIRST_KEYS: Published = "K1,Z1 | K1 | Z1 | -";
 
-/// The first roll of a zone up to its first report, with a refused add.
-pub(crate) const FIRST_ROLL: &[Step] = &[
+/// The start of a zone's first roll, with a refused add.
+pub(crate) const STARTED: &[Step] = &[
     At(0, Add(Ksk, "K1", 0, 13), Accepted, NOTHING),
     At(0, Add(Zsk, "Z1", 1, 13), Accepted, SAME),
     At(
@@ -37,9 +39,14 @@ pub(crate) const FIRST_ROLL: &[Step] = &[
         Refused(Error::DuplicateKeyTag),
         SAME,
     ),
-    At(0, Start(AlgorithmRoll, "-", "K1,Z1"), Accepted, REPORTED),
-    At(10, Report1(AlgorithmRoll, 60), Accepted, SAME),
+    At(0, Start(AlgorithmRoll, "-", "K1,Z1"), Accepted, FIRST_KEYS),
 ];
+
+/// Its first report.
+pub(crate) const REPORTED: &[Step] = &[At(10, Report1(AlgorithmRoll, 60), Accepted, SAME)];
+
+/// Its early end.
+pub(crate) const TURNED_BACK: &[Step] = &[At(10, Abort(AlgorithmRoll), Accepted, NOTHING)];
 
 /// Its end, with a wait that is claimed too early.
 pub(crate) const FIRST_ROLL_GOES_ON: &[Step] = &[
@@ -85,4 +92,25 @@ const LATER: &[Step] = &[
         "I,K1,Z2 | K1 | Z2 | K1",
     ),
     At(340, Delete("Z1"), Accepted, SAME),
+];
+
+/// Two rolls side by side that list some keys, where one of them is ended early.
+const ENDED_EARLY: &[Step] = &[
+    At(350, Add(Ksk, "K2", 16, 13), Accepted, SAME),
+    At(350, Add(Ksk, "K3", 17, 13), Accepted, SAME),
+    At(350, Add(Ksk, "K5", 18, 13), Accepted, SAME),
+    At(350, Add(Zsk, "Z3", 19, 13), Accepted, SAME),
+    At(
+        360,
+        Start(ZskRoll, "Z2", "Z3"),
+        Accepted,
+        "I,K1,Z2,Z3 | K1 | Z2 | K1",
+    ),
+    At(
+        361,
+        Start(KskRoll, "K1,K5", "K2,K3"),
+        Accepted,
+        "I,K1,K2,K3,Z2,Z3 | K1,K2,K3 | Z2 | K1",
+    ),
+    At(365, Abort(KskRoll), Accepted, "I,K1,Z2,Z3 | K1 | Z2 | K1"),
 ];
