@@ -2,20 +2,23 @@
 --
 -- | Clause     | Law                  | Lemma             | Files                               |
 -- |------------|----------------------|-------------------|-------------------------------------|
--- | `stamps`   | `NeverMissesStamp`   | `never-misses`    | Keys, Phases, Order, Positions      |
--- | `settled`  | `SettlesBetweenRolls`| `settles-between` | Keys, Phases, Order, Positions      |
+-- | `stamps`   | `NeverMissesStamp`   | `never-misses`    | Keys, Phases, Ended, Order,         |
+-- |            |                      |                   | Positions                           |
+-- | `settled`  | `SettlesBetweenRolls`| `settles-between` | the same                            |
 -- | `waits`    | `WaitsExactly`       | `waits-exactly`   | these; Armed, Verdicts, Reports,    |
 -- |            |                      |                   | Moments, Steps, Waits               |
 -- | `goes_on`  | `GoesOn`             | `goes-on`         | Completion                          |
--- | `finishes` | `RollsFinish`        | `rolls-finish`    | the first four; Listed, Going,      |
+-- | `finishes` | `RollsFinish`        | `rolls-finish`    | the first five; Listed, Going,      |
 -- |            |                      |                   | Completion                          |
 --
 -- `Keys` has what the flags and stamps of one key may be in each phase, as one test and its tables;
--- `Order` says it of a whole key set, side by side; from there each law takes what it needs.
+-- `Ended` what they are after an early end, by what the start has listed; `Order` says both of a
+-- whole key set, side by side; from there each law takes what it needs.
 -- `Replies` says what an accepted call did.
 pub mod Replies
 pub mod Keys
 pub mod Phases
+pub mod Ended
 pub mod Order
 pub mod Positions
 pub mod Armed

@@ -2,6 +2,7 @@
 -- started can be finished, its waits are over at an exact moment, and nothing is left half done.
 use Rattle.std.specs.Prelude.{◌≡◌, ◌≢◌, ℕ, suc, ◌+◌, ◌-◌, ◌*◌, ◌<◌, ◌≤◌, ◌⊎◌}
 use Rattle.std.specs.Prelude.{Bool, true, false, ◌&&◌, ◌||◌, List, length, slice_get, Some}
+use Rattle.std.specs.Prelude.{Option, None}
 use Rattle.std.specs.Duration.{as_nanos}
 use Rattle.std.specs.declared.time.Duration.{Duration}
 use Rattle.std.specs.FinMap.{get}
@@ -24,7 +25,7 @@ use Rattle.dnssec_keyset.specs.Step as keyset
 use Rattle.dnssec_run.specs.declared.call.Call.{Call}
 use Rattle.dnssec_run.specs.declared.record.Entry.{Entry}
 use Rattle.dnssec_run.specs.declared.record.Mark.TheVariants.{Report}
-use Rattle.dnssec_run.specs.Plain.{SetsNothing}
+use Rattle.dnssec_run.specs.Plain.{DoesAt, SetsNothing}
 use Rattle.dnssec_run.specs.Published.{World}
 use Rattle.dnssec_run.specs.Record.{call_of, is_accepted, moment_of, reply_of, world_at}
 use Rattle.dnssec_run.specs.Safe.{position_at}
@@ -158,14 +159,20 @@ abbrev pub IsAtWork : World → World → List ℕ → Type 0
 IsAtWork w v q = (v.added q ≡ w.added q) × (k : KeyParts) × (get v.set.keys q ≡ Some k) ×
     (each_role is_active_ksk is_active_zsk k.keytype ≡ true)
 
--- when a started roll ends, each key that it listed as old is stale or was deleted, and each role
--- of each key that it listed as new is at work (RFC 6781, section 4.1)
+-- the roll that a call ends, if any: in its last phase, or early
+abbrev pub end_of : keyset.Call → Option RollType
+end_of (keyset.RollDone roll) = Some roll
+end_of (keyset.AbortRoll roll) = Some roll
+end_of _ = None
+
+-- when a started roll ends that wasn't ended early, each key that it listed as old is stale or was
+-- deleted, and each role of each key that it listed as new is at work (RFC 6781, section 4.1)
 abbrev pub RollsFinish : List ℕ → List Call → List Entry → Type 0
 RollsFinish name calls entries = SetsNothing name calls entries →
     (s n : ℕ) (roll : RollType) (olds news : List (List ℕ)) (now : ℕ) → s < n →
     IsAccepted calls entries s (keyset.StartRoll roll olds news now) →
     IsAccepted calls entries n (keyset.RollDone roll) →
-    ((m : ℕ) → s < m → m < n → IsAccepted calls entries m (keyset.RollDone roll) → ⊥) →
+    ((m : ℕ) → s < m → m < n → DoesAt end_of calls entries m roll → ⊥) →
     let w = world_at name calls entries (suc s) in
     let v = world_at name calls entries (suc n) in
     ((q : List ℕ) → is_listed olds q ≡ true → HasLeft w v q) ×

@@ -18,8 +18,8 @@ use Rattle.dnssec_key.specs.RollTable.{Half, First, Second, after_start}
 use Rattle.dnssec_keyset.specs.Start.{is_listed}
 use Rattle.dnssec_keyset.specs.Step as keyset
 use Rattle.dnssec_keyset.proofs.Sides.{leaves-others}
-use Rattle.dnssec_run.specs.Plain.{SetsNothing}
-use Rattle.dnssec_run.specs.WholeRolls.{GoesOn, IsAccepted, HasLeft, IsAtWork}
+use Rattle.dnssec_run.specs.Plain.{DoesAt, SetsNothing}
+use Rattle.dnssec_run.specs.WholeRolls.{GoesOn, IsAccepted, HasLeft, IsAtWork, end_of}
 use Rattle.dnssec_run.specs.WholeRolls.{RollsFinish, spreading}
 use Rattle.dnssec_run.specs.declared.call.Call.{Call}
 use Rattle.dnssec_run.specs.declared.record.Entry.{Entry}
@@ -36,9 +36,9 @@ use Rattle.dnssec_run.proofs.Chain.Rolls.{same-same}
 use Rattle.dnssec_run.proofs.Chain.Steps.{may_by}
 use Rattle.dnssec_run.proofs.Chain.Allowed.{can_start, clear_cause}
 use Rattle.dnssec_run.proofs.WholeRolls.Going.{old-step, new-step, still, IsNoAdd}
-use Rattle.dnssec_run.proofs.WholeRolls.Keys.{Idle}
+use Rattle.dnssec_run.proofs.WholeRolls.Keys.{Idle, in_order}
 use Rattle.dnssec_run.proofs.WholeRolls.Listed.{began, newly, oldly, over_facts}
-use Rattle.dnssec_run.proofs.WholeRolls.Order.{is_calm, back, in_order, world_of}
+use Rattle.dnssec_run.proofs.WholeRolls.Order.{back, world_of}
 use Rattle.dnssec_keyset.proofs.Accepted.{finishes, add_free}
 use Rattle.dnssec_run.proofs.WholeRolls.Phases.{phase_fits, phase_is, put_there, roll_now}
 use Rattle.dnssec_run.proofs.WholeRolls.Positions.{in-order, nothing_set}
@@ -204,7 +204,7 @@ module _ (name : List ℕ) (calls : List Call) (entries : List Entry) (run : IsR
 
     lasting-next : (n : ℕ) (c : Call) (e : Entry) → n ≤ length entries → s < n
         → slice_get calls n ≡ Some c → slice_get entries n ≡ Some e
-        → (IsAccepted calls entries n (keyset.RollDone roll) → ⊥) → Lasting n → Lasting (suc n)
+        → (DoesAt end_of calls entries n roll → ⊥) → Lasting n → Lasting (suc n)
     lasting-next n c e within later ci ei not_end h = by (is_accepted e.reply) refl
       where
         old : KeySetParts
@@ -235,27 +235,26 @@ module _ (name : List ℕ) (calls : List Call) (entries : List Entry) (run : IsR
             (at (suc n)).set (call_of c) e.reply t step in
             let clean = nothing_set (at n).set c (plain n c ci) in
             let all = (stays-sound name calls entries run n within).rolls in
+            let not_now : end_of (call_of c) ≡ Some roll → ⊥ = λ x. not_end (record {
+              call = c;
+              entry = e;
+              call_is = ci;
+              entry_is = ei;
+              accepted = t;
+              roll_is = x;
+            }) in
             let on = still roll (at n).set (at (suc n)).set all h.phase h.going (call_of c) ok.1
-            (λ x. not_end (
-              record {
-                made = c;
-                entry = e;
-                made_is = ci;
-                entry_is = ei;
-                call_is = x;
-              },
-              t,
-            )) (λ x. true≢false (sym clean ∙ ap (is_calm (at n).set) x)) in
+            not_now in
             record {
               phase = on.0;
               going = on.1;
               left = λ q l a k g. let x = not_added n c e within later ci ei q a in
-                  old-step roll (at n).set (at (suc n)).set (call_of c) clean ok.1 q (x.1 t)
-                  (h.left q l x.0) k g;
+                  old-step roll (at n).set (at (suc n)).set all h.phase h.going (call_of c) clean
+                  ok.0 ok.1 not_now q (x.1 t) (h.left q l x.0) k g;
               come = λ q l. let x = h.come q l in
                   let y = new-step roll (at n).set (at (suc n)).set all h.phase h.going (call_of c)
                   clean ok.0 ok.1 (leaves-others (at n).set (at (suc n)).set (call_of c)
-                  (reply_of e.reply) step) q x.1 x.2 x.3 in
+                  (reply_of e.reply) step) not_now q x.1 x.2 x.3 in
                   (there_added n c e ci ei q x.1 x.2 ∙ x.0, y.0, y.1, y.2);
             }
 
@@ -308,7 +307,7 @@ module _ (name : List ℕ) (calls : List Call) (entries : List Entry) (run : IsR
 
     lasting : IsAccepted calls entries s (keyset.StartRoll roll olds news now) → (n : ℕ) → s < n
         → n ≤ length entries
-        → ((m : ℕ) → s < m → m < n → IsAccepted calls entries m (keyset.RollDone roll) → ⊥)
+        → ((m : ℕ) → s < m → m < n → DoesAt end_of calls entries m roll → ⊥)
         → Lasting n
     lasting st zero later within none = absurd (omega arith)
     lasting st (suc n) later within none = elim (cases_lt s n) [
@@ -327,7 +326,7 @@ module _ (name : List ℕ) (calls : List Call) (entries : List Entry) (run : IsR
     -- the end
     finish : IsAccepted calls entries s (keyset.StartRoll roll olds news now) → (n : ℕ) → s < n
         → (ends : IsAccepted calls entries n (keyset.RollDone roll))
-        → ((m : ℕ) → s < m → m < n → IsAccepted calls entries m (keyset.RollDone roll) → ⊥)
+        → ((m : ℕ) → s < m → m < n → DoesAt end_of calls entries m roll → ⊥)
         → ((q : List ℕ) → is_listed olds q ≡ true → HasLeft (at (suc s)) (at (suc n)) q)
         × ((q : List ℕ) → is_listed news q ≡ true → IsAtWork (at (suc s)) (at (suc n)) q)
     finish st n later ends none =

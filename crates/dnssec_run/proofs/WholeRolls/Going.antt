@@ -1,5 +1,6 @@
 -- The keys that a roll lists, over one call while it is in progress: for the clause `finishes`.
-use Rattle.dnssec_keyset.proofs.Accepted.{add_free}
+use Rattle.dnssec_keyset.proofs.Accepted.{add_free, ends_early}
+use Rattle.dnssec_keyset.proofs.Sides.{after_early_end-others}
 use Rattle.std.proofs.Common.{◌≡◌, ℕ, inl, inr, Bool, true, false, not, ◌&&◌, refl, sym, ◌∙◌, ap}
 use Rattle.std.proofs.Common.{List, None, Some}
 use Rattle.std.specs.Prelude.{is_some, if◌then◌else◌}
@@ -7,7 +8,7 @@ use Rattle.std.specs.Option.{option_map}
 use Rattle.std.specs.Str.{bytes_eq}
 use Rattle.std.specs.Cmp.Lexicographic.{bytes_decides}
 use Rattle.std.specs.FinMap.{get}
-use Rattle.std.proofs.lemmas.Bool.{true≢false}
+use Rattle.std.proofs.lemmas.Bool.{and_parts, true≢false}
 use Rattle.std.proofs.lemmas.Option.{none-some}
 use Rattle.dnssec_key.specs.declared.roll.RollType.{RollType}
 use Rattle.dnssec_key.specs.declared.roll.RollState.{RollState}
@@ -15,18 +16,19 @@ use Rattle.dnssec_key.specs.declared.roll.RollState.TheVariants.{Propagation1, C
 use Rattle.dnssec_key.specs.declared.roll.RollState.TheVariants.{CacheExpire2}
 use Rattle.dnssec_key.specs.declared.error.Error.{Error}
 use Rattle.dnssec_key.specs.Key.{KeyParts, all_states}
-use Rattle.dnssec_keyset.specs.KeySet.{KeySetParts, phase_of, with_phase, same_roll}
+use Rattle.dnssec_keyset.specs.KeySet.{KeySetParts, listed_by, phase_of, with_phase, same_roll}
 use Rattle.dnssec_key.specs.RollTable.{First, Second, after_report, after_wait}
 use Rattle.dnssec_keyset.specs.Step.{deletion_refusal}
 use Rattle.dnssec_key.specs.Setters.{set_by}
 use Rattle.dnssec_key.specs.State.{is_old}
 use Rattle.dnssec_key.specs.declared.key.KeyType.{KeyType}
 use Rattle.dnssec_run.specs.Plain.{is_another_signers}
+use Rattle.dnssec_run.specs.WholeRolls.{end_of}
 use Rattle.dnssec_run.proofs.Chain.Setters.{harmless, harmless-alike, others-unlisted}
 use Rattle.dnssec_keyset.specs.Start.{is_listed}
 use Rattle.dnssec_keyset.specs.Laws.{LeavesOthers, RollsTogether}
 use Rattle.dnssec_keyset.specs.Step as keyset
-use Rattle.dnssec_keyset.proofs.Flags.{is_stale, tolerates, waited1, waited2}
+use Rattle.dnssec_keyset.proofs.Flags.{is_stale, may_list, tolerates, waited1, waited2}
 use Rattle.dnssec_run.proofs.Chain.Tale.{start-parts}
 use Rattle.dnssec_run.proofs.Chain.Facts.{other}
 use Rattle.dnssec_run.proofs.Chain.Rolls.{same-true}
@@ -59,37 +61,6 @@ module _ (roll : RollType) (old new : KeySetParts) where
   old-moved f keys on q h j e = let b = back (f q) (get old.keys q) j (sym (keys q) ∙ e) in
       ap (λ (k : KeyParts). oldly roll k.keytype) (sym b.2) ∙ on q b.0 b.1 (h b.0 b.1)
 
-  -- an old key stays old
-  pub old-step : (c : keyset.Call) → is_calm old c ≡ true → keyset.Changes old c new → (q : List ℕ)
-      → IsNoAdd c q → ((k : KeyParts) → get old.keys q ≡ Some k → oldly roll k.keytype ≡ true)
-      → (j : KeyParts) → get new.keys q ≡ Some j → oldly roll j.keytype ≡ true
-  old-step (keyset.AddKey r k) plain m q apart h j e =
-      h j (sym (ap (λ b. if b then Some k else get old.keys q) apart) ∙ sym (m.keys q) ∙ e)
-  old-step (keyset.Set r s) plain m q apart h j e = old-moved _ m.keys
-      (λ q k at o. harmless-alike (oldly roll) false others_kept k _ (harmless old r s plain q k at)
-      ∙ o) q h j e
-    where
-      others_kept : (k : KeyType) → is_another_signers k ≡ true → oldly roll k ≡ false
-      others_kept k other = ap (λ b. b && all_states is_old k) (others-unlisted roll k other)
-  old-step (keyset.DeleteKey r) plain m q apart h j e = by (bytes_eq r q) refl
-    where
-      by : (b : Bool) → bytes_eq r q ≡ b → oldly roll j.keytype ≡ true
-      by true t = absurd (none-some j (sym (ap (λ b. if b then None else get old.keys q) t)
-          ∙ sym (m.keys q) ∙ e))
-      by false t = h j (sym (ap (λ b. if b then None else get old.keys q) t) ∙ sym (m.keys q) ∙ e)
-  old-step (keyset.StartRoll p olds news now) plain m q apart h j e = old-moved _ m.keys
-      (λ q k at o. ap (λ (k : KeyParts). oldly roll k.keytype)
-      (start-parts p now (is_listed olds q) (is_listed news q) k)
-      ∙ old_start roll p (is_listed olds q) (is_listed news q) k.keytype o) q h j e
-  old-step (keyset.Report p half ttl now) plain m q apart h j e =
-      old-moved _ m.keys (λ q k at o. o) q h j e
-  old-step (keyset.Wait p First now) plain m q apart h j e =
-      old-moved _ m.keys (λ q k at o. (old_wait roll p k.keytype o).0) q h j e
-  old-step (keyset.Wait p Second now) plain m q apart h j e =
-      old-moved _ m.keys (λ q k at o. (old_wait roll p k.keytype o).1) q h j e
-  old-step (keyset.RollDone p) plain m q apart h j e = old-moved _ m.keys (λ q k at o. o) q h j e
-  old-step (keyset.AbortRoll p) plain m q apart h j e = absurd (true≢false (sym plain))
-
   abbrev Stays : List ℕ → Type 0
   Stays q = (j : KeyParts) × (get new.keys q ≡ Some j) × (newly roll j.keytype ≡ true)
 
@@ -104,24 +75,74 @@ module _ (roll : RollType) (old new : KeySetParts) where
             | inr t ↦ t
           ]
 
+      -- another roll that ends early runs beside this one
+      ends_beside : (p : RollType) → keyset.verdict old (keyset.AbortRoll p) ≡ keyset.Clear
+          → (end_of (keyset.AbortRoll p) ≡ Some roll → ⊥) → tolerates p roll ≡ true
+      ends_beside p v not_end = elim (split_by (same_roll p roll)) [
+        | inl t ↦ absurd (not_end (ap Some (same-true p roll t)))
+        | inr t ↦ beside p Propagation1 (ends_early _ (clear_cause _ v)) t
+      ]
+
+      -- an old key stays old
+      pub old-step : (c : keyset.Call) → is_calm old c ≡ true → keyset.verdict old c ≡ keyset.Clear
+          → keyset.Changes old c new → (end_of c ≡ Some roll → ⊥) → (q : List ℕ) → IsNoAdd c q
+          → ((k : KeyParts) → get old.keys q ≡ Some k → oldly roll k.keytype ≡ true)
+          → (j : KeyParts) → get new.keys q ≡ Some j → oldly roll j.keytype ≡ true
+      old-step (keyset.AddKey r k) plain v m not_end q apart h j e =
+          h j (sym (ap (λ b. if b then Some k else get old.keys q) apart) ∙ sym (m.keys q) ∙ e)
+      old-step (keyset.Set r s) plain v m not_end q apart h j e = old-moved _ m.keys
+          (λ q k at o. harmless-alike (oldly roll) false others_kept k _
+          (harmless old r s plain q k at) ∙ o) q h j e
+        where
+          others_kept : (k : KeyType) → is_another_signers k ≡ true → oldly roll k ≡ false
+          others_kept k other = ap (λ b. b && all_states is_old k) (others-unlisted roll k other)
+      old-step (keyset.DeleteKey r) plain v m not_end q apart h j e = by (bytes_eq r q) refl
+        where
+          by : (b : Bool) → bytes_eq r q ≡ b → oldly roll j.keytype ≡ true
+          by true t = absurd (none-some j (sym (ap (λ b. if b then None else get old.keys q) t)
+              ∙ sym (m.keys q) ∙ e))
+          by false t = h j (sym (ap (λ b. if b then None else get old.keys q) t)
+              ∙ sym (m.keys q) ∙ e)
+      old-step (keyset.StartRoll p olds news now) plain v m not_end q apart h j e =
+          old-moved _ m.keys
+          (λ q k at o. ap (λ (k : KeyParts). oldly roll k.keytype)
+          (start-parts p now (is_listed olds q) (is_listed news q) k)
+          ∙ old_start roll p (is_listed olds q) (is_listed news q) k.keytype o) q h j e
+      old-step (keyset.Report p half ttl now) plain v m not_end q apart h j e =
+          old-moved _ m.keys (λ q k at o. o) q h j e
+      old-step (keyset.Wait p First now) plain v m not_end q apart h j e =
+          old-moved _ m.keys (λ q k at o. (old_wait roll p k.keytype o).0) q h j e
+      old-step (keyset.Wait p Second now) plain v m not_end q apart h j e =
+          old-moved _ m.keys (λ q k at o. (old_wait roll p k.keytype o).1) q h j e
+      old-step (keyset.RollDone p) plain v m not_end q apart h j e =
+          old-moved _ m.keys (λ q k at o. o) q h j e
+      old-step (keyset.AbortRoll p) plain v m not_end q apart h j e =
+          let together = ends_beside p v not_end in
+          old-moved _ m.keys
+          (λ q k at o. ap (λ (k : KeyParts). oldly roll k.keytype)
+          (after_early_end-others p (is_listed (listed_by old.lists p).olds q)
+          (is_listed (listed_by old.lists p).news q) k
+          (other p roll k.keytype together (and_parts (may_list roll k.keytype) _ o).0))
+          ∙ o) q h j e
+
       -- a new key stays new
       pub new-step : (c : keyset.Call) → is_calm old c ≡ true → keyset.verdict old c ≡ keyset.Clear
-          → keyset.Changes old c new → LeavesOthers old c new
+          → keyset.Changes old c new → LeavesOthers old c new → (end_of c ≡ Some roll → ⊥)
           → (q : List ℕ) (k : KeyParts) → get old.keys q ≡ Some k → newly roll k.keytype ≡ true
           → Stays q
-      new-step (keyset.AddKey r key) plain v m leaves q k e w = by (bytes_eq r q) refl
+      new-step (keyset.AddKey r key) plain v m leaves not_end q k e w = by (bytes_eq r q) refl
         where
           by : (b : Bool) → bytes_eq r q ≡ b → Stays q
           by true t = absurd (true≢false
               (sym (ap is_some (ap (get old.keys) ((bytes_decides r q).0 t) ∙ e))
               ∙ add_free _ _ _ _ (clear_cause _ v)))
           by false t = (k, m.keys q ∙ ap (λ b. if b then Some key else get old.keys q) t ∙ e, w)
-      new-step (keyset.Set r s) plain v m leaves q k e w = (
+      new-step (keyset.Set r s) plain v m leaves not_end q k e w = (
         (if bytes_eq r q then set_by s k else k),
         m.keys q ∙ ap (option_map (λ k. if bytes_eq r q then set_by s k else k)) e,
         harmless-alike (newly roll) false (others-new roll) k _ (harmless old r s plain q k e) ∙ w,
       )
-      new-step (keyset.DeleteKey r) plain v m leaves q k e w = by (bytes_eq r q) refl
+      new-step (keyset.DeleteKey r) plain v m leaves not_end q k e w = by (bytes_eq r q) refl
         where
           stale : (b : Bool) → is_stale k.keytype ≡ b → deletion_refusal (Some k) ≡ None → b ≡ true
           stale true t d = refl
@@ -135,7 +156,7 @@ module _ (roll : RollType) (old new : KeySetParts) where
               (ap deletion_refusal (sym (ap (get old.keys) ((bytes_decides r q).0 t) ∙ e))
               ∙ clear_cause _ v))))
           by false t = (k, m.keys q ∙ ap (λ b. if b then None else get old.keys q) t ∙ e, w)
-      new-step (keyset.StartRoll p olds news now) plain v m leaves q k e w =
+      new-step (keyset.StartRoll p olds news now) plain v m leaves not_end q k e w =
           let can = can_start (world_of old) p olds news (clear_cause _ v) in
           let together : tolerates p roll ≡ true =
           elim (split_by (tolerates p roll)) [
@@ -148,11 +169,11 @@ module _ (roll : RollType) (old new : KeySetParts) where
                 (new_facts roll k.keytype w).listed),
             w,
           )
-      new-step (keyset.Report p First ttl now) plain v m leaves q k e w =
+      new-step (keyset.Report p First ttl now) plain v m leaves not_end q k e w =
           (after_report p First now k, m.keys q ∙ ap (option_map (after_report p First now)) e, w)
-      new-step (keyset.Report p Second ttl now) plain v m leaves q k e w =
+      new-step (keyset.Report p Second ttl now) plain v m leaves not_end q k e w =
           (after_report p Second now k, m.keys q ∙ ap (option_map (after_report p Second now)) e, w)
-      new-step (keyset.Wait p First now) plain v m leaves q k e w =
+      new-step (keyset.Wait p First now) plain v m leaves not_end q k e w =
           elim (split_by (same_roll p roll)) [
             | inl t ↦ (
               after_wait p First now k,
@@ -168,7 +189,7 @@ module _ (roll : RollType) (old new : KeySetParts) where
               w,
             )
           ]
-      new-step (keyset.Wait p Second now) plain v m leaves q k e w =
+      new-step (keyset.Wait p Second now) plain v m leaves not_end q k e w =
           elim (split_by (same_roll p roll)) [
             | inl t ↦ (
               after_wait p Second now k,
@@ -184,9 +205,14 @@ module _ (roll : RollType) (old new : KeySetParts) where
               w,
             )
           ]
-      new-step (keyset.RollDone p) plain v m leaves q k e w =
+      new-step (keyset.RollDone p) plain v m leaves not_end q k e w =
           (k, m.keys q ∙ ap (option_map (λ k. k)) e, w)
-      new-step (keyset.AbortRoll p) plain v m leaves q k e w = absurd (true≢false (sym plain))
+      new-step (keyset.AbortRoll p) plain v m leaves not_end q k e w = (
+        k,
+        leaves p q k refl e (other p roll k.keytype (ends_beside p v not_end)
+            (new_facts roll k.keytype w).listed),
+        w,
+      )
 
       -- the roll goes on unless it ends
       abbrev GoesOnStill : Type 0
@@ -199,19 +225,19 @@ module _ (roll : RollType) (old new : KeySetParts) where
         | inr t ↦ (x, put_aside old.rolls new.rolls p (Some y) roll rolls t ∙ going)
       ]
 
-      pub still : (c : keyset.Call) → keyset.Changes old c new → (c ≡ keyset.RollDone roll → ⊥)
-          → (c ≡ keyset.AbortRoll roll → ⊥) → GoesOnStill
-      still (keyset.AddKey r k) m not_end not_early = (x, ap (λ s. phase_of s roll) m.rolls ∙ going)
-      still (keyset.Set r s) m not_end not_early = (x, ap (λ s. phase_of s roll) m.rolls ∙ going)
-      still (keyset.DeleteKey r) m not_end not_early = (x, ap (λ s. phase_of s roll) m.rolls ∙ going)
-      still (keyset.StartRoll p olds news now) m not_end not_early = still-roll p Propagation1 m.rolls
-      still (keyset.Report p half ttl now) m not_end not_early = still-roll p _ m.rolls
-      still (keyset.Wait p half now) m not_end not_early = still-roll p _ m.rolls
-      still (keyset.RollDone p) m not_end not_early = elim (split_by (same_roll p roll)) [
-        | inl t ↦ absurd (not_end (ap keyset.RollDone (same-true p roll t)))
+      pub still : (c : keyset.Call) → keyset.Changes old c new → (end_of c ≡ Some roll → ⊥)
+          → GoesOnStill
+      still (keyset.AddKey r k) m not_end = (x, ap (λ s. phase_of s roll) m.rolls ∙ going)
+      still (keyset.Set r s) m not_end = (x, ap (λ s. phase_of s roll) m.rolls ∙ going)
+      still (keyset.DeleteKey r) m not_end = (x, ap (λ s. phase_of s roll) m.rolls ∙ going)
+      still (keyset.StartRoll p olds news now) m not_end = still-roll p Propagation1 m.rolls
+      still (keyset.Report p half ttl now) m not_end = still-roll p _ m.rolls
+      still (keyset.Wait p half now) m not_end = still-roll p _ m.rolls
+      still (keyset.RollDone p) m not_end = elim (split_by (same_roll p roll)) [
+        | inl t ↦ absurd (not_end (ap Some (same-true p roll t)))
         | inr t ↦ (x, put_aside old.rolls new.rolls p None roll m.rolls t ∙ going)
       ]
-      still (keyset.AbortRoll p) m not_end not_early = elim (split_by (same_roll p roll)) [
-        | inl t ↦ absurd (not_early (ap keyset.AbortRoll (same-true p roll t)))
+      still (keyset.AbortRoll p) m not_end = elim (split_by (same_roll p roll)) [
+        | inl t ↦ absurd (not_end (ap Some (same-true p roll t)))
         | inr t ↦ (x, put_aside old.rolls new.rolls p None roll m.rolls t ∙ going)
       ]

@@ -1,5 +1,6 @@
 -- What flags and stamps a key may have in each phase, by the tables: for all laws of whole rolls.
 use Rattle.std.proofs.lemmas.Bool.{and_parts}
+use Rattle.std.specs.Prelude.{is_some}
 use Rattle.std.proofs.Common.{sym, ◌∙◌, ◌≡◌, Bool, true, false, not, ◌&&◌, ◌||◌, refl, ap}
 use Rattle.dnssec_keyset.proofs.Flags.{start-fits, wait1-fits, wait2-fits, idle-fits, unseen-fits}
 use Rattle.dnssec_keyset.proofs.Flags.{SideOf, Keys, Zone, affects, started, waited1, waited2}
@@ -12,6 +13,7 @@ use Rattle.dnssec_key.specs.declared.roll.RollType.TheVariants.{CskRoll, Algorit
 use Rattle.dnssec_key.specs.declared.key.KeyType.{KeyType}
 use Rattle.dnssec_key.specs.declared.key.KeyType.TheVariants.{Ksk, Zsk, Csk}
 use Rattle.dnssec_key.specs.State.{Flags, kept_present, kept_at_parent, old_present}
+use Rattle.dnssec_key.specs.Key.{KeyParts}
 use Rattle.dnssec_key.specs.RollTable.{column}
 use Rattle.dnssec_run.specs.WholeRolls.{each_role, is_settled_ksk, is_settled_zsk}
 use Rattle.dnssec_run.proofs.Chain.Tables.{written, Stamp, Visible, DsVisible, RrsigVisible, read}
@@ -74,6 +76,11 @@ dated sd ph k v d g = has_role sd k ⇒ (ready sd ph k v d g && besides sd ph k 
 -- a key is in order on a side
 abbrev pub orderly : SideOf → Phase → KeyType → Bool → Bool → Bool → Bool
 orderly sd ph k v d g = fits sd (stage_in ph) k && dated sd ph k v d g
+
+-- the key is in order, by its flags and by which stamps are there
+abbrev pub in_order : SideOf → Phase → KeyParts → Bool
+in_order sd ph k = orderly sd ph k.keytype (is_some k.timestamps.visible)
+    (is_some k.timestamps.ds_visible) (is_some k.timestamps.rrsig_visible)
 
 pub fits_of : (sd : SideOf) (ph : Phase) (k : KeyType) (v d g : Bool)
     → orderly sd ph k v d g ≡ true → fits sd (stage_in ph) k ≡ true

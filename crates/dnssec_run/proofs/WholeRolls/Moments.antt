@@ -8,17 +8,16 @@ use Rattle.dnssec_key.specs.declared.roll.RollType.{RollType}
 use Rattle.dnssec_key.specs.Key.{KeyParts}
 use Rattle.dnssec_keyset.specs.Start.{is_listed}
 use Rattle.dnssec_key.specs.Setters.{set_by}
-use Rattle.std.proofs.lemmas.Bool.{true≢false}
 use Rattle.dnssec_run.specs.declared.call.Call.TheVariants as call
 use Rattle.dnssec_run.proofs.Chain.Phases.{start_stamps, wait_stamps}
 use Rattle.dnssec_run.proofs.Chain.Trust.{moment}
-use Rattle.dnssec_keyset.specs.KeySet.{KeySetParts}
+use Rattle.dnssec_keyset.specs.KeySet.{KeySetParts, listed_by}
 use Rattle.dnssec_key.specs.RollTable.{Half, First, Second, after_start, after_report}
 use Rattle.dnssec_keyset.specs.Step as keyset
 use Rattle.dnssec_run.specs.declared.call.Call.{Call}
 use Rattle.dnssec_run.specs.Record.{call_of}
 use Rattle.dnssec_run.proofs.Chain.Tables.{Stamp, Visible, DsVisible, RrsigVisible}
-use Rattle.dnssec_run.proofs.Chain.Tale.{stamp_of, start-parts}
+use Rattle.dnssec_run.proofs.Chain.Tale.{early-end-parts, stamp_of, start-parts}
 use Rattle.dnssec_run.proofs.Chain.Setters.{harmless}
 use Rattle.dnssec_run.proofs.WholeRolls.Armed.{NoneLater, later-moved, later-puts, report-stamp}
 use Rattle.dnssec_run.proofs.WholeRolls.Order.{is_calm}
@@ -104,4 +103,8 @@ module _ (t u : ℕ) (le : t ≤ u) (old new : KeySetParts) (late : NoneLater t 
       (λ q k there s x e. inl (wait_stamps r true now k s ∙ e))
   late-step (keyset.RollDone r) plain fresh at m =
       later-moved t old new late (λ q k. k) u le m.keys (λ q k there s x e. inl e)
-  late-step (keyset.AbortRoll r) plain fresh at m = absurd (true≢false (sym plain))
+  late-step (keyset.AbortRoll r) plain fresh at m =
+      later-moved t old new late _ u le m.keys
+      (λ q k there s x e. inl (ap (stamp_of s) (sym (early-end-parts r
+      (is_listed (listed_by old.lists r).olds q) (is_listed (listed_by old.lists r).news q) k))
+      ∙ e))

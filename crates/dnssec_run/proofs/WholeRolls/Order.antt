@@ -1,9 +1,10 @@
 -- Calls that set nothing leave the keys of a set in order: for all laws of whole rolls.
-use Rattle.std.proofs.Common.{◌≡◌, ℕ, ◌⊎◌, inl, inr, Bool, true, false, not, ◌||◌, refl, sym, ◌∙◌}
-use Rattle.std.proofs.Common.{ap, subst, List, Option, None, Some}
+use Rattle.std.proofs.Common.{◌≡◌, ℕ, ◌⊎◌, inl, inr, Bool, true, false, not, ◌&&◌, ◌||◌, refl}
+use Rattle.std.proofs.Common.{sym, ◌∙◌, ap, subst, List, Option, None, Some}
 use Rattle.std.specs.Prelude.{if◌then◌else◌, is_some}
 use Rattle.std.specs.Option.{option_map}
 use Rattle.std.specs.Str.{bytes_eq}
+use Rattle.std.specs.Cmp.Lexicographic.{bytes_decides}
 use Rattle.std.specs.FinMap.{get, get-empty}
 use Rattle.std.specs.Ordering.{nat_cmp}
 use Rattle.std.specs.Cmp.Lexicographic.{slice_cmp}
@@ -13,22 +14,24 @@ use Rattle.dnssec_key.specs.declared.roll.RollState.{RollState}
 use Rattle.dnssec_key.specs.declared.roll.RollState.TheVariants.{Propagation1, CacheExpire1}
 use Rattle.dnssec_key.specs.declared.roll.RollState.TheVariants.{Propagation2, CacheExpire2}
 use Rattle.dnssec_key.specs.declared.roll.RollState.TheVariants.{Done}
-use Rattle.dnssec_key.specs.Key.{KeyParts}
-use Rattle.dnssec_keyset.specs.KeySet.{Lists, KeySetParts, PutsKey, MovesOn, new_set, phase_of, same_roll}
+use Rattle.dnssec_key.specs.Key.{KeyParts, all_states}
+use Rattle.dnssec_key.specs.State.{is_kept}
+use Rattle.dnssec_keyset.specs.KeySet.{Lists, KeySetParts, PutsKey, MovesOn, new_set, phase_of}
+use Rattle.dnssec_keyset.specs.KeySet.{listed_by, same_roll, with_listed}
 use Rattle.dnssec_key.specs.RollTable.{First, Second, stamp_if, after_start, after_report}
-use Rattle.dnssec_key.specs.RollTable.{after_wait}
+use Rattle.dnssec_key.specs.RollTable.{after_early_end, after_wait}
 use Rattle.dnssec_key.specs.Setters.{set_by}
 use Rattle.dnssec_keyset.specs.Laws.{LeavesOthers}
 use Rattle.dnssec_keyset.specs.Step as keyset
 use Rattle.dnssec_keyset.proofs.Sides.{leaves-others}
 use Rattle.dnssec_keyset.proofs.Laws.{moved}
-use Rattle.std.proofs.lemmas.Bool.{true≢false}
 use Rattle.dnssec_run.specs.Published.{World as RealWorld}
-use Rattle.dnssec_run.specs.Plain.{sets_nothing}
-use Rattle.dnssec_keyset.proofs.Flags.{SideOf, affects, may_list, is_blank, started, waited1}
+use Rattle.dnssec_run.specs.Plain.{is_plain_setting, sets_nothing}
+use Rattle.dnssec_keyset.proofs.Flags.{SideOf, affects, may_list, is_blank, started, ended, waited1}
 use Rattle.dnssec_keyset.proofs.Flags.{waited2, has_role, may_start, is_idle}
 use Rattle.dnssec_run.proofs.Chain.Tables.{written, Visible, DsVisible, RrsigVisible}
 use Rattle.dnssec_run.proofs.Chain.Tale.{seen, is_listed, CanStart, start-parts, started_key}
+use Rattle.dnssec_run.proofs.Chain.Tale.{early-end-parts}
 use Rattle.dnssec_run.proofs.Chain.Setters.{Harmless, harmless, harmless-alike, others-role}
 use Rattle.dnssec_run.proofs.Chain.Facts.{apart}
 use Rattle.dnssec_run.proofs.Chain.Rolls.{same-true, clash}
@@ -37,25 +40,26 @@ use Rattle.dnssec_run.proofs.Chain.Gentles.{role_start, role_waited1, role_waite
 use Rattle.dnssec_run.proofs.Chain.Phases.{start_stamps, wait_stamps}
 use Rattle.dnssec_run.proofs.Chain.Allowed.{can_start, clear_cause, waits_in_phase}
 use Rattle.dnssec_run.proofs.WholeRolls.Keys.{Expiring, Idle, Phase, Spreading, blank_orderly}
-use Rattle.dnssec_run.proofs.WholeRolls.Keys.{orderly, report_orderly, start_orderly}
+use Rattle.dnssec_run.proofs.WholeRolls.Keys.{in_order, orderly, report_orderly, start_orderly}
 use Rattle.dnssec_run.proofs.WholeRolls.Keys.{unseen_orderly, wait1_orderly, wait2_orderly}
-use Rattle.dnssec_keyset.proofs.Accepted.{finishes, spreads_first, spreads_second}
+use Rattle.dnssec_keyset.proofs.Accepted.{ends_early, finishes, spreads_first, spreads_second}
+use Rattle.dnssec_run.proofs.WholeRolls.Ended.{Alike, alike_put, alike_same, alike_set}
+use Rattle.dnssec_run.proofs.WholeRolls.Ended.{alike_without, can_end, can_end-alike, can_end-idle}
+use Rattle.dnssec_run.proofs.WholeRolls.Ended.{can_end-set, can_end-unseen, ended_key, listed_start}
+use Rattle.dnssec_run.proofs.WholeRolls.Ended.{role_ended, undone_orderly}
 use Rattle.dnssec_run.proofs.WholeRolls.Phases.{at_phase, distinct, here_fits, idle_is, is_live}
 use Rattle.dnssec_run.proofs.WholeRolls.Phases.{no_phases, none_fits, others_none, own_at}
 use Rattle.dnssec_run.proofs.WholeRolls.Phases.{phase_fits, phase_is, phase_own, put_aside}
 use Rattle.dnssec_run.proofs.WholeRolls.Phases.{put_there}
 
--- the key is in order, by its flags and by which stamps are there
-abbrev pub in_order : SideOf → Phase → KeyParts → Bool
-in_order sd ph k = orderly sd ph k.keytype (is_some k.timestamps.visible)
-    (is_some k.timestamps.ds_visible) (is_some k.timestamps.rrsig_visible)
-
--- the rolls and the keys of a side are in order
+-- the rolls and the keys of a side are in order, and the keys stay so if its roll ends early
 pub record Order (sd : SideOf) (set : KeySetParts) : Type 0 where
   pub ph : Phase
   pub own : phase_own sd ph ≡ true
   pub rolls : (q : RollType) → affects sd q ≡ true → phase_fits ph q (phase_of set.rolls q) ≡ true
   pub keys : (q : List ℕ) (k : KeyParts) → get set.keys q ≡ Some k → in_order sd ph k ≡ true
+  pub early : (q : List ℕ) (k : KeyParts) → get set.keys q ≡ Some k
+      → can_end sd ph set.lists q k ≡ true
 
 -- ---- keys
 
@@ -75,8 +79,10 @@ module _ (sd : SideOf) (old new : KeySetParts) where
       → affects sd r ≡ true → is_live p ≡ true → phase_of old.rolls r ≡ Some p
       → MovesOn old new r (Some p') kept f
       → ((q : List ℕ) (k : KeyParts) → in_order sd (at_phase r p) k ≡ true
-      → in_order sd (at_phase r p') (f q k) ≡ true) → Order sd old → Order sd new
-  own_side r p p' f own live was m step h = record {
+      → in_order sd (at_phase r p') (f q k) ≡ true)
+      → ((q : List ℕ) (k : KeyParts) → can_end sd (at_phase r p') new.lists q k ≡ true)
+      → Order sd old → Order sd new
+  own_side r p p' f own live was m step later h = record {
     ph = at_phase r p';
     own = own_at sd r p' own;
     rolls = λ q e. at_roll q e (same_roll r q) refl;
@@ -84,6 +90,7 @@ module _ (sd : SideOf) (old new : KeySetParts) where
         let b = back (f q) (get old.keys q) j (sym (m.keys q) ∙ e) in
         ap (in_order sd (at_phase r p')) (sym b.2)
         ∙ step q b.0 (ap (λ ph. in_order sd ph b.0) (sym there) ∙ h.keys q b.0 b.1);
+    early = λ q j e. later q j;
   }
     where
       there : h.ph ≡ at_phase r p
@@ -105,39 +112,54 @@ module _ (sd : SideOf) (old new : KeySetParts) where
   -- a call of a roll of the other side
   other_side : {kept : Lists} (r : RollType) (o : Option RollState)
       (f : List ℕ → KeyParts → KeyParts) → affects sd r ≡ false → MovesOn old new r o kept f
+      → ((q : List ℕ) → Alike sd q old.lists kept)
       → ((q : List ℕ) (k : KeyParts) → get old.keys q ≡ Some k → may_list r k.keytype ≡ false
       → get new.keys q ≡ Some k)
       → ((q : List ℕ) (k : KeyParts) → has_role sd (f q k).keytype ≡ has_role sd k.keytype)
       → Order sd old → Order sd new
-  other_side r o f out m leaves roles h = record {
+  other_side {kept = kept} r o f out m lists leaves roles h = record {
     ph = h.ph;
     own = h.own;
     rolls = λ q e. ap (phase_fits h.ph q)
         (put_aside old.rolls new.rolls r o q m.rolls (distinct sd r q out e)) ∙ h.rolls q e;
-    keys = λ q j e. at_key q j e (back (f q) (get old.keys q) j (sym (m.keys q) ∙ e));
+    keys = λ q j e. (at_key q j e (back (f q) (get old.keys q) j (sym (m.keys q) ∙ e))).0;
+    early = λ q j e. (at_key q j e (back (f q) (get old.keys q) j (sym (m.keys q) ∙ e))).1;
   }
     where
       at_key : (q : List ℕ) (j : KeyParts) → get new.keys q ≡ Some j → (k : KeyParts)
-          × (get old.keys q ≡ Some k) × (f q k ≡ j) → in_order sd h.ph j ≡ true
+          × (get old.keys q ≡ Some k) × (f q k ≡ j)
+          → (in_order sd h.ph j ≡ true) × (can_end sd h.ph new.lists q j ≡ true)
       at_key q j e b = by (has_role sd b.0.keytype) refl
         where
-          by : (t : Bool) → has_role sd b.0.keytype ≡ t → in_order sd h.ph j ≡ true
+          by : (t : Bool) → has_role sd b.0.keytype ≡ t
+              → (in_order sd h.ph j ≡ true) × (can_end sd h.ph new.lists q j ≡ true)
           by true t =
               let same : b.0 ≡ j = same_Some b.0 j
-              (sym (leaves q b.0 b.1 (apart sd r b.0.keytype out t)) ∙ e) in
-              ap (in_order sd h.ph) (sym same) ∙ h.keys q b.0 b.1
-          by false t = unseen_orderly sd h.ph j.keytype _ _ _
-              (ap (λ (k : KeyParts). has_role sd k.keytype) (sym b.2) ∙ roles q b.0 ∙ t)
+              (sym (leaves q b.0 b.1 (apart sd r b.0.keytype out t)) ∙ e) in (
+                ap (in_order sd h.ph) (sym same) ∙ h.keys q b.0 b.1,
+                ap (λ l. can_end sd h.ph l q j) m.lists
+                    ∙ can_end-alike sd h.ph q old.lists kept j h.own (lists q)
+                    ∙ ap (can_end sd h.ph old.lists q) (sym same) ∙ h.early q b.0 b.1,
+              )
+          by false t =
+              let unseen = ap (λ (k : KeyParts). has_role sd k.keytype) (sym b.2) ∙ roles q b.0 ∙ t
+              in (
+                unseen_orderly sd h.ph j.keytype _ _ _ unseen,
+                can_end-unseen sd h.ph q new.lists j unseen,
+              )
 
   -- a call that moves no roll
   calm_side : new.rolls ≡ old.rolls → (h : Order sd old)
       → ((q : List ℕ) (j : KeyParts) → get new.keys q ≡ Some j → in_order sd h.ph j ≡ true)
+      → ((q : List ℕ) (j : KeyParts) → get new.keys q ≡ Some j
+      → can_end sd h.ph new.lists q j ≡ true)
       → Order sd new
-  calm_side same h keys = record {
+  calm_side same h keys early = record {
     ph = h.ph;
     own = h.own;
     rolls = λ q e. ap (λ x. phase_fits h.ph q (phase_of x q)) same ∙ h.rolls q e;
     keys = keys;
+    early = early;
   }
 
 -- one key at each call
@@ -193,6 +215,20 @@ wait_second sd r now k own e =
     ∙ wait2_orderly sd r k.keytype (is_some k.timestamps.visible) (is_some k.timestamps.ds_visible)
     (is_some k.timestamps.rrsig_visible) own e
 
+undone_key : (sd : SideOf) (r : RollType) (now : ℕ) (o i : Bool) (k : KeyParts)
+    → affects sd r ≡ true → may_start r o i k.keytype ≡ true
+    → ((s : SideOf) → affects s r ≡ true → in_order s Idle k ≡ true)
+    → (x y : Bool) → x ≡ (o && all_states is_kept k.keytype) → y ≡ i
+    → in_order sd Idle
+    (record (started_key r now o i k) { keytype = ended r x y (started r o i k.keytype) }) ≡ true
+undone_key sd r now o i k own may idle x y old new =
+    let s = start_stamps r now o i k in
+    (λ z. orderly sd Idle (ended r (old z) (new z) (started r o i k.keytype))
+    (is_some (sym (s Visible) z)) (is_some (sym (s DsVisible) z))
+    (is_some (sym (s RrsigVisible) z)))
+    ∙ undone_orderly sd r o i k.keytype (is_some k.timestamps.visible)
+    (is_some k.timestamps.ds_visible) (is_some k.timestamps.rrsig_visible) own may idle
+
 harmless_key : (sd : SideOf) (ph : Phase) (k j : KeyParts) → Harmless k j
     → in_order sd ph j ≡ in_order sd ph k
 harmless_key sd ph k j h =
@@ -215,21 +251,31 @@ world_of set = record { set = set; added = λ q. 0 }
 
 module _ (sd : SideOf) (old new : KeySetParts) where
   puts_side : {kept : Lists} (r : List ℕ) (o : Option KeyParts) → PutsKey old new r o kept
-      → (h : Order sd old)
-      → ((j : KeyParts) → o ≡ Some j → in_order sd h.ph j ≡ true) → Order sd new
-  puts_side r o p h fresh = calm_side sd old new p.rolls h
-      (λ q j e. by q j (bytes_eq r q) refl (sym (p.keys q) ∙ e))
+      → ((q : List ℕ) → bytes_eq r q ≡ false → Alike sd q old.lists kept) → (h : Order sd old)
+      → ((j : KeyParts) → o ≡ Some j → is_idle j.keytype ≡ true) → Order sd new
+  puts_side {kept = kept} r o p lists h fresh = calm_side sd old new p.rolls h
+      (λ q j e. (by q j (bytes_eq r q) refl (sym (p.keys q) ∙ e)).0)
+      (λ q j e. (by q j (bytes_eq r q) refl (sym (p.keys q) ∙ e)).1)
     where
       by : (q : List ℕ) (j : KeyParts) (b : Bool) → bytes_eq r q ≡ b
-          → (if bytes_eq r q then o else get old.keys q) ≡ Some j → in_order sd h.ph j ≡ true
-      by q j true t e = fresh j (sym (ap (λ b. if b then o else get old.keys q) t) ∙ e)
-      by q j false t e = h.keys q j (sym (ap (λ b. if b then o else get old.keys q) t) ∙ e)
+          → (if bytes_eq r q then o else get old.keys q) ≡ Some j
+          → (in_order sd h.ph j ≡ true) × (can_end sd h.ph new.lists q j ≡ true)
+      by q j true t e =
+          let idle = fresh j (sym (ap (λ b. if b then o else get old.keys q) t) ∙ e) in
+          (blank_orderly sd h.ph j.keytype _ _ _ idle, can_end-idle sd h.ph q new.lists j idle)
+      by q j false t e =
+          let was = sym (ap (λ b. if b then o else get old.keys q) t) ∙ e in (
+            h.keys q j was,
+            ap (λ l. can_end sd h.ph l q j) p.lists
+                ∙ can_end-alike sd h.ph q old.lists kept j h.own (lists q t) ∙ h.early q j was,
+          )
 
-  start_side : {kept : Lists} (r : RollType) (olds news : List (List ℕ)) (now : ℕ)
+  start_side : (r : RollType) (olds news : List (List ℕ)) (now : ℕ)
       → CanStart r (seen (world_of old)) olds news
-      → MovesOn old new r (Some Propagation1) kept
+      → MovesOn old new r (Some Propagation1)
+      (with_listed old.lists r (keyset.listed_at_start old.keys olds news))
       (λ q. after_start r now (is_listed q olds) (is_listed q news))
-      → affects sd r ≡ true → Order sd old → Order sd new
+      → affects sd r ≡ true → ((s : SideOf) → Order s old) → Order sd new
   start_side r olds news now can m own h = record {
     ph = Spreading false r;
     own = own;
@@ -240,14 +286,27 @@ module _ (sd : SideOf) (old new : KeySetParts) where
         ap (in_order sd (Spreading false r)) (sym b.2
         ∙ start-parts r now (is_listed q olds) (is_listed q news) b.0)
         ∙ start_key sd r now (is_listed q olds) (is_listed q news) b.0 own (may_key q b.0 b.1)
-        (ap (λ ph. in_order sd ph b.0) (sym idle) ∙ h.keys q b.0 b.1);
+        (idle sd own q b.0 b.1);
+    early = λ q j e.
+        let b = back (after_start r now (is_listed q olds) (is_listed q news)) (get old.keys q) j
+        (sym (m.keys q) ∙ e) in
+        let kept = listed_start old.lists new.lists old.keys r olds news q b.0 m.lists b.1 in
+        ap (λ k. in_order sd Idle (ended_key r (listed_by new.lists r) q k)) (sym b.2
+        ∙ start-parts r now (is_listed q olds) (is_listed q news) b.0)
+        ∙ undone_key sd r now (is_listed q olds) (is_listed q news) b.0 own (may_key q b.0 b.1)
+        (λ s e. idle s e q b.0 b.1) _ _ kept.0 kept.1;
   }
     where
-      alone : (q : RollType) → affects sd q ≡ true → phase_of old.rolls q ≡ None
-      alone q e = can.alone q (clash sd r q own e)
+      alone : (s : SideOf) → affects s r ≡ true → (q : RollType) → affects s q ≡ true
+          → phase_of old.rolls q ≡ None
+      alone s mine q e = can.alone q (clash s r q mine e)
 
-      idle : h.ph ≡ Idle
-      idle = idle_is sd h.ph h.own (λ q e. ap (phase_fits h.ph q) (sym (alone q e)) ∙ h.rolls q e)
+      idle : (s : SideOf) → affects s r ≡ true → (q : List ℕ) (k : KeyParts)
+          → get old.keys q ≡ Some k → in_order s Idle k ≡ true
+      idle s mine q k at =
+          let rest : (h s).ph ≡ Idle = idle_is s (h s).ph (h s).own
+          (λ q e. ap (phase_fits (h s).ph q) (sym (alone s mine q e)) ∙ (h s).rolls q e) in
+          ap (λ ph. in_order s ph k) (sym rest) ∙ (h s).keys q k at
 
       may_key : (q : List ℕ) (k : KeyParts) → get old.keys q ≡ Some k
           → may_start r (is_listed q olds) (is_listed q news) k.keytype ≡ true
@@ -267,7 +326,8 @@ module _ (sd : SideOf) (old new : KeySetParts) where
       at_roll q e true t = ap (phase_fits (Spreading false r) q)
           (put_there old.rolls new.rolls r (Some Propagation1) q m.rolls t) ∙ t
       at_roll q e false t = ap (phase_fits (Spreading false r) q)
-          (put_aside old.rolls new.rolls r (Some Propagation1) q m.rolls t ∙ alone q e) ∙ ap not t
+          (put_aside old.rolls new.rolls r (Some Propagation1) q m.rolls t ∙ alone sd own q e)
+          ∙ ap not t
 
   done_side : {kept : Lists} (r : RollType) → phase_of old.rolls r ≡ Some Done
       → MovesOn old new r None kept (λ q k. k)
@@ -279,6 +339,7 @@ module _ (sd : SideOf) (old new : KeySetParts) where
     keys = λ q j e. let b = back (λ k. k) (get old.keys q) j (sym (m.keys q) ∙ e) in
         ap (in_order sd Idle) (sym b.2) ∙ ap (λ ph. in_order sd ph b.0) (sym there)
         ∙ h.keys q b.0 b.1;
+    early = λ q j e. refl;
   }
     where
       there : h.ph ≡ Idle
@@ -291,6 +352,36 @@ module _ (sd : SideOf) (old new : KeySetParts) where
           (put_aside old.rolls new.rolls r None q m.rolls t)
           ∙ ap (λ ph. phase_fits ph q (phase_of old.rolls q)) (sym there) ∙ h.rolls q e
 
+  early_end_side : {kept : Lists} (r : RollType) → phase_of old.rolls r ≡ Some Propagation1
+      → MovesOn old new r None kept
+      (λ q. after_early_end r (is_listed q (listed_by old.lists r).olds)
+      (is_listed q (listed_by old.lists r).news))
+      → affects sd r ≡ true → Order sd old → Order sd new
+  early_end_side r was m own h = record {
+    ph = Idle;
+    own = refl;
+    rolls = λ q e. at_roll q e (same_roll r q) refl;
+    keys = λ q j e.
+        let listed = listed_by old.lists r in
+        let b = back (after_early_end r (is_listed q listed.olds) (is_listed q listed.news))
+        (get old.keys q) j (sym (m.keys q) ∙ e) in
+        ap (in_order sd Idle) (sym b.2
+        ∙ early-end-parts r (is_listed q listed.olds) (is_listed q listed.news) b.0)
+        ∙ ap (λ ph. can_end sd ph old.lists q b.0) (sym there) ∙ h.early q b.0 b.1;
+    early = λ q j e. refl;
+  }
+    where
+      there : h.ph ≡ Spreading false r
+      there = phase_is h.ph r Propagation1 (ap (phase_fits h.ph r) (sym was) ∙ h.rolls r own)
+
+      at_roll : (q : RollType) → affects sd q ≡ true → (b : Bool) → same_roll r q ≡ b
+          → phase_fits Idle q (phase_of new.rolls q) ≡ true
+      at_roll q e true t = ap (phase_fits Idle q) (put_there old.rolls new.rolls r None q m.rolls t)
+      at_roll q e false t = ap (phase_fits Idle q)
+          (put_aside old.rolls new.rolls r None q m.rolls t
+          ∙ others_none r Propagation1 q (phase_of old.rolls q) refl
+          (ap (λ ph. phase_fits ph q (phase_of old.rolls q)) (sym there) ∙ h.rolls q e) t)
+
   split_by : (b : Bool) → (b ≡ true) ⊎ (b ≡ false)
   split_by true = inl refl
   split_by false = inr refl
@@ -300,19 +391,44 @@ module _ (sd : SideOf) (old new : KeySetParts) where
   role_started r now o i k = ap (λ (k : KeyParts). has_role sd k.keytype) (start-parts r now o i k)
       ∙ role_start sd r o i k.keytype
 
+  role_ended_early : (r : RollType) (o i : Bool) (k : KeyParts)
+      → has_role sd (after_early_end r o i k).keytype ≡ has_role sd k.keytype
+  role_ended_early r o i k = ap (λ (k : KeyParts). has_role sd k.keytype) (early-end-parts r o i k)
+      ∙ role_ended sd r o i k.keytype
+
   changed_side : (c : keyset.Call) → is_calm old c ≡ true → LeavesOthers old c new
-      → keyset.verdict old c ≡ keyset.Clear → keyset.Changes old c new → Order sd old → Order sd new
+      → keyset.verdict old c ≡ keyset.Clear → keyset.Changes old c new
+      → ((s : SideOf) → Order s old) → Order sd new
   changed_side (keyset.AddKey r k) plain leaves v m h =
-      puts_side r (Some k) m h (λ j e. ap (in_order sd h.ph) (sym (same_Some k j e))
-      ∙ blank_orderly sd h.ph k.keytype _ _ _ plain)
-  changed_side (keyset.Set r s) plain leaves v m h =
-      calm_side sd old new m.rolls h (λ q j e.
-      let b = back (λ k. if bytes_eq r q then set_by s k else k) (get old.keys q) j
-      (sym (m.keys q) ∙ e) in
-      ap (in_order sd h.ph) (sym b.2)
-      ∙ harmless_key sd h.ph b.0 _ (harmless old r s plain q b.0 b.1) ∙ h.keys q b.0 b.1)
+      puts_side r (Some k) m (λ q t. alike_same sd q old.lists) (h sd)
+      (λ j e. ap (λ (j : KeyParts). is_idle j.keytype) (sym (same_Some k j e)) ∙ plain)
+  changed_side (keyset.Set r s) plain leaves v m h = calm_side sd old new m.rolls (h sd)
+      (λ q j e. let b = was q j e in
+      ap (in_order sd (h sd).ph) (sym b.2)
+      ∙ harmless_key sd (h sd).ph b.0 _ (harmless old r s plain q b.0 b.1)
+      ∙ (h sd).keys q b.0 b.1)
+      (λ q j e. let b = was q j e in
+      ap (λ l. can_end sd (h sd).ph l q j) m.lists ∙ at_key q j b.0 b.1 b.2 (bytes_eq r q) refl)
+    where
+      was : (q : List ℕ) (j : KeyParts) → get new.keys q ≡ Some j → (k : KeyParts)
+          × (get old.keys q ≡ Some k) × ((if bytes_eq r q then set_by s k else k) ≡ j)
+      was q j e = back (λ k. if bytes_eq r q then set_by s k else k) (get old.keys q) j
+          (sym (m.keys q) ∙ e)
+
+      at_key : (q : List ℕ) (j k : KeyParts) → get old.keys q ≡ Some k
+          → (if bytes_eq r q then set_by s k else k) ≡ j → (b : Bool) → bytes_eq r q ≡ b
+          → can_end sd (h sd).ph (keyset.lists_after_setting s r old.lists) q j ≡ true
+      at_key q j k at is true t = can_end-set sd (h sd).ph q r s old.lists k j
+          (sym (ap (is_plain_setting s) (ap (get old.keys) ((bytes_decides r q).0 t) ∙ at)) ∙ plain)
+          (subst (Harmless k) is (harmless old r s plain q k at)) ((h sd).early q k at)
+      at_key q j k at is false t =
+          can_end-alike sd (h sd).ph q old.lists _ j (h sd).own (alike_set sd q r s old.lists t)
+          ∙ ap (can_end sd (h sd).ph old.lists q)
+          (sym (sym (ap (λ b. if b then set_by s k else k) t) ∙ is))
+          ∙ (h sd).early q k at
   changed_side (keyset.DeleteKey r) plain leaves v m h =
-      puts_side r None m h (λ j e. absurd (none-some j e))
+      puts_side r None m (λ q t. alike_without sd q r old.lists t) (h sd)
+      (λ j e. absurd (none-some j e))
   changed_side (keyset.StartRoll r olds news now) plain leaves v m h =
       elim (split_by (affects sd r)) [
         | inl own ↦ start_side r olds news now
@@ -320,50 +436,61 @@ module _ (sd : SideOf) (old new : KeySetParts) where
             m own h
         | inr out ↦ other_side sd old new r (Some Propagation1)
             (λ q. after_start r now (is_listed q olds) (is_listed q news)) out m
-            (λ q k e l. leaves r q k refl e l)
-            (λ q k. role_started r now (is_listed q olds) (is_listed q news) k) h
+            (λ q. alike_put sd q old.lists r _ out) (λ q k e l. leaves r q k refl e l)
+            (λ q k. role_started r now (is_listed q olds) (is_listed q news) k) (h sd)
       ]
   changed_side (keyset.Report r First ttl now) plain leaves v m h = elim (split_by (affects sd r)) [
     | inl own ↦ own_side sd old new r Propagation1 (CacheExpire1 ttl)
         (λ q. after_report r First now) own refl (spreads_first _ (clear_cause _ v)) m
-        (λ q k. report_first sd r now k own) h
+        (λ q k. report_first sd r now k own) (λ q k. refl) (h sd)
     | inr out ↦ other_side sd old new r (Some (CacheExpire1 ttl)) (λ q. after_report r First now)
-        out m (λ q k e l. leaves r q k refl e l) (λ q k. refl) h
+        out m (λ q. alike_put sd q old.lists r _ out) (λ q k e l. leaves r q k refl e l)
+        (λ q k. refl) (h sd)
   ]
   changed_side (keyset.Report r Second ttl now) plain leaves v m h =
       elim (split_by (affects sd r)) [
         | inl own ↦ own_side sd old new r Propagation2 (CacheExpire2 ttl)
             (λ q. after_report r Second now) own refl (spreads_second _ (clear_cause _ v)) m
-            (λ q k. report_second sd r now k own) h
+            (λ q k. report_second sd r now k own) (λ q k. refl) (h sd)
         | inr out ↦ other_side sd old new r (Some (CacheExpire2 ttl))
             (λ q. after_report r Second now)
-            out m (λ q k e l. leaves r q k refl e l) (λ q k. refl) h
+            out m (λ q. alike_same sd q old.lists) (λ q k e l. leaves r q k refl e l)
+            (λ q k. refl) (h sd)
       ]
   changed_side (keyset.Wait r First now) plain leaves v m h = elim (split_by (affects sd r)) [
     | inl own ↦ let w = waits_in_phase r false now (world_of old) v in
         own_side sd old new r (CacheExpire1 w.0) Propagation2 (λ q. after_wait r First now) own refl
-        w.1 m (λ q k. wait_first sd r now k own) h
+        w.1 m (λ q k. wait_first sd r now k own) (λ q k. refl) (h sd)
     | inr out ↦ other_side sd old new r (Some Propagation2) (λ q. after_wait r First now) out m
-        (λ q k e l. leaves r q k refl e l) (λ q k. role_waited1 sd r k.keytype) h
+        (λ q. alike_same sd q old.lists) (λ q k e l. leaves r q k refl e l)
+        (λ q k. role_waited1 sd r k.keytype) (h sd)
   ]
   changed_side (keyset.Wait r Second now) plain leaves v m h = elim (split_by (affects sd r)) [
     | inl own ↦ let w = waits_in_phase r true now (world_of old) v in
         own_side sd old new r (CacheExpire2 w.0) Done (λ q. after_wait r Second now) own refl w.1 m
-        (λ q k. wait_second sd r now k own) h
+        (λ q k. wait_second sd r now k own) (λ q k. refl) (h sd)
     | inr out ↦ other_side sd old new r (Some Done) (λ q. after_wait r Second now) out m
-        (λ q k e l. leaves r q k refl e l) (λ q k. role_waited2 sd r k.keytype) h
+        (λ q. alike_same sd q old.lists) (λ q k e l. leaves r q k refl e l)
+        (λ q k. role_waited2 sd r k.keytype) (h sd)
   ]
-  changed_side (keyset.AbortRoll r) plain leaves v m h = absurd (true≢false (sym plain))
+  changed_side (keyset.AbortRoll r) plain leaves v m h = elim (split_by (affects sd r)) [
+    | inl own ↦ early_end_side r (ends_early _ (clear_cause _ v)) m own (h sd)
+    | inr out ↦ other_side sd old new r None
+        (λ q. after_early_end r (is_listed q (listed_by old.lists r).olds)
+        (is_listed q (listed_by old.lists r).news)) out m
+        (λ q. alike_put sd q old.lists r _ out) (λ q k e l. leaves r q k refl e l)
+        (λ q k. role_ended_early r _ _ k) (h sd)
+  ]
   changed_side (keyset.RollDone r) plain leaves v m h = elim (split_by (affects sd r)) [
-    | inl own ↦ done_side r (finishes _ (clear_cause _ v)) m own h
-    | inr out ↦ other_side sd old new r None (λ q k. k) out m (λ q k e l. leaves r q k refl e l)
-        (λ q k. refl) h
+    | inl own ↦ done_side r (finishes _ (clear_cause _ v)) m own (h sd)
+    | inr out ↦ other_side sd old new r None (λ q k. k) out m (λ q. alike_same sd q old.lists)
+        (λ q k e l. leaves r q k refl e l) (λ q k. refl) (h sd)
   ]
 
   pub order-step : (c : keyset.Call) (reply : keyset.Reply) → is_calm old c ≡ true
-      → keyset.Step old c reply new → Order sd old → Order sd new
+      → keyset.Step old c reply new → ((s : SideOf) → Order s old) → Order sd new
   order-step c reply plain step h = elim (moved old new c reply step) [
-    | inl same ↦ subst (Order sd) (sym same) h
+    | inl same ↦ subst (Order sd) (sym same) (h sd)
     | inr change ↦ changed_side c plain (leaves-others old new c reply step) change.0 change.1 h
   ]
 
@@ -373,4 +500,5 @@ order-new sd name = record {
   own = refl;
   rolls = λ q e. ap (phase_fits Idle q) (no_phases q);
   keys = λ q k e. absurd (none-some k (sym (get-empty (slice_cmp nat_cmp) q) ∙ e));
+  early = λ q k e. refl;
 }

@@ -30,8 +30,9 @@ use Rattle.dnssec_keyset.proofs.Flags.{SideOf, Keys, Zone, affects}
 use Rattle.dnssec_run.proofs.Chain.Tables.{half, read, reads-stamp, checked, Stamp, Visible}
 use Rattle.dnssec_run.proofs.Chain.Tables.{DsVisible, RrsigVisible}
 use Rattle.dnssec_run.proofs.Chain.Tale.{stamp_of, waiting}
-use Rattle.dnssec_run.proofs.WholeRolls.Keys.{Expiring, Idle, has, settled_by, stamp_there}
-use Rattle.dnssec_run.proofs.WholeRolls.Order.{Order, in_order, is_calm, order-new, order-step}
+use Rattle.dnssec_run.proofs.WholeRolls.Keys.{Expiring, Idle, has, in_order, settled_by}
+use Rattle.dnssec_run.proofs.WholeRolls.Keys.{stamp_there}
+use Rattle.dnssec_run.proofs.WholeRolls.Order.{Order, is_calm, order-new, order-step}
 use Rattle.dnssec_run.proofs.WholeRolls.Phases.{at_phase, idle_is, phase_fits, phase_is}
 
 -- ---- at each position
@@ -65,13 +66,15 @@ module _ (name : List ℕ) (calls : List Call) (entries : List Entry) (run : IsR
   pub in-order : (sd : SideOf) (n : ℕ) → Order sd (world_at name calls entries n).set
   unfolding world_at
   in-order sd zero = order-new sd name
-  in-order sd (suc n) = at (slice_get calls n) (slice_get entries n) refl refl (in-order sd n)
+  in-order sd (suc n) =
+      at (slice_get calls n) (slice_get entries n) refl refl (λ s. in-order s n)
     where
       at : (oc : Option Call) (oe : Option Entry) → slice_get calls n ≡ oc
-          → slice_get entries n ≡ oe → Order sd (world_at name calls entries n).set
+          → slice_get entries n ≡ oe
+          → ((s : SideOf) → Order s (world_at name calls entries n).set)
           → Order sd (stepped_by (suc n) (world_at name calls entries n) oc oe).set
-      at None oe ci ei before = before
-      at (Some c) None ci ei before = before
+      at None oe ci ei before = before sd
+      at (Some c) None ci ei before = before sd
       at (Some c) (Some e) ci ei before =
           let step_to : world_at name calls entries (suc n)
           ≡ stepped_by (suc n) (world_at name calls entries n) (Some c) (Some e) =

@@ -1,5 +1,5 @@
 -- What the record tells of a roll is kept by each call: for the clause `waits`.
-use Rattle.dnssec_keyset.proofs.Accepted.{add_free, finishes, spreads_first}
+use Rattle.dnssec_keyset.proofs.Accepted.{add_free, ends_early, finishes, spreads_first}
 use Rattle.dnssec_keyset.proofs.Accepted.{spreads_second}
 use Rattle.std.proofs.Common.{◌≡◌, ℕ, suc, inl, inr, Bool, true, false, ◌&&◌, refl, sym, ◌∙◌, ap}
 use Rattle.std.proofs.Common.{subst, List, Option, None, Some}
@@ -24,9 +24,9 @@ use Rattle.dnssec_run.proofs.Chain.Allowed.{can_start, clear_cause, waits_in_pha
 use Rattle.dnssec_run.proofs.Chain.Steps.{may_by, suits}
 use Rattle.dnssec_run.proofs.Chain.Gentles.{list_start, list_waited1, list_waited2}
 use Rattle.dnssec_run.proofs.Chain.Trust.{moment, mark}
-use Rattle.dnssec_keyset.specs.KeySet.{KeySetParts, phase_of, with_phase, same_roll}
+use Rattle.dnssec_keyset.specs.KeySet.{KeySetParts, listed_by, phase_of, with_phase, same_roll}
 use Rattle.dnssec_key.specs.RollTable.{Half, First, Second, after_start, after_report}
-use Rattle.dnssec_key.specs.RollTable.{after_wait}
+use Rattle.dnssec_key.specs.RollTable.{after_early_end, after_wait}
 use Rattle.dnssec_keyset.specs.Laws.{LeavesOthers, RollsTogether}
 use Rattle.dnssec_keyset.specs.Step as keyset
 use Rattle.dnssec_run.specs.declared.record.Entry.{Entry}
@@ -34,15 +34,16 @@ use Rattle.dnssec_run.specs.Safe.{position_at}
 use Rattle.dnssec_keyset.proofs.Flags.{SideOf, Keys, Zone, may_list, is_blank, is_stale, tolerates}
 use Rattle.dnssec_keyset.proofs.Flags.{Quiet, fits, may_start, is_idle, stale-idle}
 use Rattle.dnssec_run.proofs.Chain.Tables.{serves_new, serves_kept}
-use Rattle.dnssec_run.proofs.Chain.Tale.{start-parts, seen, CanStart}
+use Rattle.dnssec_run.proofs.Chain.Tale.{early-end-parts, start-parts, seen, CanStart}
 use Rattle.dnssec_run.proofs.Chain.Setters.{harmless}
 use Rattle.dnssec_run.proofs.Chain.Facts.{stays, timer, timer-affects, stays_start}
 use Rattle.dnssec_run.proofs.WholeRolls.Reports.{Data, data-beside, data-first, data-between}
 use Rattle.dnssec_run.proofs.WholeRolls.Reports.{data-second, is_report, same_half}
 use Rattle.dnssec_run.proofs.WholeRolls.Armed.{Beside, NoneLater, beside-alike, beside-puts}
 use Rattle.dnssec_run.proofs.WholeRolls.Armed.{beside-roll}
-use Rattle.dnssec_run.proofs.WholeRolls.Keys.{fits_of, Idle, Phase, stage_in}
-use Rattle.dnssec_run.proofs.WholeRolls.Order.{Order, in_order, is_calm, world_of}
+use Rattle.dnssec_run.proofs.WholeRolls.Keys.{fits_of, Idle, Phase, stage_in, in_order}
+use Rattle.dnssec_run.proofs.WholeRolls.Ended.{list_ended}
+use Rattle.dnssec_run.proofs.WholeRolls.Order.{Order, is_calm, world_of}
 use Rattle.dnssec_run.proofs.WholeRolls.Phases.{at_phase, idle_is, phase_fits, phase_is, put_aside}
 use Rattle.dnssec_run.proofs.WholeRolls.Phases.{put_there, roll_now, split_by}
 
@@ -256,7 +257,21 @@ module _ (entries : List Entry) (n : ℕ) (old new : KeySetParts) (ks : Order Ke
     where
       finished : Data entries new (suc n) r Done
       finished = tt
-  data-step (keyset.AbortRoll r) plain v m leaves mk mo late h = absurd (true≢false (sym plain))
+  data-step (keyset.AbortRoll r) plain v m leaves mk mo late h =
+      let was = ends_early _ (clear_cause _ v) in
+      data-roll r None m.rolls (λ x e. absurd (none-some x e))
+      (λ q y e d. beside-roll q r old new _ (goes_with r q Propagation1 y was e d) m.keys
+      (λ x k at l. leaves r x k refl at l) (λ x k. kinds q x k))
+      (λ q d s. ap (is_report q s) mk) h
+    where
+      kinds : (q : RollType) (x : List ℕ) (k : KeyParts)
+          → may_list q (after_early_end r (is_listed (listed_by old.lists r).olds x)
+          (is_listed (listed_by old.lists r).news x) k).keytype ≡ may_list q k.keytype
+      kinds q x k =
+          let o = is_listed (listed_by old.lists r).olds x in
+          let i = is_listed (listed_by old.lists r).news x in
+          ap (λ (k : KeyParts). may_list q k.keytype) (early-end-parts r o i k)
+          ∙ list_ended q r o i k.keytype
   data-step (keyset.RollDone r) plain v m leaves mk mo late h =
       let was = finishes _ (clear_cause _ v) in
       data-roll r None m.rolls (λ x e. absurd (none-some x e))
