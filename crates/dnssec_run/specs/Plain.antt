@@ -36,7 +36,6 @@ is_plain_setting _ _ = false
 abbrev pub sets_nothing : KeySetParts → keyset.Call → Bool
 sets_nothing set (keyset.Set reference setting) =
     is_plain_setting setting (get set.keys reference)
-sets_nothing set (keyset.AbortRoll roll) = false
 sets_nothing set _ = true
 
 -- no call sets a flag or a time by hand, but whether another signer's key is in the DNSKEY set
