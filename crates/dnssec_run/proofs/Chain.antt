@@ -8,11 +8,14 @@ pub mod Tables
 pub mod Flags
 pub mod Facts
 pub mod Tale
+pub mod EarlyEnds
 pub mod Setters
 pub mod Shown
 pub mod Rolls
 pub mod History
 pub mod Places
+pub mod Returns
+pub mod Lists
 pub mod Invariant
 pub mod Steps
 pub mod Gentles

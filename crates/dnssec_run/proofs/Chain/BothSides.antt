@@ -1,5 +1,5 @@
 -- The invariant of both sides together: each call keeps it, so each position of a plain run is safe.
-use Rattle.std.proofs.Common.{◌≡◌, ◌||◌, ℕ, suc, ◌<◌, ◌≤◌, ◌⊎◌, inl, inr, Bool, true, false, refl}
+use Rattle.std.proofs.Common.{◌≡◌, ◌||◌, ◌&&◌, ℕ, suc, ◌<◌, ◌≤◌, ◌⊎◌, inl, inr, Bool, true, false, refl}
 use Rattle.std.proofs.Common.{sym, ◌∙◌, ap, subst, arith, List, length, Option, None, Some}
 use Rattle.std.specs.Prelude.{if◌then◌else◌, ◌==◌}
 use Rattle.std.specs.Option.{option_map}
@@ -16,6 +16,7 @@ use Rattle.dnssec_key.specs.declared.roll.RollState.TheVariants.{Propagation2, C
 use Rattle.dnssec_key.specs.declared.roll.RollState.TheVariants.{Done}
 use Rattle.dnssec_key.specs.declared.key.KeyType.{KeyType}
 use Rattle.dnssec_keyset.specs.KeySet.{same_roll}
+use Rattle.dnssec_keyset.specs.Step.{is_kept_at}
 use Rattle.dnssec_key.specs.RollTable.{column}
 use Rattle.dnssec_run.specs.declared.record.Mark.TheVariants.{Other, Step, Report}
 use Rattle.dnssec_run.specs.Published.{Id, in_ds}
@@ -34,16 +35,20 @@ use Rattle.dnssec_run.proofs.Chain.Rolls.{stage_fits, same-same, same-true, same
 use Rattle.dnssec_run.proofs.Chain.Rolls.{stage_late, stage_quiet, put-same, put-other, clash}
 use Rattle.dnssec_run.proofs.Chain.History.{Serving, first-retires, second-retires, not_in_empty}
 use Rattle.dnssec_run.proofs.Chain.Places.{all_ok, NoDs, no_ds-next, shows_ds, found_map}
-use Rattle.dnssec_run.proofs.Chain.Places.{some_weaker}
+use Rattle.dnssec_run.proofs.Chain.Places.{some_weaker, real}
+use Rattle.dnssec_run.proofs.Chain.EarlyEnds.{is_tied, fits-tied, ended-less}
+use Rattle.dnssec_run.proofs.Chain.Returns.{KeepsLists, listed_at, early_end_key}
 use Rattle.dnssec_run.proofs.Chain.Invariant.{At, Alive, at-gentle, alive-gentle, at-common}
 use Rattle.dnssec_run.proofs.Chain.Steps.{Mapped, LifeAt, at-start, alive-start, at-wait1}
 use Rattle.dnssec_run.proofs.Chain.Steps.{alive-wait1, at-wait2, alive-wait2, may_at}
+use Rattle.dnssec_run.proofs.Chain.Steps.{at-early-end, alive-early-end}
 use Rattle.dnssec_run.proofs.Chain.Gentles.{Kept, gentle_kept, gentle-start, gentle-wait1}
 use Rattle.dnssec_run.proofs.Chain.Gentles.{gentle-wait2, gentle-report, gentle-done}
+use Rattle.dnssec_run.proofs.Chain.Gentles.{gentle-early-end}
 use Rattle.dnssec_run.proofs.Chain.Phases.{Phases, PhaseOf, Told, Reads, gone, Aside, phase-aside}
 use Rattle.dnssec_run.proofs.Chain.Phases.{aside-kept, aside-start, aside-wait1, aside-wait2}
 use Rattle.dnssec_run.proofs.Chain.Phases.{aside-report, reads-start, reads-wait1, told-report}
-use Rattle.dnssec_run.proofs.Chain.Phases.{reads-report}
+use Rattle.dnssec_run.proofs.Chain.Phases.{reads-report, aside-early-end}
 
 -- finite facts ---------------------------------------------------------------------------------
 
@@ -269,11 +274,11 @@ module _ (tale : Tale) (n : ℕ) (here : suc n ≤ length tale.es) where
   step_other r q d mark = ap (is_step q) mark ∙ same-sym q r ∙ d
 
   -- a refusal, an add, a deletion
-  pub calm : (v : World) → world_at tale (suc n) ≡ v → Kept (world_at tale n) v → (position_at tale.es (suc n)).mark ≡ Other → (PassesAt tale n → ⊥) → Inv tale n → Inv tale (suc n)
-  calm v e k mark none h =
+  pub calm : (v : World) → world_at tale (suc n) ≡ v → Kept (world_at tale n) v → (position_at tale.es (suc n)).mark ≡ Other → (PassesAt tale n → ⊥) → ((sd : SideOf) → KeepsLists tale sd n) → Inv tale n → Inv tale (suc n)
+  calm v e k mark none lists h =
       let dead = no_ds-next tale n here (λ id f. k.fore in_ds (λ t x. (test-seen Keys Ds t x).1) id (sym (ap (λ w. if_some in_ds (found w id)) e) ∙ f)) in
-      let gk = gentle_kept tale n v e k mark dead Keys h.ks h.keys.rolls h.keys.flags in
-      let gz = gentle_kept tale n v e k mark dead Zone h.zs h.zone.rolls h.zone.flags in
+      let gk = gentle_kept tale n v e k mark dead lists Keys h.ks h.keys.rolls h.keys.flags in
+      let gz = gentle_kept tale n v e k mark dead lists Zone h.zs h.zone.rolls h.zone.flags in
       let same = λ (q : RollType). ap (λ w. w.roll q) e ∙ k.rolls q in
       record {
         ks = h.ks;
@@ -290,11 +295,11 @@ module _ (tale : Tale) (n : ℕ) (here : suc n ≤ length tale.es) where
 
   -- a report
   pub report : (r : RollType) (second : Bool) (ttl now : ℕ) → Mapped tale n (λ q. report_key r second now) r (Some (waiting second ttl)) → (world_at tale n).roll r ≡ Some (spreading second)
-      → (position_at tale.es (suc n)).mark ≡ Report r second ttl → (position_at tale.es (suc n)).moment ≡ Some now → (PassesAt tale n → ⊥) → Inv tale n → Inv tale (suc n)
-  report r second ttl now m phase mark moment none h =
+      → (position_at tale.es (suc n)).mark ≡ Report r second ttl → (position_at tale.es (suc n)).moment ≡ Some now → (PassesAt tale n → ⊥) → ((sd : SideOf) → KeepsLists tale sd n) → Inv tale n → Inv tale (suc n)
+  report r second ttl now m phase mark moment none lists h =
       let dead = ds_less (λ q. report_key r second now) r (Some (waiting second ttl)) m (λ q k. refl) in
-      let gk = gentle-report tale n Keys h.ks h.keys.rolls h.keys.flags dead r second ttl now m phase mark in
-      let gz = gentle-report tale n Zone h.zs h.zone.rolls h.zone.flags dead r second ttl now m phase mark in
+      let gk = gentle-report tale n Keys h.ks h.keys.rolls h.keys.flags dead (lists Keys) r second ttl now m phase mark in
+      let gz = gentle-report tale n Zone h.zs h.zone.rolls h.zone.flags dead (lists Zone) r second ttl now m phase mark in
       record {
         ks = h.ks;
         zs = h.zs;
@@ -313,33 +318,35 @@ module _ (tale : Tale) (n : ℕ) (here : suc n ≤ length tale.es) where
       this false phase told reads = (reads (h.phases r Propagation1 phase), told)
       this true phase told reads = (reads (h.phases r Propagation2 phase), told)
 
+  -- the rolls in progress after one roll is out
+  was-rolling : (r : RollType) → ((q : RollType) → (world_at tale (suc n)).roll q ≡ put_roll (world_at tale n).roll r None q) → (q : RollType) (x : RollState) → (world_at tale (suc n)).roll q ≡ Some x
+      → (same_roll r q ≡ false) × ((world_at tale n).roll q ≡ Some x)
+  was-rolling r rolls q x e = at_same (same_roll r q) refl
+    where
+      at_same : (b : Bool) → same_roll r q ≡ b → (same_roll r q ≡ false) × ((world_at tale n).roll q ≡ Some x)
+      at_same true t = absurd (none-some x (sym (put-same (world_at tale n).roll r None) ∙ sym (rolls r) ∙ ap (world_at tale (suc n)).roll (same-true r q t) ∙ e))
+      at_same false t = (t, sym (put-other (world_at tale n).roll r None q t) ∙ sym (rolls q) ∙ e)
+
   -- the end of a roll
   pub done : (r : RollType) → ((q : List ℕ) → (world_at tale (suc n)).key q ≡ (world_at tale n).key q) → ((id : Id) → found (world_at tale (suc n)) id ≡ found (world_at tale n) id)
       → ((q : RollType) → (world_at tale (suc n)).roll q ≡ put_roll (world_at tale n).roll r None q) → (world_at tale n).roll r ≡ Some Done
-      → (position_at tale.es (suc n)).mark ≡ Other → (PassesAt tale n → ⊥) → Inv tale n → Inv tale (suc n)
-  done r keys same rolls phase mark none h =
+      → (position_at tale.es (suc n)).mark ≡ Other → (PassesAt tale n → ⊥) → ((sd : SideOf) → KeepsLists tale sd n) → Inv tale n → Inv tale (suc n)
+  done r keys same rolls phase mark none lists h =
       let dead = no_ds-next tale n here (λ id e. sym (ap (if_some in_ds) (same id)) ∙ e) in
-      let gk = gentle-done tale n Keys h.ks h.keys.rolls h.keys.flags dead r same rolls phase mark in
-      let gz = gentle-done tale n Zone h.zs h.zone.rolls h.zone.flags dead r same rolls phase mark in
+      let gk = gentle-done tale n Keys h.ks h.keys.rolls h.keys.flags dead (lists Keys) r same rolls phase mark in
+      let gz = gentle-done tale n Zone h.zs h.zone.rolls h.zone.flags dead (lists Zone) r same rolls phase mark in
       record {
         ks = h.ks;
         zs = h.zs;
         keys = at-gentle tale n here Keys h.ks gk h.keys;
         zone = at-gentle tale n here Zone h.zs gz h.zone;
-        pairs = λ a b x y ax by d. h.pairs a b x y (was a x ax) (was b y by) d;
-        phases = λ q x e. phase-aside tale n q x (record { back = λ second id f. ap (if_some _) (same id) ∙ f; keys = λ t j f l b. (j, sym (keys t) ∙ f, refl, λ s. refl); no_step = ap (is_step q) mark }) (h.phases q x (was q x e));
+        pairs = λ a b x y ax by d. h.pairs a b x y (was-rolling r rolls a x ax).1 (was-rolling r rolls b y by).1 d;
+        phases = λ q x e. phase-aside tale n q x (record { back = λ second id f. ap (if_some _) (same id) ∙ f; keys = λ t j f l b. (j, sym (keys t) ∙ f, refl, λ s. refl); no_step = ap (is_step q) mark }) (h.phases q x (was-rolling r rolls q x e).1);
         life = elim (h.life) [
           | inl a ↦ inl (alive-gentle tale n here Keys h.ks gk a.0, alive-gentle tale n here Zone h.zs gz a.1)
           | inr d ↦ inr (dead d.0, (unpassed-next none d.1.0, d.1.1))
         ];
       }
-    where
-      was : (q : RollType) (x : RollState) → (world_at tale (suc n)).roll q ≡ Some x → (world_at tale n).roll q ≡ Some x
-      was q x e = at_same (same_roll r q) refl
-        where
-          at_same : (b : Bool) → same_roll r q ≡ b → (world_at tale n).roll q ≡ Some x
-          at_same true t = absurd (none-some x (sym (put-same (world_at tale n).roll r None) ∙ sym (rolls r) ∙ ap (world_at tale (suc n)).roll (same-true r q t) ∙ e))
-          at_same false t = sym (put-other (world_at tale n).roll r None q t) ∙ sym (rolls q) ∙ e
 
 -- the calls of a roll, side by side ----------------------------------------------------------------
 
@@ -350,18 +357,28 @@ Moved tale sd r st to n = (st' : Stage) × At tale sd st' (suc n) × (affects sd
 module _ (tale : Tale) (n : ℕ) (here : suc n ≤ length tale.es) where
   -- a start
   module _ (r : RollType) (now : ℕ) (old new : List (List ℕ)) (m : Mapped tale n (start_key r now old new) r (Some Propagation1)) (can : CanStart r (world_at tale n) old new)
-      (mark : (position_at tale.es (suc n)).mark ≡ Step r) where
+      (mark : (position_at tale.es (suc n)).mark ≡ Step r)
+      (olds : (q : List ℕ) → is_listed q (listed_at tale r (suc n)).olds ≡ (is_listed q old && is_kept_at (real tale n).set.keys q))
+      (news : (q : List ℕ) → is_listed q (listed_at tale r (suc n)).news ≡ is_listed q new)
+      (lists : (sd : SideOf) → affects sd r ≡ false → KeepsLists tale sd n) where
     quiet_now : (sd : SideOf) (st : Stage) → affects sd r ≡ true → At tale sd st n → At tale sd Quiet n
     quiet_now sd st own h = subst (λ s. At tale sd s n) (stage_quiet sd st h.own (λ q e. sym (ap (stage_fits st q) (can.alone q (clash sd r q own e))) ∙ h.rolls q e)) h
 
-    start_side : (sd : SideOf) (st : Stage) → At tale sd st n → (NoDs tale.es n → NoDs tale.es (suc n)) → (NoDs tale.es (suc n) ⊎ Alive tale sd n)
+    ties : Inv tale n → (id : Id) → all_ok is_tied (found (world_at tale n) id) ≡ true
+    ties h id = by (found (world_at tale n) id) (h.zone.flags id)
+      where
+        by : (o : Option Key) → all_ok (fits Zone h.zs) o ≡ true → all_ok is_tied o ≡ true
+        by None e = refl
+        by (Some k) e = fits-tied h.zs k.keytype e
+
+    start_side : ((id : Id) → all_ok is_tied (found (world_at tale n) id) ≡ true) → (sd : SideOf) (st : Stage) → At tale sd st n → (NoDs tale.es n → NoDs tale.es (suc n)) → (NoDs tale.es (suc n) ⊎ Alive tale sd n)
         → (moved : Moved tale sd r st (Early r) n) × (Alive tale sd n → Alive tale sd (suc n))
-    start_side sd st h dead life = by (affects sd r) refl
+    start_side tied sd st h dead life = by (affects sd r) refl
       where
         by : (b : Bool) → affects sd r ≡ b → (moved : Moved tale sd r st (Early r) n) × (Alive tale sd n → Alive tale sd (suc n))
         by true own = let q = quiet_now sd st own h in
-            ((Early r, at-start tale n here sd r own now old new m can mark life q, λ e. refl, λ e. absurd (true≢false (sym own ∙ e))), alive-start tale n here sd r own now old new m can mark q)
-        by false out = let g = gentle-start tale n sd st h.rolls h.flags dead r now old new out m (may_at r (world_at tale n) old new can) mark in
+            ((Early r, at-start tale n here sd r own now old new m can mark olds news tied life q, λ e. refl, λ e. absurd (true≢false (sym own ∙ e))), alive-start tale n here sd r own now old new m can mark olds news tied q)
+        by false out = let g = gentle-start tale n sd st h.rolls h.flags dead (lists sd out) r now old new out m (may_at r (world_at tale n) old new can) mark in
             ((st, at-gentle tale n here sd st g h, λ e. absurd (true≢false (sym e ∙ out)), λ e. refl), alive-gentle tale n here sd st g)
 
     start_pairs : Pairs tale n → Pairs tale (suc n)
@@ -406,8 +423,8 @@ module _ (tale : Tale) (n : ℕ) (here : suc n ≤ length tale.es) where
     start_unborn : wants_first r ≡ false → Unpassed tale (suc n) → NoDs tale.es n → (h : Inv tale n) → h.ks ≡ Quiet → Inv tale (suc n)
     start_unborn free none d h quiet =
         let d' : NoDs tale.es (suc n) = ds_less tale n here (start_key r now old new) r (Some Propagation1) m (λ q k. still_ds r free (is_listed q old) (is_listed q new) k.keytype) d in
-        let a = start_side Keys h.ks h.keys (λ _. d') (inl d') in
-        let b = start_side Zone h.zs h.zone (λ _. d') (inl d') in
+        let a = start_side (ties h) Keys h.ks h.keys (λ _. d') (inl d') in
+        let b = start_side (ties h) Zone h.zs h.zone (λ _. d') (inl d') in
         record {
           ks = a.0.0;
           zs = b.0.0;
@@ -431,8 +448,8 @@ module _ (tale : Tale) (n : ℕ) (here : suc n ≤ length tale.es) where
     start starts none h = elim (h.life) [
       | inl a ↦
           let dead = λ (d : NoDs tale.es n). absurd {A = NoDs tale.es (suc n)} (born tale n here a.0 d) in
-          let x = start_side Keys h.ks h.keys dead (inr a.0) in
-          let y = start_side Zone h.zs h.zone dead (inr a.1) in
+          let x = start_side (ties h) Keys h.ks h.keys dead (inr a.0) in
+          let y = start_side (ties h) Zone h.zs h.zone dead (inr a.1) in
           record { ks = x.0.0; zs = y.0.0; keys = x.0.1; zone = y.0.1; pairs = start_pairs h.pairs; phases = start_phases h; life = inl (x.1 a.0, y.1 a.1) }
       | inr d ↦ elim (d.1.1) [
         | inl u ↦ by_first (wants_first r) refl u d.1.0 d.0
@@ -446,7 +463,8 @@ module _ (tale : Tale) (n : ℕ) (here : suc n ≤ length tale.es) where
 
   -- the first wait
   module _ (r : RollType) (ttl now : ℕ) (m : Mapped tale n (λ q. wait1_key r now) r (Some Propagation2)) (phase : (world_at tale n).roll r ≡ Some (CacheExpire1 ttl))
-      (over : IsOver r false (world_at tale n) ttl now) (mark : (position_at tale.es (suc n)).mark ≡ Step r) (moment : (position_at tale.es (suc n)).moment ≡ Some now) where
+      (over : IsOver r false (world_at tale n) ttl now) (mark : (position_at tale.es (suc n)).mark ≡ Step r) (moment : (position_at tale.es (suc n)).moment ≡ Some now)
+      (lists : (sd : SideOf) → KeepsLists tale sd n) where
     early_stage : (sd : SideOf) (st : Stage) → affects sd r ≡ true → At tale sd st n → st ≡ Early r
     early_stage sd st own h = stage_early st r (CacheExpire1 ttl) (same-same r) (sym (ap (stage_fits st r) phase) ∙ h.rolls r own)
 
@@ -463,7 +481,7 @@ module _ (tale : Tale) (n : ℕ) (here : suc n ≤ length tale.es) where
               λ f. alive-wait1 tale n here sd r own now m mark g (first-retires sd r own) (second-retires sd r own) e,
               λ f. absurd (true≢false (sym own ∙ f)),
             )
-        by false out = let g = gentle-wait1 tale n sd st h.rolls h.flags (dead out) r now out m mark in
+        by false out = let g = gentle-wait1 tale n sd st h.rolls h.flags (dead out) (lists sd) r now out m mark in
             ((st, at-gentle tale n here sd st g h, λ e. absurd (true≢false (sym e ∙ out)), λ e. refl), λ e. absurd (true≢false (sym e ∙ out)), λ e. alive-gentle tale n here sd st g)
 
     alive_next : (sd : SideOf) → (affects sd r ≡ true → Alive tale sd (suc n)) → (affects sd r ≡ false → Alive tale sd n → Alive tale sd (suc n)) → Alive tale sd n → Alive tale sd (suc n)
@@ -521,7 +539,8 @@ module _ (tale : Tale) (n : ℕ) (here : suc n ≤ length tale.es) where
 
   -- the second wait
   module _ (r : RollType) (ttl now : ℕ) (m : Mapped tale n (λ q. wait2_key r now) r (Some Done)) (phase : (world_at tale n).roll r ≡ Some (CacheExpire2 ttl))
-      (over : IsOver r true (world_at tale n) ttl now) (mark : (position_at tale.es (suc n)).mark ≡ Other) (moment : (position_at tale.es (suc n)).moment ≡ Some now) where
+      (over : IsOver r true (world_at tale n) ttl now) (mark : (position_at tale.es (suc n)).mark ≡ Other) (moment : (position_at tale.es (suc n)).moment ≡ Some now)
+      (lists : (sd : SideOf) → KeepsLists tale sd n) where
     late_stage : (sd : SideOf) (st : Stage) → affects sd r ≡ true → At tale sd st n → st ≡ Late r
     late_stage sd st own h = stage_late st r (CacheExpire2 ttl) (same-same r) (sym (ap (stage_fits st r) phase) ∙ h.rolls r own)
 
@@ -535,7 +554,7 @@ module _ (tale : Tale) (n : ℕ) (here : suc n ≤ length tale.es) where
             let p = phases r (CacheExpire2 ttl) phase in
             let g = λ (kind : SetKind) (w : switches sd r ≡ true). gone tale n r true ttl now (switch_timed sd r own w) p.0 p.1 over moment kind in
             ((Quiet, at-wait2 tale n here sd r own now m g (second-retires sd r own) e, λ e. refl, λ f. absurd (true≢false (sym own ∙ f))), λ a. alive-wait2 tale n here sd r own now m g (second-retires sd r own) e)
-        by false out = let g = gentle-wait2 tale n sd st h.rolls h.flags dead r now out m mark in
+        by false out = let g = gentle-wait2 tale n sd st h.rolls h.flags dead (lists sd) r now out m mark in
             ((st, at-gentle tale n here sd st g h, λ e. absurd (true≢false (sym e ∙ out)), λ e. refl), alive-gentle tale n here sd st g)
 
     wait2_phases : Inv tale n → Phases tale (suc n)
@@ -569,6 +588,58 @@ module _ (tale : Tale) (n : ℕ) (here : suc n ≤ length tale.es) where
         first : (b : Bool) → affects Keys r ≡ b → (h.ks ≡ Early AlgorithmRoll) × (h.zs ≡ Early AlgorithmRoll) → ⊥
         first true own u = early-late AlgorithmRoll r (sym u.0 ∙ late_stage Keys h.ks own h.keys)
         first false out u = early-late AlgorithmRoll r (sym u.1 ∙ late_stage Zone h.zs (some_side r out) h.zone)
+
+  -- an early end
+  module _ (r : RollType) (m : Mapped tale n (early_end_key tale r n) r None) (phase : (world_at tale n).roll r ≡ Some Propagation1) (mark : (position_at tale.es (suc n)).mark ≡ Other)
+      (lists : (sd : SideOf) → KeepsLists tale sd n) where
+    spread_stage : (sd : SideOf) (st : Stage) → affects sd r ≡ true → At tale sd st n → st ≡ Early r
+    spread_stage sd st own h = stage_early st r Propagation1 (same-same r) (sym (ap (stage_fits st r) phase) ∙ h.rolls r own)
+
+    end_side : (sd : SideOf) (st : Stage) → At tale sd st n → (NoDs tale.es n → NoDs tale.es (suc n))
+        → (moved : Moved tale sd r st Quiet n) × ((NoDs tale.es n → ⊥) → Alive tale sd n → Alive tale sd (suc n))
+    end_side sd st h dead = by (affects sd r) refl
+      where
+        by : (b : Bool) → affects sd r ≡ b → (moved : Moved tale sd r st Quiet n) × ((NoDs tale.es n → ⊥) → Alive tale sd n → Alive tale sd (suc n))
+        by true own =
+            let e = subst (λ s. At tale sd s n) (spread_stage sd st own h) h in (
+              (Quiet, at-early-end tale n here sd r own m (e.back phase) e, λ f. refl, λ f. absurd (true≢false (sym own ∙ f))),
+              λ born a. alive-early-end tale n here sd r own m (e.back phase) born,
+            )
+        by false out = let g = gentle-early-end tale n sd st h.rolls h.flags dead (lists sd) r out m mark in
+            ((st, at-gentle tale n here sd st g h, λ e. absurd (true≢false (sym e ∙ out)), λ e. refl), λ born. alive-gentle tale n here sd st g)
+
+    end_dead : NoDs tale.es n → NoDs tale.es (suc n)
+    end_dead = no_ds-next tale n here (λ id e. by id (found (world_at tale n) id) refl e)
+      where
+        by : (id : Id) (o : Option Key) → found (world_at tale n) id ≡ o → if_some in_ds (found (world_at tale (suc n)) id) ≡ true → if_some in_ds (found (world_at tale n) id) ≡ true
+        by id None f e = absurd (true≢false (sym e ∙ ap (if_some in_ds) (m.founds id ∙ ap (option_map (early_end_key tale r n id.0)) f)))
+        by id (Some k) f e = ap (if_some in_ds) f ∙ ended-less Keys Ds r _ _ k.keytype (sym (ap (if_some in_ds) (m.founds id ∙ ap (option_map (early_end_key tale r n id.0)) f)) ∙ e)
+
+    pub end_early : (PassesAt tale n → ⊥) → Inv tale n → Inv tale (suc n)
+    end_early none h =
+        let x = end_side Keys h.ks h.keys end_dead in
+        let y = end_side Zone h.zs h.zone end_dead in
+        record {
+          ks = x.0.0;
+          zs = y.0.0;
+          keys = x.0.1;
+          zone = y.0.1;
+          pairs = λ a b s t at bt d. h.pairs a b s t (was-rolling tale n here r m.rolls a s at).1 (was-rolling tale n here r m.rolls b t bt).1 d;
+          phases = λ q s e. let was = was-rolling tale n here r m.rolls q s e in
+              phase-aside tale n q s (aside-early-end tale n r q m (h.pairs r q Propagation1 s phase was.1 was.0) (ap (is_step q) mark)) (h.phases q s was.1);
+          life = elim (h.life) [
+            | inl a ↦ let born = born tale n here a.0 in inl (x.1 born a.0, y.1 born a.1)
+            | inr d ↦ inr (end_dead d.0, (unpassed-next tale n here none d.1.0, inl (rests (affects Keys r) refl x.0.2 x.0.3 d.1.1)))
+          ];
+        }
+      where
+        rests : {st : Stage} (b : Bool) → affects Keys r ≡ b → (affects Keys r ≡ true → st ≡ Quiet) → (affects Keys r ≡ false → st ≡ h.ks)
+            → (h.ks ≡ Quiet) ⊎ ((h.ks ≡ Early AlgorithmRoll) × (h.zs ≡ Early AlgorithmRoll)) → st ≡ Quiet
+        rests true own quiet stays u = quiet own
+        rests false out quiet stays (inl u) = stays out ∙ u
+        rests false out quiet stays (inr u) =
+            let e = early-same AlgorithmRoll r (sym u.1 ∙ spread_stage Zone h.zs (some_side r out) h.zone) in
+            absurd (true≢false (ap (affects Keys) e ∙ out))
 
 pub safe_of : (tale : Tale) (n : ℕ) → n ≤ length tale.es → Inv tale n → IsSafe tale.es n
 safe_of tale n le h p q z up uq uz = elim (h.life) [

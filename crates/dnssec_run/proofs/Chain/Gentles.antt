@@ -34,6 +34,8 @@ use Rattle.dnssec_run.proofs.Chain.Facts.{Seen, apart, untouched_start, untouche
 use Rattle.dnssec_run.proofs.Chain.Facts.{untouched_wait2}
 use Rattle.dnssec_run.proofs.Chain.Rolls.{stage_fits, same-sym, same-true, put-fits}
 use Rattle.dnssec_run.proofs.Chain.Places.{all_ok, NoDs}
+use Rattle.dnssec_run.proofs.Chain.EarlyEnds.{untouched-ended, role-ended}
+use Rattle.dnssec_run.proofs.Chain.Returns.{KeepsLists, early_end_key}
 use Rattle.dnssec_run.proofs.Chain.Invariant.{Gentle}
 use Rattle.dnssec_run.proofs.Chain.Steps.{Mapped}
 
@@ -226,7 +228,7 @@ flags_some sd st f (Some k) l e = by (has_role sd k.keytype) refl
     by true t = ap (fits sd st) ((l k refl).0 t) ∙ e
     by false t = unseen-fits sd st (f k).keytype ((l k refl).1 ∙ t)
 
-distinct : (sd : SideOf) (r q : RollType) → affects sd r ≡ false → affects sd q ≡ true → same_roll r q ≡ false
+pub distinct : (sd : SideOf) (r q : RollType) → affects sd r ≡ false → affects sd q ≡ true → same_roll r q ≡ false
 distinct sd r q outside inside = by (same_roll r q) refl
   where
     by : (b : Bool) → same_roll r q ≡ b → b ≡ false
@@ -249,7 +251,7 @@ done_on (Late q) r e = absurd (true≢false (sym e))
 module _ (tale : Tale) (n : ℕ) (sd : SideOf) (st : Stage)
     (was_rolls : (q : RollType) → affects sd q ≡ true → stage_fits st q ((world_at tale n).roll q) ≡ true)
     (was_flags : (id : Id) → all_ok (fits sd st) (found (world_at tale n) id) ≡ true)
-    (dead : NoDs tale.es n → NoDs tale.es (suc n)) where
+    (dead : NoDs tale.es n → NoDs tale.es (suc n)) (lists : KeepsLists tale sd n) where
   gentle_map : (f : List ℕ → Key → Key) (r : RollType) (o : Option RollState) → Mapped tale n f r o
       → ((id : Id) (k : Key) → found (world_at tale n) id ≡ Some k → LeavesTo sd k (f id.0 k).keytype)
       → ((q : RollType) → affects sd q ≡ true → same_roll r q ≡ true → stage_fits st q o ≡ true)
@@ -261,6 +263,7 @@ module _ (tale : Tale) (n : ℕ) (sd : SideOf) (st : Stage)
     flags = λ id. ap (all_ok (fits sd st)) (m.founds id) ∙ flags_some sd st (f id.0) (found (world_at tale n) id) (leaves id) (was_flags id);
     no_step = no_step;
     dead = dead;
+    lists = lists;
   }
 
   -- a start or a wait of a roll of the other side
@@ -283,6 +286,11 @@ module _ (tale : Tale) (n : ℕ) (sd : SideOf) (st : Stage)
       (λ id k e. (λ role. untouched_wait2 r k.keytype (apart sd r k.keytype other role), role_waited2 sd r k.keytype))
       (λ q own e. absurd (true≢false (sym e ∙ distinct sd r q other own))) (λ q own. ap (is_step q) mark)
 
+  pub gentle-early-end : (r : RollType) → affects sd r ≡ false → Mapped tale n (early_end_key tale r n) r None → (position_at tale.es (suc n)).mark ≡ Other → Gentle tale sd st n
+  gentle-early-end r other m mark = gentle_map (early_end_key tale r n) r None m
+      (λ id k e. (λ role. untouched-ended r _ _ k (apart sd r k.keytype other role), role-ended sd r _ _ k.keytype))
+      (λ q own e. absurd (true≢false (sym e ∙ distinct sd r q other own))) (λ q own. ap (is_step q) mark)
+
   -- a report changes no flags
   pub gentle-report : (r : RollType) (second : Bool) (ttl now : ℕ) → Mapped tale n (λ q. report_key r second now) r (Some (waiting second ttl))
       → (world_at tale n).roll r ≡ Some (spreading second) → (position_at tale.es (suc n)).mark ≡ Report r second ttl → Gentle tale sd st n
@@ -303,6 +311,7 @@ module _ (tale : Tale) (n : ℕ) (sd : SideOf) (st : Stage)
     flags = λ id. ap (all_ok (fits sd st)) (same id) ∙ was_flags id;
     no_step = λ q own. ap (is_step q) mark;
     dead = dead;
+    lists = lists;
   }
 
 -- a refusal, an add, a deletion -----------------------------------------------------------------
@@ -463,12 +472,13 @@ kept_changed w f h = record {
 }
 
 pub gentle_kept : (tale : Tale) (n : ℕ) (v : World) → world_at tale (suc n) ≡ v → Kept (world_at tale n) v → (position_at tale.es (suc n)).mark ≡ Other → (NoDs tale.es n → NoDs tale.es (suc n))
-    → (sd : SideOf) (st : Stage) → ((q : RollType) → affects sd q ≡ true → stage_fits st q ((world_at tale n).roll q) ≡ true) → ((id : Id) → all_ok (fits sd st) (found (world_at tale n) id) ≡ true) → Gentle tale sd st n
-gentle_kept tale n v e k mark dead sd st rolls flags = record {
+    → ((sd : SideOf) → KeepsLists tale sd n) → (sd : SideOf) (st : Stage) → ((q : RollType) → affects sd q ≡ true → stage_fits st q ((world_at tale n).roll q) ≡ true) → ((id : Id) → all_ok (fits sd st) (found (world_at tale n) id) ≡ true) → Gentle tale sd st n
+gentle_kept tale n v e k mark dead lists sd st rolls flags = record {
   rolls = λ q own. ap (λ w. stage_fits st q (w.roll q)) e ∙ ap (stage_fits st q) (k.rolls q) ∙ rolls q own;
   fore = λ p seen id f. k.fore p (λ t h. (seen t h).1) id (sym (ap (λ w. if_some p (found w id)) e) ∙ f);
   back = λ p seen id f. ap (λ w. if_some p (found w id)) e ∙ k.back p (λ t h. (seen t h).1) id f;
   flags = λ id. ap (λ w. all_ok (fits sd st) (found w id)) e ∙ k.flags sd st flags id;
   no_step = λ q own. ap (is_step q) mark;
   dead = dead;
+  lists = lists sd;
 }

@@ -24,6 +24,7 @@ use Rattle.dnssec_run.proofs.Chain.Facts.{wait1_facts}
 use Rattle.dnssec_run.proofs.Chain.Rolls.{stage_fits, stage_own}
 use Rattle.dnssec_run.proofs.Chain.History.{Serving, retired_stays, base_same}
 use Rattle.dnssec_run.proofs.Chain.Places.{all_ok, side, shows, NoDs, some_weaker}
+use Rattle.dnssec_run.proofs.Chain.Returns.{Back, KeepsLists, leads-on}
 
 abbrev pub AtRest : Tale → SideOf → ℕ → Type 0
 AtRest tale sd n = (kind : SetKind) (q : ℕ) → q ≤ n → (Retired tale.es kind q n → ⊥) → (id : Id) → if_some (test_of sd kind) (found (world_at tale n) id) ≡ true → Serving sd tale.es kind q id
@@ -60,6 +61,7 @@ pub record At (tale : Tale) (sd : SideOf) (st : Stage) (n : ℕ) : Type 0 where
   pub flags : (id : Id) → all_ok (fits sd st) (found (world_at tale n) id) ≡ true
   pub holds : Holds tale sd st n
   pub left : Left tale sd st n
+  pub back : Back tale sd st n
 
 -- what it gives -----------------------------------------------------------------------------
 
@@ -159,6 +161,7 @@ pub record Gentle (tale : Tale) (sd : SideOf) (st : Stage) (n : ℕ) : Type 0 wh
   pub flags : (id : Id) → all_ok (fits sd st) (found (world_at tale (suc n)) id) ≡ true
   pub no_step : (q : RollType) → affects sd q ≡ true → is_step q (position_at tale.es (suc n)).mark ≡ false
   pub dead : NoDs tale.es n → NoDs tale.es (suc n)
+  pub lists : KeepsLists tale sd n
 
 pub early_inner : (sd : SideOf) (r : RollType) (o : Option Key) → affects sd r ≡ true → switches sd r ≡ true → all_ok (fits sd (Early r)) o ≡ true → if_some (second_test sd r) o ≡ true → if_some (first_test sd r) o ≡ true
 early_inner sd r None own w h e = absurd (true≢false (sym e))
@@ -197,8 +200,13 @@ module _ (tale : Tale) (n : ℕ) (here : suc n ≤ length tale.es) where
     left_gentle (Early r) g h = (h.0, g.back (remains sd r) (remains-seen sd r) h.0 h.1)
     left_gentle (Late r) g h = (h.0, g.back (live sd) (live-seen sd) h.0 h.1)
 
+    back_gentle : (st : Stage) → stage_own sd st ≡ true → Gentle tale sd st n → Back tale sd st n → Back tale sd st (suc n)
+    back_gentle Quiet own g h = tt
+    back_gentle (Early r) own g h = λ phase. leads-on tale n here sd g.fore g.back g.dead g.lists r own phase (h (g.lists.phase r own phase))
+    back_gentle (Late r) own g h = tt
+
     pub at-gentle : (st : Stage) → Gentle tale sd st n → At tale sd st n → At tale sd st (suc n)
-    at-gentle st g h = record { own = h.own; rolls = g.rolls; flags = g.flags; holds = holds_gentle st h.own g h.holds; left = left_gentle st g h.left }
+    at-gentle st g h = record { own = h.own; rolls = g.rolls; flags = g.flags; holds = holds_gentle st h.own g h.holds; left = left_gentle st g h.left; back = back_gentle st h.own g h.back }
 
     pub alive-gentle : (st : Stage) → Gentle tale sd st n → Alive tale sd n → Alive tale sd (suc n)
     alive-gentle st g a = (a.0, g.back (in_use sd) (use-seen sd) a.0 a.1)

@@ -30,6 +30,8 @@ use Rattle.dnssec_run.proofs.Chain.Facts.{stays_start, stays_wait, other, untouc
 use Rattle.dnssec_run.proofs.Chain.Facts.{untouched_wait1, untouched_wait2, written-touches}
 use Rattle.dnssec_run.proofs.Chain.History.{time_now, time_mono, base_same}
 use Rattle.dnssec_run.proofs.Chain.Places.{all_ok, some_key, found_key, found_now}
+use Rattle.dnssec_run.proofs.Chain.EarlyEnds.{untouched-ended, list-ended}
+use Rattle.dnssec_run.proofs.Chain.Returns.{early_end_key}
 use Rattle.dnssec_run.proofs.Chain.Steps.{Mapped, may_at, suits}
 use Rattle.dnssec_run.proofs.Chain.Gentles.{Kept, list_start, list_waited1, list_waited2}
 
@@ -234,6 +236,15 @@ module _ (tale : Tale) (n : ℕ) where
     where
       stamps_start : (x : List ℕ) (k : Key) (s : Stamp) → stamp_of s k ≡ stamp_of s (start_key r now old new x k)
       stamps_start x k = start_stamps r now (is_listed x old) (is_listed x new) k
+
+  pub aside-early-end : (r q : RollType) → Mapped tale n (early_end_key tale r n) r None → tolerates r q ≡ true → is_step q (position_at tale.es (suc n)).mark ≡ false → Aside tale n q
+  aside-early-end r q m both_in no_step = aside-mapped (early_end_key tale r n) r None q m
+      (λ x k e. list-ended q r _ _ k.keytype) (λ x k e l. (untouched-ended r _ _ k (other r q k.keytype both_in l), stamps_same x k)) no_step
+    where
+      stamps_same : (x : List ℕ) (k : Key) (s : Stamp) → stamp_of s k ≡ stamp_of s (early_end_key tale r n x k)
+      stamps_same x k Visible = refl
+      stamps_same x k DsVisible = refl
+      stamps_same x k RrsigVisible = refl
 
   pub aside-wait1 : (now : ℕ) (r q : RollType) → Mapped tale n (λ q. wait1_key r now) r (Some Propagation2) → tolerates r q ≡ true → is_step q (position_at tale.es (suc n)).mark ≡ false → Aside tale n q
   aside-wait1 now r q m both_in no_step = aside-mapped (λ q. wait1_key r now) r (Some Propagation2) q m

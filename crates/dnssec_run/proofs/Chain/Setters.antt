@@ -1,11 +1,13 @@
 -- What a setter of a plain list leaves as it was: all but another signer's key.
 use Rattle.std.proofs.Common.{◌≡◌, ℕ, ◌⊎◌, inl, inr, Bool, true, false, refl, sym, ◌∙◌, ap, List}
-use Rattle.std.proofs.Common.{Some}
+use Rattle.std.proofs.Common.{Option, None, Some}
 use Rattle.std.specs.Prelude.{if◌then◌else◌}
 use Rattle.std.specs.Str.{bytes_eq}
 use Rattle.std.specs.Cmp.Lexicographic.{bytes_decides}
 use Rattle.std.specs.FinMap.{get}
+use Rattle.std.specs.Option.{option_map}
 use Rattle.std.proofs.lemmas.Bool.{true≢false}
+use Rattle.std.proofs.lemmas.Option.{same_Some}
 use Rattle.dnssec_key.specs.declared.roll.RollType.{RollType}
 use Rattle.dnssec_key.specs.declared.roll.RollType.TheVariants.{KskRoll, KskDoubleDsRoll}
 use Rattle.dnssec_key.specs.declared.roll.RollType.TheVariants.{ZskRoll, ZskDoubleSignatureRoll}
@@ -104,6 +106,15 @@ set_alike Stale k e = absurd (true≢false (sym e))
 set_alike (VisibleAt time) k e = absurd (true≢false (sym e))
 set_alike (DsVisibleAt time) k e = absurd (true≢false (sym e))
 set_alike (RrsigVisibleAt time) k e = absurd (true≢false (sym e))
+
+-- a key that a plain list puts in or takes out is another signer's
+pub present_others : (value : Bool) (now : ℕ) (o : Option KeyParts)
+    → is_plain_setting (Present value now) o ≡ true → (j : KeyParts)
+    → option_map (set_by (Present value now)) o ≡ Some j → is_another_signers j.keytype ≡ true
+present_others value now None e j f = absurd (true≢false (sym e))
+present_others value now (Some k) e j f =
+    ap (λ (j : KeyParts). is_another_signers j.keytype) (sym (same_Some _ _ f))
+    ∙ still_another value k.keytype e
 
 pub harmless : (set : KeySetParts) (r : List ℕ) (s : Setting)
     → is_plain_setting s (get set.keys r) ≡ true → (q : List ℕ) (k : KeyParts)

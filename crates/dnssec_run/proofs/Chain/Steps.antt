@@ -2,7 +2,10 @@
 use Rattle.std.proofs.Common.{◌≡◌, ℕ, suc, ◌<◌, ◌≤◌, ◌⊎◌, inl, inr, Bool, true, false, not, ◌&&◌}
 use Rattle.std.proofs.Common.{◌||◌, refl, sym, ◌∙◌, ap, subst, arith, List, length, Option, None}
 use Rattle.std.proofs.Common.{Some}
-use Rattle.std.specs.Option.{option_map}
+use Rattle.std.specs.Option.{option_map, option_map_or}
+use Rattle.dnssec_key.specs.State.{is_kept}
+use Rattle.dnssec_key.specs.Key.{all_states}
+use Rattle.dnssec_keyset.specs.Step.{is_kept_at}
 use Rattle.std.proofs.lemmas.Bool.{true≢false, and_parts}
 use Rattle.std.proofs.lemmas.Option.{same_Some}
 use Rattle.dnssec_key.specs.declared.roll.RollType.{RollType}
@@ -14,20 +17,24 @@ use Rattle.dnssec_run.specs.declared.record.Mark.TheVariants.{Step}
 use Rattle.dnssec_run.specs.Published.{Id}
 use Rattle.dnssec_run.specs.Safe.{SetKind, position_at, base_below, is_step, Retired, retires}
 use Rattle.dnssec_keyset.proofs.Flags.{SideOf, affects, may_list, is_blank, Quiet, Early, Late}
-use Rattle.dnssec_keyset.proofs.Flags.{fits, may_start}
+use Rattle.dnssec_keyset.proofs.Flags.{fits, may_start, started, ended}
 use Rattle.dnssec_run.proofs.Chain.Tables.{serves_new, serves_kept}
 use Rattle.dnssec_run.proofs.Chain.Tale.{Tale, World, Key, found, if_some, world_at, put_roll}
 use Rattle.dnssec_run.proofs.Chain.Tale.{start_key, wait1_key, wait2_key, is_listed, CanStart}
-use Rattle.dnssec_run.proofs.Chain.Side.{Witness, rest-starts, rest-broadens, early-switches}
+use Rattle.dnssec_run.proofs.Chain.Side.{upto, Witness, rest-starts, rest-broadens, early-switches}
 use Rattle.dnssec_run.proofs.Chain.Side.{broad-rests, late-closes, rest_shrinks}
 use Rattle.dnssec_keyset.proofs.Tests.{and-both}
 use Rattle.dnssec_run.proofs.Chain.Flags.{first_kind, second_kind, first_test, second_test, in_use}
+use Rattle.dnssec_run.proofs.Chain.Flags.{test_of}
 use Rattle.dnssec_run.proofs.Chain.Flags.{live, remains, switches, start_facts}
 use Rattle.dnssec_run.proofs.Chain.Facts.{wait1_facts, wait2_facts}
 use Rattle.dnssec_run.proofs.Chain.Rolls.{stage_fits, same-same, others_early, others_late}
 use Rattle.dnssec_run.proofs.Chain.Rolls.{put-fits, clash}
-use Rattle.dnssec_run.proofs.Chain.History.{Serving, base_here}
+use Rattle.dnssec_run.proofs.Chain.History.{Serving, base_here, retired_stays}
 use Rattle.dnssec_run.proofs.Chain.Places.{all_ok, side, NoDs, found_key, found_now, some_weaker}
+use Rattle.dnssec_run.proofs.Chain.Places.{real, shows, some_key}
+use Rattle.dnssec_run.proofs.Chain.EarlyEnds.{there_and_back, is_tied, back-fits, back-set, ended-less}
+use Rattle.dnssec_run.proofs.Chain.Returns.{LeadsBack, listed_at, kind_back, early_end_key}
 use Rattle.dnssec_run.proofs.Chain.Invariant.{At, AtRest, EarlyOf, LateOf, Alive, used_first}
 use Rattle.dnssec_run.proofs.Chain.Invariant.{used_second, rest_side, side_rest}
 
@@ -136,7 +143,10 @@ LifeAt tale sd r n = Alive tale sd n ⊎ (((id : Id) (q : ℕ) → q ≤ n → S
 
 module _ (tale : Tale) (n : ℕ) (here : suc n ≤ length tale.es) (sd : SideOf) (r : RollType) (own : affects sd r ≡ true) where
   -- a start
-  module _ (now : ℕ) (old new : List (List ℕ)) (m : Mapped tale n (start_key r now old new) r (Some Propagation1)) (can : CanStart r (world_at tale n) old new) (mark : (position_at tale.es (suc n)).mark ≡ Step r) where
+  module _ (now : ℕ) (old new : List (List ℕ)) (m : Mapped tale n (start_key r now old new) r (Some Propagation1)) (can : CanStart r (world_at tale n) old new) (mark : (position_at tale.es (suc n)).mark ≡ Step r)
+      (olds : (q : List ℕ) → is_listed q (listed_at tale r (suc n)).olds ≡ (is_listed q old && is_kept_at (real tale n).set.keys q))
+      (news : (q : List ℕ) → is_listed q (listed_at tale r (suc n)).news ≡ is_listed q new)
+      (ties : (id : Id) → all_ok is_tied (found (world_at tale n) id) ≡ true) where
     may : (id : Id) → all_ok (may_start r (is_listed id.0 old) (is_listed id.0 new)) (found (world_at tale n) id) ≡ true
     may = may_at r (world_at tale n) old new can
 
@@ -164,6 +174,53 @@ module _ (tale : Tale) (n : ℕ) (here : suc n ≤ length tale.es) (sd : SideOf)
         ])
         (rest_side tale n sd r h.holds)
 
+    -- what an early end would make of a key now
+    back_key : (p : KeyType → Bool) (id : Id) (k : Key) → found (world_at tale n) id ≡ Some k
+        → p (kind_back tale r (suc n) id.0 (started r (is_listed id.0 old) (is_listed id.0 new) k.keytype)) ≡ p (there_and_back r (is_listed id.0 old) (is_listed id.0 new) k.keytype)
+    back_key p id k e =
+        let key : (world_at tale n).key id.0 ≡ Some k = (found_key (world_at tale n) id k e).0 in
+        let was = olds id.0 ∙ ap (λ o. is_listed id.0 old && option_map_or (λ (k : Key). all_states is_kept k.keytype) o false) key in
+        λ j. p (ended r (was j) (news id.0 j) (started r (is_listed id.0 old) (is_listed id.0 new) k.keytype))
+
+    may_be : (id : Id) (k : Key) → found (world_at tale n) id ≡ Some k → may_start r (is_listed id.0 old) (is_listed id.0 new) k.keytype ≡ true
+    may_be id k e = sym (ap (all_ok (may_start r (is_listed id.0 old) (is_listed id.0 new))) e) ∙ may id
+
+    back_facts : At tale sd Quiet n → (id : Id) (k : Key) → found (world_at tale n) id ≡ Some k
+        → (fits sd Quiet (there_and_back r (is_listed id.0 old) (is_listed id.0 new) k.keytype) ≡ true) × (in_use sd k.keytype ≡ true → in_use sd (there_and_back r (is_listed id.0 old) (is_listed id.0 new) k.keytype) ≡ true)
+    back_facts h id k e = back-fits sd r (is_listed id.0 old) (is_listed id.0 new) k.keytype own (may_be id k e)
+        (sym (ap (all_ok (fits sd Quiet)) e) ∙ h.flags id) (sym (ap (all_ok is_tied) e) ∙ ties id)
+
+    back_set : (kind : SetKind) (id : Id) → if_some (λ k. test_of sd kind (kind_back tale r (suc n) id.0 k)) (found (world_at tale (suc n)) id) ≡ true → if_some (test_of sd kind) (found (world_at tale n) id) ≡ true
+    back_set kind id e = by (found (world_at tale n) id) refl
+      where
+        by : (o : Option Key) → found (world_at tale n) id ≡ o → if_some (test_of sd kind) o ≡ true
+        by None f = absurd (true≢false (sym e ∙ ap (if_some (λ k. test_of sd kind (kind_back tale r (suc n) id.0 k))) (m.founds id ∙ ap (option_map (start_key r now old new id.0)) f)))
+        by (Some k) f = back-set sd kind r (is_listed id.0 old) (is_listed id.0 new) k.keytype (may_be id k f)
+            (sym (ap (if_some (λ k. test_of sd kind (kind_back tale r (suc n) id.0 k))) (m.founds id ∙ ap (option_map (start_key r now old new id.0)) f) ∙ back_key (test_of sd kind) id k f) ∙ e)
+
+    leads-start : (NoDs tale.es (suc n) ⊎ Alive tale sd n) → At tale sd Quiet n → LeadsBack tale sd r (suc n)
+    leads-start life h = record {
+      flags = λ id. by id (found (world_at tale n) id) refl;
+      rest = λ kind. upto (λ q. (Retired tale.es kind q (suc n) → ⊥) → (id : Id) → if_some (λ k. test_of sd kind (kind_back tale r (suc n) id.0 k)) (found (world_at tale (suc n)) id) ≡ true → Serving sd tale.es kind q id) n
+          (λ q le un id e. h.holds kind q le (λ x. un (retired_stays tale.es kind q n x)) id (back_set kind id e))
+          (λ _ id e. shows tale sd kind (suc n) here id (some_weaker (λ k. test_of sd kind (kind_back tale r (suc n) id.0 k)) (test_of sd kind) (ended-less sd kind r _ _) (found (world_at tale (suc n)) id) e));
+      used = elim life [
+        | inl d ↦ inl d
+        | inr a ↦
+            let k = some_key (in_use sd) (found (world_at tale n) a.0) a.1 in
+            inr (
+              a.0,
+              ap (if_some (λ k. in_use sd (kind_back tale r (suc n) a.0.0 k))) (m.founds a.0 ∙ ap (option_map (start_key r now old new a.0.0)) k.1)
+                  ∙ back_key (in_use sd) a.0 k.0 k.1 ∙ (back_facts h a.0 k.0 k.1).1 k.2,
+            )
+      ];
+    }
+      where
+        by : (id : Id) (o : Option Key) → found (world_at tale n) id ≡ o → all_ok (λ k. fits sd Quiet (kind_back tale r (suc n) id.0 k)) (found (world_at tale (suc n)) id) ≡ true
+        by id None f = ap (all_ok (λ k. fits sd Quiet (kind_back tale r (suc n) id.0 k))) (m.founds id ∙ ap (option_map (start_key r now old new id.0)) f)
+        by id (Some k) f = ap (all_ok (λ k. fits sd Quiet (kind_back tale r (suc n) id.0 k))) (m.founds id ∙ ap (option_map (start_key r now old new id.0)) f)
+            ∙ back_key (fits sd Quiet) id k f ∙ (back_facts h id k f).0
+
     pub at-start : (NoDs tale.es (suc n) ⊎ Alive tale sd n) → At tale sd Quiet n → At tale sd (Early r) (suc n)
     at-start life h =
         let s = can.suitable sd own in
@@ -183,6 +240,7 @@ module _ (tale : Tale) (n : ℕ) (here : suc n ≤ length tale.es) (sd : SideOf)
             ap (if_some (remains sd r)) new_key ∙ (start_facts sd r (is_listed s.0 old) (is_listed s.0 new) s.1.keytype own may_key fit_key).some
                 (suits (is_listed s.0 old) (is_listed s.0 new) (serves_new sd r s.1.keytype) (serves_kept sd r s.1.keytype) s.3),
           );
+          back = λ phase. leads-start life h;
         }
 
     pub alive-start : At tale sd Quiet n → Alive tale sd n → Alive tale sd (suc n)
@@ -227,6 +285,7 @@ module _ (tale : Tale) (n : ℕ) (here : suc n ≤ length tale.es) (sd : SideOf)
         wait1_sets (switches sd r) refl h.holds.0 h.holds.1.1 second-goes life h h.holds.2,
       );
       left = live-wait1 h;
+      back = tt;
     }
 
   -- the second wait
@@ -252,7 +311,42 @@ module _ (tale : Tale) (n : ℕ) (here : suc n ≤ length tale.es) (sd : SideOf)
       flags = λ id. ap (all_ok (fits sd Quiet)) (m.founds id) ∙ w2-fit sd r own now (found (world_at tale n) id) (h.flags id);
       holds = wait2_sets (switches sd r) refl h.holds.0 h.holds.1.1 second-goes h h.holds.2;
       left = tt;
+      back = tt;
     }
 
     pub alive-wait2 : At tale sd (Late r) n → Alive tale sd (suc n)
     alive-wait2 h = (h.left.0, ap (if_some (in_use sd)) (m.founds h.left.0) ∙ w2-used sd r own now (found (world_at tale n) h.left.0) (h.flags h.left.0) h.left.1)
+
+  -- an early end
+  module _ (m : Mapped tale n (early_end_key tale r n) r None) where
+    by_kind : (p : KeyType → Bool) (id : Id) (o : Option Key)
+        → if_some p (option_map (early_end_key tale r n id.0) o) ≡ if_some (λ k. p (kind_back tale r n id.0 k)) o
+    by_kind p id None = refl
+    by_kind p id (Some k) = refl
+
+    all_by_kind : (p : KeyType → Bool) (id : Id) (o : Option Key)
+        → all_ok p (option_map (early_end_key tale r n id.0) o) ≡ all_ok (λ k. p (kind_back tale r n id.0 k)) o
+    all_by_kind p id None = refl
+    all_by_kind p id (Some k) = refl
+
+    back_now : (p : KeyType → Bool) (id : Id) → if_some p (found (world_at tale (suc n)) id) ≡ if_some (λ k. p (kind_back tale r n id.0 k)) (found (world_at tale n) id)
+    back_now p id = ap (if_some p) (m.founds id) ∙ by_kind p id (found (world_at tale n) id)
+
+    pub at-early-end : LeadsBack tale sd r n → At tale sd (Early r) n → At tale sd Quiet (suc n)
+    at-early-end b h = record {
+      own = refl;
+      rolls = λ q e. ap (stage_fits Quiet q) (m.rolls q) ∙ put-fits Quiet (world_at tale n).roll r None q (λ e. refl)
+          (λ d. ap (stage_fits Quiet q) (others_early r q ((world_at tale n).roll q) (h.rolls q e) d));
+      flags = λ id. ap (all_ok (fits sd Quiet)) (m.founds id) ∙ all_by_kind (fits sd Quiet) id (found (world_at tale n) id) ∙ b.flags id;
+      holds = λ kind. upto (λ q. (Retired tale.es kind q (suc n) → ⊥) → (id : Id) → if_some (test_of sd kind) (found (world_at tale (suc n)) id) ≡ true → Serving sd tale.es kind q id) n
+          (λ q le un id e. b.rest kind q le (λ x. un (retired_stays tale.es kind q n x)) id (sym (back_now (test_of sd kind) id) ∙ e))
+          (λ _. shows tale sd kind (suc n) here);
+      left = tt;
+      back = tt;
+    }
+
+    pub alive-early-end : LeadsBack tale sd r n → (NoDs tale.es n → ⊥) → Alive tale sd (suc n)
+    alive-early-end b born = elim (b.used) [
+      | inl d ↦ absurd (born d)
+      | inr a ↦ (a.0, back_now (in_use sd) a.0 ∙ a.1)
+    ]

@@ -1,7 +1,7 @@
 -- Each call of a run keeps the invariant of the chain, so each position of a plain run is safe.
 use Rattle.dnssec_keyset.proofs.Accepted.{refused_same, is_refused, accepted_changes, no_some}
 use Rattle.dnssec_keyset.proofs.Accepted.{no_error, gone_key, spreads_first, spreads_second}
-use Rattle.dnssec_keyset.proofs.Accepted.{finishes}
+use Rattle.dnssec_keyset.proofs.Accepted.{finishes, ends_early}
 use Rattle.std.proofs.Common.{[], ◌≡◌, ℕ, zero, suc, ◌≤◌, inl, inr, Bool, true, false, refl, sym}
 use Rattle.std.proofs.Common.{◌∙◌, ap, subst, arith, List, length, Option, None, Some}
 use Rattle.std.specs.Prelude.{if◌then◌else◌, ◌==◌}
@@ -9,7 +9,7 @@ use Rattle.std.specs.Option.{option_map}
 use Rattle.std.specs.Str.{bytes_eq}
 use Rattle.std.specs.FinMap.{get, get-empty}
 use Rattle.std.specs.Ordering.{nat_cmp}
-use Rattle.std.specs.Cmp.Lexicographic.{slice_cmp}
+use Rattle.std.specs.Cmp.Lexicographic.{slice_cmp, bytes_decides}
 use Rattle.std.proofs.lemmas.Bool.{true≢false}
 use Rattle.std.proofs.lemmas.Option.{same_Some, none-some}
 use Rattle.dnssec_key.specs.declared.roll.RollType.{RollType}
@@ -21,9 +21,11 @@ use Rattle.dnssec_key.specs.declared.roll.RollState.TheVariants.{Propagation1, C
 use Rattle.dnssec_key.specs.declared.roll.RollState.TheVariants.{Propagation2, CacheExpire2}
 use Rattle.dnssec_key.specs.declared.roll.RollState.TheVariants.{Done}
 use Rattle.dnssec_key.specs.declared.key.KeyType.{KeyType}
+use Rattle.dnssec_keyset.specs.KeySet.{Listed, listed_by, nothing_listed, ChangesKey}
 use Rattle.dnssec_keyset.specs.KeySet.{Lists, KeySetParts, Rolls, MovesOn, phase_of, with_phase, no_rolls}
 use Rattle.dnssec_key.specs.RollTable.{First, Second}
-use Rattle.dnssec_key.specs.Setters.{Present}
+use Rattle.dnssec_key.specs.Setters.{Setting, Decoupled, Present, Signer, AtParent, Stale}
+use Rattle.dnssec_key.specs.Setters.{VisibleAt, DsVisibleAt, RrsigVisibleAt}
 use Rattle.dnssec_key.specs.Setters.{set_by}
 use Rattle.dnssec_keyset.specs.Step as keyset
 use Rattle.dnssec_run.specs.declared.call.Call.{Call}
@@ -36,18 +38,23 @@ use Rattle.dnssec_run.specs.declared.record.Mark.TheVariants.{Other, Step, Repor
 use Rattle.dnssec_run.specs.Record as rec
 use Rattle.dnssec_run.specs.Safe.{position_at}
 use Rattle.dnssec_run.specs.Plain.{DoesAt, StaysSafe, start_of, first_wait_of, sets_nothing}
+use Rattle.dnssec_run.specs.Plain.{is_plain_setting}
 use Rattle.dnssec_keyset.proofs.Flags.{SideOf, Keys, Zone, is_blank, Quiet, fits, stale-idle}
 use Rattle.dnssec_keyset.proofs.Flags.{blank-idle}
 use Rattle.dnssec_run.proofs.Chain.Tale.{Tale, World, Key, world_at, put_roll, rolled, start_key}
-use Rattle.dnssec_run.proofs.Chain.Tale.{start-parts, report_key, wait1_key, wait2_key, is_listed}
-use Rattle.dnssec_run.proofs.Chain.Setters.{harmless}
+use Rattle.dnssec_run.proofs.Chain.Tale.{early-end-parts, start-parts, report_key, wait1_key, wait2_key, is_listed}
+use Rattle.dnssec_run.proofs.Chain.Setters.{harmless, others-role, present_others}
 use Rattle.dnssec_run.proofs.Chain.Rolls.{stage_fits}
-use Rattle.dnssec_run.proofs.Chain.Places.{place_at, real, all_ok, same_call, none_at_start}
+use Rattle.dnssec_run.proofs.Chain.Returns.{KeepsLists, early_end_key}
+use Rattle.dnssec_run.proofs.Chain.Lists.{keeps-same, keeps-without, keeps-on, keeps-start}
+use Rattle.dnssec_run.proofs.Chain.Lists.{listed-same, listed-other, is_listed-filter}
+use Rattle.dnssec_run.proofs.Chain.Steps.{Mapped}
+use Rattle.dnssec_run.proofs.Chain.Places.{place_at, real, all_ok, same_call, none_at_start, found_key}
 use Rattle.dnssec_run.proofs.Chain.Invariant.{At}
 use Rattle.dnssec_run.proofs.Chain.Gentles.{kept_same, kept_added, kept_deleted, kept_changed}
-use Rattle.dnssec_run.proofs.Chain.Gentles.{with_key, without_key, with_keys}
+use Rattle.dnssec_run.proofs.Chain.Gentles.{distinct, with_key, without_key, with_keys}
 use Rattle.dnssec_run.proofs.Chain.BothSides.{Inv, mapped, calm, report, done, start, wait1, wait2}
-use Rattle.dnssec_run.proofs.Chain.BothSides.{safe_of, PassesAt}
+use Rattle.dnssec_run.proofs.Chain.BothSides.{safe_of, PassesAt, end_early}
 use Rattle.dnssec_run.proofs.Chain.Allowed.{can_start, waits_in_phase, clear_cause}
 
 -- ---- replies
@@ -141,49 +148,91 @@ module _ (tale : Tale) (n : ℕ) (here : suc n ≤ length tale.es) where
       (λ q. h.keys q ∙ map_by (f q) (g q) (same q) (get before.keys q)) added
       (λ q. ap (λ rolls. phase_of rolls q) h.rolls ∙ phase_with before.rolls r o q)
 
+  -- a setter of a plain list takes from the lists another signer's key at most
+  set_lists : (x : List ℕ) (s : Setting) → is_plain_setting s (get before.keys x) ≡ true
+      → ChangesKey before after x (set_by s) (keyset.lists_after_setting s x before.lists)
+      → (sd : SideOf) → KeepsLists tale sd n
+  set_lists x s plain h = by s plain h
+    where
+      same_rolls : (after.rolls ≡ before.rolls) → (q : RollType) → (world_at tale (suc n)).roll q ≡ (world_at tale n).roll q
+      same_rolls e q = ap (λ rolls. phase_of rolls q) e
+
+      by : (s : Setting) → is_plain_setting s (get before.keys x) ≡ true
+          → ChangesKey before after x (set_by s) (keyset.lists_after_setting s x before.lists)
+          → (sd : SideOf) → KeepsLists tale sd n
+      by (Decoupled value) plain h = keeps-same tale n (same_rolls h.rolls) h.lists
+      by (Present value now) plain h = λ sd. keeps-without tale n x (same_rolls h.rolls) h.lists sd
+          (λ id j f t role. true≢false (sym role ∙ others-role sd j.keytype (present_others value now (get before.keys x) plain j
+          (sym (h.keys id.0 ∙ (λ i. option_map (λ k. if t i then set_by (Present value now) k else k) (get before.keys (sym ((bytes_decides x id.0).0 t) i)))) ∙ (found_key (world_at tale (suc n)) id j f).0))))
+      by (Signer value) plain h = absurd (true≢false (sym plain))
+      by (AtParent value) plain h = absurd (true≢false (sym plain))
+      by Stale plain h = absurd (true≢false (sym plain))
+      by (VisibleAt time) plain h = absurd (true≢false (sym plain))
+      by (DsVisibleAt time) plain h = absurd (true≢false (sym plain))
+      by (RrsigVisibleAt time) plain h = absurd (true≢false (sym plain))
+
   accepted : (c : keyset.Call) → keyset.verdict before c ≡ keyset.Clear → keyset.Changes before c after → sets_nothing before c ≡ true → adds_blank c ≡ true
       → ((q : List ℕ) → (world_at tale (suc n)).added q ≡ rec.with_added (suc n) (rec.reference_added c) (world_at tale n).added q)
       → (position_at tale.es (suc n)).mark ≡ mark c → (position_at tale.es (suc n)).moment ≡ moment c
       → (PassesAt tale n → first_wait_of c ≡ Some AlgorithmRoll) → ((q : RollType) → start_of c ≡ Some q → DoesAt start_of tale.calls tale.es n q)
       → Inv tale n → Inv tale (suc n)
   accepted (keyset.AddKey r k) v h plain blank added m t only some inv =
+      let rolls = λ (q : RollType). ap (λ rolls. phase_of rolls q) h.rolls in
       calm tale n here (with_key (world_at tale n) r (suc n) k)
-      (worlds (world_at tale (suc n)) (with_key (world_at tale n) r (suc n) k) h.keys added (λ q. ap (λ rolls. phase_of rolls q) h.rolls))
+      (worlds (world_at tale (suc n)) (with_key (world_at tale n) r (suc n) k) h.keys added rolls)
       (kept_added (world_at tale n) r (suc n) k (no_some _ (no_error _ _ _ (no_error _ _ _ (clear_cause _ v)).1).0) (blank-idle k.keytype blank)) m
-      (λ s. none-some AlgorithmRoll (only s)) inv
+      (λ s. none-some AlgorithmRoll (only s)) (keeps-same tale n rolls h.lists) inv
   accepted (keyset.Set r s) v h plain blank added m t only some inv =
       calm tale n here (with_keys (world_at tale n) (λ q k. if bytes_eq r q then set_by s k else k))
       (worlds (world_at tale (suc n)) (with_keys (world_at tale n) (λ q k. if bytes_eq r q then set_by s k else k)) h.keys added (λ q. ap (λ rolls. phase_of rolls q) h.rolls))
       (kept_changed (world_at tale n) (λ q k. if bytes_eq r q then set_by s k else k) (harmless before r s plain)) m
-      (λ s. none-some AlgorithmRoll (only s)) inv
+      (λ s. none-some AlgorithmRoll (only s)) (set_lists r s plain h) inv
   accepted (keyset.DeleteKey r) v h plain blank added m t only some inv =
       let k = gone_key (get before.keys r) (clear_cause _ v) in
       calm tale n here (without_key (world_at tale n) r)
       (worlds (world_at tale (suc n)) (without_key (world_at tale n) r) h.keys added (λ q. ap (λ rolls. phase_of rolls q) h.rolls))
-      (kept_deleted (world_at tale n) r k.0 k.1 (stale-idle k.0.keytype k.2)) m (λ s. none-some AlgorithmRoll (only s)) inv
+      (kept_deleted (world_at tale n) r k.0 k.1 (stale-idle k.0.keytype k.2)) m (λ s. none-some AlgorithmRoll (only s))
+      (λ sd. keeps-without tale n r (λ q. ap (λ rolls. phase_of rolls q) h.rolls) h.lists sd
+      (λ id j f t role. none-some j (sym (h.keys id.0 ∙ ap (λ b. if b then None else get before.keys id.0) t) ∙ (found_key (world_at tale (suc n)) id j f).0))) inv
   accepted (keyset.StartRoll r old new now) v h plain blank added m t only some inv =
-      start tale n here r now old new
-      (mapped tale n (start_key r now old new) r (Some Propagation1) (moved _ (start_key r now old new) r (Some Propagation1) h (λ q. start-parts r now (is_listed q old) (is_listed q new)) added))
-      (can_start (real tale n) r old new (clear_cause _ v)) m (some r refl) (λ s. none-some AlgorithmRoll (only s)) inv
+      let on : Mapped tale n (start_key r now old new) r (Some Propagation1) =
+          mapped tale n (start_key r now old new) r (Some Propagation1) (moved _ (start_key r now old new) r (Some Propagation1) h (λ q. start-parts r now (is_listed q old) (is_listed q new)) added) in
+      start tale n here r now old new on (can_start (real tale n) r old new (clear_cause _ v)) m
+      (λ q. ap (λ l. is_listed q (listed_by l r).olds) h.lists ∙ ap (λ (l : Listed). is_listed q l.olds) (listed-same before.lists r (keyset.listed_at_start before.keys old new)) ∙ is_listed-filter (keyset.is_kept_at before.keys) old q)
+      (λ q. ap (λ l. is_listed q (listed_by l r).news) h.lists ∙ ap (λ (l : Listed). is_listed q l.news) (listed-same before.lists r (keyset.listed_at_start before.keys old new)))
+      (λ sd out. keeps-start tale n r (Some Propagation1) on.rolls (λ q d. ap (λ l. listed_by l q) h.lists ∙ listed-other before.lists r (keyset.listed_at_start before.keys old new) q d) sd (λ q own. distinct sd r q out own))
+      (some r refl) (λ s. none-some AlgorithmRoll (only s)) inv
   accepted (keyset.Report r First ttl now) v h plain blank added m t only some inv =
-      report tale n here r false ttl now (mapped tale n (λ q. report_key r false now) r (Some (CacheExpire1 ttl)) (moved _ (λ q. report_key r false now) r (Some (CacheExpire1 ttl)) h (λ q k. refl) added))
-      (spreads_first _ (clear_cause _ v)) m t (λ s. none-some AlgorithmRoll (only s)) inv
+      let on : Mapped tale n (λ q. report_key r false now) r (Some (CacheExpire1 ttl)) = mapped tale n (λ q. report_key r false now) r (Some (CacheExpire1 ttl)) (moved _ (λ q. report_key r false now) r (Some (CacheExpire1 ttl)) h (λ q k. refl) added) in
+      report tale n here r false ttl now on
+      (spreads_first _ (clear_cause _ v)) m t (λ s. none-some AlgorithmRoll (only s))
+      (keeps-on tale n r (Some (CacheExpire1 ttl)) (λ e. cc) on.rolls (λ q d. ap (λ l. listed_by l q) h.lists ∙ listed-other before.lists r nothing_listed q d)) inv
   accepted (keyset.Report r Second ttl now) v h plain blank added m t only some inv =
-      report tale n here r true ttl now (mapped tale n (λ q. report_key r true now) r (Some (CacheExpire2 ttl)) (moved _ (λ q. report_key r true now) r (Some (CacheExpire2 ttl)) h (λ q k. refl) added))
-      (spreads_second _ (clear_cause _ v)) m t (λ s. none-some AlgorithmRoll (only s)) inv
+      let on : Mapped tale n (λ q. report_key r true now) r (Some (CacheExpire2 ttl)) = mapped tale n (λ q. report_key r true now) r (Some (CacheExpire2 ttl)) (moved _ (λ q. report_key r true now) r (Some (CacheExpire2 ttl)) h (λ q k. refl) added) in
+      report tale n here r true ttl now on
+      (spreads_second _ (clear_cause _ v)) m t (λ s. none-some AlgorithmRoll (only s))
+      (keeps-on tale n r (Some (CacheExpire2 ttl)) (λ e. cc) on.rolls (λ q d. ap (λ l. listed_by l q) h.lists)) inv
   accepted (keyset.Wait r First now) v h plain blank added m t only some inv =
       let w = waits_in_phase r false now (real tale n) v in
-      wait1 tale n here r w.0 now (mapped tale n (λ q. wait1_key r now) r (Some Propagation2) (moved _ (λ q. wait1_key r now) r (Some Propagation2) h (λ q k. refl) added))
-      w.1 w.2 m t (λ s. same_Some r AlgorithmRoll (only s)) inv
+      let on : Mapped tale n (λ q. wait1_key r now) r (Some Propagation2) = mapped tale n (λ q. wait1_key r now) r (Some Propagation2) (moved _ (λ q. wait1_key r now) r (Some Propagation2) h (λ q k. refl) added) in
+      wait1 tale n here r w.0 now on w.1 w.2 m t
+      (keeps-on tale n r (Some Propagation2) (λ e. cc) on.rolls (λ q d. ap (λ l. listed_by l q) h.lists)) (λ s. same_Some r AlgorithmRoll (only s)) inv
   accepted (keyset.Wait r Second now) v h plain blank added m t only some inv =
       let w = waits_in_phase r true now (real tale n) v in
-      wait2 tale n here r w.0 now (mapped tale n (λ q. wait2_key r now) r (Some Done) (moved _ (λ q. wait2_key r now) r (Some Done) h (λ q k. refl) added))
-      w.1 w.2 m t (λ s. none-some AlgorithmRoll (only s)) inv
-  accepted (keyset.AbortRoll r) v h plain blank added m t only some inv = absurd (true≢false (sym plain))
+      let on : Mapped tale n (λ q. wait2_key r now) r (Some Done) = mapped tale n (λ q. wait2_key r now) r (Some Done) (moved _ (λ q. wait2_key r now) r (Some Done) h (λ q k. refl) added) in
+      wait2 tale n here r w.0 now on w.1 w.2 m t
+      (keeps-on tale n r (Some Done) (λ e. cc) on.rolls (λ q d. ap (λ l. listed_by l q) h.lists)) (λ s. none-some AlgorithmRoll (only s)) inv
+  accepted (keyset.AbortRoll r) v h plain blank added m t only some inv =
+      let on : Mapped tale n (early_end_key tale r n) r None = mapped tale n (early_end_key tale r n) r None (moved _ (early_end_key tale r n) r None h (λ q. early-end-parts r _ _) added) in
+      end_early tale n here r on (ends_early _ (clear_cause _ v)) m
+      (keeps-on tale n r None (λ e. none-some Propagation1 e) on.rolls (λ q d. ap (λ l. listed_by l q) h.lists ∙ listed-other before.lists r nothing_listed q d))
+      (λ s. none-some AlgorithmRoll (only s)) inv
   accepted (keyset.RollDone r) v h plain blank added m t only some inv =
       let keys = λ (q : List ℕ). h.keys q ∙ map_id (get before.keys q) in
+      let rolls = λ (q : RollType). ap (λ rolls. phase_of rolls q) h.rolls ∙ phase_with before.rolls r None q in
       done tale n here r keys (λ id. λ i. if added id.0 i == id.1 then keys id.0 i else None)
-      (λ q. ap (λ rolls. phase_of rolls q) h.rolls ∙ phase_with before.rolls r None q) (finishes _ (clear_cause _ v)) m (λ s. none-some AlgorithmRoll (only s)) inv
+      rolls (finishes _ (clear_cause _ v)) m (λ s. none-some AlgorithmRoll (only s))
+      (keeps-on tale n r None (λ e. none-some Propagation1 e) rolls (λ q d. ap (λ l. listed_by l q) h.lists)) inv
 
   by_reply : (c : keyset.Call) (r : Reply) → keyset.Step before c (rec.reply_of r) after → sets_nothing before c ≡ true → adds_blank c ≡ true
       → ((q : List ℕ) → (world_at tale (suc n)).added q ≡ (if rec.is_accepted r then rec.with_added (suc n) (rec.reference_added c) (world_at tale n).added else (world_at tale n).added) q)
@@ -194,7 +243,8 @@ module _ (tale : Tale) (n : ℕ) (here : suc n ≤ length tale.es) where
       let same = refused_same (keyset.verdict before c) before after c cause step in
       calm tale n here (world_at tale n)
       (worlds (world_at tale (suc n)) (world_at tale n) (λ q. ap (λ s. get s.keys q) same) added (λ q. ap (λ s. phase_of s.rolls q) same))
-      (kept_same (world_at tale n)) m (λ s. true≢false (sym (only s).0)) inv
+      (kept_same (world_at tale n)) m (λ s. true≢false (sym (only s).0))
+      (keeps-same tale n (λ q. ap (λ s. phase_of s.rolls q) same) (ap (λ (s : KeySetParts). s.lists) same)) inv
   by_reply c reply.Done step plain blank added m t only some inv =
       let h = accepted_changes (keyset.verdict before c) before after c keyset.Done refl step in
       accepted c h.0 h.1 plain blank added m t (λ s. (only s).1) (λ q. some q refl) inv
@@ -239,6 +289,7 @@ first_at tale sd = record {
   flags = λ id. none_there (0 == id.1) _ (fits sd Quiet) (get-empty (slice_cmp nat_cmp) id.0);
   holds = λ kind q le un id e. absurd (none_at_start tale _ id e);
   left = tt;
+  back = tt;
 }
 
 first : (tale : Tale) → Inv tale zero

@@ -1,0 +1,155 @@
+-- What is kept of starts: how each call changes the lists, and which calls leave a side's keys in them
+-- as they were.
+use Rattle.std.proofs.Common.{[], ◌∷◌, ◌≡◌, ℕ, suc, Bool, true, false, not, ◌&&◌, ◌||◌, refl, sym}
+use Rattle.std.proofs.Common.{◌∙◌, ap, List, Option, Some}
+use Rattle.std.specs.Prelude.{filter, if◌then◌else◌}
+use Rattle.std.specs.Str.{bytes_eq}
+use Rattle.std.specs.Cmp.Lexicographic.{bytes_decides}
+use Rattle.dnssec_key.specs.declared.roll.RollType.{RollType}
+use Rattle.dnssec_key.specs.declared.roll.RollType.TheVariants.{KskRoll, KskDoubleDsRoll}
+use Rattle.dnssec_key.specs.declared.roll.RollType.TheVariants.{ZskRoll, ZskDoubleSignatureRoll}
+use Rattle.dnssec_key.specs.declared.roll.RollType.TheVariants.{CskRoll, AlgorithmRoll}
+use Rattle.dnssec_key.specs.declared.roll.RollState.{RollState}
+use Rattle.dnssec_key.specs.declared.roll.RollState.TheVariants.{Propagation1}
+use Rattle.dnssec_keyset.specs.KeySet.{Listed, Lists, listed_by, with_listed, without, others}
+use Rattle.dnssec_keyset.specs.KeySet.{same_roll}
+use Rattle.dnssec_keyset.proofs.Flags.{SideOf, affects, has_role}
+use Rattle.dnssec_keyset.proofs.Phases.{listed_by-with_listed}
+use Rattle.dnssec_run.specs.Published.{Id}
+use Rattle.dnssec_run.proofs.Chain.Tale.{Tale, Key, found, world_at, put_roll, is_listed}
+use Rattle.dnssec_run.proofs.Chain.Rolls.{same-same, same-true, put-same, put-other}
+use Rattle.dnssec_run.proofs.Chain.Places.{real}
+use Rattle.dnssec_run.proofs.Chain.Returns.{KeepsLists, listed_at}
+
+-- ---- one list
+
+-- a list cut by a test of references
+pub is_listed-filter : (p : List ℕ → Bool) (qs : List (List ℕ)) (q : List ℕ)
+    → is_listed q (filter p qs) ≡ (is_listed q qs && p q)
+is_listed-filter p [] q = refl
+is_listed-filter p (x ∷ xs) q = by (p x) refl (bytes_eq q x) refl (is_listed-filter p xs q)
+  where
+    out : (a : Bool) → (a && false) ≡ false
+    out true = refl
+    out false = refl
+
+    by : (b : Bool) → p x ≡ b → (c : Bool) → bytes_eq q x ≡ c
+        → is_listed q (filter p xs) ≡ (is_listed q xs && p q)
+        → is_listed q (if b then x ∷ filter p xs else filter p xs)
+        ≡ ((bytes_eq q x || is_listed q xs) && p q)
+    by true t true u rest = (λ i. u i || is_listed q (filter p xs))
+        ∙ sym (ap p ((bytes_decides q x).0 u) ∙ t) ∙ (λ i. (sym u i || is_listed q xs) && p q)
+    by true t false u rest = (λ i. u i || is_listed q (filter p xs)) ∙ rest
+        ∙ (λ i. (sym u i || is_listed q xs) && p q)
+    by false t true u rest =
+        let no : p q ≡ false = ap p ((bytes_decides q x).0 u) ∙ t in
+        rest ∙ ap (λ b. is_listed q xs && b) no ∙ out (is_listed q xs) ∙ sym no
+        ∙ (λ i. (sym u i || is_listed q xs) && p q)
+    by false t false u rest = rest ∙ (λ i. (sym u i || is_listed q xs) && p q)
+
+-- the list without a reference lists the others as before
+pub is_listed-others : (x : List ℕ) (qs : List (List ℕ)) (q : List ℕ) → bytes_eq x q ≡ false
+    → is_listed q (others x qs) ≡ is_listed q qs
+is_listed-others x qs q e = is_listed-filter (λ y. not (bytes_eq x y)) qs q
+    ∙ ap (λ b. is_listed q qs && not b) e ∙ all_in (is_listed q qs)
+  where
+    all_in : (a : Bool) → (a && true) ≡ a
+    all_in true = refl
+    all_in false = refl
+
+-- ---- all lists
+
+-- those of one roll are put in place
+pub listed-same : (l : Lists) (r : RollType) (listed : Listed)
+    → listed_by (with_listed l r listed) r ≡ listed
+listed-same l r listed = listed_by-with_listed l r listed r
+    ∙ ap (λ b. if b then listed else listed_by l r) (same-same r)
+
+-- and those of other rolls stay
+pub listed-other : (l : Lists) (r : RollType) (listed : Listed) (q : RollType)
+    → same_roll r q ≡ false → listed_by (with_listed l r listed) q ≡ listed_by l q
+listed-other l r listed q e = listed_by-with_listed l r listed q
+    ∙ ap (λ b. if b then listed else listed_by l q) e
+
+pub listed-without : (x : List ℕ) (l : Lists) (r : RollType) → listed_by (without x l) r
+    ≡ record { olds = others x (listed_by l r).olds; news = others x (listed_by l r).news }
+listed-without x l KskRoll = refl
+listed-without x l KskDoubleDsRoll = refl
+listed-without x l ZskRoll = refl
+listed-without x l ZskDoubleSignatureRoll = refl
+listed-without x l CskRoll = refl
+listed-without x l AlgorithmRoll = refl
+
+-- ---- the calls
+
+module _ (tale : Tale) (n : ℕ) where
+  -- neither rolls nor lists change
+  pub keeps-same : ((q : RollType) → (world_at tale (suc n)).roll q ≡ (world_at tale n).roll q)
+      → (real tale (suc n)).set.lists ≡ (real tale n).set.lists
+      → (sd : SideOf) → KeepsLists tale sd n
+  keeps-same rolls lists sd = record {
+    phase = λ r own e. sym (rolls r) ∙ e;
+    same = λ r own e id k f role. (
+      ap (λ l. is_listed id.0 (listed_by l r).olds) lists,
+      ap (λ l. is_listed id.0 (listed_by l r).news) lists,
+    );
+  }
+
+  -- one reference is taken out of all lists, where no key of the side is
+  pub keeps-without : (x : List ℕ)
+      → ((q : RollType) → (world_at tale (suc n)).roll q ≡ (world_at tale n).roll q)
+      → (real tale (suc n)).set.lists ≡ without x (real tale n).set.lists → (sd : SideOf)
+      → ((id : Id) (k : Key) → found (world_at tale (suc n)) id ≡ Some k → bytes_eq x id.0 ≡ true → has_role sd k.keytype ≡ true → ⊥)
+      → KeepsLists tale sd n
+  keeps-without x rolls lists sd gone = record {
+    phase = λ r own e. sym (rolls r) ∙ e;
+    same = λ r own e id k f role. by r id (bytes_eq x id.0) refl (λ t. gone id k f t role);
+  }
+    where
+      by : (r : RollType) (id : Id) (b : Bool) → bytes_eq x id.0 ≡ b → (bytes_eq x id.0 ≡ true → ⊥)
+          → (is_listed id.0 (listed_at tale r (suc n)).olds ≡ is_listed id.0 (listed_at tale r n).olds)
+          × (is_listed id.0 (listed_at tale r (suc n)).news ≡ is_listed id.0 (listed_at tale r n).news)
+      by r id true t none = absurd (none t)
+      by r id false t none = (
+        ap (λ l. is_listed id.0 (listed_by l r).olds) lists
+            ∙ ap (λ (l : Listed). is_listed id.0 l.olds) (listed-without x (real tale n).set.lists r)
+            ∙ is_listed-others x (listed_at tale r n).olds id.0 t,
+        ap (λ l. is_listed id.0 (listed_by l r).news) lists
+            ∙ ap (λ (l : Listed). is_listed id.0 l.news) (listed-without x (real tale n).set.lists r)
+            ∙ is_listed-others x (listed_at tale r n).news id.0 t,
+      )
+
+  -- a roll moves on from its first phase, or ends, and the lists of others stay
+  pub keeps-on : (r : RollType) (o : Option RollState) → (o ≡ Some Propagation1 → ⊥)
+      → ((q : RollType) → (world_at tale (suc n)).roll q ≡ put_roll (world_at tale n).roll r o q)
+      → ((q : RollType) → same_roll r q ≡ false → listed_at tale q (suc n) ≡ listed_at tale q n)
+      → (sd : SideOf) → KeepsLists tale sd n
+  keeps-on r o moved rolls lists sd = record {
+    phase = λ q own e. sym (put-other (world_at tale n).roll r o q (apart q e)) ∙ sym (rolls q) ∙ e;
+    same = λ q own e id k f role. let same = lists q (apart q e) in (
+      ap (λ (l : Listed). is_listed id.0 l.olds) same,
+      ap (λ (l : Listed). is_listed id.0 l.news) same,
+    );
+  }
+    where
+      apart : (q : RollType) → (world_at tale (suc n)).roll q ≡ Some Propagation1 → same_roll r q ≡ false
+      apart q e = by (same_roll r q) refl
+        where
+          by : (b : Bool) → same_roll r q ≡ b → b ≡ false
+          by true t = absurd (moved (sym (put-same (world_at tale n).roll r o) ∙ sym (rolls r)
+              ∙ ap (world_at tale (suc n)).roll (same-true r q t) ∙ e))
+          by false t = refl
+
+  -- a start of a roll of the other side
+  pub keeps-start : (r : RollType) (o : Option RollState)
+      → ((q : RollType) → (world_at tale (suc n)).roll q ≡ put_roll (world_at tale n).roll r o q)
+      → ((q : RollType) → same_roll r q ≡ false → listed_at tale q (suc n) ≡ listed_at tale q n)
+      → (sd : SideOf) → ((q : RollType) → affects sd q ≡ true → same_roll r q ≡ false)
+      → KeepsLists tale sd n
+  keeps-start r o rolls lists sd apart = record {
+    phase = λ q own e. sym (put-other (world_at tale n).roll r o q (apart q own)) ∙ sym (rolls q) ∙ e;
+    same = λ q own e id k f role. let same = lists q (apart q own) in (
+      ap (λ (l : Listed). is_listed id.0 l.olds) same,
+      ap (λ (l : Listed). is_listed id.0 l.news) same,
+    );
+  }
