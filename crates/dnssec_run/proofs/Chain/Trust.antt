@@ -196,7 +196,7 @@ module _ (tale : Tale) (n : ℕ) (here : suc n ≤ length tale.es) where
       (λ id j f t role. none-some j (sym (h.keys id.0 ∙ ap (λ b. if b then None else get before.keys id.0) t) ∙ (found_key (world_at tale (suc n)) id j f).0))) inv
   accepted (keyset.StartRoll r old new now) v h plain blank added m t only some inv =
       let on : Mapped tale n (start_key r now old new) r (Some Propagation1) =
-          mapped tale n (start_key r now old new) r (Some Propagation1) (moved _ (start_key r now old new) r (Some Propagation1) h (λ q. start-parts r now (is_listed q old) (is_listed q new)) added) in
+      mapped tale n (start_key r now old new) r (Some Propagation1) (moved _ (start_key r now old new) r (Some Propagation1) h (λ q. start-parts r now (is_listed q old) (is_listed q new)) added) in
       start tale n here r now old new on (can_start (real tale n) r old new (clear_cause _ v)) m
       (λ q. ap (λ l. is_listed q (listed_by l r).olds) h.lists ∙ ap (λ (l : Listed). is_listed q l.olds) (listed-same before.lists r (keyset.listed_at_start before.keys old new)) ∙ is_listed-filter (keyset.is_kept_at before.keys) old q)
       (λ q. ap (λ l. is_listed q (listed_by l r).news) h.lists ∙ ap (λ (l : Listed). is_listed q l.news) (listed-same before.lists r (keyset.listed_at_start before.keys old new)))
