@@ -65,8 +65,10 @@ const BEFORE_THE_REPORT: [Course; 2] = [
 
 /// Copies of key sets in the middle of a roll, and at its start.
 pub(crate) fn copy_sets(alloc: Global, memory: &mut Memory) -> Result<(), Wrong> {
-    copy_set(alloc, &IN_MID_ROLL, memory)?;
-    copy_set(alloc, &BEFORE_THE_REPORT, memory)
+    match copy_set(alloc, &IN_MID_ROLL, memory) {
+        Ok(()) => copy_set(alloc, &BEFORE_THE_REPORT, memory),
+        Err(wrong) => Err(wrong),
+    }
 }
 
 /// A copy of a key set tells what the set tells, and goes its own way.
