@@ -36,8 +36,8 @@ test-lib: build lib
 valgrind asan: lib
 	@tests/library.py library/out $@
 
-# What the documents print is compared with the examples; each request for memory fails in turn;
-# then every proof, edit, test and program. It tells when each step was done.
+# What the documents print is compared with the examples; then every proof, edit, test and program,
+# and beside them each request for memory fails in turn. It tells when each step was done.
 test:
 	@tests/gate.py
 

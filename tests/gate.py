@@ -1,10 +1,11 @@
 #!/usr/bin/env python3
-"""The gate: `tests/docs.py`, `tests/memory.py`, then `rt ci`, and beside its edits
-`tests/library.py`. Before the last line of `rt ci` it tells when, in minutes and seconds since the
-start, each step was done, so that a rise is seen."""
+"""The gate: `tests/docs.py`, then `rt ci`, beside its first proofs `tests/memory.py`, and beside its
+edits `tests/library.py`. Before the last line of `rt ci` it tells when, in minutes and seconds since
+the start, each step was done, so that a rise is seen."""
 
 import os
 import re
+import shutil
 import subprocess
 import sys
 import tempfile
@@ -48,25 +49,17 @@ class Edits(threading.Thread):
             time.sleep(0.5)
 
 
-class Library(threading.Thread):
-    """Tests the library once it and the program are proved, over what `rt ci` has then built."""
+class Beside(threading.Thread):
+    """A script of tests that runs beside `rt ci`."""
 
-    WANTED = {"keyset proved", "keyset_c proved"}
-
-    def __init__(self):
-        super().__init__(daemon=True)
-        self.proved = set()
+    def __init__(self, name, top=TOP):
+        super().__init__(daemon=True, name=name)
+        self.script = top / "tests" / f"{name}.py"
         self.test = None
 
-    def note(self, proved):
-        self.proved.add(proved)
-        if self.ident is None and self.WANTED <= self.proved:
-            self.start()
-
     def run(self):
-        words = [TOP / "tests" / "library.py"]
-        self.test = subprocess.run(words, stdout=subprocess.PIPE, text=True)
-        note("library")
+        self.test = subprocess.run([self.script], stdout=subprocess.PIPE, text=True)
+        note(self.name)
 
     def has_failed(self):
         """Whether a test failed, of those that were begun."""
@@ -75,6 +68,28 @@ class Library(threading.Thread):
         self.join()
         print(self.test.stdout, end="")
         return self.test.returncode != 0
+
+
+class Library(Beside):
+    """Tests the library once it and the program are proved, over what `rt ci` has then built."""
+
+    WANTED = {"keyset proved", "keyset_c proved"}
+
+    def __init__(self):
+        super().__init__("library")
+        self.proved = set()
+
+    def note(self, proved):
+        self.proved.add(proved)
+        if self.ident is None and self.WANTED <= self.proved:
+            self.start()
+
+
+def copy_of_sources(folder):
+    """What the test of memory builds and reads, since `rt ci` and it can't build in one place."""
+    top = Path(folder, "sources")
+    shutil.copytree(TOP, top, ignore=shutil.ignore_patterns(".git", "out"))
+    return top
 
 
 def prove(edits, library):
@@ -99,15 +114,17 @@ def prove(edits, library):
 
 
 def main():
-    for step in ("docs", "memory"):
-        if subprocess.run([TOP / "tests" / f"{step}.py"]).returncode:
-            return 1
-        note(step)
-    edits, library = Edits(), Library()
-    edits.start()
-    status, last = prove(edits, library)
-    if library.has_failed():
-        status, last = 1, "the library has failed\n"
+    if subprocess.run([TOP / "tests" / "docs.py"]).returncode:
+        return 1
+    note("docs")
+    with tempfile.TemporaryDirectory() as folder:
+        edits, memory, library = Edits(), Beside("memory", copy_of_sources(folder)), Library()
+        edits.start()
+        memory.start()
+        status, last = prove(edits, library)
+        for beside in (memory, library):
+            if beside.has_failed():
+                status, last = 1, f"the test {beside.name} has failed\n"
     print("Done after, in minutes and seconds:", *STEPS, sep="\n")
     print(last, end="", flush=True)
     return status

@@ -53,9 +53,9 @@ class Outcome:
 
 
 def parts_of(names):
-    """The names in as many parts as there are processors, but no more than four, nor more than pay
-    for their builds."""
-    most = min(len(os.sched_getaffinity(0)), 4)
+    """The names in as many parts as there are processors, but no more than two, nor more than pay
+    for their builds: the gate has other work for the rest."""
+    most = min(len(os.sched_getaffinity(0)), 2)
     number = max(1, min(most, len(names) // CASES_OF_A_BUILD))
     return [names[i::number] for i in range(number)]
 

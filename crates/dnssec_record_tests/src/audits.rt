@@ -78,7 +78,7 @@ fn verdict(alloc: Global, entries: &[Entry]) -> Result<Option<Broken>, ScriptFau
 }
 
 /// What a further position publishes otherwise than the last one.
-#[derive(Clone, Copy, Debug)]
+#[derive(Clone, Copy)]
 enum Further {
     /// The DS of a stranger.
     StrangersDs,

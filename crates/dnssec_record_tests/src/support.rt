@@ -10,7 +10,7 @@ use std::test::Fail;
 pub(crate) const ANY: usize = usize::MAX;
 
 /// Bytes to read, until a call fails.
-#[derive(Debug, Drop)]
+#[derive(Drop)]
 pub(crate) struct Input<'a> {
     left: &'a [u8],
     /// How many bytes a call gives at most. 0 counts as 1.
@@ -56,7 +56,7 @@ impl<'a> Source for Input<'a> {
 }
 
 /// Takes bytes, until a call fails.
-#[derive(Debug, Drop)]
+#[derive(Drop)]
 pub(crate) struct Output {
     taken: Vec<u8>,
     /// How many bytes a call takes at most. 0 counts as 1.
@@ -114,7 +114,7 @@ impl Sink for Output {
 
 /// How the devices of a script serve it: how many bytes a read and a write move at most, and how
 /// many of these calls are served before they fail.
-#[derive(Clone, Copy, Debug)]
+#[derive(Clone, Copy)]
 pub(crate) struct Devices {
     pub(crate) most_read: usize,
     pub(crate) reads: usize,
@@ -131,7 +131,7 @@ pub(crate) const WHOLE: Devices = Devices {
 };
 
 /// What a script answered: how it ended, and what was written.
-#[derive(Debug, Drop)]
+#[derive(Drop)]
 pub(crate) struct Answer {
     pub(crate) result: Result<(), ScriptFault>,
     pub(crate) output: Output,
