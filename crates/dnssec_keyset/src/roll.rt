@@ -36,6 +36,11 @@ impl KeySet {
     ///   `AlgorithmRoll` no KSK role or no ZSK role) that is present and not old.
     ///   `KskDoubleDsRoll` asks at the parent in place of present.
     /// - `OutOfMemory` where memory runs out.
+    ///
+    /// ```rust
+    /// // The actions: publish the DNSKEY set with Z2, and report when all servers have it.
+    /// let actions = set.start_roll(RollType::ZskRoll, &["Z1"], &["Z2"], &now)?;
+    /// ```
     #[tactic(auto, using(crate::proofs::Steps::steps))]
     pub fn start_roll(
         &mut self,
@@ -73,6 +78,11 @@ impl KeySet {
     ///
     /// `WrongStateForRollOperation` where the roll isn't waiting for this report. Nothing is then
     /// changed.
+    ///
+    /// ```rust
+    /// // All servers have the new DNSKEY set. The old one had a TTL of an hour.
+    /// set.propagation1_complete(RollType::ZskRoll, 3600, &now)?;
+    /// ```
     pub fn propagation1_complete(
         &mut self,
         rolltype: RollType,
@@ -101,6 +111,14 @@ impl KeySet {
     /// - `WrongKeyState` where a key that the wait checks lacks the stamp that it reads.
     /// - `Wait` with the longest time that is left for such a key, while there is some.
     /// - `OutOfMemory` where there is no memory for the answer.
+    ///
+    /// ```rust
+    /// match set.cache_expired1(RollType::ZskRoll, &now) {
+    ///     Ok(actions) => publish(actions),
+    ///     Err(Error::Wait(left)) => sleep(left),
+    ///     Err(error) => return Err(error),
+    /// }
+    /// ```
     pub fn cache_expired1(
         &mut self,
         rolltype: RollType,
@@ -161,6 +179,11 @@ impl KeySet {
     /// `WrongStateForRollOperation` where the roll isn't in its last phase. Nothing is then
     /// changed.
     #[tactic(auto, using(crate::proofs::Steps::steps))]
+    ///
+    /// ```rust
+    /// set.roll_done(RollType::ZskRoll)?;
+    /// set.delete_key("Z1")?;
+    /// ```
     pub fn roll_done(&mut self, rolltype: RollType) -> Result<Vec<Action>, Error>
         ensures reply { AnswersExactly (end_refusal (phase_of self.old.rolls rolltype)) result }
         ensures actions { IfOk result (λ actions. actions.items ≡ []) }
@@ -186,6 +209,12 @@ impl KeySet {
     /// - `WrongStateForRollOperation` where the roll isn't waiting for its first report: from then
     ///   on caches may hold what the start changed.
     /// - `OutOfMemory` where there is no memory for the answer.
+    ///
+    /// ```rust
+    /// set.start_roll(RollType::ZskRoll, &["Z1"], &["Z2"], &now)?;
+    /// set.abort_roll(RollType::ZskRoll)?;
+    /// // Z1 isn't old any more, and Z2 may come in by another roll.
+    /// ```
     #[tactic(auto, using(crate::proofs::Steps::steps))]
     pub fn abort_roll(&mut self, rolltype: RollType) -> Result<Vec<Action>, Error>
         ensures reply { Answers (early_end_refusal (phase_of self.old.rolls rolltype)) result }

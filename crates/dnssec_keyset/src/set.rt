@@ -28,6 +28,14 @@ use std::marker::Model;
 /// The keys that sign one zone, by their public references, and the rolls in progress.
 ///
 /// A call that is refused changes nothing: neither a key, nor a stamp, nor a roll.
+///
+/// ```rust
+/// let name = Name::<Vec<u8>>::from_str(alloc, "example.com")?;
+/// let mut set = KeySet::new(alloc, name);
+/// let algorithm = SecurityAlgorithm::ECDSAP256SHA256;
+/// let ksk = String::from_str(alloc, "K1")?;
+/// set.add_key_ksk(ksk, None, algorithm, 1, now, Available::Available)?;
+/// ```
 pub struct KeySet {
     name: Name<Vec<u8>>,
     pub(crate) keys: Keys,

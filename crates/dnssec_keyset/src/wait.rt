@@ -97,6 +97,13 @@ impl KeySet {
     /// its stamp. A wait at a moment before the end is told to wait for what is left until then, but
     /// for no longer than the TTL that was reported; at the end and later it is accepted, memory
     /// aside (RFC 7583, section 3). No memory is taken.
+    ///
+    /// ```rust
+    /// if let Some(WaitEnd::At(end)) = &set.wait_end(RollType::ZskRoll) {
+    ///     // Sleep until then, and then:
+    ///     let actions = set.cache_expired1(RollType::ZskRoll, end)?;
+    /// }
+    /// ```
     pub fn wait_end(&self, rolltype: RollType) -> Option<WaitEnd>
         ensures { TellsEnd rolltype self.now result }
     {
