@@ -199,11 +199,10 @@ def test_python_caller(folder):
 def test(folder, room):
     compiler = shutil.which("cc") or shutil.which("gcc") or shutil.which("clang")
     expect_exports(folder)
-    if compiler:
-        yield test_in_c(compiler, folder, room)
-        yield test_c_caller(compiler, folder, room)
-    else:
-        yield "there is no C compiler here: neither the tests in C nor the caller in C have run"
+    if not compiler:
+        raise Wrong("there is no C compiler here, and the tests in C want one")
+    yield test_in_c(compiler, folder, room)
+    yield test_c_caller(compiler, folder, room)
     if shutil.which("cargo") and shutil.which("rustc"):
         yield test_rust_caller(folder, room)
     else:

@@ -1,7 +1,7 @@
 //! Verdicts on records: of scripts, and of entries made by hand.
 use dnssec_keyset::{RollType, UnixTime};
 use dnssec_record::{
-    Broken, Entry, Mark, Published, PublishedKey, Reply, Run, ScriptFault, audit, audit_window,
+    Broken, Entry, Mark, Published, PublishedKey, Reply, ScriptFault, audit, audit_window,
     record_script,
 };
 use std::alloc::{AllocError, Global};
@@ -46,16 +46,6 @@ wait2 ksk-roll 340
 wait2 zsk-roll 345
 ";
 
-/// A KSK roll that comes before the first algorithm roll.
-const TOO_EARLY: &str = "zone example.com
-add-ksk F - 13 0 0 yes
-add-ksk K - 13 1 0 yes
-start ksk-roll F K 0
-start algorithm-roll - - 0
-report1 ksk-roll 60 10
-wait1 ksk-roll 70
-";
-
 fn broken(at: usize, ds: usize, dnskey: usize, zone: usize) -> Option<Broken> {
     Some(Broken {
         at,
@@ -77,7 +67,7 @@ fn verdict(alloc: Global, entries: &[Entry]) -> Result<Option<Broken>, ScriptFau
     }
 }
 
-/// What a further position publishes otherwise than the last one.
+/// What a further call publishes otherwise than the last one.
 #[derive(Clone, Copy)]
 enum Further {
     /// The DS of a stranger.
@@ -86,45 +76,26 @@ enum Further {
     NoDnskey,
 }
 
-/// The run of a script in parts.
-fn run_of(alloc: Global, parts: &[&str]) -> Result<Run, ScriptFault> {
+/// The verdict on the record of a script in parts, and of one more call, which is refused and at
+/// which this is published.
+fn verdict_on(
+    alloc: Global,
+    parts: &[&str],
+    further: Further,
+) -> Result<Option<Broken>, ScriptFault> {
     let mut script = String::new(alloc);
     for part in parts {
         script.push_str(part)?;
     }
-    record_script(alloc, script.as_str().as_bytes())
-}
-
-/// The verdict on its record, with a further position or without.
-fn try_verdict(
-    alloc: Global,
-    parts: &[&str],
-    further: Option<Further>,
-) -> Result<Option<Broken>, ScriptFault> {
-    let mut run = run_of(alloc, parts)?;
-    let last = run_of(alloc, parts)?.entries.pop();
-    if let (Some(further), Some(mut entry)) = (further, last) {
-        entry.mark = Mark::Other;
-        entry.moment = None;
+    script.push_str("done csk-roll")?;
+    let mut entries = record_script(alloc, script.as_str().as_bytes())?.entries;
+    if let Some(entry) = entries.last_mut() {
         match further {
             Further::StrangersDs => entry.published.ds = keys(alloc, &[("nobody", 1)])?,
             Further::NoDnskey => entry.published.dnskey = Vec::new(alloc),
         }
-        run.entries.push(entry)?;
     }
-    verdict(alloc, &run.entries)
-}
-
-/// The same, once more where memory ran out.
-fn verdict_on(
-    alloc: Global,
-    parts: &[&str],
-    further: Option<Further>,
-) -> Result<Option<Broken>, ScriptFault> {
-    match try_verdict(alloc, parts, further) {
-        Err(ScriptFault::OutOfMemory) => try_verdict(alloc, parts, further),
-        answer => answer,
-    }
+    verdict(alloc, &entries)
 }
 
 /// Keys, each with the position of its add.
@@ -172,38 +143,6 @@ fn try_rows(alloc: Global, rows: &[Row]) -> Result<Option<Broken>, ScriptFault> 
     verdict(alloc, &entries)
 }
 
-/// What both audits answer of records of scripts.
-#[test]
-fn records_of_scripts_are_judged(rt: HostRuntime) -> Result<(), Fail> {
-    let rows: [(&[&str], Option<Broken>); 8] = [
-        (&["zone ."], None),
-        (&[FIRST], None),
-        (&[FIRST, KSK_ROLL, KSK_WAIT], None),
-        (&[FIRST, SIDE_BY_SIDE], None),
-        (&[TOO_EARLY], broken(6, 6, 3, 0)),
-        (&[FIRST, "set-stale K1"], broken(9, 5, 9, 3)),
-        (&[FIRST, "set-signer Z1 no"], broken(9, 5, 3, 9)),
-        (
-            &[
-                FIRST,
-                KSK_ROLL,
-                KSK_WAIT,
-                "report2 ksk-roll 60 280
-wait2 ksk-roll 340
-done ksk-roll
-delete K1
-add-ksk K1 - 13 1 0 yes
-start ksk-roll K2 K1 400",
-            ],
-            None,
-        ),
-    ];
-    for (parts, want) in rows {
-        assert_eq!(&rt; verdict_on(rt.alloc(), parts, None), Ok(want));
-    }
-    Ok(())
-}
-
 /// One more position with the DS of a stranger meets the least DNSKEY set and zone signers that no
 /// report has retired; and one without a DNSKEY set meets the least DS set.
 #[test]
@@ -215,32 +154,23 @@ fn the_least_unretired_positions_are_told(rt: HostRuntime) -> Result<(), Fail> {
     ];
     for (parts, calls, [ds, dnskey, zone]) in rows {
         let at = calls + 1;
-        let answer = verdict_on(rt.alloc(), parts, Some(Further::StrangersDs));
+        let answer = verdict_on(rt.alloc(), parts, Further::StrangersDs);
         assert_eq!(&rt; answer, Ok(broken(at, at, dnskey, zone)), "at {calls}");
-        let answer = verdict_on(rt.alloc(), parts, Some(Further::NoDnskey));
+        let answer = verdict_on(rt.alloc(), parts, Further::NoDnskey);
         assert_eq!(&rt; answer, Ok(broken(at, ds, at, zone)), "at {calls}");
     }
     Ok(())
 }
 
-/// A zone with its first keys, and 500 calls that are refused.
-fn try_refused_calls(alloc: Global) -> Result<Option<Broken>, ScriptFault> {
-    let mut script = String::from_str(alloc, FIRST)?;
+/// Refused calls keep a record safe, as many as there are.
+#[test]
+fn refused_calls_are_judged(rt: HostRuntime) -> Result<(), Fail> {
+    let mut script = String::from_str(rt.alloc(), FIRST)?;
     for _ in 0..500 {
         script.push_str("done algorithm-roll\n")?;
     }
-    let run = record_script(alloc, script.as_str().as_bytes())?;
-    audit_window(alloc, &run.entries).map_err(|_| ScriptFault::OutOfMemory)
-}
-
-/// Refused calls keep a record safe.
-#[test]
-fn refused_calls_are_judged(rt: HostRuntime) -> Result<(), Fail> {
-    let answer = match try_refused_calls(rt.alloc()) {
-        Err(ScriptFault::OutOfMemory) => try_refused_calls(rt.alloc()),
-        answer => answer,
-    };
-    assert_eq!(&rt; answer, Ok(None));
+    let run = record_script(rt.alloc(), script.as_str().as_bytes()).map_err(|_| "no run")?;
+    assert!(rt; audit_window(rt.alloc(), &run.entries) == Ok(None));
     Ok(())
 }
 
@@ -271,11 +201,7 @@ fn entries_by_hand_are_judged(rt: HostRuntime) -> Result<(), Fail> {
         (three(Duration::MAX, 1, &[("K", 1)]), broken(3, 3, 0, 0)),
     ];
     for (entries, want) in rows {
-        let answer = match try_rows(rt.alloc(), &entries) {
-            Err(ScriptFault::OutOfMemory) => try_rows(rt.alloc(), &entries),
-            answer => answer,
-        };
-        assert_eq!(&rt; answer, Ok(want));
+        assert_eq!(rt; try_rows(rt.alloc(), &entries), Ok(want));
     }
     Ok(())
 }

@@ -1,73 +1,211 @@
 //! Devices that serve a script slowly, or fail.
-use crate::scripts::{FIRST_ANSWERS, FIRST_KEYS};
-use crate::support::{ANY, Devices, WHOLE, assert_taken, assert_written, attempt, follow};
-use dnssec_record::{ScriptFault, Sink, Source, Std, run_script};
+ghost use Rattle.std.specs.Prelude.{◌≡◌, IfOk, None};
+
+use dnssec_record::{DeviceFault, ScriptFault, Sink, Source, Std, run_script};
 use std::alloc::{AllocError, Global};
 use std::process::Abort;
 use std::test::Fail;
 
-#[test]
-fn a_byte_at_a_time_is_enough(rt: HostRuntime) -> Result<(), Fail> {
-    let devices = Devices {
-        most_read: 1,
-        most_written: 1,
-        ..WHOLE
+/// A zone gets its first keys. The operator comes back a second too early, and then in time.
+const FIRST_KEYS: &str = "zone example.com
+add-ksk K1 - 13 0 0 yes
+add-zsk Z1 - 13 1 0 yes
+start algorithm-roll - K1,Z1 0
+report1 algorithm-roll 3600 100
+wait1 algorithm-roll 3699
+wait1 algorithm-roll 3700
+";
+
+/// What its calls answer.
+const FIRST_ANSWERS: &str = "ok
+ok
+ok UpdateDnskeyRrset UpdateRrsig ReportDnskeyPropagated ReportRrsigPropagated
+ok
+refused: wait for duration 1s
+ok CreateCdsRrset UpdateDsRrset ReportDsPropagated
+ds=K1 dnskey=K1,Z1 signers=K1 zone=Z1
+chain safe
+";
+
+/// So many calls of a device, or bytes at one of them, as no test makes.
+const ANY: usize = usize::MAX;
+
+/// Bytes to read, until a call fails.
+#[derive(Drop)]
+struct Input<'a> {
+    left: &'a [u8],
+    /// How many bytes a call gives at most. 0 counts as 1.
+    most: usize,
+    /// How many calls are served before they fail.
+    served: usize,
+    faults: u64,
+}
+
+impl<'a> Source for Input<'a> {
+    ghost left = { λ _. None };
+
+    ghost faults = { λ input. input.faults };
+
+    fn read(&mut self, buf: &mut [u8]) -> Result<usize, DeviceFault> {
+        let Some(served) = self.served.checked_sub(1) else {
+            self.faults += 1;
+            return Err(DeviceFault);
+        };
+        self.served = served;
+        let count = self.left.len().min(buf.len()).min(self.most.max(1));
+        buf[..count].copy_from_slice(&self.left[..count]);
+        self.left = &self.left[count..];
+        Ok(count)
+    }
+
+    fn faults(&self) -> u64 {
+        self.faults
+    }
+}
+
+/// Takes bytes, until a call fails.
+#[derive(Drop)]
+struct Output {
+    taken: Vec<u8>,
+    /// How many bytes a call takes at most. 0 counts as 1.
+    most: usize,
+    /// How many calls are served before they fail.
+    served: usize,
+    faults: u64,
+}
+
+impl Sink for Output {
+    ghost taken = { λ _. None };
+
+    ghost faults = { λ output. output.faults };
+
+    fn write(&mut self, buf: &[u8]) -> Result<usize, DeviceFault> {
+        let Some(served) = self.served.checked_sub(1) else {
+            self.faults += 1;
+            return Err(DeviceFault);
+        };
+        let count = buf.len().min(self.most.max(1));
+        if self.taken.extend_from_slice(&buf[..count]).is_err() {
+            self.faults += 1;
+            return Err(DeviceFault);
+        }
+        self.served = served;
+        Ok(count)
+    }
+
+    fn faults(&self) -> u64 {
+        self.faults
+    }
+}
+
+/// How the devices of a script serve it: how many bytes a read and a write move at most, and how
+/// many of these calls are served before they fail.
+#[derive(Clone, Copy)]
+struct Devices {
+    most_read: usize,
+    reads: usize,
+    most_written: usize,
+    writes: usize,
+}
+
+/// Devices that serve a script to its end.
+const WHOLE: Devices = Devices {
+    most_read: ANY,
+    reads: ANY,
+    most_written: ANY,
+    writes: ANY,
+};
+
+/// Runs a script over devices: how it ended, and what was written.
+fn follow(alloc: Global, script: &[u8], devices: Devices) -> (Result<(), ScriptFault>, Vec<u8>) {
+    let mut input = Input {
+        left: script,
+        most: devices.most_read,
+        served: devices.reads,
+        faults: 0,
     };
-    let answer = follow(&rt, rt.alloc(), FIRST_KEYS.as_bytes(), devices)?;
-    assert_written(&rt, &answer, FIRST_ANSWERS);
-    Ok(())
-}
-
-#[test]
-fn a_reader_that_fails_at_once(rt: HostRuntime) -> Result<(), Fail> {
-    let devices = Devices { reads: 0, ..WHOLE };
-    let answer = attempt(rt.alloc(), FIRST_KEYS.as_bytes(), devices)?;
-    assert_eq!(rt; answer.result, Err(ScriptFault::Device));
-    assert_taken(&rt, &answer, "");
-    Ok(())
-}
-
-/// What was read before a fault isn't run, also where it is a script.
-#[test]
-fn a_reader_that_fails_after_a_line(rt: HostRuntime) -> Result<(), Fail> {
-    let devices = Devices {
-        most_read: 7,
-        reads: 1,
-        ..WHOLE
+    let mut output = Output {
+        taken: Vec::new(alloc),
+        most: devices.most_written,
+        served: devices.writes,
+        faults: 0,
     };
-    let answer = follow(&rt, rt.alloc(), b"zone a\ndelete K1\n", devices)?;
-    assert_eq!(rt; answer.result, Err(ScriptFault::Device));
-    assert_taken(&rt, &answer, "");
-    Ok(())
+    let result = run_script(alloc, &mut input, &mut output);
+    (result, output.taken)
 }
 
+/// What was read before a fault isn't run, also where it is a script. A malformed script is told as
+/// such where no byte can be written, since none is.
 #[test]
-fn a_writer_that_fails_at_the_sixth_byte(rt: HostRuntime) -> Result<(), Fail> {
-    let devices = Devices {
-        most_written: 1,
-        writes: 5,
-        ..WHOLE
-    };
-    let answer = follow(&rt, rt.alloc(), FIRST_KEYS.as_bytes(), devices)?;
-    assert_eq!(rt; answer.result, Err(ScriptFault::Device));
-    assert_taken(&rt, &answer, "ok\nok");
-    Ok(())
-}
-
-/// A malformed script is told as such, since nothing is written.
-#[test]
-fn a_writer_that_is_not_asked(rt: HostRuntime) -> Result<(), Fail> {
-    let devices = Devices { writes: 0, ..WHOLE };
-    let answer = follow(&rt, rt.alloc(), b"zone a\nzone a\n", devices)?;
-    assert_eq!(rt; answer.result, Err(ScriptFault::Malformed(2)));
-    let answer = follow(&rt, rt.alloc(), b"zone a\n", devices)?;
-    assert_eq!(rt; answer.result, Err(ScriptFault::Device));
-    assert_taken(&rt, &answer, "");
+fn devices_serve_or_fail(rt: HostRuntime) -> Result<(), Fail> {
+    let deleted = b"zone a\ndelete K1\n";
+    let rows: [(&[u8], Devices, Result<(), ScriptFault>, &str); 7] = [
+        (
+            FIRST_KEYS.as_bytes(),
+            Devices {
+                most_read: 1,
+                most_written: 1,
+                ..WHOLE
+            },
+            Ok(()),
+            FIRST_ANSWERS,
+        ),
+        // The last line may end with the script.
+        (
+            FIRST_KEYS.trim_end().as_bytes(),
+            WHOLE,
+            Ok(()),
+            FIRST_ANSWERS,
+        ),
+        (
+            FIRST_KEYS.as_bytes(),
+            Devices { reads: 0, ..WHOLE },
+            Err(ScriptFault::Device),
+            "",
+        ),
+        (
+            deleted,
+            Devices {
+                most_read: 7,
+                reads: 1,
+                ..WHOLE
+            },
+            Err(ScriptFault::Device),
+            "",
+        ),
+        (
+            FIRST_KEYS.as_bytes(),
+            Devices {
+                most_written: 1,
+                writes: 5,
+                ..WHOLE
+            },
+            Err(ScriptFault::Device),
+            "ok\nok",
+        ),
+        (
+            b"zone a\nzone a\n",
+            Devices { writes: 0, ..WHOLE },
+            Err(ScriptFault::Malformed(2)),
+            "",
+        ),
+        (
+            b"zone a\n",
+            Devices { writes: 0, ..WHOLE },
+            Err(ScriptFault::Device),
+            "",
+        ),
+    ];
+    for (index, (script, devices, result, written)) in rows.iter().enumerate() {
+        let answer = follow(rt.alloc(), script, *devices);
+        assert_eq!(rt; answer.0, *result, "in row {index}");
+        assert_eq!(rt; answer.1.as_slice(), written.as_bytes(), "in row {index}");
+    }
     Ok(())
 }
 
 /// A zone, and the deletion of a key with a reference of so many bytes.
-fn try_long(alloc: Global, count: usize) -> Result<String, AllocError> {
+fn long_script(alloc: Global, count: usize) -> Result<String, AllocError> {
     let mut script = String::from_str(alloc, "zone a\ndelete ")?;
     for _ in 0..count {
         script.push('K')?;
@@ -78,44 +216,26 @@ fn try_long(alloc: Global, count: usize) -> Result<String, AllocError> {
 /// A script of more bytes than are asked for at once is read to its end.
 #[test]
 fn a_long_script_is_read_whole(rt: HostRuntime) -> Result<(), Fail> {
-    let script = match try_long(rt.alloc(), 9000) {
-        Ok(script) => script,
-        Err(AllocError) => try_long(rt.alloc(), 9000)?,
-    };
+    let script = long_script(rt.alloc(), 9000)?;
+    let want = b"refused: key not found\nds=- dnskey=- signers=- zone=-\nchain safe\n";
     for most_read in [ANY, 4095] {
         let devices = Devices { most_read, ..WHOLE };
-        let answer = follow(&rt, rt.alloc(), script.as_str().as_bytes(), devices)?;
-        assert_written(
-            &rt,
-            &answer,
-            "refused: key not found\nds=- dnskey=- signers=- zone=-\nchain safe\n",
-        );
+        let answer = follow(rt.alloc(), script.as_str().as_bytes(), devices);
+        assert!(rt; answer.0 == Ok(()) && answer.1.as_slice() == want.as_slice());
     }
     Ok(())
-}
-
-/// Runs a script of one deletion by the library's own reader and writer. The writer's room is
-/// filled where the run ends by a fault of a device, and else untouched.
-fn run_by_std(rt: &impl Abort, alloc: Global, room: &mut [u8]) -> Result<(), ScriptFault> {
-    let mut input = Std::new(b"zone a\ndelete K1\n".as_slice());
-    let mut output = Std::new(room);
-    let result = run_script(alloc, &mut input, &mut output);
-    let failed = result == Err(ScriptFault::Device);
-    assert_eq!(rt; input.faults(), 0);
-    assert_eq!(rt; output.faults(), u64::from(failed));
-    assert_eq!(rt; output.into_inner().is_empty(), failed);
-    result
 }
 
 /// Any reader and writer serves as a device. A writer without room is one that fails.
 #[test]
 fn a_writer_without_room_fails(rt: HostRuntime) -> Result<(), Fail> {
     let mut room = [0; 20];
-    let mut result = run_by_std(&rt, rt.alloc(), &mut room);
-    if result == Err(ScriptFault::OutOfMemory) {
-        result = run_by_std(&rt, rt.alloc(), &mut room);
-    }
+    let mut input = Std::new(b"zone a\ndelete K1\n".as_slice());
+    let mut output = Std::new(room.as_mut_slice());
+    let result = run_script(rt.alloc(), &mut input, &mut output);
     assert_eq!(rt; result, Err(ScriptFault::Device));
+    assert_eq!(rt; (input.faults(), output.faults()), (0, 1));
+    assert!(rt; output.into_inner().is_empty());
     assert_eq!(rt; &room, b"refused: key not fou");
     Ok(())
 }

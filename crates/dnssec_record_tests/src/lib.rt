@@ -1,6 +1,6 @@
-//! Scripts and recorded runs, with their exact answers, in a crate of its own, so that the record
-//! isn't proved twice. The proofs say what a run and a script are; the values here come from worked
-//! examples.
+//! Devices, malformed scripts, recorded runs and verdicts, with exact answers, in a crate of its own,
+//! so that the record isn't proved twice. The proofs say what a run and a script are; the values here
+//! come from worked examples.
 #![tactic(auto)]
 
 #[cfg(test)]
@@ -10,12 +10,4 @@ mod devices;
 #[cfg(test)]
 mod malformed;
 #[cfg(test)]
-mod memory;
-#[cfg(test)]
-mod refusals;
-#[cfg(test)]
 mod runs;
-#[cfg(test)]
-mod scripts;
-#[cfg(test)]
-mod support;

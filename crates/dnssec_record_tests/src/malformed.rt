@@ -1,6 +1,5 @@
 //! Scripts with a line that hasn't its form.
-use crate::support::{WHOLE, assert_written, follow};
-use dnssec_record::ScriptFault;
+use dnssec_record::{ScriptFault, Std, run_script};
 use std::alloc::{AllocError, Global};
 use std::process::Abort;
 use std::test::Fail;
@@ -8,18 +7,20 @@ use std::test::Fail;
 /// A script, and the number of the first line that hasn't its form.
 type Row<'a> = (&'a [u8], usize);
 
+/// Runs a script: how it ended, and what was written.
+fn follow(alloc: Global, script: &[u8]) -> (Result<(), ScriptFault>, Vec<u8>) {
+    let mut output = Std::new(Vec::new(alloc));
+    let result = run_script(alloc, &mut Std::new(script), &mut output);
+    (result, output.into_inner())
+}
+
 /// Each script is refused by the number of this line, and nothing is written.
-fn assert_malformed(rt: &impl Abort, alloc: Global, scripts: &[Row]) -> Result<(), Fail> {
+fn assert_malformed(rt: &impl Abort, alloc: Global, scripts: &[Row]) {
     for (script, number) in scripts {
-        let answer = follow(rt, alloc, script, WHOLE)?;
-        assert_eq!(rt;
-            answer.result,
-            Err(ScriptFault::Malformed(*number)),
-            "{script:?}"
-        );
-        assert!(rt; answer.output.taken().is_empty(), "written for {script:?}");
+        let (result, written) = follow(alloc, script);
+        let is_so = result == Err(ScriptFault::Malformed(*number)) && written.is_empty();
+        assert!(rt; is_so, "{script:?}");
     }
-    Ok(())
 }
 
 /// The first line is the word `zone`, one space, and a name.
@@ -45,7 +46,8 @@ fn zone_lines(rt: HostRuntime) -> Result<(), Fail> {
         (b"delete K1\n", 1),
         (b"delete K1\nzone a\n", 1),
     ];
-    assert_malformed(&rt, rt.alloc(), &scripts)
+    assert_malformed(&rt, rt.alloc(), &scripts);
+    Ok(())
 }
 
 /// A beginning of a script that is a zone line alone is a script where its name stands.
@@ -59,10 +61,9 @@ fn beginnings_of_zone_lines(rt: HostRuntime) -> Result<(), Fail> {
         for end in 0..=script.len() {
             let front = script.get(..end).ok_or("no beginning")?;
             if scripts.contains(&end) {
-                let answer = follow(&rt, rt.alloc(), front, WHOLE)?;
-                assert_written(&rt, &answer, "ds=- dnskey=- signers=- zone=-\nchain safe\n");
+                assert_eq!(rt; follow(rt.alloc(), front).0, Ok(()));
             } else {
-                assert_malformed(&rt, rt.alloc(), &[(front, 1)])?;
+                assert_malformed(&rt, rt.alloc(), &[(front, 1)]);
             }
         }
     }
@@ -83,7 +84,8 @@ fn lines_are_counted(rt: HostRuntime) -> Result<(), Fail> {
         (b"zone a\ndelete K1\ndelete K2\ndelete\nfoo\n\n", 4),
         (b"zone a\nfoo\nzone a..b\n", 2),
     ];
-    assert_malformed(&rt, rt.alloc(), &scripts)
+    assert_malformed(&rt, rt.alloc(), &scripts);
+    Ok(())
 }
 
 /// Fields stand behind a word that there is, each after one space, and are as many as it takes.
@@ -119,7 +121,8 @@ fn words_and_spaces(rt: HostRuntime) -> Result<(), Fail> {
         (b"zone a\nabort ksk-roll 5\n", 2),
         (b"zone a\naborted ksk-roll\n", 2),
     ];
-    assert_malformed(&rt, rt.alloc(), &scripts)
+    assert_malformed(&rt, rt.alloc(), &scripts);
+    Ok(())
 }
 
 /// Numbers out of range, of more than 20 digits, or with other bytes than digits.
@@ -145,7 +148,8 @@ fn numbers(rt: HostRuntime) -> Result<(), Fail> {
         (b"zone a\nwait1 ksk-roll \n", 2),
         (b"zone a\nset-visible K1 -\n", 2),
     ];
-    assert_malformed(&rt, rt.alloc(), &scripts)
+    assert_malformed(&rt, rt.alloc(), &scripts);
+    Ok(())
 }
 
 /// Algorithms by another word than their six names, and a name where there is none.
@@ -167,7 +171,8 @@ fn algorithms(rt: HostRuntime) -> Result<(), Fail> {
         (b"zone a\nadd-public K 16 ED448 0 yes\n", 2),
         (b"zone a\nreport1 ksk-roll ED448 0\n", 2),
     ];
-    assert_malformed(&rt, rt.alloc(), &scripts)
+    assert_malformed(&rt, rt.alloc(), &scripts);
+    Ok(())
 }
 
 /// References, lists of them, flags and rolls of another form.
@@ -197,15 +202,8 @@ fn references_flags_and_rolls(rt: HostRuntime) -> Result<(), Fail> {
         (b"zone a\nabort nope\n", 2),
         (b"zone a\nwait1 - 0\n", 2),
     ];
-    assert_malformed(&rt, rt.alloc(), &scripts)
-}
-
-/// What a fault prints, asked for once more where memory was refused.
-fn printed(alloc: Global, fault: &ScriptFault) -> Result<String, AllocError> {
-    match fault.to_string(alloc) {
-        Ok(text) => Ok(text),
-        Err(AllocError) => fault.to_string(alloc),
-    }
+    assert_malformed(&rt, rt.alloc(), &scripts);
+    Ok(())
 }
 
 #[test]
@@ -217,7 +215,7 @@ fn faults_have_texts_and_statuses(rt: HostRuntime) -> Result<(), Fail> {
         (ScriptFault::OutOfMemory, "out of memory", 3),
     ];
     for (fault, text, status) in &faults {
-        assert_eq!(rt; printed(rt.alloc(), fault)?.as_str(), *text);
+        assert_eq!(rt; fault.to_string(rt.alloc())?.as_str(), *text);
         assert_eq!(rt; fault.status(), *status, "of {text}");
     }
     Ok(())

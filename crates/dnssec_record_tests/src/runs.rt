@@ -1,58 +1,13 @@
 //! Runs of calls, and what they record.
-use dnssec_base::{Name, SecurityAlgorithm};
-use dnssec_keyset::{Action, Available, Error, RollType, UnixTime};
-use dnssec_record::{Call, Entry, Mark, PublishedKey, Reply, Run, run};
-use std::alloc::{AllocError, Global};
+use dnssec_base::Name;
+use dnssec_keyset::{Action, Error, RollType, UnixTime};
+use dnssec_record::{Entry, Mark, PublishedKey, Reply, Run, record_script, run};
 use std::process::Abort;
 use std::test::Fail;
 use std::time::Duration;
 
 fn at(seconds: u64) -> UnixTime {
     UnixTime::from(Duration::from_secs(seconds))
-}
-
-fn ksk(alloc: Global, reference: &str, key_tag: u16) -> Result<Call<'static>, AllocError> {
-    Ok(Call::AddKeyKsk {
-        pubref: String::from_str(alloc, reference)?,
-        privref: None,
-        algorithm: SecurityAlgorithm::from_int(13),
-        key_tag,
-        creation_ts: at(0),
-        available: Available::Available,
-    })
-}
-
-fn zsk(alloc: Global, reference: &str, key_tag: u16) -> Result<Call<'static>, AllocError> {
-    Ok(Call::AddKeyZsk {
-        pubref: String::from_str(alloc, reference)?,
-        privref: None,
-        algorithm: SecurityAlgorithm::from_int(13),
-        key_tag,
-        creation_ts: at(0),
-        available: Available::Available,
-    })
-}
-
-fn public(alloc: Global, reference: &str, key_tag: u16) -> Result<Call<'static>, AllocError> {
-    Ok(Call::AddPublicKey {
-        pubref: String::from_str(alloc, reference)?,
-        algorithm: SecurityAlgorithm::from_int(13),
-        key_tag,
-        creation_ts: at(0),
-        available: true,
-    })
-}
-
-/// Runs calls for `example.com`, where no call is refused for lack of memory.
-fn try_run(alloc: Global, calls: Result<Vec<Call<'_>>, AllocError>) -> Option<Run> {
-    let octets = b"\x07example\x03com\x00".to_vec(alloc).ok()?;
-    let name = Name::from_octets(octets).ok()?;
-    let run = run(alloc, name, calls.ok()?).ok()?;
-    let refused = Reply::Refused(Error::OutOfMemory);
-    if run.entries.iter().any(|entry| entry.reply == refused) {
-        return None;
-    }
-    Some(run)
 }
 
 /// The references of published keys, and the positions at which they were added.
@@ -115,43 +70,18 @@ fn assert_entries(rt: &impl Abort, run: &Run, rows: &[Row]) {
 
 const NOTHING: [Keys; 4] = [&[], &[], &[], &[]];
 
-/// The calls that bring in the first keys, with an early wait.
-fn first_keys(alloc: Global) -> Result<Vec<Call<'static>>, AllocError> {
-    let rolltype = RollType::AlgorithmRoll;
-    let mut calls = Vec::new(alloc);
-    calls.push(ksk(alloc, "K1", 1)?)?;
-    calls.push(zsk(alloc, "Z1", 2)?)?;
-    calls.push(Call::StartRoll {
-        rolltype,
-        old: &[],
-        new: &["K1", "Z1"],
-        now: at(0),
-    })?;
-    calls.push(Call::Propagation1Complete {
-        rolltype,
-        ttl: 60,
-        now: at(10),
-    })?;
-    calls.push(Call::CacheExpired1 {
-        rolltype,
-        now: at(69),
-    })?;
-    calls.push(Call::CacheExpired1 {
-        rolltype,
-        now: at(70),
-    })?;
-    calls.push(Call::Propagation2Complete {
-        rolltype,
-        ttl: 30,
-        now: at(80),
-    })?;
-    calls.push(Call::CacheExpired2 {
-        rolltype,
-        now: at(110),
-    })?;
-    calls.push(Call::RollDone { rolltype })?;
-    Ok(calls)
-}
+/// The first keys come in, with an early wait.
+const FIRST_KEYS: &str = "zone example.com
+add-ksk K1 - 13 1 0 yes
+add-zsk Z1 - 13 2 0 yes
+start algorithm-roll - K1,Z1 0
+report1 algorithm-roll 60 10
+wait1 algorithm-roll 69
+wait1 algorithm-roll 70
+report2 algorithm-roll 30 80
+wait2 algorithm-roll 110
+done algorithm-roll
+";
 
 /// What these calls do.
 fn first_rows() -> [Row; 9] {
@@ -221,47 +151,28 @@ fn first_rows() -> [Row; 9] {
 /// has no mark, but has its moment.
 #[test]
 fn rolls_are_recorded(rt: HostRuntime) -> Result<(), Fail> {
-    let alloc = rt.alloc();
-    let run = match try_run(alloc, first_keys(alloc)) {
-        Some(run) => run,
-        None => try_run(alloc, first_keys(alloc)).ok_or("no request was refused")?,
-    };
+    let run = record_script(rt.alloc(), FIRST_KEYS.as_bytes()).map_err(|_| "no run")?;
     assert_entries(&rt, &run, &first_rows());
     let keyset = &run.keyset;
-    assert_eq!(rt;
-        keyset.name().as_slice(),
-        b"\x07example\x03com\x00".as_slice()
-    );
-    assert_eq!(rt; keyset.keys().len(), 2);
-    assert!(rt; keyset.keys().contains_key("K1") && keyset.keys().contains_key("Z1"));
+    let name = b"\x07example\x03com\x00";
+    assert_eq!(rt; keyset.name().as_slice(), name.as_slice());
+    let keys = keyset.keys();
+    assert!(rt; keys.len() == 2 && keys.contains_key("K1") && keys.contains_key("Z1"));
     Ok(())
 }
 
 /// The first keys come in, and their roll is ended early; then once more, for nothing.
-fn ended_early(alloc: Global) -> Result<Vec<Call<'static>>, AllocError> {
-    let rolltype = RollType::AlgorithmRoll;
-    let mut calls = Vec::new(alloc);
-    calls.push(ksk(alloc, "K1", 1)?)?;
-    calls.push(zsk(alloc, "Z1", 2)?)?;
-    calls.push(Call::StartRoll {
-        rolltype,
-        old: &[],
-        new: &["K1", "Z1"],
-        now: at(0),
-    })?;
-    calls.push(Call::AbortRoll { rolltype })?;
-    calls.push(Call::AbortRoll { rolltype })?;
-    Ok(calls)
-}
+const ENDED_EARLY: &str = "zone example.com
+add-ksk K1 - 13 1 0 yes
+add-zsk Z1 - 13 2 0 yes
+start algorithm-roll - K1,Z1 0
+abort algorithm-roll
+abort algorithm-roll
+";
 
 /// An early end has neither a mark nor a moment, accepted or refused.
 #[test]
 fn early_ends_are_recorded(rt: HostRuntime) -> Result<(), Fail> {
-    let alloc = rt.alloc();
-    let run = match try_run(alloc, ended_early(alloc)) {
-        Some(run) => run,
-        None => try_run(alloc, ended_early(alloc)).ok_or("no request was refused")?,
-    };
     let [first, second, start, ..] = first_rows();
     let asked = Told::Actions(&[
         Action::UpdateDnskeyRrset,
@@ -277,54 +188,30 @@ fn early_ends_are_recorded(rt: HostRuntime) -> Result<(), Fail> {
         (asked, None, Mark::Other, NOTHING),
         (over, None, Mark::Other, NOTHING),
     ];
+    let run = record_script(rt.alloc(), ENDED_EARLY.as_bytes()).map_err(|_| "no run")?;
     assert_entries(&rt, &run, &rows);
     Ok(())
 }
 
-/// The calls that add a public key, set it, delete it, and add it again.
-fn added_again(alloc: Global) -> Result<Vec<Call<'static>>, AllocError> {
-    let pubref = "I";
-    let now = at(160);
-    let mut calls = Vec::new(alloc);
-    calls.push(public(alloc, "J", 8)?)?;
-    calls.push(public(alloc, pubref, 9)?)?;
-    calls.push(Call::SetPresent {
-        pubref,
-        value: true,
-        now,
-    })?;
-    calls.push(public(alloc, pubref, 10)?)?;
-    calls.push(Call::DeleteKey { pubref })?;
-    calls.push(Call::SetPresent {
-        pubref,
-        value: false,
-        now: at(170),
-    })?;
-    calls.push(Call::SetStale { pubref })?;
-    calls.push(Call::DeleteKey { pubref })?;
-    calls.push(Call::DeleteKey { pubref })?;
-    calls.push(public(alloc, pubref, 9)?)?;
-    calls.push(Call::SetPresent {
-        pubref,
-        value: true,
-        now,
-    })?;
-    calls.push(Call::SetPresent {
-        pubref: "J",
-        value: true,
-        now,
-    })?;
-    Ok(calls)
-}
+/// A public key is added, set, deleted, and added again.
+const ADDED_AGAIN: &str = "zone example.com
+add-public J 13 8 0 yes
+add-public I 13 9 0 yes
+set-present I yes 160
+add-public I 13 10 0 yes
+delete I
+set-present I no 170
+set-stale I
+delete I
+delete I
+add-public I 13 9 0 yes
+set-present I yes 160
+set-present J yes 160
+";
 
 /// A reference that is deleted and added again is another key. A refused add is none.
 #[test]
 fn a_reference_can_be_added_again(rt: HostRuntime) -> Result<(), Fail> {
-    let alloc = rt.alloc();
-    let run = match try_run(alloc, added_again(alloc)) {
-        Some(run) => run,
-        None => try_run(alloc, added_again(alloc)).ok_or("no request was refused")?,
-    };
     let first: [Keys; 4] = [&[], &[("I", 2)], &[], &[]];
     let again: [Keys; 4] = [&[], &[("I", 10)], &[], &[]];
     let both: [Keys; 4] = [&[], &[("I", 10), ("J", 1)], &[], &[]];
@@ -345,43 +232,28 @@ fn a_reference_can_be_added_again(rt: HostRuntime) -> Result<(), Fail> {
         (Told::Done, Some(160), Mark::Other, again),
         (Told::Done, Some(160), Mark::Other, both),
     ];
+    let run = record_script(rt.alloc(), ADDED_AGAIN.as_bytes()).map_err(|_| "no run")?;
     assert_entries(&rt, &run, &rows);
     Ok(())
 }
 
 /// A KSK, each setter on it, and two on a key that isn't there.
-fn setters(alloc: Global) -> Result<Vec<Call<'static>>, AllocError> {
-    let (pubref, value, time) = ("K1", true, at(5));
-    let mut calls = Vec::new(alloc);
-    calls.push(ksk(alloc, pubref, 1)?)?;
-    calls.push(Call::SetDecoupled { pubref, value })?;
-    calls.push(Call::SetSigner { pubref, value })?;
-    calls.push(Call::SetAtParent { pubref, value })?;
-    calls.push(Call::SetPresent {
-        pubref,
-        value,
-        now: at(0),
-    })?;
-    calls.push(Call::SetVisible { pubref, time })?;
-    calls.push(Call::SetDsVisible { pubref, time })?;
-    calls.push(Call::SetRrsigVisible { pubref, time })?;
-    calls.push(Call::SetStale { pubref: "K2" })?;
-    calls.push(Call::SetPresent {
-        pubref: "K2",
-        value,
-        now: at(3),
-    })?;
-    Ok(calls)
-}
+const SETTERS: &str = "zone example.com
+add-ksk K1 - 13 1 0 yes
+set-decoupled K1 yes
+set-signer K1 yes
+set-at-parent K1 yes
+set-present K1 yes 0
+set-visible K1 5
+set-ds-visible K1 5
+set-rrsig-visible K1 5
+set-stale K2
+set-present K2 yes 3
+";
 
 /// Of the setters only that of presence is given a moment as its `now`, refused or not.
 #[test]
 fn setters_are_recorded(rt: HostRuntime) -> Result<(), Fail> {
-    let alloc = rt.alloc();
-    let run = match try_run(alloc, setters(alloc)) {
-        Some(run) => run,
-        None => try_run(alloc, setters(alloc)).ok_or("no request was refused")?,
-    };
     let signer: [Keys; 4] = [&[], &[], &[("K1", 1)], &[]];
     let parent: [Keys; 4] = [&[("K1", 1)], &[], &[("K1", 1)], &[]];
     let present: [Keys; 4] = [&[("K1", 1)], &[("K1", 1)], &[("K1", 1)], &[]];
@@ -398,6 +270,7 @@ fn setters_are_recorded(rt: HostRuntime) -> Result<(), Fail> {
         (gone, None, Mark::Other, present),
         (gone, Some(3), Mark::Other, present),
     ];
+    let run = record_script(rt.alloc(), SETTERS.as_bytes()).map_err(|_| "no run")?;
     assert_entries(&rt, &run, &rows);
     Ok(())
 }
@@ -406,11 +279,8 @@ fn setters_are_recorded(rt: HostRuntime) -> Result<(), Fail> {
 #[test]
 fn no_calls_leave_a_new_set(rt: HostRuntime) -> Result<(), Fail> {
     let alloc = rt.alloc();
-    let run = match try_run(alloc, Ok(Vec::new(alloc))) {
-        Some(run) => run,
-        None => try_run(alloc, Ok(Vec::new(alloc))).ok_or("no request was refused")?,
-    };
-    assert!(rt; run.entries.is_empty());
-    assert!(rt; run.keyset.keys().is_empty());
+    let name = Name::from_octets(vec![in alloc; 0]?).map_err(|_| "no name")?;
+    let run = run(alloc, name, Vec::new(alloc)).map_err(|_| "no run")?;
+    assert!(rt; run.entries.is_empty() && run.keyset.keys().is_empty());
     Ok(())
 }

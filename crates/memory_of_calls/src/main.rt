@@ -8,13 +8,14 @@
 
 mod copies;
 mod names;
+mod requests;
 mod rolls;
 mod verdicts;
 mod wrong;
 
+use crate::requests::make_requests;
 use crate::wrong::Wrong;
 use courses::Memory;
-use requests::make_requests;
 use std::alloc::Global;
 use std::io::Read;
 use std::process::ExitCode;

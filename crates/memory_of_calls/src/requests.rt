@@ -1,15 +1,13 @@
-//! Requests for memory that a program makes before its work.
+//! Requests for memory that the program makes before its work.
 //!
 //! A run in which the request at one fixed place fails lets another request of the work fail for
 //! each number of requests that were made before it. So one build serves for all of them.
-#![tactic(auto)]
-
 use std::alloc::Global;
 use std::io::Read;
 
 /// Why the requests weren't made.
-#[derive(Clone, Copy, Debug, PartialEq)]
-pub enum NotMade {
+#[derive(Clone, Copy)]
+pub(crate) enum NotMade {
     /// The input doesn't begin with three digits.
     NoNumber,
     /// One of these requests failed itself.
@@ -18,7 +16,7 @@ pub enum NotMade {
 
 /// Reads three digits from `input`, and makes so many requests for memory, one after another. What
 /// they give is let go at once.
-pub fn make_requests<R: Read>(alloc: Global, input: &mut R) -> Result<(), NotMade> {
+pub(crate) fn make_requests<R: Read>(alloc: Global, input: &mut R) -> Result<(), NotMade> {
     let number = read_number(input).ok_or(NotMade::NoNumber)?;
     for _ in 0..number {
         if String::from_str(alloc, "a").is_err() {
