@@ -55,30 +55,8 @@ fn faulty() -> [(&'static str, NameError); 22] {
     ]
 }
 
-/// The name of a text, asked for once more where its growth was refused.
-fn name_of(rt: &impl Abort, alloc: Global, text: &str) -> Result<Name<Vec<u8>>, NameError> {
-    let answer = Name::from_str(alloc, text);
-    if !matches!(answer, Err(NameError::OutOfMemory)) {
-        return answer;
-    }
-    let answer = Name::from_str(alloc, text);
-    assert!(rt;
-        !matches!(answer, Err(NameError::OutOfMemory)),
-        "no growth was refused: {text}"
-    );
-    answer
-}
-
-/// What a name prints, asked for once more where memory was refused.
-fn printed(alloc: Global, name: &Name<Vec<u8>>) -> Result<String, AllocError> {
-    match name.to_string(alloc) {
-        Ok(text) => Ok(text),
-        Err(AllocError) => name.to_string(alloc),
-    }
-}
-
 /// Labels of these many letters with dots between them, and then the end.
-fn try_letters(alloc: Global, lengths: &[usize], end: &str) -> Result<String, AllocError> {
+fn letters(alloc: Global, lengths: &[usize], end: &str) -> Result<String, AllocError> {
     let mut text = String::new(alloc);
     for (at, length) in lengths.iter().enumerate() {
         if at > 0 {
@@ -92,29 +70,13 @@ fn try_letters(alloc: Global, lengths: &[usize], end: &str) -> Result<String, Al
     Ok(text)
 }
 
-/// The same, asked for once more where memory was refused.
-fn letters(alloc: Global, lengths: &[usize], end: &str) -> Result<String, AllocError> {
-    match try_letters(alloc, lengths, end) {
-        Ok(text) => Ok(text),
-        Err(AllocError) => try_letters(alloc, lengths, end),
-    }
-}
-
-/// Bytes in a vector, asked for once more where memory was refused.
-fn octets(alloc: Global, bytes: &[u8]) -> Result<Vec<u8>, AllocError> {
-    match Vec::from_slice(alloc, bytes) {
-        Ok(octets) => Ok(octets),
-        Err(AllocError) => Vec::from_slice(alloc, bytes),
-    }
-}
-
 #[test]
 fn reads_and_prints(rt: HostRuntime) -> Result<(), Fail> {
     for (text, wire, print) in spelled() {
-        let name = name_of(&rt, rt.alloc(), text)?;
+        let name = Name::from_str(rt.alloc(), text)?;
         assert_eq!(rt; name.as_slice(), wire, "the bytes of {text}");
         assert_eq!(rt;
-            printed(rt.alloc(), &name)?.as_str(),
+            name.to_string(rt.alloc())?.as_str(),
             print,
             "the text of {text}"
         );
@@ -125,7 +87,7 @@ fn reads_and_prints(rt: HostRuntime) -> Result<(), Fail> {
 #[test]
 fn finds_the_first_fault(rt: HostRuntime) -> Result<(), Fail> {
     for (text, fault) in faulty() {
-        let answer = name_of(&rt, rt.alloc(), text).err();
+        let answer = Name::from_str(rt.alloc(), text).err();
         assert_eq!(rt; answer, Some(fault), "the fault of {text}");
     }
     Ok(())
@@ -142,7 +104,7 @@ fn keeps_the_limits(rt: HostRuntime) -> Result<(), Fail> {
     ];
     for (lengths, end, length) in read {
         let text = letters(rt.alloc(), lengths, end)?;
-        let name = name_of(&rt, rt.alloc(), text.as_str())?;
+        let name = Name::from_str(rt.alloc(), text.as_str())?;
         assert_eq!(rt; name.as_slice().len(), length, "the length of {text}");
     }
     let refused: [(&[usize], &str, NameError); 10] = [
@@ -159,7 +121,7 @@ fn keeps_the_limits(rt: HostRuntime) -> Result<(), Fail> {
     ];
     for (lengths, end, fault) in refused {
         let text = letters(rt.alloc(), lengths, end)?;
-        let answer = name_of(&rt, rt.alloc(), text.as_str()).err();
+        let answer = Name::from_str(rt.alloc(), text.as_str()).err();
         assert_eq!(rt; answer, Some(fault), "the fault of {text}");
     }
     Ok(())
@@ -169,9 +131,9 @@ fn keeps_the_limits(rt: HostRuntime) -> Result<(), Fail> {
 fn reads_each_beginning(rt: &(impl Abort + AllocGlobal), text: &str) -> Result<(), Fail> {
     for end in 0..=text.len() {
         if let Some(front) = text.get(..end) {
-            if let Ok(name) = name_of(rt, rt.alloc(), front) {
-                let print = printed(rt.alloc(), &name)?;
-                let again = name_of(rt, rt.alloc(), print.as_str())?;
+            if let Ok(name) = Name::from_str(rt.alloc(), front) {
+                let print = name.to_string(rt.alloc())?;
+                let again = Name::from_str(rt.alloc(), print.as_str())?;
                 assert_eq!(rt; again.as_slice(), name.as_slice(), "what {front} prints");
             }
         }
@@ -266,7 +228,9 @@ fn names_the_fault_of_each_beginning(rt: HostRuntime) -> Result<(), Fail> {
             "beginnings of {text}"
         );
         for (end, wanted) in letters.chars().enumerate() {
-            let answer = text.get(..end).map(|front| name_of(&rt, rt.alloc(), front));
+            let answer = text
+                .get(..end)
+                .map(|front| Name::from_str(rt.alloc(), front));
             let given = answer.as_ref().map_or('-', letter);
             assert_eq!(rt; given, wanted, "the answer to {end} bytes of {text}");
         }
@@ -289,7 +253,7 @@ fn names_the_fault_of_each_long_beginning(rt: HostRuntime) -> Result<(), Fail> {
         let text = letters(rt.alloc(), lengths, end)?;
         for length in 1..=text.len() {
             let front = text.as_str().get(..length).ok_or("no beginning")?;
-            let answer = name_of(&rt, rt.alloc(), front).err();
+            let answer = Name::from_str(rt.alloc(), front).err();
             let wanted = if length <= name { None } else { Some(fault) };
             assert_eq!(rt; answer, wanted, "the fault of {front}");
         }
@@ -299,7 +263,7 @@ fn names_the_fault_of_each_long_beginning(rt: HostRuntime) -> Result<(), Fail> {
 
 #[test]
 fn takes_wire_names_alone(rt: HostRuntime) -> Result<(), Fail> {
-    let root = Name::from_octets(octets(rt.alloc(), &[0])?)
+    let root = Name::from_octets(Vec::from_slice(rt.alloc(), &[0])?)
         .ok()
         .ok_or("no root")?;
     assert_eq!(rt; root.as_slice(), [0].as_slice());
@@ -312,7 +276,7 @@ fn takes_wire_names_alone(rt: HostRuntime) -> Result<(), Fail> {
         b"\xC0\x0C",
     ];
     for bytes in refused {
-        let back = Name::from_octets(octets(rt.alloc(), bytes)?)
+        let back = Name::from_octets(Vec::from_slice(rt.alloc(), bytes)?)
             .err()
             .ok_or("a name")?;
         assert_eq!(rt; back.as_slice(), bytes);
@@ -322,11 +286,8 @@ fn takes_wire_names_alone(rt: HostRuntime) -> Result<(), Fail> {
 
 #[test]
 fn clones(rt: HostRuntime) -> Result<(), Fail> {
-    let name = name_of(&rt, rt.alloc(), "example.com")?;
-    let clone = match name.try_clone() {
-        Err(NameError::OutOfMemory) => name.try_clone()?,
-        answer => answer?,
-    };
+    let name = Name::from_str(rt.alloc(), "example.com")?;
+    let clone = name.try_clone()?;
     assert_eq!(rt; clone.as_slice(), name.as_slice());
     Ok(())
 }
@@ -342,11 +303,7 @@ fn says_why(rt: HostRuntime) -> Result<(), Fail> {
         (NameError::OutOfMemory, "out of memory"),
     ];
     for (error, text) in texts {
-        let said = match error.to_string(rt.alloc()) {
-            Ok(said) => said,
-            Err(AllocError) => error.to_string(rt.alloc())?,
-        };
-        assert_eq!(rt; said.as_str(), text);
+        assert_eq!(rt; error.to_string(rt.alloc())?.as_str(), text);
     }
     Ok(())
 }

@@ -46,6 +46,10 @@ wait2 ksk-roll 340
 wait2 zsk-roll 345
 ";
 
+/// A call that changes nothing.
+const REFUSED: &str = "done csk-roll
+";
+
 fn broken(at: usize, ds: usize, dnskey: usize, zone: usize) -> Option<Broken> {
     Some(Broken {
         at,
@@ -67,7 +71,7 @@ fn verdict(alloc: Global, entries: &[Entry]) -> Result<Option<Broken>, ScriptFau
     }
 }
 
-/// What a further call publishes otherwise than the last one.
+/// What is published otherwise after a further call.
 #[derive(Clone, Copy)]
 enum Further {
     /// The DS of a stranger.
@@ -76,18 +80,13 @@ enum Further {
     NoDnskey,
 }
 
-/// The verdict on the record of a script in parts, and of one more call, which is refused and at
-/// which this is published.
+/// The verdict on the record of a script in parts, where this is published after its last call.
 fn verdict_on(
     alloc: Global,
     parts: &[&str],
     further: Further,
 ) -> Result<Option<Broken>, ScriptFault> {
-    let mut script = String::new(alloc);
-    for part in parts {
-        script.push_str(part)?;
-    }
-    script.push_str("done csk-roll")?;
+    let script = parts.concat(alloc)?;
     let mut entries = record_script(alloc, script.as_str().as_bytes())?.entries;
     if let Some(entry) = entries.last_mut() {
         match further {
@@ -148,16 +147,15 @@ fn try_rows(alloc: Global, rows: &[Row]) -> Result<Option<Broken>, ScriptFault> 
 #[test]
 fn the_least_unretired_positions_are_told(rt: HostRuntime) -> Result<(), Fail> {
     let rows: [(&[&str], usize, [usize; 3]); 3] = [
-        (&[FIRST, KSK_ROLL], 11, [5, 3, 3]),
-        (&[FIRST, KSK_ROLL, KSK_WAIT], 12, [5, 10, 3]),
-        (&[FIRST, SIDE_BY_SIDE], 21, [15, 12, 17]),
+        (&[FIRST, KSK_ROLL, REFUSED], 12, [5, 3, 3]),
+        (&[FIRST, KSK_ROLL, KSK_WAIT, REFUSED], 13, [5, 10, 3]),
+        (&[FIRST, SIDE_BY_SIDE, REFUSED], 22, [15, 12, 17]),
     ];
-    for (parts, calls, [ds, dnskey, zone]) in rows {
-        let at = calls + 1;
+    for (parts, at, [ds, dnskey, zone]) in rows {
         let answer = verdict_on(rt.alloc(), parts, Further::StrangersDs);
-        assert_eq!(&rt; answer, Ok(broken(at, at, dnskey, zone)), "at {calls}");
+        assert_eq!(&rt; answer, Ok(broken(at, at, dnskey, zone)), "at {at}");
         let answer = verdict_on(rt.alloc(), parts, Further::NoDnskey);
-        assert_eq!(&rt; answer, Ok(broken(at, ds, at, zone)), "at {calls}");
+        assert_eq!(&rt; answer, Ok(broken(at, ds, at, zone)), "at {at}");
     }
     Ok(())
 }
@@ -165,10 +163,8 @@ fn the_least_unretired_positions_are_told(rt: HostRuntime) -> Result<(), Fail> {
 /// Refused calls keep a record safe, as many as there are.
 #[test]
 fn refused_calls_are_judged(rt: HostRuntime) -> Result<(), Fail> {
-    let mut script = String::from_str(rt.alloc(), FIRST)?;
-    for _ in 0..500 {
-        script.push_str("done algorithm-roll\n")?;
-    }
+    let refused = REFUSED.repeat(rt.alloc(), 500)?;
+    let script = [FIRST, refused.as_str()].concat(rt.alloc())?;
     let run = record_script(rt.alloc(), script.as_str().as_bytes()).map_err(|_| "no run")?;
     assert!(rt; audit_window(rt.alloc(), &run.entries) == Ok(None));
     Ok(())

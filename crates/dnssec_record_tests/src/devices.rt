@@ -2,8 +2,7 @@
 ghost use Rattle.std.specs.Prelude.{◌≡◌, IfOk, None};
 
 use dnssec_record::{DeviceFault, ScriptFault, Sink, Source, Std, run_script};
-use std::alloc::{AllocError, Global};
-use std::process::Abort;
+use std::alloc::Global;
 use std::test::Fail;
 
 /// A zone gets its first keys. The operator comes back a second too early, and then in time.
@@ -204,19 +203,11 @@ fn devices_serve_or_fail(rt: HostRuntime) -> Result<(), Fail> {
     Ok(())
 }
 
-/// A zone, and the deletion of a key with a reference of so many bytes.
-fn long_script(alloc: Global, count: usize) -> Result<String, AllocError> {
-    let mut script = String::from_str(alloc, "zone a\ndelete ")?;
-    for _ in 0..count {
-        script.push('K')?;
-    }
-    Ok(script)
-}
-
 /// A script of more bytes than are asked for at once is read to its end.
 #[test]
 fn a_long_script_is_read_whole(rt: HostRuntime) -> Result<(), Fail> {
-    let script = long_script(rt.alloc(), 9000)?;
+    let reference = "K".repeat(rt.alloc(), 9000)?;
+    let script = ["zone a\ndelete ", reference.as_str()].concat(rt.alloc())?;
     let want = b"refused: key not found\nds=- dnskey=- signers=- zone=-\nchain safe\n";
     for most_read in [ANY, 4095] {
         let devices = Devices { most_read, ..WHOLE };
