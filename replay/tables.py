@@ -193,10 +193,11 @@ NOT_SUITED = "no suitable key present after key roll"
 class Key:
     """A key: its kind, its states as sets of flags, and its stamps by name."""
 
-    def __init__(self, kind, algorithm, tag, available):
-        self.kind, self.algorithm, self.tag, self.available = kind, algorithm, tag, available
+    def __init__(self, kind, private, algorithm, tag, creation, available):
+        self.kind, self.private, self.algorithm, self.tag = kind, private, algorithm, tag
+        self.available, self.decoupled = available, False
         self.states = [set(), set()] if kind == "csk" else [set()]
-        self.stamps = {}
+        self.stamps = {"creation": creation}
 
     def role(self, word):
         """The state that the word picks, by its number; None where it picks none."""
@@ -348,9 +349,16 @@ class KeySet:
         """Does what an accepted line does, and gives its answer."""
         word, *fields = line.split(" ")
         if word.startswith("add-"):
-            algorithm, tag, _, available = fields[-4:]
+            name, *private, algorithm, tag, creation, available = fields
             kind = "include" if word == "add-public" else word[4:]
-            self.keys[fields[0]] = Key(kind, number_of(algorithm), int(tag), available == "yes")
+            self.keys[name] = Key(
+                kind,
+                None if private in ([], ["-"]) else private[0],
+                number_of(algorithm),
+                int(tag),
+                int(creation),
+                available == "yes",
+            )
         elif word == "delete":
             del self.keys[fields[0]]
             self.forget(fields[0])
@@ -372,7 +380,9 @@ class KeySet:
             key.states = [{"old"} for _ in key.states]
         elif word in ("set-visible", "set-ds-visible", "set-rrsig-visible"):
             key.stamps[flag] = int(fields[0])
-        elif word != "set-decoupled":
+        elif word == "set-decoupled":
+            key.decoupled = fields[0] == "yes"
+        else:
             for state in key.states[:1] if flag == "at_parent" else key.states:
                 state.add(flag) if fields[0] == "yes" else state.discard(flag)
             if flag == "present" and fields[0] == "yes":

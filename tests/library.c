@@ -3,11 +3,15 @@
        library STORED [STEP]
 
    Each script is answered as stored, in a buffer of each length up to the one needed (every STEP of
-   these, where a checker of memory makes it slow), and side by side in threads. Each request for
-   memory fails in turn. The linker has malloc, realloc and free of the library come here:
+   these, where a checker of memory makes it slow), and side by side in threads. Each beginning of a
+   script, and scripts with damaged bytes, are called malformed just where a second reader says so.
+   Each request for memory fails in turn, and behind a call that got none the rest is answered as if
+   it had not been made. The linker has malloc, realloc and free of the library come here:
    -Wl,--wrap=malloc,--wrap=realloc,--wrap=free */
 
 #define _GNU_SOURCE
+#include "reader.h"
+
 #include <keyset.h>
 
 #include <pthread.h>
@@ -19,6 +23,13 @@
 #define THREADS 4
 #define REFUSED "refused: out of memory\n"
 #define FILLER 0xA5
+/* How often each script is damaged, and what is put in. */
+#define DAMAGES 200
+static const char *const PIECES[] = {
+    "\n", " ", ",", "-", "\\", ".", "0", "9", "\r", "\t", "\x7F", "\x80", "\xFE", "\n\n", "  ", ",,",
+    "-,", "000", "256", "65536", "4294967296", "18446744073709551616", "000000000000000000001",
+    "yes", "ED448", "abort ", "zone ", "CSK-roll",
+};
 
 void *__real_malloc(size_t size);
 void *__real_realloc(void *block, size_t size);
@@ -128,14 +139,102 @@ static void expect_malformed(const char *script, size_t length, size_t line)
     expect(is_filled(out, sizeof out), "nothing is written where it is malformed", script);
 }
 
+/* A room that no answer to a script of this length is too long for. */
+static size_t ample(size_t length)
+{
+    return 8 * length + 4096;
+}
+
+/* The text is answered just where the second reader takes it for a script, and else called malformed
+   at the same line. */
+static void expect_as_read(const char *text, size_t length, const char *name)
+{
+    static uint8_t out[1 << 20];
+    size_t room = ample(length) < sizeof out ? ample(length) : sizeof out;
+    struct keyset_answered told = ask(text, length, out, room, 0);
+    size_t line = first_malformed_line(text, length);
+    expect(told.line == line, "the malformed line", name);
+    expect(told.status == (line > 0 ? KEYSET_MALFORMED : KEYSET_ANSWERED), "malformed", name);
+}
+
+static size_t expect_beginnings(const struct stored *it, size_t step)
+{
+    size_t beginnings = 0;
+    for (size_t length = 0; length < it->script_length; length += step, beginnings++)
+        expect_as_read(it->script, length, it->name);
+    return beginnings;
+}
+
+/* The next of numbers that look as if they were drawn at random, the same in each run. */
+static size_t draw(size_t below)
+{
+    static uint64_t state = 1;
+    state = state * 6364136223846793005u + 1442695040888963407u;
+    return (size_t)(state >> 33) % below;
+}
+
+/* Flips a bit, puts a piece in or leaves some bytes out, at one to three places. */
+static void expect_damaged(const struct stored *it)
+{
+    static char text[1 << 16];
+    size_t length = it->script_length;
+    memcpy(text, it->script, length);
+    for (size_t left = 1 + draw(3); left > 0 && length > 0; left--) {
+        size_t at = draw(length), kind = draw(3);
+        if (kind == 0) {
+            text[at] ^= (char)(1 << draw(8));
+            continue;
+        }
+        const char *piece = kind == 1 ? PIECES[draw(sizeof PIECES / sizeof *PIECES)] : "";
+        size_t gone = kind == 1 ? draw(2) : 1 + draw(3), put = strlen(piece);
+        gone = gone < length - at ? gone : length - at;
+        memmove(text + at + put, text + at + gone, length - at - gone);
+        memcpy(text + at, piece, put);
+        length += put - gone;
+    }
+    expect_as_read(text, length, it->name);
+}
+
+static const char *behind_line(const char *text, size_t lines)
+{
+    for (; lines > 0; lines--)
+        text = strchr(text, '\n') + 1;
+    return text;
+}
+
+/* Where the call of this number got no memory, what stands behind its refusal are the answers to the
+   script without it, up to the chain line: that tells of positions, which this call has too. */
+static void expect_rest(const struct stored *it, const char *rest, size_t call)
+{
+    const char *line = behind_line(it->script, call), *next = behind_line(line, 1);
+    size_t before = (size_t)(line - it->script), length = it->script_length - (size_t)(next - line);
+    char *script = malloc(length);
+    expect(script != NULL, "memory for a script", it->name);
+    memcpy(script, it->script, before);
+    memcpy(script + before, next, length - before);
+    char *out = (char *)filled(ample(length));
+    struct keyset_answered told = ask(script, length, (uint8_t *)out, ample(length), 0);
+    expect(told.status == KEYSET_ANSWERED, "answered without a call", it->name);
+    out[told.length] = '\0';
+    const char *wanted = behind_line(out, call - 1), *chain = strstr(wanted, "\nchain ");
+    expect(chain != NULL && strncmp(rest, wanted, (size_t)(chain - wanted)) == 0, "the rest", it->name);
+    free(script);
+    free(out);
+}
+
 /* What stands before the first call that was refused for lack of memory is a beginning of the
    answer; if there is none, it is the answer. */
-static bool is_answer_until_refused(const struct stored *it, const uint8_t *out, size_t length)
+static void expect_until_refused(const struct stored *it, const char *out, size_t length)
 {
     const char *refused = memmem(out, length, REFUSED, strlen(REFUSED));
-    size_t before = refused == NULL ? length : (size_t)(refused - (const char *)out);
-    return before <= it->answer_length && memcmp(out, it->answer, before) == 0
-           && (refused != NULL || length == it->answer_length);
+    size_t before = refused == NULL ? length : (size_t)(refused - out), call = 1;
+    expect(before <= it->answer_length && memcmp(out, it->answer, before) == 0, "its calls", it->name);
+    expect(refused != NULL || length == it->answer_length, "all of its calls", it->name);
+    if (refused == NULL)
+        return;
+    for (const char *at = out; at < refused; at++)
+        call += *at == '\n';
+    expect_rest(it, refused + strlen(REFUSED), call);
 }
 
 /* Lets each request of a call fail. Gives how many these are. */
@@ -145,15 +244,17 @@ static size_t fail_in_turn(const struct stored *it)
     for (size_t failing = 1;; failing++) {
         uint8_t *out = filled(room);
         struct keyset_answered told = ask(it->script, it->script_length, out, room, failing);
+        bool has_failed = requests.made >= failing;
         if (told.status == KEYSET_OUT_OF_MEMORY) {
             expect(told.length == 0 && told.line == 0, "no length and no line", it->name);
             expect(is_filled(out, room), "nothing is written without memory", it->name);
         } else {
             expect(told.status == KEYSET_ANSWERED, "answered, or out of memory", it->name);
-            expect(is_answer_until_refused(it, out, told.length), "its calls", it->name);
+            out[told.length] = '\0';
+            expect_until_refused(it, (const char *)out, told.length);
         }
         free(out);
-        if (requests.made < failing)
+        if (!has_failed)
             return failing - 1;
     }
 }
@@ -193,7 +294,8 @@ static void *answer_all(void *unused)
 
 int main(int argc, char **argv)
 {
-    size_t step = argc > 2 ? strtoul(argv[2], NULL, 10) : 1, lengths = 0, failed = 0;
+    size_t step = argc > 2 ? strtoul(argv[2], NULL, 10) : 1;
+    size_t lengths = 0, failed = 0, beginnings = 0, damaged = 0;
     expect(argc > 1, "library STORED [STEP]", argv[0]);
     expect(keyset_version() == KEYSET_VERSION, "the version", argv[0]);
     read_stored(argv[1]);
@@ -206,6 +308,9 @@ int main(int argc, char **argv)
             expect_answer(&stored[i], room);
         if (i % step == 0)
             failed += fail_in_turn(&stored[i]);
+        beginnings += expect_beginnings(&stored[i], step);
+        for (size_t left = 0; left < DAMAGES; left += step, damaged++)
+            expect_damaged(&stored[i]);
     }
 
     expect_malformed("", 0, 1);
@@ -223,8 +328,8 @@ int main(int argc, char **argv)
         pthread_join(threads[i], NULL);
 
     free(stored);
-    printf("%zu scripts in buffers of %zu lengths, and in %d threads; "
-           "%zu requests for memory failed in turn\n",
-           scripts, lengths, THREADS, failed);
+    printf("%zu scripts in buffers of %zu lengths, and in %d threads; %zu beginnings and %zu damaged "
+           "scripts; %zu requests for memory failed in turn\n",
+           scripts, lengths, THREADS, beginnings, damaged, failed);
     return EXIT_SUCCESS;
 }

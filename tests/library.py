@@ -91,7 +91,8 @@ def c_flags(folder):
 def test_in_c(compiler, folder, room, checker=None):
     program = room / "library"
     flags = [*STRICT, *WRAPPED, *["-g", "-fsanitize=address,undefined"] * (checker == "asan")]
-    run(compiler, *flags, "-o", program, TOP / "tests" / "library.c", *c_flags(folder))
+    sources = [TOP / "tests" / name for name in ("library.c", "reader.c")]
+    run(compiler, *flags, "-o", program, *sources, *c_flags(folder))
     before = ["valgrind", "--error-exitcode=9", "--leak-check=full", "--errors-for-leak-kinds=all"]
     before = before if checker == "valgrind" else []
     step = [STEP] if checker else []

@@ -3,7 +3,7 @@ use crate::wrong::Wrong;
 use courses::Call::{
     Abort, Add, Delete, Finish, Report1, Report2, SetPresent, Start, Wait1, Wait2,
 };
-use courses::Kind::{Ksk, Public, Zsk};
+use courses::Kind::{Csk, Ksk, Public, Zsk};
 use courses::Step::At;
 use courses::Told::{Accepted, Refused, Wait};
 use courses::{Course, Memory, NOTHING, Published, SAME, Step, walk};
@@ -64,7 +64,7 @@ const LATER: &[Step] = &[
     At(150, Add(Public, "I", 9, 8), Accepted, SAME),
     At(150, Add(Public, "A", 10, 8), Accepted, SAME),
     At(150, Add(Public, "B", 11, 8), Accepted, SAME),
-    At(150, Add(Public, "C", 12, 8), Accepted, SAME),
+    At(150, Add(Csk, "C", 12, 8), Accepted, SAME),
     At(150, Add(Public, "F", 13, 8), Accepted, SAME),
     At(150, Add(Public, "K", 14, 8), Accepted, SAME),
     At(150, Add(Public, "K8", 15, 8), Accepted, SAME),

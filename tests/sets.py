@@ -1,0 +1,197 @@
+#!/usr/bin/env python3
+"""Takes each roll through all its phases, and between any two of its calls puts each setter on each
+key, a deletion, a call made again, an early end and a moment that goes back. Each answer, and the
+whole key set behind each call, has to be that of the tables (`replay/tables.py`), which share no
+text with the key set. So do the stored scripts.
+
+    tests/sets.py       asks the program `whole_sets`, which `rt ci` or `rt run` has made
+"""
+
+import subprocess
+import sys
+import time
+from pathlib import Path
+
+TOP = Path(__file__).resolve().parent.parent
+sys.path.insert(0, str(TOP / "replay"))
+
+from make_scripts import read_scripts  # noqa: E402
+from tables import KeySet  # noqa: E402
+
+PROGRAM = TOP / "crates" / "whole_sets" / "out" / "whole_sets"
+STORED = TOP / "crates" / "replay" / "data" / "scripts.txt"
+
+FIRST_KEYS = """\
+zone example.com
+add-ksk K1 - 13 1 0 yes
+add-zsk Z1 - 13 2 0 yes
+add-public I 13 9 0 yes
+set-present I yes 0
+start algorithm-roll - K1,Z1 10
+report1 algorithm-roll 60 20
+wait1 algorithm-roll 80
+report2 algorithm-roll 60 90
+wait2 algorithm-roll 150
+done algorithm-roll"""
+
+# The keys that come in, and the lists of the roll to them: from the first keys, or from the CSK of
+# the course that brings one in.
+COURSES = {
+    "ksk-roll": (["add-ksk K2 - 13 3 160 yes"], "K1 K2"),
+    "ksk-double-ds-roll": (["add-ksk K2 - 13 3 160 yes"], "K1 K2"),
+    "zsk-roll": (["add-zsk Z2 - 13 3 160 yes"], "Z1 Z2"),
+    "zsk-double-signature-roll": (["add-zsk Z2 - 13 3 160 yes"], "Z1 Z2"),
+    "csk-roll": (["add-csk C - 13 3 160 yes"], "K1,Z1 C"),
+    "algorithm-roll": (
+        ["add-ksk K2 key 15 3 160 yes", "add-zsk Z2 - 15 4 160 yes"],
+        "K1,Z1 K2,Z2",
+    ),
+}
+FROM_A_CSK = {
+    "csk-roll": (["add-ksk K2 - 13 4 250 yes", "add-zsk Z2 - 13 5 250 yes"], "C K2,Z2"),
+    "algorithm-roll": (["add-csk C2 - 15 4 250 yes"], "C C2"),
+}
+
+FLAGS = ["set-signer", "set-at-parent", "set-decoupled"]
+STAMPS = ["set-visible", "set-ds-visible", "set-rrsig-visible"]
+
+# What the getters call a phase, of which the tables name the call that it waits for.
+PHASES = {
+    "report1": "Propagation1",
+    "wait1": "CacheExpire1({})",
+    "report2": "Propagation2",
+    "wait2": "CacheExpire2({})",
+    "done": "Done",
+}
+FLAG_NAMES = ["old", "signer", "present", "at_parent"]
+STAMP_NAMES = ["creation", "published", "visible", "ds_visible", "rrsig_visible", "withdrawn"]
+
+
+class Wrong(Exception):
+    pass
+
+
+def roll_lines(roll, lists, start):
+    """The calls of a roll that begins at this moment, to its end and past it."""
+    return [
+        f"start {roll} {lists.split()[0]} {lists.split()[1]} {start}",
+        f"report1 {roll} 60 {start + 10}",
+        f"wait1 {roll} {start + 70}",
+        f"report2 {roll} 60 {start + 80}",
+        f"wait2 {roll} {start + 140}",
+        f"done {roll}",
+    ]
+
+
+def courses():
+    """Of each course its name, its lines before the roll, those of the roll, and the roll."""
+    first = FIRST_KEYS.split("\n")
+    for roll, (adds, lists) in COURSES.items():
+        yield roll, first + adds, roll_lines(roll, lists, 200), roll
+    adds, lists = COURSES["csk-roll"]
+    second = [*first, *adds, *roll_lines("csk-roll", lists, 200)]
+    for roll, (adds, lists) in FROM_A_CSK.items():
+        yield f"{roll} from a CSK", second + adds, roll_lines(roll, lists, 400), roll
+
+
+def moment_of(lines):
+    """The last moment that the lines use."""
+    return max(int(words[-1]) for words in map(str.split, lines) if words[-1].isdigit())
+
+
+def interludes(before, roll, call, following):
+    """The lines that may stand between two calls of a roll."""
+    now = moment_of(before)
+    names = [line.split()[1] for line in before if line.startswith("add-")]
+    for name in names:
+        yield from ([f"{word} {name} {value}"] for word in FLAGS for value in ("yes", "no"))
+        yield from ([f"set-present {name} {value} {now}"] for value in ("yes", "no"))
+        yield from ([f"{word} {name} {now}"] for word in STAMPS)
+        yield from [[f"set-stale {name}"], [f"delete {name}"], [f"set-stale {name}", f"delete {name}"]]
+    yield [f"abort {roll}"]
+    yield [call]
+    word, *fields = following.split()
+    if fields[-1].isdigit():
+        yield [" ".join([word, *fields[:-1], "0"])]
+
+
+def scripts_of(name, before, calls, roll):
+    """The scripts of a course, one with each interlude at each place."""
+    for i in range(len(calls) + 1):
+        there = before + calls[:i]
+        last = calls[i - 1] if i else before[-1]
+        following = calls[i] if i < len(calls) else calls[0]
+        for interlude in interludes(there, roll, last, following):
+            yield [*there, *interlude, *calls[i:]]
+
+
+def some(value):
+    """A value that may be absent, as the program prints it."""
+    return "None" if value is None else f"Some({value})"
+
+
+def listed(values):
+    return f"[{', '.join(values)}]"
+
+
+def flags(state):
+    return listed("true" if flag in state else "false" for flag in FLAG_NAMES)
+
+
+def told(keyset):
+    """The whole key set, line by line, as the program tells it, in the order of the alphabet."""
+    lines = [f"{len(keyset.keys)} keys, {len(keyset.phases)} rolls"]
+    for name, key in keyset.keys.items():
+        private = None if key.private is None else f'"{key.private}"'
+        first, *second = map(flags, key.states)
+        decoupled = "true" if key.decoupled else "false"
+        stamps = listed(some(key.stamps.get(stamp)) for stamp in STAMP_NAMES)
+        lines.append(
+            f"{name} {some(private)} {key.kind} {first} {some(*second or [None])}"
+            f" {key.algorithm} {key.tag} {decoupled} {stamps}"
+        )
+    for roll, (phase, ttl) in keyset.phases.items():
+        lines.append("".join(map(str.capitalize, roll.split("-"))) + " " + PHASES[phase].format(ttl))
+    return sorted(lines)
+
+
+def check(name, script, parts):
+    """Compares what the program tells of a script, part by part, with the tables; but for the chain
+    line, which `replay` compares."""
+    *answers, _ = next(parts).split("\n")
+    keyset, wanted = KeySet(), []
+    for i, line in enumerate(script):
+        if i > 0:
+            wanted.append(keyset.call(line))
+        if sorted(next(parts).split("\n")) != told(keyset):
+            raise Wrong(f"{name}: another key set than that of the tables behind: {script[: i + 1]}")
+    if answers != [*wanted, keyset.published()]:
+        raise Wrong(f"{name}: other answers than those of the tables: {script}")
+
+
+def main():
+    began = time.monotonic()
+    scripts = [(course[0], script) for course in courses() for script in scripts_of(*course)]
+    made = len(scripts)
+    scripts += list(read_scripts(STORED.read_text()).items())
+    given = "\n\n".join("\n".join(script) for _, script in scripts)
+    ran = subprocess.run([PROGRAM], input=given, capture_output=True, text=True, check=True)
+    parts = iter(ran.stdout.split("\n\n"))
+    calls = 0
+    try:
+        for name, script in scripts:
+            check(name, script, parts)
+            calls += len(script) - 1
+    except Wrong as wrong:
+        print(f"sets: {wrong}")
+        return 1
+    print(
+        f"sets: {made} scripts of {len(list(courses()))} courses and {len(scripts) - made} stored ones,"
+        f" {calls} calls: answers and whole key sets are those of the tables,"
+        f" {time.monotonic() - began:.0f} s"
+    )
+    return 0
+
+
+if __name__ == "__main__":
+    sys.exit(main())
