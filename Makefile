@@ -6,7 +6,9 @@ PROGRAM = crates/keyset/out/keyset
 PARTS = dnssec_base dnssec_key dnssec_keyset dnssec_run dnssec_judge dnssec_record keyset
 SOURCES = crates.txt $(wildcard $(foreach part,$(PARTS),$(addprefix crates/$(part)/,src specs proofs)))
 
-.PHONY: run build lib test docs memory test-lib valgrind asan
+RUNS ?= 1000000
+
+.PHONY: run build lib test docs memory test-lib valgrind asan fuzz
 
 # Answers SCRIPT. The proved program does it where `make build` has made it from these sources;
 # else one that is built at once, without a proof.
@@ -35,6 +37,11 @@ test-lib: build lib
 	@tests/library.py library/out
 valgrind asan: lib
 	@tests/library.py library/out $@
+
+# Lets libFuzzer make RUNS texts, on which the library and a second reader have to agree; it wants
+# clang with its runtime libraries.
+fuzz: lib
+	@tests/library.py library/out fuzz $(RUNS)
 
 # What the documents print is compared with the examples; then every proof, edit, test and program,
 # and beside them each request for memory fails in turn. It tells when each step was done.

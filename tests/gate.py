@@ -1,6 +1,6 @@
 #!/usr/bin/env python3
 """The gate: `tests/docs.py`, then `rt ci`, beside its first proofs `tests/memory.py`, and beside its
-edits `tests/library.py`. Before the last line of `rt ci` it tells when, in minutes and seconds since
+edits `tests/sets.py` and `tests/library.py`. Before the last line of `rt ci` it tells when, in minutes and seconds since
 the start, each step was done, so that a rise is seen."""
 
 import os
@@ -70,18 +70,16 @@ class Beside(threading.Thread):
         return self.test.returncode != 0
 
 
-class Library(Beside):
-    """Tests the library once it and the program are proved, over what `rt ci` has then built."""
+class Behind(Beside):
+    """A script of tests that runs once these crates are proved, over what `rt ci` has then built."""
 
-    WANTED = {"keyset proved", "keyset_c proved"}
-
-    def __init__(self):
-        super().__init__("library")
-        self.proved = set()
+    def __init__(self, name, *crates):
+        super().__init__(name)
+        self.wanted = {f"{crate} proved" for crate in crates}
 
     def note(self, proved):
-        self.proved.add(proved)
-        if self.ident is None and self.WANTED <= self.proved:
+        self.wanted.discard(proved)
+        if self.ident is None and not self.wanted:
             self.start()
 
 
@@ -92,7 +90,7 @@ def copy_of_sources(folder):
     return top
 
 
-def prove(edits, library):
+def prove(edits, behind):
     """Runs `rt ci`, and prints all but its last line. Gives its status and that line."""
     last = ""
     gate = subprocess.Popen(
@@ -104,7 +102,8 @@ def prove(edits, library):
         proved = re.fullmatch(r"rt: (\S+( its tests are)? (proved|NOT PROVED))\n", line)
         if proved:
             note(proved[1])
-            library.note(proved[1])
+            for script in behind:
+                script.note(proved[1])
         begun = re.match(r"rt: (\S+): trying its must-fail edits", line)
         if begun:
             edits.begun.append(begun[1])
@@ -120,11 +119,12 @@ def main():
     with tempfile.TemporaryDirectory() as folder:
         # At low priority: each crate waits for the proofs of those below it.
         memory = Beside("memory", copy_of_sources(folder), under=["nice"])
-        edits, library = Edits(), Library()
+        behind = [Behind("library", "keyset", "keyset_c"), Behind("sets", "whole_sets")]
+        edits = Edits()
         edits.start()
         memory.start()
-        status, last = prove(edits, library)
-        for beside in (memory, library):
+        status, last = prove(edits, behind)
+        for beside in (memory, *behind):
             if beside.has_failed():
                 status, last = 1, f"the test {beside.name} has failed\n"
     print("Done after, in minutes and seconds:", *STEPS, sep="\n")

@@ -4,6 +4,7 @@
     tests/library.py            builds it over the libraries that a running `rt ci` has just proved
     tests/library.py FOLDER     takes the one that `make lib` has left there
     tests/library.py FOLDER valgrind|asan     its tests in C alone, under a checker of memory
+    tests/library.py FOLDER fuzz RUNS         libFuzzer makes so many texts, from the stored scripts
 
 A script and its answers are those that the crate `replay` has stored. The program `keyset` answers
 damaged scripts beside the library.
@@ -11,6 +12,7 @@ damaged scripts beside the library.
 
 import os
 import random
+import re
 import shutil
 import subprocess
 import sys
@@ -99,6 +101,26 @@ def test_in_c(compiler, folder, room, checker=None):
     return run(*before, program, STORED, *step).strip()
 
 
+def fuzz(folder, room, runs):
+    """Lets libFuzzer make texts of the stored scripts and of their words."""
+    corpus, words, program = room / "corpus", room / "words", room / "fuzz"
+    corpus.mkdir()
+    seen = set()
+    for i, part in enumerate(STORED.read_text().split("\n== ")[1:]):
+        script = part.partition("\n")[2].partition("-- answers\n")[0]
+        (corpus / str(i)).write_text(script)
+        seen.update(word for word in script.split() if re.fullmatch("[A-Za-z0-9-]+", word))
+    words.write_text("".join(f'"{word}"\n' for word in sorted(seen)))
+    sources = [TOP / "tests" / name for name in ("fuzz.c", "reader.c")]
+    flags = ["-O2", "-g", "-fsanitize=fuzzer,address,undefined"]
+    run("clang", *flags, "-o", program, *sources, *c_flags(folder))
+    given = [f"-runs={runs}", f"-dict={words}", "-max_len=4096", "-print_final_stats=1"]
+    told = subprocess.run([program, *given, corpus], capture_output=True, text=True, cwd=room)
+    if told.returncode:
+        raise Wrong(told.stderr)
+    return "\n".join(line for line in told.stderr.splitlines() if "DONE" in line or "stat:" in line)
+
+
 def as_program(script):
     """How the program answers: its status, what it writes, and what it tells its user."""
     ran = subprocess.run([PROGRAM], input=script, capture_output=True)
@@ -169,6 +191,27 @@ def test_damaged(keyset):
     return f"{len(scripts)} scripts answered as by the program, {malformed} of them malformed"
 
 
+def test_devices():
+    """A full disk, a pipe that nobody reads, and a folder to read from end the program with status 2
+    and its text."""
+    script = EXAMPLES[0].read_bytes()
+    reading, broken = os.pipe()
+    os.close(reading)
+    folder = os.open(TOP, os.O_RDONLY)
+    ends = {
+        "a full disk": {"input": script, "stdout": open("/dev/full", "wb")},
+        "a broken pipe": {"input": script, "stdout": broken},
+        "a folder": {"stdin": folder, "stdout": subprocess.PIPE},
+    }
+    for name, how in ends.items():
+        ran = subprocess.run([PROGRAM], stderr=subprocess.PIPE, **how)
+        if (ran.returncode, ran.stderr) != (2, b"input or output fault\n") or ran.stdout:
+            raise Wrong(f"{name}: {ran}")
+    os.close(broken)
+    os.close(folder)
+    return f"the program ends with status 2 over {', '.join(ends)}"
+
+
 def expect_rolls(caller, command, **how):
     """A caller that plays an example line by line prints what the program prints of the whole. It
     drops the calls that are refused, so a broken chain may have other positions."""
@@ -212,6 +255,7 @@ def test(folder, room):
     keyset = python_module(folder)
     yield test_resumed(keyset)
     yield test_damaged(keyset)
+    yield test_devices()
 
 
 def main():
@@ -220,6 +264,9 @@ def main():
         room = Path(room)
         folder = Path(*sys.argv[1:2]).resolve() if sys.argv[1:] else room / "out"
         try:
+            if sys.argv[2:3] == ["fuzz"]:
+                print(fuzz(folder, room, sys.argv[3]))
+                return 0
             if sys.argv[2:]:
                 print(test_in_c("cc", folder, room, sys.argv[2]))
                 return 0

@@ -1,10 +1,11 @@
 #!/usr/bin/env python3
 """Takes each roll through all its phases, and between any two of its calls puts each setter on each
-key, a deletion, a call made again, an early end and a moment that goes back. Each answer, and the
-whole key set behind each call, has to be that of the tables (`replay/tables.py`), which share no
-text with the key set. So do the stored scripts.
+key, a deletion, a call made again, an early end and a moment that goes back. It also ends each roll
+early behind each of these, and starts it again. Each answer, the record, and the whole key set behind
+each call have to be those of the tables (`replay/tables.py`), which share no text with the key set.
+So do the stored scripts.
 
-    tests/sets.py       asks the program `whole_sets`, which `rt ci` or `rt run` has made
+It asks the program `whole_sets`, which `rt ci` has made by then.
 """
 
 import subprocess
@@ -64,6 +65,9 @@ PHASES = {
     "done": "Done",
 }
 FLAG_NAMES = ["old", "signer", "present", "at_parent"]
+SET_NAMES = ["ds", "dnskey", "dnskey_signers", "zone_signers"]
+# What a text has before these characters, where it is printed with quotes.
+ESCAPED = str.maketrans({'"': '\\"', "\\": "\\\\"})
 STAMP_NAMES = ["creation", "published", "visible", "ds_visible", "rrsig_visible", "withdrawn"]
 
 
@@ -123,6 +127,8 @@ def scripts_of(name, before, calls, roll):
         following = calls[i] if i < len(calls) else calls[0]
         for interlude in interludes(there, roll, last, following):
             yield [*there, *interlude, *calls[i:]]
+            if i == 1:
+                yield [*there, *interlude, f"abort {roll}", *calls]
 
 
 def some(value):
@@ -134,6 +140,10 @@ def listed(values):
     return f"[{', '.join(values)}]"
 
 
+def roll_name(roll):
+    return "".join(map(str.capitalize, roll.split("-")))
+
+
 def flags(state):
     return listed("true" if flag in state else "false" for flag in FLAG_NAMES)
 
@@ -142,7 +152,7 @@ def told(keyset):
     """The whole key set, line by line, as the program tells it, in the order of the alphabet."""
     lines = [f"{len(keyset.keys)} keys, {len(keyset.phases)} rolls"]
     for name, key in keyset.keys.items():
-        private = None if key.private is None else f'"{key.private}"'
+        private = None if key.private is None else f'"{key.private.translate(ESCAPED)}"'
         first, *second = map(flags, key.states)
         decoupled = "true" if key.decoupled else "false"
         stamps = listed(some(key.stamps.get(stamp)) for stamp in STAMP_NAMES)
@@ -151,14 +161,40 @@ def told(keyset):
             f" {key.algorithm} {key.tag} {decoupled} {stamps}"
         )
     for roll, (phase, ttl) in keyset.phases.items():
-        lines.append("".join(map(str.capitalize, roll.split("-"))) + " " + PHASES[phase].format(ttl))
+        lines.append(f"{roll_name(roll)} {PHASES[phase].format(ttl)}")
     return sorted(lines)
+
+
+def mark_of(position):
+    if position.step:
+        return f"Step({roll_name(position.step)})"
+    if not position.report:
+        return "Other"
+    roll, second, ttl = position.report
+    second = "true" if second else "false"
+    return f"Report {{ roll: {roll_name(roll)}, second: {second}, ttl: {ttl} }}"
+
+
+def keys_of(published):
+    return listed(
+        f'PublishedKey {{ reference: "{name.translate(ESCAPED)}", added: {added} }}'
+        for name, added in sorted(published)
+    )
+
+
+def entry(position):
+    """What a position of a record tells, as the program prints it."""
+    moment = some(position.moment)
+    sets = [position.ds, position.dnskey, position.signers, position.zone]
+    named = ", ".join(f"{name}: {keys_of(keys)}" for name, keys in zip(SET_NAMES, sets))
+    return f"{moment} {mark_of(position)} Published {{ {named} }}"
 
 
 def check(name, script, parts):
     """Compares what the program tells of a script, part by part, with the tables; but for the chain
     line, which `replay` compares."""
     *answers, _ = next(parts).split("\n")
+    entries = next(parts).split("\n")
     keyset, wanted = KeySet(), []
     for i, line in enumerate(script):
         if i > 0:
@@ -167,6 +203,9 @@ def check(name, script, parts):
             raise Wrong(f"{name}: another key set than that of the tables behind: {script[: i + 1]}")
     if answers != [*wanted, keyset.published()]:
         raise Wrong(f"{name}: other answers than those of the tables: {script}")
+    record = keyset.record[1:]
+    if entries != [f"{len(record)} entries", *map(entry, record)]:
+        raise Wrong(f"{name}: another record than that of the tables: {script}")
 
 
 def main():
@@ -187,7 +226,7 @@ def main():
         return 1
     print(
         f"sets: {made} scripts of {len(list(courses()))} courses and {len(scripts) - made} stored ones,"
-        f" {calls} calls: answers and whole key sets are those of the tables,"
+        f" {calls} calls: answers, records and whole key sets are those of the tables,"
         f" {time.monotonic() - began:.0f} s"
     )
     return 0

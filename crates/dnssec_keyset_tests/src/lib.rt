@@ -13,12 +13,6 @@ mod early_ends;
 #[cfg(test)]
 mod early_ends_beside_others;
 #[cfg(test)]
-mod early_ends_of_csks;
-#[cfg(test)]
-mod early_ends_of_ksks;
-#[cfg(test)]
-mod early_ends_of_zsks;
-#[cfg(test)]
 mod keys;
 #[cfg(test)]
 mod ksk_rolls;

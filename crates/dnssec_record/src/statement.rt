@@ -7,6 +7,7 @@ ghost use Rattle.dnssec_key.specs.Key.{is_available};
 ghost use Rattle.dnssec_record.specs.Script.{Reference, Private, References, Flag, Roll, Number};
 ghost use Rattle.dnssec_record.specs.Script.{Moment};
 ghost use Rattle.dnssec_record.specs.Script.{as_reference, as_yes_no, as_roll, as_ttl, as_time};
+ghost use Rattle.dnssec_record.specs.Script.{as_algorithm, as_tag};
 ghost use Rattle.dnssec_record.specs.Script.{said, says, says_behind, values_of, fields_of};
 ghost use Rattle.dnssec_record.specs.Script.{key_forms, key_values, row};
 ghost use Rattle.dnssec_record.specs.NewKey.{key_said};
@@ -156,17 +157,26 @@ fn roll_ttl_and_time<'a>(fields: Fields<'a>) -> Option<(RollType, u32, UnixTime)
     Some((roll, ttl, time))
 }
 
+/// What an add says behind the references of its key.
+fn key_traits(fields: Fields<'_>) -> Option<(SecurityAlgorithm, u16, UnixTime, bool)>
+    ensures { option_map (λ x. Number x.0 ∷ Number x.1 ∷ Moment x.2 ∷ Flag x.3 ∷ []) result
+        ≡ values_of (as_algorithm ∷ as_tag ∷ as_time ∷ as_yes_no ∷ []) fields.entry }
+{
+    let (algorithm, fields) = fields.algorithm()?;
+    let (key_tag, fields) = fields.tag()?;
+    let (creation_ts, fields) = fields.time()?;
+    let (available, fields) = fields.yes_no()?;
+    fields.end()?;
+    Some((algorithm, key_tag, creation_ts, available))
+}
+
 fn key_fields<'a>(fields: Fields<'a>) -> Option<KeyFields<'a>>
     ensures { option_map (λ k. key_values k.pubref.now (option_map now k.privref) k.algorithm
         k.key_tag k.creation_ts k.available) result ≡ values_of key_forms fields.entry }
 {
     let (pubref, fields) = fields.reference()?;
     let (privref, fields) = fields.private()?;
-    let (algorithm, fields) = fields.algorithm()?;
-    let (key_tag, fields) = fields.tag()?;
-    let (creation_ts, fields) = fields.time()?;
-    let (available, fields) = fields.yes_no()?;
-    fields.end()?;
+    let (algorithm, key_tag, creation_ts, available) = key_traits(fields)?;
     Some(KeyFields {
         pubref,
         privref,
@@ -184,11 +194,7 @@ fn public_key_fields<'a>(
         ∷ Flag x.4 ∷ []) result ≡ values_of (row Word.AddPublic).fields fields.entry }
 {
     let (pubref, fields) = fields.reference()?;
-    let (algorithm, fields) = fields.algorithm()?;
-    let (key_tag, fields) = fields.tag()?;
-    let (creation_ts, fields) = fields.time()?;
-    let (available, fields) = fields.yes_no()?;
-    fields.end()?;
+    let (algorithm, key_tag, creation_ts, available) = key_traits(fields)?;
     Some((pubref, algorithm, key_tag, creation_ts, available))
 }
 

@@ -138,7 +138,7 @@ fn follow(alloc: Global, script: &[u8], devices: Devices) -> (Result<(), ScriptF
 #[test]
 fn devices_serve_or_fail(rt: HostRuntime) -> Result<(), Fail> {
     let deleted = b"zone a\ndelete K1\n";
-    let rows: [(&[u8], Devices, Result<(), ScriptFault>, &str); 7] = [
+    let rows: [(&[u8], Devices, Result<(), ScriptFault>, &str); 8] = [
         (
             FIRST_KEYS.as_bytes(),
             Devices {
@@ -189,6 +189,12 @@ fn devices_serve_or_fail(rt: HostRuntime) -> Result<(), Fail> {
             "",
         ),
         (
+            b"zone a\ndone CSK-roll\n",
+            Devices { writes: 0, ..WHOLE },
+            Err(ScriptFault::Malformed(2)),
+            "",
+        ),
+        (
             b"zone a\n",
             Devices { writes: 0, ..WHOLE },
             Err(ScriptFault::Device),
@@ -199,6 +205,36 @@ fn devices_serve_or_fail(rt: HostRuntime) -> Result<(), Fail> {
         let answer = follow(rt.alloc(), script, *devices);
         assert_eq!(rt; answer.0, *result, "in row {index}");
         assert_eq!(rt; answer.1.as_slice(), written.as_bytes(), "in row {index}");
+    }
+    Ok(())
+}
+
+/// With a read that fails nothing is written; with a write that fails, what was written before it
+/// stands. There is a read for each byte and for the end, and a write for each byte.
+#[test]
+fn each_call_of_a_device_fails_in_turn(rt: HostRuntime) -> Result<(), Fail> {
+    let script = FIRST_KEYS.as_bytes();
+    for reads in 0..=script.len() + 1 {
+        let devices = Devices {
+            most_read: 1,
+            reads,
+            ..WHOLE
+        };
+        let (result, written) = follow(rt.alloc(), script, devices);
+        let has_failed = reads <= script.len();
+        assert_eq!(rt; result == Err(ScriptFault::Device), has_failed);
+        assert_eq!(rt; written.is_empty(), has_failed, "with {reads} reads");
+    }
+    let answers = FIRST_ANSWERS.as_bytes();
+    for writes in 0..=answers.len() {
+        let devices = Devices {
+            most_written: 1,
+            writes,
+            ..WHOLE
+        };
+        let (result, written) = follow(rt.alloc(), script, devices);
+        assert_eq!(rt; result.is_ok(), writes == answers.len());
+        assert_eq!(rt; Some(written.as_slice()), answers.get(..writes));
     }
     Ok(())
 }

@@ -1,0 +1,118 @@
+//! Tells of scripts what they are answered, what their records say, and the whole key set behind
+//! each of their calls, by what its getters give. `tests/sets.py` compares it with the tables.
+//!
+//! An empty line stands between two scripts on standard input, and between two parts of what is
+//! written.
+#![tactic(auto)]
+
+use anyhow::Result;
+use dnssec_keyset::{Key, KeySet, KeyState, KeyType, UnixTime};
+use dnssec_record::{Std, record_script, run_script};
+use std::alloc::Global;
+use std::io::Read;
+use std::time::Duration;
+
+/// The flags of a role: old, signer, present, at parent.
+type Flags = [bool; 4];
+
+fn main(rt: HostRuntime) -> Result<()> {
+    let mut text = String::new(rt.alloc());
+    rt.stdin().read_to_string(&mut text)?;
+    for script in text.as_str().split("\n\n") {
+        println!(rt; "{}", answers_to(rt.alloc(), script)?)?;
+        tell_record(&rt, script)?;
+        for (end, byte) in script.bytes().enumerate() {
+            if byte == b'\n' {
+                tell_set_behind(&rt, script.get(..end).unwrap_or_default())?;
+            }
+        }
+        tell_set_behind(&rt, script)?;
+    }
+    Ok(())
+}
+
+fn answers_to(alloc: Global, script: &str) -> Result<String> {
+    let mut input = Std::new(script.as_bytes());
+    let mut output = Std::new(Vec::new(alloc));
+    run_script(alloc, &mut input, &mut output)?;
+    Ok(String::from_utf8(output.into_inner())?)
+}
+
+fn tell_record(rt: &HostRuntime, script: &str) -> Result<()> {
+    let entries = record_script(rt.alloc(), script.as_bytes())?.entries;
+    println!(rt; "{} entries", entries.len())?;
+    for entry in &entries {
+        let moment = seconds(entry.moment);
+        println!(rt; "{moment:?} {:?} {:?}", entry.mark, entry.published)?;
+    }
+    println!(rt)?;
+    Ok(())
+}
+
+fn tell_set_behind(rt: &HostRuntime, script: &str) -> Result<()> {
+    let set = record_script(rt.alloc(), script.as_bytes())?.keyset;
+    println!(rt;
+        "{} keys, {} rolls",
+        set.keys().len(),
+        set.rollstates().len()
+    )?;
+    for (reference, key) in set.keys() {
+        tell_key(rt, reference.as_str(), key)?;
+    }
+    for (roll, phase) in set.rollstates() {
+        println!(rt; "{roll:?} {phase:?}")?;
+    }
+    println!(rt)?;
+    Ok(())
+}
+
+fn tell_key(rt: &HostRuntime, reference: &str, key: &Key) -> Result<()> {
+    let (kind, first, second) = roles(key.keytype());
+    println!(rt;
+        "{reference} {:?} {kind} {first:?} {second:?} {} {} {} {:?}",
+        key.privref(),
+        key.algorithm().to_int(),
+        key.key_tag(),
+        key.decoupled(),
+        stamps(key)
+    )?;
+    Ok(())
+}
+
+/// The kind of a key, and the flags of its roles.
+fn roles(keytype: KeyType) -> (&'static str, Flags, Option<Flags>) {
+    match keytype {
+        KeyType::Ksk(state) => ("ksk", flags(state), None),
+        KeyType::Zsk(state) => ("zsk", flags(state), None),
+        KeyType::Csk(ksk, zsk) => ("csk", flags(ksk), Some(flags(zsk))),
+        KeyType::Include(state) => ("include", flags(state), None),
+    }
+}
+
+fn flags(state: KeyState) -> Flags {
+    [
+        state.old(),
+        state.signer(),
+        state.present(),
+        state.at_parent(),
+    ]
+}
+
+/// The stamps of a key: when it was made, published, visible, visible as DS, by its signatures, and
+/// withdrawn.
+fn stamps(key: &Key) -> [Option<u64>; 6] {
+    let stamps = key.timestamps();
+    [
+        stamps.creation(),
+        stamps.published(),
+        stamps.visible(),
+        stamps.ds_visible(),
+        stamps.rrsig_visible(),
+        stamps.withdrawn(),
+    ]
+    .map(seconds)
+}
+
+fn seconds(moment: Option<UnixTime>) -> Option<u64> {
+    moment.map(|moment| Duration::from(moment).as_secs())
+}
