@@ -18,7 +18,7 @@ What is compared:
 - each answer that a text quotes, as `chain safe`: it has to be an answer of an example, and behind
   a script that is shown without answers one of that script's;
 - each `NAME.answers` with what `replay/tables.py` answers to `NAME.script`, and both with the
-  script of this name that the crate `replay` runs: so `rt ci` compares them with the program;
+  script of this name in `replay/scripts.txt`: so the gate compares them with the program;
 - what `examples/due.py` prints with `examples/due.stdout`;
 - each link with the file and the heading that it leads to.
 """
@@ -35,7 +35,7 @@ sys.path.insert(0, str(TOP / "replay"))
 from make_sample import examples  # noqa: E402
 from tables import answers  # noqa: E402
 
-STORED = TOP / "crates" / "replay" / "data" / "scripts.txt"
+STORED = TOP / "replay" / "scripts.txt"
 FIRST_ROLL = (TOP / "examples" / "ksk-roll.script").read_text().splitlines()[:9]
 
 FENCE = re.compile(r"```(?P<language>\w*) ?(?P<path>\S*)(?P<how>.*)")

@@ -6,7 +6,7 @@
     tests/library.py FOLDER valgrind|asan     its tests in C alone, under a checker of memory
     tests/library.py FOLDER fuzz RUNS         libFuzzer makes so many texts, from the stored scripts
 
-A script and its answers are those that the crate `replay` has stored. The program `keyset` answers
+A script and its answers are those of `replay/scripts.txt`. The program `keyset` answers
 damaged scripts beside the library.
 """
 
@@ -24,7 +24,7 @@ TOP = Path(__file__).resolve().parent.parent
 CRATES = TOP / "crates"
 LIBRARY = TOP / "library"
 PROGRAM = CRATES / "keyset" / "out" / "keyset"
-STORED = CRATES / "replay" / "data" / "scripts.txt"
+STORED = TOP / "replay" / "scripts.txt"
 EXAMPLES = sorted((TOP / "examples").glob("*.script"))
 
 EXPORTS = {"keyset_answer", "keyset_version"}

@@ -2,8 +2,9 @@
 """Takes each roll through all its phases, and between any two of its calls puts each setter on each
 key, a deletion, a call made again, an early end and a moment that goes back. It also ends each roll
 early behind each of these, and starts it again. Each answer, the record, and the whole key set behind
-each call have to be those of the tables (`replay/tables.py`), which share no text with the key set.
-So do the stored scripts.
+each call have to be those of the tables (`replay/tables.py`), which share no text with the key set;
+both audits have one verdict on each record. So it is with the stored scripts, whose answers are stored
+too, with the chain line.
 
 It asks the program `whole_sets`, which `rt ci` has made by then.
 """
@@ -16,11 +17,10 @@ from pathlib import Path
 TOP = Path(__file__).resolve().parent.parent
 sys.path.insert(0, str(TOP / "replay"))
 
-from make_scripts import read_scripts  # noqa: E402
 from tables import KeySet  # noqa: E402
 
 PROGRAM = TOP / "crates" / "whole_sets" / "out" / "whole_sets"
-STORED = TOP / "crates" / "replay" / "data" / "scripts.txt"
+STORED = TOP / "replay" / "scripts.txt"
 
 FIRST_KEYS = """\
 zone example.com
@@ -190,36 +190,43 @@ def entry(position):
     return f"{moment} {mark_of(position)} Published {{ {named} }}"
 
 
-def check(name, script, parts):
-    """Compares what the program tells of a script, part by part, with the tables; but for the chain
-    line, which `replay` compares."""
-    *answers, _ = next(parts).split("\n")
-    entries = next(parts).split("\n")
+def check(name, script, stored, parts):
+    """Compares what the program tells of a script, part by part, with the tables, and its answers
+    with those that are stored."""
+    answers, entries = next(parts), next(parts).split("\n")
     keyset, wanted = KeySet(), []
     for i, line in enumerate(script):
         if i > 0:
             wanted.append(keyset.call(line))
         if sorted(next(parts).split("\n")) != told(keyset):
             raise Wrong(f"{name}: another key set than that of the tables behind: {script[: i + 1]}")
-    if answers != [*wanted, keyset.published()]:
+    if answers.split("\n")[:-1] != [*wanted, keyset.published()] or stored not in (None, answers):
         raise Wrong(f"{name}: other answers than those of the tables: {script}")
     record = keyset.record[1:]
-    if entries != [f"{len(record)} entries", *map(entry, record)]:
+    if entries != [f"{len(record)} entries, one verdict: true", *map(entry, record)]:
         raise Wrong(f"{name}: another record than that of the tables: {script}")
+
+
+def stored_scripts():
+    """The stored scripts with their answers, by their names."""
+    for part in STORED.read_text().split("\n== ")[1:]:
+        name, rest = part.split("\n", 1)
+        script, answers = rest.split("\n-- answers\n")
+        yield name, script.split("\n"), answers.rstrip("\n")
 
 
 def main():
     began = time.monotonic()
-    scripts = [(course[0], script) for course in courses() for script in scripts_of(*course)]
+    scripts = [(course[0], lines, None) for course in courses() for lines in scripts_of(*course)]
     made = len(scripts)
-    scripts += list(read_scripts(STORED.read_text()).items())
-    given = "\n\n".join("\n".join(script) for _, script in scripts)
+    scripts += stored_scripts()
+    given = "\n\n".join("\n".join(script) for _, script, _ in scripts)
     ran = subprocess.run([PROGRAM], input=given, capture_output=True, text=True, check=True)
     parts = iter(ran.stdout.split("\n\n"))
     calls = 0
     try:
-        for name, script in scripts:
-            check(name, script, parts)
+        for name, script, stored in scripts:
+            check(name, script, stored, parts)
             calls += len(script) - 1
     except Wrong as wrong:
         print(f"sets: {wrong}")

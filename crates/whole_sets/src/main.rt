@@ -1,5 +1,6 @@
-//! Tells of scripts what they are answered, what their records say, and the whole key set behind
-//! each of their calls, by what its getters give. `tests/sets.py` compares it with the tables.
+//! Tells of scripts what they are answered, what their records say, whether `audit` and
+//! `audit_window` have one verdict on these, and the whole key set behind each of their calls, by what
+//! its getters give. `tests/sets.py` compares it with the tables and with stored answers.
 //!
 //! An empty line stands between two scripts on standard input, and between two parts of what is
 //! written.
@@ -7,7 +8,7 @@
 
 use anyhow::Result;
 use dnssec_keyset::{Key, KeySet, KeyState, KeyType, UnixTime};
-use dnssec_record::{Std, record_script, run_script};
+use dnssec_record::{Std, audit, audit_window, record_script, run_script};
 use std::alloc::Global;
 use std::io::Read;
 use std::time::Duration;
@@ -40,7 +41,8 @@ fn answers_to(alloc: Global, script: &str) -> Result<String> {
 
 fn tell_record(rt: &HostRuntime, script: &str) -> Result<()> {
     let entries = record_script(rt.alloc(), script.as_bytes())?.entries;
-    println!(rt; "{} entries", entries.len())?;
+    let is_one = audit_window(rt.alloc(), &entries) == Ok(audit(&entries));
+    println!(rt; "{} entries, one verdict: {is_one}", entries.len())?;
     for entry in &entries {
         let moment = seconds(entry.moment);
         println!(rt; "{moment:?} {:?} {:?}", entry.mark, entry.published)?;
