@@ -1,7 +1,7 @@
 #!/usr/bin/env python3
-"""The gate: `tests/docs.py`, then `rt ci`, beside its first proofs `tests/memory.py`, and beside its
-edits `tests/sets.py` and `tests/library.py`. Before the last line of `rt ci` it tells when, in minutes and seconds since
-the start, each step was done, so that a rise is seen."""
+"""The gate: `tests/docs.py`, then `rt ci`, beside its first proofs `tests/memory.py`, and beside
+its edits `tests/sets.py` and `tests/library.py`. Before the last line of `rt ci` it tells when, in
+minutes and seconds since the start, each step was done, so that a rise is seen."""
 
 import os
 import re
@@ -71,7 +71,7 @@ class Beside(threading.Thread):
 
 
 class Behind(Beside):
-    """A script of tests that runs once these crates are proved, over what `rt ci` has then built."""
+    """A script of tests that runs once these crates are proved, over what `rt ci` has built."""
 
     def __init__(self, name, *crates):
         super().__init__(name)

@@ -26,8 +26,8 @@
 /* How often each script is damaged, and what is put in. */
 #define DAMAGES 200
 static const char *const PIECES[] = {
-    "\n", " ", ",", "-", "\\", ".", "0", "9", "\r", "\t", "\x7F", "\x80", "\xFE", "\n\n", "  ", ",,",
-    "-,", "000", "256", "65536", "4294967296", "18446744073709551616", "000000000000000000001",
+    "\n", " ", ",", "-", "\\", ".", "0", "9", "\r", "\t", "\x7F", "\x80", "\xFE", "\n\n", "  ",
+    ",,", "-,", "000", "256", "65536", "4294967296", "18446744073709551616", "000000000000000000001",
     "yes", "ED448", "abort ", "zone ", "CSK-roll",
 };
 
@@ -145,8 +145,8 @@ static size_t ample(size_t length)
     return 8 * length + 4096;
 }
 
-/* The text is answered just where the second reader takes it for a script, and else called malformed
-   at the same line. */
+/* The text is answered just where the second reader takes it for a script, and else called
+   malformed at the same line. */
 static void expect_as_read(const char *text, size_t length, const char *name)
 {
     static uint8_t out[1 << 20];
@@ -202,8 +202,8 @@ static const char *behind_line(const char *text, size_t lines)
     return text;
 }
 
-/* Where the call of this number got no memory, what stands behind its refusal are the answers to the
-   script without it, up to the chain line: that tells of positions, which this call has too. */
+/* Where the call of this number got no memory, what stands behind its refusal are the answers to
+   the script without it, up to the chain line: that tells of positions, which this call has too. */
 static void expect_rest(const struct stored *it, const char *rest, size_t call)
 {
     const char *line = behind_line(it->script, call), *next = behind_line(line, 1);
@@ -217,7 +217,8 @@ static void expect_rest(const struct stored *it, const char *rest, size_t call)
     expect(told.status == KEYSET_ANSWERED, "answered without a call", it->name);
     out[told.length] = '\0';
     const char *wanted = behind_line(out, call - 1), *chain = strstr(wanted, "\nchain ");
-    expect(chain != NULL && strncmp(rest, wanted, (size_t)(chain - wanted)) == 0, "the rest", it->name);
+    bool is_so = chain != NULL && strncmp(rest, wanted, (size_t)(chain - wanted)) == 0;
+    expect(is_so, "the rest", it->name);
     free(script);
     free(out);
 }
@@ -228,7 +229,8 @@ static void expect_until_refused(const struct stored *it, const char *out, size_
 {
     const char *refused = memmem(out, length, REFUSED, strlen(REFUSED));
     size_t before = refused == NULL ? length : (size_t)(refused - out), call = 1;
-    expect(before <= it->answer_length && memcmp(out, it->answer, before) == 0, "its calls", it->name);
+    bool is_so = before <= it->answer_length && memcmp(out, it->answer, before) == 0;
+    expect(is_so, "its calls", it->name);
     expect(refused != NULL || length == it->answer_length, "all of its calls", it->name);
     if (refused == NULL)
         return;
@@ -328,8 +330,8 @@ int main(int argc, char **argv)
         pthread_join(threads[i], NULL);
 
     free(stored);
-    printf("%zu scripts in buffers of %zu lengths, and in %d threads; %zu beginnings and %zu damaged "
-           "scripts; %zu requests for memory failed in turn\n",
+    printf("%zu scripts in buffers of %zu lengths, and in %d threads; %zu beginnings and %zu "
+           "damaged scripts; %zu requests for memory failed in turn\n",
            scripts, lengths, THREADS, beginnings, damaged, failed);
     return EXIT_SUCCESS;
 }

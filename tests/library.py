@@ -192,8 +192,8 @@ def test_damaged(keyset):
 
 
 def test_devices():
-    """A full disk, a pipe that nobody reads, and a folder to read from end the program with status 2
-    and its text."""
+    """A full disk, a pipe that nobody reads, and a folder to read from end the program with
+    status 2 and its text."""
     script = EXAMPLES[0].read_bytes()
     reading, broken = os.pipe()
     os.close(reading)

@@ -1,10 +1,10 @@
 #!/usr/bin/env python3
 """Takes each roll through all its phases, and between any two of its calls puts each setter on each
 key, a deletion, a call made again, an early end and a moment that goes back. It also ends each roll
-early behind each of these, and starts it again. Each answer, the record, and the whole key set behind
-each call have to be those of the tables (`replay/tables.py`), which share no text with the key set;
-both audits have one verdict on each record. So it is with the stored scripts, whose answers are stored
-too, with the chain line.
+early behind each of these, and starts it again. Each answer, the record, and the whole key set
+behind each call have to be those of the tables (`replay/tables.py`), which share no text with the
+key set; both audits have one verdict on each record. So it is with the stored scripts, whose
+answers are stored too, with the chain line.
 
 It asks the program `whole_sets`, which `rt ci` has made by then.
 """
@@ -111,7 +111,8 @@ def interludes(before, roll, call, following):
         yield from ([f"{word} {name} {value}"] for word in FLAGS for value in ("yes", "no"))
         yield from ([f"set-present {name} {value} {now}"] for value in ("yes", "no"))
         yield from ([f"{word} {name} {now}"] for word in STAMPS)
-        yield from [[f"set-stale {name}"], [f"delete {name}"], [f"set-stale {name}", f"delete {name}"]]
+        stale, deleted = f"set-stale {name}", f"delete {name}"
+        yield from [[stale], [deleted], [stale, deleted]]
     yield [f"abort {roll}"]
     yield [call]
     word, *fields = following.split()
@@ -199,7 +200,7 @@ def check(name, script, stored, parts):
         if i > 0:
             wanted.append(keyset.call(line))
         if sorted(next(parts).split("\n")) != told(keyset):
-            raise Wrong(f"{name}: another key set than that of the tables behind: {script[: i + 1]}")
+            raise Wrong(f"{name}: another key set than that of the tables: {script[: i + 1]}")
     if answers.split("\n")[:-1] != [*wanted, keyset.published()] or stored not in (None, answers):
         raise Wrong(f"{name}: other answers than those of the tables: {script}")
     record = keyset.record[1:]
@@ -232,8 +233,8 @@ def main():
         print(f"sets: {wrong}")
         return 1
     print(
-        f"sets: {made} scripts of {len(list(courses()))} courses and {len(scripts) - made} stored ones,"
-        f" {calls} calls: answers, records and whole key sets are those of the tables,"
+        f"sets: {made} scripts of {len(list(courses()))} courses and {len(scripts) - made} stored"
+        f" ones, {calls} calls: answers, records and whole key sets are those of the tables,"
         f" {time.monotonic() - began:.0f} s"
     )
     return 0

@@ -1,10 +1,13 @@
 //! Tells of scripts what they are answered, what their records say, whether `audit` and
-//! `audit_window` have one verdict on these, and the whole key set behind each of their calls, by what
-//! its getters give. `tests/sets.py` compares it with the tables and with stored answers.
+//! `audit_window` have one verdict on these, and the whole key set behind each of their calls, by
+//! what its getters give. `tests/sets.py` compares it with the tables and with stored answers.
 //!
 //! An empty line stands between two scripts on standard input, and between two parts of what is
 //! written.
 #![tactic(auto)]
+
+ghost use Rattle.std.specs.Prelude.{IfOk, string_bytes};
+ghost use Rattle.dnssec_record.specs.Answer.{Answers};
 
 use anyhow::Result;
 use dnssec_keyset::{Key, KeySet, KeyState, KeyType, UnixTime};
@@ -32,7 +35,9 @@ fn main(rt: HostRuntime) -> Result<()> {
     Ok(())
 }
 
-fn answers_to(alloc: Global, script: &str) -> Result<String> {
+fn answers_to(alloc: Global, script: &str) -> Result<String>
+    ensures { IfOk result (λ answers. Answers script.now (string_bytes answers)) }
+{
     let mut input = Std::new(script.as_bytes());
     let mut output = Std::new(Vec::new(alloc));
     run_script(alloc, &mut input, &mut output)?;
