@@ -53,6 +53,9 @@ FROM_A_CSK = {
     "algorithm-roll": (["add-csk C2 - 15 4 250 yes"], "C C2"),
 }
 
+# Enough keys for their map to grow some times.
+MANY = 300
+
 FLAGS = ["set-signer", "set-at-parent", "set-decoupled"]
 STAMPS = ["set-visible", "set-ds-visible", "set-rrsig-visible"]
 
@@ -96,6 +99,17 @@ def courses():
     second = [*first, *adds, *roll_lines("csk-roll", lists, 200)]
     for roll, (adds, lists) in FROM_A_CSK.items():
         yield f"{roll} from a CSK", second + adds, roll_lines(roll, lists, 400), roll
+
+
+def many_keys():
+    """The lines of keys that have a tag each, which is refused to a second key, and given to one
+    when the first is deleted."""
+    last = MANY - 1
+    yield "zone example.com"
+    yield from (f"add-zsk {tag} - 13 {tag} 0 yes" for tag in range(MANY))
+    yield from (f"add-zsk again - 13 {tag} 1 yes" for tag in range(MANY))
+    yield from (f"set-stale {last}", f"delete {last}", f"add-zsk again - 13 {last} 2 yes")
+    yield f"add-zsk {last} - 13 {last} 3 yes"
 
 
 def moment_of(lines):
@@ -219,6 +233,7 @@ def stored_scripts():
 def main():
     began = time.monotonic()
     scripts = [(course[0], lines, None) for course in courses() for lines in scripts_of(*course)]
+    scripts.append(("many keys", [*many_keys()], None))
     made = len(scripts)
     scripts += stored_scripts()
     given = "\n\n".join("\n".join(script) for _, script, _ in scripts)

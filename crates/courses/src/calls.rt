@@ -1,14 +1,15 @@
 //! One call, and what holds of it whatever the course.
 use crate::asked::asked_after;
-use crate::look::{Seen, are_alike, at, look, tags};
+use crate::look::{Seen, at, look};
 use crate::mismatch::Trouble;
 use crate::steps::{Call, Kind, Memory, Names, Told};
 use dnssec_base::SecurityAlgorithm;
 use dnssec_keyset::{Action, Available, Error, KeySet, RollType, UnixTime};
 use std::alloc::{AllocError, Global};
 
-/// Makes one call, and with ample memory beside it the same on a copy of the set: the copy is told
-/// the same, and tells the same then.
+/// Makes one call. Where it is refused nothing may have changed; where it is accepted it asks what
+/// the operator's table says, and `actions` then tells the same. A call that is refused because
+/// memory ran out is made once more.
 pub(crate) fn make(
     alloc: Global,
     set: &mut KeySet,
@@ -16,37 +17,7 @@ pub(crate) fn make(
     now: u64,
     memory: &mut Memory,
 ) -> Result<Told, Trouble> {
-    // A copy would take the request that is to fail.
-    if *memory != Memory::Ample {
-        return make_alone(alloc, set, call, now, memory);
-    }
-    let Ok(mut copy) = set.try_clone() else {
-        return Err(Trouble::NoMemory);
-    };
-    let told = make_alone(alloc, set, call, now, memory)?;
-    let told_beside = make_alone(alloc, &mut copy, call, now, memory)?;
-    if told_beside == told && are_alike(set, &copy) {
-        Ok(told)
-    } else {
-        Err(Trouble::CopyGoesOtherwise)
-    }
-}
-
-/// Makes one call. Where it is refused nothing may have changed; where it is accepted it asks what
-/// the operator's table says, and `actions` then tells the same. A call that is refused because
-/// memory ran out is made once more.
-fn make_alone(
-    alloc: Global,
-    set: &mut KeySet,
-    call: Call,
-    now: u64,
-    memory: &mut Memory,
-) -> Result<Told, Trouble> {
     let before = look(set);
-    let tags_before = tags(set);
-    if !before.is_whole() {
-        return Err(Trouble::Unlisted);
-    }
     let mut answer = attempt(alloc, set, call, &at(now));
     if answer == Err(Error::OutOfMemory) && memory.fails() {
         check_refusal(set, call, &before)?;
@@ -55,7 +26,7 @@ fn make_alone(
     match answer {
         Ok(actions) => {
             check_asked(actions.as_slice(), call)?;
-            check_roll(set, call, &tags_before, memory)?;
+            check_told_again(set, call, memory)?;
             Ok(Told::Accepted)
         }
         Err(error) => {
@@ -90,37 +61,21 @@ fn check_asked(actions: &[Action], call: Call) -> Result<(), Trouble> {
     }
 }
 
-/// An accepted call of a roll writes no key tag, and `actions` tells what it asked.
-fn check_roll(
-    set: &KeySet,
-    call: Call,
-    tags_before: &[Option<u16>; 19],
-    memory: &mut Memory,
-) -> Result<(), Trouble> {
+/// After an accepted call of a roll `actions` tells what it asked.
+fn check_told_again(set: &KeySet, call: Call, memory: &mut Memory) -> Result<(), Trouble> {
     let Some(roll) = roll_of(call) else {
         return Ok(());
     };
-    if tags(set) != *tags_before {
-        return Err(Trouble::TagWritten);
-    }
-    check_told_again(set, roll, due_after(call), memory)
-}
-
-fn check_told_again(
-    set: &KeySet,
-    roll: RollType,
-    want: &[Action],
-    memory: &mut Memory,
-) -> Result<(), Trouble> {
+    let due = due_after(call);
     let mut answer = set.actions(roll);
     if answer == Err(Error::OutOfMemory) && memory.fails() {
-        if want.is_empty() {
+        if due.is_empty() {
             return Err(Trouble::TakesNone);
         }
         answer = set.actions(roll);
     }
     match answer {
-        Ok(actions) if actions.as_slice() == want => Ok(()),
+        Ok(actions) if actions.as_slice() == due => Ok(()),
         _ => Err(Trouble::ToldAgain),
     }
 }
@@ -143,7 +98,7 @@ fn as_told(error: Error) -> Told {
 
 fn takes_memory(call: Call) -> bool {
     match call {
-        Call::Add(..) | Call::AddUnavailable(..) | Call::Start(..) | Call::Abort(_) => true,
+        Call::Add(..) | Call::Start(..) | Call::Abort(_) => true,
         Call::Wait1(_) | Call::Wait2(_) => !asked_after(call).is_empty(),
         _ => false,
     }
@@ -210,17 +165,7 @@ fn attempt_on_key(
 ) -> Result<(), Error> {
     match call {
         Call::Add(kind, reference, tag, algorithm) => {
-            let available = Available::Available;
-            let privref = own_privref(kind, reference);
-            add(
-                alloc, set, kind, reference, privref, tag, algorithm, *now, available,
-            )
-        }
-        Call::AddUnavailable(kind, reference, privref, tag, algorithm) => {
-            let available = Available::NotAvailable;
-            add(
-                alloc, set, kind, reference, privref, tag, algorithm, *now, available,
-            )
+            add(alloc, set, kind, reference, tag, algorithm, *now)
         }
         Call::Delete(reference) => set.delete_key(reference),
         _ => attempt_to_set(set, call, now),
@@ -229,23 +174,12 @@ fn attempt_on_key(
 
 fn attempt_to_set(set: &mut KeySet, call: Call, now: &UnixTime) -> Result<(), Error> {
     match call {
-        Call::SetDecoupled(reference, value) => set.set_decoupled(reference, value),
         Call::SetPresent(reference, value) => set.set_present(reference, value, now),
         Call::SetSigner(reference, value) => set.set_signer(reference, value),
         Call::SetAtParent(reference, value) => set.set_at_parent(reference, value),
         Call::SetStale(reference) => set.set_stale(reference),
         Call::SetVisible(reference) => set.set_visible(reference, *now),
-        Call::SetDsVisible(reference) => set.set_ds_visible(reference, *now),
-        Call::SetRrsigVisible(reference) => set.set_rrsig_visible(reference, *now),
         _ => Ok(()),
-    }
-}
-
-/// The private reference of a key that is added with none of its own.
-pub(crate) fn own_privref(kind: Kind, reference: &'static str) -> Option<&'static str> {
-    match kind {
-        Kind::Public => None,
-        Kind::Ksk | Kind::Zsk | Kind::Csk => Some(reference),
     }
 }
 
@@ -253,25 +187,22 @@ fn add(
     alloc: Global,
     set: &mut KeySet,
     kind: Kind,
-    pubref: &str,
-    privref: Option<&str>,
+    reference: &str,
     tag: u16,
     algorithm: u8,
     now: UnixTime,
-    available: Available,
 ) -> Result<(), Error> {
-    let (Ok(pubref), Ok(privref)) = (text(alloc, pubref), optional_text(alloc, privref)) else {
+    let (Ok(pubref), Ok(privref)) = (text(alloc, reference), text(alloc, reference)) else {
         return Err(Error::OutOfMemory);
     };
+    let privref = Some(privref);
     let algorithm = SecurityAlgorithm::from_int(algorithm);
+    let available = Available::Available;
     match kind {
         Kind::Ksk => set.add_key_ksk(pubref, privref, algorithm, tag, now, available),
         Kind::Zsk => set.add_key_zsk(pubref, privref, algorithm, tag, now, available),
         Kind::Csk => set.add_key_csk(pubref, privref, algorithm, tag, now, available),
-        Kind::Public => {
-            let visible = matches!(available, Available::Available);
-            set.add_public_key(pubref, algorithm, tag, now, visible)
-        }
+        Kind::Public => set.add_public_key(pubref, algorithm, tag, now, true),
     }
 }
 
@@ -280,13 +211,6 @@ fn text(alloc: Global, text: &str) -> Result<String, AllocError> {
     match String::from_str(alloc, text) {
         Ok(copy) => Ok(copy),
         Err(_) => String::from_str(alloc, text),
-    }
-}
-
-fn optional_text(alloc: Global, wanted: Option<&str>) -> Result<Option<String>, AllocError> {
-    match wanted {
-        Some(wanted) => Ok(Some(text(alloc, wanted)?)),
-        None => Ok(None),
     }
 }
 

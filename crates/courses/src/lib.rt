@@ -3,7 +3,7 @@
 //! A [`Course`] tells, step by step, what an operator does with a key set, what it is told, and
 //! what can then be read of the set. [`walk`] makes its calls on a new set, and answers the first
 //! [`Mismatch`]. Whatever a course says, a refused call has to leave the set as it was, an accepted
-//! one has to ask what the operator's table says, and each goes the same on a copy of the set.
+//! one has to ask what the operator's table says.
 #![tactic(auto)]
 
 mod asked;
@@ -17,7 +17,5 @@ mod walking;
 pub use asked::asked_after;
 pub use look::{SeenKey, are_alike, see_key};
 pub use mismatch::{Mismatch, Trouble};
-pub use steps::{
-    Call, Course, Kind, Memory, NEVER, NOTHING, Names, Published, SAME, SIGNED_ZONE, Step, Told,
-};
-pub use walking::{go_on, new_set, walk, walk_all, walk_all_alike};
+pub use steps::{Call, Course, Kind, Memory, NEVER, NOTHING, Names, Published, SAME, Step, Told};
+pub use walking::{go_on, new_set, walk, walk_all};

@@ -1,48 +1,31 @@
 //! What an operator reads of a key set.
 use crate::ends::ends_at;
-use crate::steps::{NEVER, Published, Step};
+use crate::steps::{Published, Step};
 use dnssec_keyset::{Key, KeySet, KeyState, KeyType, RollState, RollType, UnixTime};
 use std::alloc::Global;
 use std::time::Duration;
 
 /// All that is told of a key, but its private reference.
-#[derive(Clone, Copy, Debug, PartialEq)]
+#[derive(Clone, Copy, PartialEq)]
 pub struct SeenKey {
-    pub decoupled: bool,
-    pub keytype: KeyType,
-    pub algorithm: u8,
-    pub key_tag: u16,
-    pub stamps: [Option<UnixTime>; 6],
+    decoupled: bool,
+    keytype: KeyType,
+    algorithm: u8,
+    key_tag: u16,
+    stamps: [Option<UnixTime>; 6],
 }
 
-/// All that is told of a key set with keys of these references.
+/// All that is told of a key set whose keys have these references. Of other keys there is the
+/// number.
 #[derive(Clone, Copy, PartialEq)]
 pub(crate) struct Seen {
     count: usize,
-    keys: [Option<SeenKey>; 19],
+    keys: [Option<SeenKey>; 14],
     rolls: [Option<RollState>; 6],
 }
 
-const REFERENCES: [&str; 19] = [
-    "A",
-    "B",
-    "C",
-    "C1",
-    "C2",
-    "F",
-    "I",
-    "K",
-    "K1",
-    "K2",
-    "K3",
-    "K5",
-    "K8",
-    "Z1",
-    "Z2",
-    "Z3",
-    "Z5",
-    "first KSK.key",
-    "first ZSK.key",
+const REFERENCES: [&str; 14] = [
+    "A", "B", "C", "F", "I", "K", "K1", "K2", "K3", "K5", "K8", "Z1", "Z2", "Z3",
 ];
 
 pub(crate) const ROLLS: [RollType; 6] = [
@@ -67,7 +50,7 @@ pub(crate) fn look(set: &KeySet) -> Seen {
     }
 }
 
-pub(crate) fn look_at(set: &KeySet, reference: &str) -> Option<SeenKey> {
+fn look_at(set: &KeySet, reference: &str) -> Option<SeenKey> {
     Some(see_key(set.keys().get(reference)?))
 }
 
@@ -82,25 +65,6 @@ pub fn see_key(key: &Key) -> SeenKey {
     }
 }
 
-pub(crate) fn tags(set: &KeySet) -> [Option<u16>; 19] {
-    REFERENCES.map(|reference| tag_at(set, reference))
-}
-
-fn tag_at(set: &KeySet, reference: &str) -> Option<u16> {
-    Some(set.keys().get(reference)?.key_tag())
-}
-
-impl Seen {
-    /// Each key has one of the references that are looked for.
-    pub(crate) fn is_whole(&self) -> bool {
-        self.keys.iter().filter(|key| key.is_some()).count() == self.count
-    }
-}
-
-pub(crate) fn at(seconds: u64) -> UnixTime {
-    UnixTime::from(Duration::from_secs(seconds))
-}
-
 fn stamps_of(key: &Key) -> [Option<UnixTime>; 6] {
     let stamps = key.timestamps();
     [
@@ -113,71 +77,17 @@ fn stamps_of(key: &Key) -> [Option<UnixTime>; 6] {
     ]
 }
 
+pub(crate) fn at(seconds: u64) -> UnixTime {
+    UnixTime::from(Duration::from_secs(seconds))
+}
+
 /// What a step says can be read of the set. A call says nothing.
 pub(crate) fn is_so(alloc: Global, set: &KeySet, step: &Step) -> bool {
     match *step {
-        Step::At(..) | Step::RollsOver(..) => true,
-        Step::Stamps(reference, stamps) => has_stamps(set, reference, stamps),
-        Step::Flags(reference, flags) => has_flags(set, reference, flags),
-        Step::Roles(reference, ksk, zsk) => has_roles(set, reference, ksk, zsk),
+        Step::At(..) => true,
         Step::Shown(reference, text) => shows(alloc, set, reference, text),
-        Step::Key(reference, privref, tag, algorithm, decoupled) => {
-            is_key(set, reference, privref, tag, algorithm)
-                && is_decoupled(set, reference) == Some(decoupled)
-        }
-        Step::Zone(name, count) => set.name().as_slice() == name && set.keys().len() == count,
-        Step::Rolls(rolls) => are_in_progress(set, rolls),
         Step::WaitEnds(roll, end) => ends_at(set, roll, end),
     }
-}
-
-fn has_stamps(set: &KeySet, reference: &str, want: [u64; 6]) -> bool {
-    match set.keys().get(reference) {
-        Some(key) => stamps_of(key) == want.map(stamp),
-        None => false,
-    }
-}
-
-fn stamp(seconds: u64) -> Option<UnixTime> {
-    if seconds == NEVER {
-        None
-    } else {
-        Some(at(seconds))
-    }
-}
-
-fn has_flags(set: &KeySet, reference: &str, want: &str) -> bool {
-    match state_of(set, reference) {
-        Some(state) => flags_are(state, want),
-        None => false,
-    }
-}
-
-/// The state of a key that has one role.
-fn state_of(set: &KeySet, reference: &str) -> Option<KeyState> {
-    match set.keys().get(reference)?.keytype() {
-        KeyType::Ksk(state) | KeyType::Zsk(state) | KeyType::Include(state) => Some(state),
-        KeyType::Csk(..) => None,
-    }
-}
-
-fn has_roles(set: &KeySet, reference: &str, ksk: &str, zsk: &str) -> bool {
-    let Some(key) = set.keys().get(reference) else {
-        return false;
-    };
-    match key.keytype() {
-        KeyType::Csk(ksk_role, zsk_role) => flags_are(ksk_role, ksk) && flags_are(zsk_role, zsk),
-        _ => false,
-    }
-}
-
-/// The flags are those of the letters, and a key is stale that has none but `o`.
-fn flags_are(state: KeyState, want: &str) -> bool {
-    state.old() == want.contains("o")
-        && state.signer() == want.contains("s")
-        && state.present() == want.contains("p")
-        && state.at_parent() == want.contains("a")
-        && state.stale() == (want == "o---")
 }
 
 fn shows(alloc: Global, set: &KeySet, reference: &str, want: &str) -> bool {
@@ -190,35 +100,12 @@ fn shows(alloc: Global, set: &KeySet, reference: &str, want: &str) -> bool {
     }
 }
 
-/// A key is there with this private reference, tag and algorithm.
-pub(crate) fn is_key(
-    set: &KeySet,
-    reference: &str,
-    privref: Option<&str>,
-    tag: u16,
-    algorithm: u8,
-) -> bool {
-    match set.keys().get(reference) {
-        Some(key) => {
-            key.privref() == privref
-                && key.key_tag() == tag
-                && key.algorithm().to_int() == algorithm
-        }
-        None => false,
+/// The state of a key that has one role.
+fn state_of(set: &KeySet, reference: &str) -> Option<KeyState> {
+    match set.keys().get(reference)?.keytype() {
+        KeyType::Ksk(state) | KeyType::Zsk(state) | KeyType::Include(state) => Some(state),
+        KeyType::Csk(..) => None,
     }
-}
-
-fn is_decoupled(set: &KeySet, reference: &str) -> Option<bool> {
-    Some(set.keys().get(reference)?.decoupled())
-}
-
-fn are_in_progress(set: &KeySet, rolls: &[(RollType, RollState)]) -> bool {
-    for (roll, phase) in rolls {
-        if set.rollstates().get(roll) != Some(phase) {
-            return false;
-        }
-    }
-    set.rollstates().len() == rolls.len()
 }
 
 /// Exactly the named keys are published, in each of the four sets.

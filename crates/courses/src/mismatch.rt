@@ -1,5 +1,4 @@
 //! Where a key set doesn't follow a course.
-use crate::look::SeenKey;
 use crate::steps::Told;
 use std::fmt;
 
@@ -28,22 +27,12 @@ pub enum Trouble {
     TakesNone,
     /// The call was refused, and changed something.
     Changed,
-    /// The call of a roll wrote a key tag.
-    TagWritten,
-    /// There is a key whose reference isn't looked for.
-    Unlisted,
     /// Not the keys of the table are published.
     Published,
-    /// A key has another tag, algorithm or private reference than it was added with.
-    Added(Option<SeenKey>),
-    /// What the step tells of the set isn't so. Of a key, what is told.
-    NotSo(Option<SeenKey>),
+    /// What the step tells of the set isn't so.
+    NotSo,
     /// The end of a wait isn't what waits are told.
     WaitEnd,
-    /// The call goes otherwise on a copy of the set.
-    CopyGoesOtherwise,
-    /// Two courses that have to end alike don't.
-    EndsOtherwise,
 }
 
 impl std::error::Error for Mismatch {}
@@ -69,14 +58,9 @@ impl fmt::Display for Trouble {
             Trouble::ToldAgain => f.write_str("the actions of the roll aren't those of the call"),
             Trouble::TakesNone => f.write_str("a call that takes no memory was refused for it"),
             Trouble::Changed => f.write_str("the call was refused and changed something"),
-            Trouble::TagWritten => f.write_str("the call wrote a key tag"),
-            Trouble::Unlisted => f.write_str("there is a key that isn't looked for"),
             Trouble::Published => f.write_str("other keys are published"),
-            Trouble::Added(key) => write!(f, "a key isn't as it was added: {key:?}"),
-            Trouble::NotSo(key) => write!(f, "it isn't so: {key:?}"),
+            Trouble::NotSo => f.write_str("it isn't so"),
             Trouble::WaitEnd => f.write_str("the end of a wait isn't what waits are told"),
-            Trouble::CopyGoesOtherwise => f.write_str("a copy of the set goes otherwise"),
-            Trouble::EndsOtherwise => f.write_str("it doesn't end as the first course"),
         }
     }
 }

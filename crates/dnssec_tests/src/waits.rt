@@ -1,10 +1,10 @@
 //! When a wait is over, as a tool asks that sleeps until then. Besides, the walk compares the end of
 //! each wait with what waits are told, after each step of every course.
-use courses::Call::{Add, Report1, Report2, SetPresent, SetVisible, Start, Wait1, Wait2};
+use courses::Call::{Add, Finish, Report1, Report2, SetPresent, SetVisible, Start, Wait1, Wait2};
 use courses::Kind::{Ksk, Zsk};
 use courses::Step::{At, WaitEnds};
 use courses::Told::{Accepted, Refused, Wait};
-use courses::{Course, NEVER, NOTHING, SAME, SIGNED_ZONE, Step, walk_all};
+use courses::{Course, NEVER, NOTHING, SAME, Step, walk_all};
 use dnssec_keyset::Error;
 use dnssec_keyset::RollType::{AlgorithmRoll, ZskDoubleSignatureRoll};
 
@@ -18,11 +18,7 @@ fn courses_are_followed(rt: HostRuntime) {
 const COURSES: &[Course] = &[
     Course {
         name: "the end follows the reports",
-        parts: &[FIRST_KEYS],
-    },
-    Course {
-        name: "the second wait of both signatures counts from the first report",
-        parts: &[SIGNED_ZONE, BOTH_SIGNATURES],
+        parts: &[FIRST_KEYS, BOTH_SIGNATURES],
     },
     Course {
         name: "the end follows the setters",
@@ -56,24 +52,26 @@ const FIRST_KEYS: &[Step] = &[
     WaitEnds(AlgorithmRoll, None),
 ];
 
+/// The second wait of both signatures counts from the first report.
 const BOTH_SIGNATURES: &[Step] = &[
-    At(150, Add(Zsk, "Z2", 3, 13), Accepted, SAME),
+    At(4060, Finish(AlgorithmRoll), Accepted, SAME),
+    At(5150, Add(Zsk, "Z2", 3, 13), Accepted, SAME),
     At(
-        190,
+        5190,
         Start(ZskDoubleSignatureRoll, "Z1", "Z2"),
         Accepted,
         "K1,Z1,Z2 | K1 | Z1,Z2 | K1",
     ),
-    At(200, Report1(ZskDoubleSignatureRoll, 10), Accepted, SAME),
-    WaitEnds(ZskDoubleSignatureRoll, Some(210)),
+    At(5200, Report1(ZskDoubleSignatureRoll, 10), Accepted, SAME),
+    WaitEnds(ZskDoubleSignatureRoll, Some(5210)),
     At(
-        215,
+        5215,
         Wait1(ZskDoubleSignatureRoll),
         Accepted,
         "K1,Z2 | K1 | Z2 | K1",
     ),
-    At(220, Report2(ZskDoubleSignatureRoll, 30), Accepted, SAME),
-    WaitEnds(ZskDoubleSignatureRoll, Some(230)),
+    At(5220, Report2(ZskDoubleSignatureRoll, 30), Accepted, SAME),
+    WaitEnds(ZskDoubleSignatureRoll, Some(5230)),
 ];
 
 /// A key published by hand has no stamp at first, then one that is late, then one past which no TTL

@@ -2,7 +2,7 @@
 //! roll.
 use courses::Call::{Add, SetAtParent, SetPresent, SetSigner, SetStale};
 use courses::Kind::Ksk;
-use courses::Step::{At, Flags, Shown};
+use courses::Step::{At, Shown};
 use courses::Told::Accepted;
 use courses::{Course, NOTHING, Step, walk_all};
 
@@ -21,39 +21,29 @@ const COURSES: &[Course] = &[Course {
 /// A KSK gets each state by hand.
 const STATES: &[Step] = &[
     At(0, Add(Ksk, "K1", 1, 15), Accepted, NOTHING),
-    Flags("K1", "----"),
     Shown("K1", "(Future)"),
     At(1, SetAtParent("K1", true), Accepted, "- | - | - | K1"),
-    Flags("K1", "---a"),
     Shown("K1", "At Parent(Future)"),
     At(2, SetAtParent("K1", false), Accepted, NOTHING),
     At(2, SetPresent("K1", true), Accepted, "K1 | - | - | -"),
-    Flags("K1", "--p-"),
     Shown("K1", "Present (Incoming)"),
     At(3, SetSigner("K1", true), Accepted, "K1 | K1 | - | -"),
     At(3, SetAtParent("K1", true), Accepted, "K1 | K1 | - | K1"),
-    Flags("K1", "-spa"),
     Shown("K1", "Signer, Present, At Parent (Active)"),
     At(4, SetPresent("K1", false), Accepted, "- | K1 | - | K1"),
     At(4, SetAtParent("K1", false), Accepted, "- | K1 | - | -"),
-    Flags("K1", "-s--"),
     Shown("K1", "Signer"),
     At(5, SetStale("K1"), Accepted, NOTHING),
-    Flags("K1", "o---"),
     Shown("K1", "Old (Stale)"),
     At(6, SetAtParent("K1", true), Accepted, "- | - | - | K1"),
-    Flags("K1", "o--a"),
     Shown("K1", "Old, At Parent (Stale)"),
     At(7, SetAtParent("K1", false), Accepted, NOTHING),
     At(7, SetPresent("K1", true), Accepted, "K1 | - | - | -"),
-    Flags("K1", "o-p-"),
     Shown("K1", "Old, Present (Retired)"),
     At(8, SetSigner("K1", true), Accepted, "K1 | K1 | - | -"),
     At(8, SetAtParent("K1", true), Accepted, "K1 | K1 | - | K1"),
-    Flags("K1", "ospa"),
     Shown("K1", "Old, Signer, Present, At Parent (Leaving)"),
     At(9, SetPresent("K1", false), Accepted, "- | K1 | - | K1"),
     At(9, SetAtParent("K1", false), Accepted, "- | K1 | - | -"),
-    Flags("K1", "os--"),
     Shown("K1", "Old, Signer"),
 ];

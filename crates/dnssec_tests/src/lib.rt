@@ -1,0 +1,26 @@
+//! What no script tells: names that are read and printed, numbers, moments, texts, the ends of
+//! waits, devices that fail, malformed scripts and verdicts. By public calls, in a crate of its own,
+//! so that no other is proved twice. The proofs say what each call does; the values here come from
+//! worked examples.
+#![tactic(auto)]
+
+#[cfg(test)]
+mod audits;
+#[cfg(test)]
+mod devices;
+#[cfg(test)]
+mod malformed;
+#[cfg(test)]
+mod names;
+#[cfg(test)]
+mod numbers;
+#[cfg(test)]
+mod runs;
+#[cfg(test)]
+mod states;
+#[cfg(test)]
+mod texts;
+#[cfg(test)]
+mod values;
+#[cfg(test)]
+mod waits;
