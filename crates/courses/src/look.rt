@@ -1,6 +1,6 @@
 //! What an operator reads of a key set.
 use crate::ends::ends_at;
-use crate::steps::{Published, Step};
+use crate::steps::{NEVER, Published, Step};
 use dnssec_keyset::{Key, KeySet, KeyState, KeyType, RollState, RollType, UnixTime};
 use std::alloc::Global;
 use std::time::Duration;
@@ -78,7 +78,11 @@ fn stamps_of(key: &Key) -> [Option<UnixTime>; 6] {
 }
 
 pub(crate) fn at(seconds: u64) -> UnixTime {
-    UnixTime::from(Duration::from_secs(seconds))
+    if seconds == NEVER {
+        UnixTime::from(Duration::MAX)
+    } else {
+        UnixTime::from(Duration::from_secs(seconds))
+    }
 }
 
 /// What a step says can be read of the set. A call says nothing.

@@ -21,7 +21,7 @@ pub const SAME: Published = "";
 /// Nothing is published.
 pub const NOTHING: Published = "- | - | - | -";
 
-/// The last second that a moment can have; as the end of a wait, one past the greatest moment.
+/// The greatest moment; as the end of a wait, one past it.
 pub const NEVER: u64 = u64::MAX;
 
 /// A call, or what can be read of the set at this point.

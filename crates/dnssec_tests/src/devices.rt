@@ -189,9 +189,9 @@ fn devices_serve_or_fail(rt: HostRuntime) -> Result<(), Fail> {
             "",
         ),
         (
-            b"zone a\ndone CSK-roll\n",
+            b"zone example.com\ndone algorithm-roll\ndone CSK-roll\n",
             Devices { writes: 0, ..WHOLE },
-            Err(ScriptFault::Malformed(2)),
+            Err(ScriptFault::Malformed(3)),
             "",
         ),
         (

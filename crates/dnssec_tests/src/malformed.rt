@@ -38,7 +38,7 @@ fn zone_lines(rt: HostRuntime) -> Result<(), Fail> {
         (b" zone a\n", 1),
         (b"zone  a\n", 1),
         (b"zone a \n", 1),
-        (b"zone a\r\n", 1),
+        (b"zone example.com\r\n", 1),
         (b"zone a..b", 1),
         (b"zone a\\256\n", 1),
         (b"zone a\xC3\xBC\n", 1),
@@ -74,7 +74,7 @@ fn beginnings_of_zone_lines(rt: HostRuntime) -> Result<(), Fail> {
 #[test]
 fn lines_are_counted(rt: HostRuntime) -> Result<(), Fail> {
     let scripts: [Row; 9] = [
-        (b"zone a\n\n", 2),
+        (b"zone .\n\n", 2),
         (b"zone a\n\ndelete K1\n", 2),
         (b"zone a\nzone a\n", 2),
         (b"zone a\nzone a", 2),
@@ -92,8 +92,8 @@ fn lines_are_counted(rt: HostRuntime) -> Result<(), Fail> {
 #[test]
 fn words_and_spaces(rt: HostRuntime) -> Result<(), Fail> {
     let scripts: [Row; 28] = [
-        (b"zone a\ndelete  K1\n", 2),
-        (b"zone a\ndelete K1 \n", 2),
+        (b"zone .\nwait1 ksk-roll  0\n", 2),
+        (b"zone .\ndone ksk-roll \n", 2),
         (b"zone a\n delete K1\n", 2),
         (b"zone a\n \n", 2),
         (b"zone a\ndelete\tK1\n", 2),
@@ -128,15 +128,16 @@ fn words_and_spaces(rt: HostRuntime) -> Result<(), Fail> {
 /// Numbers out of range, of more than 20 digits, or with other bytes than digits.
 #[test]
 fn numbers(rt: HostRuntime) -> Result<(), Fail> {
-    let scripts: [Row; 15] = [
-        (b"zone a\nadd-ksk K1 - 256 1 0 yes\n", 2),
-        (b"zone a\nadd-ksk K1 - 13 65536 0 yes\n", 2),
+    let scripts: [Row; 16] = [
+        (b"zone .\nadd-ksk K - 256 0 0 yes\n", 2),
+        (b"zone .\nadd-ksk K - 13 65536 0 yes\n", 2),
         (b"zone a\nadd-ksk K1 - 13 1 18446744073709551616 yes\n", 2),
         (b"zone a\nadd-ksk K1 - 13 1 99999999999999999999 yes\n", 2),
-        (b"zone a\nreport1 ksk-roll 4294967296 0\n", 2),
+        (b"zone .\nreport1 ksk-roll 4294967296 0\n", 2),
         (b"zone a\nreport2 ksk-roll 60 18446744073709551616\n", 2),
         (b"zone a\nadd-public K1 000000000000000000013 1 0 yes\n", 2),
-        (b"zone a\nwait1 ksk-roll 000000000000000000001\n", 2),
+        (b"zone .\nwait1 ksk-roll 000000000000000000001\n", 2),
+        (b"zone .\nwait1 ksk-roll 18446744073709551616\n", 2),
         (
             b"zone a\nwait1 ksk-roll 340282366920938463463374607431768211456\n",
             2,
@@ -178,22 +179,23 @@ fn algorithms(rt: HostRuntime) -> Result<(), Fail> {
 /// References, lists of them, flags and rolls of another form.
 #[test]
 fn references_flags_and_rolls(rt: HostRuntime) -> Result<(), Fail> {
-    let scripts: [Row; 22] = [
+    let scripts: [Row; 23] = [
         (b"zone a\ndelete -\n", 2),
-        (b"zone a\nadd-ksk - - 13 1 0 yes\n", 2),
-        (b"zone a\ndelete K1,Z1\n", 2),
+        (b"zone .\nadd-ksk - - 13 0 0 yes\n", 2),
+        (b"zone .\ndelete K,L\n", 2),
         (b"zone a\nadd-ksk K1 ,K1 13 1 0 yes\n", 2),
         (b"zone a\ndelete K\xC3\xBC\n", 2),
-        (b"zone a\ndelete K\x80\n", 2),
+        (b"zone .\ndelete \xFE\n", 2),
         (b"zone a\ndelete K\x7F\n", 2),
         (b"zone a\ndelete K\x00\n", 2),
         (b"zone a\nstart ksk-roll - ,K1 0\n", 2),
-        (b"zone a\nstart ksk-roll - K1, 0\n", 2),
-        (b"zone a\nstart ksk-roll - K1,,Z1 0\n", 2),
+        (b"zone .\nstart ksk-roll A, - 0\n", 2),
+        (b"zone .\nstart ksk-roll A,,B - 0\n", 2),
         (b"zone a\nstart ksk-roll - , 0\n", 2),
         (b"zone a\nstart ksk-roll - K1,- 0\n", 2),
         (b"zone a\nstart ksk-roll -,K1 K2 0\n", 2),
         (b"zone a\nset-signer K1 Yes\n", 2),
+        (b"zone .\nadd-ksk K - 13 0 0 Yes\n", 2),
         (b"zone a\nset-signer K1 true\n", 2),
         (b"zone a\nset-signer K1 -\n", 2),
         (b"zone a\ndone roll\n", 2),

@@ -25,6 +25,10 @@ const COURSES: &[Course] = &[
         parts: &[SET_BY_HAND],
     },
     Course {
+        name: "a report at the greatest moment",
+        parts: &[GREATEST_REPORT],
+    },
+    Course {
         name: "without a TTL a wait is always over",
         parts: &[NO_TTL],
     },
@@ -106,6 +110,21 @@ const SET_BY_HAND: &[Step] = &[
     At(NEVER, SetVisible("K2"), Accepted, SAME),
     WaitEnds(AlgorithmRoll, Some(NEVER)),
     At(NEVER, Wait1(AlgorithmRoll), Wait(60), SAME),
+];
+
+/// The greatest TTL from the greatest moment on: a wait at 0 is told the TTL.
+const GREATEST_REPORT: &[Step] = &[
+    At(0, Add(Ksk, "K1", 1, 13), Accepted, NOTHING),
+    At(0, Add(Zsk, "Z1", 2, 13), Accepted, SAME),
+    At(
+        0,
+        Start(AlgorithmRoll, "-", "K1,Z1"),
+        Accepted,
+        "K1,Z1 | K1 | Z1 | -",
+    ),
+    At(NEVER, Report1(AlgorithmRoll, u32::MAX), Accepted, SAME),
+    WaitEnds(AlgorithmRoll, Some(NEVER)),
+    At(0, Wait1(AlgorithmRoll), Wait(4_294_967_295), SAME),
 ];
 
 /// A TTL of 0 says that no cache keeps the data.
