@@ -106,10 +106,10 @@ def many_keys():
     when the first is deleted."""
     last = MANY - 1
     yield "zone example.com"
-    yield from (f"add-zsk {tag} - 13 {tag} 0 yes" for tag in range(MANY))
-    yield from (f"add-zsk again - 13 {tag} 1 yes" for tag in range(MANY))
-    yield from (f"set-stale {last}", f"delete {last}", f"add-zsk again - 13 {last} 2 yes")
-    yield f"add-zsk {last} - 13 {last} 3 yes"
+    yield from (f"add-ksk {tag} - 13 {tag} 0 yes" for tag in range(MANY))
+    yield from (f"add-ksk again - 13 {tag} 1 yes" for tag in range(MANY))
+    yield from (f"set-stale {last}", f"delete {last}", f"add-ksk again - 13 {last} 2 yes")
+    yield f"add-ksk {last} - 13 {last} 3 yes"
 
 
 def moment_of(lines):
