@@ -5,6 +5,7 @@ pub mod Rolls
 pub mod Algorithms
 pub mod Texts
 pub mod Reading
+pub mod Running
 pub mod Judging
 pub mod Answering
 pub mod Ending

@@ -1,38 +1,56 @@
 //! The answers to a script, as text.
-ghost use Rattle.std.specs.Prelude.{◌≡◌, ◌++◌, IfOk, OnOk, codes, decimal, string_bytes};
+ghost use Rattle.std.specs.Prelude.{◌≡◌, ◌++◌, ℕ, List, IfOk, OnOk, codes, decimal, string_bytes};
 ghost use Rattle.std.specs.List.{flat_map};
-ghost use Rattle.dnssec_record.specs.Output.{action_name, actions_text, answers, broken_text};
-ghost use Rattle.dnssec_record.specs.Output.{chain_line, output, published_text, reply_text};
-ghost use Rattle.dnssec_record.specs.Output.{set_line, set_text};
+ghost use Rattle.dnssec_record.specs.Answer.{Answers};
+ghost use Rattle.dnssec_record.specs.Output.{action_name, actions_text, broken_text, chain_line};
+ghost use Rattle.dnssec_record.specs.Output.{published_text, reply_text, set_text, sets_text};
+ghost use Rattle.dnssec_record.specs.Script.{IsScript};
 
-use dnssec_judge::Broken;
+use dnssec_base::Name;
+use dnssec_judge::{Broken, Judge};
 use dnssec_keyset::Action;
-use dnssec_run::{Entry, Published, PublishedKey, Reply};
+use dnssec_run::{Call, Entry, Published, PublishedKey, Recorder, Reply};
 use std::alloc::{AllocError, Global};
 
-/// What is written for a run with this verdict.
+/// Makes the calls in turn on a new key set for the zone of this name, and tells what each is
+/// answered, then the sets that are published, and the verdict on the record. Of the record it has
+/// the last entry, and what a judge keeps.
 pub(crate) fn answer(
     alloc: Global,
-    entries: &[Entry],
-    verdict: Option<Broken>,
+    name: Name<Vec<u8>>,
+    calls: Vec<Call<'_>>,
 ) -> Result<String, AllocError>
-    ensures { IfOk result (λ text. string_bytes text ≡ output entries.now verdict) }
+    ensures { IfOk result (λ text. (script : List ℕ) →
+        IsScript script name calls.entry.items → Answers script (string_bytes text)) }
 {
     let mut text = String::new(alloc);
-    push_answers(&mut text, entries)?;
-    push_set_line(&mut text, entries)?;
-    push_chain_line(&mut text, verdict)?;
+    let mut recorder = Recorder::new(alloc, name);
+    let Ok(mut judge) = Judge::new(alloc) else {
+        return Err(AllocError);
+    };
+    let mut last = None;
+    for call in calls {
+        let Ok(entry) = recorder.make(alloc, call) else {
+            return Err(AllocError);
+        };
+        let Ok(next) = judge.take(alloc, &entry) else {
+            return Err(AllocError);
+        };
+        judge = next;
+        push_answer(&mut text, &entry.reply)?;
+        last = Some(entry);
+    }
+    push_set_line(&mut text, &last)?;
+    push_chain_line(&mut text, judge.verdict())?;
     Ok(text)
 }
 
-fn push_answers(text: &mut String, entries: &[Entry]) -> Result<(), AllocError>
-    ensures { OnOk result (string_bytes text.new ≡ string_bytes text.old ++ answers entries.now) }
+fn push_answer(text: &mut String, reply: &Reply) -> Result<(), AllocError>
+    ensures { OnOk result (string_bytes text.new
+        ≡ string_bytes text.old ++ reply_text reply.now ++ codes "\n") }
 {
-    for entry in entries {
-        push_reply(text, &entry.reply)?;
-        text.push_str("\n")?;
-    }
-    Ok(())
+    push_reply(text, reply)?;
+    text.push_str("\n")
 }
 
 fn push_reply(text: &mut String, reply: &Reply) -> Result<(), AllocError>
@@ -78,10 +96,10 @@ fn action_name(action: Action) -> &'static str
 }
 
 /// Writes the sets that are published after the last call.
-fn push_set_line(text: &mut String, entries: &[Entry]) -> Result<(), AllocError>
-    ensures { OnOk result (string_bytes text.new ≡ string_bytes text.old ++ set_line entries.now) }
+fn push_set_line(text: &mut String, last: &Option<Entry>) -> Result<(), AllocError>
+    ensures { OnOk result (string_bytes text.new ≡ string_bytes text.old ++ sets_text last.now) }
 {
-    match entries.last() {
+    match last {
         None => text.push_str("ds=- dnskey=- signers=- zone=-\n"),
         Some(entry) => push_published(text, &entry.published),
     }

@@ -13,5 +13,7 @@ pub use device::{DeviceFault, Sink, Source, Std};
 pub use dnssec_judge::{
     Broken, Judge, audit, audit_window, plain_runs_pass, records_have_one_verdict, runs_stay_safe,
 };
-pub use dnssec_run::{Call, Entry, Mark, Published, PublishedKey, Reply, Run, run, starts_suffice};
+pub use dnssec_run::{
+    Call, Entry, Mark, Published, PublishedKey, Recorder, Reply, Run, run, starts_suffice,
+};
 pub use script::{ScriptFault, record_script, run_script};

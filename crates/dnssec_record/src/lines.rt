@@ -2,7 +2,10 @@
 ghost use Rattle.std.specs.Prelude.{◌≡◌, ℕ, List, map, IfOk, IfErr, IfSome, IfNone, Some};
 ghost use denote.Bor.{now};
 ghost use Rattle.dnssec_base.specs.NameText as names;
-ghost use Rattle.dnssec_record.specs.Script.{IsZoneLine, lines_of, said, says, without_end};
+ghost use Rattle.dnssec_run.specs.declared.call.Call.{Call};
+ghost use Rattle.dnssec_record.specs.Answer.{AnswerFault};
+ghost use Rattle.dnssec_record.specs.Script.{IsScript, IsZoneLine, lines_of, said, says};
+ghost use Rattle.dnssec_record.specs.Script.{without_end};
 ghost use Rattle.dnssec_record.specs.Statement.{statement_said};
 ghost use Rattle.dnssec_record.specs.Reading.{CallsFault, all_said};
 
@@ -31,7 +34,7 @@ fn without_end(script: &[u8]) -> &[u8]
 }
 
 /// The name that the first line gives.
-pub(crate) fn zone(alloc: Global, line: &[u8]) -> Result<Option<Name<Vec<u8>>>, AllocError>
+fn zone(alloc: Global, line: &[u8]) -> Result<Option<Name<Vec<u8>>>, AllocError>
     ensures found { IfOk result (λ found. IfSome found (IsZoneLine line.now)) }
     ensures none { IfOk result (λ found.
         IfNone found ((name : List ℕ) → ¬ IsZoneLine line.now name)) }
@@ -58,8 +61,30 @@ fn zone_name(alloc: Global, text: &[u8]) -> Result<Option<Name<Vec<u8>>>, AllocE
     }
 }
 
+/// What the lines of a script say: the name of its zone, and its calls.
+pub(crate) fn read_script<'a>(
+    alloc: Global,
+    lines: &'a [&'a [u8]],
+) -> Result<(Name<Vec<u8>>, Vec<Statement<'a>>, Vec<Lists<'a>>), ScriptFault>
+    ensures ok { (script : List ℕ) → map now lines.now ≡ lines_of script →
+        IfOk result (λ read. (calls : List Call) →
+        map (λ c. Some (said c)) calls ≡ all_said read.1.items read.2.items →
+        IsScript script read.0 calls) }
+    ensures err { (script : List ℕ) → map now lines.now ≡ lines_of script →
+        IfErr result (AnswerFault script) }
+{
+    let Some((first, rest)) = lines.split_first() else {
+        return Err(ScriptFault::Malformed(1));
+    };
+    let Some(name) = zone(alloc, first)? else {
+        return Err(ScriptFault::Malformed(1));
+    };
+    let (statements, lists) = read_calls(alloc, rest)?;
+    Ok((name, statements, lists))
+}
+
 /// The calls that the lines make.
-pub(crate) fn read_calls<'a>(
+fn read_calls<'a>(
     alloc: Global,
     lines: &'a [&'a [u8]],
 ) -> Result<(Vec<Statement<'a>>, Vec<Lists<'a>>), ScriptFault>

@@ -13,8 +13,7 @@ ghost use Rattle.dnssec_record.specs.declared.script.ScriptFault.TheVariants.{De
 
 use crate::answers::answer;
 use crate::device::{DeviceFault, Sink, Source};
-use crate::lines::{lines, read_calls, with_lists, zone};
-use dnssec_judge::audit_window;
+use crate::lines::{lines, read_script, with_lists};
 use dnssec_run::{Run, run};
 use std::alloc::{AllocError, AllocFailed, Global};
 use std::fmt;
@@ -114,11 +113,10 @@ fn answer_to(alloc: Global, script: &[u8]) -> Result<String, ScriptFault>
     ensures ok { IfOk result (λ text. Answers script.now (string_bytes text)) }
     ensures err { IfErr result (AnswerFault script.now) }
 {
-    let run = record_script(alloc, script)?;
-    let Ok(verdict) = audit_window(alloc, &run.entries) else {
-        return Err(ScriptFault::OutOfMemory);
-    };
-    let text = answer(alloc, &run.entries, verdict)?;
+    let lines = lines(alloc, script)?;
+    let (name, statements, lists) = read_script(alloc, &lines)?;
+    let calls = with_lists(alloc, statements, &lists)?;
+    let text = answer(alloc, name, calls)?;
     Ok(text)
 }
 
@@ -142,13 +140,7 @@ pub fn record_script(alloc: Global, script: &[u8]) -> Result<Run, ScriptFault>
     ensures err { IfErr result (AnswerFault script.now) }
 {
     let lines = lines(alloc, script)?;
-    let Some((first, rest)) = lines.split_first() else {
-        return Err(ScriptFault::Malformed(1));
-    };
-    let Some(name) = zone(alloc, first)? else {
-        return Err(ScriptFault::Malformed(1));
-    };
-    let (statements, lists) = read_calls(alloc, rest)?;
+    let (name, statements, lists) = read_script(alloc, &lines)?;
     let calls = with_lists(alloc, statements, &lists)?;
     let Ok(run) = run(alloc, name, calls) else {
         return Err(ScriptFault::OutOfMemory);

@@ -1,18 +1,23 @@
--- What the recorder of a run keeps beside the key set. No public contract cites these words.
-use Rattle.std.specs.Prelude.{◌≡◌, ℕ, Bool, false, List, map, filter, Option, None, Some}
+-- What the recorder of a run keeps beside the key set.
+use Rattle.std.specs.Prelude.{◌≡◌, ℕ, Bool, false, List, length, map, filter, Option, None, Some}
 use Rattle.std.specs.Prelude.{if◌then◌else◌, string_bytes}
 use Rattle.std.specs.Option.{option_map, option_map_or}
 use Rattle.std.specs.Str.{bytes_eq}
 use Rattle.std.specs.FinMap.{get}
+use Rattle.std.specs.BTreeMap as tree
 use Rattle.std.specs.declared.string.String.{String}
 use Rattle.dnssec_key.specs.declared.key.KeyType.{KeyType}
 use Rattle.dnssec_key.specs.Key.{KeyParts}
 use Rattle.dnssec_keyset.specs.KeySet.{KeySetParts}
 use Rattle.dnssec_keyset.specs.Step as keyset
+use Rattle.dnssec_run.specs.declared.call.Call.{Call}
+use Rattle.dnssec_run.specs.declared.record.Entry.{Entry}
+use Rattle.dnssec_run.specs.declared.running.Recorder.{Recorder}
 use Rattle.dnssec_run.specs.declared.running.Shown.{Shown}
 use Rattle.dnssec_run.specs.declared.running.Shown.TheVariants.{Ds, Dnskey, DnskeySigners}
 use Rattle.dnssec_run.specs.declared.running.Shown.TheVariants.{ZoneSigners}
 use Rattle.dnssec_run.specs.Published.{Id, World, in_ds, in_dnskey, signs_dnskey, signs_zone}
+use Rattle.dnssec_run.specs.Record.{IsRun, world_at}
 
 -- the keys that a set shows
 abbrev pub shows : Shown → KeyType → Bool
@@ -44,3 +49,12 @@ passing {Y} p key es =
     map (λ (e : String Y × ℕ). (string_bytes e.0, e.1))
     (filter (λ (e : String Y × ℕ). option_map_or (λ (k : KeyParts). p k.keytype)
     (key (string_bytes e.0)) false) es)
+
+-- the entries are the record of the calls so far on a new key set of this name, and the recorder
+-- stands behind the last of them
+pub record Records (name : List ℕ) (calls : List Call) (entries : List Entry) (r : Recorder)
+    : Type 0 where
+  pub run : IsRun name calls entries
+  pub at : r.at ≡ length entries
+  pub agrees : Agrees r.keyset (tree.get_by_text r.added)
+      (world_at name calls entries (length calls))

@@ -12,4 +12,4 @@ mod running;
 pub use call::Call;
 pub use plain::starts_suffice;
 pub use record::{Entry, Mark, Published, PublishedKey, Reply, Run};
-pub use running::{Shown, published_key, run};
+pub use running::{Recorder, Shown, published_key, run};

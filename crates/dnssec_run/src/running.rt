@@ -1,5 +1,5 @@
 //! Runs of lists of calls, with their records.
-ghost use Rattle.std.specs.Prelude.{◌≡◌, ℕ, List, map, vec_len, IfOk, IfErr, OnOk};
+ghost use Rattle.std.specs.Prelude.{◌≡◌, ◌++◌, ◌∷◌, ℕ, List, [], map, vec_len, IfOk, IfErr, OnOk};
 ghost use Rattle.std.specs.BTreeMap as tree;
 ghost use Rattle.std.specs.HashMap as hash;
 ghost use Rattle.std.specs.String.{string_cmp};
@@ -15,7 +15,9 @@ ghost use Rattle.dnssec_run.specs.Published.{IsPublished, World, id_of};
 ghost use Rattle.dnssec_run.specs.Record.{IsEntry, IsRun, KeepsSidesApart};
 ghost use Rattle.dnssec_run.specs.Record.{NeighboursMayBeExchanged, StaysSound, call_of};
 ghost use Rattle.dnssec_run.specs.Record.{reference_added, stepped, world_at};
-ghost use Rattle.dnssec_run.specs.Recorder.{Agrees, noted, passing, shows};
+ghost use Rattle.dnssec_run.specs.Recorder.{Agrees, Records, noted, passing, shows};
+ghost use Rattle.dnssec_run.specs.declared.call.Call.{Call};
+ghost use Rattle.dnssec_run.specs.declared.record.Entry.{Entry};
 
 use crate::call::Call;
 use crate::record::{Entry, Mark, Published, PublishedKey, Reply, Run};
@@ -200,6 +202,70 @@ fn record(
     })
 }
 
+/// Makes calls one by one on a new key set, and hands out the entry of each: what `run` records.
+///
+/// It keeps no entry. So a caller that needs only some of what a record tells, as the answers and a
+/// judge's verdict, has memory for its keys, and not for each call.
+///
+/// ```rust
+/// let mut recorder = Recorder::new(alloc, name);
+/// for call in calls {
+///     let entry = recorder.make(alloc, call)?;
+///     judge = judge.take(alloc, &entry)?;
+/// }
+/// ```
+#[derive(Drop)]
+pub struct Recorder {
+    keyset: KeySet,
+    /// Of each key that is there the position of its add.
+    added: BTreeMap<String, usize>,
+    /// How many calls were made.
+    at: usize,
+}
+
+impl Recorder {
+    /// A new key set for the zone of this name, before its first call. It takes its memory from
+    /// `alloc`.
+    pub fn new(alloc: Global, name: Name<Vec<u8>>) -> Self
+        ensures { Records name [] [] result }
+    {
+        Recorder {
+            keyset: KeySet::new(alloc, name),
+            added: BTreeMap::new(alloc),
+            at: 0,
+        }
+    }
+
+    /// Makes the next call, and tells its entry. A call that is refused has an entry too, also
+    /// where it was refused because memory ran out.
+    ///
+    /// # Errors
+    ///
+    /// `OutOfMemory` alone, where there is no memory for the entry. The recorder is then of no more
+    /// use: begin anew with the first call.
+    pub fn make(&mut self, alloc: Global, call: Call<'_>) -> Result<Entry, Error>
+        ensures ok { IfOk result (λ entry.
+            (name : List ℕ) (calls : List Call) (entries : List Entry) →
+            Records name calls entries self.old →
+            Records name (calls ++ call.entry ∷ []) (entries ++ entry ∷ []) self.new) }
+        ensures err { IfErr result (λ e. e ≡ OutOfMemory) }
+    {
+        let Some(at) = self.at.checked_add(1) else {
+            return Err(Error::OutOfMemory);
+        };
+        let entry = record(alloc, &mut self.keyset, &mut self.added, call, at)?;
+        self.at = at;
+        Ok(entry)
+    }
+
+    /// The key set behind the calls so far.
+    pub fn into_keyset(self) -> KeySet
+        ensures { result ≡ self.keyset }
+    {
+        self.keyset
+    }
+}
+
 /// Makes the calls in turn on a new key set for the zone of this name, and records each.
 ///
 /// The key set and the record take their memory from `alloc`. A call that is refused, also because
@@ -250,11 +316,12 @@ pub fn run<'a>(alloc: Global, name: Name<Vec<u8>>, calls: Vec<Call<'a>>) -> Resu
     let Ok(mut entries) = Vec::with_capacity(alloc, calls.len()) else {
         return Err(Error::OutOfMemory);
     };
-    let mut keyset = KeySet::new(alloc, name);
-    let mut added = BTreeMap::new(alloc);
+    let mut recorder = Recorder::new(alloc, name);
     for call in calls {
-        let at = entries.len() + 1;
-        entries.push_reserved(record(alloc, &mut keyset, &mut added, call, at)?);
+        entries.push_reserved(recorder.make(alloc, call)?);
     }
-    Ok(Run { keyset, entries })
+    Ok(Run {
+        keyset: recorder.into_keyset(),
+        entries,
+    })
 }

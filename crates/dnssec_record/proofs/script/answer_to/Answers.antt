@@ -1,21 +1,16 @@
--- The answer to a script is the output of its run, with the verdict of a judge.
-use Rattle.std.proofs.Common.{◌∙◌, ap, subst}
-use Rattle.dnssec_judge.specs.Verdict.{IsVerdict}
-use Rattle.dnssec_record.specs.Output.{output}
+-- The answer to a script is that to the calls that its lines make.
+use Rattle.std.proofs.Common.{◌≡◌, ap, ◌∙◌, map}
+use denote.Bor.{now}
+use Rattle.dnssec_record.specs.Script.{lines_of}
+use Rattle.dnssec_record.specs.Reading.{all_said}
 use Rattle.dnssec_record.proofs.script.answer_to.Goals as goal
 
 pub returns-clause-ok : goal.returns-clause-ok
 returns-clause-ok c =
-    let run = c.in_ok-run.ensures.ok in
-    record {
-      name = run.name;
-      calls = run.calls;
-      entries = c.in_ok-run.run'.entries.items;
-      verdict = c.in-Ok.verdict;
-      is_script = run.is_script;
-      is_run = run.is_run;
-      is_verdict =
-          subst (λ es. IsVerdict es c.in-Ok.verdict) c.deref.ensures.value c.in-Ok.ensures.ok;
-      is_output =
-          c.in_ok-text.ensures ∙ ap (λ es. output es c.in-Ok.verdict) c.deref-2.ensures.value;
-    }
+    let script = c.args.script.now in
+    let read : map now c.deref.result.now ≡ lines_of script =
+    ap (map now) c.deref.ensures.value ∙ c.in_ok-lines.ensures in
+    let said = c.in_ok-calls.ensures
+    ∙ ap (all_said c.in_ok-name.statements.items) c.deref-2.ensures.value in
+    c.in_ok-text.ensures script
+    (c.in_ok-name.ensures.ok script read c.in_ok-calls.calls.items said)

@@ -1,12 +1,9 @@
 -- Each turn of the loop adds one call and its entry to the record.
-use Rattle.std.proofs.Common.{◌≡◌, suc, ◌+◌, List, [], ◌∷◌, ◌++◌, length, refl, sym, ap, subst, ◌∙◌}
+use Rattle.std.proofs.Common.{◌≡◌, suc, List, [], ◌∷◌, ◌++◌, length, refl, sym, ap, subst, ◌∙◌}
 use Rattle.std.proofs.Common.{append_assoc, append-nil, arith, rules, length-append}
-use Rattle.std.specs.BTreeMap as tree
 use Rattle.std.specs.Vec.Iter.{into_iter_items}
-use Rattle.dnssec_run.specs.Record.{IsRun, IsEntry, world_at, stepped}
-use Rattle.dnssec_run.specs.Recorder.{Agrees}
-use Rattle.dnssec_run.proofs.Grow.{run_none, run_more, world_more, world_none}
-use Rattle.dnssec_run.proofs.Next.{agrees-new}
+use Rattle.dnssec_run.specs.Record.{IsRun}
+use Rattle.dnssec_run.specs.Recorder.{Records}
 use Rattle.dnssec_run.proofs.Chain.Trust.{chain-holds}
 use Rattle.dnssec_run.proofs.Asked.Changes.{changes-as-asked}
 use Rattle.dnssec_run.proofs.Asked.Reports.{retires-as-asked}
@@ -22,59 +19,31 @@ nothing_left [] h = refl
 nothing_left (x ∷ xs) h = absurd (omega arith)
 
 pub loop-call-init : goal.loop-call-init
-loop-call-init c =
-    let empty = c.in-Ok.ensures.items in
-    record {
-      left = refl;
-      count = search rules;
-      run = subst (λ l. IsRun c.args.name [] l) (sym empty) (run_none c.args.name);
-      agrees = subst (Agrees c.new-keyset.result (tree.get_by_text c.new-added.result))
-          (sym (world_none c.args.name c.in-Ok.entries.items))
-          (agrees-new c.args.name c.new-keyset.result c.new-added.result c.new-keyset.ensures
-          c.new-added.ensures.empty);
-      room = search rules;
-    }
+loop-call-init c = record {
+  left = refl;
+  count = search rules;
+  records = subst (λ l. Records c.args.name [] l c.new-recorder.result) (sym c.in-Ok.ensures.items)
+      c.new-recorder.ensures;
+  room = search rules;
+}
 
 pub loop-call-preserved : goal.loop-call-preserved
 loop-call-preserved c =
     let at = c.loop-call in
     let inv = at.invariant in
-    let name = c.args.name in
     let x = c.in-Some.call in
-    let e = c.in_ok-record.field-0 in
+    let e = c.in_ok-make.field-0 in
     let steps : into_iter_items at.call-iterator ≡ x ∷ into_iter_items c.next.new.self =
     c.in-Some.ensures.steps.0 in
-    let here : c.len-at.result + 1 ≡ suc (length at.yielded) = let len = at.entries.ok.0 in
-    omega (arith, c.len-at.ensures, inv.run.count) in
-    let before = world_at name at.yielded at.entries.items (length at.yielded) in
-    let agrees : Agrees c.record.new.keyset (tree.get_by_text c.record.new.added)
-    (stepped (suc (length at.yielded)) before x e.reply) =
-    subst (λ n. Agrees c.record.new.keyset (tree.get_by_text c.record.new.added)
-    (stepped n before x e.reply)) here
-    (c.in_ok-record.ensures.next before inv.agrees) in
-    let ok : IsEntry before (stepped (suc (length at.yielded)) before x e.reply) x e =
-    subst (λ n. IsEntry before (stepped n before x e.reply) x e) here
-    (c.in_ok-record.ensures.entry before inv.agrees) in
-    let items : c.push_reserved.new.self.items ≡ at.entries.items ++ e ∷ [] =
-    c.push_reserved.ensures.items in
-    let more : IsRun name (at.yielded ++ x ∷ []) (at.entries.items ++ e ∷ []) =
-    run_more name at.yielded at.entries.items x e
-    (stepped (suc (length at.yielded)) before x e.reply) inv.run refl ok in
     let count : length (at.yielded ++ x ∷ []) ≡ suc (length at.yielded) = let l =
     length-append at.yielded (x ∷ []) in omega arith in
-    let then : stepped (suc (length at.yielded)) before x e.reply
-    ≡ world_at name (at.yielded ++ x ∷ []) c.push_reserved.new.self.items
-    (length (at.yielded ++ x ∷ [])) =
-    sym (world_more name at.yielded at.entries.items x e inv.run.count)
-    ∙ ap (world_at name (at.yielded ++ x ∷ []) (at.entries.items ++ e ∷ [])) (sym count)
-    ∙ ap (λ l. world_at name (at.yielded ++ x ∷ []) l (length (at.yielded ++ x ∷ [])))
-    (sym items) in
     record {
       left = append_assoc at.yielded (x ∷ []) _ ∙ rw (← steps) inv.left;
       count = let was = inv.count in let gone = c.in-Some.ensures.steps.1 in
           let short = ap length steps in omega arith;
-      run = subst (λ l. IsRun name (at.yielded ++ x ∷ []) l) (sym items) more;
-      agrees = subst (Agrees c.record.new.keyset (tree.get_by_text c.record.new.added)) then agrees;
+      records = subst (λ l. Records c.args.name (at.yielded ++ x ∷ []) l c.make.new.self)
+          (sym c.push_reserved.ensures.items)
+          (c.in_ok-make.ensures.ok c.args.name at.yielded at.entries.items inv.records);
       room = let short = ap length steps in
           omega (arith, inv.room, count, c.push_reserved.ensures.capacity);
     }
@@ -87,7 +56,7 @@ returns-clause-run c =
     nothing_left _ (sym at.invariant.count ∙ none.0) in
     let all : at.yielded ≡ c.args.calls.items = sym (append-nil at.yielded)
     ∙ rw empty at at.invariant.left ∙ c.into_iter-call-iterator.ensures.into_iter_gives.0 in
-    subst (λ l. IsRun c.args.name l at.entries.items) all at.invariant.run
+    subst (λ l. IsRun c.args.name l at.entries.items) all at.invariant.records.run
 
 pub returns-clause-sound : goal.returns-clause-sound
 returns-clause-sound c = stays-sound c.args.name c.args.calls.items c.loop-call.entries.items

@@ -1,17 +1,14 @@
 -- The entries so far are the record of the calls so far, and the list has room for the rest.
 use Rattle.std.proofs.Common.{◌≡◌, ◌+◌, ◌≤◌, ◌++◌, length}
 use Rattle.std.specs.Prelude.{vec_capacity}
-use Rattle.std.specs.BTreeMap as tree
 use Rattle.std.specs.Vec.Iter.{into_iter_items, into_iter_len}
-use Rattle.dnssec_run.specs.Record.{IsRun, world_at}
-use Rattle.dnssec_run.specs.Recorder.{Agrees}
+use Rattle.dnssec_run.specs.Recorder.{Records}
 use Rattle.dnssec_run.proofs.running.run.Given as goal
 
 abbrev pub invariant-loop-call : goal.invariant-loop-call
 invariant-loop-call l = record {
   left : l.yielded ++ into_iter_items l.call-iterator ≡ into_iter_items l.initial.call-iterator;
   count : into_iter_len l.call-iterator ≡ length (into_iter_items l.call-iterator);
-  run : IsRun l.fn.name l.yielded l.entries.items;
-  agrees : Agrees l.keyset (tree.get_by_text l.added) (world_at l.fn.name l.yielded l.entries.items (length l.yielded));
+  records : Records l.fn.name l.yielded l.entries.items l.recorder;
   room : length l.yielded + length (into_iter_items l.call-iterator) ≤ vec_capacity l.entries;
 }
