@@ -10,6 +10,7 @@ use Rattle.dnssec_key.specs.declared.roll.RollType.TheVariants.{CskRoll, Algorit
 use Rattle.dnssec_run.specs.declared.record.Entry.{Entry}
 use Rattle.dnssec_run.specs.declared.record.Mark.{Mark}
 use Rattle.dnssec_run.specs.declared.record.Mark.TheVariants.{Report}
+use Rattle.dnssec_run.specs.declared.record.Published.{Published}
 use Rattle.dnssec_run.specs.Published.{Id, id_of}
 use Rattle.dnssec_run.specs.Safe.{SetKind, Ds, Dnskey, ZoneSigners, Position, position_at}
 use Rattle.dnssec_run.specs.Safe.{retires, time_at}
@@ -62,6 +63,17 @@ held Ds p = (p.ds, [])
 held Dnskey p = (p.dnskey, p.signers)
 held ZoneSigners p = (p.zone, [])
 
+-- the same of what is published
+abbrev pub held_in : SetKind → Published → Held
+held_in Ds sets = (map id_of sets.ds.items, [])
+held_in Dnskey sets = (map id_of sets.dnskey.items, map id_of sets.dnskey_signers.items)
+held_in ZoneSigners sets = (map id_of sets.zone_signers.items, [])
+
+-- what is held next is what is handed in, or what was held before
+abbrev pub GoesOnWith : Option Held → Held → Held → Type 0
+GoesOnWith None before next = next ≡ before
+GoesOnWith (Some set) before next = next ≡ set
+
 abbrev pub set_of_span : Span → Held
 set_of_span s = (map id_of s.keys.items, map id_of s.signers.items)
 
@@ -92,6 +104,11 @@ HasLast set (s ∷ t ∷ ss) = HasLast set (t ∷ ss)
 abbrev pub IsShown : Held → ℕ → List Span → List Span → Type 0
 IsShown set at old new = ((new ≡ old) × HasLast set old) ⊎
     ((s : Span) × (new ≡ old ++ s ∷ []) × (s.from ≡ at) × (set_of_span s ≡ set))
+
+-- the same where a set is handed in, and else nothing
+abbrev pub IsNoted : Option Held → ℕ → List Span → List Span → Type 0
+IsNoted None at old new = new ≡ old
+IsNoted (Some set) at old new = IsShown set at old new
 
 -- whether the first ends below the floor
 abbrev pub ends_below : ℕ → List Span → Bool

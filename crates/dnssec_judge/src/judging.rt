@@ -1,8 +1,9 @@
 //! A judge of a record: it takes the entries one by one, and has the verdict on them so far.
 ghost use Rattle.std.specs.Prelude.{◌≡◌, ◌++◌, ◌∷◌, suc, List, [], length, IfOk, IfErr, OnOk};
+ghost use Rattle.std.specs.Option.{option_map};
 ghost use Rattle.dnssec_key.specs.declared.error.Error.TheVariants.{OutOfMemory};
 ghost use Rattle.dnssec_run.specs.declared.record.Entry.{Entry};
-ghost use Rattle.dnssec_judge.specs.Judge.{Follows, Knows};
+ghost use Rattle.dnssec_judge.specs.Judge.{ComesNext, Follows, Knows};
 ghost use Rattle.dnssec_judge.specs.Verdict.{IsVerdict};
 
 use crate::safety::{Kind, later};
@@ -10,7 +11,7 @@ use crate::steps::Steps;
 use crate::verdict::Broken;
 use crate::window::{Due, Window};
 use dnssec_keyset::{Error, UnixTime};
-use dnssec_run::Entry;
+use dnssec_run::{Entry, Mark, Published};
 use std::alloc::Global;
 use std::time::Duration;
 
@@ -69,9 +70,30 @@ impl Judge {
     /// # Errors
     ///
     /// `OutOfMemory` alone. The judge is then gone: begin anew with the first entry.
-    pub fn take(mut self, alloc: Global, entry: &Entry) -> Result<Self, Error>
+    pub fn take(self, alloc: Global, entry: &Entry) -> Result<Self, Error>
         ensures ok { IfOk result (λ j. (entries : List Entry) → Knows entries self →
             Knows (entries ++ entry.now ∷ []) j) }
+        ensures err { IfErr result (λ e. e ≡ OutOfMemory) }
+    {
+        self.take_next(alloc, entry.mark, entry.moment, Some(&entry.published))
+    }
+
+    /// Takes the next entry by its parts: its mark, its moment, and what is published there, or
+    /// `None` where that is what the entry before it published.
+    ///
+    /// # Errors
+    ///
+    /// `OutOfMemory` alone. The judge is then gone: begin anew with the first entry.
+    pub fn take_next(
+        mut self,
+        alloc: Global,
+        mark: Mark,
+        moment: Option<UnixTime>,
+        published: Option<&Published>,
+    ) -> Result<Self, Error>
+        ensures ok { IfOk result (λ j. (entries : List Entry) (entry : Entry) →
+            ComesNext entries entry mark moment (option_map (λ sets. sets.now) published.entry) →
+            Knows entries self → Knows (entries ++ entry ∷ []) j) }
         ensures err { IfErr result (λ e. e ≡ OutOfMemory) }
     {
         let Some(at) = self.at.checked_add(1) else {
@@ -81,31 +103,39 @@ impl Judge {
         if self.found.is_some() {
             return Ok(self);
         }
-        self.follow(alloc, entry)?;
+        self.follow(alloc, mark, &moment, published)?;
         self.found = self.ds.find_ds(&self.dnskey, &self.zone, at);
         Ok(self)
     }
 
     /// Notes the next entry, which stands at position `at`.
-    fn follow(&mut self, alloc: Global, entry: &Entry) -> Result<(), Error>
+    fn follow(
+        &mut self,
+        alloc: Global,
+        mark: Mark,
+        moment: &Option<UnixTime>,
+        published: Option<&Published>,
+    ) -> Result<(), Error>
         ensures at { OnOk result (self.new.at ≡ self.old.at) }
-        ensures follows { OnOk result ((entries : List Entry) → self.old.at ≡ suc (length entries) →
-            Follows entries self.old → Follows (entries ++ entry.now ∷ []) self.new) }
+        ensures follows { OnOk result ((entries : List Entry) (entry : Entry) →
+            self.old.at ≡ suc (length entries) →
+            ComesNext entries entry mark moment.now
+            (option_map (λ sets. sets.now) published.entry) →
+            Follows entries self.old → Follows (entries ++ entry ∷ []) self.new) }
         ensures err { IfErr result (λ e. e ≡ OutOfMemory) }
     {
         let at = self.at;
-        let time = later(self.time, entry.moment);
-        let sets = &entry.published;
-        let due = Due::of(entry.mark, entry.moment, self.steps, Kind::Ds);
-        self.ds.take(alloc, at, time, due, &sets.ds, &[])?;
-        let due = Due::of(entry.mark, entry.moment, self.steps, Kind::Dnskey);
+        let time = later(self.time, *moment);
+        let due = Due::of(mark, *moment, self.steps, Kind::Ds);
+        self.ds.take(alloc, at, time, due, Kind::Ds, published)?;
+        let due = Due::of(mark, *moment, self.steps, Kind::Dnskey);
         self.dnskey
-            .take(alloc, at, time, due, &sets.dnskey, &sets.dnskey_signers)?;
-        let due = Due::of(entry.mark, entry.moment, self.steps, Kind::ZoneSigners);
+            .take(alloc, at, time, due, Kind::Dnskey, published)?;
+        let due = Due::of(mark, *moment, self.steps, Kind::ZoneSigners);
         self.zone
-            .take(alloc, at, time, due, &sets.zone_signers, &[])?;
+            .take(alloc, at, time, due, Kind::ZoneSigners, published)?;
         self.time = time;
-        self.steps = self.steps.after(entry.mark, at);
+        self.steps = self.steps.after(mark, at);
         Ok(())
     }
 

@@ -1,11 +1,13 @@
 //! What caches may hold of one kind of sets, as a judge keeps it.
 ghost use Rattle.std.specs.Prelude.{◌≡◌, ◌≤◌, ◌+◌, ◌*◌, ℕ, suc, [], map, max, nat_lt, not, true};
 ghost use Rattle.std.specs.Prelude.{IfOk, IfErr, OnOk};
+ghost use Rattle.std.specs.Option.{option_map};
 ghost use Rattle.dnssec_key.specs.declared.error.Error.TheVariants.{OutOfMemory};
 ghost use Rattle.dnssec_run.specs.Published.{id_of};
 ghost use Rattle.dnssec_run.specs.Safe.{SetKind};
 ghost use Rattle.dnssec_judge.specs.Search.{kind_of};
-ghost use Rattle.dnssec_judge.specs.Window.{Begins, GoesOnAbove, HasLast, Held, IsShown, Tiles};
+ghost use Rattle.dnssec_judge.specs.Window.{Begins, GoesOnAbove, GoesOnWith, HasLast, Held};
+ghost use Rattle.dnssec_judge.specs.Window.{IsNoted, IsShown, Tiles, held_in};
 ghost use Rattle.dnssec_judge.specs.Window.{Watches, chained_sets, ends_below, first_failing};
 ghost use Rattle.dnssec_judge.specs.Window.{floor_with, found_ds, found_keys, over, over_any};
 ghost use Rattle.dnssec_judge.specs.Window.{over_by, set_of_span, step_of};
@@ -14,7 +16,7 @@ use crate::safety::{Kind, is_over, retires, trusts_keys, trusts_zone};
 use crate::steps::Steps;
 use crate::verdict::Broken;
 use dnssec_keyset::{Error, UnixTime};
-use dnssec_run::{Mark, PublishedKey, published_key};
+use dnssec_run::{Mark, Published, PublishedKey, copy_keys};
 use std::alloc::Global;
 
 /// A report that isn't over yet. Once it is, all below its base is retired.
@@ -102,15 +104,16 @@ impl Window {
         })
     }
 
-    /// Takes the next position: its report, if it speaks of this kind, and its set.
+    /// Takes the next position: its report, if it speaks of this kind, and what is published there,
+    /// or `None` where that is what was published before.
     pub(crate) fn take(
         &mut self,
         alloc: Global,
         at: usize,
         time: UnixTime,
         due: Option<Due>,
-        keys: &[PublishedKey],
-        signers: &[PublishedKey],
+        kind: Kind,
+        published: Option<&Published>,
     ) -> Result<(), Error>
         ensures floor { OnOk result (self.new.floor
             ≡ max (floor_with self.old.floor self.old.dues.items time) (over_any due time)) }
@@ -120,7 +123,8 @@ impl Window {
         ensures spans { OnOk result ((before after : ℕ → Held) (n : ℕ) → at ≡ suc n →
             Tiles before n self.old.spans.items → Begins self.old.floor self.old.spans.items →
             ((q : ℕ) → q ≤ n → after q ≡ before q) →
-            after (suc n) ≡ (map id_of keys.now, map id_of signers.now) →
+            GoesOnWith (option_map (λ sets. held_in (kind_of kind) sets.now) published.entry)
+            (before n) (after (suc n)) →
             Tiles after (suc n) self.new.spans.items
             × Begins self.new.floor self.new.spans.items
             × GoesOnAbove self.new.floor self.new.spans.items) }
@@ -128,9 +132,34 @@ impl Window {
     {
         self.add(due)?;
         self.retire(time);
-        self.show(alloc, at, keys, signers)?;
+        self.go_on(alloc, at, kind, published)?;
         self.trim();
         Ok(())
+    }
+
+    /// Notes what is published of a kind at a position, where it is handed in.
+    fn go_on(
+        &mut self,
+        alloc: Global,
+        at: usize,
+        kind: Kind,
+        published: Option<&Published>,
+    ) -> Result<(), Error>
+        ensures floor { OnOk result (self.new.floor ≡ self.old.floor) }
+        ensures dues { OnOk result (self.new.dues ≡ self.old.dues) }
+        ensures spans { OnOk result (IsNoted
+            (option_map (λ sets. held_in (kind_of kind) sets.now) published.entry) at
+            self.old.spans.items self.new.spans.items) }
+        ensures err { IfErr result (λ e. e ≡ OutOfMemory) }
+    {
+        let Some(sets) = published else {
+            return Ok(());
+        };
+        match kind {
+            Kind::Ds => self.show(alloc, at, &sets.ds, &[]),
+            Kind::Dnskey => self.show(alloc, at, &sets.dnskey, &sets.dnskey_signers),
+            Kind::ZoneSigners => self.show(alloc, at, &sets.zone_signers, &[]),
+        }
     }
 
     /// Adds a report to those that aren't over.
@@ -296,19 +325,4 @@ fn is_chained(ds: &Span, dnskey: &Span, zone: &Span) -> bool
     ds.keys.is_empty()
         || trusts_keys(&ds.keys, &dnskey.keys, &dnskey.signers)
             && trusts_zone(&dnskey.keys, &zone.keys)
-}
-
-/// Copies of keys.
-fn copy_keys(alloc: Global, keys: &[PublishedKey]) -> Result<Vec<PublishedKey>, Error>
-    ensures ok { IfOk result (λ copies. map id_of copies.items ≡ map id_of keys.now) }
-    ensures err { IfErr result (λ e. e ≡ OutOfMemory) }
-{
-    let mut copies = Vec::new(alloc);
-    for key in keys {
-        let copy = published_key(&key.reference, key.added)?;
-        if copies.push(copy).is_err() {
-            return Err(Error::OutOfMemory);
-        }
-    }
-    Ok(copies)
 }

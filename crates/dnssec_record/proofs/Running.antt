@@ -1,40 +1,68 @@
 -- A run whose entries are answered one by one.
-use Rattle.std.proofs.Common.{◌≡◌, ℕ, ◌-◌, List, [], ◌∷◌, ◌++◌, length, Option, None, Some}
-use Rattle.std.proofs.Common.{refl, sym, ◌∙◌, ap, arith, append_assoc, length-append}
-use Rattle.std.specs.Prelude.{codes, slice_get}
+use Rattle.std.proofs.Common.{◌≡◌, ℕ, ◌-◌, List, [], ◌∷◌, ◌++◌, length, map, Option, None, Some}
+use Rattle.std.proofs.Common.{refl, sym, ◌∙◌, ap, subst, arith, append_assoc, length-append, Bool}
+use Rattle.std.proofs.Common.{true, false}
+use Rattle.std.specs.Option.{option_map}
+use Rattle.std.specs.Prelude.{codes, slice_get, if◌then◌else◌}
 use Rattle.std.proofs.lemmas.List.{flat_map_more}
 use Rattle.dnssec_run.specs.declared.call.Call.{Call}
 use Rattle.dnssec_run.specs.declared.record.Entry.{Entry}
+use Rattle.dnssec_run.specs.declared.record.Outcome.{Outcome}
+use Rattle.dnssec_run.specs.declared.record.Published.{Published}
+use Rattle.dnssec_run.specs.declared.record.PublishedKey.{PublishedKey}
 use Rattle.dnssec_run.specs.declared.running.Recorder.{Recorder}
-use Rattle.dnssec_run.specs.Recorder.{Records}
+use Rattle.dnssec_run.specs.Published.{id_of}
+use Rattle.dnssec_run.specs.Recorder.{HasSameKeys, Records, TellsOutcome}
+use Rattle.dnssec_run.specs.Safe.{SetKind, Ds, Dnskey, ZoneSigners, position_at, told}
 use Rattle.dnssec_run.proofs.Grow.{at_end}
+use Rattle.dnssec_run.proofs.Recorded.{last-ds, last-dnskey, last-signers, last-zone}
 use Rattle.dnssec_judge.specs.declared.judging.Judge.{Judge}
 use Rattle.dnssec_judge.specs.declared.verdict.Broken.{Broken}
-use Rattle.dnssec_judge.specs.Judge.{Knows}
+use Rattle.dnssec_judge.specs.Judge.{ComesNext, Knows}
 use Rattle.dnssec_judge.specs.Verdict.{IsVerdict}
+use Rattle.dnssec_judge.specs.Window.{GoesOnWith, held, held_in}
 use Rattle.dnssec_record.specs.Answer.{Answers}
-use Rattle.dnssec_record.specs.Output.{answers, chain_line, reply_text, set_line, sets_text}
+use Rattle.dnssec_record.specs.Output.{answers, chain_line, published_text, reply_text, set_line}
+use Rattle.dnssec_record.specs.Output.{set_text, sets_text}
 use Rattle.dnssec_record.specs.Script.{IsScript}
 
 -- the calls so far have these answers; what is kept of their entries is what the recorder and the
--- judge know, and the last of them
+-- judge know
 pub record HasAnswered (name : List ℕ) (calls : List Call) (text : List ℕ) (r : Recorder)
-    (j : Judge) (last : Option Entry) : Type 0 where
+    (j : Judge) : Type 0 where
   pub entries : List Entry
   pub records : Records name calls entries r
   pub knows : Knows entries j
   pub text_is : text ≡ answers entries
-  pub last_is : last ≡ slice_get entries (length entries - 1)
+  pub sets_are : published_text r.published ≡ set_line entries
+
+no_keys : (keys : List PublishedKey) → map id_of keys ≡ [] → keys ≡ []
+no_keys [] none = refl
+no_keys (k ∷ ks) none = cc
+
+-- before the first call the four sets are empty
+empty_sets : (sets : Published) → map id_of sets.ds.items ≡ [] → map id_of sets.dnskey.items ≡ []
+    → map id_of sets.dnskey_signers.items ≡ [] → map id_of sets.zone_signers.items ≡ []
+    → published_text sets ≡ sets_text None
+empty_sets sets ds dnskey signers zone =
+    let a = no_keys sets.ds.items ds in let b = no_keys sets.dnskey.items dnskey in
+    let c = no_keys sets.dnskey_signers.items signers in
+    let d = no_keys sets.zone_signers.items zone in
+    λ i. codes "ds=" ++ set_text (a i) ++ codes " dnskey=" ++ set_text (b i)
+    ++ codes " signers=" ++ set_text (c i) ++ codes " zone=" ++ set_text (d i) ++ codes "\n"
 
 -- no call
 pub none_answered : (name : List ℕ) (text : List ℕ) (r : Recorder) (j : Judge)
-    → Records name [] [] r → Knows [] j → text ≡ [] → HasAnswered name [] text r j None
+    → Records name [] [] r → Knows [] j → text ≡ [] → HasAnswered name [] text r j
+unfolding position_at
 none_answered name text r j records knows empty = record {
   entries = [];
   records = records;
   knows = knows;
   text_is = empty;
-  last_is = refl;
+  sets_are = empty_sets r.published (sym (last-ds name [] [] r records))
+      (sym (last-dnskey name [] [] r records)) (sym (last-signers name [] [] r records))
+      (sym (last-zone name [] [] r records));
 }
 
 -- the entry behind some others
@@ -45,16 +73,64 @@ last_of entries e =
     let at : length entries ≡ length (entries ++ e ∷ []) - 1 = omega arith in
     sym (at_end entries e) ∙ ap (slice_get (entries ++ e ∷ [])) at
 
+-- what the last position holds of a kind
+last_held : (name : List ℕ) (calls : List Call) (entries : List Entry) (r : Recorder)
+    → Records name calls entries r → (kind : SetKind)
+    → held_in kind r.published ≡ held kind (position_at entries (length entries))
+last_held name calls entries r so Ds = λ i. (sym (last-ds name calls entries r so) i, [])
+last_held name calls entries r so Dnskey = λ i.
+    (sym (last-dnskey name calls entries r so) i, sym (last-signers name calls entries r so) i)
+last_held name calls entries r so ZoneSigners =
+    λ i. (sym (last-zone name calls entries r so) i, [])
+
+told_held : (e : Entry) (kind : SetKind) → held kind (told e) ≡ held_in kind e.published
+told_held e Ds = refl
+told_held e Dnskey = refl
+told_held e ZoneSigners = refl
+
+-- the entry of an outcome comes next, where the sets are handed in that may have changed
+next_comes : (name : List ℕ) (calls : List Call) (entries : List Entry) (r s : Recorder)
+    (outcome : Outcome) (e : Entry) (news : Option Published) (b : Bool)
+    → Records name calls entries r → e.mark ≡ outcome.mark → e.moment ≡ outcome.moment
+    → e.published ≡ s.published → outcome.may_publish ≡ b
+    → (b ≡ false → s.published ≡ r.published)
+    → news ≡ (if b then Some s.published else None)
+    → ComesNext entries e outcome.mark outcome.moment news
+next_comes name calls entries r s outcome e news b so mark moment sets may kept handed = record {
+  has_mark = mark;
+  has_moment = moment;
+  publishes = λ kind. subst (λ news. GoesOnWith (option_map (held_in kind) news)
+      (held kind (position_at entries (length entries))) (held kind (told e))) (sym handed)
+      (by b kept kind);
+}
+  where
+    by : (b : Bool) → (b ≡ false → s.published ≡ r.published) → (kind : SetKind)
+        → GoesOnWith (option_map (held_in kind) (if b then Some s.published else None))
+        (held kind (position_at entries (length entries))) (held kind (told e))
+    by true kept kind = told_held e kind ∙ ap (held_in kind) sets
+    by false kept kind = told_held e kind ∙ ap (held_in kind) (sets ∙ kept refl)
+        ∙ last_held name calls entries r so kind
+
 -- one more call
 pub one_more : (name : List ℕ) (calls : List Call) (text after : List ℕ) (r s : Recorder)
-    (j k : Judge) (last : Option Entry) (call : Call) (e : Entry)
-    → HasAnswered name calls text r j last
-    → ((name : List ℕ) (calls : List Call) (entries : List Entry) → Records name calls entries r →
-    Records name (calls ++ call ∷ []) (entries ++ e ∷ []) s)
-    → ((entries : List Entry) → Knows entries j → Knows (entries ++ e ∷ []) k)
-    → after ≡ text ++ reply_text e.reply ++ codes "\n"
-    → HasAnswered name (calls ++ call ∷ []) after s k (Some e)
-one_more name calls text after r s j k last call e so made judged said =
+    (j k : Judge) (call : Call) (outcome : Outcome) (news : Option Published)
+    → HasAnswered name calls text r j
+    → ((name : List ℕ) (calls : List Call) (entries : List Entry) (e : Entry)
+    → TellsOutcome e outcome → HasSameKeys e.published s.published → Records name calls entries r
+    → Records name (calls ++ call ∷ []) (entries ++ e ∷ []) s)
+    → (outcome.may_publish ≡ false → s.published ≡ r.published)
+    → news ≡ (if outcome.may_publish then Some s.published else None)
+    → ((entries : List Entry) (e : Entry) → ComesNext entries e outcome.mark outcome.moment news
+    → Knows entries j → Knows (entries ++ e ∷ []) k)
+    → after ≡ text ++ reply_text outcome.reply ++ codes "\n"
+    → HasAnswered name (calls ++ call ∷ []) after s k
+one_more name calls text after r s j k call outcome news so made kept handed judged said =
+    let e : Entry = record {
+      reply = outcome.reply;
+      moment = outcome.moment;
+      mark = outcome.mark;
+      published = s.published;
+    } in
     let line = λ (e : Entry). reply_text e.reply ++ codes "\n" in
     let more : answers so.entries ++ line e ≡ answers (so.entries ++ e ∷ []) =
     flat_map_more line [] so.entries e in
@@ -63,22 +139,28 @@ one_more name calls text after r s j k last call e so made judged said =
     ∙ ap (λ t. t ++ line e) so.text_is in
     record {
       entries = so.entries ++ e ∷ [];
-      records = made name calls so.entries so.records;
-      knows = judged so.entries so.knows;
+      records = made name calls so.entries e
+          (record { reply = refl; mark = refl; moment = refl })
+          (record { ds = refl; dnskey = refl; dnskey_signers = refl; zone_signers = refl })
+          so.records;
+      knows = judged so.entries e
+          (next_comes name calls so.entries r s outcome e news outcome.may_publish so.records refl
+          refl refl refl kept handed) so.knows;
       text_is = text_is ∙ more;
-      last_is = last_of so.entries e;
+      sets_are = ap sets_text (last_of so.entries e);
     }
 
 -- all calls of a script, with the sets and the verdict behind them
 pub all_answered : (script name : List ℕ) (calls : List Call) (text sets whole : List ℕ)
-    (r : Recorder) (j : Judge) (last : Option Entry) (verdict : Option Broken)
-    → IsScript script name calls → HasAnswered name calls text r j last
+    (r : Recorder) (j : Judge) (verdict : Option Broken)
+    → IsScript script name calls → HasAnswered name calls text r j
     → ((entries : List Entry) → Knows entries j → IsVerdict entries verdict)
-    → sets ≡ text ++ sets_text last → whole ≡ sets ++ chain_line verdict → Answers script whole
-all_answered script name calls text sets whole r j last verdict is so judged shown said =
+    → sets ≡ text ++ published_text r.published → whole ≡ sets ++ chain_line verdict
+    → Answers script whole
+all_answered script name calls text sets whole r j verdict is so judged shown said =
     let front : sets ≡ answers so.entries ++ set_line so.entries =
-    shown ∙ ap (λ t. t ++ sets_text last) so.text_is
-    ∙ ap (λ l. answers so.entries ++ sets_text l) so.last_is in
+    shown ∙ ap (λ t. t ++ published_text r.published) so.text_is
+    ∙ ap (λ l. answers so.entries ++ l) so.sets_are in
     record {
       name = name;
       calls = calls;

@@ -3,18 +3,18 @@ ghost use Rattle.std.specs.Prelude.{◌≡◌, ◌++◌, ℕ, List, IfOk, OnOk, 
 ghost use Rattle.std.specs.List.{flat_map};
 ghost use Rattle.dnssec_record.specs.Answer.{Answers};
 ghost use Rattle.dnssec_record.specs.Output.{action_name, actions_text, broken_text, chain_line};
-ghost use Rattle.dnssec_record.specs.Output.{published_text, reply_text, set_text, sets_text};
+ghost use Rattle.dnssec_record.specs.Output.{published_text, reply_text, set_text};
 ghost use Rattle.dnssec_record.specs.Script.{IsScript};
 
 use dnssec_base::Name;
 use dnssec_judge::{Broken, Judge};
 use dnssec_keyset::Action;
-use dnssec_run::{Call, Entry, Published, PublishedKey, Recorder, Reply};
+use dnssec_run::{Call, Published, PublishedKey, Recorder, Reply};
 use std::alloc::{AllocError, Global};
 
 /// Makes the calls in turn on a new key set for the zone of this name, and tells what each is
-/// answered, then the sets that are published, and the verdict on the record. Of the record it has
-/// the last entry, and what a judge keeps.
+/// answered, then the sets that are published, and the verdict on the record. Of the record there is
+/// what a recorder and a judge keep.
 pub(crate) fn answer(
     alloc: Global,
     name: Name<Vec<u8>>,
@@ -28,19 +28,18 @@ pub(crate) fn answer(
     let Ok(mut judge) = Judge::new(alloc) else {
         return Err(AllocError);
     };
-    let mut last = None;
     for call in calls {
-        let Ok(entry) = recorder.make(alloc, call) else {
+        let Ok(outcome) = recorder.advance(alloc, call) else {
             return Err(AllocError);
         };
-        let Ok(next) = judge.take(alloc, &entry) else {
+        let news = recorder.news(&outcome);
+        let Ok(next) = judge.take_next(alloc, outcome.mark, outcome.moment, news) else {
             return Err(AllocError);
         };
         judge = next;
-        push_answer(&mut text, &entry.reply)?;
-        last = Some(entry);
+        push_answer(&mut text, &outcome.reply)?;
     }
-    push_set_line(&mut text, &last)?;
+    push_published(&mut text, recorder.published())?;
     push_chain_line(&mut text, judge.verdict())?;
     Ok(text)
 }
@@ -96,15 +95,6 @@ fn action_name(action: Action) -> &'static str
 }
 
 /// Writes the sets that are published after the last call.
-fn push_set_line(text: &mut String, last: &Option<Entry>) -> Result<(), AllocError>
-    ensures { OnOk result (string_bytes text.new ≡ string_bytes text.old ++ sets_text last.now) }
-{
-    match last {
-        None => text.push_str("ds=- dnskey=- signers=- zone=-\n"),
-        Some(entry) => push_published(text, &entry.published),
-    }
-}
-
 fn push_published(text: &mut String, published: &Published) -> Result<(), AllocError>
     ensures { OnOk result (string_bytes text.new
         ≡ string_bytes text.old ++ published_text published.now) }

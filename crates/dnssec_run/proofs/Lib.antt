@@ -7,3 +7,4 @@ pub mod WholeRolls
 pub mod Asked
 pub mod EarlyEnds
 pub mod Starts
+pub mod Recorded

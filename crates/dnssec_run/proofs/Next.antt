@@ -1,6 +1,6 @@
 -- The positions that the recorder keeps go along with each call.
 use Rattle.std.proofs.Common.{◌≡◌, ℕ, Bool, true, false, cond, List, Some, None, refl, sym, ap, ◌∙◌}
-use Rattle.std.proofs.Common.{inl, inr}
+use Rattle.std.proofs.Common.{inl, inr, subst, map}
 use Rattle.std.specs.Prelude.{Option, ◌⊎◌}
 use Rattle.std.specs.Option.{option_map}
 use Rattle.std.specs.Str.{bytes_eq}
@@ -19,13 +19,19 @@ use Rattle.dnssec_keyset.specs.Step.{AddKey, Set, DeleteKey, StartRoll, Report, 
 use Rattle.dnssec_keyset.specs.Step.{after, after_reply}
 use Rattle.dnssec_keyset.proofs.After.{after-changes}
 use Rattle.dnssec_run.specs.declared.call.Call.{Call}
+use Rattle.dnssec_run.specs.declared.record.Entry.{Entry}
+use Rattle.dnssec_run.specs.declared.record.Outcome.{Outcome}
+use Rattle.dnssec_run.specs.declared.record.Published.{Published}
 use Rattle.dnssec_run.specs.declared.record.Reply.{Reply}
 use Rattle.dnssec_run.specs.declared.record.Reply.TheVariants.{Done, Actions, Refused}
-use Rattle.dnssec_run.specs.Published.{World}
+use Rattle.dnssec_run.specs.Published.{IsPublished, World, id_of, in_ds, in_dnskey, signs_dnskey}
+use Rattle.dnssec_run.specs.Published.{signs_zone}
 use Rattle.dnssec_run.specs.Record.{call_of, reply_of, is_accepted, mark_of, mark_after}
-use Rattle.dnssec_run.specs.Record.{reference_added, with_added, stepped, new_world}
+use Rattle.dnssec_run.specs.Record.{IsEntry, reference_added, with_added, stepped, new_world}
 use Rattle.dnssec_run.specs.declared.record.Mark.TheVariants.{Other}
-use Rattle.dnssec_run.specs.Recorder.{Agrees, noted, reference_deleted}
+use Rattle.dnssec_run.specs.Recorder.{Agrees, HasSameKeys, IsOutcome, TellsOutcome, noted}
+use Rattle.dnssec_run.specs.Recorder.{reference_deleted}
+use Rattle.dnssec_run.proofs.Positions.{shown-none}
 
 split : (b : Bool) → (b ≡ true) ⊎ (b ≡ false)
 split true = inl refl
@@ -115,4 +121,32 @@ agrees-new name set m is none = record {
   same = is;
   positions = λ q. ap (λ (es : List (String Global × ℕ)). lookup (tree.is_at (λ k. slice_cmp nat_cmp q (string_bytes k))) es) none
       ∙ sym (ap (option_map (λ (k : KeyParts). 0)) (get-empty (slice_cmp nat_cmp) q));
+}
+
+-- the entry of an outcome, with the sets that are published then
+pub entry-of : (w v : World) (call : Call) (outcome : Outcome) (entry : Entry) (sets : Published)
+    → IsOutcome w v call outcome → TellsOutcome entry outcome → HasSameKeys entry.published sets
+    → IsPublished sets v → IsEntry w v call entry
+entry-of w v call outcome entry sets is tells same shown = record {
+  step = subst (λ (r : Reply). keyset.Step w.set (call_of call) (reply_of r) v.set)
+      (sym tells.reply) is.step;
+  mark = tells.mark ∙ is.mark ∙ ap (mark_after call) (sym tells.reply);
+  moment = tells.moment ∙ is.moment;
+  published = record {
+    ds = same.ds ∙ shown.ds;
+    dnskey = same.dnskey ∙ shown.dnskey;
+    dnskey_signers = same.dnskey_signers ∙ shown.dnskey_signers;
+    zone_signers = same.zone_signers ∙ shown.zone_signers;
+  };
+}
+
+-- before the first call nothing is published
+pub published-new : (name : List ℕ) (sets : Published) → sets.ds.items ≡ [] → sets.dnskey.items ≡ []
+    → sets.dnskey_signers.items ≡ [] → sets.zone_signers.items ≡ []
+    → IsPublished sets (new_world name)
+published-new name sets ds dnskey signers zone = record {
+  ds = ap (map id_of) ds ∙ sym (shown-none in_ds name);
+  dnskey = ap (map id_of) dnskey ∙ sym (shown-none in_dnskey name);
+  dnskey_signers = ap (map id_of) signers ∙ sym (shown-none signs_dnskey name);
+  zone_signers = ap (map id_of) zone ∙ sym (shown-none signs_zone name);
 }

@@ -1,7 +1,7 @@
 -- A published list has just the keys that its set shows, in their order: for `run` and `changes`.
 use Rattle.std.proofs.Common.{◌≡◌, ℕ, Bool, true, false, cond, List, [], ◌∷◌, map, None, Some, refl}
-use Rattle.std.proofs.Common.{sym}
-use Rattle.std.proofs.Common.{ap, subst, ◌∙◌, inl, inr, string_bytes}
+use Rattle.std.proofs.Common.{sym, ap, subst, ◌∙◌, inl, inr, string_bytes, ◌++◌, append_assoc}
+use Rattle.std.proofs.Common.{append-nil}
 use Rattle.std.specs.Prelude.{Option, ◌⊎◌, ◌&&◌, T, filter}
 use Rattle.std.specs.declared.string.String.{String}
 use Rattle.std.specs.declared.cmp.Ordering.{Ordering}
@@ -23,9 +23,9 @@ use Rattle.std.proofs.lemmas.Map.Text.{is_eq-slice_cmp}
 use Rattle.dnssec_key.specs.declared.key.KeyType.{KeyType}
 use Rattle.dnssec_key.specs.Key.{KeyParts}
 use Rattle.dnssec_keyset.specs.KeySet.{KeySetParts, new_set}
-use Rattle.dnssec_run.specs.Published.{World, shown}
+use Rattle.dnssec_run.specs.Published.{Id, World, shown}
 use Rattle.dnssec_run.specs.Record.{new_world}
-use Rattle.dnssec_run.specs.Recorder.{Agrees, passing}
+use Rattle.dnssec_run.specs.Recorder.{Agrees, passing, shown_once}
 
 order : List ℕ → List ℕ → Ordering
 order = slice_cmp nat_cmp
@@ -211,6 +211,46 @@ module _ {Y : Type 0} (p : KeyType → Bool) (key : List ℕ → Option KeyParts
           (filter (test p key) (by_bytes es))
       at true rest = ap (λ xs. (string_bytes e.0, e.1) ∷ xs) rest
       at false rest = rest
+
+  abbrev ids : List (String Y × ℕ) → List Id
+  ids = map (λ (e : String Y × ℕ). (string_bytes e.0, e.1))
+
+  -- the first entry's key is shown, and then those of the others
+  passing-first : (e : String Y × ℕ) (es : List (String Y × ℕ)) → passing p key (e ∷ es)
+      ≡ shown_once p (key (string_bytes e.0)) (string_bytes e.0, e.1) ++ passing p key es
+  passing-first e es = at (key (string_bytes e.0))
+      (filter (λ (e : String Y × ℕ). option_map_or (λ (k : KeyParts). p k.keytype)
+      (key (string_bytes e.0)) false) es)
+    where
+      by : (b : Bool) (rest : List (String Y × ℕ)) → ids (cond b (e ∷ rest) rest)
+          ≡ cond b ((string_bytes e.0, e.1) ∷ []) [] ++ ids rest
+      by true rest = refl
+      by false rest = refl
+
+      at : (o : Option KeyParts) (rest : List (String Y × ℕ))
+          → ids (cond (option_map_or (λ (k : KeyParts). p k.keytype) o false) (e ∷ rest) rest)
+          ≡ shown_once p o (string_bytes e.0, e.1) ++ ids rest
+      at None rest = refl
+      at (Some k) rest = by (p k.keytype) rest
+
+  -- a walk that shows the keys found so far has shown one more
+  pub shows-next : (old new whole : List Id) (left : List (String Y × ℕ)) (e : String Y × ℕ)
+      (es : List (String Y × ℕ)) (o : Option KeyParts) → left ≡ e ∷ es
+      → o ≡ key (string_bytes e.0) → new ≡ old ++ shown_once p o (string_bytes e.0, e.1)
+      → old ++ passing p key left ≡ whole → new ++ passing p key es ≡ whole
+  shows-next old new whole left e es o steps found more so =
+      ap (λ l. l ++ passing p key es)
+      (more ∙ ap (λ o. old ++ shown_once p o (string_bytes e.0, e.1)) found)
+      ∙ append_assoc old (shown_once p (key (string_bytes e.0)) (string_bytes e.0, e.1))
+      (passing p key es)
+      ∙ ap (λ l. old ++ l) (sym (passing-first e es))
+      ∙ ap (λ l. old ++ passing p key l) (sym steps) ∙ so
+
+  -- behind the whole walk
+  pub shows-all : (all whole : List Id) (left : List (String Y × ℕ)) → left ≡ []
+      → all ++ passing p key left ≡ whole → all ≡ whole
+  shows-all all whole left none so =
+      sym (append-nil all) ∙ ap (λ l. all ++ passing p key l) (sym none) ∙ so
 
   pub passing-shown : (m : BTreeMap (String Y) ℕ) (set : KeySetParts) (w : World)
       → IsOrdered string_cmp m → Agrees set (tree.get_by_text m) w

@@ -1,5 +1,6 @@
 -- What the recorder of a run keeps beside the key set.
-use Rattle.std.specs.Prelude.{◌≡◌, ℕ, Bool, false, List, length, map, filter, Option, None, Some}
+use Rattle.std.specs.Prelude.{◌≡◌, ℕ, Bool, false, List, [], ◌∷◌, length, map, filter}
+use Rattle.std.specs.Prelude.{Option, None, Some}
 use Rattle.std.specs.Prelude.{if◌then◌else◌, string_bytes}
 use Rattle.std.specs.Option.{option_map, option_map_or}
 use Rattle.std.specs.Str.{bytes_eq}
@@ -12,12 +13,15 @@ use Rattle.dnssec_keyset.specs.KeySet.{KeySetParts}
 use Rattle.dnssec_keyset.specs.Step as keyset
 use Rattle.dnssec_run.specs.declared.call.Call.{Call}
 use Rattle.dnssec_run.specs.declared.record.Entry.{Entry}
+use Rattle.dnssec_run.specs.declared.record.Outcome.{Outcome}
+use Rattle.dnssec_run.specs.declared.record.Published.{Published}
 use Rattle.dnssec_run.specs.declared.running.Recorder.{Recorder}
 use Rattle.dnssec_run.specs.declared.running.Shown.{Shown}
 use Rattle.dnssec_run.specs.declared.running.Shown.TheVariants.{Ds, Dnskey, DnskeySigners}
 use Rattle.dnssec_run.specs.declared.running.Shown.TheVariants.{ZoneSigners}
-use Rattle.dnssec_run.specs.Published.{Id, World, in_ds, in_dnskey, signs_dnskey, signs_zone}
-use Rattle.dnssec_run.specs.Record.{IsRun, world_at}
+use Rattle.dnssec_run.specs.Published.{Id, IsPublished, World, id_of, in_ds, in_dnskey}
+use Rattle.dnssec_run.specs.Published.{signs_dnskey, signs_zone}
+use Rattle.dnssec_run.specs.Record.{IsRun, call_of, mark_after, moment_of, reply_of, world_at}
 
 -- the keys that a set shows
 abbrev pub shows : Shown → KeyType → Bool
@@ -50,6 +54,33 @@ passing {Y} p key es =
     (filter (λ (e : String Y × ℕ). option_map_or (λ (k : KeyParts). p k.keytype)
     (key (string_bytes e.0)) false) es)
 
+-- a key as one of a record, where it is there and passes
+abbrev pub shown_once : (KeyType → Bool) → Option KeyParts → Id → List Id
+shown_once passes None id = []
+shown_once passes (Some k) id = if passes k.keytype then id ∷ [] else []
+
+-- two sets of lists have the same keys
+pub record HasSameKeys (one other : Published) : Type 0 where
+  pub ds : map id_of one.ds.items ≡ map id_of other.ds.items
+  pub dnskey : map id_of one.dnskey.items ≡ map id_of other.dnskey.items
+  pub dnskey_signers : map id_of one.dnskey_signers.items ≡ map id_of other.dnskey_signers.items
+  pub zone_signers : map id_of one.zone_signers.items ≡ map id_of other.zone_signers.items
+
+-- an entry tells what its call came to
+pub record TellsOutcome (entry : Entry) (outcome : Outcome) : Type 0 where
+  pub reply : entry.reply ≡ outcome.reply
+  pub mark : entry.mark ≡ outcome.mark
+  pub moment : entry.moment ≡ outcome.moment
+
+-- an outcome is that of a call that goes from w to v; and where it may not have published anything,
+-- the sets of w are those of v
+pub record IsOutcome (w v : World) (call : Call) (outcome : Outcome) : Type 0 where
+  pub step : keyset.Step w.set (call_of call) (reply_of outcome.reply) v.set
+  pub mark : outcome.mark ≡ mark_after call outcome.reply
+  pub moment : outcome.moment ≡ moment_of call
+  pub kept : outcome.may_publish ≡ false → (sets : Published) → IsPublished sets w →
+      IsPublished sets v
+
 -- the entries are the record of the calls so far on a new key set of this name, and the recorder
 -- stands behind the last of them
 pub record Records (name : List ℕ) (calls : List Call) (entries : List Entry) (r : Recorder)
@@ -58,3 +89,4 @@ pub record Records (name : List ℕ) (calls : List Call) (entries : List Entry) 
   pub at : r.at ≡ length entries
   pub agrees : Agrees r.keyset (tree.get_by_text r.added)
       (world_at name calls entries (length calls))
+  pub published : IsPublished r.published (world_at name calls entries (length calls))

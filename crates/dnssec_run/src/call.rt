@@ -2,6 +2,7 @@
 ghost use Rattle.std.specs.Prelude.{◌≡◌};
 ghost use Rattle.std.specs.Option.{option_map};
 ghost use Rattle.dnssec_keyset.specs.Step.{Step, reply_done, reply_list};
+ghost use Rattle.dnssec_run.specs.Asked.{sets_flag};
 ghost use Rattle.dnssec_run.specs.Recorder.{reference_deleted};
 ghost use Rattle.dnssec_run.specs.Record.{call_of, mark_of, moment_of, reference_added};
 ghost use Rattle.dnssec_run.specs.Record.{reply_of};
@@ -172,6 +173,19 @@ impl<'a> Call<'a> {
             Call::DeleteKey { pubref } => Some(*pubref),
             _ => None,
         }
+    }
+
+    /// Whether the call sets a flag of a key by hand.
+    pub(crate) fn sets_flag(&self) -> bool
+        ensures { result ≡ sets_flag (call_of self.now) }
+    {
+        matches!(
+            self,
+            Call::SetPresent { .. }
+                | Call::SetSigner { .. }
+                | Call::SetAtParent { .. }
+                | Call::SetStale { .. }
+        )
     }
 
     /// Makes the call.

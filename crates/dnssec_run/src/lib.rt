@@ -11,5 +11,5 @@ mod running;
 
 pub use call::Call;
 pub use plain::starts_suffice;
-pub use record::{Entry, Mark, Published, PublishedKey, Reply, Run};
-pub use running::{Recorder, Shown, published_key, run};
+pub use record::{Entry, Mark, Outcome, Published, PublishedKey, Reply, Run};
+pub use running::{Recorder, Shown, copy_keys, run};

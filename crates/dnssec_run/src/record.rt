@@ -1,8 +1,10 @@
 //! What a run leaves: its entries, with what was published at each position.
-ghost use Rattle.std.specs.Prelude.{◌≡◌};
+ghost use Rattle.std.specs.Prelude.{◌≡◌, [], true, false};
+ghost use Rattle.dnssec_run.specs.Asked.{asked_by};
 ghost use Rattle.dnssec_run.specs.Record.{is_accepted};
 
 use dnssec_keyset::{Action, Error, KeySet, RollType, UnixTime};
+use std::alloc::Global;
 
 /// What a call answered.
 #[derive(Debug, Drop, PartialEq)]
@@ -21,6 +23,19 @@ impl Reply {
     {
         match self {
             Reply::Done | Reply::Actions(_) => true,
+            Reply::Refused(_) => false,
+        }
+    }
+
+    /// Whether the call may have changed what is published: where it was accepted, and sets a flag
+    /// by hand or asks to perform an action.
+    pub(crate) fn may_publish(&self, sets_flag: bool) -> bool
+        ensures { result ≡ false → is_accepted self.now ≡ true →
+            (sets_flag ≡ false) × (asked_by self.now ≡ []) }
+    {
+        match self {
+            Reply::Done => sets_flag,
+            Reply::Actions(actions) => sets_flag || !actions.is_empty(),
             Reply::Refused(_) => false,
         }
     }
@@ -47,6 +62,23 @@ pub struct Published {
     pub dnskey_signers: Vec<PublishedKey>,
     /// The keys that sign the zone.
     pub zone_signers: Vec<PublishedKey>,
+}
+
+impl Published {
+    /// Four empty sets.
+    pub(crate) fn none(alloc: Global) -> Published
+        ensures ds { result.ds.items ≡ [] }
+        ensures dnskey { result.dnskey.items ≡ [] }
+        ensures dnskey_signers { result.dnskey_signers.items ≡ [] }
+        ensures zone_signers { result.zone_signers.items ≡ [] }
+    {
+        Published {
+            ds: Vec::new(alloc),
+            dnskey: Vec::new(alloc),
+            dnskey_signers: Vec::new(alloc),
+            zone_signers: Vec::new(alloc),
+        }
+    }
 }
 
 /// What an accepted call means for the caches that hold what was published before.
@@ -76,6 +108,18 @@ pub struct Entry {
     pub moment: Option<UnixTime>,
     pub mark: Mark,
     pub published: Published,
+}
+
+/// What a call came to: its entry without the sets.
+#[derive(Debug, Drop, PartialEq)]
+pub struct Outcome {
+    pub reply: Reply,
+    /// The moment that the call was given as `now`, as in its entry.
+    pub moment: Option<UnixTime>,
+    pub mark: Mark,
+    /// Whether the call may have changed what is published. Where it has not, the sets are those of
+    /// the position before.
+    pub may_publish: bool,
 }
 
 /// A key set after its calls, with one entry for each: `entries[i]` is that of position `i + 1`.

@@ -3,8 +3,8 @@ ghost use Rattle.std.specs.Prelude.{◌≡◌, ◌++◌, ◌∷◌, ℕ, List, [
 ghost use Rattle.std.specs.BTreeMap as tree;
 ghost use Rattle.std.specs.HashMap as hash;
 ghost use Rattle.std.specs.String.{string_cmp};
-ghost use Rattle.std.specs.Option.{option_map, option_map_or};
-ghost use Rattle.std.specs.Prelude.{string_bytes, false};
+ghost use Rattle.std.specs.Option.{option_map};
+ghost use Rattle.std.specs.Prelude.{string_bytes, true, false, Some, None, if◌then◌else◌};
 ghost use Rattle.dnssec_key.specs.declared.error.Error.TheVariants.{OutOfMemory};
 ghost use Rattle.dnssec_run.specs.Asked.{ChangesAsAsked, RetiresAsAsked};
 ghost use Rattle.dnssec_run.specs.EarlyEnds.{UndoesStarts};
@@ -12,15 +12,16 @@ ghost use Rattle.dnssec_run.specs.WholeRolls.{GoesOn, NeverMissesStamp, RollsFin
 ghost use Rattle.dnssec_run.specs.WholeRolls.{SettlesBetweenRolls, WaitsExactly};
 ghost use Rattle.dnssec_run.specs.Plain.{StaysSafe};
 ghost use Rattle.dnssec_run.specs.Published.{IsPublished, World, id_of};
-ghost use Rattle.dnssec_run.specs.Record.{IsEntry, IsRun, KeepsSidesApart};
+ghost use Rattle.dnssec_run.specs.Record.{IsRun, KeepsSidesApart};
 ghost use Rattle.dnssec_run.specs.Record.{NeighboursMayBeExchanged, StaysSound, call_of};
 ghost use Rattle.dnssec_run.specs.Record.{reference_added, stepped, world_at};
-ghost use Rattle.dnssec_run.specs.Recorder.{Agrees, Records, noted, passing, shows};
+ghost use Rattle.dnssec_run.specs.Recorder.{Agrees, HasSameKeys, IsOutcome, Records, TellsOutcome};
+ghost use Rattle.dnssec_run.specs.Recorder.{noted, shown_once, shows};
 ghost use Rattle.dnssec_run.specs.declared.call.Call.{Call};
 ghost use Rattle.dnssec_run.specs.declared.record.Entry.{Entry};
 
 use crate::call::Call;
-use crate::record::{Entry, Mark, Published, PublishedKey, Reply, Run};
+use crate::record::{Entry, Mark, Outcome, Published, PublishedKey, Run};
 use dnssec_base::Name;
 use dnssec_keyset::{Error, Key, KeySet, KeyType};
 use std::alloc::Global;
@@ -82,22 +83,8 @@ fn note(
     }
 }
 
-fn is_shown(keys: &HashMap<String, Key>, reference: &str, shown: Shown) -> bool
-    ensures { result ≡ option_map_or (λ k. shows shown k.keytype)
-        (hash.get_by_text keys.now reference.now) false }
-{
-    match keys.get(reference) {
-        None => false,
-        Some(key) => shown.shows(key.keytype()),
-    }
-}
-
 /// A key of a record, with a copy of its reference.
-///
-/// # Errors
-///
-/// `OutOfMemory` alone.
-pub fn published_key(reference: &String, added: usize) -> Result<PublishedKey, Error>
+fn published_key(reference: &String, added: usize) -> Result<PublishedKey, Error>
     ensures ok { IfOk result (λ k. id_of k ≡ (string_bytes reference.now, added)) }
     ensures err { IfErr result (λ e. e ≡ OutOfMemory) }
 {
@@ -107,32 +94,53 @@ pub fn published_key(reference: &String, added: usize) -> Result<PublishedKey, E
     }
 }
 
-/// The keys that a set shows, in the order of their references.
-fn list(
-    alloc: Global,
-    keys: &HashMap<String, Key>,
-    added: &BTreeMap<String, usize>,
-    shown: Shown,
-) -> Result<Vec<PublishedKey>, Error>
-    ensures ok { IfOk result (λ list.
-        map id_of list.items
-        ≡ passing (shows shown) (hash.get_by_text keys.now) added.now.entries) }
-    ensures ordered { OnOk result (tree.IsOrdered string_cmp added.now) }
+/// Copies of keys of a record.
+///
+/// # Errors
+///
+/// `OutOfMemory` alone.
+pub fn copy_keys(alloc: Global, keys: &[PublishedKey]) -> Result<Vec<PublishedKey>, Error>
+    ensures ok { IfOk result (λ copies. map id_of copies.items ≡ map id_of keys.now) }
     ensures err { IfErr result (λ e. e ≡ OutOfMemory) }
 {
-    let mut found = Vec::new(alloc);
-    for (reference, position) in added.iter() {
-        if is_shown(keys, reference.as_str(), shown) {
-            let key = published_key(reference, *position)?;
-            if found.push(key).is_err() {
-                return Err(Error::OutOfMemory);
-            }
+    let mut copies = Vec::new(alloc);
+    for key in keys {
+        let copy = published_key(&key.reference, key.added)?;
+        if copies.push(copy).is_err() {
+            return Err(Error::OutOfMemory);
         }
     }
-    Ok(found)
+    Ok(copies)
 }
 
-/// What is published of a key set, with the positions of its keys.
+/// Puts a key at the end of a set, where the set shows it.
+fn show(
+    set: &mut Vec<PublishedKey>,
+    shown: Shown,
+    key: Option<&Key>,
+    reference: &String,
+    added: usize,
+) -> Result<(), Error>
+    ensures ok { OnOk result (map id_of set.new.items ≡ map id_of set.old.items
+        ++ shown_once (shows shown) (option_map (λ k. k.now) key.entry)
+        (string_bytes reference.now, added)) }
+    ensures err { IfErr result (λ e. e ≡ OutOfMemory) }
+{
+    let Some(key) = key else {
+        return Ok(());
+    };
+    if !shown.shows(key.keytype()) {
+        return Ok(());
+    }
+    let key = published_key(reference, added)?;
+    match set.push(key) {
+        Ok(()) => Ok(()),
+        Err(_) => Err(Error::OutOfMemory),
+    }
+}
+
+/// What is published of a key set, with the positions of its keys: one walk in the order of the
+/// references.
 fn published(
     alloc: Global,
     keyset: &KeySet,
@@ -143,12 +151,54 @@ fn published(
     ensures err { IfErr result (λ e. e ≡ OutOfMemory) }
 {
     let keys = keyset.keys();
+    let mut ds = Vec::new(alloc);
+    let mut dnskey = Vec::new(alloc);
+    let mut dnskey_signers = Vec::new(alloc);
+    let mut zone_signers = Vec::new(alloc);
+    for (reference, position) in added.iter() {
+        let key = keys.get(reference.as_str());
+        show(&mut ds, Shown::Ds, key, reference, *position)?;
+        show(&mut dnskey, Shown::Dnskey, key, reference, *position)?;
+        show(
+            &mut dnskey_signers,
+            Shown::DnskeySigners,
+            key,
+            reference,
+            *position,
+        )?;
+        show(
+            &mut zone_signers,
+            Shown::ZoneSigners,
+            key,
+            reference,
+            *position,
+        )?;
+    }
     Ok(Published {
-        ds: list(alloc, keys, added, Shown::Ds)?,
-        dnskey: list(alloc, keys, added, Shown::Dnskey)?,
-        dnskey_signers: list(alloc, keys, added, Shown::DnskeySigners)?,
-        zone_signers: list(alloc, keys, added, Shown::ZoneSigners)?,
+        ds,
+        dnskey,
+        dnskey_signers,
+        zone_signers,
     })
+}
+
+/// Reads the sets anew, where the last call may have changed them.
+fn renew(
+    alloc: Global,
+    keyset: &KeySet,
+    added: &BTreeMap<String, usize>,
+    sets: &mut Published,
+    may_publish: bool,
+) -> Result<(), Error>
+    ensures kept { OnOk result (may_publish ≡ false → sets.new ≡ sets.old) }
+    ensures read { OnOk result (may_publish ≡ true → (w : World) →
+        Agrees keyset.now (tree.get_by_text added.now) w → IsPublished sets.new w) }
+    ensures err { IfErr result (λ e. e ≡ OutOfMemory) }
+{
+    if may_publish {
+        *sets = published(alloc, keyset, added)?;
+    }
+    Ok(())
 }
 
 /// A copy of the reference of the key that a call adds, if any.
@@ -166,24 +216,25 @@ fn clone_added(alloc: Global, call: &Call<'_>) -> Result<Option<String>, Error>
     }
 }
 
-/// Makes the call that stands at a position, and records it.
-fn record(
+/// Makes the call that stands at a position, and notes its key where it adds or deletes one.
+fn advance(
     alloc: Global,
     keyset: &mut KeySet,
     added: &mut BTreeMap<String, usize>,
     call: Call<'_>,
     at: usize,
-) -> Result<Entry, Error>
-    ensures entry { IfOk result (λ entry. (w : World) → Agrees keyset.old
+) -> Result<Outcome, Error>
+    ensures outcome { IfOk result (λ outcome. (w : World) → Agrees keyset.old
         (tree.get_by_text added.old) w →
-        IsEntry w (stepped at w call.entry entry.reply) call.entry entry) }
-    ensures next { IfOk result (λ entry. (w : World) → Agrees keyset.old
-        (tree.get_by_text added.old) w →
-        Agrees keyset.new (tree.get_by_text added.new) (stepped at w call.entry entry.reply)) }
+        IsOutcome w (stepped at w call.entry outcome.reply) call.entry outcome) }
+    ensures next { IfOk result (λ outcome. (w : World) → Agrees keyset.old
+        (tree.get_by_text added.old) w → Agrees keyset.new
+        (tree.get_by_text added.new) (stepped at w call.entry outcome.reply)) }
     ensures err { IfErr result (λ e. e ≡ OutOfMemory) }
 {
     let moment = call.moment();
     let mark = call.mark();
+    let sets_flag = call.sets_flag();
     let put = clone_added(alloc, &call)?;
     let taken = call.deleted();
     let reply = call.make(keyset);
@@ -193,25 +244,39 @@ fn record(
     } else {
         Mark::Other
     };
-    let published = published(alloc, keyset, added)?;
-    Ok(Entry {
+    let may_publish = reply.may_publish(sets_flag);
+    Ok(Outcome {
         reply,
         moment,
         mark,
-        published,
+        may_publish,
     })
 }
 
-/// Makes calls one by one on a new key set, and hands out the entry of each: what `run` records.
+/// A copy of what is published.
+fn copy_sets(alloc: Global, sets: &Published) -> Result<Published, Error>
+    ensures ok { IfOk result (λ copy. HasSameKeys copy sets.now) }
+    ensures err { IfErr result (λ e. e ≡ OutOfMemory) }
+{
+    Ok(Published {
+        ds: copy_keys(alloc, &sets.ds)?,
+        dnskey: copy_keys(alloc, &sets.dnskey)?,
+        dnskey_signers: copy_keys(alloc, &sets.dnskey_signers)?,
+        zone_signers: copy_keys(alloc, &sets.zone_signers)?,
+    })
+}
+
+/// Makes calls one by one on a new key set, and tells what each came to: what `run` records.
 ///
-/// It keeps no entry. So a caller that needs only some of what a record tells, as the answers and a
-/// judge's verdict, has memory for its keys, and not for each call.
+/// It keeps no entry, but the sets that are published behind the last call. So a caller that needs
+/// only some of what a record tells, as the answers and a judge's verdict, has memory for its keys,
+/// and not for each call.
 ///
 /// ```rust
 /// let mut recorder = Recorder::new(alloc, name);
 /// for call in calls {
-///     let entry = recorder.make(alloc, call)?;
-///     judge = judge.take(alloc, &entry)?;
+///     let outcome = recorder.advance(alloc, call)?;
+///     judge = judge.take_next(alloc, outcome.mark, outcome.moment, recorder.news(&outcome))?;
 /// }
 /// ```
 #[derive(Drop)]
@@ -219,6 +284,8 @@ pub struct Recorder {
     keyset: KeySet,
     /// Of each key that is there the position of its add.
     added: BTreeMap<String, usize>,
+    /// What is published.
+    published: Published,
     /// How many calls were made.
     at: usize,
 }
@@ -232,12 +299,47 @@ impl Recorder {
         Recorder {
             keyset: KeySet::new(alloc, name),
             added: BTreeMap::new(alloc),
+            published: Published::none(alloc),
             at: 0,
         }
     }
 
-    /// Makes the next call, and tells its entry. A call that is refused has an entry too, also
-    /// where it was refused because memory ran out.
+    /// Makes the next call, and tells what it came to. A call that is refused has an outcome too,
+    /// also where it was refused because memory ran out.
+    ///
+    /// The sets are read anew only behind an accepted call that may have changed them.
+    ///
+    /// # Errors
+    ///
+    /// `OutOfMemory` alone, where there is no memory to note the call. The recorder is then of no
+    /// more use: begin anew with the first call.
+    pub fn advance(&mut self, alloc: Global, call: Call<'_>) -> Result<Outcome, Error>
+        ensures ok { IfOk result (λ outcome.
+            (name : List ℕ) (calls : List Call) (entries : List Entry) (entry : Entry) →
+            TellsOutcome entry outcome → HasSameKeys entry.published self.new.published →
+            Records name calls entries self.old →
+            Records name (calls ++ call.entry ∷ []) (entries ++ entry ∷ []) self.new) }
+        ensures kept { IfOk result (λ outcome. outcome.may_publish ≡ false →
+            self.new.published ≡ self.old.published) }
+        ensures err { IfErr result (λ e. e ≡ OutOfMemory) }
+    {
+        let Some(at) = self.at.checked_add(1) else {
+            return Err(Error::OutOfMemory);
+        };
+        let outcome = advance(alloc, &mut self.keyset, &mut self.added, call, at)?;
+        let may_publish = outcome.may_publish;
+        renew(
+            alloc,
+            &self.keyset,
+            &self.added,
+            &mut self.published,
+            may_publish,
+        )?;
+        self.at = at;
+        Ok(outcome)
+    }
+
+    /// Makes the next call, and tells its entry, as a record has it.
     ///
     /// # Errors
     ///
@@ -250,12 +352,34 @@ impl Recorder {
             Records name (calls ++ call.entry ∷ []) (entries ++ entry ∷ []) self.new) }
         ensures err { IfErr result (λ e. e ≡ OutOfMemory) }
     {
-        let Some(at) = self.at.checked_add(1) else {
-            return Err(Error::OutOfMemory);
-        };
-        let entry = record(alloc, &mut self.keyset, &mut self.added, call, at)?;
-        self.at = at;
-        Ok(entry)
+        let outcome = self.advance(alloc, call)?;
+        let published = copy_sets(alloc, &self.published)?;
+        Ok(Entry {
+            reply: outcome.reply,
+            moment: outcome.moment,
+            mark: outcome.mark,
+            published,
+        })
+    }
+
+    /// What is published behind the calls so far.
+    pub fn published(&self) -> &Published
+        ensures { result.now ≡ self.now.published }
+    {
+        &self.published
+    }
+
+    /// What is published behind the calls so far, where the last of them, which came to this, may
+    /// have changed it.
+    pub fn news(&self, outcome: &Outcome) -> Option<&Published>
+        ensures { option_map (λ sets. sets.now) result
+            ≡ (if outcome.now.may_publish then Some self.now.published else None) }
+    {
+        if outcome.may_publish {
+            Some(&self.published)
+        } else {
+            None
+        }
     }
 
     /// The key set behind the calls so far.

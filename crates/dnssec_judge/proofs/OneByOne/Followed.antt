@@ -17,7 +17,8 @@ use Rattle.dnssec_judge.specs.declared.window.Window.{Window}
 use Rattle.dnssec_judge.specs.Floor.{due_of, floor_by, floor_up_to, base_once_over}
 use Rattle.dnssec_judge.specs.Search.{IsVerdictAt}
 use Rattle.dnssec_judge.specs.Verdict.{IsVerdict}
-use Rattle.dnssec_judge.specs.Window.{floor_with, Held, Tiles, Begins, GoesOnAbove, set_of_span}
+use Rattle.dnssec_judge.specs.Window.{floor_with, Held, Tiles, Begins, GoesOnAbove, GoesOnWith}
+use Rattle.dnssec_judge.specs.Window.{set_of_span}
 use Rattle.dnssec_judge.specs.Window.{Watches, held, over_any, over_by, step_of}
 use Rattle.dnssec_judge.proofs.OneByOne.Kept.{verdict-next, first-kept}
 use Rattle.dnssec_judge.proofs.OneByOne.More.{position-kept, base-new, position-new, time-new}
@@ -41,7 +42,7 @@ module _ (es : List Entry) (e : Entry) where
   count = omega (arith, length-append es (e ∷ []))
 
   pub window-follows : (kind : SetKind) (steps : Steps) (old new : Window) (time : ℕ)
-      (due : Option Due) (set : Held)
+      (due : Option Due) (news : Option Held)
       → ((roll : RollType) → step_of steps roll ≡ base_below es roll (suc (length es)))
       → Watches es kind (length es) old
       → time ≡ max (time_at es (length es)) (unwrap_or e.moment 0)
@@ -52,15 +53,18 @@ module _ (es : List Entry) (e : Entry) where
       ≡ max (floor_with old.floor old.dues.items t) (over_any due t))
       → ((before after : ℕ → Held) (n : ℕ) → suc (length es) ≡ suc n
       → Tiles before n old.spans.items → Begins old.floor old.spans.items
-      → ((q : ℕ) → q ≤ n → after q ≡ before q) → after (suc n) ≡ set
+      → ((q : ℕ) → q ≤ n → after q ≡ before q)
+      → GoesOnWith news (before n) (after (suc n))
       → Tiles after (suc n) new.spans.items × Begins new.floor new.spans.items
       × GoesOnAbove new.floor new.spans.items)
-      → held kind (told e) ≡ set → Watches more kind (length more) new
-  window-follows kind steps old new time due set base h is d floor dues spans shows =
+      → GoesOnWith news (held kind (position_at es (length es))) (held kind (told e))
+      → Watches more kind (length more) new
+  window-follows kind steps old new time due news base h is d floor dues spans shows =
       let s = spans (λ q. held kind (position_at es q)) (λ q. held kind (position_at more q))
       (length es) refl h.spans h.begins
       (λ q le. ap (held kind) (position-kept es e q le))
-      (ap (held kind) (position-new es e) ∙ shows) in
+      (subst (GoesOnWith news (held kind (position_at es (length es))))
+      (sym (ap (held kind) (position-new es e))) shows) in
       subst (λ n. Watches more kind n new) (sym count)
       (watches-more es e kind old new (over_any due) time h is
       (λ t. d t

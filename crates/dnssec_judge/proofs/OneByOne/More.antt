@@ -17,6 +17,13 @@ use Rattle.dnssec_judge.specs.Floor.{due_of, floor_by, floor_up_to, base_once_ov
 use Rattle.dnssec_judge.specs.Window.{floor_with, Held, Tiles, Begins, GoesOnAbove, HasLast}
 use Rattle.dnssec_judge.specs.Window.{IsShown, Watches, held}
 
+-- the last of the spans has the set of the last position
+pub last-of-tiles : (at : ℕ → Held) (n : ℕ) (spans : List Span) → Tiles at n spans
+    → HasLast (at n) spans
+last-of-tiles at n [] h = absurd h
+last-of-tiles at n (s ∷ []) h = h.1 n h.0 (omega arith)
+last-of-tiles at n (s ∷ t ∷ ss) h = last-of-tiles at n (t ∷ ss) h.2
+
 -- a set that is shown tiles the next position
 pub tiles-shown : (at next : ℕ → Held) (n : ℕ) (set : Held) (old new : List Span) → Tiles at n old
     → ((q : ℕ) → q ≤ n → next q ≡ at q) → next (suc n) ≡ set → IsShown set (suc n) old new

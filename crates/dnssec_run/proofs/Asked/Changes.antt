@@ -21,11 +21,12 @@ use Rattle.dnssec_keyset.specs.Start.{is_listed}
 use Rattle.dnssec_keyset.specs.Step as keyset
 use Rattle.dnssec_run.specs.declared.call.Call.{Call}
 use Rattle.dnssec_run.specs.declared.record.Entry.{Entry}
+use Rattle.dnssec_run.specs.declared.record.Published.{Published}
 use Rattle.dnssec_run.specs.declared.record.Reply.{Reply}
 use Rattle.dnssec_run.specs.declared.record.Reply.TheVariants as reply
 use Rattle.dnssec_run.specs.Asked.{asked_by, asked_at, update_of, sets_flag}
 use Rattle.dnssec_run.specs.Asked.{SamePublished, ChangesAsAsked}
-use Rattle.dnssec_run.specs.Published.{World, shown, in_ds, in_dnskey, signs_dnskey, signs_zone}
+use Rattle.dnssec_run.specs.Published.{IsPublished, World, shown, in_ds, in_dnskey, signs_dnskey, signs_zone}
 use Rattle.dnssec_run.specs.Record.{IsRun, call_of, reply_of, is_accepted, world_at, with_added}
 use Rattle.dnssec_run.specs.Record.{reference_added, added_by}
 use Rattle.dnssec_run.specs.Safe.{SetKind, Ds, Dnskey, ZoneSigners, position_at, told, blank}
@@ -179,19 +180,104 @@ module _ (kind : SetKind) (old new : KeySetParts) where
       by_keys _ m.keys (λ q. agree-mapped kind _ (get old.keys q)
       (λ k. same-itself kind k.keytype))
 
+-- a key that is there isn't added
+added-same : (n : ℕ) (c : keyset.Call) (f : List ℕ → ℕ) (set : KeySetParts)
+    → keyset.verdict set c ≡ keyset.Clear → (q : List ℕ) (k : KeyParts)
+    → get set.keys q ≡ Some k → with_added n (reference_added c) f q ≡ f q
+added-same n (keyset.AddKey r key) f set v q k there = by (bytes_eq r q) refl
+  where
+    by : (b : Bool) → bytes_eq r q ≡ b → (if b then n else f q) ≡ f q
+    by true t = absurd (true≢false (sym (ap is_some (ap (get set.keys) ((bytes_decides r q).0 t)
+        ∙ there)) ∙ add_free _ _ _ _ (clear_cause _ v)))
+    by false t = refl
+added-same n (keyset.Set a b) f set v q k there = refl
+added-same n (keyset.DeleteKey a) f set v q k there = refl
+added-same n (keyset.StartRoll a b c d) f set v q k there = refl
+added-same n (keyset.Report a b c d) f set v q k there = refl
+added-same n (keyset.Wait a b c) f set v q k there = refl
+added-same n (keyset.RollDone a) f set v q k there = refl
+added-same n (keyset.AbortRoll a) f set v q k there = refl
+
+-- ---- what is there behind a call at position n
+
+module _ (n : ℕ) (w v : World) (c : Call) (r : Reply)
+    (step : keyset.Step w.set (call_of c) (reply_of r) v.set)
+    (added : v.added ≡ added_by n c r w.added) where
+  -- in the sets of a kind there are both look-ups, or neither, and a key that was there is the same
+  record Stays (kind : SetKind) : Type 0 where
+    keys : (q : List ℕ) → Agree kind (get v.set.keys q) (get w.set.keys q)
+    places : (q : List ℕ) (k : KeyParts) → get w.set.keys q ≡ Some k → v.added q ≡ w.added q
+
+  refused-stays : is_accepted r ≡ false → (kind : SetKind) → Stays kind
+  refused-stays t kind =
+      let same = refused_step (keyset.verdict w.set (call_of c)) w.set v.set (call_of c) r t step in
+      record {
+        keys = λ q. subst (λ (s : KeySetParts). Agree kind (get s.keys q) (get w.set.keys q))
+            (sym same) (agree-same kind (get w.set.keys q));
+        places = λ q k there. ap (λ f. f q) added
+            ∙ ap (λ b. (if b then with_added n (reference_added (call_of c)) w.added
+            else w.added) q) t;
+      }
+
+  accepted-stays : is_accepted r ≡ true → sets_flag (call_of c) ≡ false → (kind : SetKind)
+      → list_any (updates kind) (asked_by r) ≡ false → Stays kind
+  accepted-stays t calm kind none =
+      let ok = accepted_step (keyset.verdict w.set (call_of c)) w.set v.set (call_of c) r t step in
+      record {
+        keys = agree-step kind w.set v.set (call_of c) calm (plainly c).blank ok.0 ok.1
+            (ap (λ r. list_any (updates kind) (due r)) (sym ok.2)
+            ∙ ap (list_any (updates kind)) (sym (due_by r)) ∙ none);
+        places = λ q k there. ap (λ f. f q) added
+            ∙ ap (λ b. (if b then with_added n (reference_added (call_of c)) w.added
+            else w.added) q) t
+            ∙ added-same n (call_of c) w.added w.set ok.0 q k there;
+      }
+
+  stays : sets_flag (call_of c) ≡ false → (kind : SetKind)
+      → list_any (updates kind) (asked_by r) ≡ false → Stays kind
+  stays calm kind none = by (is_accepted r) refl
+    where
+      by : (b : Bool) → is_accepted r ≡ b → Stays kind
+      by true t = accepted-stays t calm kind none
+      by false t = refused-stays t kind
+
+  -- so what was published is published still
+  published-stays : ((kind : SetKind) → Stays kind) → (sets : Published) → IsPublished sets w
+      → IsPublished sets v
+  published-stays same sets p =
+      let ds = same Ds in let dnskey = same Dnskey in let zone = same ZoneSigners in
+      record {
+        ds = p.ds ∙ sym (same-shown in_ds w v ds.keys ds.places);
+        dnskey = p.dnskey ∙ sym (same-shown in_dnskey w v (λ q. (dnskey.keys q).0) dnskey.places);
+        dnskey_signers = p.dnskey_signers
+            ∙ sym (same-shown signs_dnskey w v (λ q. (dnskey.keys q).1) dnskey.places);
+        zone_signers = p.zone_signers ∙ sym (same-shown signs_zone w v zone.keys zone.places);
+      }
+
+  -- behind a call that was refused, or that set no flag and asked for nothing
+  pub unasked : (is_accepted r ≡ true → (sets_flag (call_of c) ≡ false) × (asked_by r ≡ []))
+      → (sets : Published) → IsPublished sets w → IsPublished sets v
+  unasked calm = by (is_accepted r) refl
+    where
+      by : (a : Bool) → is_accepted r ≡ a → (sets : Published) → IsPublished sets w
+          → IsPublished sets v
+      by false t = published-stays (refused-stays t)
+      by true t = published-stays (λ kind. accepted-stays t (calm t).0 kind
+          (ap (list_any (updates kind)) (calm t).1))
+
 -- ---- the run
 
 module _ (name : List ℕ) (calls : List Call) (entries : List Entry)
     (run : IsRun name calls entries) where
-  abbrev at : ℕ → World
+  abbrev pub at : ℕ → World
   at n = world_at name calls entries n
 
   -- what a position shows
-  record Shows (n : ℕ) : Type 0 where
-    ds : (position_at entries n).ds ≡ shown in_ds (at n)
-    dnskey : (position_at entries n).dnskey ≡ shown in_dnskey (at n)
-    signers : (position_at entries n).signers ≡ shown signs_dnskey (at n)
-    zone : (position_at entries n).zone ≡ shown signs_zone (at n)
+  pub record Shows (n : ℕ) : Type 0 where
+    pub ds : (position_at entries n).ds ≡ shown in_ds (at n)
+    pub dnskey : (position_at entries n).dnskey ≡ shown in_dnskey (at n)
+    pub signers : (position_at entries n).signers ≡ shown signs_dnskey (at n)
+    pub zone : (position_at entries n).zone ≡ shown signs_zone (at n)
 
   place : (n : ℕ) (e : Entry) → slice_get entries n ≡ Some e
       → position_at entries (suc n) ≡ told e
@@ -209,7 +295,7 @@ module _ (name : List ℕ) (calls : List Call) (entries : List Entry)
         zone = ap (λ p. p.zone) (place n e ei) ∙ p.zone_signers;
       }
 
-  shows-at : (n : ℕ) → n ≤ length entries → Shows n
+  pub shows-at : (n : ℕ) → n ≤ length entries → Shows n
   unfolding position_at world_at
   shows-at zero le = record {
     ds = sym (shown-none in_ds name);
@@ -248,58 +334,14 @@ module _ (name : List ℕ) (calls : List Call) (entries : List Entry)
       let before = shows-at n (omega (arith, le)) in
       now.zone ∙ same-shown signs_zone (at n) (at (suc n)) agree added ∙ sym before.zone
 
-  -- a key that is there isn't added
-  added-same : (n : ℕ) (c : keyset.Call) (f : List ℕ → ℕ) (set : KeySetParts)
-      → keyset.verdict set c ≡ keyset.Clear → (q : List ℕ) (k : KeyParts)
-      → get set.keys q ≡ Some k → with_added n (reference_added c) f q ≡ f q
-  added-same n (keyset.AddKey r key) f set v q k there = by (bytes_eq r q) refl
-    where
-      by : (b : Bool) → bytes_eq r q ≡ b → (if b then n else f q) ≡ f q
-      by true t = absurd (true≢false (sym (ap is_some (ap (get set.keys) ((bytes_decides r q).0 t)
-          ∙ there)) ∙ add_free _ _ _ _ (clear_cause _ v)))
-      by false t = refl
-  added-same n (keyset.Set a b) f set v q k there = refl
-  added-same n (keyset.DeleteKey a) f set v q k there = refl
-  added-same n (keyset.StartRoll a b c d) f set v q k there = refl
-  added-same n (keyset.Report a b c d) f set v q k there = refl
-  added-same n (keyset.Wait a b c) f set v q k there = refl
-  added-same n (keyset.RollDone a) f set v q k there = refl
-  added-same n (keyset.AbortRoll a) f set v q k there = refl
-
   stays-same : (n : ℕ) (c : Call) (e : Entry) → slice_get calls n ≡ Some c
       → slice_get entries n ≡ Some e → suc n ≤ length entries → sets_flag (call_of c) ≡ false
       → (kind : SetKind) → list_any (updates kind) (asked_by e.reply) ≡ false
       → SamePublished kind (position_at entries n) (position_at entries (suc n))
-  stays-same n c e ci ei le calm kind none = by (is_accepted e.reply) refl
-    where
-      step : keyset.Step (at n).set (call_of c) (reply_of e.reply) (at (suc n)).set
-      step = (run.each n c e ci ei).step
-
-      added : (at (suc n)).added ≡ added_by (suc n) c e.reply (at n).added
-      added = added-next name calls entries run n c e ci ei
-
-      by : (b : Bool) → is_accepted e.reply ≡ b
-          → SamePublished kind (position_at entries n) (position_at entries (suc n))
-      by false t =
-          let same = refused_step (keyset.verdict (at n).set (call_of c)) (at n).set
-          (at (suc n)).set (call_of c) e.reply t step in
-          published-same kind n le
-          (λ q. subst (λ (s : KeySetParts). Agree kind (get s.keys q) (get (at n).set.keys q))
-          (sym same) (agree-same kind (get (at n).set.keys q)))
-          (λ q k there. ap (λ f. f q) added
-          ∙ ap (λ b. (if b then with_added (suc n) (reference_added (call_of c)) (at n).added
-          else (at n).added) q) t)
-      by true t =
-          let ok = accepted_step (keyset.verdict (at n).set (call_of c)) (at n).set
-          (at (suc n)).set (call_of c) e.reply t step in
-          published-same kind n le
-          (agree-step kind (at n).set (at (suc n)).set (call_of c) calm (plainly c).blank ok.0 ok.1
-          (ap (λ r. list_any (updates kind) (due r)) (sym ok.2)
-          ∙ ap (list_any (updates kind)) (sym (due_by e.reply)) ∙ none))
-          (λ q k there. ap (λ f. f q) added
-          ∙ ap (λ b. (if b then with_added (suc n) (reference_added (call_of c)) (at n).added
-          else (at n).added) q) t
-          ∙ added-same (suc n) (call_of c) (at n).added (at n).set ok.0 q k there)
+  stays-same n c e ci ei le calm kind none =
+      let same = stays (suc n) (at n) (at (suc n)) c e.reply (run.each n c e ci ei).step
+      (added-next name calls entries run n c e ci ei) calm kind none in
+      published-same kind n le same.keys same.places
 
 -- a call that sets no flag changes what it asks to publish
 pub changes-as-asked : (name : List ℕ) (calls : List Call) (entries : List Entry)

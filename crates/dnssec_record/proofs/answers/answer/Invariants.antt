@@ -9,5 +9,5 @@ abbrev pub invariant-loop-call : goal.invariant-loop-call
 invariant-loop-call l = record {
   left : l.yielded ++ into_iter_items l.call-iterator ≡ into_iter_items l.initial.call-iterator;
   count : into_iter_len l.call-iterator ≡ length (into_iter_items l.call-iterator);
-  so_far : HasAnswered l.fn.name l.yielded (string_bytes l.text) l.recorder l.judge l.last;
+  so_far : HasAnswered l.fn.name l.yielded (string_bytes l.text) l.recorder l.judge;
 }

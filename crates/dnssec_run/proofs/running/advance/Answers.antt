@@ -1,14 +1,15 @@
 -- A recorded call is an allowed step, and the positions that are kept go along with it.
-use Rattle.std.proofs.Common.{◌≡◌, List, ℕ, sym, ap, subst, ◌∙◌, Bor}
+use Rattle.std.proofs.Common.{◌≡◌, List, ℕ, refl, sym, ap, subst, ◌∙◌, Bor}
 use Rattle.std.specs.Option.{option_map}
 use Rattle.std.specs.BTreeMap as tree
 use Rattle.dnssec_keyset.proofs.After.{step-after}
 use Rattle.dnssec_keyset.specs.Step as keyset
 use Rattle.dnssec_run.specs.Record.{call_of, reply_of, stepped, mark_after, reference_added}
 use Rattle.dnssec_run.specs.Recorder.{Agrees, noted}
+use Rattle.dnssec_run.proofs.Asked.Changes.{unasked}
 use Rattle.dnssec_run.proofs.Next.{agrees-accepted, agrees-refused, mark-accepted, mark-refused}
-use Rattle.dnssec_run.proofs.running.record.Goals as goal
-use Rattle.dnssec_run.proofs.running.record.Goals.{then-is_accepted+in_ok-note, else-is_accepted}
+use Rattle.dnssec_run.proofs.running.advance.Goals as goal
+use Rattle.dnssec_run.proofs.running.advance.Goals.{then-is_accepted+in_ok-note, else-is_accepted}
 
 pub returns-clause-next : goal.returns-clause-next
 returns-clause-next c w agrees =
@@ -26,18 +27,22 @@ returns-clause-next c w agrees =
           (agrees-refused a.at w a.keyset.now c.make-reply.new.set (tree.get_by_text a.added.now) a.call c.make-reply.result (sym c.is_accepted.ensures ∙ b.if-is_accepted.false) agrees step)
     ]
 
-pub returns-clause-entry : goal.returns-clause-entry
-returns-clause-entry c w agrees =
+pub returns-clause-outcome : goal.returns-clause-outcome
+returns-clause-outcome c w agrees =
     let a = c.args in
     let then : Agrees c.make-reply.new.set (tree.get_by_text c.if-is_accepted.added) (stepped a.at w a.call c.make-reply.result) = returns-clause-next c w agrees in
     let mark : c.if-is_accepted.mark ≡ mark_after a.call c.make-reply.result = elim c.if-is_accepted.branch [
       | then-is_accepted+in_ok-note b ↦ b.mark-is ∙ c.mark-mark.ensures ∙ mark-accepted a.call c.make-reply.result (sym c.is_accepted.ensures ∙ b.if-is_accepted.true)
       | else-is_accepted b ↦ b.mark-is ∙ mark-refused a.call c.make-reply.result (sym c.is_accepted.ensures ∙ b.if-is_accepted.false)
     ] in
+    let step = subst (λ s. keyset.Step s (call_of a.call) (reply_of c.make-reply.result) (stepped a.at w a.call c.make-reply.result).set) agrees.same
+    (subst (keyset.Step a.keyset.now (call_of a.call) (reply_of c.make-reply.result)) then.same c.make-reply.ensures) in
     record {
-      step = subst (λ s. keyset.Step s (call_of a.call) (reply_of c.make-reply.result) (stepped a.at w a.call c.make-reply.result).set) agrees.same
-          (subst (keyset.Step a.keyset.now (call_of a.call) (reply_of c.make-reply.result)) then.same c.make-reply.ensures);
+      step = step;
       mark = mark;
       moment = c.moment-moment.ensures;
-      published = c.in_ok-published.ensures.ok (stepped a.at w a.call c.make-reply.result) then;
+      kept = λ no. unasked a.at w (stepped a.at w a.call c.make-reply.result) a.call
+          c.make-reply.result step refl
+          (λ t. let calm = c.may_publish-may_publish.ensures no t in
+          (sym c.sets_flag-sets_flag.ensures ∙ calm.0, calm.1));
     }

@@ -1,0 +1,34 @@
+-- What a recorder holds is what the last position shows: for callers of `Recorder`.
+use Rattle.std.proofs.Common.{◌≡◌, ℕ, List, [], length, map, refl, sym, ◌∙◌, ap, subst, arith}
+use Rattle.dnssec_run.specs.declared.call.Call.{Call}
+use Rattle.dnssec_run.specs.declared.record.Entry.{Entry}
+use Rattle.dnssec_run.specs.declared.running.Recorder.{Recorder}
+use Rattle.dnssec_run.specs.Published.{IsPublished, id_of}
+use Rattle.dnssec_run.specs.Record.{world_at}
+use Rattle.dnssec_run.specs.Recorder.{Records}
+use Rattle.dnssec_run.specs.Safe.{position_at}
+use Rattle.dnssec_run.proofs.Asked.Changes.{shows-at}
+
+module _ (name : List ℕ) (calls : List Call) (entries : List Entry) (r : Recorder)
+    (so : Records name calls entries r) where
+  here : IsPublished r.published (world_at name calls entries (length entries))
+  here = subst (λ n. IsPublished r.published (world_at name calls entries n)) (sym so.run.count)
+      so.published
+
+  pub last-ds : (position_at entries (length entries)).ds ≡ map id_of r.published.ds.items
+  last-ds = (shows-at name calls entries so.run (length entries) (omega arith)).ds ∙ sym here.ds
+
+  pub last-dnskey : (position_at entries (length entries)).dnskey
+      ≡ map id_of r.published.dnskey.items
+  last-dnskey = (shows-at name calls entries so.run (length entries) (omega arith)).dnskey
+      ∙ sym here.dnskey
+
+  pub last-signers : (position_at entries (length entries)).signers
+      ≡ map id_of r.published.dnskey_signers.items
+  last-signers = (shows-at name calls entries so.run (length entries) (omega arith)).signers
+      ∙ sym here.dnskey_signers
+
+  pub last-zone : (position_at entries (length entries)).zone
+      ≡ map id_of r.published.zone_signers.items
+  last-zone = (shows-at name calls entries so.run (length entries) (omega arith)).zone
+      ∙ sym here.zone_signers

@@ -1,0 +1,55 @@
+-- A call that is made adds one call and its entry to the record.
+use Rattle.std.proofs.Common.{◌≡◌, suc, [], ◌∷◌, ◌++◌, length, refl, sym, ap, subst, ◌∙◌, arith}
+use Rattle.std.proofs.Common.{length-append, Bool, true, false}
+use Rattle.std.specs.BTreeMap as tree
+use Rattle.dnssec_run.specs.declared.record.Published.{Published}
+use Rattle.dnssec_run.specs.Published.{IsPublished, World}
+use Rattle.dnssec_run.specs.Record.{IsEntry, world_at, stepped}
+use Rattle.dnssec_run.specs.Recorder.{Agrees, IsOutcome}
+use Rattle.dnssec_run.proofs.Grow.{run_more, world_more}
+use Rattle.dnssec_run.proofs.Next.{entry-of}
+use Rattle.dnssec_run.proofs.running.Recorder.advance.Goals as goal
+
+-- the sets are read anew, or they are those of before
+read-or-kept : (new old : Published) (w v : World) (b : Bool) → (b ≡ true → IsPublished new v)
+    → (b ≡ false → new ≡ old)
+    → (b ≡ false → (sets : Published) → IsPublished sets w → IsPublished sets v)
+    → IsPublished old w → IsPublished new v
+read-or-kept new old w v true read kept stays was = read refl
+read-or-kept new old w v false read kept stays was =
+    subst (λ sets. IsPublished sets v) (sym (kept refl)) (stays refl old was)
+
+pub returns-clause-ok : goal.returns-clause-ok
+returns-clause-ok c name calls entries e tells same so =
+    let x = c.args.call in
+    let o = c.in_ok-outcome.outcome in
+    let here : c.in-Some.at ≡ suc (length calls) =
+    omega (arith, so.at, so.run.count, c.in-Some.ensures) in
+    let before = world_at name calls entries (length calls) in
+    let after : World = stepped (suc (length calls)) before x e.reply in
+    let reached : stepped c.in-Some.at before x o.reply ≡ after =
+    (λ i. stepped (here i) before x (sym tells.reply i)) in
+    let agrees : Agrees c.advance.new.keyset (tree.get_by_text c.advance.new.added) after =
+    subst (Agrees c.advance.new.keyset (tree.get_by_text c.advance.new.added)) reached
+    (c.in_ok-outcome.ensures.next before so.agrees) in
+    let is : IsOutcome before after x o =
+    subst (λ w. IsOutcome before w x o) reached (c.in_ok-outcome.ensures.outcome before so.agrees) in
+    let shown : IsPublished c.renew.new.sets after =
+    read-or-kept c.renew.new.sets c.args.self.now.published before after o.may_publish
+    (λ t. c.in_ok-renew.ensures.read t after agrees) c.in_ok-renew.ensures.kept is.kept
+    so.published in
+    let ok : IsEntry before after x e =
+    entry-of before after x o e c.renew.new.sets is tells same shown in
+    let count : length (calls ++ x ∷ []) ≡ suc (length calls) =
+    let l = length-append calls (x ∷ []) in omega arith in
+    let then : after ≡ world_at name (calls ++ x ∷ []) (entries ++ e ∷ [])
+    (length (calls ++ x ∷ [])) =
+    sym (world_more name calls entries x e so.run.count)
+    ∙ ap (world_at name (calls ++ x ∷ []) (entries ++ e ∷ [])) (sym count) in
+    record {
+      run = run_more name calls entries x e after so.run refl ok;
+      at = let l = length-append entries (e ∷ []) in omega (arith, here, so.run.count);
+      agrees = subst (Agrees c.advance.new.keyset (tree.get_by_text c.advance.new.added)) then
+          agrees;
+      published = subst (IsPublished c.renew.new.sets) then shown;
+    }
