@@ -7,7 +7,7 @@ use Rattle.dnssec_run.specs.Safe.{Position}
 
 -- the same reference, added at the same position
 abbrev pub same_id : Id → Id → Bool
-same_id a b = bytes_eq a.0 b.0 && (a.1 == b.1)
+same_id a b = (a.1 == b.1) && bytes_eq a.0 b.0
 
 abbrev pub is_in : List Id → Id → Bool
 is_in ids k = list_any (λ other. same_id other k) ids

@@ -1,10 +1,12 @@
 //! A judge of a record: it takes the entries one by one, and has the verdict on them so far.
 ghost use Rattle.std.specs.Prelude.{◌≡◌, ◌++◌, ◌∷◌, suc, List, [], length, IfOk, IfErr, OnOk};
+ghost use Rattle.std.specs.Prelude.{true, false, None};
 ghost use Rattle.std.specs.Option.{option_map};
 ghost use Rattle.dnssec_key.specs.declared.error.Error.TheVariants.{OutOfMemory};
 ghost use Rattle.dnssec_run.specs.declared.record.Entry.{Entry};
 ghost use Rattle.dnssec_judge.specs.Judge.{ComesNext, Follows, Knows};
 ghost use Rattle.dnssec_judge.specs.Verdict.{IsVerdict};
+ghost use Rattle.dnssec_judge.specs.Window.{found_ds};
 
 use crate::safety::{Kind, later};
 use crate::steps::Steps;
@@ -104,8 +106,24 @@ impl Judge {
             return Ok(self);
         }
         self.follow(alloc, mark, &moment, published)?;
-        self.found = self.ds.find_ds(&self.dnskey, &self.zone, at);
+        self.found = self.find(at, published.is_some());
         Ok(self)
+    }
+
+    /// The first sets without a chain at a position, where some of them are new: else what had a
+    /// chain before has one still.
+    fn find(&self, at: usize, is_news: bool) -> Option<Broken>
+        ensures found { is_news ≡ true → result ≡ found_ds at
+            self.now.ds.floor self.now.ds.spans.items
+            self.now.dnskey.floor self.now.dnskey.spans.items
+            self.now.zone.floor self.now.zone.spans.items }
+        ensures none { is_news ≡ false → result ≡ None }
+    {
+        if is_news {
+            self.ds.find_ds(&self.dnskey, &self.zone, at)
+        } else {
+            None
+        }
     }
 
     /// Notes the next entry, which stands at position `at`.

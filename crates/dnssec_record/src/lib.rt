@@ -14,6 +14,6 @@ pub use dnssec_judge::{
     Broken, Judge, audit, audit_window, plain_runs_pass, records_have_one_verdict, runs_stay_safe,
 };
 pub use dnssec_run::{
-    Call, Entry, Mark, Published, PublishedKey, Recorder, Reply, Run, run, starts_suffice,
+    Call, Entry, Mark, Outcome, Published, PublishedKey, Recorder, Reply, Run, run, starts_suffice,
 };
 pub use script::{ScriptFault, record_script, run_script};

@@ -45,9 +45,10 @@ impl Reply {
 /// is given again after a deletion is another key.
 #[derive(Debug, Drop, PartialEq)]
 pub struct PublishedKey {
-    pub reference: String,
-    /// The position of its add, counted from 1.
+    /// The position of its add, counted from 1. It stands first, so that keys are told apart by it
+    /// before their references are compared.
     pub added: usize,
+    pub reference: String,
 }
 
 /// What is published at a position. Each list is sorted by its references' bytes, and has no key

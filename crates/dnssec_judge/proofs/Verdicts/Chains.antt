@@ -24,10 +24,10 @@ both false b e = absurd (true≢false (sym e))
 
 pub same-id : (a b : Id) → Decides (same_id a b) (a ≡ b)
 same-id a b = (
-  λ e. (let h = both _ _ e in let x : a.0 ≡ b.0 = (bytes_eq-Decides a.0 b.0).0 h.0 in
-      let y : a.1 ≡ b.1 = (Decides-eqb a.1 b.1).0 h.1 in λ i. (x i, y i)),
+  λ e. (let h = both _ _ e in let x : a.0 ≡ b.0 = (bytes_eq-Decides a.0 b.0).0 h.1 in
+      let y : a.1 ≡ b.1 = (Decides-eqb a.1 b.1).0 h.0 in λ i. (x i, y i)),
   λ e. (let x = (bytes_eq-Decides a.0 b.0).1 (λ i. (e i).0) in
-      let y = (Decides-eqb a.1 b.1).1 (λ i. (e i).1) in (λ i. x i && y i)),
+      let y = (Decides-eqb a.1 b.1).1 (λ i. (e i).1) in (λ i. y i && x i)),
 )
 
 in-list : (ids : List Id) (k : Id) → Decides (is_in ids k) (Contains ids k)
