@@ -16,9 +16,9 @@ is_in ids k = list_any (λ other. same_id other k) ids
 abbrev pub trusts_keys : List Id → List Id → List Id → Bool
 trusts_keys ds dnskey signers = list_any (λ k. is_in dnskey k && is_in signers k) ds
 
--- a key of the DNSKEY set signs the zone
+-- a key of the DNSKEY set signs the zone: the signers are few, the set may be large
 abbrev pub trusts_zone : List Id → List Id → Bool
-trusts_zone dnskey zone = list_any (is_in zone) dnskey
+trusts_zone dnskey zone = list_any (is_in dnskey) zone
 
 abbrev pub is_none : List Id → Bool
 is_none [] = true

@@ -81,5 +81,5 @@ pub(crate) fn trusts_keys(
 pub(crate) fn trusts_zone(dnskey: &[PublishedKey], zone: &[PublishedKey]) -> bool
     ensures { result ≡ trusts_zone (map id_of dnskey.now) (map id_of zone.now) }
 {
-    dnskey.iter().any(|key| is_in(zone, key))
+    zone.iter().any(|key| is_in(dnskey, key))
 }

@@ -1,10 +1,9 @@
 -- Where an entry publishes what the one before it did, what was safe stays safe, for the judge.
-use Rattle.std.proofs.Common.{◌≡◌, ℕ, suc, ◌≤◌, inl, inr, sym, ◌∙◌, ap, arith, List, [], ◌∷◌, ◌++◌}
+use Rattle.std.proofs.Common.{◌≡◌, ℕ, suc, inl, inr, sym, ◌∙◌, ap, arith, List, [], ◌∷◌, ◌++◌}
 use Rattle.std.proofs.Common.{length}
-use Rattle.std.specs.Prelude.{max, unwrap_or}
 use Rattle.std.proofs.lemmas.Bool.{cases_lt}
 use Rattle.dnssec_run.specs.declared.record.Entry.{Entry}
-use Rattle.dnssec_run.specs.Safe.{SetKind, position_at, time_at, told, Retired, IsUnretired, IsSafe}
+use Rattle.dnssec_run.specs.Safe.{SetKind, position_at, told, Retired, IsUnretired, IsSafe}
 use Rattle.dnssec_run.specs.Safe.{Ds, Dnskey, ZoneSigners}
 use Rattle.dnssec_judge.specs.Window.{chained_sets, held}
 use Rattle.dnssec_judge.proofs.OneByOne.Found.{base-lt}

@@ -54,10 +54,10 @@ keys-trusted p q = (
 
 zone-trusted : (q z : Position) → Decides (trusts_zone q.dnskey z.zone) (TrustsZone q z)
 zone-trusted q z = (
-  λ e. (let a = Any-from_list_any (is_in z.zone) q.dnskey e in
-      (a.1, (a.0, a.2, a.3), (in-list z.zone a.1).0 a.4)),
-  λ t. list_any-from_Any (is_in z.zone) q.dnskey
-      (t.1.0, t.0, t.1.1, t.1.2, (in-list z.zone t.0).1 t.2),
+  λ e. (let a = Any-from_list_any (is_in q.dnskey) z.zone e in
+      (a.1, (in-list q.dnskey a.1).0 a.4, (a.0, a.2, a.3))),
+  λ t. list_any-from_Any (is_in q.dnskey) z.zone
+      (t.2.0, t.0, t.2.1, t.2.2, (in-list q.dnskey t.0).1 t.1),
 )
 
 -- the test of a chain

@@ -9,7 +9,7 @@ use Rattle.dnssec_judge.proofs.Verdicts.Chains.{list_any-map}
 
 pub returns : goal.returns
 returns c =
-    let zone = map id_of c.args.zone.now in
-    any_from_yields_List (λ x. is_in zone (id_of x)) _ _ _ c.any.ensures.ran
-    (YieldsList-from_slice c.args.dnskey.now cc) (λ x b q k. search (rules, tests))
-    ∙ sym (list_any-map (is_in zone) id_of c.args.dnskey.now)
+    let dnskey = map id_of c.args.dnskey.now in
+    any_from_yields_List (λ x. is_in dnskey (id_of x)) _ _ _ c.any.ensures.ran
+    (YieldsList-from_slice c.args.zone.now cc) (λ x b q k. search (rules, tests))
+    ∙ sym (list_any-map (is_in dnskey) id_of c.args.zone.now)

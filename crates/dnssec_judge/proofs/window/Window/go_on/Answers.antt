@@ -1,5 +1,5 @@
 -- What is handed in of the kind is shown.
-use Rattle.std.proofs.Common.{◌≡◌, [], map, sym, ◌∙◌, ap, subst, Bor, Option, Some, OnOk}
+use Rattle.std.proofs.Common.{◌≡◌, [], map, sym, ◌∙◌, subst, Bor, Option, Some, OnOk}
 use Rattle.std.specs.Option.{option_map}
 use Rattle.dnssec_run.specs.declared.record.Published.{Published}
 use Rattle.dnssec_run.specs.Published.{id_of}

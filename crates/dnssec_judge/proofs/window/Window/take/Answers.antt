@@ -1,5 +1,5 @@
 -- A report, then the time, then the set, and then what is below the floor goes.
-use Rattle.std.proofs.Common.{◌≡◌, ℕ, suc, ◌≤◌, ◌∙◌, inl, inr, refl, sym, ap, arith, List, Option}
+use Rattle.std.proofs.Common.{◌≡◌, ℕ, suc, ◌≤◌, ◌∙◌, inl, refl, sym, arith, List, Option}
 use Rattle.std.proofs.Common.{None, Some, subst, Bor}
 use Rattle.std.specs.Option.{option_map}
 use Rattle.dnssec_run.specs.declared.record.Published.{Published}
