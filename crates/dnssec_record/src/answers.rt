@@ -13,8 +13,8 @@ use dnssec_run::{Call, Published, PublishedKey, Recorder, Reply};
 use std::alloc::{AllocError, Global};
 
 /// Makes the calls in turn on a new key set for the zone of this name, and tells what each is
-/// answered, then the sets that are published, and the verdict on the record. Of the record there is
-/// what a recorder and a judge keep.
+/// answered, then the sets that are published, and the verdict on the record. Of the record there
+/// is what a recorder and a judge keep.
 pub(crate) fn answer(
     alloc: Global,
     name: Name<Vec<u8>>,

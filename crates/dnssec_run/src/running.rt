@@ -398,8 +398,8 @@ impl Recorder {
 /// Where the list sets no flag and no time by hand, and the first wait of an algorithm roll is over
 /// before the first roll of KSKs or CSKs, every position of the record is safe: of any DS set,
 /// DNSKEY set and zone signers that no report has retired, there is no DS, or a DS key signs that
-/// DNSKEY set, and a key of it signs the zone (RFC 4035, section 5). Another signer's key may be published and taken out
-/// by hand at any time.
+/// DNSKEY set, and a key of it signs the zone (RFC 4035, section 5). Another signer's key may be
+/// published and taken out by hand at any time.
 ///
 /// Where nothing else is set by hand, no wait lacks a stamp, and between the rolls each role of a
 /// key is future, active or stale. A started roll goes on by its reports, waits and its end; then

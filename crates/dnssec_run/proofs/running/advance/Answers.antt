@@ -14,35 +14,47 @@ use Rattle.dnssec_run.proofs.running.advance.Goals.{then-is_accepted+in_ok-note,
 pub returns-clause-next : goal.returns-clause-next
 returns-clause-next c w agrees =
     let a = c.args in
-    let step = step-after a.keyset.now c.make-reply.new.set (call_of a.call) (reply_of c.make-reply.result) c.make-reply.ensures in
+    let set = c.make-reply.new.set in
+    let r = c.make-reply.result in
+    let step = step-after a.keyset.now set (call_of a.call) (reply_of r) c.make-reply.ensures in
     elim c.if-is_accepted.branch [
       | then-is_accepted+in_ok-note b ↦
-          agrees-accepted a.at w a.keyset.now c.make-reply.new.set (tree.get_by_text a.added.now) (tree.get_by_text c.if-is_accepted.added) a.call c.make-reply.result
+          agrees-accepted a.at w a.keyset.now set (tree.get_by_text a.added.now)
+          (tree.get_by_text c.if-is_accepted.added) a.call r
           (sym c.is_accepted.ensures ∙ b.if-is_accepted.true) agrees step
           (λ q. ap (λ m. tree.get_by_text m q) b.added-is ∙ b.in_ok-note.ensures.ok q
-          ∙ ap (λ put. noted a.at put (option_map (λ (r : Bor (List ℕ)). r.now) c.deleted-taken.result) (tree.get_by_text a.added.now) q) c.in_ok-put.ensures.ok
-          ∙ ap (λ taken. noted a.at (reference_added (call_of a.call)) taken (tree.get_by_text a.added.now) q) c.deleted-taken.ensures)
+          ∙ ap (λ put. noted a.at put
+          (option_map (λ (r : Bor (List ℕ)). r.now) c.deleted-taken.result)
+          (tree.get_by_text a.added.now) q) c.in_ok-put.ensures.ok
+          ∙ ap (λ taken. noted a.at (reference_added (call_of a.call)) taken
+          (tree.get_by_text a.added.now) q) c.deleted-taken.ensures)
       | else-is_accepted b ↦
-          subst (λ m. Agrees c.make-reply.new.set (tree.get_by_text m) (stepped a.at w a.call c.make-reply.result)) (sym b.added-is)
-          (agrees-refused a.at w a.keyset.now c.make-reply.new.set (tree.get_by_text a.added.now) a.call c.make-reply.result (sym c.is_accepted.ensures ∙ b.if-is_accepted.false) agrees step)
+          subst (λ m. Agrees set (tree.get_by_text m) (stepped a.at w a.call r)) (sym b.added-is)
+          (agrees-refused a.at w a.keyset.now set (tree.get_by_text a.added.now) a.call r
+          (sym c.is_accepted.ensures ∙ b.if-is_accepted.false) agrees step)
     ]
 
 pub returns-clause-outcome : goal.returns-clause-outcome
 returns-clause-outcome c w agrees =
     let a = c.args in
-    let then : Agrees c.make-reply.new.set (tree.get_by_text c.if-is_accepted.added) (stepped a.at w a.call c.make-reply.result) = returns-clause-next c w agrees in
-    let mark : c.if-is_accepted.mark ≡ mark_after a.call c.make-reply.result = elim c.if-is_accepted.branch [
-      | then-is_accepted+in_ok-note b ↦ b.mark-is ∙ c.mark-mark.ensures ∙ mark-accepted a.call c.make-reply.result (sym c.is_accepted.ensures ∙ b.if-is_accepted.true)
-      | else-is_accepted b ↦ b.mark-is ∙ mark-refused a.call c.make-reply.result (sym c.is_accepted.ensures ∙ b.if-is_accepted.false)
+    let r = c.make-reply.result in
+    let then : Agrees c.make-reply.new.set (tree.get_by_text c.if-is_accepted.added)
+    (stepped a.at w a.call r) = returns-clause-next c w agrees in
+    let mark : c.if-is_accepted.mark ≡ mark_after a.call r = elim c.if-is_accepted.branch [
+      | then-is_accepted+in_ok-note b ↦ b.mark-is ∙ c.mark-mark.ensures
+          ∙ mark-accepted a.call r (sym c.is_accepted.ensures ∙ b.if-is_accepted.true)
+      | else-is_accepted b ↦ b.mark-is
+          ∙ mark-refused a.call r (sym c.is_accepted.ensures ∙ b.if-is_accepted.false)
     ] in
-    let step = subst (λ s. keyset.Step s (call_of a.call) (reply_of c.make-reply.result) (stepped a.at w a.call c.make-reply.result).set) agrees.same
-    (subst (keyset.Step a.keyset.now (call_of a.call) (reply_of c.make-reply.result)) then.same c.make-reply.ensures) in
+    let step = subst (λ s. keyset.Step s (call_of a.call) (reply_of r)
+    (stepped a.at w a.call r).set) agrees.same
+    (subst (keyset.Step a.keyset.now (call_of a.call) (reply_of r)) then.same
+    c.make-reply.ensures) in
     record {
       step = step;
       mark = mark;
       moment = c.moment-moment.ensures;
-      kept = λ no. unasked a.at w (stepped a.at w a.call c.make-reply.result) a.call
-          c.make-reply.result step refl
+      kept = λ no. unasked a.at w (stepped a.at w a.call r) a.call r step refl
           (λ t. let calm = c.may_publish-may_publish.ensures no t in
           (sym c.sets_flag-sets_flag.ensures ∙ calm.0, calm.1));
     }

@@ -1,4 +1,5 @@
--- What was found stays the first, or the next position is searched, or it is safe as the one before.
+-- What was found stays the first, or the next position is searched, or it is as safe as the one
+-- before.
 use Rattle.std.proofs.Common.{◌≡◌, ℕ, suc, sym, ◌∙◌, ap, subst, arith, refl, None, Some, [], ◌∷◌}
 use Rattle.std.proofs.Common.{length, ◌++◌, Bool, true, false, Bor, List, Option}
 use Rattle.std.specs.Option.{option_map}

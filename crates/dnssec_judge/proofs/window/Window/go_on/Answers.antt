@@ -20,13 +20,20 @@ returns-in-Ds-clause-spans c =
 
 pub returns-in-Dnskey-clause-spans : goal.returns-in-Dnskey-clause-spans
 returns-in-Dnskey-clause-spans c =
-    let handed : Some (map id_of c.deref-in-Dnskey.result.now, map id_of c.deref-in-Dnskey-2.result.now)
+    let handed : Some (
+      map id_of c.deref-in-Dnskey.result.now,
+      map id_of c.deref-in-Dnskey-2.result.now,
+    )
     ≡ option_map (λ (s : Bor Published). held_in (kind_of c.args.kind) s.now) c.args.published =
-    (λ i. Some (map id_of (c.deref-in-Dnskey.ensures.value i), map id_of (c.deref-in-Dnskey-2.ensures.value i)))
+    (λ i. Some (
+      map id_of (c.deref-in-Dnskey.ensures.value i),
+      map id_of (c.deref-in-Dnskey-2.ensures.value i),
+    ))
     ∙ (λ i. option_map (λ (s : Bor Published). held_in (kind_of (sym c.in-Dnskey.is i)) s.now)
     (sym c.in-Some.is i)) in
     subst (λ (news : Option Held). OnOk c.show-in-Dnskey.result
-    (IsNoted news c.args.at c.args.self.now.spans.items c.show-in-Dnskey.new.self.spans.items)) handed
+    (IsNoted news c.args.at c.args.self.now.spans.items
+    c.show-in-Dnskey.new.self.spans.items)) handed
     c.show-in-Dnskey.ensures.spans
 
 pub returns-in-ZoneSigners-clause-spans : goal.returns-in-ZoneSigners-clause-spans
@@ -37,5 +44,6 @@ returns-in-ZoneSigners-clause-spans c =
     ∙ (λ i. option_map (λ (s : Bor Published). held_in (kind_of (sym c.in-ZoneSigners.is i)) s.now)
     (sym c.in-Some.is i)) in
     subst (λ (news : Option Held). OnOk c.show-in-ZoneSigners.result
-    (IsNoted news c.args.at c.args.self.now.spans.items c.show-in-ZoneSigners.new.self.spans.items)) handed
+    (IsNoted news c.args.at c.args.self.now.spans.items
+    c.show-in-ZoneSigners.new.self.spans.items)) handed
     c.show-in-ZoneSigners.ensures.spans

@@ -33,7 +33,8 @@ returns-clause-ok c name calls entries e tells same so =
     subst (Agrees c.advance.new.keyset (tree.get_by_text c.advance.new.added)) reached
     (c.in_ok-outcome.ensures.next before so.agrees) in
     let is : IsOutcome before after x o =
-    subst (λ w. IsOutcome before w x o) reached (c.in_ok-outcome.ensures.outcome before so.agrees) in
+    subst (λ w. IsOutcome before w x o) reached
+    (c.in_ok-outcome.ensures.outcome before so.agrees) in
     let shown : IsPublished c.renew.new.sets after =
     read-or-kept c.renew.new.sets c.args.self.now.published before after o.may_publish
     (λ t. c.in_ok-renew.ensures.read t after agrees) c.in_ok-renew.ensures.kept is.kept
