@@ -1,11 +1,13 @@
 //! How many keys a start could go on with.
-ghost use Rattle.std.specs.Prelude.{◌≡◌};
+ghost use Rattle.std.specs.Prelude.{◌≡◌, if◌then◌else◌};
+ghost use Rattle.dnssec_key.specs.Setters.{meant};
 ghost use Rattle.dnssec_keyset.specs.Inner.Code.{as_want};
-ghost use Rattle.dnssec_keyset.specs.Inner.Counts.{count_of, no_counts, one_less, one_more};
+ghost use Rattle.dnssec_keyset.specs.Inner.Counts.{count_of, moves_counts, no_counts};
+ghost use Rattle.dnssec_keyset.specs.Inner.Counts.{one_less, one_more};
 ghost use Rattle.dnssec_keyset.specs.Inner.Counts.{with_key, without_key};
 
 use crate::side::Want;
-use dnssec_key::KeyType;
+use dnssec_key::{KeyType, Setting};
 
 /// For each want, how many keys meet it in their state, whether a start lists them as old or not.
 #[derive(Clone, Copy)]
@@ -106,6 +108,19 @@ impl Counts {
                 self.present_zsk_role,
                 Want::PresentZskRole.is_met_by_kept(*keytype),
             ),
+        }
+    }
+
+    /// Follows a setter that made a key another one. None of them asks whether a key signs.
+    pub(crate) fn follow(&mut self, setting: &Setting, before: &KeyType, after: &KeyType)
+        ensures { self.new ≡ (if moves_counts (meant setting.now)
+            then with_key after.now (without_key before.now self.old) else self.old) }
+    {
+        if matches!(
+            setting,
+            Setting::Present(_, _) | Setting::AtParent(_) | Setting::Stale
+        ) {
+            *self = self.without(before).with(after);
         }
     }
 }
