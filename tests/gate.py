@@ -18,35 +18,42 @@ START = time.monotonic()
 STEPS = []
 
 
-def note(step):
-    minutes, seconds = divmod(int(time.monotonic() - START), 60)
-    STEPS.append(f"{minutes:4}:{seconds:02} {step}")
+def note(step, after=None):
+    """Notes that a step is done: now, or so many seconds after the start."""
+    STEPS.append((time.monotonic() - START if after is None else after, step))
 
 
-def trials():
-    """The folders in which `rt ci` tries edits now, one for each crate."""
-    return {it for it in os.listdir(tempfile.gettempdir()) if it.startswith("rt-edits-")}
+def steps():
+    """When each step was done, a line each."""
+    for after, step in sorted(STEPS):
+        minutes, seconds = divmod(int(after), 60)
+        yield f"{minutes:4}:{seconds:02} {step}"
+
+
+def files(crate):
+    """The names of a crate's files, by which its copies are known."""
+    parts = (os.walk(crate / part) for part in ("src", "specs", "proofs"))
+    return frozenset(name for part in parts for _, _, names in part for name in names)
 
 
 class Edits(threading.Thread):
-    """Notes when the edits of a crate are tried: when the folder that came with them is gone."""
+    """Sees until when the edits of each crate were tried: each is, in a copy of the crate."""
 
-    def __init__(self):
+    def __init__(self, pid):
         super().__init__(daemon=True)
-        self.known = trials()
-        self.begun = []
-        self.crates = {}
+        self.copies = f"rt-edit-{pid}-*"
+        self.crates = {files(crate): crate.name for crate in (TOP / "crates").iterdir()}
+        self.last = {}
 
     def run(self):
         while True:
-            now = trials()
-            for folder in sorted(now - self.known):
-                if self.begun:
-                    self.crates[folder] = self.begun.pop(0)
-            for folder in sorted(self.crates.keys() - now):
-                note(f"{self.crates.pop(folder)}: edits tried")
-            self.known = now
+            for copy in Path(tempfile.gettempdir()).glob(self.copies):
+                self.last[self.crates.get(files(copy))] = time.monotonic() - START
             time.sleep(0.5)
+
+    def note(self, crates):
+        for crate in crates & self.last.keys():
+            note(f"{crate}: edits tried", self.last[crate])
 
 
 class Beside(threading.Thread):
@@ -61,24 +68,25 @@ class Beside(threading.Thread):
         self.test = subprocess.run(self.words, stdout=subprocess.PIPE, text=True)
         note(self.name)
 
-    def has_failed(self):
-        """Whether a test failed, of those that were begun."""
+    def fault(self):
+        """What is to be said against the script, if anything is."""
         if self.ident is None:
-            return False
+            return f"the test {self.name} has not begun\n"
         self.join()
         print(self.test.stdout, end="")
-        return self.test.returncode != 0
+        return f"the test {self.name} has failed\n" if self.test.returncode else None
 
 
 class Behind(Beside):
-    """A script of tests that runs once these crates are proved, over what `rt ci` has built."""
+    """A script of tests that runs once these crates are proved or kept, over what `rt ci` has built
+    or has given back."""
 
     def __init__(self, name, *crates):
         super().__init__(name)
-        self.wanted = {f"{crate} proved" for crate in crates}
+        self.wanted = set(crates)
 
-    def note(self, proved):
-        self.wanted.discard(proved)
+    def note(self, crate):
+        self.wanted.discard(crate)
         if self.ident is None and not self.wanted:
             self.start()
 
@@ -90,24 +98,34 @@ def copy_of_sources(folder):
     return top
 
 
-def prove(edits, behind):
+# What `rt ci` says of a crate, or of its tests, once it is done with its proof. It proves what no
+# earlier run on this machine has proved from the same files, and gives back what that has kept.
+DONE = re.compile(
+    r"rt: (?P<what>\S+( its tests are)?) (?P<how>proved|NOT PROVED|(is )?kept)(: an earlier .*)?\n"
+)
+TRIED = re.compile(r"rt: (?P<crate>\S+): trying its must-fail edits .*\n")
+
+
+def prove(behind):
     """Runs `rt ci`, and prints all but its last line. Gives its status and that line."""
-    last = ""
+    last, tried = "", set()
     gate = subprocess.Popen(
         ["rt", "ci"], cwd=TOP, stdout=subprocess.PIPE, stderr=subprocess.STDOUT, text=True
     )
+    edits = Edits(gate.pid)
+    edits.start()
     for line in gate.stdout:
         print(last, end="", flush=True)
         last = line
-        proved = re.fullmatch(r"rt: (\S+( its tests are)? (proved|NOT PROVED))\n", line)
-        if proved:
-            note(proved[1])
-            for script in behind:
-                script.note(proved[1])
-        begun = re.match(r"rt: (\S+): trying its must-fail edits", line)
-        if begun:
-            edits.begun.append(begun[1])
+        if done := DONE.fullmatch(line):
+            note(f"{done['what']} {done['how'].removeprefix('is ')}")
+            if done["how"] != "NOT PROVED":
+                for script in behind:
+                    script.note(done["what"])
+        elif begun := TRIED.fullmatch(line):
+            tried.add(begun["crate"])
     status = gate.wait()
+    edits.note(tried)
     note("rt ci")
     return status, last
 
@@ -120,14 +138,14 @@ def main():
         # At low priority: each crate waits for the proofs of those below it.
         memory = Beside("memory", copy_of_sources(folder), under=["nice"])
         behind = [Behind("library", "keyset", "keyset_c"), Behind("sets", "whole_sets")]
-        edits = Edits()
-        edits.start()
         memory.start()
-        status, last = prove(edits, behind)
+        status, last = prove(behind)
         for beside in (memory, *behind):
-            if beside.has_failed():
-                status, last = 1, f"the test {beside.name} has failed\n"
-    print("Done after, in minutes and seconds:", *STEPS, sep="\n")
+            fault = beside.fault()
+            # (A script never begins where a proof that it rests on has failed, which is told.)
+            if fault and (beside.ident or status == 0):
+                status, last = 1, fault
+    print("Done after, in minutes and seconds:", *steps(), sep="\n")
     print(last, end="", flush=True)
     return status
 

@@ -1,7 +1,8 @@
 #!/usr/bin/env python3
 """Tests the library that `make lib` makes, and its callers in C, Rust and Python.
 
-    tests/library.py            builds it over the libraries that a running `rt ci` has just proved
+    tests/library.py            builds it over the libraries that a running `rt ci` has just proved,
+                                or has kept
     tests/library.py FOLDER     takes the one that `make lib` has left there
     tests/library.py FOLDER valgrind|asan     its tests in C alone, under a checker of memory
     tests/library.py FOLDER fuzz RUNS         libFuzzer makes so many texts, from the stored scripts
@@ -49,11 +50,16 @@ def run(*command, **how):
     return ran.stdout.decode()
 
 
-def below(crate):
-    """The crates of the repository that a crate stands on."""
+def stands_on():
+    """The crates of the repository, each with those that it names, lowest first."""
     rows = (line.partition("#")[0].partition(":") for line in open(TOP / "crates.txt"))
-    listed = {name.split()[0]: on.split() for name, _, on in rows if name.strip()}
-    return [name for name in listed[crate] if name in listed]
+    named = {name.split()[0]: on.split() for name, _, on in rows if name.strip()}
+    return {crate: [name for name in on if name in named] for crate, on in named.items()}
+
+
+def below(crate, crates):
+    """All crates of the repository below a crate."""
+    return set().union(*({name} | below(name, crates) for name in crates[crate]))
 
 
 def kit():
@@ -63,13 +69,16 @@ def kit():
 
 def build(archive):
     """Builds the static library over what `rt ci` has proved, and proves it once more by this."""
-    top = kit()
+    top, crates = kit(), stands_on()
+    # A copy of it: at its end `rt ci` puts back what stood in its place before.
+    proved = archive.parent / "proved"
+    for name in below("keyset_c", crates):
+        shutil.copytree(CRATES / name / "out" / "rlib", proved, dirs_exist_ok=True)
     words = ["--crate-name", "keyset_c", "src/lib.rt", "--crate-type", "staticlib"]
     words += ["--extern", f"std={top}/rlibs/std.rlib", "-L", f"dependency={top}/rlibs"]
-    for name in below("keyset_c"):
-        words += ["--extern", f"{name}={CRATES / name}/out/rlib/{name}.rlib"]
-    for folder in CRATES.glob("*/out/rlib"):
-        words += ["-L", f"dependency={folder}"]
+    for name in crates["keyset_c"]:
+        words += ["--extern", f"{name}={proved}/{name}.rlib"]
+    words += ["-L", f"dependency={proved}"]
     words += ["--antt-project", top / "rattle" / "logic" / "antt-project.json"]
     words += ["--logic-built", top / "logic_built", "--toolchain", top / "toolchain"]
     run(top / "bin" / "rattle", "build", *words, "-o", archive, cwd=CRATES / "keyset_c")
