@@ -1,6 +1,6 @@
 #!/usr/bin/env python3
-"""Lets each request for memory fail in turn: of calls of a key set, of its copies, of names and of
-a judge. (Those of scripts fail in `tests/library.c`.)
+"""Lets each request for memory fail in turn: of calls of a key set, of its copies, of names, of a
+script's record and of a judge. (Those of a script's answers fail in `tests/library.c`.)
 
 One program serves for it, built three times. It makes some requests before its work. So with the
 request at one fixed place failing, each number of such requests lets another one of the work fail.
@@ -25,7 +25,7 @@ WORKS = {
     "r": "rolls",
     "k": "copies of keys",
     "s": "copies of key sets",
-    "v": "verdicts",
+    "v": "a record and its verdict",
 }
 
 # Three digits hold the number of requests before the work.

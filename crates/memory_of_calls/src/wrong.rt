@@ -12,6 +12,8 @@ pub(crate) enum Wrong {
     Name(&'static str),
     /// A key or a set wasn't copied as it should be.
     Copy,
+    /// A script wasn't recorded as it should be.
+    Record,
     /// A record wasn't judged as it should be.
     Verdict,
 }
@@ -23,6 +25,7 @@ impl fmt::Display for Wrong {
             Wrong::Course(mismatch) => write!(f, "{mismatch}"),
             Wrong::Name(text) => write!(f, "the name {text}"),
             Wrong::Copy => f.write_str("a copy"),
+            Wrong::Record => f.write_str("a record"),
             Wrong::Verdict => f.write_str("a verdict"),
         }
     }
