@@ -50,6 +50,10 @@ wait2 zsk-roll 345
 const REFUSED: &str = "done csk-roll
 ";
 
+/// One that comes when the first report of the KSK roll is over.
+const REFUSED_LATE: &str = "wait2 ksk-roll 1000
+";
+
 fn broken(at: usize, ds: usize, dnskey: usize, zone: usize) -> Option<Broken> {
     Some(Broken {
         at,
@@ -146,8 +150,9 @@ fn try_rows(alloc: Global, rows: &[Row]) -> Result<Option<Broken>, ScriptFault> 
 /// report has retired; and one without a DNSKEY set meets the least DS set.
 #[test]
 fn the_least_unretired_positions_are_told(rt: HostRuntime) -> Result<(), Fail> {
-    let rows: [(&[&str], usize, [usize; 3]); 3] = [
+    let rows: [(&[&str], usize, [usize; 3]); 4] = [
         (&[FIRST, KSK_ROLL, REFUSED], 12, [5, 3, 3]),
+        (&[FIRST, KSK_ROLL, REFUSED_LATE], 12, [5, 10, 3]),
         (&[FIRST, KSK_ROLL, KSK_WAIT, REFUSED], 13, [5, 10, 3]),
         (&[FIRST, SIDE_BY_SIDE, REFUSED], 22, [15, 12, 17]),
     ];

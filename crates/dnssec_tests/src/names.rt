@@ -149,7 +149,7 @@ fn answers_each_beginning(rt: HostRuntime) -> Result<(), Fail> {
     for (text, _) in faulty() {
         reads_each_beginning(&rt, text)?;
     }
-    let long: [(&[usize], &str); 7] = [
+    let long: [(&[usize], &str); 12] = [
         (&[64], ""),
         (&[63, 63, 63, 61], ".a"),
         (&[63, 63, 63, 62], ""),
@@ -157,6 +157,11 @@ fn answers_each_beginning(rt: HostRuntime) -> Result<(), Fail> {
         (&[63, 63, 61, 64], ""),
         (&[63], "\\300"),
         (&[63], " "),
+        (&[62], "\\255"),
+        (&[63], "\\255"),
+        (&[64], ".."),
+        (&[63, 63, 63, 61], "\\"),
+        (&[63, 63, 63, 61], ".."),
     ];
     for (lengths, end) in long {
         let text = letters(rt.alloc(), lengths, end)?;
