@@ -34,7 +34,7 @@ extern "C" {
 /* The statuses. 0, 1 and 3 are those that the program keyset ends with. */
 enum {
     KEYSET_ANSWERED = 0,      /* the answer was written */
-    KEYSET_MALFORMED = 1,     /* a line hasn't the form of a script's line */
+    KEYSET_MALFORMED = 1,     /* a line doesn't have the form of a script's line */
     KEYSET_OUT_OF_MEMORY = 3, /* the library got no memory */
     KEYSET_SHORT = 4          /* the answer is longer than `out` */
 };

@@ -157,6 +157,9 @@ static void expect_as_read(const char *text, size_t length, const char *name)
     expect(told.status == (line > 0 ? KEYSET_MALFORMED : KEYSET_ANSWERED), "malformed", name);
 }
 
+/* No roll's name begins another, and their words are lower case. */
+static const char NAMES[] = "zone example.com\ndone algorithm-roll\ndone CSK-roll\n";
+
 static size_t expect_beginnings(const struct stored *it, size_t step)
 {
     size_t beginnings = 0;
@@ -315,6 +318,8 @@ int main(int argc, char **argv)
             expect_damaged(&stored[i]);
     }
 
+    struct stored names = {.name = "names", .script = NAMES, .script_length = strlen(NAMES)};
+    beginnings += expect_beginnings(&names, 1);
     expect_malformed("", 0, 1);
     expect_malformed("\n", 1, 1);
     expect_malformed("zone", 4, 1);

@@ -7,7 +7,7 @@
     tests/library.py FOLDER valgrind|asan     its tests in C alone, under a checker of memory
     tests/library.py FOLDER fuzz RUNS         libFuzzer makes so many texts, from the stored scripts
 
-A script and its answers are those of `replay/scripts.txt`. The program `keyset` answers
+A script and its answers are those of `replay/scripts.txt`. The program `keyset` answers these and
 damaged scripts beside the library.
 """
 
@@ -26,7 +26,7 @@ CRATES = TOP / "crates"
 LIBRARY = TOP / "library"
 PROGRAM = CRATES / "keyset" / "out" / "keyset"
 STORED = TOP / "replay" / "scripts.txt"
-EXAMPLES = sorted((TOP / "examples").glob("*.script"))
+EXAMPLES = sorted((TOP / "examples").rglob("*.script"))
 
 EXPORTS = {"keyset_answer", "keyset_version"}
 WRAPPED = [f"-Wl,--wrap={name}" for name in ("malloc", "realloc", "free")]
@@ -110,13 +110,18 @@ def test_in_c(compiler, folder, room, checker=None):
     return run(*before, program, STORED, *step).strip()
 
 
+def stored_scripts():
+    """The stored scripts, without their answers."""
+    for part in STORED.read_text().split("\n== ")[1:]:
+        yield part.partition("\n")[2].partition("-- answers\n")[0]
+
+
 def fuzz(folder, room, runs):
     """Lets libFuzzer make texts of the stored scripts and of their words."""
     corpus, words, program = room / "corpus", room / "words", room / "fuzz"
     corpus.mkdir()
     seen = set()
-    for i, part in enumerate(STORED.read_text().split("\n== ")[1:]):
-        script = part.partition("\n")[2].partition("-- answers\n")[0]
+    for i, script in enumerate(stored_scripts()):
         (corpus / str(i)).write_text(script)
         seen.update(word for word in script.split() if re.fullmatch("[A-Za-z0-9-]+", word))
     words.write_text("".join(f'"{word}"\n' for word in sorted(seen)))
@@ -184,9 +189,11 @@ def test_resumed(keyset):
 
 
 def test_damaged(keyset):
-    """Scripts with damaged bytes are answered by the library as by the program."""
+    """Stored scripts, and examples with damaged bytes, are answered by the library as by the
+    program."""
     chance = random.Random("damaged")
     scripts = [b"", b"\n", b"zone .", b"zone example.com\n"]
+    scripts += map(str.encode, stored_scripts())
     for path in EXAMPLES:
         whole = path.read_bytes()
         scripts += [whole, whole[:-1], *(damaged(whole, chance) for _ in range(DAMAGES))]
@@ -232,9 +239,16 @@ def expect_rolls(caller, command, **how):
     return f"the caller in {caller} answers {len(EXAMPLES)} examples as the program"
 
 
-def test_c_caller(compiler, folder, room):
-    run(compiler, *STRICT, "-o", room / "roll", LIBRARY / "c" / "roll.c", *c_flags(folder))
-    return expect_rolls("C", [room / "roll"])
+def test_c_caller(compiler, room, caller, flags):
+    run(compiler, *STRICT, "-o", room / "roll", LIBRARY / "c" / "roll.c", *flags)
+    return expect_rolls(caller, [room / "roll"])
+
+
+def shared_flags(folder):
+    """What `pkg-config` says of the shared object, and where a program finds this."""
+    made = {**os.environ, "PKG_CONFIG_PATH": str(folder / "lib" / "pkgconfig")}
+    told = run("pkg-config", "--cflags", "--libs", "keyset", env=made)
+    return [*told.split(), f"-Wl,-rpath,{folder}/lib"]
 
 
 def test_rust_caller(folder, room):
@@ -255,7 +269,11 @@ def test(folder, room):
     if not compiler:
         raise Wrong("there is no C compiler here, and the tests in C want one")
     yield test_in_c(compiler, folder, room)
-    yield test_c_caller(compiler, folder, room)
+    yield test_c_caller(compiler, room, "C", c_flags(folder))
+    if shutil.which("pkg-config"):
+        yield test_c_caller(compiler, room, "C over the shared object", shared_flags(folder))
+    else:
+        yield "there is no pkg-config here: the caller in C has not run over the shared object"
     if shutil.which("cargo") and shutil.which("rustc"):
         yield test_rust_caller(folder, room)
     else:

@@ -63,7 +63,7 @@ class Early(Refused):
 
 
 class Malformed(ValueError):
-    """This line of the script, counted from 1, is the first that hasn't its form."""
+    """This line of the script, counted from 1, is the first malformed one."""
 
     def __init__(self, line: int) -> None:
         super().__init__(f"line {line}: malformed")

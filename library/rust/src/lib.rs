@@ -34,7 +34,7 @@ const EARLY: &str = "wait for duration ";
 /// Why there is no answer.
 #[derive(Clone, Debug, PartialEq, Eq)]
 pub enum Error {
-    /// This line of the script, counted from 1, is the first that hasn't its form.
+    /// This line of the script, counted from 1, is the first malformed one.
     Malformed { line: usize },
     /// The wait isn't over, and nothing has changed: ask again after so many seconds.
     Early { seconds: u64 },
