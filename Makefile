@@ -52,7 +52,7 @@ test:
 docs:
 	@tests/docs.py
 
-# Each request for memory of the example scripts, and of calls of a key set and of names, fails in
-# turn.
+# Each request for memory of calls of a key set, of its copies, of names, of a script's record and of
+# its verdict fails in turn.
 memory:
 	@tests/memory.py
