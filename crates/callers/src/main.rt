@@ -1,8 +1,9 @@
-//! The callers that the READMEs show: one of each crate that a user names.
+//! The callers that the READMEs show: one of each crate that a user names, and one of `dnssec_run`.
 #![tactic(auto)]
 
 mod first_keys;
 mod names;
+mod runs;
 mod verdicts;
 
 use anyhow::Result;
@@ -21,5 +22,6 @@ fn main(rt: HostRuntime) -> Result<()> {
     println!(rt; "{}", names::describe(rt.alloc(), "a..b")?)?;
     println!(rt; "{:?}", first_keys::bring_in(rt.alloc())?)?;
     println!(rt; "{}", verdicts::judge(rt.alloc(), TOO_SOON)?)?;
+    println!(rt; "{}", runs::publish(rt.alloc())?)?;
     Ok(())
 }

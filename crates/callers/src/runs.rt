@@ -1,0 +1,33 @@
+//! A caller of `dnssec_run`.
+use anyhow::{Result, bail};
+use dnssec_keyset::{Name, SecurityAlgorithm, UnixTime};
+use dnssec_run::{Call, run};
+use std::alloc::Global;
+use std::time::Duration;
+
+/// Publishes a key of another signer on a new key set, and tells what is then in the DNSKEY set.
+pub fn publish(alloc: Global) -> Result<String> {
+    let now = UnixTime::from(Duration::from_secs(100));
+    let mut calls = Vec::new(alloc);
+    calls.push(Call::AddPublicKey {
+        pubref: String::from_str(alloc, "I")?,
+        algorithm: SecurityAlgorithm::ED25519,
+        key_tag: 9,
+        creation_ts: now,
+        available: true,
+    })?;
+    calls.push(Call::SetPresent {
+        pubref: "I",
+        value: true,
+        now,
+    })?;
+    let run = run(
+        alloc,
+        Name::<Vec<u8>>::from_str(alloc, "example.com")?,
+        calls,
+    )?;
+    match run.entries.last() {
+        Some(entry) => Ok(format!(in alloc; "{:?}: {:?}", entry.reply, entry.published.dnskey)?),
+        None => bail!("no calls"),
+    }
+}
