@@ -301,7 +301,7 @@ HasForm n line = MatchBool (n == 1) ((name : List ℕ) × IsZoneLine line name) 
 abbrev pub line_of : List (List ℕ) → ℕ → List ℕ
 line_of lines n = slice_index_or lines (n - 1) []
 
--- line n is the first that hasn't its form
+-- line n is the first malformed one
 pub record IsFirstOf (lines : List (List ℕ)) (n : ℕ) : Type 0 where
   pub number : (0 < n) × (n ≤ length lines)
   pub malformed : ¬ HasForm n (line_of lines n)

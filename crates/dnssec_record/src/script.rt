@@ -34,7 +34,7 @@ const PIECE: usize = 4096;
 ///
 /// # Errors
 ///
-/// - `Malformed` with the number of the first line that hasn't its form. Nothing was written.
+/// - `Malformed` with the number of the first malformed line. Nothing was written.
 /// - `Device` where `input` or `output` has failed. What was written is a beginning of the
 ///   answers.
 /// - `OutOfMemory` where memory runs out. Nothing was written.
@@ -125,7 +125,7 @@ fn answer_to(alloc: Global, script: &[u8]) -> Result<String, ScriptFault>
 ///
 /// # Errors
 ///
-/// - `Malformed` with the number of the first line that hasn't its form. Nothing was run.
+/// - `Malformed` with the number of the first malformed line. Nothing was run.
 /// - `OutOfMemory` where there is no memory for the script or its record.
 ///
 /// ```rust
@@ -166,8 +166,8 @@ fn write_all<W: Sink>(output: &mut W, bytes: &[u8]) -> Result<(), DeviceFault>
 /// Why a script was not answered to its end.
 #[derive(Debug, Drop, PartialEq)]
 pub enum ScriptFault {
-    /// The line of this number, counted from 1, is the first that hasn't the form of a script's
-    /// line. Nothing was run, and nothing was written.
+    /// The line of this number, counted from 1, is the first that doesn't have the form of a
+    /// script's line. Nothing was run, and nothing was written.
     Malformed(usize),
     /// The input or the output failed. What was written is a beginning of the answers.
     Device,

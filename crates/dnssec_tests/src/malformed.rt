@@ -1,10 +1,10 @@
-//! Scripts with a line that hasn't its form.
+//! Scripts with a malformed line.
 use dnssec_record::{ScriptFault, Std, run_script};
 use std::alloc::{AllocError, Global};
 use std::process::Abort;
 use std::test::Fail;
 
-/// A script, and the number of the first line that hasn't its form.
+/// A script, and the number of its first malformed line.
 type Row<'a> = (&'a [u8], usize);
 
 /// Runs a script: how it ended, and what was written.

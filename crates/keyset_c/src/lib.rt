@@ -15,7 +15,7 @@ use std::alloc::Global;
 
 /// The answer was written.
 const ANSWERED: u32 = 0;
-/// A line hasn't the form of a script's line.
+/// A line doesn't have the form of a script's line.
 const MALFORMED: u32 = 1;
 /// Memory has run out.
 const OUT_OF_MEMORY: u32 = 3;
@@ -34,7 +34,7 @@ pub struct Answered {
     pub status: u32,
     /// Answered: how many bytes were written. Short of room: how many there have to be. Else 0.
     pub length: usize,
-    /// Malformed: the first line that hasn't its form, counted from 1. Else 0.
+    /// Malformed: the first malformed line, counted from 1. Else 0.
     pub line: usize,
 }
 
