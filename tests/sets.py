@@ -192,7 +192,7 @@ def mark_of(position):
 
 def keys_of(published):
     return listed(
-        f'PublishedKey {{ reference: "{name.translate(ESCAPED)}", added: {added} }}'
+        f'PublishedKey {{ added: {added}, reference: "{name.translate(ESCAPED)}" }}'
         for name, added in sorted(published)
     )
 

@@ -5,7 +5,7 @@ use dnssec_run::{Call, run};
 use std::alloc::Global;
 use std::time::Duration;
 
-/// Publishes a key of another signer on a new key set, and tells what is then in the DNSKEY set.
+/// Publishes a key of another signer on a new key set, and tells what is then published.
 pub fn publish(alloc: Global) -> Result<String> {
     let now = UnixTime::from(Duration::from_secs(100));
     let mut calls = Vec::new(alloc);
@@ -26,8 +26,10 @@ pub fn publish(alloc: Global) -> Result<String> {
         Name::<Vec<u8>>::from_str(alloc, "example.com")?,
         calls,
     )?;
-    match run.entries.last() {
-        Some(entry) => Ok(format!(in alloc; "{:?}: {:?}", entry.reply, entry.published.dnskey)?),
-        None => bail!("no calls"),
+    for entry in &run.entries {
+        if let Some(key) = entry.published.dnskey.first() {
+            return Ok(format!(in alloc; "{}, added by call {}", key.reference, key.added)?);
+        }
     }
+    bail!("nothing is published")
 }
