@@ -1,5 +1,5 @@
 -- The entries of a list one by one, by the tags of the keys that stand before.
-use Rattle.std.proofs.Common.{◌≡◌, ℕ, ◌+◌, ◌<◌, Bool, false, List, length, take, drop, get_or}
+use Rattle.std.proofs.Common.{◌≡◌, ℕ, ◌+◌, ◌<◌, ◌≤◌, arith, Bool, false, List, length, take, drop, get_or}
 use Rattle.std.proofs.Common.{Some, None, Err, true, refl, sym, ap, ◌∙◌, Bor}
 use Rattle.std.specs.Prelude.{Option, ◌||◌, ◌&&◌, not}
 use Rattle.std.specs.Option.{option_map_or, option_or}
@@ -69,6 +69,19 @@ listed-behind keys olds news tags i d within has = listed-same keys tags _ _
     ∙ or_joined (is_listed olds q) _ _) has
 
 -- the entry at i counts where its key serves and isn't listed before
+pub counted-more : (p : KeyType → Bool) (keys : Keys) (olds : List (Bor (List ℕ))) (i : ℕ)
+    (d : Bor (List ℕ)) → i < length olds → (b : Bool)
+    → b ≡ option_map_or (λ (k : KeyParts). p k.keytype
+    && not (is_listed (texts (take i olds)) (get_or olds i d).now))
+    (get keys (get_or olds i d).now) false → (n m : ℕ)
+    → n ≡ count_in (listed p (texts (take i olds))) keys → m ≡ n + bit b
+    → m ≡ count_in (listed p (texts (take (i + 1) olds))) keys
+counted-more p keys olds i d within b first n m before more = more
+    ∙ (λ j. before j + bit (first j))
+    ∙ sym (count-listed p (texts (take i olds)) (texts (take (i + 1) olds)) (get_or olds i d).now
+    keys (λ q. listed_more referred olds i d q within))
+
+-- the same, by the tags of those before
 pub counted-behind : (p : KeyType → Bool) (keys : Keys) (olds : List (Bor (List ℕ)))
     (tags : List ℕ) (i : ℕ) (d : Bor (List ℕ)) → i < length olds
     → HasListed tags keys (is_listed (texts (take i olds))) → (b : Bool)
@@ -76,8 +89,14 @@ pub counted-behind : (p : KeyType → Bool) (keys : Keys) (olds : List (Bor (Lis
     (get keys (get_or olds i d).now) false → (n m : ℕ)
     → n ≡ count_in (listed p (texts (take i olds))) keys → m ≡ n + bit b
     → m ≡ count_in (listed p (texts (take (i + 1) olds))) keys
-counted-behind p keys olds tags i d within has b first n m before more = more
-    ∙ (λ j. before j + bit ((first
-    ∙ first-listed p keys tags (is_listed (texts (take i olds))) (get_or olds i d).now has) j))
-    ∙ sym (count-listed p (texts (take i olds)) (texts (take (i + 1) olds)) (get_or olds i d).now
-    keys (λ q. listed_more referred olds i d q within))
+counted-behind p keys olds tags i d within has b first = counted-more p keys olds i d within b
+    (first ∙ first-listed p keys tags (is_listed (texts (take i olds))) (get_or olds i d).now has)
+
+-- a count that is one more, or the same
+pub no_more : (n : ℕ) → n + 0 ≡ n
+no_more n = omega arith
+
+-- no more are counted than were looked at
+pub low : (n m i : ℕ) (b : Bool) → n ≤ i → m ≡ n + bit b → m ≤ i + 1
+low n m i true h e = omega (arith, h, e)
+low n m i false h e = omega (arith, h, e)

@@ -1,5 +1,5 @@
 //! What a start is refused for. Nothing is changed here.
-ghost use Rattle.std.specs.Prelude.{◌≡◌, ℕ, Bool, List, [], false, true, not, ◌&&◌, ◌||◌, length};
+ghost use Rattle.std.specs.Prelude.{◌≡◌, ℕ, Bool, List, [], false, true, not, ◌&&◌, ◌||◌, length, Some};
 ghost use Rattle.std.specs.List.{list_any, list_all};
 ghost use Rattle.std.specs.Option.{option_map_or};
 ghost use Rattle.std.specs.Str.{bytes_eq};
@@ -20,7 +20,38 @@ use crate::bits::{AlgorithmSet, TagSet, is_set, set};
 use crate::keys::Keys;
 use crate::set::KeySet;
 use crate::side::{Want, may_change_algorithms, side_of, wants};
-use dnssec_key::{Error, RollType};
+use dnssec_key::{Error, Key, RollType};
+
+/// A list of more entries is long.
+const FEW: usize = 4;
+
+fn is_listed(references: &[&str], reference: &str) -> bool
+    ensures { result ≡ list_any (λ r. bytes_eq reference.now r.now) references.now }
+{
+    references.iter().any(|listed| reference == *listed)
+}
+
+/// Whether a new entry is an old one too, or stood earlier among the new.
+#[tactic(auto, using(crate::proofs::Lists::lists))]
+fn is_taken(old: &[&str], earlier: &[&str], reference: &str) -> bool
+    ensures { result ≡
+        (is_listed (texts old.now) reference.now || is_listed (texts earlier.now) reference.now) }
+{
+    is_listed(old, reference) || is_listed(earlier, reference)
+}
+
+/// What is wrong with a new entry that names this key.
+fn new_key_fault(roll: RollType, key: &Key, is_taken: bool) -> Option<Error>
+    ensures { result ≡ new_entry_fault roll (Some key.now) is_taken }
+{
+    if !side_of(roll).lists(key.keytype()) {
+        Some(Error::WrongKeyType)
+    } else if key.is_fresh() && !is_taken {
+        None
+    } else {
+        Some(Error::WrongKeyState)
+    }
+}
 
 /// What a start is refused for, of the keys.
 impl Keys {
@@ -41,15 +72,17 @@ impl Keys {
     {
         match self.get(reference) {
             None => Some(Error::KeyNotFound),
-            Some(key) => {
-                if !side_of(roll).lists(key.keytype()) {
-                    Some(Error::WrongKeyType)
-                } else if key.is_fresh() && !is_set(taken, key.key_tag()) {
-                    None
-                } else {
-                    Some(Error::WrongKeyState)
-                }
-            }
+            Some(key) => new_key_fault(roll, key, is_set(taken, key.key_tag())),
+        }
+    }
+
+    /// What is wrong with a new entry that is listed before it, or not.
+    fn fault_of_new(&self, roll: RollType, reference: &str, is_taken: bool) -> Option<Error>
+        ensures { result ≡ new_entry_fault roll (map.get self.now reference.now) is_taken }
+    {
+        match self.get(reference) {
+            None => Some(Error::KeyNotFound),
+            Some(key) => new_key_fault(roll, key, is_taken),
         }
     }
 
@@ -77,9 +110,38 @@ impl Keys {
         Ok(())
     }
 
-    /// Refuses the first new entry that has a fault.
-    #[tactic(auto, using(crate::proofs::Lists::lists))]
+    /// Refuses the first new entry that has a fault. What is listed before an entry is looked
+    /// through where the lists are short, and asked of a set of tags where they are long: to clear
+    /// the set costs as much as to start a roll of two keys.
     fn check_new(&self, roll: RollType, old: &[&str], new: &[&str]) -> Result<(), Error>
+        ensures { AnswersExactly
+            (new_fault roll (map.get self.now) (texts old.now) [] (texts new.now)) result }
+    {
+        if old.len() <= FEW && new.len() <= FEW {
+            self.check_few_new(roll, old, new)
+        } else {
+            self.check_many_new(roll, old, new)
+        }
+    }
+
+    #[tactic(auto, using(crate::proofs::Lists::lists))]
+    fn check_few_new(&self, roll: RollType, old: &[&str], new: &[&str]) -> Result<(), Error>
+        ensures { AnswersExactly
+            (new_fault roll (map.get self.now) (texts old.now) [] (texts new.now)) result }
+    {
+        for (i, reference) in new.iter().enumerate() {
+            let is_taken = is_taken(old, &new[..i], reference);
+            if let Some(fault) = self.fault_of_new(roll, reference, is_taken) {
+                return Err(fault);
+            }
+        }
+        Ok(())
+    }
+
+    // Out of line, so that a start with short lists doesn't pay for the place of the set.
+    #[inline(never)]
+    #[tactic(auto, using(crate::proofs::Lists::lists))]
+    fn check_many_new(&self, roll: RollType, old: &[&str], new: &[&str]) -> Result<(), Error>
         ensures { AnswersExactly
             (new_fault roll (map.get self.now) (texts old.now) [] (texts new.now)) result }
     {
@@ -195,6 +257,31 @@ impl Keys {
         ensures { result ≡
             count_in (listed (serves_as_kept (as_want want)) (texts old.now)) self.now }
     {
+        if old.len() <= FEW {
+            self.count_few_listed(want, old)
+        } else {
+            self.count_many_listed(want, old)
+        }
+    }
+
+    fn count_few_listed(&self, want: Want, old: &[&str]) -> usize
+        ensures { result ≡
+            count_in (listed (serves_as_kept (as_want want)) (texts old.now)) self.now }
+    {
+        let mut count = 0;
+        for (i, reference) in old.iter().enumerate() {
+            if self.serves_but_for(want, reference, &old[..i]) {
+                count += 1;
+            }
+        }
+        count
+    }
+
+    #[inline(never)]
+    fn count_many_listed(&self, want: Want, old: &[&str]) -> usize
+        ensures { result ≡
+            count_in (listed (serves_as_kept (as_want want)) (texts old.now)) self.now }
+    {
         let mut earlier = [0; 1024];
         let mut count = 0;
         for reference in old {
@@ -204,6 +291,19 @@ impl Keys {
             self.add_tag(&mut earlier, reference);
         }
         count
+    }
+
+    /// Whether the key at a reference serves, and isn't one of these.
+    #[tactic(auto, using(crate::proofs::Lists::lists))]
+    fn serves_but_for(&self, want: Want, reference: &str, earlier: &[&str]) -> bool
+        ensures { result ≡ option_map_or (λ k. serves_as_kept (as_want want) k.keytype
+            && not (is_listed (texts earlier.now) reference.now))
+            (map.get self.now reference.now) false }
+    {
+        match self.get(reference) {
+            None => false,
+            Some(key) => want.is_met_by_kept(key.keytype()) && !is_listed(earlier, reference),
+        }
     }
 
     /// Whether the key at a reference serves, and isn't one of those with these tags.

@@ -60,6 +60,7 @@ impl Listed {
         })
     }
 
+    #[inline(always)]
     fn forget(&mut self, reference: &str)
         ensures { self.new ≡ record {
           olds = others reference.now self.old.olds;
@@ -230,6 +231,7 @@ fn clone_list(list: &Vec<String>) -> Result<Vec<String>, Error>
 }
 
 /// Takes a reference out of a list, wherever it stands there.
+#[inline(always)]
 fn drop_from(list: &mut Vec<String>, reference: &str)
     ensures { map string_bytes list.new.items
         ≡ others reference.now (map string_bytes list.old.items) }
@@ -238,5 +240,13 @@ fn drop_from(list: &mut Vec<String>, reference: &str)
     if list.is_empty() {
         return;
     }
+    search_and_drop(list, reference);
+}
+
+#[inline(never)]
+fn search_and_drop(list: &mut Vec<String>, reference: &str)
+    ensures { map string_bytes list.new.items
+        ≡ others reference.now (map string_bytes list.old.items) }
+{
     list.retain(|kept| kept.as_str() != reference);
 }

@@ -7,7 +7,7 @@ use Rattle.dnssec_keyset.proofs.Counted.{or_nothing}
 use Rattle.dnssec_keyset.proofs.Marks.{listed_more, referred}
 use Rattle.dnssec_keyset.proofs.Tags.{listed-nothing, listed-same}
 use Rattle.dnssec_keyset.proofs.Words.{zeros}
-use Rattle.dnssec_keyset.proofs.keys.Keys.check_new.Goals as goal
+use Rattle.dnssec_keyset.proofs.keys.Keys.check_many_new.Goals as goal
 
 pub loop-entry-init : goal.loop-entry-init
 loop-entry-init c = (refl, listed-nothing c.args.self.now (replicate 1024 0) (zeros 1024))

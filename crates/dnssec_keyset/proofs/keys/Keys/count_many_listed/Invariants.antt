@@ -3,7 +3,7 @@ use Rattle.dnssec_keyset.specs.Inner.Code.{as_want}
 use Rattle.dnssec_keyset.specs.Inner.Counts.{count_in, listed}
 use Rattle.dnssec_keyset.specs.Inner.Tags.{HasListed}
 use Rattle.dnssec_keyset.specs.Start.{texts, is_listed, serves_as_kept}
-use Rattle.dnssec_keyset.proofs.keys.Keys.count_listed.Given as goal
+use Rattle.dnssec_keyset.proofs.keys.Keys.count_many_listed.Given as goal
 
 -- what is counted so far, and the tags of the keys so far
 abbrev pub invariant-loop-reference : goal.invariant-loop-reference

@@ -3,7 +3,7 @@ use Rattle.std.specs.Prelude.{◌||◌}
 use Rattle.std.specs.FinMap.{get}
 use Rattle.dnssec_keyset.specs.Inner.Tags.{HasListed}
 use Rattle.dnssec_keyset.specs.Start.{texts, is_listed, new_fault}
-use Rattle.dnssec_keyset.proofs.keys.Keys.check_new.Given as goal
+use Rattle.dnssec_keyset.proofs.keys.Keys.check_many_new.Given as goal
 
 -- the tags of the old keys so far
 abbrev pub invariant-loop-entry : goal.invariant-loop-entry

@@ -4,7 +4,7 @@ use Rattle.std.specs.Prelude.{filter, not}
 use Rattle.std.specs.Str.{bytes_eq}
 use Rattle.dnssec_keyset.proofs.Lists.{filter-map}
 use Rattle.dnssec_keyset.proofs.Retained.{filtered}
-use Rattle.dnssec_keyset.proofs.listed.drop_from.Goals as goal
+use Rattle.dnssec_keyset.proofs.listed.search_and_drop.Goals as goal
 
 pub returns : goal.returns
 returns c =

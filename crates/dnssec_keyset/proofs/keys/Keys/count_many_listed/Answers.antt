@@ -5,12 +5,12 @@ use Rattle.dnssec_keyset.specs.Inner.Code.{as_want}
 use Rattle.dnssec_keyset.specs.Inner.Counts.{bit}
 use Rattle.dnssec_keyset.specs.Start.{serves_as_kept}
 use Rattle.dnssec_keyset.proofs.Counted.{none_listed}
-use Rattle.dnssec_keyset.proofs.Entries.{counted-behind}
+use Rattle.dnssec_keyset.proofs.Entries.{counted-behind, low, no_more}
 use Rattle.dnssec_keyset.proofs.Marks.{listed_more, referred}
 use Rattle.dnssec_keyset.proofs.Tags.{listed-nothing, listed-same}
 use Rattle.dnssec_keyset.proofs.Words.{zeros}
-use Rattle.dnssec_keyset.proofs.keys.Keys.count_listed.Goals as goal
-use Rattle.dnssec_keyset.proofs.keys.Keys.count_listed.Goals.{then-serves_first, else-serves_first}
+use Rattle.dnssec_keyset.proofs.keys.Keys.count_many_listed.Goals as goal
+use Rattle.dnssec_keyset.proofs.keys.Keys.count_many_listed.Goals.{then-serves_first, else-serves_first}
 
 pub loop-reference-init : goal.loop-reference-init
 loop-reference-init c = (
@@ -27,7 +27,7 @@ loop-reference-preserved c =
     let more : c.if-serves_first.count ≡ l.count + bit c.serves_first.result =
     elim c.if-serves_first.branch [
       | then-serves_first w ↦ w.count-is ∙ ap (λ b. l.count + bit b) (sym w.if-serves_first.true)
-      | else-serves_first w ↦ w.count-is ∙ sym (nothing l.count)
+      | else-serves_first w ↦ w.count-is ∙ sym (no_more l.count)
           ∙ ap (λ b. l.count + bit b) (sym w.if-serves_first.false)
     ] in (
       low l.count c.if-serves_first.count l.reference-index c.serves_first.result l.invariant.0
@@ -40,10 +40,3 @@ loop-reference-preserved c =
           (λ q. listed_more referred c.args.old.now l.reference-index _ q c.loop-reference-test.true)
           (c.add_tag.ensures.listed _ l.invariant.3),
     )
-  where
-    nothing : (n : ℕ) → n + 0 ≡ n
-    nothing n = omega arith
-
-    low : (n m i : ℕ) (b : Bool) → n ≤ i → m ≡ n + bit b → m ≤ i + 1
-    low n m i true h e = omega (arith, h, e)
-    low n m i false h e = omega (arith, h, e)
