@@ -24,6 +24,8 @@ use Rattle.std.proofs.lemmas.Map.Text.{is_eq-slice_cmp}
 use Rattle.std.proofs.lemmas.Bool.Decides.{nat_tests}
 use Rattle.dnssec_key.specs.declared.key.KeyType.{KeyType}
 use Rattle.dnssec_key.specs.Key.{KeyParts}
+use Rattle.dnssec_key.specs.Setters.{Setting, Decoupled, Present, Signer, AtParent, Stale}
+use Rattle.dnssec_key.specs.Setters.{VisibleAt, DsVisibleAt, RrsigVisibleAt, is_flag_setting, set_by}
 use Rattle.dnssec_keyset.specs.KeySet.{Keys, keys_shown, entries_by_bytes}
 use Rattle.dnssec_keyset.specs.declared.counts.Counts.{Counts}
 use Rattle.dnssec_keyset.specs.Start.{is_listed, some_kept, serves_as_kept}
@@ -375,19 +377,53 @@ counts-changed c m n r k l before after others fits old w =
     ∙ omega (arith, there, here, change, old w, fits w, without-of k.keytype c w, count-at p m r)
 
 -- the key at a reference is changed
-pub counts-at : (f : KeyParts → KeyParts) (c : Counts) (m n : Keys) (r : List ℕ) (k : KeyParts)
-    → get m r ≡ Some k
-    → ((q : List ℕ) → get n q ≡ option_map (λ k. if bytes_eq r q then f k else k) (get m q))
-    → Fits n → CountsAgree c m
-    → CountsAgree (with_key (f k).keytype (without_key k.keytype c)) n
-counts-at f c m n r k found is = counts-changed c m n r k (f k) found
-    (is r ∙ ap (option_map (λ k. if bytes_eq r r then f k else k)) found
-    ∙ ap (λ b. Some (if b then f k else k)) (same_itself r)) (λ q h. is q ∙ other q h (get m q))
+module _ (f : KeyParts → KeyParts) (c : Counts) (m n : Keys) (r : List ℕ) (k : KeyParts)
+    (found : get m r ≡ Some k)
+    (is : (q : List ℕ) → get n q ≡ option_map (λ k. if bytes_eq r q then f k else k) (get m q))
   where
-    other : (q : List ℕ) → bytes_eq r q ≡ false → (o : Option KeyParts) →
-        option_map (λ k. if bytes_eq r q then f k else k) o ≡ o
-    other q h None = refl
-    other q h (Some k) = ap (λ b. Some (if b then f k else k)) h
+    changed : get n r ≡ Some (f k)
+    changed = is r ∙ ap (option_map (λ k. if bytes_eq r r then f k else k)) found
+        ∙ ap (λ b. Some (if b then f k else k)) (same_itself r)
+
+    others : (q : List ℕ) → bytes_eq r q ≡ false → get n q ≡ get m q
+    others q h = is q ∙ other (get m q)
+      where
+        other : (o : Option KeyParts) → option_map (λ k. if bytes_eq r q then f k else k) o ≡ o
+        other None = refl
+        other (Some k) = ap (λ b. Some (if b then f k else k)) h
+
+    pub counts-at : Fits n → CountsAgree c m
+        → CountsAgree (with_key (f k).keytype (without_key k.keytype c)) n
+    counts-at = counts-changed c m n r k (f k) found changed others
+
+    -- but not its kind, nor a flag
+    pub counts-alike : (f k).keytype ≡ k.keytype → CountsAgree c m → CountsAgree c n
+    counts-alike kept old w =
+        let p : List ℕ → KeyParts → Bool = passes (serves_as_kept w) in
+        let there : share p r (get m r) ≡ bit (serves_as_kept w k.keytype) = ap (share p r) found in
+        let here : share p r (get n r) ≡ bit (serves_as_kept w (f k).keytype) =
+        ap (share p r) changed in
+        let same : bit (serves_as_kept w (f k).keytype) ≡ bit (serves_as_kept w k.keytype) =
+        ap (λ t. bit (serves_as_kept w t)) kept in
+        let change = count-changed p m n r others in
+        omega (arith, there, here, same, change, old w)
+
+-- a setter has changed the key at a reference
+pub counts-set : (setting : Setting) (c : Counts) (m n : Keys) (r : List ℕ) (k : KeyParts)
+    → get m r ≡ Some k
+    → ((q : List ℕ) → get n q
+    ≡ option_map (λ k. if bytes_eq r q then set_by setting k else k) (get m q))
+    → Fits n → CountsAgree c m
+    → CountsAgree (if is_flag_setting setting
+    then with_key (set_by setting k).keytype (without_key k.keytype c) else c) n
+counts-set (Present value now) c m n r k found is fits = counts-at _ c m n r k found is fits
+counts-set (Signer value) c m n r k found is fits = counts-at _ c m n r k found is fits
+counts-set (AtParent value) c m n r k found is fits = counts-at _ c m n r k found is fits
+counts-set Stale c m n r k found is fits = counts-at _ c m n r k found is fits
+counts-set (Decoupled value) c m n r k found is fits = counts-alike _ c m n r k found is refl
+counts-set (VisibleAt time) c m n r k found is fits = counts-alike _ c m n r k found is refl
+counts-set (DsVisibleAt time) c m n r k found is fits = counts-alike _ c m n r k found is refl
+counts-set (RrsigVisibleAt time) c m n r k found is fits = counts-alike _ c m n r k found is refl
 
 module _ {Y S : Type 0} where
   pub fits-shown : (m : HashMap (String Y) KeyParts S) → IsUnique string_eq m →

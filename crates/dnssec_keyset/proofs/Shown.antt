@@ -80,6 +80,16 @@ get-absent f r v none q = at (bytes_eq r q) refl (fin.get v q) refl
     at true e (Some k) is = let there : None ≡ Some k = sym none
         ∙ ap (fin.get v) ((bytes_decides r q).0 e) ∙ is in cc
 
+-- a key that is written back as it was changes nothing
+pub same-written : (v n : Keys) (r : List ℕ) (k : KeyParts) → fin.get v r ≡ Some k
+    → ((q : List ℕ) → fin.get n q ≡ (if bytes_eq r q then Some k else fin.get v q)) → n ≡ v
+same-written v n r k found is = same_keys n v (λ q. is q ∙ at q (bytes_eq r q) refl)
+  where
+    at : (q : List ℕ) (b : Bool) → bytes_eq r q ≡ b →
+        (if b then Some k else fin.get v q) ≡ fin.get v q
+    at q true e = sym found ∙ ap (fin.get v) ((bytes_decides r q).0 e)
+    at q false e = refl
+
 -- what the keys show once a key was put in or taken out
 pub get-updated : {Y S : Type 0} (m n : HashMap (String Y) KeyParts S) (r : List ℕ)
     (o : Option KeyParts)

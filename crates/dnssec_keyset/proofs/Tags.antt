@@ -9,11 +9,11 @@ use Rattle.std.specs.Option.{option_map, option_map_or}
 use Rattle.std.specs.FinMap.{get}
 use Rattle.dnssec_key.specs.Key.{KeyParts}
 use Rattle.dnssec_keyset.specs.KeySet.{Keys}
-use Rattle.dnssec_key.specs.Setters.{Setting, meant, Decoupled, Present, Signer, AtParent, Stale}
+use Rattle.dnssec_key.specs.Setters.{Setting, Decoupled, Present, Signer, AtParent, Stale}
 use Rattle.dnssec_key.specs.Setters.{VisibleAt, DsVisibleAt, RrsigVisibleAt, set_by}
 use Rattle.dnssec_keyset.specs.Step.{has_tag}
 use Rattle.dnssec_keyset.specs.declared.keys.Change.{Change}
-use Rattle.dnssec_keyset.specs.declared.keys.Change.TheVariants.{Set, MarkOld, MarkNew}
+use Rattle.dnssec_keyset.specs.declared.keys.Change.TheVariants.{MarkOld, MarkNew}
 use Rattle.dnssec_keyset.specs.declared.keys.Change.TheVariants.{UnmarkOld, UnmarkNew}
 use Rattle.dnssec_keyset.specs.Inner.Change.{made}
 use Rattle.dnssec_key.specs.declared.key.KeyType.{KeyType}
@@ -40,7 +40,6 @@ kept_set (DsVisibleAt time) k = refl
 kept_set (RrsigVisibleAt time) k = refl
 
 pub kept_made : (change : Change) (k : KeyParts) → (made change k).key_tag ≡ k.key_tag
-kept_made (Set setting) k = kept_set (meant setting) k
 kept_made MarkOld k = refl
 kept_made (MarkNew roll now) k = refl
 kept_made (UnmarkOld roll) k = refl

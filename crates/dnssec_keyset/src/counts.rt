@@ -1,11 +1,12 @@
 //! How many keys a start could go on with.
-ghost use Rattle.std.specs.Prelude.{◌≡◌};
+ghost use Rattle.std.specs.Prelude.{◌≡◌, if◌then◌else◌};
+ghost use Rattle.dnssec_key.specs.Setters.{is_flag_setting, meant};
 ghost use Rattle.dnssec_keyset.specs.Inner.Code.{as_want};
 ghost use Rattle.dnssec_keyset.specs.Inner.Counts.{count_of, no_counts, one_less, one_more};
 ghost use Rattle.dnssec_keyset.specs.Inner.Counts.{with_key, without_key};
 
 use crate::side::Want;
-use dnssec_key::KeyType;
+use dnssec_key::{KeyType, Setting};
 
 /// For each want, how many keys meet it in their state, whether a start lists them as old or not.
 #[derive(Clone, Copy)]
@@ -106,6 +107,18 @@ impl Counts {
                 self.present_zsk_role,
                 Want::PresentZskRole.is_met_by_kept(*keytype),
             ),
+        }
+    }
+
+    /// Those where a setter made a key another one: only a flag can change them.
+    pub(crate) fn after(self, setting: &Setting, before: &KeyType, after: &KeyType) -> Counts
+        ensures { result ≡ (if is_flag_setting (meant setting.now)
+            then with_key after.now (without_key before.now self) else self) }
+    {
+        if setting.sets_flag() {
+            self.without(before).with(after)
+        } else {
+            self
         }
     }
 }

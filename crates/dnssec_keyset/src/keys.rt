@@ -68,7 +68,6 @@ impl Model for Keys {
 /// A change of one key.
 #[derive(Clone, Copy)]
 pub(crate) enum Change {
-    Set(Setting),
     MarkOld,
     MarkNew(RollType, UnixTime),
     UnmarkOld(RollType),
@@ -80,7 +79,6 @@ impl Change {
         ensures { key.new ≡ made self key.old }
     {
         match self {
-            Change::Set(setting) => key.set(setting),
             Change::MarkOld => key.mark_old(),
             Change::MarkNew(roll, now) => key.mark_new(roll, now),
             Change::UnmarkOld(roll) => key.unmark_old(roll),
@@ -206,13 +204,17 @@ impl Keys {
             (map.get self.old q)) }
         ensures err { OnErr result (self.new ≡ self.old) }
     {
-        let Some(key) = self.get(pubref) else {
+        let Some(key) = self.map.get_mut(pubref) else {
             return Err(Error::KeyNotFound);
         };
-        if !key.keytype().suits(&setting) {
+        let before = key.keytype();
+        if !before.suits(&setting) {
             return Err(Error::WrongKeyType);
         }
-        self.change_at(pubref, Change::Set(setting));
+        key.set(setting);
+        let after = key.keytype();
+        self.counts = self.counts.after(&setting, &before, &after);
+        is_sound(&self.map);
         Ok(())
     }
 
