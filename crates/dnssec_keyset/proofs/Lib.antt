@@ -6,6 +6,7 @@ pub mod Words
 pub mod Tags
 pub mod Counted
 pub mod Lists
+pub mod Algorithms
 pub mod Retained
 pub mod Starts
 pub mod Marks

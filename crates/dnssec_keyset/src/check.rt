@@ -172,39 +172,12 @@ impl Keys {
         algorithms
     }
 
-    /// Whether the algorithm of the key at the reference, if there is one, is in the set.
-    fn is_of(&self, reference: &str, algorithms: &AlgorithmSet) -> bool
-        ensures { result ≡ option_map_or (λ k. is_set algorithms.now k.algorithm)
-            (map.get self.now reference.now) true }
-    {
-        match self.get(reference) {
-            None => true,
-            Some(key) => is_set(algorithms, u16::from(key.algorithm().to_int())),
-        }
-    }
-
-    fn are_of(&self, references: &[&str], algorithms: &AlgorithmSet) -> bool
-        ensures { result ≡ list_all (λ r. option_map_or (λ k. is_set algorithms.now k.algorithm)
-            (map.get self.now r.now) true) references.now }
-    {
-        references
-            .iter()
-            .all(|reference| self.is_of(reference, algorithms))
-    }
-
-    fn algorithms_within(&self, references: &[&str], others: &[&str]) -> bool
-        ensures { result ≡
-            algorithms_within (map.get self.now) (texts references.now) (texts others.now) }
-    {
-        self.are_of(references, &self.algorithms_of(others))
-    }
-
     fn are_of_same_algorithms(&self, old: &[&str], new: &[&str]) -> bool
         ensures { result ≡
             (algorithms_within (map.get self.now) (texts old.now) (texts new.now)
             && algorithms_within (map.get self.now) (texts new.now) (texts old.now)) }
     {
-        self.algorithms_within(old, new) && self.algorithms_within(new, old)
+        self.algorithms_of(old) == self.algorithms_of(new)
     }
 
     /// Refuses lists of different algorithms, unless the roll goes from some to others.

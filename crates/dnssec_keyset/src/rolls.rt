@@ -1,5 +1,5 @@
 //! The rolls in progress, each in its phase. No other module opens the map that has them.
-ghost use Rattle.std.specs.Prelude.{◌≡◌, not, ◌&&◌, is_some, IsSome, None, Some, IfOk, IfErr};
+ghost use Rattle.std.specs.Prelude.{◌≡◌, not, ◌&&◌, is_some, IsSome, IsTrue, None, Some, IfOk, IfErr};
 ghost use Rattle.std.specs.Prelude.{OnOk, OnErr};
 ghost use Rattle.std.specs.List.{list_any};
 ghost use Rattle.std.specs.HashMap as hash;
@@ -81,6 +81,13 @@ impl Rolls {
         self.phases.get(&roll).copied()
     }
 
+    /// Whether no roll is in progress.
+    fn is_empty(&self) -> bool
+        ensures { IsTrue result → self.now ≡ no_rolls }
+    {
+        self.phases.is_empty()
+    }
+
     /// Puts a roll into a phase. Without memory for it nothing is changed.
     #[tactic(auto, using(crate::proofs::Phases::phases))]
     pub(crate) fn put_in(&mut self, roll: RollType, phase: RollState) -> Result<(), Error>
@@ -126,6 +133,10 @@ impl Rolls {
     pub(crate) fn check_conflict(&self, roll: RollType) -> Result<(), Error>
         ensures { AnswersExactly (conflict roll self.now) result }
     {
+        // Most starts find no roll in progress, and needn't ask for each.
+        if self.is_empty() {
+            return Ok(());
+        }
         if self.phase_of(roll).is_some() {
             return Err(Error::WrongStateForRollOperation);
         }
