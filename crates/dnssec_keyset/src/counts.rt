@@ -110,15 +110,13 @@ impl Counts {
         }
     }
 
-    /// Those where a setter made a key another one: only a flag can change them.
-    pub(crate) fn after(self, setting: &Setting, before: &KeyType, after: &KeyType) -> Counts
-        ensures { result ≡ (if is_flag_setting (meant setting.now)
-            then with_key after.now (without_key before.now self) else self) }
+    /// Follows a setter that made a key another one: only a flag can change them.
+    pub(crate) fn follow(&mut self, setting: &Setting, before: &KeyType, after: &KeyType)
+        ensures { self.new ≡ (if is_flag_setting (meant setting.now)
+            then with_key after.now (without_key before.now self.old) else self.old) }
     {
         if setting.sets_flag() {
-            self.without(before).with(after)
-        } else {
-            self
+            *self = self.without(before).with(after);
         }
     }
 }

@@ -213,7 +213,7 @@ impl Keys {
         }
         key.set(setting);
         let after = key.keytype();
-        self.counts = self.counts.after(&setting, &before, &after);
+        self.counts.follow(&setting, &before, &after);
         is_sound(&self.map);
         Ok(())
     }

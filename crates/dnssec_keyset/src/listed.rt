@@ -180,6 +180,7 @@ impl Lists {
     }
 
     /// Keeps a key in no list any more. No memory is taken.
+    #[inline(always)]
     pub(crate) fn forget(&mut self, reference: &str)
         ensures { self.new ≡ without reference.now self.old }
     {

@@ -49,9 +49,9 @@ invariant_of-self-2 c =
     λ q. search (rules, shown) in
     let after : c.keytype-after.result ≡ (f k).keytype = c.keytype-after.ensures
     ∙ ap (λ (x : KeyParts). x.keytype) c.set.ensures in
-    let counts : c.after-self-inside.result ≡ (if is_flag_setting setting
+    let counts : c.follow.new.self ≡ (if is_flag_setting setting
     then with_key (f k).keytype (without_key k.keytype i.counts) else i.counts) =
-    c.after-self-inside.ensures
+    c.follow.ensures
     ∙ (λ j. if is_flag_setting setting
     then with_key (after j) (without_key (c.keytype-before.ensures j) i.counts) else i.counts) in (
       TagsAgree-mapped (contains nat_eq i.tags) (keys_shown i.map) (keys_shown n)
