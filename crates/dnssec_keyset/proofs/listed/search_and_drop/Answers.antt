@@ -1,6 +1,6 @@
 -- What is kept passes the test.
-use Rattle.std.proofs.Common.{◌≡◌, ◌∙◌, List, ap, map, rules, tests, string_bytes}
-use Rattle.std.specs.Prelude.{filter, not}
+use Rattle.std.proofs.Common.{◌∙◌, ap, map, rules, tests, string_bytes}
+use Rattle.std.specs.Prelude.{not}
 use Rattle.std.specs.Str.{bytes_eq}
 use Rattle.dnssec_keyset.proofs.Lists.{filter-map}
 use Rattle.dnssec_keyset.proofs.Retained.{filtered}

@@ -1,5 +1,5 @@
 -- Each turn counts one more of the listed keys, if it serves and stood nowhere before.
-use Rattle.std.proofs.Common.{◌≡◌, ℕ, ◌+◌, ◌≤◌, Bool, true, false, refl, rules, arith, sym, ap}
+use Rattle.std.proofs.Common.{◌≡◌, ◌+◌, refl, rules, arith, sym, ap}
 use Rattle.std.proofs.Common.{◌∙◌, replicate}
 use Rattle.dnssec_keyset.specs.Inner.Code.{as_want}
 use Rattle.dnssec_keyset.specs.Inner.Counts.{bit}
