@@ -23,16 +23,18 @@ use Rattle.std.specs.FinMap.Entries.{put, by_order, is_sorted}
 use Rattle.std.proofs.lemmas.Map.Text.{is_eq-slice_cmp}
 use Rattle.std.proofs.lemmas.Bool.Decides.{nat_tests}
 use Rattle.dnssec_key.specs.declared.key.KeyType.{KeyType}
+use Rattle.dnssec_key.specs.declared.key.KeyType.TheVariants.{Ksk, Zsk, Csk, Include}
 use Rattle.dnssec_key.specs.Key.{KeyParts}
 use Rattle.dnssec_key.specs.Setters.{Setting, Decoupled, Present, Signer, AtParent, Stale}
-use Rattle.dnssec_key.specs.Setters.{VisibleAt, DsVisibleAt, RrsigVisibleAt, is_flag_setting, set_by}
+use Rattle.dnssec_key.specs.Setters.{VisibleAt, DsVisibleAt, RrsigVisibleAt, set_by}
+use Rattle.dnssec_key.specs.Setters.{at_states, with_signer}
 use Rattle.dnssec_keyset.specs.KeySet.{Keys, keys_shown, entries_by_bytes}
 use Rattle.dnssec_keyset.specs.declared.counts.Counts.{Counts}
 use Rattle.dnssec_keyset.specs.Start.{is_listed, some_kept, serves_as_kept}
 use Rattle.dnssec_keyset.specs.Start.{Want, PresentKsk, KskAtParent, PresentZsk, PresentKskRole}
 use Rattle.dnssec_keyset.specs.Start.{PresentZskRole}
 use Rattle.dnssec_keyset.specs.Inner.Counts.{bit, count, count_in, share, kept, listed, passes}
-use Rattle.dnssec_keyset.specs.Inner.Counts.{CountsAgree}
+use Rattle.dnssec_keyset.specs.Inner.Counts.{CountsAgree, moves_counts}
 use Rattle.dnssec_keyset.specs.Inner.Counts.{count_of, no_counts, with_key, without_key}
 use Rattle.dnssec_keyset.proofs.Quantified.{first, second, itself, apart}
 use Rattle.dnssec_keyset.proofs.Quantified.{below_found}
@@ -396,17 +398,42 @@ module _ (f : KeyParts → KeyParts) (c : Counts) (m n : Keys) (r : List ℕ) (k
         → CountsAgree (with_key (f k).keytype (without_key k.keytype c)) n
     counts-at = counts-changed c m n r k (f k) found changed others
 
-    -- but not its kind, nor a flag
-    pub counts-alike : (f k).keytype ≡ k.keytype → CountsAgree c m → CountsAgree c n
-    counts-alike kept old w =
+    -- but it serves as before
+    pub counts-alike : ((w : Want) → serves_as_kept w (f k).keytype ≡ serves_as_kept w k.keytype)
+        → CountsAgree c m → CountsAgree c n
+    counts-alike serves old w =
         let p : List ℕ → KeyParts → Bool = passes (serves_as_kept w) in
         let there : share p r (get m r) ≡ bit (serves_as_kept w k.keytype) = ap (share p r) found in
         let here : share p r (get n r) ≡ bit (serves_as_kept w (f k).keytype) =
         ap (share p r) changed in
         let same : bit (serves_as_kept w (f k).keytype) ≡ bit (serves_as_kept w k.keytype) =
-        ap (λ t. bit (serves_as_kept w t)) kept in
+        ap bit (serves w) in
         let change = count-changed p m n r others in
         omega (arith, there, here, same, change, old w)
+
+-- a key serves, whether it signs or not
+signing : (value : Bool) (t : KeyType) (w : Want)
+    → serves_as_kept w (at_states (with_signer value) t) ≡ serves_as_kept w t
+signing value (Ksk s) PresentKsk = refl
+signing value (Ksk s) KskAtParent = refl
+signing value (Ksk s) PresentZsk = refl
+signing value (Ksk s) PresentKskRole = refl
+signing value (Ksk s) PresentZskRole = refl
+signing value (Zsk s) PresentKsk = refl
+signing value (Zsk s) KskAtParent = refl
+signing value (Zsk s) PresentZsk = refl
+signing value (Zsk s) PresentKskRole = refl
+signing value (Zsk s) PresentZskRole = refl
+signing value (Csk s u) PresentKsk = refl
+signing value (Csk s u) KskAtParent = refl
+signing value (Csk s u) PresentZsk = refl
+signing value (Csk s u) PresentKskRole = refl
+signing value (Csk s u) PresentZskRole = refl
+signing value (Include s) PresentKsk = refl
+signing value (Include s) KskAtParent = refl
+signing value (Include s) PresentZsk = refl
+signing value (Include s) PresentKskRole = refl
+signing value (Include s) PresentZskRole = refl
 
 -- a setter has changed the key at a reference
 pub counts-set : (setting : Setting) (c : Counts) (m n : Keys) (r : List ℕ) (k : KeyParts)
@@ -414,16 +441,21 @@ pub counts-set : (setting : Setting) (c : Counts) (m n : Keys) (r : List ℕ) (k
     → ((q : List ℕ) → get n q
     ≡ option_map (λ k. if bytes_eq r q then set_by setting k else k) (get m q))
     → Fits n → CountsAgree c m
-    → CountsAgree (if is_flag_setting setting
+    → CountsAgree (if moves_counts setting
     then with_key (set_by setting k).keytype (without_key k.keytype c) else c) n
 counts-set (Present value now) c m n r k found is fits = counts-at _ c m n r k found is fits
-counts-set (Signer value) c m n r k found is fits = counts-at _ c m n r k found is fits
+counts-set (Signer value) c m n r k found is fits =
+    counts-alike _ c m n r k found is (signing value k.keytype)
 counts-set (AtParent value) c m n r k found is fits = counts-at _ c m n r k found is fits
 counts-set Stale c m n r k found is fits = counts-at _ c m n r k found is fits
-counts-set (Decoupled value) c m n r k found is fits = counts-alike _ c m n r k found is refl
-counts-set (VisibleAt time) c m n r k found is fits = counts-alike _ c m n r k found is refl
-counts-set (DsVisibleAt time) c m n r k found is fits = counts-alike _ c m n r k found is refl
-counts-set (RrsigVisibleAt time) c m n r k found is fits = counts-alike _ c m n r k found is refl
+counts-set (Decoupled value) c m n r k found is fits =
+    counts-alike _ c m n r k found is (λ w. refl)
+counts-set (VisibleAt time) c m n r k found is fits =
+    counts-alike _ c m n r k found is (λ w. refl)
+counts-set (DsVisibleAt time) c m n r k found is fits =
+    counts-alike _ c m n r k found is (λ w. refl)
+counts-set (RrsigVisibleAt time) c m n r k found is fits =
+    counts-alike _ c m n r k found is (λ w. refl)
 
 module _ {Y S : Type 0} where
   pub fits-shown : (m : HashMap (String Y) KeyParts S) → IsUnique string_eq m →

@@ -1,8 +1,9 @@
 //! How many keys a start could go on with.
 ghost use Rattle.std.specs.Prelude.{◌≡◌, if◌then◌else◌};
-ghost use Rattle.dnssec_key.specs.Setters.{is_flag_setting, meant};
+ghost use Rattle.dnssec_key.specs.Setters.{meant};
 ghost use Rattle.dnssec_keyset.specs.Inner.Code.{as_want};
-ghost use Rattle.dnssec_keyset.specs.Inner.Counts.{count_of, no_counts, one_less, one_more};
+ghost use Rattle.dnssec_keyset.specs.Inner.Counts.{count_of, moves_counts, no_counts};
+ghost use Rattle.dnssec_keyset.specs.Inner.Counts.{one_less, one_more};
 ghost use Rattle.dnssec_keyset.specs.Inner.Counts.{with_key, without_key};
 
 use crate::side::Want;
@@ -110,12 +111,15 @@ impl Counts {
         }
     }
 
-    /// Follows a setter that made a key another one: only a flag can change them.
+    /// Follows a setter that made a key another one. None of them asks whether a key signs.
     pub(crate) fn follow(&mut self, setting: &Setting, before: &KeyType, after: &KeyType)
-        ensures { self.new ≡ (if is_flag_setting (meant setting.now)
+        ensures { self.new ≡ (if moves_counts (meant setting.now)
             then with_key after.now (without_key before.now self.old) else self.old) }
     {
-        if setting.sets_flag() {
+        if matches!(
+            setting,
+            Setting::Present(_, _) | Setting::AtParent(_) | Setting::Stale
+        ) {
             *self = self.without(before).with(after);
         }
     }

@@ -4,6 +4,7 @@ use Rattle.std.specs.Prelude.{Some, List, [], ◌∷◌}
 use Rattle.std.specs.FinMap.{entries}
 use Rattle.dnssec_key.specs.declared.key.KeyType.{KeyType}
 use Rattle.dnssec_key.specs.Key.{KeyParts}
+use Rattle.dnssec_key.specs.Setters.{Setting, Present, AtParent, Stale}
 use Rattle.dnssec_keyset.specs.KeySet.{Keys}
 use Rattle.dnssec_keyset.specs.declared.counts.Counts.{Counts}
 use Rattle.dnssec_keyset.specs.Start.{is_listed, serves_as_kept, Want, PresentKsk, KskAtParent}
@@ -77,6 +78,13 @@ with_key t c = counts_by (λ w. one_more (serves_as_kept w t) (count_of c w))
 -- those with one key less
 abbrev pub without_key : KeyType → Counts → Counts
 without_key t c = counts_by (λ w. one_less (serves_as_kept w t) (count_of c w))
+
+-- a setter may move them: none of them asks whether a key signs
+abbrev pub moves_counts : Setting → Bool
+moves_counts (Present value now) = true
+moves_counts (AtParent value) = true
+moves_counts Stale = true
+moves_counts _ = false
 
 -- each count is that of the keys
 abbrev pub CountsAgree : Counts → Keys → Type 0

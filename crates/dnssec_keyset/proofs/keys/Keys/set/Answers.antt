@@ -6,8 +6,9 @@ use Rattle.std.specs.Str.{bytes_eq}
 use Rattle.std.specs.Option.{option_map}
 use Rattle.std.specs.FinMap as map
 use Rattle.dnssec_key.specs.Key.{KeyParts}
-use Rattle.dnssec_key.specs.Setters.{is_flag_setting, meant, set_by}
-use Rattle.dnssec_keyset.specs.Inner.Counts.{CountsAgree, with_key, without_key}
+use Rattle.dnssec_key.specs.Setters.{meant, set_by}
+use Rattle.dnssec_keyset.specs.Inner.Counts.{CountsAgree, moves_counts, with_key}
+use Rattle.dnssec_keyset.specs.Inner.Counts.{without_key}
 use Rattle.dnssec_keyset.specs.Inner.Tags.{TagsAgree}
 use Rattle.dnssec_keyset.specs.KeySet.{keys_shown}
 use Rattle.dnssec_keyset.proofs.Counted.{counts-set, fits-shown}
@@ -49,10 +50,10 @@ invariant_of-self-2 c =
     λ q. search (rules, shown) in
     let after : c.keytype-after.result ≡ (f k).keytype = c.keytype-after.ensures
     ∙ ap (λ (x : KeyParts). x.keytype) c.set.ensures in
-    let counts : c.follow.new.self ≡ (if is_flag_setting setting
+    let counts : c.follow.new.self ≡ (if moves_counts setting
     then with_key (f k).keytype (without_key k.keytype i.counts) else i.counts) =
     c.follow.ensures
-    ∙ (λ j. if is_flag_setting setting
+    ∙ (λ j. if moves_counts setting
     then with_key (after j) (without_key (c.keytype-before.ensures j) i.counts) else i.counts) in (
       TagsAgree-mapped (contains nat_eq i.tags) (keys_shown i.map) (keys_shown n)
           (λ q k. if bytes_eq r q then f k else k)
