@@ -1,6 +1,7 @@
 -- Two lists have the same algorithms where each one's are among the other's.
-use Rattle.std.proofs.Common.{◌≡◌, ℕ, ◌+◌, ◌*◌, ◌/◌, ◌%◌, ◌<◌, ◌^◌, Bool, true, false, List, [], ◌∷◌}
-use Rattle.std.proofs.Common.{length, get_or, Some, None, refl, sym, ap, subst, ◌∙◌, inl, inr, arith}
+use Rattle.std.proofs.Common.{◌≡◌, ℕ, ◌+◌, ◌*◌, ◌/◌, ◌%◌, ◌<◌, ◌^◌, Bool, true, false, List, []}
+use Rattle.std.proofs.Common.{◌∷◌, length, get_or, Some, None, refl, sym, ap, subst, ◌∙◌, inl, inr}
+use Rattle.std.proofs.Common.{arith}
 use Rattle.std.specs.Prelude.{Option, ◌&&◌, ◌||◌, nat_eq}
 use Rattle.std.specs.Int.{bit_at}
 use Rattle.std.specs.Option.{option_map_or}
@@ -43,8 +44,8 @@ module _ (at : List ℕ → Option KeyParts) where
           || has_algorithm at qs a) is) ∙ has)
       here rest (Some k) is =
           let one : has_algorithm at others k.algorithm ≡ true =
-          sym (ap (λ o. option_map_or (λ (k : KeyParts). has_algorithm at others k.algorithm) o true)
-          is) ∙ first_of _ _ within in
+          sym (ap (λ o. option_map_or (λ (k : KeyParts). has_algorithm at others k.algorithm) o
+          true) is) ∙ first_of _ _ within in
           let either : (nat_eq k.algorithm a || has_algorithm at qs a) ≡ true =
           sym (ap (λ o. option_map_or (λ (k : KeyParts). nat_eq k.algorithm a) o false
           || has_algorithm at qs a) is) ∙ has in

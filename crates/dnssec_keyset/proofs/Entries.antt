@@ -1,5 +1,6 @@
 -- The entries of a list one by one, by the tags of the keys that stand before.
-use Rattle.std.proofs.Common.{◌≡◌, ℕ, ◌+◌, ◌<◌, ◌≤◌, arith, Bool, false, List, length, take, drop, get_or}
+use Rattle.std.proofs.Common.{◌≡◌, ℕ, ◌+◌, ◌<◌, ◌≤◌, arith, Bool, false, List, length, take, drop}
+use Rattle.std.proofs.Common.{get_or}
 use Rattle.std.proofs.Common.{Some, None, Err, true, refl, sym, ap, ◌∙◌, Bor}
 use Rattle.std.specs.Prelude.{Option, ◌||◌, ◌&&◌, not}
 use Rattle.std.specs.Option.{option_map_or, option_or}

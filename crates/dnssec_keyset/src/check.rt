@@ -1,5 +1,6 @@
 //! What a start is refused for. Nothing is changed here.
-ghost use Rattle.std.specs.Prelude.{◌≡◌, ℕ, Bool, List, [], false, true, not, ◌&&◌, ◌||◌, length, Some};
+ghost use Rattle.std.specs.Prelude.{◌≡◌, ℕ, Bool, List, [], false, true, not, ◌&&◌, ◌||◌, length};
+ghost use Rattle.std.specs.Prelude.{Some};
 ghost use Rattle.std.specs.List.{list_any, list_all};
 ghost use Rattle.std.specs.Option.{option_map_or};
 ghost use Rattle.std.specs.Str.{bytes_eq};

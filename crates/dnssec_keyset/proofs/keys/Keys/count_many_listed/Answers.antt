@@ -10,7 +10,8 @@ use Rattle.dnssec_keyset.proofs.Marks.{listed_more, referred}
 use Rattle.dnssec_keyset.proofs.Tags.{listed-nothing, listed-same}
 use Rattle.dnssec_keyset.proofs.Words.{zeros}
 use Rattle.dnssec_keyset.proofs.keys.Keys.count_many_listed.Goals as goal
-use Rattle.dnssec_keyset.proofs.keys.Keys.count_many_listed.Goals.{then-serves_first, else-serves_first}
+use Rattle.dnssec_keyset.proofs.keys.Keys.count_many_listed.Goals.{then-serves_first}
+use Rattle.dnssec_keyset.proofs.keys.Keys.count_many_listed.Goals.{else-serves_first}
 
 pub loop-reference-init : goal.loop-reference-init
 loop-reference-init c = (
