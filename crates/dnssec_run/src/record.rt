@@ -112,7 +112,7 @@ pub struct Entry {
 }
 
 /// What a call came to: its entry without the sets.
-#[derive(Debug, Drop, PartialEq)]
+#[derive(Drop)]
 pub struct Outcome {
     pub reply: Reply,
     /// The moment that the call was given as `now`, as in its entry.
