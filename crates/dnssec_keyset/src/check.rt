@@ -77,7 +77,7 @@ impl Keys {
         }
     }
 
-    /// What is wrong with a new entry that is listed before it, or not.
+    /// What is wrong with a new entry, which stands in a list before or doesn't.
     fn fault_of_new(&self, roll: RollType, reference: &str, is_taken: bool) -> Option<Error>
         ensures { result ≡ new_entry_fault roll (map.get self.now reference.now) is_taken }
     {
@@ -113,7 +113,7 @@ impl Keys {
 
     /// Refuses the first new entry that has a fault. What is listed before an entry is looked
     /// through where the lists are short, and asked of a set of tags where they are long: to clear
-    /// the set costs as much as to start a roll of two keys.
+    /// the set costs more than to look through a few entries.
     fn check_new(&self, roll: RollType, old: &[&str], new: &[&str]) -> Result<(), Error>
         ensures { AnswersExactly
             (new_fault roll (map.get self.now) (texts old.now) [] (texts new.now)) result }
