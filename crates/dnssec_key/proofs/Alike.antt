@@ -4,10 +4,10 @@ use Rattle.std.specs.Bool.{Decides}
 use Rattle.std.specs.Cmp.{booleans_Decides}
 use Rattle.std.proofs.lemmas.Bool.{false≢true}
 use Rattle.dnssec_key.specs.State.{Flags}
-use Rattle.dnssec_key.specs.declared.key.KeyType.{KeyType}
-use Rattle.dnssec_key.specs.declared.key.KeyType.TheVariants.{Ksk, Zsk, Csk, Include}
-use Rattle.dnssec_key.specs.contracts.key.KeyStatePartialEq.TheImpl as of_states
-use Rattle.dnssec_key.specs.contracts.key.KeyTypePartialEq.TheImpl as of_kinds
+use Rattle.dnssec_key.specs.declared.kind.KeyType.{KeyType}
+use Rattle.dnssec_key.specs.declared.kind.KeyType.TheVariants.{Ksk, Zsk, Csk, Include}
+use Rattle.dnssec_key.specs.contracts.state.KeyStatePartialEq.TheImpl as of_states
+use Rattle.dnssec_key.specs.contracts.kind.KeyTypePartialEq.TheImpl as of_kinds
 
 -- two tests, each of which decides a fact, together decide both facts
 both : {A B : Type 0} → (p q : Bool) → Decides p A → Decides q B → Decides (p && q) (A × B)

@@ -1,10 +1,10 @@
 -- What a contract sees of a key, and which of its roles a sentence speaks of.
 use Rattle.std.specs.Prelude.{ℕ, List, Bool, true, false, ◌&&◌, ◌||◌, Option, None, Some}
 use Rattle.std.specs.Option.{option_map_or}
-use Rattle.dnssec_key.specs.declared.key.KeyType.{KeyType}
-use Rattle.dnssec_key.specs.declared.key.KeyType.TheVariants.{Ksk, Zsk, Csk, Include}
-use Rattle.dnssec_key.specs.declared.key.Available.{Available as Availability}
-use Rattle.dnssec_key.specs.declared.key.Available.TheVariants.{Available, NotAvailable}
+use Rattle.dnssec_key.specs.declared.kind.KeyType.{KeyType}
+use Rattle.dnssec_key.specs.declared.kind.KeyType.TheVariants.{Ksk, Zsk, Csk, Include}
+use Rattle.dnssec_key.specs.declared.state.Available.{Available as Availability}
+use Rattle.dnssec_key.specs.declared.state.Available.TheVariants.{Available, NotAvailable}
 use Rattle.dnssec_key.specs.State.{Flags, Stamps, no_stamps}
 
 -- the parts of a key; a private reference is its bytes (RFC 6781, section 3.1)

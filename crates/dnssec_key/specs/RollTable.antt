@@ -4,12 +4,12 @@
 -- column doesn't name stays.
 use Rattle.std.specs.Prelude.{ℕ, Bool, true, false, not, ◌||◌, if◌then◌else◌, Option, None}
 use Rattle.std.specs.Prelude.{Some, List, [], ◌∷◌}
-use Rattle.dnssec_key.specs.declared.key.KeyType.{KeyType}
-use Rattle.dnssec_key.specs.declared.key.KeyType.TheVariants.{Ksk, Zsk, Csk, Include}
-use Rattle.dnssec_key.specs.declared.key.Stamp.{Stamp}
-use Rattle.dnssec_key.specs.declared.key.Stamped.{Stamped}
-use Rattle.dnssec_key.specs.declared.key.Stamp.TheVariants.{Visible, DsVisible, RrsigVisible}
-use Rattle.dnssec_key.specs.declared.key.Stamp.TheVariants.{Published, Withdrawn}
+use Rattle.dnssec_key.specs.declared.kind.KeyType.{KeyType}
+use Rattle.dnssec_key.specs.declared.kind.KeyType.TheVariants.{Ksk, Zsk, Csk, Include}
+use Rattle.dnssec_key.specs.declared.stamps.Stamp.{Stamp}
+use Rattle.dnssec_key.specs.declared.stamps.Stamped.{Stamped}
+use Rattle.dnssec_key.specs.declared.stamps.Stamp.TheVariants.{Visible, DsVisible, RrsigVisible}
+use Rattle.dnssec_key.specs.declared.stamps.Stamp.TheVariants.{Published, Withdrawn}
 use Rattle.dnssec_key.specs.declared.roll.Half.{Half as HalfOfCode}
 use Rattle.dnssec_key.specs.declared.roll.Half.TheVariants as code
 use Rattle.dnssec_key.specs.declared.roll.RollType.{RollType}

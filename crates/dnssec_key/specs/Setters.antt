@@ -2,10 +2,10 @@
 -- hand what a roll does to many keys (RFC 6781, section 4.1).
 use Rattle.std.specs.Prelude.{ℕ, Bool, true, false, Option, None, Some}
 use Rattle.std.specs.Prelude.{if◌then◌else◌}
-use Rattle.dnssec_key.specs.declared.key.KeyType.{KeyType}
-use Rattle.dnssec_key.specs.declared.key.KeyType.TheVariants.{Ksk, Zsk, Csk, Include}
-use Rattle.dnssec_key.specs.declared.key.Setting.{Setting as SettingOfCode}
-use Rattle.dnssec_key.specs.declared.key.Setting.TheVariants as code
+use Rattle.dnssec_key.specs.declared.kind.KeyType.{KeyType}
+use Rattle.dnssec_key.specs.declared.kind.KeyType.TheVariants.{Ksk, Zsk, Csk, Include}
+use Rattle.dnssec_key.specs.declared.setting.Setting.{Setting as SettingOfCode}
+use Rattle.dnssec_key.specs.declared.setting.Setting.TheVariants as code
 use Rattle.dnssec_key.specs.declared.error.Error.{Error}
 use Rattle.dnssec_key.specs.declared.error.Error.TheVariants.{WrongKeyType}
 use Rattle.dnssec_key.specs.State.{Flags, is_any}

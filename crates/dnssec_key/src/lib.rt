@@ -4,10 +4,16 @@
 //! `dnssec_keyset` re-exports what its callers name. What it needs besides, it finds here.
 #![tactic(auto)]
 
+mod actions;
 mod comparisons;
 mod error;
 mod key;
+mod kind;
+mod role;
 mod roll;
+mod setting;
+mod stamps;
+mod state;
 mod table;
 mod text;
 mod time;
@@ -18,7 +24,11 @@ pub use comparisons::{
     moments_are_in_order_of_time,
 };
 pub use error::Error;
-pub use key::{Available, Key, KeyState, KeyTimestamps, KeyType, Setting, Stamp, Stamped};
+pub use key::Key;
+pub use kind::KeyType;
+pub use role::{is_kept_at_parent, is_kept_present};
 pub use roll::{Action, Half, RollState, RollType};
-pub use table::{is_kept_at_parent, is_kept_present};
+pub use setting::Setting;
+pub use stamps::{KeyTimestamps, Stamp, Stamped};
+pub use state::{Available, KeyState};
 pub use time::UnixTime;

@@ -1,298 +1,29 @@
 //! What the steps of each roll do to one key: the rows of the table of rolls.
 #![tactic(auto, unfolding(crate::specs::RollTable::column))]
 
-ghost use Rattle.std.specs.Prelude.{◌≡◌, false, ◌&&◌, ◌||◌};
-ghost use Rattle.std.specs.Option.{option_map_or};
-ghost use Rattle.dnssec_key.specs.declared.key.KeyType.TheVariants.{Csk};
-ghost use Rattle.dnssec_key.specs.State.{is_old, is_leaving, kept_present, kept_signing};
-ghost use Rattle.dnssec_key.specs.State.{kept_at_parent, old_present, old_at_parent, old_silent};
-ghost use Rattle.dnssec_key.specs.Key.{ksk_state, zsk_state, ksk_role_state, zsk_role_state};
-ghost use Rattle.dnssec_key.specs.Key.{key_state, zone_key_state};
-ghost use Rattle.dnssec_key.specs.RollTable.{which, column, half_of, written, at_roles};
-ghost use Rattle.dnssec_key.specs.RollTable.{turns_old, turns_back, comes_in, comes_in_signing};
-ghost use Rattle.dnssec_key.specs.RollTable.{ds_comes_in, ds_follows, keys_change_places, signatures_follow};
-ghost use Rattle.dnssec_key.specs.RollTable.{only, leaves_dnskey, leaves_parent};
-ghost use Rattle.dnssec_key.specs.RollTable.{leaves_silently, actions_of};
+ghost use Rattle.std.specs.Prelude.{◌≡◌};
+ghost use Rattle.dnssec_key.specs.declared.kind.KeyType.TheVariants.{Csk};
+ghost use Rattle.dnssec_key.specs.RollTable.{which, column, half_of, written, at_roles, turns_old};
+ghost use Rattle.dnssec_key.specs.RollTable.{leaves_dnskey};
 
-use crate::key::{KeyState, KeyType, Stamp, Stamped};
+use crate::kind::KeyType;
+use crate::role::{
+    is_kept_at_parent, is_kept_present, is_kept_signing, is_leaving, is_old, is_old_at_parent,
+    is_old_present, is_old_silent,
+};
 use crate::roll::Half::{First, Second};
 use crate::roll::RollType::{
     AlgorithmRoll, CskRoll, KskDoubleDsRoll, KskRoll, ZskDoubleSignatureRoll, ZskRoll,
 };
-use crate::roll::{Action, Half, RollState, RollType};
-
-/// What happens to one role.
-impl KeyState {
-    fn turns_old(self) -> KeyState
-        ensures { result ≡ turns_old self }
-    {
-        KeyState { old: true, ..self }
-    }
-
-    fn turns_back(self) -> KeyState
-        ensures { result ≡ turns_back self }
-    {
-        KeyState { old: false, ..self }
-    }
-
-    /// Goes into the DNSKEY set.
-    fn comes_in(self) -> KeyState
-        ensures { result ≡ comes_in self }
-    {
-        KeyState {
-            present: true,
-            ..self
-        }
-    }
-
-    /// Goes into the DNSKEY set, and signs.
-    fn comes_in_signing(self) -> KeyState
-        ensures { result ≡ comes_in_signing self }
-    {
-        KeyState {
-            present: true,
-            signer: true,
-            ..self
-        }
-    }
-
-    /// Its DS goes to the parent, ahead of the key.
-    fn ds_comes_in(self) -> KeyState
-        ensures { result ≡ ds_comes_in self }
-    {
-        KeyState {
-            at_parent: true,
-            ..self
-        }
-    }
-
-    /// In the DNSKEY set, what stays has a DS from now on, and what leaves has none.
-    fn ds_follows(self) -> KeyState
-        ensures { result ≡ ds_follows self }
-    {
-        if self.present {
-            KeyState {
-                at_parent: !self.old,
-                ..self
-            }
-        } else {
-            self
-        }
-    }
-
-    /// What leaves drops out of the DNSKEY set, and what stays comes in for it by its DS.
-    fn changes_places(self) -> KeyState
-        ensures { result ≡ keys_change_places self }
-    {
-        if self.old && self.present {
-            self.leaves_dnskey()
-        } else if !self.old && self.at_parent {
-            self.comes_in_signing()
-        } else {
-            self
-        }
-    }
-
-    /// In the DNSKEY set, what stays signs the zone from now on, and what leaves doesn't.
-    fn signatures_follow(self) -> KeyState
-        ensures { result ≡ signatures_follow self }
-    {
-        if !self.old && self.present {
-            KeyState {
-                signer: true,
-                ..self
-            }
-        } else if self.old {
-            KeyState {
-                signer: false,
-                ..self
-            }
-        } else {
-            self
-        }
-    }
-
-    fn leaves_dnskey(self) -> KeyState
-        ensures { result ≡ leaves_dnskey self }
-    {
-        KeyState {
-            present: false,
-            signer: false,
-            ..self
-        }
-    }
-
-    fn leaves_dnskey_if_old(self) -> KeyState
-        ensures { result ≡ only is_old leaves_dnskey self }
-    {
-        if self.old { self.leaves_dnskey() } else { self }
-    }
-
-    fn leaves_dnskey_if_present(self) -> KeyState
-        ensures { result ≡ only old_present leaves_dnskey self }
-    {
-        if self.old && self.present {
-            self.leaves_dnskey()
-        } else {
-            self
-        }
-    }
-
-    fn leaves_silently(self) -> KeyState
-        ensures { result ≡ leaves_silently self }
-    {
-        KeyState {
-            present: false,
-            ..self
-        }
-    }
-
-    fn leaves_dnskey_if_silent(self) -> KeyState
-        ensures { result ≡ only old_silent leaves_silently self }
-    {
-        if self.old && !self.signer {
-            self.leaves_silently()
-        } else {
-            self
-        }
-    }
-
-    fn loses_ds(self) -> KeyState
-        ensures { result ≡ leaves_parent self }
-    {
-        KeyState {
-            at_parent: false,
-            ..self
-        }
-    }
-
-    fn leaves_parent(self) -> KeyState
-        ensures { result ≡ only old_at_parent leaves_parent self }
-    {
-        if self.old && self.at_parent {
-            self.loses_ds()
-        } else {
-            self
-        }
-    }
-}
-
-fn is_old(role: Option<KeyState>) -> bool
-    ensures { result ≡ option_map_or is_old role false }
-{
-    role.is_some_and(|state| state.old)
-}
-
-fn is_leaving(role: Option<KeyState>) -> bool
-    ensures { result ≡ option_map_or is_leaving role false }
-{
-    role.is_some_and(|state| state.old && !state.stale())
-}
-
-pub fn is_kept_present(role: Option<KeyState>) -> bool
-    ensures { result ≡ option_map_or kept_present role false }
-{
-    role.is_some_and(|state| !state.old && state.present)
-}
-
-fn is_kept_signing(role: Option<KeyState>) -> bool
-    ensures { result ≡ option_map_or kept_signing role false }
-{
-    role.is_some_and(|state| !state.old && state.signer)
-}
-
-pub fn is_kept_at_parent(role: Option<KeyState>) -> bool
-    ensures { result ≡ option_map_or kept_at_parent role false }
-{
-    role.is_some_and(|state| !state.old && state.at_parent)
-}
-
-fn is_old_present(role: Option<KeyState>) -> bool
-    ensures { result ≡ option_map_or old_present role false }
-{
-    role.is_some_and(|state| state.old && state.present)
-}
-
-fn is_old_at_parent(role: Option<KeyState>) -> bool
-    ensures { result ≡ option_map_or old_at_parent role false }
-{
-    role.is_some_and(|state| state.old && state.at_parent)
-}
-
-fn is_old_silent(role: Option<KeyState>) -> bool
-    ensures { result ≡ option_map_or old_silent role false }
-{
-    role.is_some_and(|state| state.old && !state.signer)
-}
+use crate::roll::{Half, RollType};
+use crate::stamps::{Stamp, Stamped};
+use crate::state::KeyState;
 
 /// A CSK that leaves the DNSKEY set in both its roles.
 fn leaving_csk(ksk: KeyState, zsk: KeyState) -> KeyType
     ensures { result ≡ Csk (leaves_dnskey ksk) (leaves_dnskey zsk) }
 {
     KeyType::Csk(ksk.leaves_dnskey(), zsk.leaves_dnskey())
-}
-
-/// The roles that the rows speak of.
-impl KeyType {
-    /// The role of a KSK, and of no CSK.
-    pub fn ksk(&self) -> Option<KeyState>
-        ensures { result ≡ ksk_state self.now }
-    {
-        match *self {
-            KeyType::Ksk(state) => Some(state),
-            KeyType::Zsk(_) | KeyType::Csk(_, _) | KeyType::Include(_) => None,
-        }
-    }
-
-    /// The role of a ZSK, and of no CSK.
-    pub fn zsk(&self) -> Option<KeyState>
-        ensures { result ≡ zsk_state self.now }
-    {
-        match *self {
-            KeyType::Zsk(state) => Some(state),
-            KeyType::Ksk(_) | KeyType::Csk(_, _) | KeyType::Include(_) => None,
-        }
-    }
-
-    /// The KSK role of a KSK or a CSK.
-    pub fn ksk_role(&self) -> Option<KeyState>
-        ensures { result ≡ ksk_role_state self.now }
-    {
-        match *self {
-            KeyType::Ksk(state) | KeyType::Csk(state, _) => Some(state),
-            KeyType::Zsk(_) | KeyType::Include(_) => None,
-        }
-    }
-
-    /// The ZSK role of a ZSK or a CSK.
-    pub fn zsk_role(&self) -> Option<KeyState>
-        ensures { result ≡ zsk_role_state self.now }
-    {
-        match *self {
-            KeyType::Zsk(state) | KeyType::Csk(_, state) => Some(state),
-            KeyType::Ksk(_) | KeyType::Include(_) => None,
-        }
-    }
-
-    /// The state by which a key is in the DNSKEY set or not.
-    fn any(&self) -> Option<KeyState>
-        ensures { result ≡ key_state self.now }
-    {
-        match *self {
-            KeyType::Ksk(state) | KeyType::Zsk(state) | KeyType::Csk(state, _) => Some(state),
-            KeyType::Include(_) => None,
-        }
-    }
-
-    /// The same of a key that can sign the zone.
-    fn zone_key(&self) -> Option<KeyState>
-        ensures { result ≡ zone_key_state self.now }
-    {
-        match *self {
-            KeyType::Zsk(state) | KeyType::Csk(state, _) => Some(state),
-            KeyType::Ksk(_) | KeyType::Include(_) => None,
-        }
-    }
 }
 
 /// The rows.
@@ -554,7 +285,7 @@ impl KeyType {
     }
 }
 
-/// What a roll reads, and the actions due in it.
+/// What a roll reads.
 impl RollType {
     /// The stamp that a wait reads.
     pub fn stamp_read(self, half: Half) -> Stamp
@@ -566,118 +297,6 @@ impl RollType {
             }
             (ZskRoll | ZskDoubleSignatureRoll | CskRoll, Second) => Stamp::RrsigVisible,
             (_, First) | (KskDoubleDsRoll, Second) => Stamp::Visible,
-        }
-    }
-
-    /// The actions due in a phase.
-    pub fn actions_in(self, phase: RollState) -> &'static [Action]
-        ensures { result.now ≡ actions_of self phase }
-    {
-        match phase {
-            RollState::Propagation1 => self.asks_at_start(),
-            RollState::Propagation2 => self.asks_between(),
-            RollState::Done => self.asks_at_last(),
-            RollState::CacheExpire1(_) | RollState::CacheExpire2(_) => &[],
-        }
-    }
-
-    fn asks_at_start(self) -> &'static [Action]
-        ensures { result.now ≡ (column self).asks }
-    {
-        match self {
-            KskRoll | ZskRoll | CskRoll => {
-                &[Action::UpdateDnskeyRrset, Action::ReportDnskeyPropagated]
-            }
-            KskDoubleDsRoll => &[
-                Action::CreateCdsRrset,
-                Action::UpdateDsRrset,
-                Action::ReportDsPropagated,
-            ],
-            ZskDoubleSignatureRoll | AlgorithmRoll => &[
-                Action::UpdateDnskeyRrset,
-                Action::UpdateRrsig,
-                Action::ReportDnskeyPropagated,
-                Action::ReportRrsigPropagated,
-            ],
-        }
-    }
-
-    /// The actions due once the roll is ended early.
-    pub fn asks_at_early_end(self) -> &'static [Action]
-        ensures { result.now ≡ (column self).asks_early }
-    {
-        match self {
-            KskRoll | ZskRoll | CskRoll => {
-                &[Action::UpdateDnskeyRrset, Action::WaitDnskeyPropagated]
-            }
-            KskDoubleDsRoll => &[
-                Action::CreateCdsRrset,
-                Action::UpdateDsRrset,
-                Action::WaitDsPropagated,
-            ],
-            ZskDoubleSignatureRoll | AlgorithmRoll => &[
-                Action::UpdateDnskeyRrset,
-                Action::UpdateRrsig,
-                Action::WaitDnskeyPropagated,
-                Action::WaitRrsigPropagated,
-            ],
-        }
-    }
-
-    fn asks_between(self) -> &'static [Action]
-        ensures { result.now ≡ (column self).asks_between }
-    {
-        match self {
-            KskRoll | AlgorithmRoll => &[
-                Action::CreateCdsRrset,
-                Action::UpdateDsRrset,
-                Action::ReportDsPropagated,
-            ],
-            KskDoubleDsRoll => &[
-                Action::RemoveCdsRrset,
-                Action::UpdateDnskeyRrset,
-                Action::ReportDnskeyPropagated,
-            ],
-            ZskRoll => &[Action::UpdateRrsig, Action::ReportRrsigPropagated],
-            ZskDoubleSignatureRoll => &[
-                Action::UpdateDnskeyRrset,
-                Action::UpdateRrsig,
-                Action::ReportDnskeyPropagated,
-                Action::ReportRrsigPropagated,
-            ],
-            CskRoll => &[
-                Action::CreateCdsRrset,
-                Action::UpdateDsRrset,
-                Action::UpdateRrsig,
-                Action::ReportDsPropagated,
-                Action::ReportRrsigPropagated,
-            ],
-        }
-    }
-
-    fn asks_at_last(self) -> &'static [Action]
-        ensures { result.now ≡ (column self).asks_last }
-    {
-        match self {
-            KskRoll | CskRoll => &[
-                Action::RemoveCdsRrset,
-                Action::UpdateDnskeyRrset,
-                Action::WaitDnskeyPropagated,
-            ],
-            KskDoubleDsRoll => &[
-                Action::CreateCdsRrset,
-                Action::UpdateDsRrset,
-                Action::WaitDsPropagated,
-            ],
-            ZskRoll => &[Action::UpdateDnskeyRrset, Action::WaitDnskeyPropagated],
-            ZskDoubleSignatureRoll => &[],
-            AlgorithmRoll => &[
-                Action::RemoveCdsRrset,
-                Action::UpdateDnskeyRrset,
-                Action::UpdateRrsig,
-                Action::WaitDnskeyPropagated,
-                Action::WaitRrsigPropagated,
-            ],
         }
     }
 }

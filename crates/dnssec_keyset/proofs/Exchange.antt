@@ -7,8 +7,8 @@ use Rattle.std.specs.Duration.{as_nanos}
 use Rattle.std.specs.FinMap.{get}
 use Rattle.std.proofs.lemmas.Option.{same_Some}
 use Rattle.std.proofs.lemmas.Bool.Decides.{nat_tests}
-use Rattle.dnssec_key.specs.declared.key.KeyType.{KeyType}
-use Rattle.dnssec_key.specs.declared.key.KeyType.TheVariants.{Ksk, Zsk, Csk, Include}
+use Rattle.dnssec_key.specs.declared.kind.KeyType.{KeyType}
+use Rattle.dnssec_key.specs.declared.kind.KeyType.TheVariants.{Ksk, Zsk, Csk, Include}
 use Rattle.dnssec_keyset.specs.Start.{Want}
 use Rattle.dnssec_keyset.specs.Start.{PresentKsk, KskAtParent, PresentZsk, PresentKskRole}
 use Rattle.dnssec_keyset.specs.Start.{PresentZskRole}

@@ -4,7 +4,7 @@ use Rattle.std.specs.Prelude.{Option, ◌&&◌, ◌||◌, false}
 use Rattle.std.specs.List.{list_any, list_all}
 use Rattle.std.specs.Option.{option_map_or}
 use Rattle.dnssec_key.specs.declared.error.Error.{Error}
-use Rattle.dnssec_key.specs.declared.key.KeyType.{KeyType}
+use Rattle.dnssec_key.specs.declared.kind.KeyType.{KeyType}
 use Rattle.dnssec_key.specs.Key.{KeyParts}
 use Rattle.dnssec_keyset.specs.declared.side.Want.{Want as WantOfCode}
 use Rattle.dnssec_keyset.specs.Inner.Code.{as_want}

@@ -16,7 +16,7 @@ use Rattle.dnssec_keyset.specs.declared.keys.Change.{Change}
 use Rattle.dnssec_keyset.specs.declared.keys.Change.TheVariants.{MarkOld, MarkNew}
 use Rattle.dnssec_keyset.specs.declared.keys.Change.TheVariants.{UnmarkOld, UnmarkNew}
 use Rattle.dnssec_keyset.specs.Inner.Change.{made}
-use Rattle.dnssec_key.specs.declared.key.KeyType.{KeyType}
+use Rattle.dnssec_key.specs.declared.kind.KeyType.{KeyType}
 use Rattle.dnssec_key.specs.declared.roll.RollType.{RollType}
 use Rattle.dnssec_keyset.specs.Inner.Bits.{is_set}
 use Rattle.dnssec_keyset.specs.Inner.Tags.{TagsAgree, DifferInTags, HasListed, is_in}

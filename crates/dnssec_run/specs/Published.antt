@@ -1,7 +1,7 @@
 -- What is published of a map of keys, as lists of keys of a record.
 use Rattle.std.specs.Prelude.{◌≡◌, ℕ, Bool, List, map, filter, string_bytes}
 use Rattle.std.specs.FinMap.{entries}
-use Rattle.dnssec_key.specs.declared.key.KeyType.{KeyType}
+use Rattle.dnssec_key.specs.declared.kind.KeyType.{KeyType}
 use Rattle.dnssec_key.specs.State.{is_at_parent, is_signer}
 use Rattle.dnssec_key.specs.Key.{KeyParts, ksk_role, zsk_role, first_state}
 use Rattle.dnssec_keyset.specs.KeySet.{KeySetParts}

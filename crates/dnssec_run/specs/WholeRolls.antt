@@ -8,8 +8,8 @@ use Rattle.std.specs.declared.time.Duration.{Duration}
 use Rattle.std.specs.FinMap.{get}
 use Rattle.dnssec_key.specs.declared.error.Error.TheVariants.{WrongKeyState, OutOfMemory}
 use Rattle.dnssec_key.specs.declared.error.Error.TheVariants.{Wait as TooEarly}
-use Rattle.dnssec_key.specs.declared.key.KeyType.{KeyType}
-use Rattle.dnssec_key.specs.declared.key.KeyType.TheVariants.{Ksk, Zsk, Csk, Include}
+use Rattle.dnssec_key.specs.declared.kind.KeyType.{KeyType}
+use Rattle.dnssec_key.specs.declared.kind.KeyType.TheVariants.{Ksk, Zsk, Csk, Include}
 use Rattle.dnssec_key.specs.declared.roll.RollType.{RollType}
 use Rattle.dnssec_key.specs.declared.roll.RollType.TheVariants.{ZskDoubleSignatureRoll}
 use Rattle.dnssec_key.specs.declared.roll.RollState.{RollState}

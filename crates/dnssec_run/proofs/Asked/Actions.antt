@@ -6,7 +6,7 @@ use Rattle.std.proofs.lemmas.Bool.{true≢false, and_parts}
 use Rattle.dnssec_key.specs.declared.roll.Action.{Action}
 use Rattle.dnssec_key.specs.declared.roll.Action.TheVariants as action
 use Rattle.dnssec_key.specs.declared.roll.RollType.{RollType}
-use Rattle.dnssec_key.specs.declared.key.KeyType.{KeyType}
+use Rattle.dnssec_key.specs.declared.kind.KeyType.{KeyType}
 use Rattle.dnssec_key.specs.RollTable.{column, half_of, behind, actions_of}
 use Rattle.dnssec_run.specs.Asked.{update_of, report_of}
 use Rattle.dnssec_run.specs.WholeRolls.{spreading}

@@ -18,7 +18,7 @@ use Rattle.dnssec_key.specs.declared.roll.RollState.{RollState}
 use Rattle.dnssec_key.specs.declared.roll.RollState.TheVariants.{Propagation1, CacheExpire1}
 use Rattle.dnssec_key.specs.declared.roll.RollState.TheVariants.{Propagation2, CacheExpire2}
 use Rattle.dnssec_key.specs.declared.roll.RollState.TheVariants.{Done}
-use Rattle.dnssec_key.specs.declared.key.KeyType.{KeyType}
+use Rattle.dnssec_key.specs.declared.kind.KeyType.{KeyType}
 use Rattle.dnssec_key.specs.declared.error.Error.{Error}
 use Rattle.dnssec_key.specs.State.{is_fresh}
 use Rattle.dnssec_key.specs.Key.{KeyParts, all_states}

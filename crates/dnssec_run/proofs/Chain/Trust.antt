@@ -20,7 +20,7 @@ use Rattle.dnssec_key.specs.declared.roll.RollState.{RollState}
 use Rattle.dnssec_key.specs.declared.roll.RollState.TheVariants.{Propagation1, CacheExpire1}
 use Rattle.dnssec_key.specs.declared.roll.RollState.TheVariants.{Propagation2, CacheExpire2}
 use Rattle.dnssec_key.specs.declared.roll.RollState.TheVariants.{Done}
-use Rattle.dnssec_key.specs.declared.key.KeyType.{KeyType}
+use Rattle.dnssec_key.specs.declared.kind.KeyType.{KeyType}
 use Rattle.dnssec_keyset.specs.KeySet.{Listed, listed_by, nothing_listed, ChangesKey}
 use Rattle.dnssec_keyset.specs.KeySet.{Lists, KeySetParts, Rolls, MovesOn, phase_of, with_phase, no_rolls}
 use Rattle.dnssec_key.specs.RollTable.{First, Second}

@@ -21,7 +21,7 @@ use Rattle.dnssec_key.specs.RollTable.{First, Second, after_report, after_wait}
 use Rattle.dnssec_keyset.specs.Step.{deletion_refusal}
 use Rattle.dnssec_key.specs.Setters.{set_by}
 use Rattle.dnssec_key.specs.State.{is_old}
-use Rattle.dnssec_key.specs.declared.key.KeyType.{KeyType}
+use Rattle.dnssec_key.specs.declared.kind.KeyType.{KeyType}
 use Rattle.dnssec_run.specs.Plain.{is_another_signers}
 use Rattle.dnssec_run.specs.WholeRolls.{end_of}
 use Rattle.dnssec_run.proofs.Chain.Setters.{harmless, harmless-alike, others-unlisted}

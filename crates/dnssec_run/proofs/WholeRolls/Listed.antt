@@ -5,7 +5,7 @@ use Rattle.dnssec_key.specs.declared.roll.RollType.{RollType}
 use Rattle.dnssec_key.specs.declared.roll.RollType.TheVariants.{KskRoll, KskDoubleDsRoll}
 use Rattle.dnssec_key.specs.declared.roll.RollType.TheVariants.{ZskRoll, ZskDoubleSignatureRoll}
 use Rattle.dnssec_key.specs.declared.roll.RollType.TheVariants.{CskRoll, AlgorithmRoll}
-use Rattle.dnssec_key.specs.declared.key.KeyType.{KeyType}
+use Rattle.dnssec_key.specs.declared.kind.KeyType.{KeyType}
 use Rattle.dnssec_key.specs.State.{is_active_ksk, is_active_zsk, is_old, kept_present}
 use Rattle.dnssec_key.specs.State.{kept_at_parent}
 use Rattle.dnssec_key.specs.Key.{all_states, ksk}

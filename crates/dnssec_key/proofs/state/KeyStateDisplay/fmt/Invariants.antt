@@ -5,7 +5,7 @@ use denote.Shadow.{shadow}
 use Rattle.std.specs.Fmt.{HasWritten, IsPlainFormatter}
 use Rattle.dnssec_key.specs.Texts.{listed}
 use Rattle.dnssec_key.proofs.Words.{separator_after, words_before}
-use Rattle.dnssec_key.proofs.key.KeyStateDisplay.fmt.Given as goal
+use Rattle.dnssec_key.proofs.state.KeyStateDisplay.fmt.Given as goal
 
 abbrev pub invariant-loop-is_set : goal.invariant-loop-is_set
 invariant-loop-is_set g l =

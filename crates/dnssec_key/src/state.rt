@@ -1,0 +1,144 @@
+//! The state of a key in one of its roles.
+ghost use Rattle.std.specs.Prelude.{◌≡◌, Some};
+ghost use Rattle.dnssec_key.specs.State.{is_stale, is_fresh};
+ghost use Rattle.dnssec_key.specs.Key.{is_available, new_state};
+ghost use Rattle.dnssec_key.specs.Texts.{ending, state_text};
+
+use std::fmt;
+use std::marker::Model;
+
+/// Whether a key may come in by a roll.
+#[derive(Clone, Copy, Debug, PartialEq, Eq)]
+pub enum Available {
+    Available,
+    NotAvailable,
+}
+
+/// The state of a key in one of its roles.
+///
+/// Before a roll takes it in, a role of an available key is fresh; then it is in use, as signer, in
+/// the DNSKEY set or with a DS that has to be at the parent; then old, and stale once nothing of it
+/// is left.
+#[derive(Clone, Copy, Debug, Default, PartialEq)]
+pub struct KeyState {
+    pub(crate) available: bool,
+    pub(crate) old: bool,
+    pub(crate) signer: bool,
+    pub(crate) present: bool,
+    pub(crate) at_parent: bool,
+}
+
+impl Model for KeyState {
+    ghost use Rattle.dnssec_key.specs.State.{Flags};
+
+    ghost Value = { Flags };
+
+    ghost view = { λ s. record {
+      available = s.available;
+      old = s.old;
+      signer = s.signer;
+      present = s.present;
+      at_parent = s.at_parent;
+    } };
+
+    ghost inverse = { λ s. record {
+      available = s.available;
+      old = s.old;
+      signer = s.signer;
+      present = s.present;
+      at_parent = s.at_parent;
+    } };
+}
+
+impl KeyState {
+    pub fn new(available: Available) -> KeyState
+        ensures { result ≡ new_state (is_available available) }
+    {
+        KeyState {
+            available: available == Available::Available,
+            ..KeyState::default()
+        }
+    }
+
+    /// Whether the role is on its way out.
+    pub fn old(&self) -> bool
+        ensures { result ≡ self.now.old }
+    {
+        self.old
+    }
+
+    /// Whether the key signs in this role: the DNSKEY set as a KSK, the zone as a ZSK.
+    pub fn signer(&self) -> bool
+        ensures { result ≡ self.now.signer }
+    {
+        self.signer
+    }
+
+    /// Whether the key is in the DNSKEY set.
+    pub fn present(&self) -> bool
+        ensures { result ≡ self.now.present }
+    {
+        self.present
+    }
+
+    /// Whether the parent has to have a DS record for the key.
+    pub fn at_parent(&self) -> bool
+        ensures { result ≡ self.now.at_parent }
+    {
+        self.at_parent
+    }
+
+    /// Whether the role has left: it is old, and neither signer, present nor at the parent.
+    pub fn stale(&self) -> bool
+        ensures { result ≡ is_stale self.now }
+    {
+        self.old && !self.signer && !self.present && !self.at_parent
+    }
+
+    /// Whether the role may come in, and has not begun to.
+    pub(crate) fn is_fresh(&self) -> bool
+        ensures { result ≡ is_fresh self.now }
+    {
+        self.available && !self.old && !self.signer && !self.present && !self.at_parent
+    }
+}
+
+impl fmt::Display for KeyState {
+    ghost output = { λ s. Some (state_text s) };
+
+    /// Writes the flags that are set, and the part that such a key plays in a roll, as
+    /// `Signer, Present (Active)`.
+    fn fmt<W: fmt::Write>(&self, f: &mut fmt::Formatter<W>) -> fmt::Result {
+        let words = [
+            (self.old, "Old"),
+            (self.signer, "Signer"),
+            (self.present, "Present"),
+            (self.at_parent, "At Parent"),
+        ];
+        let mut separator = "";
+        for (is_set, word) in words {
+            if is_set {
+                write!(f, "{separator}{word}")?;
+                separator = ", ";
+            }
+        }
+        f.write_str(self.ending())
+    }
+}
+
+impl KeyState {
+    /// What stands at the end of the text: the part that a key in this state plays in a roll.
+    fn ending(&self) -> &'static str
+        ensures { result.now ≡ ending self.now.old self.now.signer self.now.present }
+    {
+        match (self.old, self.signer, self.present) {
+            (false, false, false) => "(Future)",
+            (false, false, true) => " (Incoming)",
+            (false, true, true) => " (Active)",
+            (true, true, true) => " (Leaving)",
+            (true, false, true) => " (Retired)",
+            (true, false, false) => " (Stale)",
+            (_, true, false) => "",
+        }
+    }
+}
