@@ -1,5 +1,5 @@
-//! Makes records at random, also ones that no run makes, and compares the verdicts of `audit` and of
-//! `audit_window` on them.
+//! Makes records at random, also ones that no run makes, and compares the verdicts of `audit` and
+//! of `audit_window` on them.
 #![tactic(auto)]
 
 ghost use Rattle.std.specs.Prelude.{◌<◌};

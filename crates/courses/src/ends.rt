@@ -61,8 +61,8 @@ fn wait_on(mut set: KeySet, roll: RollType, now: &UnixTime) -> Option<Error> {
     answer.err()
 }
 
-/// The wait of a roll is over at this second, or it has no end; at the greatest number, the end lies
-/// past the greatest moment.
+/// The wait of a roll is over at this second, or it has no end; at the greatest number, the end
+/// lies past the greatest moment.
 pub(crate) fn ends_at(set: &KeySet, roll: RollType, want: Option<u64>) -> bool {
     let want = match want {
         Some(u64::MAX) => Some(WaitEnd::PastTime),

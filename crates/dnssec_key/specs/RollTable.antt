@@ -419,7 +419,8 @@ after_start roll now is_old is_new k =
     let old = (if is_old then marked_old k else k) in
     if is_new then marked_new roll now old else old
 
--- an old key of a roll that is ended early: it is old no more, and no stamp changes (RFC 6781, section
+-- an old key of a roll that is ended early: it is old no more, and no stamp changes (RFC 6781,
+-- section
 -- 4.1)
 abbrev pub unmarked_old : RollType → KeyParts → KeyParts
 unmarked_old roll k = record k { keytype = (column roll).returns k.keytype }
@@ -428,7 +429,8 @@ unmarked_old roll k = record k { keytype = (column roll).returns k.keytype }
 abbrev pub unmarked_new : RollType → KeyParts → KeyParts
 unmarked_new roll k = record k { keytype = (column roll).goes k.keytype }
 
--- a key after an early end, by whether it is kept as an old one of the roll, and whether as a new one
+-- a key after an early end, by whether it is kept as an old one of the roll, and whether as a new
+-- one
 -- (RFC 6781, section 4.1)
 abbrev pub after_early_end : RollType → Bool → Bool → KeyParts → KeyParts
 after_early_end roll was_old was_new k =

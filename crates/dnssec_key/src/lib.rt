@@ -1,5 +1,5 @@
-//! Keys of a zone, and what the steps of each roll do to one of them: moments, stamps, the states of
-//! a key's roles, refusals and their texts, and the table of the six rolls.
+//! Keys of a zone, and what the steps of each roll do to one of them: moments, stamps, the states
+//! of a key's roles, refusals and their texts, and the table of the six rolls.
 //!
 //! `dnssec_keyset` re-exports what its callers name. What it needs besides, it finds here.
 #![tactic(auto)]

@@ -1,18 +1,26 @@
--- What an accepted call changes fixes the set afterwards: it is the function of the set before and the call.
-use Rattle.std.proofs.Common.{◌≡◌, ℕ, Bool, true, false, cond, List, [], ◌∷◌, map, Some, None, refl, sym, ap, ◌∙◌, inl, inr}
+-- What an accepted call changes fixes the set afterwards: it is the function of the set before and
+-- the call.
+use Rattle.std.proofs.Common.{◌≡◌, ℕ, Bool, true, false, cond, List, [], ◌∷◌, map, Some, None, refl}
+use Rattle.std.proofs.Common.{sym, ap, ◌∙◌, inl, inr}
 use Rattle.std.specs.Prelude.{Option, ◌⊎◌, if◌then◌else◌}
 use Rattle.std.specs.Option.{option_map}
 use Rattle.std.specs.Str.{bytes_eq}
 use Rattle.std.specs.Ordering.{nat_cmp, is_eq, eq_by_cmp}
-use Rattle.std.specs.Cmp.Lexicographic.{slice_cmp, nat_list_cmp_total, bytes_decides, nat_list_eq_equiv}
+use Rattle.std.specs.Cmp.Lexicographic.{slice_cmp, nat_list_cmp_total, bytes_decides}
+use Rattle.std.specs.Cmp.Lexicographic.{nat_list_eq_equiv}
 use Rattle.dnssec_key.specs.declared.roll.RollType.{RollType}
 use Rattle.dnssec_key.specs.declared.roll.RollState.{RollState}
-use Rattle.std.specs.FinMap.{find, get, insert, remove, entries, get-entries, get-from_entries, get-insert, get-remove}
+use Rattle.std.specs.FinMap.{find, get, insert, remove, entries, get-entries, get-from_entries}
+use Rattle.std.specs.FinMap.{get-insert, get-remove}
 use Rattle.std.proofs.lemmas.Map.Text.{is_eq-slice_cmp}
 use Rattle.dnssec_key.specs.Key.{KeyParts}
-use Rattle.dnssec_keyset.specs.KeySet.{Keys, KeySetParts, Lists, PutsKey, MovesOn, with_phase, without}
+use Rattle.dnssec_keyset.specs.KeySet.{Keys, KeySetParts, Lists, PutsKey, MovesOn, with_phase}
+use Rattle.dnssec_keyset.specs.KeySet.{without}
 use Rattle.dnssec_key.specs.Setters.{set_by}
-use Rattle.dnssec_keyset.specs.Step.{Call, AddKey, Set, DeleteKey, StartRoll, Report, Wait, RollDone, AbortRoll, Reply, Verdict, Barred, Early, Clear, Changes, Step, StepBy, verdict, accepted_reply, after, after_reply, keys_by}
+use Rattle.dnssec_keyset.specs.Step.{Call, AddKey, Set, DeleteKey, StartRoll, Report, Wait}
+use Rattle.dnssec_keyset.specs.Step.{RollDone, AbortRoll, Reply, Verdict, Barred, Early, Clear}
+use Rattle.dnssec_keyset.specs.Step.{Changes, Step, StepBy, verdict, accepted_reply, after}
+use Rattle.dnssec_keyset.specs.Step.{after_reply, keys_by}
 use Rattle.dnssec_keyset.proofs.Shown.{same_keys}
 
 split : (b : Bool) → (b ≡ true) ⊎ (b ≡ false)
@@ -24,22 +32,34 @@ same_key q x e = (bytes_decides q x).0 (sym (is_eq-slice_cmp q x) ∙ e)
 
 module _ (f : List ℕ → KeyParts → KeyParts) where
   find-by : (es : List (List ℕ × KeyParts)) (q : List ℕ)
-      → find (slice_cmp nat_cmp) q (map (λ (e : List ℕ × KeyParts). (e.0, f e.0 e.1)) es) ≡ option_map (f q) (find (slice_cmp nat_cmp) q es)
+      → find (slice_cmp nat_cmp) q (map (λ (e : List ℕ × KeyParts). (e.0, f e.0 e.1)) es)
+          ≡ option_map (f q) (find (slice_cmp nat_cmp) q es)
   find-by [] q = refl
   find-by (e ∷ es) q = at (is_eq (slice_cmp nat_cmp q e.0)) refl (find-by es q)
     where
       at : (b : Bool) → is_eq (slice_cmp nat_cmp q e.0) ≡ b
-          → find (slice_cmp nat_cmp) q (map (λ (e : List ℕ × KeyParts). (e.0, f e.0 e.1)) es) ≡ option_map (f q) (find (slice_cmp nat_cmp) q es)
-          → cond (is_eq (slice_cmp nat_cmp q e.0)) (Some (f e.0 e.1)) (find (slice_cmp nat_cmp) q (map (λ (e : List ℕ × KeyParts). (e.0, f e.0 e.1)) es))
-          ≡ option_map (f q) (cond (is_eq (slice_cmp nat_cmp q e.0)) (Some e.1) (find (slice_cmp nat_cmp) q es))
-      at true tied rest = ap (λ b. cond b (Some (f e.0 e.1)) (find (slice_cmp nat_cmp) q (map (λ (e : List ℕ × KeyParts). (e.0, f e.0 e.1)) es))) tied
-          ∙ ap (λ x. Some (f x e.1)) (sym (same_key q e.0 tied)) ∙ sym (ap (λ b. option_map (f q) (cond b (Some e.1) (find (slice_cmp nat_cmp) q es))) tied)
-      at false apart rest = ap (λ b. cond b (Some (f e.0 e.1)) (find (slice_cmp nat_cmp) q (map (λ (e : List ℕ × KeyParts). (e.0, f e.0 e.1)) es))) apart
-          ∙ rest ∙ sym (ap (λ b. option_map (f q) (cond b (Some e.1) (find (slice_cmp nat_cmp) q es))) apart)
+          → find (slice_cmp nat_cmp) q (map (λ (e : List ℕ × KeyParts). (e.0, f e.0 e.1)) es)
+              ≡ option_map (f q) (find (slice_cmp nat_cmp) q es)
+          → cond (is_eq (slice_cmp nat_cmp q e.0)) (Some (f e.0 e.1))
+              (find (slice_cmp nat_cmp) q (map (λ (e : List ℕ × KeyParts). (e.0, f e.0 e.1)) es))
+          ≡ option_map (f q) (cond (is_eq (slice_cmp nat_cmp q e.0)) (Some e.1)
+              (find (slice_cmp nat_cmp) q es))
+      at true tied rest = ap (λ b. cond b (Some (f e.0 e.1))
+          (find (slice_cmp nat_cmp) q (map (λ (e : List ℕ × KeyParts). (e.0, f e.0 e.1)) es))) tied
+          ∙ ap (λ x. Some (f x e.1)) (sym (same_key q e.0 tied))
+              ∙ sym (ap (λ b. option_map (f q) (cond b (Some e.1) (find (slice_cmp nat_cmp) q es)))
+              tied)
+      at false apart rest = ap (λ b. cond b (Some (f e.0 e.1))
+          (find (slice_cmp nat_cmp) q (map (λ (e : List ℕ × KeyParts). (e.0, f e.0 e.1)) es))) apart
+          ∙ rest ∙ sym (ap (λ b. option_map (f q)
+              (cond b (Some e.1) (find (slice_cmp nat_cmp) q es))) apart)
 
   -- a look-up after every key went by f
-  pub get-keys_by : (keys : Keys) (q : List ℕ) → get (keys_by f keys) q ≡ option_map (f q) (get keys q)
-  get-keys_by keys q = get-from_entries nat_list_cmp_total (map (λ (e : List ℕ × KeyParts). (e.0, f e.0 e.1)) (entries keys)) q ∙ find-by (entries keys) q ∙ ap (option_map (f q)) (sym (get-entries keys q))
+  pub get-keys_by : (keys : Keys) (q : List ℕ) → get (keys_by f keys) q
+      ≡ option_map (f q) (get keys q)
+  get-keys_by keys q = get-from_entries nat_list_cmp_total
+      (map (λ (e : List ℕ × KeyParts). (e.0, f e.0 e.1)) (entries keys)) q
+      ∙ find-by (entries keys) q ∙ ap (option_map (f q)) (sym (get-entries keys q))
 
 -- two tests of a reference
 tied : (r q : List ℕ) → bytes_eq r q ≡ eq_by_cmp (slice_cmp nat_cmp) q r
@@ -74,7 +94,8 @@ module _ (old new : KeySetParts) where
   moved roll phase lists f moves = same_set _ _ moves.name
       (same_keys _ _ (λ q. moves.keys q ∙ sym (get-keys_by f old.keys q))) moves.rolls moves.lists
 
-  kept : (keys : Keys) → ((q : List ℕ) → get keys q ≡ option_map (λ k. k) (get old.keys q)) → keys ≡ old.keys
+  kept : (keys : Keys) → ((q : List ℕ) → get keys q ≡ option_map (λ k. k) (get old.keys q)) → keys
+      ≡ old.keys
   kept keys h = same_keys _ _ (λ q. h q ∙ itself (get old.keys q))
     where
       itself : (o : Option KeyParts) → option_map (λ k. k) o ≡ o
@@ -85,7 +106,10 @@ module _ (old new : KeySetParts) where
   pub changes-after : (call : Call) → Changes old call new → new ≡ after call old
   unfolding after
   changes-after (AddKey r key) h = put r key h
-  changes-after (Set r setting) h = same_set _ _ h.name (same_keys _ _ (λ q. h.keys q ∙ sym (get-keys_by (λ p k. if bytes_eq r p then set_by setting k else k) old.keys q))) h.rolls h.lists
+  changes-after (Set r setting) h =
+      same_set _ _ h.name (same_keys _ _
+      (λ q. h.keys q ∙ sym (get-keys_by (λ p k. if bytes_eq r p then set_by setting k else k)
+      old.keys q))) h.rolls h.lists
   changes-after (DeleteKey r) h = taken r h
   changes-after (StartRoll roll olds news now) h = moved _ _ _ _ h
   changes-after (Report roll half ttl now) h = moved _ _ _ _ h
@@ -103,20 +127,28 @@ module _ (old : KeySetParts) where
     name = refl;
     rolls = refl;
     lists = refl;
-    keys = λ q. get-insert nat_list_cmp_total old.keys r key q ∙ sym (ap (λ b. cond b (Some key) (get old.keys q)) (tied r q));
+    keys = λ q. get-insert nat_list_cmp_total old.keys r key q
+        ∙ sym (ap (λ b. cond b (Some key) (get old.keys q)) (tied r q));
   }
-  after-changes (Set r setting) = record { name = refl; rolls = refl; lists = refl; keys = get-keys_by (λ p k. if bytes_eq r p then set_by setting k else k) old.keys }
+  after-changes (Set r setting) = record { name = refl; rolls = refl; lists = refl; keys =
+      get-keys_by (λ p k. if bytes_eq r p then set_by setting k else k) old.keys }
   after-changes (DeleteKey r) = record {
     name = refl;
     rolls = refl;
     lists = refl;
-    keys = λ q. get-remove nat_list_cmp_total old.keys r q ∙ sym (ap (λ b. cond b None (get old.keys q)) (tied r q));
+    keys = λ q. get-remove nat_list_cmp_total old.keys r q
+        ∙ sym (ap (λ b. cond b None (get old.keys q)) (tied r q));
   }
-  after-changes (StartRoll roll olds news now) = record { name = refl; rolls = refl; lists = refl; keys = get-keys_by _ old.keys }
-  after-changes (Report roll half ttl now) = record { name = refl; rolls = refl; lists = refl; keys = get-keys_by _ old.keys }
-  after-changes (Wait roll half now) = record { name = refl; rolls = refl; lists = refl; keys = get-keys_by _ old.keys }
-  after-changes (AbortRoll roll) = record { name = refl; rolls = refl; lists = refl; keys = get-keys_by _ old.keys }
-  after-changes (RollDone roll) = record { name = refl; rolls = refl; lists = refl; keys = λ q. same (get old.keys q) }
+  after-changes (StartRoll roll olds news now) =
+      record { name = refl; rolls = refl; lists = refl; keys = get-keys_by _ old.keys }
+  after-changes (Report roll half ttl now) =
+      record { name = refl; rolls = refl; lists = refl; keys = get-keys_by _ old.keys }
+  after-changes (Wait roll half now) =
+      record { name = refl; rolls = refl; lists = refl; keys = get-keys_by _ old.keys }
+  after-changes (AbortRoll roll) =
+      record { name = refl; rolls = refl; lists = refl; keys = get-keys_by _ old.keys }
+  after-changes (RollDone roll) = record { name = refl; rolls = refl; lists = refl; keys =
+      λ q. same (get old.keys q) }
     where
       same : (o : Option KeyParts) → o ≡ option_map (λ k. k) o
       same None = refl
@@ -124,7 +156,8 @@ module _ (old : KeySetParts) where
 
 -- ---- the set after an allowed step
 
-accepted_after : (call : Call) (old : KeySetParts) → after call old ≡ after_reply (accepted_reply call) call old
+accepted_after : (call : Call) (old : KeySetParts) → after call old
+    ≡ after_reply (accepted_reply call) call old
 accepted_after (AddKey r key) old = refl
 accepted_after (Set r setting) old = refl
 accepted_after (DeleteKey r) old = refl
@@ -134,13 +167,16 @@ accepted_after (Wait roll half now) old = refl
 accepted_after (RollDone roll) old = refl
 accepted_after (AbortRoll roll) old = refl
 
-step_by-after : (v : Verdict) (old new : KeySetParts) (call : Call) (reply : Reply) → StepBy v old call reply new → new ≡ after_reply reply call old
+step_by-after : (v : Verdict) (old new : KeySetParts) (call : Call) (reply : Reply)
+    → StepBy v old call reply new → new ≡ after_reply reply call old
 step_by-after (Barred cause) old new call reply h = h.1 ∙ sym (ap (λ r. after_reply r call old) h.0)
 step_by-after (Early left) old new call reply h = h.1 ∙ sym (ap (λ r. after_reply r call old) h.0.1)
 step_by-after Clear old new call reply h = elim h [
-  | inl ok ↦ changes-after old new call ok.1 ∙ accepted_after call old ∙ sym (ap (λ r. after_reply r call old) ok.0)
+  | inl ok ↦ changes-after old new call ok.1 ∙ accepted_after call old
+      ∙ sym (ap (λ r. after_reply r call old) ok.0)
   | inr none ↦ none.2 ∙ sym (ap (λ r. after_reply r call old) none.1)
 ]
 
-pub step-after : (old new : KeySetParts) (call : Call) (reply : Reply) → Step old call reply new → new ≡ after_reply reply call old
+pub step-after : (old new : KeySetParts) (call : Call) (reply : Reply) → Step old call reply new
+    → new ≡ after_reply reply call old
 step-after old new call reply h = step_by-after (verdict old call) old new call reply h

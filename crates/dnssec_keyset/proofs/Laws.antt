@@ -1,5 +1,7 @@
--- Laws of every step, and so of every run: no two keys get one tag, and rolls in progress go together.
-use Rattle.std.proofs.Common.{◌≡◌, ℕ, Bool, true, false, not, List, Some, None, refl, inl, inr, sym, ap, subst, ◌∙◌, arith}
+-- Laws of every step, and so of every run: no two keys get one tag, and rolls in progress go
+-- together.
+use Rattle.std.proofs.Common.{◌≡◌, ℕ, Bool, true, false, not, List, Some, None, refl, inl, inr, sym}
+use Rattle.std.proofs.Common.{ap, subst, ◌∙◌, arith}
 use Rattle.std.specs.Prelude.{Option, ◌⊎◌, ◌&&◌, ◌||◌, nat_eq, is_some, if◌then◌else◌}
 use Rattle.std.specs.List.{list_any}
 use Rattle.std.specs.Option.{option_map, option_or, unwrap_or}
@@ -11,18 +13,28 @@ use Rattle.std.proofs.lemmas.Bool.Decides.{nat_tests}
 use Rattle.dnssec_keyset.specs.Start.{Side}
 use Rattle.dnssec_keyset.specs.Start.{KskSide, ZskSide, BothSides}
 use Rattle.dnssec_key.specs.declared.roll.RollType.{RollType}
-use Rattle.dnssec_key.specs.declared.roll.RollType.TheVariants.{KskRoll, KskDoubleDsRoll, ZskRoll, ZskDoubleSignatureRoll, CskRoll, AlgorithmRoll}
+use Rattle.dnssec_key.specs.declared.roll.RollType.TheVariants.{KskRoll, KskDoubleDsRoll, ZskRoll}
+use Rattle.dnssec_key.specs.declared.roll.RollType.TheVariants.{ZskDoubleSignatureRoll, CskRoll}
+use Rattle.dnssec_key.specs.declared.roll.RollType.TheVariants.{AlgorithmRoll}
 use Rattle.dnssec_key.specs.declared.roll.RollState.{RollState}
 use Rattle.dnssec_key.specs.declared.roll.RollState.TheVariants.{Propagation1}
 use Rattle.dnssec_key.specs.declared.error.Error.{Error}
-use Rattle.dnssec_key.specs.declared.error.Error.TheVariants.{DuplicateKeyTag, KeyExists, WrongStateForRollOperation, ConflictingRollInProgress}
+use Rattle.dnssec_key.specs.declared.error.Error.TheVariants.{DuplicateKeyTag, KeyExists}
+use Rattle.dnssec_key.specs.declared.error.Error.TheVariants.{WrongStateForRollOperation}
+use Rattle.dnssec_key.specs.declared.error.Error.TheVariants.{ConflictingRollInProgress}
 use Rattle.dnssec_key.specs.Key.{KeyParts}
-use Rattle.dnssec_keyset.specs.KeySet.{Keys, KeySetParts, Lists, Rolls, PutsKey, new_set, phase_of, with_phase, same_roll, without}
+use Rattle.dnssec_keyset.specs.KeySet.{Keys, KeySetParts, Lists, Rolls, PutsKey, new_set, phase_of}
+use Rattle.dnssec_keyset.specs.KeySet.{with_phase, same_roll, without}
 use Rattle.dnssec_key.specs.RollTable.{Half, First, Second, after_start, after_early_end}
-use Rattle.dnssec_key.specs.Setters.{Setting, Decoupled, Present, Signer, AtParent, Stale, VisibleAt, DsVisibleAt, RrsigVisibleAt, set_by}
-use Rattle.dnssec_keyset.specs.Start.{all_rolls, are_apart, conflict, has_conflict, side_of, together}
+use Rattle.dnssec_key.specs.Setters.{Setting, Decoupled, Present, Signer, AtParent, Stale}
+use Rattle.dnssec_key.specs.Setters.{VisibleAt, DsVisibleAt, RrsigVisibleAt, set_by}
+use Rattle.dnssec_keyset.specs.Start.{all_rolls, are_apart, conflict, has_conflict, side_of}
+use Rattle.dnssec_keyset.specs.Start.{together}
 use Rattle.dnssec_keyset.specs.Wait.{ttl_in}
-use Rattle.dnssec_keyset.specs.Step.{Call, AddKey, Set, DeleteKey, StartRoll, Report, Wait, RollDone, AbortRoll, Reply, Verdict, Barred, Early, Clear, Changes, Step, StepBy, add_refusal, barred_by, has_tag, report_refusal, verdict, wait_in_phase}
+use Rattle.dnssec_keyset.specs.Step.{Call, AddKey, Set, DeleteKey, StartRoll, Report, Wait}
+use Rattle.dnssec_keyset.specs.Step.{RollDone, AbortRoll, Reply, Verdict, Barred, Early, Clear}
+use Rattle.dnssec_keyset.specs.Step.{Changes, Step, StepBy, add_refusal, barred_by, has_tag}
+use Rattle.dnssec_keyset.specs.Step.{report_refusal, verdict, wait_in_phase}
 use Rattle.dnssec_keyset.specs.Laws.{TagsApart, RollsTogether, in_progress}
 use Rattle.dnssec_keyset.proofs.Phases.{phase_of-with_phase}
 use Rattle.dnssec_keyset.proofs.Quantified.{some_key-none}
@@ -33,12 +45,15 @@ split false = inr refl
 
 -- ---- a step changes nothing, or makes a change for which no cause stood
 
-moved_by : (v : Verdict) (old new : KeySetParts) (call : Call) (reply : Reply) → StepBy v old call reply new → (new ≡ old) ⊎ ((v ≡ Clear) × Changes old call new)
+moved_by : (v : Verdict) (old new : KeySetParts) (call : Call) (reply : Reply)
+    → StepBy v old call reply new → (new ≡ old) ⊎ ((v ≡ Clear) × Changes old call new)
 moved_by (Barred cause) old new call reply h = inl h.1
 moved_by (Early left) old new call reply h = inl h.1
-moved_by Clear old new call reply h = elim h [ inl ok ↦ inr (refl, ok.1) | inr memory ↦ inl memory.2 ]
+moved_by Clear old new call reply h =
+    elim h [ inl ok ↦ inr (refl, ok.1) | inr memory ↦ inl memory.2 ]
 
-pub moved : (old new : KeySetParts) (call : Call) (reply : Reply) → Step old call reply new → (new ≡ old) ⊎ ((verdict old call ≡ Clear) × Changes old call new)
+pub moved : (old new : KeySetParts) (call : Call) (reply : Reply) → Step old call reply new
+    → (new ≡ old) ⊎ ((verdict old call ≡ Clear) × Changes old call new)
 moved old new call reply h = moved_by (verdict old call) old new call reply h
 
 pub no_cause : (o : Option Error) → barred_by o ≡ Clear → o ≡ None
@@ -52,19 +67,25 @@ no_first (Some cause) b e = cc
 -- ---- tags
 
 -- a value that f gives of what was there
-mapped : (o : Option KeyParts) (f : KeyParts → KeyParts) (l : KeyParts) → option_map f o ≡ Some l → (k : KeyParts) × (o ≡ Some k) × (f k ≡ l)
+mapped : (o : Option KeyParts) (f : KeyParts → KeyParts) (l : KeyParts) → option_map f o ≡ Some l
+    → (k : KeyParts) × (o ≡ Some k) × (f k ≡ l)
 mapped None f l e = cc
 mapped (Some k) f l e = (k, refl, cc)
 
 module _ (old new : KeySetParts) (apart : TagsApart old.keys) where
-  apart-moves : (f : List ℕ → KeyParts → KeyParts) → ((q : List ℕ) (k : KeyParts) → (f q k).key_tag ≡ k.key_tag) → ((q : List ℕ) → get new.keys q ≡ option_map (f q) (get old.keys q)) → TagsApart new.keys
+  apart-moves : (f : List ℕ → KeyParts → KeyParts)
+      → ((q : List ℕ) (k : KeyParts) → (f q k).key_tag ≡ k.key_tag)
+      → ((q : List ℕ) → get new.keys q ≡ option_map (f q) (get old.keys q)) → TagsApart new.keys
   apart-moves f keeps keys = λ q r k l e d same.
       let b = mapped _ (f q) k (sym (keys q) ∙ e) in
       let c = mapped _ (f r) l (sym (keys r) ∙ d) in
-      apart q r b.0 c.0 b.1 c.1 (sym (keeps q b.0) ∙ ap (λ (x : KeyParts). x.key_tag) b.2 ∙ same ∙ sym (ap (λ (x : KeyParts). x.key_tag) c.2) ∙ keeps r c.0)
+      apart q r b.0 c.0 b.1 c.1 (sym (keeps q b.0) ∙ ap (λ (x : KeyParts). x.key_tag) b.2 ∙ same
+          ∙ sym (ap (λ (x : KeyParts). x.key_tag) c.2) ∙ keeps r c.0)
 
   -- a key put where its tag is no other key's
-  apart-puts : (r : List ℕ) (o : Option KeyParts) (kept : Lists) → ((x k : KeyParts) (q : List ℕ) → o ≡ Some x → get old.keys q ≡ Some k → k.key_tag ≡ x.key_tag → q ≡ r) → PutsKey old new r o kept → TagsApart new.keys
+  apart-puts : (r : List ℕ) (o : Option KeyParts) (kept : Lists)
+      → ((x k : KeyParts) (q : List ℕ) → o ≡ Some x → get old.keys q ≡ Some k → k.key_tag
+      ≡ x.key_tag → q ≡ r) → PutsKey old new r o kept → TagsApart new.keys
   apart-puts r o kept own puts = λ q s k l e d same. elim (there q k e) [
     | inl h ↦ elim (there s l d) [
       | inl g ↦ sym h.0 ∙ g.0
@@ -76,13 +97,17 @@ module _ (old new : KeySetParts) (apart : TagsApart old.keys) where
     ]
   ]
     where
-      there : (q : List ℕ) (k : KeyParts) → get new.keys q ≡ Some k → ((r ≡ q) × (o ≡ Some k)) ⊎ (get old.keys q ≡ Some k)
+      there : (q : List ℕ) (k : KeyParts) → get new.keys q ≡ Some k → ((r ≡ q) × (o ≡ Some k))
+          ⊎ (get old.keys q ≡ Some k)
       there q k e = elim (split (bytes_eq r q)) [
-        | inl h ↦ inl ((bytes_decides r q).0 h, sym (ap (λ (b : Bool). if b then o else get old.keys q) h) ∙ sym (puts.keys q) ∙ e)
-        | inr h ↦ inr (sym (ap (λ (b : Bool). if b then o else get old.keys q) h) ∙ sym (puts.keys q) ∙ e)
+        | inl h ↦ inl ((bytes_decides r q).0 h, sym
+            (ap (λ (b : Bool). if b then o else get old.keys q) h) ∙ sym (puts.keys q) ∙ e)
+        | inr h ↦ inr (sym (ap (λ (b : Bool). if b then o else get old.keys q) h)
+            ∙ sym (puts.keys q) ∙ e)
       ]
 
-started-tag : (roll : RollType) (now : ℕ) (a b : Bool) (k : KeyParts) → (after_start roll now a b k).key_tag ≡ k.key_tag
+started-tag : (roll : RollType) (now : ℕ) (a b : Bool) (k : KeyParts)
+    → (after_start roll now a b k).key_tag ≡ k.key_tag
 started-tag roll now true true k = refl
 started-tag roll now true false k = refl
 started-tag roll now false true k = refl
@@ -95,7 +120,8 @@ ended-tag roll true false k = refl
 ended-tag roll false true k = refl
 ended-tag roll false false k = refl
 
-set-tag : (setting : Setting) (b : Bool) (k : KeyParts) → (if b then set_by setting k else k).key_tag ≡ k.key_tag
+set-tag : (setting : Setting) (b : Bool) (k : KeyParts)
+    → (if b then set_by setting k else k).key_tag ≡ k.key_tag
 set-tag (Decoupled value) true k = refl
 set-tag (Present value now) true k = refl
 set-tag (Signer value) true k = refl
@@ -108,25 +134,39 @@ set-tag setting false k = refl
 
 no_tag : (keys : Keys) (r : List ℕ) (t : ℕ) → add_refusal keys r t ≡ None → has_tag t keys ≡ false
 no_tag keys r t e = elim (split (has_tag t keys)) [
-  | inl h ↦ let f : Some DuplicateKeyTag ≡ None = sym (ap (λ (b : Bool). if b then Some DuplicateKeyTag else (if is_some (get keys r) then Some KeyExists else None)) h) ∙ e in cc
+  | inl h ↦ let f : Some DuplicateKeyTag ≡ None =
+      sym (ap (λ (b : Bool). if b then Some DuplicateKeyTag else
+      (if is_some (get keys r) then Some KeyExists else None)) h) ∙ e in cc
   | inr h ↦ h
 ]
 
-apart-changes : (old new : KeySetParts) → TagsApart old.keys → (call : Call) → verdict old call ≡ Clear → Changes old call new → TagsApart new.keys
-apart-changes old new apart (AddKey r key) clear puts = apart-puts old new apart r (Some key) old.lists (λ x k q e g same.
-    let free : nat_eq k.key_tag key.key_tag ≡ false = some_key-none (λ (y : KeyParts). nat_eq y.key_tag key.key_tag) old.keys q k (no_tag old.keys r key.key_tag (no_cause _ clear)) g in
-    let is : key.key_tag ≡ x.key_tag = ap (λ (o : Option KeyParts). unwrap_or (option_map (λ (y : KeyParts). y.key_tag) o) 0) e in
+apart-changes : (old new : KeySetParts) → TagsApart old.keys → (call : Call) → verdict old call
+    ≡ Clear → Changes old call new → TagsApart new.keys
+apart-changes old new apart (AddKey r key) clear puts =
+    apart-puts old new apart r (Some key) old.lists (λ x k q e g same.
+    let free : nat_eq k.key_tag key.key_tag ≡ false =
+        some_key-none (λ (y : KeyParts). nat_eq y.key_tag key.key_tag) old.keys q k
+        (no_tag old.keys r key.key_tag (no_cause _ clear)) g in
+    let is : key.key_tag ≡ x.key_tag =
+        ap (λ (o : Option KeyParts). unwrap_or (option_map (λ (y : KeyParts). y.key_tag) o) 0) e in
     absurd (grind (arith, nat_tests))) puts
-apart-changes old new apart (Set r setting) clear h = apart-moves old new apart _ (λ q k. set-tag setting (bytes_eq r q) k) h.keys
-apart-changes old new apart (DeleteKey r) clear puts = apart-puts old new apart r None (without r old.lists) (λ x k q e g same. cc) puts
-apart-changes old new apart (StartRoll roll olds news now) clear h = apart-moves old new apart _ (λ q k. started-tag roll now _ _ k) h.keys
-apart-changes old new apart (Report roll half ttl now) clear h = apart-moves old new apart _ (λ q k. refl) h.keys
-apart-changes old new apart (Wait roll half now) clear h = apart-moves old new apart _ (λ q k. refl) h.keys
-apart-changes old new apart (RollDone roll) clear h = apart-moves old new apart _ (λ q k. refl) h.keys
+apart-changes old new apart (Set r setting) clear h =
+    apart-moves old new apart _ (λ q k. set-tag setting (bytes_eq r q) k) h.keys
+apart-changes old new apart (DeleteKey r) clear puts =
+    apart-puts old new apart r None (without r old.lists) (λ x k q e g same. cc) puts
+apart-changes old new apart (StartRoll roll olds news now) clear h =
+    apart-moves old new apart _ (λ q k. started-tag roll now _ _ k) h.keys
+apart-changes old new apart (Report roll half ttl now) clear h =
+    apart-moves old new apart _ (λ q k. refl) h.keys
+apart-changes old new apart (Wait roll half now) clear h =
+    apart-moves old new apart _ (λ q k. refl) h.keys
+apart-changes old new apart (RollDone roll) clear h =
+    apart-moves old new apart _ (λ q k. refl) h.keys
 apart-changes old new apart (AbortRoll roll) clear h =
     apart-moves old new apart _ (λ q k. ended-tag roll _ _ k) h.keys
 
-pub apart-step : (old new : KeySetParts) (call : Call) (reply : Reply) → TagsApart old.keys → Step old call reply new → TagsApart new.keys
+pub apart-step : (old new : KeySetParts) (call : Call) (reply : Reply) → TagsApart old.keys
+    → Step old call reply new → TagsApart new.keys
 apart-step old new call reply apart h = elim (moved old new call reply h) [
   | inl same ↦ subst (λ (s : KeySetParts). TagsApart s.keys) (sym same) apart
   | inr change ↦ apart-changes old new apart call change.0 change.1
@@ -134,7 +174,8 @@ apart-step old new call reply apart h = elim (moved old new call reply h) [
 
 -- a new set has no keys
 pub apart-new : (name : List ℕ) → TagsApart (new_set name).keys
-apart-new name = λ q r k l e d same. let f : None ≡ Some k = sym (get-empty (slice_cmp nat_cmp) q) ∙ e in cc
+apart-new name = λ q r k l e d same. let f : None ≡ Some k = sym (get-empty (slice_cmp nat_cmp) q)
+    ∙ e in cc
 
 -- ---- rolls
 
@@ -198,8 +239,10 @@ six_false false false false false false true h = cc
 six_false false false false false false false h = (refl, refl, refl, refl, refl, refl)
 
 module _ (f : RollType → Bool) (h : list_any f all_rolls ≡ false) where
-  none : (f KskRoll ≡ false) × (f KskDoubleDsRoll ≡ false) × (f ZskRoll ≡ false) × (f ZskDoubleSignatureRoll ≡ false) × (f CskRoll ≡ false) × (f AlgorithmRoll ≡ false)
-  none = six_false (f KskRoll) (f KskDoubleDsRoll) (f ZskRoll) (f ZskDoubleSignatureRoll) (f CskRoll) (f AlgorithmRoll) h
+  none : (f KskRoll ≡ false) × (f KskDoubleDsRoll ≡ false) × (f ZskRoll ≡ false)
+      × (f ZskDoubleSignatureRoll ≡ false) × (f CskRoll ≡ false) × (f AlgorithmRoll ≡ false)
+  none = six_false (f KskRoll) (f KskDoubleDsRoll) (f ZskRoll) (f ZskDoubleSignatureRoll)
+      (f CskRoll) (f AlgorithmRoll) h
 
   no_roll : (q : RollType) → f q ≡ false
   no_roll KskRoll = none.0
@@ -214,83 +257,111 @@ not_and true true e h = refl
 not_and true false e h = sym e
 not_and false b e h = cc
 
-neither : (a b : Bool) (x y : Error) → (if a then Some x else (if b then Some y else None)) ≡ None → b ≡ false
+neither : (a b : Bool) (x y : Error) → (if a then Some x else (if b then Some y else None)) ≡ None
+    → b ≡ false
 neither true b x y e = cc
 neither false true x y e = cc
 neither false false x y e = refl
 
-no_conflict : (roll : RollType) (rolls : Rolls) → conflict roll rolls ≡ None → has_conflict roll rolls ≡ false
+no_conflict : (roll : RollType) (rolls : Rolls) → conflict roll rolls ≡ None
+    → has_conflict roll rolls ≡ false
 unfolding conflict
-no_conflict roll rolls e = neither (is_some (phase_of rolls roll)) (has_conflict roll rolls) WrongStateForRollOperation ConflictingRollInProgress e
+no_conflict roll rolls e = neither (is_some (phase_of rolls roll)) (has_conflict roll rolls)
+    WrongStateForRollOperation ConflictingRollInProgress e
 
-goes_with : (roll q : RollType) (rolls : Rolls) → has_conflict roll rolls ≡ false → in_progress rolls q ≡ true → together roll q ≡ true
-goes_with roll q rolls quiet there = not_and _ _ (no_roll (λ other. is_some (phase_of rolls other) && not (together roll other)) quiet q) there
+goes_with : (roll q : RollType) (rolls : Rolls) → has_conflict roll rolls ≡ false
+    → in_progress rolls q ≡ true → together roll q ≡ true
+goes_with roll q rolls quiet there =
+    not_and _ _ (no_roll (λ other. is_some (phase_of rolls other) && not (together roll other))
+    quiet q) there
 
 module _ (old new : Rolls) (all : RollsTogether old) where
   -- no roll comes in
-  together-fewer : ((q : RollType) → in_progress new q ≡ true → in_progress old q ≡ true) → RollsTogether new
+  together-fewer : ((q : RollType) → in_progress new q ≡ true → in_progress old q ≡ true)
+      → RollsTogether new
   together-fewer fewer = λ a b x y. all a b (fewer a x) (fewer b y)
 
   -- a roll comes in beside which those in progress may be
-  together-more : (roll : RollType) → has_conflict roll old ≡ false → ((q : RollType) → in_progress new q ≡ true → (same_roll roll q ≡ true) ⊎ (in_progress old q ≡ true)) → RollsTogether new
+  together-more : (roll : RollType) → has_conflict roll old ≡ false
+      → ((q : RollType) → in_progress new q ≡ true → (same_roll roll q ≡ true)
+      ⊎ (in_progress old q ≡ true)) → RollsTogether new
   together-more roll none more = λ a b x y. elim (more a x) [
     | inl p ↦ elim (more b y) [
       | inl q ↦ inl (ap (λ r. same_roll r b) (sym (same-is roll a p)) ∙ q)
       | inr q ↦ inr (ap (λ r. together r b) (sym (same-is roll a p)) ∙ goes_with roll b old none q)
     ]
     | inr p ↦ elim (more b y) [
-      | inl q ↦ inr (apart-sym (side_of a) (side_of b) ∙ ap (λ r. together r a) (sym (same-is roll b q)) ∙ goes_with roll a old none p)
+      | inl q ↦ inr (apart-sym (side_of a) (side_of b)
+          ∙ ap (λ r. together r a) (sym (same-is roll b q)) ∙ goes_with roll a old none p)
       | inr q ↦ all a b p q
     ]
   ]
 
 module _ (old : Rolls) (roll : RollType) where
   -- a roll that is put into a phase
-  there-put : (phase : RollState) (q : RollType) → in_progress (with_phase old roll (Some phase)) q ≡ true → (same_roll roll q ≡ true) ⊎ (in_progress old q ≡ true)
+  there-put : (phase : RollState) (q : RollType) → in_progress (with_phase old roll (Some phase)) q
+      ≡ true → (same_roll roll q ≡ true) ⊎ (in_progress old q ≡ true)
   there-put phase q h = elim (split (same_roll roll q)) [
     | inl same ↦ inl same
-    | inr other ↦ inr (sym (ap is_some (phase_of-with_phase old roll (Some phase) q ∙ ap (λ (b : Bool). if b then Some phase else phase_of old q) other)) ∙ h)
+    | inr other ↦ inr (sym (ap is_some
+        (phase_of-with_phase old roll (Some phase) q
+        ∙ ap (λ (b : Bool). if b then Some phase else phase_of old q) other)) ∙ h)
   ]
 
   -- a roll that moves on
-  there-moves : (phase : RollState) → in_progress old roll ≡ true → (q : RollType) → in_progress (with_phase old roll (Some phase)) q ≡ true → in_progress old q ≡ true
+  there-moves : (phase : RollState) → in_progress old roll ≡ true → (q : RollType)
+      → in_progress (with_phase old roll (Some phase)) q ≡ true → in_progress old q ≡ true
   there-moves phase was q h = elim (there-put phase q h) [
     | inl same ↦ ap (in_progress old) (sym (same-is roll q same)) ∙ was
     | inr there ↦ there
   ]
 
   -- a roll that ends
-  there-ends : (q : RollType) → in_progress (with_phase old roll None) q ≡ true → in_progress old q ≡ true
+  there-ends : (q : RollType) → in_progress (with_phase old roll None) q ≡ true → in_progress old q
+      ≡ true
   there-ends q h = elim (split (same_roll roll q)) [
-    | inl same ↦ absurd (let f = sym (ap is_some (phase_of-with_phase old roll None q ∙ ap (λ (b : Bool). if b then None else phase_of old q) same)) ∙ h in cc)
-    | inr other ↦ sym (ap is_some (phase_of-with_phase old roll None q ∙ ap (λ (b : Bool). if b then None else phase_of old q) other)) ∙ h
+    | inl same ↦ absurd (let f = sym
+        (ap is_some (phase_of-with_phase old roll None q
+        ∙ ap (λ (b : Bool). if b then None else phase_of old q) same)) ∙ h in cc)
+    | inr other ↦ sym (ap is_some (phase_of-with_phase old roll None q
+        ∙ ap (λ (b : Bool). if b then None else phase_of old q) other)) ∙ h
   ]
 
-reported-there : (half : Half) (o : Option RollState) → report_refusal half o ≡ None → is_some o ≡ true
+reported-there : (half : Half) (o : Option RollState) → report_refusal half o ≡ None → is_some o
+    ≡ true
 reported-there First None e = cc
 reported-there Second None e = cc
 reported-there half (Some phase) e = refl
 
-waited-there : (roll : RollType) (half : Half) (o : Option RollState) (now : ℕ) (keys : Keys) → wait_in_phase roll half (ttl_in half o) now keys ≡ Clear → is_some o ≡ true
+waited-there : (roll : RollType) (half : Half) (o : Option RollState) (now : ℕ) (keys : Keys)
+    → wait_in_phase roll half (ttl_in half o) now keys ≡ Clear → is_some o ≡ true
 waited-there roll First None now keys e = cc
 waited-there roll Second None now keys e = cc
 waited-there roll half (Some phase) now keys e = refl
 
-together-changes : (old new : KeySetParts) → RollsTogether old.rolls → (call : Call) → verdict old call ≡ Clear → Changes old call new → RollsTogether new.rolls
+together-changes : (old new : KeySetParts) → RollsTogether old.rolls → (call : Call)
+    → verdict old call ≡ Clear → Changes old call new → RollsTogether new.rolls
 together-changes old new all (AddKey r key) clear h = subst RollsTogether (sym h.rolls) all
 together-changes old new all (Set r setting) clear h = subst RollsTogether (sym h.rolls) all
 together-changes old new all (DeleteKey r) clear h = subst RollsTogether (sym h.rolls) all
-together-changes old new all (StartRoll roll olds news now) clear h = subst RollsTogether (sym h.rolls)
-    (together-more old.rolls _ all roll (no_conflict roll old.rolls (no_first _ _ (no_cause _ clear))) (there-put old.rolls roll Propagation1))
+together-changes old new all (StartRoll roll olds news now) clear h =
+    subst RollsTogether (sym h.rolls)
+    (together-more old.rolls _ all roll
+        (no_conflict roll old.rolls (no_first _ _ (no_cause _ clear)))
+        (there-put old.rolls roll Propagation1))
 together-changes old new all (Report roll half ttl now) clear h = subst RollsTogether (sym h.rolls)
-    (together-fewer old.rolls _ all (there-moves old.rolls roll _ (reported-there half (phase_of old.rolls roll) (no_cause _ clear))))
+    (together-fewer old.rolls _ all (there-moves old.rolls roll _
+        (reported-there half (phase_of old.rolls roll) (no_cause _ clear))))
 together-changes old new all (Wait roll half now) clear h = subst RollsTogether (sym h.rolls)
-    (together-fewer old.rolls _ all (there-moves old.rolls roll _ (waited-there roll half (phase_of old.rolls roll) now old.keys clear)))
-together-changes old new all (RollDone roll) clear h = subst RollsTogether (sym h.rolls) (together-fewer old.rolls _ all (there-ends old.rolls roll))
+    (together-fewer old.rolls _ all (there-moves old.rolls roll _
+        (waited-there roll half (phase_of old.rolls roll) now old.keys clear)))
+together-changes old new all (RollDone roll) clear h =
+    subst RollsTogether (sym h.rolls) (together-fewer old.rolls _ all (there-ends old.rolls roll))
 together-changes old new all (AbortRoll roll) clear h =
     subst RollsTogether (sym h.rolls) (together-fewer old.rolls _ all (there-ends old.rolls roll))
 
-pub together-step : (old new : KeySetParts) (call : Call) (reply : Reply) → RollsTogether old.rolls → Step old call reply new → RollsTogether new.rolls
+pub together-step : (old new : KeySetParts) (call : Call) (reply : Reply) → RollsTogether old.rolls
+    → Step old call reply new → RollsTogether new.rolls
 together-step old new call reply all h = elim (moved old new call reply h) [
   | inl same ↦ subst (λ (s : KeySetParts). RollsTogether s.rolls) (sym same) all
   | inr change ↦ together-changes old new all call change.0 change.1

@@ -1,6 +1,7 @@
 -- The two lists of a start, entry by entry.
 use Rattle.std.proofs.Common.{◌≡◌, ℕ, ◌+◌, ◌<◌, Bool, true, false, List, [], ◌∷◌, ◌++◌, length}
-use Rattle.std.proofs.Common.{take, drop, get_or, refl, sym, ap, ◌∙◌, cond, map, Bor, arith, add-one}
+use Rattle.std.proofs.Common.{take, drop, get_or, refl, sym, ap, ◌∙◌, cond, map, Bor, arith}
+use Rattle.std.proofs.Common.{add-one}
 use Rattle.std.proofs.Math.Seq.{take-suc, drop-cons}
 use Rattle.std.specs.Prelude.{◌||◌}
 use Rattle.std.proofs.lemmas.List.Elements.{filter-append}
@@ -46,7 +47,8 @@ module _ (p : List ℕ → Bool) (rs : List (Bor (List ℕ))) (i : ℕ) (d : Bor
       → n ≡ filter p (texts (take (i + 1) rs))
   kept-passes a n passes before now =
       now ∙ ap (λ qs. qs ++ (get_or rs i d).now ∷ []) before
-      ∙ sym (kept-more ∙ ap (λ b. filter p (texts (take i rs)) ++ cond b ((get_or rs i d).now ∷ []) [])
+      ∙ sym (kept-more ∙ ap (λ b. filter p (texts (take i rs))
+          ++ cond b ((get_or rs i d).now ∷ []) [])
       passes)
 
   pub kept-fails : (a : List (List ℕ)) → p (get_or rs i d).now ≡ false

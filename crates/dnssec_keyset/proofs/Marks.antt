@@ -1,4 +1,5 @@
--- The marks of a start, reference by reference: a key that is listed twice is marked as one that is listed once.
+-- The marks of a start, reference by reference: a key that is listed twice is marked as one that is
+-- listed once.
 use Rattle.std.proofs.Common.{◌≡◌, ℕ, ◌+◌, ◌<◌, Bool, true, false, List, length, take, get_or, Some}
 use Rattle.std.proofs.Common.{None, refl, sym, ap, ◌∙◌, map, Bor, add-one}
 use Rattle.std.proofs.Math.Seq.{take-suc}

@@ -4,11 +4,14 @@ use Rattle.std.specs.Prelude.{Option, nat_eq, if◌then◌else◌}
 use Rattle.std.specs.HashMap.{HashMap, get}
 use Rattle.std.specs.Map.{lookup}
 use Rattle.dnssec_key.specs.declared.roll.RollType.{RollType}
-use Rattle.dnssec_key.specs.declared.roll.RollType.TheVariants.{KskRoll, KskDoubleDsRoll, ZskRoll, ZskDoubleSignatureRoll, CskRoll, AlgorithmRoll}
+use Rattle.dnssec_key.specs.declared.roll.RollType.TheVariants.{KskRoll, KskDoubleDsRoll, ZskRoll}
+use Rattle.dnssec_key.specs.declared.roll.RollType.TheVariants.{ZskDoubleSignatureRoll, CskRoll}
+use Rattle.dnssec_key.specs.declared.roll.RollType.TheVariants.{AlgorithmRoll}
 use Rattle.dnssec_key.specs.declared.roll.RollState.{RollState}
 use Rattle.dnssec_key.specs.contracts.roll.RollTypePartialEq.TheImpl.{eq-value}
 use Rattle.dnssec_keyset.specs.KeySet.{Listed, Lists, listed_by, with_listed}
-use Rattle.dnssec_keyset.specs.KeySet.{Rolls, same_roll, rolls_shown, phase_of, with_phase, roll_number}
+use Rattle.dnssec_keyset.specs.KeySet.{Rolls, same_roll, rolls_shown, phase_of, with_phase}
+use Rattle.dnssec_keyset.specs.KeySet.{roll_number}
 use Rattle.dnssec_key.specs.contracts.roll.RollType.{the_type}
 use denote.Enum.Declared.{tag_of}
 
@@ -25,15 +28,20 @@ pub same_roll-eq : (a b : RollType) → eq-value.it a b ≡ same_roll a b
 same_roll-eq a b = λ i. nat_eq (tag_is a i) (tag_is b i)
 
 -- the hash map's look-up is that of the phases
-pub lookup-same_roll : (a : RollType) (es : List (RollType × RollState)) → lookup (same_roll a) es ≡ lookup (eq-value.it a) es
+pub lookup-same_roll : (a : RollType) (es : List (RollType × RollState)) → lookup (same_roll a) es
+    ≡ lookup (eq-value.it a) es
 lookup-same_roll a [] = refl
-lookup-same_roll a (e ∷ es) = λ i. cond (sym (same_roll-eq a e.0) i) (Some e.1) (lookup-same_roll a es i)
+lookup-same_roll a (e ∷ es) = λ i. cond (sym (same_roll-eq a e.0) i) (Some e.1)
+    (lookup-same_roll a es i)
 
 -- rolls with the same phases are equal
 pub same_rolls : (a b : Rolls) → ((q : RollType) → phase_of a q ≡ phase_of b q) → a ≡ b
-same_rolls a b h = λ i. record { ksk_roll = h KskRoll i; ksk_double_ds_roll = h KskDoubleDsRoll i; zsk_roll = h ZskRoll i; zsk_double_signature_roll = h ZskDoubleSignatureRoll i; csk_roll = h CskRoll i; algorithm_roll = h AlgorithmRoll i }
+same_rolls a b h = λ i. record { ksk_roll = h KskRoll i; ksk_double_ds_roll = h KskDoubleDsRoll i;
+    zsk_roll = h ZskRoll i; zsk_double_signature_roll = h ZskDoubleSignatureRoll i; csk_roll =
+    h CskRoll i; algorithm_roll = h AlgorithmRoll i }
 
-pub phase_of-with_phase : (r : Rolls) (roll : RollType) (phase : Option RollState) (q : RollType) → phase_of (with_phase r roll phase) q ≡ (if same_roll roll q then phase else phase_of r q)
+pub phase_of-with_phase : (r : Rolls) (roll : RollType) (phase : Option RollState) (q : RollType)
+    → phase_of (with_phase r roll phase) q ≡ (if same_roll roll q then phase else phase_of r q)
 phase_of-with_phase r roll phase KskRoll = refl
 phase_of-with_phase r roll phase KskDoubleDsRoll = refl
 phase_of-with_phase r roll phase ZskRoll = refl
@@ -62,7 +70,8 @@ listed_by-with_listed l roll listed CskRoll = refl
 listed_by-with_listed l roll listed AlgorithmRoll = refl
 
 module _ {S : Type 0} where
-  pub phase_of-shown : (m : HashMap RollType RollState S) (roll : RollType) → phase_of (rolls_shown m) roll ≡ get eq-value.it m roll
+  pub phase_of-shown : (m : HashMap RollType RollState S) (roll : RollType)
+      → phase_of (rolls_shown m) roll ≡ get eq-value.it m roll
   phase_of-shown m KskRoll = lookup-same_roll KskRoll m.entries
   phase_of-shown m KskDoubleDsRoll = lookup-same_roll KskDoubleDsRoll m.entries
   phase_of-shown m ZskRoll = lookup-same_roll ZskRoll m.entries
@@ -71,12 +80,19 @@ module _ {S : Type 0} where
   phase_of-shown m AlgorithmRoll = lookup-same_roll AlgorithmRoll m.entries
 
   -- hash maps that answer alike show the same rolls
-  pub rolls_shown-same : (m n : HashMap RollType RollState S) → ((q : RollType) → get eq-value.it n q ≡ get eq-value.it m q) → rolls_shown n ≡ rolls_shown m
+  pub rolls_shown-same : (m n : HashMap RollType RollState S)
+      → ((q : RollType) → get eq-value.it n q ≡ get eq-value.it m q) → rolls_shown n ≡ rolls_shown m
   rolls_shown-same m n h = same_rolls _ _ (λ q. phase_of-shown n q ∙ h q ∙ sym (phase_of-shown m q))
 
   -- the phases after one of them is put in or taken out
-  pub rolls_shown-updates : (m n : HashMap RollType RollState S) (roll : RollType) (phase : Option RollState)
-      → ((q : RollType) → get eq-value.it n q ≡ cond (eq-value.it roll q) phase (get eq-value.it m q)) → rolls_shown n ≡ with_phase (rolls_shown m) roll phase
-  rolls_shown-updates m n roll phase h = same_rolls _ _ (λ q. phase_of-shown n q ∙ h q ∙ (λ i. cond (same_roll-eq roll q i) phase (sym (phase_of-shown m q) i)) ∙ sym (phase_of-with_phase (rolls_shown m) roll phase q))
+  pub rolls_shown-updates : (m n : HashMap RollType RollState S) (roll : RollType)
+      (phase : Option RollState)
+      → ((q : RollType) → get eq-value.it n q
+          ≡ cond (eq-value.it roll q) phase (get eq-value.it m q)) → rolls_shown n
+          ≡ with_phase (rolls_shown m) roll phase
+  rolls_shown-updates m n roll phase h =
+      same_rolls _ _ (λ q. phase_of-shown n q ∙ h q
+      ∙ (λ i. cond (same_roll-eq roll q i) phase (sym (phase_of-shown m q) i))
+      ∙ sym (phase_of-with_phase (rolls_shown m) roll phase q))
 
 pub ruleset phases = (phase_of-shown, rolls_shown-updates)

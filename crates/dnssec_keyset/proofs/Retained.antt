@@ -1,5 +1,6 @@
 -- What `retain` keeps of a list, where its closure stays as it is.
-use Rattle.std.proofs.Common.{◌≡◌, Bool, true, false, List, [], ◌∷◌, length, ◌∙◌, ap, arith, cond, refl}
+use Rattle.std.proofs.Common.{◌≡◌, Bool, true, false, List, [], ◌∷◌, length, ◌∙◌, ap, arith, cond}
+use Rattle.std.proofs.Common.{refl}
 use Rattle.std.proofs.Common.{subst}
 use Rattle.std.specs.List.{filter, items_where_true}
 use Rattle.std.specs.List.Retain.{IsFiltered, ReturnsInTurn}

@@ -1,4 +1,5 @@
--- What a contract sees of a key set: its name, its keys by reference, and its rolls in progress (RFC
+-- What a contract sees of a key set: its name, its keys by reference, and its rolls in progress
+-- (RFC
 -- 6781, section 3.1: the keys of a zone; section 4.1: their rolls).
 use Rattle.std.specs.Prelude.{◌≡◌, ℕ, List, map, Bool, Option, None, if◌then◌else◌}
 use Rattle.std.specs.Prelude.{[], filter, nat_eq, not, string_bytes}
@@ -170,7 +171,8 @@ pub record ChangesKey (old new : KeySetParts) (reference : List ℕ) (f : KeyPar
   pub keys : (q : List ℕ) →
       get new.keys q ≡ option_map (λ k. if bytes_eq reference q then f k else k) (get old.keys q)
 
--- only the key at the reference is another one, or none; these lists are kept (RFC 6781, section 3.1)
+-- only the key at the reference is another one, or none; these lists are kept (RFC 6781, section
+-- 3.1)
 pub record PutsKey (old new : KeySetParts) (reference : List ℕ) (key : Option KeyParts)
     (kept : Lists) : Type 0 where
   pub name : new.name ≡ old.name
@@ -178,7 +180,8 @@ pub record PutsKey (old new : KeySetParts) (reference : List ℕ) (key : Option 
   pub lists : new.lists ≡ kept
   pub keys : (q : List ℕ) → get new.keys q ≡ (if bytes_eq reference q then key else get old.keys q)
 
--- every key goes by f, none comes or goes; the roll is in the phase, if any; these lists are kept (RFC
+-- every key goes by f, none comes or goes; the roll is in the phase, if any; these lists are kept
+-- (RFC
 -- 6781, section 4.1)
 pub record MovesOn (old new : KeySetParts) (roll : RollType) (phase : Option RollState)
     (kept : Lists) (f : List ℕ → KeyParts → KeyParts) : Type 0 where

@@ -2,7 +2,8 @@
 -- cause is answered before anything is changed; without one the call is accepted, or has run out of
 -- memory where it takes some, and then too nothing is changed.
 use Rattle.std.specs.Prelude.{◌≡◌, ◌≢◌, ℕ, Bool, false, Option, None, Some, List, [], ◌∷◌}
-use Rattle.std.specs.Prelude.{filter, map, ◌⊎◌, Result, Ok, Err, IsOk, if◌then◌else◌, is_some, nat_eq}
+use Rattle.std.specs.Prelude.{filter, map, ◌⊎◌, Result, Ok, Err, IsOk, if◌then◌else◌, is_some}
+use Rattle.std.specs.Prelude.{nat_eq}
 use Rattle.std.specs.declared.vec.Vec.{Vec}
 use Rattle.std.specs.Global.{Global}
 use Rattle.std.specs.Duration.{as_nanos}
@@ -67,7 +68,8 @@ abbrev pub end_refusal : Option RollState → Option Error
 end_refusal (Some Finishing) = None
 end_refusal _ = Some WrongStateForRollOperation
 
--- why a roll can't be ended early: only until its first report, as from then on caches may hold what
+-- why a roll can't be ended early: only until its first report, as from then on caches may hold
+-- what
 -- its start changed
 abbrev pub early_end_refusal : Option RollState → Option Error
 early_end_refusal (Some Propagation1) = None

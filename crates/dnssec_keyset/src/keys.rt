@@ -243,8 +243,8 @@ impl Keys {
     /// Makes keys old no more, as their roll is ended early.
     fn unmark_old(&mut self, roll: RollType, references: &[String])
         ensures { (q : List ℕ) → map.get self.new q ≡ option_map
-            (λ k. if is_listed (list_map string_bytes references.now) q then unmarked_old roll k else k)
-            (map.get self.old q) }
+            (λ k. if is_listed (list_map string_bytes references.now) q
+            then unmarked_old roll k else k) (map.get self.old q) }
     {
         for reference in references {
             self.change_at(reference.as_str(), Change::UnmarkOld(roll));
@@ -254,8 +254,8 @@ impl Keys {
     /// Takes from keys what the start put on them, as their roll is ended early.
     fn unmark_new(&mut self, roll: RollType, references: &[String])
         ensures { (q : List ℕ) → map.get self.new q ≡ option_map
-            (λ k. if is_listed (list_map string_bytes references.now) q then unmarked_new roll k else k)
-            (map.get self.old q) }
+            (λ k. if is_listed (list_map string_bytes references.now) q
+            then unmarked_new roll k else k) (map.get self.old q) }
     {
         for reference in references {
             self.change_at(reference.as_str(), Change::UnmarkNew(roll));

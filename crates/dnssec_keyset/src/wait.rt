@@ -94,9 +94,9 @@ impl KeySet {
     /// When the wait of a roll is over, by the stamps that it reads: a tool can sleep until then.
     ///
     /// `None` where the roll isn't in a phase that waits, or where a key that the wait checks lacks
-    /// its stamp. A wait at a moment before the end is told to wait for what is left until then, but
-    /// for no longer than the TTL that was reported; at the end and later it is accepted, memory
-    /// aside (RFC 7583, section 3). No memory is taken.
+    /// its stamp. A wait at a moment before the end is told to wait for what is left until then,
+    /// but for no longer than the TTL that was reported; at the end and later it is accepted,
+    /// memory aside (RFC 7583, section 3). No memory is taken.
     ///
     /// ```rust
     /// if let Some(WaitEnd::At(end)) = &set.wait_end(RollType::ZskRoll) {

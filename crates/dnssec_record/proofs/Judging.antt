@@ -45,14 +45,16 @@ past_first : (i : ℕ) → (suc (suc i) == 1) ≡ false
 past_first i = let other : suc (suc i) ≢ 1 = omega arith in grind (arith, nat_tests)
 
 pub form_past : (zone : List ℕ) (lines : List (List ℕ)) (i : ℕ)
-    → IsSome (says (get_or lines i [])) → HasForm (suc (suc i)) (line_of (zone ∷ lines) (suc (suc i)))
+    → IsSome (says (get_or lines i []))
+        → HasForm (suc (suc i)) (line_of (zone ∷ lines) (suc (suc i)))
 form_past zone lines i some =
     let line = line_past zone lines i in
     let other = past_first i in
     rw (line, other) some
 
 pub form_past-says : (zone : List ℕ) (lines : List (List ℕ)) (i : ℕ)
-    → HasForm (suc (suc i)) (line_of (zone ∷ lines) (suc (suc i))) → IsSome (says (get_or lines i []))
+    → HasForm (suc (suc i)) (line_of (zone ∷ lines) (suc (suc i)))
+        → IsSome (says (get_or lines i []))
 form_past-says zone lines i form =
     let line = line_past zone lines i in
     let other = past_first i in
@@ -98,7 +100,8 @@ call_first zone lines name i is silent = record {
     before (suc (suc k)) above below = form_past zone lines k (silent.before k (omega arith))
 
 -- the fault of the lines of calls is that of the script
-pub calls_fault : (script zone : List ℕ) (lines : List (List ℕ)) (name : List ℕ) (fault : ScriptFault)
+pub calls_fault : (script zone : List ℕ) (lines : List (List ℕ)) (name : List ℕ)
+    (fault : ScriptFault)
     → lines_of script ≡ zone ∷ lines → IsZoneLine zone name → CallsFault lines fault
     → AnswerFault script fault
 calls_fault script zone lines name (Malformed n) split named first =

@@ -90,14 +90,16 @@ first_silent xs i within spoke silent = record {
 
 -- what the lines say, with one more
 pub says_more : (xs : List (Bor (List ℕ))) (i : ℕ) → i < length xs
-    → map says (take (i + 1) (map now xs)) ≡ map says (take i (map now xs)) ++ says (text_at xs i) ∷ []
+    → map says (take (i + 1) (map now xs)) ≡ map says (take i (map now xs))
+        ++ says (text_at xs i) ∷ []
 says_more xs i within =
     ap (map says) (take_more (map now xs) i [] (within_shown xs i within))
     ∙ map-append says (take i (map now xs)) _
     ∙ ap (λ t. map says (take i (map now xs)) ++ says t ∷ []) (shown_at xs i within)
 
 -- what was kept, with one statement more
-pub kept_statement : (xs : List (Bor (List ℕ))) (i : ℕ) (ss ss' : List Statement) (ls ls' : List Lists)
+pub kept_statement : (xs : List (Bor (List ℕ))) (i : ℕ) (ss ss' : List Statement)
+    (ls ls' : List Lists)
     (s : Statement) (l : Lists)
     → i < length xs → length ss ≡ i → length ls ≡ i
     → all_said ss ls ≡ map says (take i (map now xs))

@@ -52,7 +52,8 @@ no_name_found text other = none_passes (λ r. bytes_eq (roll_name r) text) rolls
 -- what the key set reads is the roll of that name
 pub roll_read : (text : List ℕ) (r : Result RollType Error) → NamesRoll text r
     → result_ok r ≡ roll_named text
-roll_read text (Ok roll) named = sym (subst (λ t. roll_named t ≡ Some roll) (sym named) (name_found roll))
+roll_read text (Ok roll) named = sym
+    (subst (λ t. roll_named t ≡ Some roll) (sym named) (name_found roll))
 roll_read text (Err e) named = sym (no_name_found text named.1)
 
 -- what isn't text names no roll

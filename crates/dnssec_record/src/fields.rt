@@ -192,7 +192,11 @@ fn number(most: u64, text: &[u8]) -> Option<u64>
         .filter(|number| *number <= most)
 }
 
-#[tactic(auto, unfolding(crate::specs::Script::as_reference), using(crate::proofs::References::reference_utf8))]
+#[tactic(
+    auto,
+    unfolding(crate::specs::Script::as_reference),
+    using(crate::proofs::References::reference_utf8)
+)]
 fn reference(text: &[u8]) -> Option<&str>
     ensures read { option_map (λ q. Reference q.now) result ≡ as_reference text.now }
     ensures is { is_some result ≡ is_reference text.now }

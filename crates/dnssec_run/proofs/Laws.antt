@@ -14,8 +14,10 @@ use Rattle.dnssec_run.specs.Record.{IsRun, StaysSound, KeepsSidesApart, Neighbou
 use Rattle.dnssec_run.specs.Record.{call_of, reply_of, stepped_by, world_at}
 
 module _ (P : KeySetParts → Type 0) (start : (name : List ℕ) → P (new_set name))
-    (step : (old new : KeySetParts) (call : keyset.Call) (reply : keyset.Reply) → P old → keyset.Step old call reply new → P new)
-    (name : List ℕ) (calls : List Call) (entries : List Entry) (run : IsRun name calls entries) where
+    (step : (old new : KeySetParts) (call : keyset.Call) (reply : keyset.Reply) → P old
+        → keyset.Step old call reply new → P new)
+    (name : List ℕ) (calls : List Call) (entries : List Entry) (run : IsRun name calls entries)
+        where
   pub kept-at : (n : ℕ) → P (world_at name calls entries n).set
   unfolding world_at
   kept-at zero = start name
@@ -24,25 +26,41 @@ module _ (P : KeySetParts → Type 0) (start : (name : List ℕ) → P (new_set 
       next : Option Call → Option Entry → World
       next c e = stepped_by (suc n) (world_at name calls entries n) c e
 
-      at : (oc : Option Call) (oe : Option Entry) → slice_get calls n ≡ oc → slice_get entries n ≡ oe → P (world_at name calls entries n).set → P (stepped_by (suc n) (world_at name calls entries n) oc oe).set
+      at : (oc : Option Call) (oe : Option Entry) → slice_get calls n ≡ oc → slice_get entries n
+          ≡ oe → P (world_at name calls entries n).set
+          → P (stepped_by (suc n) (world_at name calls entries n) oc oe).set
       at None oe ci ei before = before
       at (Some c) None ci ei before = before
       at (Some c) (Some e) ci ei before =
-          let then : world_at name calls entries (suc n) ≡ stepped_by (suc n) (world_at name calls entries n) (Some c) (Some e) = λ i. stepped_by (suc n) (world_at name calls entries n) (ci i) (ei i) in
-          step _ _ (call_of c) (reply_of e.reply) before (subst (λ (w : World). keyset.Step (world_at name calls entries n).set (call_of c) (reply_of e.reply) w.set) then (run.each n c e ci ei).step)
+          let then : world_at name calls entries (suc n)
+              ≡ stepped_by (suc n) (world_at name calls entries n) (Some c) (Some e) =
+              λ i. stepped_by (suc n) (world_at name calls entries n) (ci i) (ei i) in
+          step _ _ (call_of c) (reply_of e.reply) before
+              (subst (λ (w : World). keyset.Step (world_at name calls entries n).set (call_of c)
+              (reply_of e.reply) w.set) then (run.each n c e ci ei).step)
 
 -- tags stay apart and rolls together
-pub stays-sound : (name : List ℕ) (calls : List Call) (entries : List Entry) → IsRun name calls entries → StaysSound name calls entries
+pub stays-sound : (name : List ℕ) (calls : List Call) (entries : List Entry)
+    → IsRun name calls entries → StaysSound name calls entries
 stays-sound name calls entries run n within = record {
-  tags = kept-at (λ (s : KeySetParts). TagsApart s.keys) apart-new (λ old new call reply before h. apart-step old new call reply before h) name calls entries run n;
-  rolls = kept-at (λ (s : KeySetParts). RollsTogether s.rolls) together-new (λ old new call reply before h. together-step old new call reply before h) name calls entries run n;
+  tags = kept-at (λ (s : KeySetParts). TagsApart s.keys) apart-new
+      (λ old new call reply before h. apart-step old new call reply before h) name calls entries run
+      n;
+  rolls = kept-at (λ (s : KeySetParts). RollsTogether s.rolls) together-new
+      (λ old new call reply before h. together-step old new call reply before h) name calls entries
+      run n;
 }
 
 -- sides stay apart
-pub sides-apart : (name : List ℕ) (calls : List Call) (entries : List Entry) → IsRun name calls entries → KeepsSidesApart name calls entries
-sides-apart name calls entries run n call entry at_call at_entry = leaves-others _ _ (call_of call) (reply_of entry.reply) (run.each n call entry at_call at_entry).step
+pub sides-apart : (name : List ℕ) (calls : List Call) (entries : List Entry)
+    → IsRun name calls entries → KeepsSidesApart name calls entries
+sides-apart name calls entries run n call entry at_call at_entry =
+    leaves-others _ _ (call_of call) (reply_of entry.reply)
+    (run.each n call entry at_call at_entry).step
 
 -- neighbours may be exchanged
-pub neighbours-exchange : (name : List ℕ) (calls : List Call) (entries : List Entry) → IsRun name calls entries → NeighboursMayBeExchanged name calls entries
+pub neighbours-exchange : (name : List ℕ) (calls : List Call) (entries : List Entry)
+    → IsRun name calls entries → NeighboursMayBeExchanged name calls entries
 neighbours-exchange name calls entries run n first second e f at_first at_e at_second at_f apart =
-    exchange _ _ _ (call_of first) (call_of second) (reply_of e.reply) (reply_of f.reply) apart (run.each n first e at_first at_e).step (run.each (suc n) second f at_second at_f).step
+    exchange _ _ _ (call_of first) (call_of second) (reply_of e.reply) (reply_of f.reply) apart
+        (run.each n first e at_first at_e).step (run.each (suc n) second f at_second at_f).step

@@ -15,7 +15,8 @@ use Rattle.std.proofs.Common.{[], string_bytes, Global}
 use Rattle.dnssec_key.specs.Key.{KeyParts}
 use Rattle.dnssec_keyset.specs.KeySet.{KeySetParts, new_set}
 use Rattle.dnssec_keyset.specs.Step as keyset
-use Rattle.dnssec_keyset.specs.Step.{AddKey, Set, DeleteKey, StartRoll, Report, Wait, RollDone, AbortRoll}
+use Rattle.dnssec_keyset.specs.Step.{AddKey, Set, DeleteKey, StartRoll, Report, Wait, RollDone}
+use Rattle.dnssec_keyset.specs.Step.{AbortRoll}
 use Rattle.dnssec_keyset.specs.Step.{after, after_reply}
 use Rattle.dnssec_keyset.proofs.After.{after-changes}
 use Rattle.dnssec_run.specs.declared.call.Call.{Call}
@@ -38,16 +39,21 @@ split true = inl refl
 split false = inr refl
 
 -- who is there stays who is there, whatever happens to it
-still : (n : ℕ) (f : KeyParts → KeyParts) (o : Option KeyParts) → option_map (λ (k : KeyParts). n) o ≡ option_map (λ (k : KeyParts). n) (option_map f o)
+still : (n : ℕ) (f : KeyParts → KeyParts) (o : Option KeyParts) → option_map (λ (k : KeyParts). n) o
+    ≡ option_map (λ (k : KeyParts). n) (option_map f o)
 still n f None = refl
 still n f (Some k) = refl
 
-module _ (n : ℕ) (w : World) (at : List ℕ → Option ℕ) (agrees : (q : List ℕ) → at q ≡ option_map (λ k. w.added q) (get w.set.keys q)) where
+module _ (n : ℕ) (w : World) (at : List ℕ → Option ℕ)
+    (agrees : (q : List ℕ) → at q ≡ option_map (λ k. w.added q) (get w.set.keys q)) where
   Next : keyset.Call → List ℕ → Type 0
-  Next c q = noted n (reference_added c) (reference_deleted c) at q ≡ option_map (λ k. with_added n (reference_added c) w.added q) (get (after c w.set).keys q)
+  Next c q = noted n (reference_added c) (reference_deleted c) at q
+      ≡ option_map (λ k. with_added n (reference_added c) w.added q) (get (after c w.set).keys q)
 
-  moved : (f : KeyParts → KeyParts) (o : Option KeyParts) (q : List ℕ) → o ≡ option_map f (get w.set.keys q) → at q ≡ option_map (λ k. w.added q) o
-  moved f o q is = agrees q ∙ still (w.added q) f (get w.set.keys q) ∙ ap (option_map (λ k. w.added q)) (sym is)
+  moved : (f : KeyParts → KeyParts) (o : Option KeyParts) (q : List ℕ) → o
+      ≡ option_map f (get w.set.keys q) → at q ≡ option_map (λ k. w.added q) o
+  moved f o q is = agrees q ∙ still (w.added q) f (get w.set.keys q)
+      ∙ ap (option_map (λ k. w.added q)) (sym is)
 
   next : (c : keyset.Call) (q : List ℕ) → Next c q
   unfolding Next
@@ -56,11 +62,13 @@ module _ (n : ℕ) (w : World) (at : List ℕ → Option ℕ) (agrees : (q : Lis
       elim (split (bytes_eq r q)) [
         | inl here ↦
             ap (λ b. cond b (Some n) (at q)) here
-            ∙ sym (ap (λ b. option_map (λ (k : KeyParts). cond b n (w.added q)) (cond b (Some key) (get w.set.keys q))) here)
+            ∙ sym (ap (λ b. option_map (λ (k : KeyParts). cond b n (w.added q))
+                (cond b (Some key) (get w.set.keys q))) here)
             ∙ ap (option_map (λ (k : KeyParts). with_added n (Some r) w.added q)) (sym after_is)
         | inr there ↦
             ap (λ b. cond b (Some n) (at q)) there ∙ agrees q
-            ∙ sym (ap (λ b. option_map (λ (k : KeyParts). cond b n (w.added q)) (cond b (Some key) (get w.set.keys q))) there)
+            ∙ sym (ap (λ b. option_map (λ (k : KeyParts). cond b n (w.added q))
+                (cond b (Some key) (get w.set.keys q))) there)
             ∙ ap (option_map (λ (k : KeyParts). with_added n (Some r) w.added q)) (sym after_is)
       ]
   next (DeleteKey r) q =
@@ -68,24 +76,30 @@ module _ (n : ℕ) (w : World) (at : List ℕ → Option ℕ) (agrees : (q : Lis
       elim (split (bytes_eq r q)) [
         | inl here ↦
             ap (λ b. cond b None (at q)) here
-            ∙ sym (ap (λ b. option_map (λ (k : KeyParts). w.added q) (cond b None (get w.set.keys q))) here)
+            ∙ sym (ap (λ b. option_map (λ (k : KeyParts). w.added q)
+                (cond b None (get w.set.keys q))) here)
             ∙ ap (option_map (λ (k : KeyParts). w.added q)) (sym after_is)
         | inr there ↦
             ap (λ b. cond b None (at q)) there ∙ agrees q
-            ∙ sym (ap (λ b. option_map (λ (k : KeyParts). w.added q) (cond b None (get w.set.keys q))) there)
+            ∙ sym (ap (λ b. option_map (λ (k : KeyParts). w.added q)
+                (cond b None (get w.set.keys q))) there)
             ∙ ap (option_map (λ (k : KeyParts). w.added q)) (sym after_is)
       ]
   next (Set r setting) q = moved _ _ q ((after-changes w.set (Set r setting)).keys q)
-  next (StartRoll roll olds news now) q = moved _ _ q ((after-changes w.set (StartRoll roll olds news now)).keys q)
-  next (Report roll half ttl now) q = moved _ _ q ((after-changes w.set (Report roll half ttl now)).keys q)
+  next (StartRoll roll olds news now) q =
+      moved _ _ q ((after-changes w.set (StartRoll roll olds news now)).keys q)
+  next (Report roll half ttl now) q =
+      moved _ _ q ((after-changes w.set (Report roll half ttl now)).keys q)
   next (Wait roll half now) q = moved _ _ q ((after-changes w.set (Wait roll half now)).keys q)
   next (RollDone roll) q = moved _ _ q ((after-changes w.set (RollDone roll)).keys q)
   next (AbortRoll roll) q = moved _ _ q ((after-changes w.set (AbortRoll roll)).keys q)
 
 -- an accepted call
-pub agrees-accepted : (n : ℕ) (w : World) (old new : KeySetParts) (at later : List ℕ → Option ℕ) (call : Call) (reply : Reply) → is_accepted reply ≡ true
+pub agrees-accepted : (n : ℕ) (w : World) (old new : KeySetParts) (at later : List ℕ → Option ℕ)
+    (call : Call) (reply : Reply) → is_accepted reply ≡ true
     → Agrees old at w → new ≡ after_reply (reply_of reply) (call_of call) old
-    → ((q : List ℕ) → later q ≡ noted n (reference_added (call_of call)) (reference_deleted (call_of call)) at q) → Agrees new later (stepped n w call reply)
+    → ((q : List ℕ) → later q ≡ noted n (reference_added (call_of call))
+        (reference_deleted (call_of call)) at q) → Agrees new later (stepped n w call reply)
 unfolding Next
 agrees-accepted n w old new at later call Done ok agrees step notes = record {
   same = step ∙ ap (after (call_of call)) agrees.same;
@@ -98,28 +112,35 @@ agrees-accepted n w old new at later call (Actions actions) ok agrees step notes
 agrees-accepted n w old new at later call (Refused cause) ok agrees step notes = cc
 
 -- a refused call
-pub agrees-refused : (n : ℕ) (w : World) (old new : KeySetParts) (at : List ℕ → Option ℕ) (call : Call) (reply : Reply) → is_accepted reply ≡ false
-    → Agrees old at w → new ≡ after_reply (reply_of reply) (call_of call) old → Agrees new at (stepped n w call reply)
+pub agrees-refused : (n : ℕ) (w : World) (old new : KeySetParts) (at : List ℕ → Option ℕ)
+    (call : Call) (reply : Reply) → is_accepted reply ≡ false
+    → Agrees old at w → new ≡ after_reply (reply_of reply) (call_of call) old
+        → Agrees new at (stepped n w call reply)
 agrees-refused n w old new at call Done ok agrees step = cc
 agrees-refused n w old new at call (Actions actions) ok agrees step = cc
-agrees-refused n w old new at call (Refused cause) ok agrees step = record { same = step ∙ agrees.same; positions = agrees.positions }
+agrees-refused n w old new at call (Refused cause) ok agrees step =
+    record { same = step ∙ agrees.same; positions = agrees.positions }
 
 -- the mark of a call that was accepted, and of one that wasn't
-pub mark-accepted : (call : Call) (reply : Reply) → is_accepted reply ≡ true → mark_of call ≡ mark_after call reply
+pub mark-accepted : (call : Call) (reply : Reply) → is_accepted reply ≡ true → mark_of call
+    ≡ mark_after call reply
 mark-accepted call Done ok = refl
 mark-accepted call (Actions actions) ok = refl
 mark-accepted call (Refused cause) ok = cc
 
-pub mark-refused : (call : Call) (reply : Reply) → is_accepted reply ≡ false → Other ≡ mark_after call reply
+pub mark-refused : (call : Call) (reply : Reply) → is_accepted reply ≡ false → Other
+    ≡ mark_after call reply
 mark-refused call Done ok = cc
 mark-refused call (Actions actions) ok = cc
 mark-refused call (Refused cause) ok = refl
 
 -- a new key set, without positions
-pub agrees-new : (name : List ℕ) (set : KeySetParts) (m : BTreeMap (String Global) ℕ) → set ≡ new_set name → m.entries ≡ [] → Agrees set (tree.get_by_text m) (new_world name)
+pub agrees-new : (name : List ℕ) (set : KeySetParts) (m : BTreeMap (String Global) ℕ) → set
+    ≡ new_set name → m.entries ≡ [] → Agrees set (tree.get_by_text m) (new_world name)
 agrees-new name set m is none = record {
   same = is;
-  positions = λ q. ap (λ (es : List (String Global × ℕ)). lookup (tree.is_at (λ k. slice_cmp nat_cmp q (string_bytes k))) es) none
+  positions = λ q. ap (λ (es : List (String Global × ℕ)). lookup
+      (tree.is_at (λ k. slice_cmp nat_cmp q (string_bytes k))) es) none
       ∙ sym (ap (option_map (λ (k : KeyParts). 0)) (get-empty (slice_cmp nat_cmp) q));
 }
 

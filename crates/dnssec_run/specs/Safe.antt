@@ -1,7 +1,9 @@
--- When a record is safe: whatever of it caches may still hold has a chain of trust. Nothing here knows
+-- When a record is safe: whatever of it caches may still hold has a chain of trust. Nothing here
+-- knows
 -- of flags, stamps or phases: only of what was published, of reports, and of moments.
 use Rattle.std.specs.Prelude.{◌≡◌, ℕ, zero, suc, ◌+◌, ◌*◌, ◌<◌, ◌≤◌, ◌⊎◌, max, Bool, true, false}
-use Rattle.std.specs.Prelude.{List, [], map, if◌then◌else◌, slice_get, Option, None, Some, unwrap_or}
+use Rattle.std.specs.Prelude.{List, [], map, if◌then◌else◌, slice_get, Option, None, Some}
+use Rattle.std.specs.Prelude.{unwrap_or}
 use Rattle.std.specs.List.{Contains}
 use Rattle.std.specs.Option.{option_map_or}
 use Rattle.dnssec_key.specs.declared.roll.RollType.{RollType}

@@ -20,8 +20,8 @@ report2 algorithm-roll 60 80
 const CALLS: usize = 7;
 
 /// Where a request for memory is refused, there is no record, or it says so of the call that made
-/// this request. A judge keeps a window, so where one is refused it has no verdict. Asked again they
-/// give the record and the verdict. The audit by the definition takes no memory.
+/// this request. A judge keeps a window, so where one is refused it has no verdict. Asked again
+/// they give the record and the verdict. The audit by the definition takes no memory.
 pub(crate) fn judge(alloc: Global, memory: &mut Memory) -> Result<(), Wrong> {
     let mut run = record_script(alloc, SCRIPT.as_bytes());
     if matches!(run, Err(ScriptFault::OutOfMemory)) && memory.fails() {

@@ -18,7 +18,8 @@ use Rattle.dnssec_judge.proofs.Verdicts.Searches.{verdict-at}
 use Rattle.dnssec_judge.proofs.OneByOne.Spans.{ds-found}
 
 -- a base lies below
-pub base-lt : (entries : List Entry) (roll : RollType) (n b : ℕ) → base_below entries roll n ≡ Some b
+pub base-lt : (entries : List Entry) (roll : RollType) (n b : ℕ) → base_below entries roll n
+    ≡ Some b
     → b < n
 unfolding base_below
 base-lt entries roll zero b e = absurd (cc)

@@ -47,7 +47,8 @@ no_second : (a b : Option Error) → option_or a b ≡ None → b ≡ None
 no_second None b e = e
 no_second (Some c) b e = absurd (none-some c (sym e))
 
-no_causes : (a b c d e : Option Error) → first_of_causes (a ∷ b ∷ c ∷ d ∷ e ∷ []) ≡ None → (a ≡ None) × (b ≡ None) × (c ≡ None) × (d ≡ None) × (e ≡ None)
+no_causes : (a b c d e : Option Error) → first_of_causes (a ∷ b ∷ c ∷ d ∷ e ∷ []) ≡ None
+    → (a ≡ None) × (b ≡ None) × (c ≡ None) × (d ≡ None) × (e ≡ None)
 no_causes a b c d e h =
     let x = no_second a (first_of_causes (b ∷ c ∷ d ∷ e ∷ [])) h in
     let y = no_second b (first_of_causes (c ∷ d ∷ e ∷ [])) x in
@@ -66,7 +67,8 @@ clear_cause (Some c) e = absurd (cc)
 
 -- ---- a start
 
-no_error : (b c : Bool) (e : Error) (o : Option Error) → (if b then Some e else o) ≡ None → (b ≡ false) × (o ≡ None)
+no_error : (b c : Bool) (e : Error) (o : Option Error) → (if b then Some e else o) ≡ None
+    → (b ≡ false) × (o ≡ None)
 no_error true c e o h = absurd (none-some e (sym h))
 no_error false c e o h = (refl, h)
 
@@ -89,7 +91,9 @@ six a b c d e f h =
     let v = or_false e (f || false) u.1 in
     (x.0, y.0, z.0, u.0, v.0, (or_false f false v.1).0)
 
-one_of : (p : RollType → Bool) → (p KskRoll ≡ false) × (p KskDoubleDsRoll ≡ false) × (p ZskRoll ≡ false) × (p ZskDoubleSignatureRoll ≡ false) × (p CskRoll ≡ false) × (p AlgorithmRoll ≡ false)
+one_of : (p : RollType → Bool) → (p KskRoll ≡ false) × (p KskDoubleDsRoll ≡ false)
+    × (p ZskRoll ≡ false) × (p ZskDoubleSignatureRoll ≡ false) × (p CskRoll ≡ false)
+    × (p AlgorithmRoll ≡ false)
     → (q : RollType) → p q ≡ false
 one_of p h KskRoll = h.0
 one_of p h KskDoubleDsRoll = h.1
@@ -104,53 +108,82 @@ module _ (r : RollType) (rolls : Rolls) where
 
   none_meets : has_conflict r rolls ≡ false → (q : RollType) → meets q ≡ false
   unfolding meets
-  none_meets e q = one_of meets (six (meets KskRoll) (meets KskDoubleDsRoll) (meets ZskRoll) (meets ZskDoubleSignatureRoll) (meets CskRoll) (meets AlgorithmRoll) e) q
+  none_meets e q = one_of meets (six (meets KskRoll) (meets KskDoubleDsRoll) (meets ZskRoll)
+      (meets ZskDoubleSignatureRoll) (meets CskRoll) (meets AlgorithmRoll) e) q
 
-  alone_of : has_conflict r rolls ≡ false → (q : RollType) → together r q ≡ false → phase_of rolls q ≡ None
+  alone_of : has_conflict r rolls ≡ false → (q : RollType) → together r q ≡ false → phase_of rolls q
+      ≡ None
   unfolding meets
   alone_of e q t = no_phase (phase_of rolls q) (together r q) (none_meets e q) t
 
-  no_conflict : conflict r rolls ≡ None → (q : RollType) → together r q ≡ false → phase_of rolls q ≡ None
+  no_conflict : conflict r rolls ≡ None → (q : RollType) → together r q ≡ false → phase_of rolls q
+      ≡ None
   unfolding conflict
   no_conflict e = alone_of (no_error _ true _ _ (no_error _ true _ _ e).1).0
 
 module _ (r : RollType) (at : List ℕ → Option KeyParts) where
-  old_kind : (o : Option KeyParts) → old_entry_fault r o ≡ None → (k : KeyParts) × (o ≡ Some k) × (may_list r k.keytype ≡ true)
+  old_kind : (o : Option KeyParts) → old_entry_fault r o ≡ None → (k : KeyParts) × (o ≡ Some k)
+      × (may_list r k.keytype ≡ true)
   old_kind None e = absurd (none-some _ (sym e))
   old_kind (Some k) e = by (may_list r k.keytype) refl
     where
-      by : (b : Bool) → may_list r k.keytype ≡ b → (j : KeyParts) × (Some k ≡ Some j) × (may_list r j.keytype ≡ true)
+      by : (b : Bool) → may_list r k.keytype ≡ b → (j : KeyParts) × (Some k ≡ Some j)
+          × (may_list r j.keytype ≡ true)
       by true t = (k, refl, t)
-      by false t = absurd (none-some _ (sym (sym (ap (λ b. if b then None else Some Error.WrongKeyType) t) ∙ e)))
+      by false t = absurd (none-some _
+          (sym (sym (ap (λ b. if b then None else Some Error.WrongKeyType) t) ∙ e)))
 
   new_kind : (o : Option KeyParts) (taken : Bool) → new_entry_fault r o taken ≡ None
-      → (k : KeyParts) × (o ≡ Some k) × (may_list r k.keytype ≡ true) × (all_states is_fresh k.keytype ≡ true) × (taken ≡ false)
+      → (k : KeyParts) × (o ≡ Some k) × (may_list r k.keytype ≡ true)
+          × (all_states is_fresh k.keytype ≡ true) × (taken ≡ false)
   new_kind None taken e = absurd (none-some _ (sym e))
-  new_kind (Some k) taken e = by (may_list r k.keytype) refl (all_states is_fresh k.keytype) refl taken refl
+  new_kind (Some k) taken e = by (may_list r k.keytype) refl (all_states is_fresh k.keytype) refl
+      taken refl
     where
-      by : (b : Bool) → may_list r k.keytype ≡ b → (c : Bool) → all_states is_fresh k.keytype ≡ c → (d : Bool) → taken ≡ d
-          → (j : KeyParts) × (Some k ≡ Some j) × (may_list r j.keytype ≡ true) × (all_states is_fresh j.keytype ≡ true) × (taken ≡ false)
+      by : (b : Bool) → may_list r k.keytype ≡ b → (c : Bool) → all_states is_fresh k.keytype ≡ c
+          → (d : Bool) → taken ≡ d
+          → (j : KeyParts) × (Some k ≡ Some j) × (may_list r j.keytype ≡ true)
+              × (all_states is_fresh j.keytype ≡ true) × (taken ≡ false)
       by true t true u false v = (k, refl, t, u, v)
-      by false t c u d v = absurd (none-some _ (sym (sym (ap (λ b. if b then (if all_states is_fresh k.keytype && not taken then None else Some Error.WrongKeyState) else Some Error.WrongKeyType) t) ∙ e)))
-      by true t false u d v = absurd (none-some _ (sym (sym (λ i. if t i then (if u i && not taken then None else Some Error.WrongKeyState) else Some Error.WrongKeyType) ∙ e)))
-      by true t true u true v = absurd (none-some _ (sym (sym (λ i. if t i then (if u i && not (v i) then None else Some Error.WrongKeyState) else Some Error.WrongKeyType) ∙ e)))
+      by false t c u d v = absurd (none-some _
+          (sym (sym (ap (λ b. if b then (if all_states is_fresh k.keytype
+          && not taken then None else Some Error.WrongKeyState) else Some Error.WrongKeyType) t)
+          ∙ e)))
+      by true t false u d v = absurd (none-some _
+          (sym (sym (λ i. if t i then (if u i && not taken then None else Some Error.WrongKeyState)
+          else Some Error.WrongKeyType) ∙ e)))
+      by true t true u true v = absurd
+          (none-some _ (sym (sym (λ i. if t i then
+          (if u i && not (v i) then None else Some Error.WrongKeyState) else Some
+          Error.WrongKeyType) ∙ e)))
 
-  old_all : (olds : List (List ℕ)) → old_fault r at olds ≡ None → (q : List ℕ) → listed olds q ≡ true → (k : KeyParts) × (at q ≡ Some k) × (may_list r k.keytype ≡ true)
+  old_all : (olds : List (List ℕ)) → old_fault r at olds ≡ None → (q : List ℕ) → listed olds q
+      ≡ true → (k : KeyParts) × (at q ≡ Some k) × (may_list r k.keytype ≡ true)
   old_all [] e q l = absurd (true≢false (sym l))
   old_all (x ∷ xs) e q l = by (old_all xs (no_second _ _ e) q) (bytes_eq q x) refl
     where
-      by : (listed xs q ≡ true → (k : KeyParts) × (at q ≡ Some k) × (may_list r k.keytype ≡ true)) → (b : Bool) → bytes_eq q x ≡ b → (k : KeyParts) × (at q ≡ Some k) × (may_list r k.keytype ≡ true)
-      by rest true t = let h = old_kind (at x) (no_first _ _ e) in (h.0, ap at ((bytes_decides q x).0 t) ∙ h.1, h.2)
+      by : (listed xs q ≡ true → (k : KeyParts) × (at q ≡ Some k) × (may_list r k.keytype ≡ true))
+          → (b : Bool) → bytes_eq q x ≡ b → (k : KeyParts) × (at q ≡ Some k)
+          × (may_list r k.keytype ≡ true)
+      by rest true t = let h = old_kind (at x) (no_first _ _ e) in
+          (h.0, ap at ((bytes_decides q x).0 t) ∙ h.1, h.2)
       by rest false t = rest (sym (ap (λ b. b || listed xs q) t) ∙ l)
 
-  new_all : (olds earlier news : List (List ℕ)) → new_fault r at olds earlier news ≡ None → (q : List ℕ) → listed news q ≡ true
-      → (k : KeyParts) × (at q ≡ Some k) × (may_list r k.keytype ≡ true) × (all_states is_fresh k.keytype ≡ true) × (listed olds q ≡ false)
+  new_all : (olds earlier news : List (List ℕ)) → new_fault r at olds earlier news ≡ None
+      → (q : List ℕ) → listed news q ≡ true
+      → (k : KeyParts) × (at q ≡ Some k) × (may_list r k.keytype ≡ true)
+          × (all_states is_fresh k.keytype ≡ true) × (listed olds q ≡ false)
   new_all olds earlier [] e q l = absurd (true≢false (sym l))
-  new_all olds earlier (x ∷ xs) e q l = by (new_all olds (earlier ++ x ∷ []) xs (no_second _ _ e) q) (bytes_eq q x) refl
+  new_all olds earlier (x ∷ xs) e q l =
+      by (new_all olds (earlier ++ x ∷ []) xs (no_second _ _ e) q) (bytes_eq q x) refl
     where
-      by : (listed xs q ≡ true → (k : KeyParts) × (at q ≡ Some k) × (may_list r k.keytype ≡ true) × (all_states is_fresh k.keytype ≡ true) × (listed olds q ≡ false)) → (b : Bool) → bytes_eq q x ≡ b
-          → (k : KeyParts) × (at q ≡ Some k) × (may_list r k.keytype ≡ true) × (all_states is_fresh k.keytype ≡ true) × (listed olds q ≡ false)
-      by rest true t = let same = (bytes_decides q x).0 t in let h = new_kind (at x) (listed olds x || listed earlier x) (no_first _ _ e) in
+      by : (listed xs q ≡ true → (k : KeyParts) × (at q ≡ Some k) × (may_list r k.keytype ≡ true)
+          × (all_states is_fresh k.keytype ≡ true) × (listed olds q ≡ false)) → (b : Bool)
+          → bytes_eq q x ≡ b
+          → (k : KeyParts) × (at q ≡ Some k) × (may_list r k.keytype ≡ true)
+              × (all_states is_fresh k.keytype ≡ true) × (listed olds q ≡ false)
+      by rest true t = let same = (bytes_decides q x).0 t in let h =
+          new_kind (at x) (listed olds x || listed earlier x) (no_first _ _ e) in
           (h.0, ap at same ∙ h.1, h.2, h.3, ap (listed olds) same ∙ (or_false _ _ h.4).0)
       by rest false t = rest (sym (ap (λ b. b || listed xs q) t) ∙ l)
 
@@ -165,13 +198,15 @@ fresh_blank k = mp _ _ (each_key-at (λ k. all_states is_fresh k ⇒ is_blank k)
 
 -- ---- the key to go on with
 
-listed_key : (p : KeyType → Bool) (at : List ℕ → Option KeyParts) (qs : List (List ℕ)) → some_listed p at qs ≡ true
+listed_key : (p : KeyType → Bool) (at : List ℕ → Option KeyParts) (qs : List (List ℕ))
+    → some_listed p at qs ≡ true
     → (q : List ℕ) × (k : KeyParts) × (at q ≡ Some k) × (listed qs q ≡ true) × (p k.keytype ≡ true)
 listed_key p at [] e = absurd (true≢false (sym e))
 listed_key p at (x ∷ xs) e = by (listed_key p at xs) (at x) refl
   where
     Found : Type 0
-    Found = (q : List ℕ) × (k : KeyParts) × (at q ≡ Some k) × (listed (x ∷ xs) q ≡ true) × (p k.keytype ≡ true)
+    Found = (q : List ℕ) × (k : KeyParts) × (at q ≡ Some k) × (listed (x ∷ xs) q ≡ true)
+        × (p k.keytype ≡ true)
 
     here : listed (x ∷ xs) x ≡ true
     here = ap (λ b. b || listed xs x) ((bytes_decides x x).1 refl)
@@ -180,32 +215,47 @@ listed_key p at (x ∷ xs) e = by (listed_key p at xs) (at x) refl
     wider true b f = refl
     wider false b f = f
 
-    later : (some_listed p at xs ≡ true → (q : List ℕ) × (k : KeyParts) × (at q ≡ Some k) × (listed xs q ≡ true) × (p k.keytype ≡ true)) → some_listed p at xs ≡ true
-        → (q : List ℕ) × (k : KeyParts) × (at q ≡ Some k) × (listed (x ∷ xs) q ≡ true) × (p k.keytype ≡ true)
+    later : (some_listed p at xs ≡ true → (q : List ℕ) × (k : KeyParts) × (at q ≡ Some k)
+        × (listed xs q ≡ true) × (p k.keytype ≡ true)) → some_listed p at xs ≡ true
+        → (q : List ℕ) × (k : KeyParts) × (at q ≡ Some k) × (listed (x ∷ xs) q ≡ true)
+            × (p k.keytype ≡ true)
     later rest f = let h = rest f in (h.0, h.1, h.2, wider (bytes_eq h.0 x) _ h.3, h.4)
 
-    by : (some_listed p at xs ≡ true → (q : List ℕ) × (k : KeyParts) × (at q ≡ Some k) × (listed xs q ≡ true) × (p k.keytype ≡ true)) → (o : Option KeyParts) → at x ≡ o
-        → (q : List ℕ) × (k : KeyParts) × (at q ≡ Some k) × (listed (x ∷ xs) q ≡ true) × (p k.keytype ≡ true)
-    by rest None a = later rest (sym (ap (λ o. option_map_or (λ (k : KeyParts). p k.keytype) o false || some_listed p at xs) a) ∙ e)
+    by : (some_listed p at xs ≡ true → (q : List ℕ) × (k : KeyParts) × (at q ≡ Some k)
+        × (listed xs q ≡ true) × (p k.keytype ≡ true)) → (o : Option KeyParts) → at x ≡ o
+        → (q : List ℕ) × (k : KeyParts) × (at q ≡ Some k) × (listed (x ∷ xs) q ≡ true)
+            × (p k.keytype ≡ true)
+    by rest None a = later rest (sym
+        (ap (λ o. option_map_or (λ (k : KeyParts). p k.keytype) o false || some_listed p at xs) a)
+        ∙ e)
     by rest (Some k) a = at_key (p k.keytype) refl
       where
-        at_key : (b : Bool) → p k.keytype ≡ b → (q : List ℕ) × (k : KeyParts) × (at q ≡ Some k) × (listed (x ∷ xs) q ≡ true) × (p k.keytype ≡ true)
+        at_key : (b : Bool) → p k.keytype ≡ b → (q : List ℕ) × (k : KeyParts) × (at q ≡ Some k)
+            × (listed (x ∷ xs) q ≡ true) × (p k.keytype ≡ true)
         at_key true t = (x, k, a, here, t)
-        at_key false t = later rest (sym (ap (λ o. option_map_or (λ (k : KeyParts). p k.keytype) o false || some_listed p at xs) a ∙ ap (λ b. b || some_listed p at xs) t) ∙ e)
+        at_key false t = later rest (sym
+            (ap (λ o. option_map_or (λ (k : KeyParts). p k.keytype) o false || some_listed p at xs)
+            a ∙ ap (λ b. b || some_listed p at xs) t) ∙ e)
 
 not_true : (b : Bool) → not b ≡ true → b ≡ false
 not_true true e = absurd (true≢false (sym e))
 not_true false e = refl
 
-serving_key : (w : RealWorld) (olds news : List (List ℕ)) (new kept : KeyType → Bool) → (some_listed new (get w.set.keys) news || some_kept kept w.set.keys olds) ≡ true
-    → (q : List ℕ) × (k : KeyParts) × (get w.set.keys q ≡ Some k) × (((listed news q ≡ true) × (new k.keytype ≡ true)) ⊎ ((listed olds q ≡ false) × (kept k.keytype ≡ true)))
+serving_key : (w : RealWorld) (olds news : List (List ℕ)) (new kept : KeyType → Bool)
+    → (some_listed new (get w.set.keys) news || some_kept kept w.set.keys olds) ≡ true
+    → (q : List ℕ) × (k : KeyParts) × (get w.set.keys q ≡ Some k)
+        × (((listed news q ≡ true) × (new k.keytype ≡ true))
+        ⊎ ((listed olds q ≡ false) × (kept k.keytype ≡ true)))
 serving_key w olds news new kept e = by (some_listed new (get w.set.keys) news) refl
   where
     by : (b : Bool) → some_listed new (get w.set.keys) news ≡ b
-        → (q : List ℕ) × (k : KeyParts) × (get w.set.keys q ≡ Some k) × (((listed news q ≡ true) × (new k.keytype ≡ true)) ⊎ ((listed olds q ≡ false) × (kept k.keytype ≡ true)))
+        → (q : List ℕ) × (k : KeyParts) × (get w.set.keys q ≡ Some k)
+            × (((listed news q ≡ true) × (new k.keytype ≡ true))
+            ⊎ ((listed olds q ≡ false) × (kept k.keytype ≡ true)))
     by true t = let h = listed_key new (get w.set.keys) news t in (h.0, h.1, h.2, inl (h.3, h.4))
     by false t =
-        let h = some_entry-found (λ q k. kept k.keytype && not (listed olds q)) w.set.keys (sym (ap (λ b. b || some_kept kept w.set.keys olds) t) ∙ e) in
+        let h = some_entry-found (λ q k. kept k.keytype && not (listed olds q)) w.set.keys
+            (sym (ap (λ b. b || some_kept kept w.set.keys olds) t) ∙ e) in
         let x = and_parts _ _ h.3 in
         (h.0, h.1, h.2, inr (not_true _ x.1, x.0))
 
@@ -213,7 +263,9 @@ no_want : (b : Bool) (e : Error) → (if b then None else Some e) ≡ None → b
 no_want true e h = refl
 no_want false e h = absurd (none-some e (sym h))
 
-suitable_of : (w : RealWorld) (r : RollType) (olds news : List (List ℕ)) → list_all (is_met w.set.keys olds news) (wants r) ≡ true → (sd : SideOf) → affects sd r ≡ true → HasSuitable sd r (seen w) olds news
+suitable_of : (w : RealWorld) (r : RollType) (olds news : List (List ℕ))
+    → list_all (is_met w.set.keys olds news) (wants r) ≡ true → (sd : SideOf) → affects sd r ≡ true
+    → HasSuitable sd r (seen w) olds news
 suitable_of w KskRoll olds news e Keys own = serving_key w olds news _ _ (and_parts _ _ e).0
 suitable_of w KskRoll olds news e Zone own = absurd (true≢false (sym own))
 suitable_of w KskDoubleDsRoll olds news e Keys own = serving_key w olds news _ _ (and_parts _ _ e).0
@@ -221,26 +273,36 @@ suitable_of w KskDoubleDsRoll olds news e Zone own = absurd (true≢false (sym o
 suitable_of w ZskRoll olds news e Keys own = absurd (true≢false (sym own))
 suitable_of w ZskRoll olds news e Zone own = serving_key w olds news _ _ (and_parts _ _ e).0
 suitable_of w ZskDoubleSignatureRoll olds news e Keys own = absurd (true≢false (sym own))
-suitable_of w ZskDoubleSignatureRoll olds news e Zone own = serving_key w olds news _ _ (and_parts _ _ e).0
+suitable_of w ZskDoubleSignatureRoll olds news e Zone own =
+    serving_key w olds news _ _ (and_parts _ _ e).0
 suitable_of w CskRoll olds news e Keys own = serving_key w olds news _ _ (and_parts _ _ e).0
-suitable_of w CskRoll olds news e Zone own = serving_key w olds news _ _ (and_parts _ _ (and_parts _ _ e).1).0
+suitable_of w CskRoll olds news e Zone own =
+    serving_key w olds news _ _ (and_parts _ _ (and_parts _ _ e).1).0
 suitable_of w AlgorithmRoll olds news e Keys own = serving_key w olds news _ _ (and_parts _ _ e).0
-suitable_of w AlgorithmRoll olds news e Zone own = serving_key w olds news _ _ (and_parts _ _ (and_parts _ _ e).1).0
+suitable_of w AlgorithmRoll olds news e Zone own =
+    serving_key w olds news _ _ (and_parts _ _ (and_parts _ _ e).1).0
 
-pub can_start : (w : RealWorld) (r : RollType) (olds news : List (List ℕ)) → start_refusal r w.set olds news ≡ None → CanStart r (seen w) olds news
+pub can_start : (w : RealWorld) (r : RollType) (olds news : List (List ℕ))
+    → start_refusal r w.set olds news ≡ None → CanStart r (seen w) olds news
 can_start w r olds news e =
-    let none = no_causes (conflict r w.set.rolls) (old_fault r (get w.set.keys) olds) (new_fault r (get w.set.keys) olds [] news)
+    let none = no_causes (conflict r w.set.rolls) (old_fault r (get w.set.keys) olds)
+        (new_fault r (get w.set.keys) olds [] news)
     (algorithm_fault r (get w.set.keys) olds news) (suitability_fault r w.set.keys olds news) e in
     record {
       alone = no_conflict r w.set.rolls none.0;
       old_is = old_all r (get w.set.keys) olds none.1;
-      new_is = λ q l. let h = new_all r (get w.set.keys) olds [] news none.2 q l in (h.0, h.1, h.2, fresh_blank h.0.keytype h.3, h.4);
-      suitable = suitable_of w r olds news (no_want (list_all (is_met w.set.keys olds news) (wants r)) Error.NoSuitableKeyPresent none.4);
+      new_is = λ q l. let h = new_all r (get w.set.keys) olds [] news none.2 q l in
+          (h.0, h.1, h.2, fresh_blank h.0.keytype h.3, h.4);
+      suitable = suitable_of w r olds news
+          (no_want (list_all (is_met w.set.keys olds news) (wants r)) Error.NoSuitableKeyPresent
+          none.4);
     }
 
 -- ---- a wait
 
-clear_wait : (a b : Bool) (left : KeyParts → Option ℕ) → (if a then Barred Error.WrongKeyState else (if b then Early left else Clear)) ≡ Clear → (a ≡ false) × (b ≡ false)
+clear_wait : (a b : Bool) (left : KeyParts → Option ℕ)
+    → (if a then Barred Error.WrongKeyState else (if b then Early left else Clear)) ≡ Clear
+    → (a ≡ false) × (b ≡ false)
 clear_wait true b left e = absurd (cc)
 clear_wait false true left e = absurd (cc)
 clear_wait false false left e = (refl, refl)
@@ -248,27 +310,37 @@ clear_wait false false left e = (refl, refl)
 no_time : (a b : ℕ) → nat_lt 0 (a - b) ≡ false → a ≤ b
 no_time a b e = omega (arith, ltb-false 0 (a - b) e)
 
-over_key : (o : Option ℕ) (ttl now : ℕ) → not (is_some (option_map (left_since ttl now) o)) ≡ false → nat_lt 0 (unwrap_or (option_map (left_since ttl now) o) 0) ≡ false
+over_key : (o : Option ℕ) (ttl now : ℕ) → not (is_some (option_map (left_since ttl now) o)) ≡ false
+    → nat_lt 0 (unwrap_or (option_map (left_since ttl now) o) 0) ≡ false
     → (m : ℕ) × (o ≡ Some m) × (ttl * 1_000_000_000 ≤ now - m)
 over_key None ttl now a b = absurd (true≢false a)
 over_key (Some m) ttl now a b = (m, refl, no_time (ttl * 1_000_000_000) (now - m) b)
 
-over : (r : RollType) (second : Bool) (ttl now : ℕ) (w : RealWorld) → wait_in_phase r (half second) (Some ttl) now w.set.keys ≡ Clear → IsOver r second (seen w) ttl now
+over : (r : RollType) (second : Bool) (ttl now : ℕ) (w : RealWorld)
+    → wait_in_phase r (half second) (Some ttl) now w.set.keys ≡ Clear
+    → IsOver r second (seen w) ttl now
 over r second ttl now w f q k at check =
     let left = time_left r (half second) ttl now in
     let h = clear_wait (lacks_stamp left w.set.keys) (is_early left w.set.keys) left f in
-    let is : left k ≡ option_map (left_since ttl now) (stamp_read r (half second) k) = ap (λ b. if b then option_map (left_since ttl now) (stamp_read r (half second) k) else Some 0) check in
+    let is : left k ≡ option_map (left_since ttl now) (stamp_read r (half second) k) =
+        ap (λ b. if b then option_map (left_since ttl now) (stamp_read r (half second) k) else Some
+        0) check in
     let o = over_key (stamp_read r (half second) k) ttl now
-    (sym (ap (λ o. not (is_some o)) is) ∙ some_key-none (λ k. not (is_some (left k))) w.set.keys q k h.0 at)
-    (sym (ap (λ o. nat_lt 0 (unwrap_or o 0)) is) ∙ some_key-none (λ k. nat_lt 0 (unwrap_or (left k) 0)) w.set.keys q k h.1 at) in
+    (sym (ap (λ o. not (is_some o)) is)
+        ∙ some_key-none (λ k. not (is_some (left k))) w.set.keys q k h.0 at)
+    (sym (ap (λ o. nat_lt 0 (unwrap_or o 0)) is)
+        ∙ some_key-none (λ k. nat_lt 0 (unwrap_or (left k) 0)) w.set.keys q k h.1 at) in
     (o.0, sym (reads-stamp r second k.timestamps) ∙ o.1, o.2)
 
-pub waits_in_phase : (r : RollType) (second : Bool) (now : ℕ) (w : RealWorld) → wait_verdict r (half second) now w.set ≡ Clear
+pub waits_in_phase : (r : RollType) (second : Bool) (now : ℕ) (w : RealWorld)
+    → wait_verdict r (half second) now w.set ≡ Clear
     → (ttl : ℕ) × ((seen w).roll r ≡ Some (waiting second ttl)) × IsOver r second (seen w) ttl now
 waits_in_phase r second now w e = by second (phase_of w.set.rolls r) refl e
   where
-    by : (second : Bool) (o : Option RollState) → phase_of w.set.rolls r ≡ o → wait_in_phase r (half second) (ttl_in (half second) o) now w.set.keys ≡ Clear
-        → (ttl : ℕ) × (phase_of w.set.rolls r ≡ Some (waiting second ttl)) × IsOver r second (seen w) ttl now
+    by : (second : Bool) (o : Option RollState) → phase_of w.set.rolls r ≡ o
+        → wait_in_phase r (half second) (ttl_in (half second) o) now w.set.keys ≡ Clear
+        → (ttl : ℕ) × (phase_of w.set.rolls r ≡ Some (waiting second ttl))
+            × IsOver r second (seen w) ttl now
     by false (Some (CacheExpire1 ttl)) p f = (ttl, p, over r false ttl now w f)
     by true (Some (CacheExpire2 ttl)) p f = (ttl, p, over r true ttl now w f)
     by false None p f = absurd (cc)

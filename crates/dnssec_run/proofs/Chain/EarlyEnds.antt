@@ -2,7 +2,8 @@
 use Rattle.dnssec_keyset.proofs.Tests.{both, both-at, each_key, each_key-at, each_roll}
 use Rattle.dnssec_keyset.proofs.Tests.{each_roll-at, ◌⇒◌, mp, alike, alike-same, and-both}
 use Rattle.dnssec_keyset.proofs.Flags.{SideOf, Keys, Zone, affects, fits, Quiet, has_role, is_idle}
-use Rattle.dnssec_keyset.proofs.Flags.{may_list, may_start, started, ended, tied, Stage, Early, Late}
+use Rattle.dnssec_keyset.proofs.Flags.{may_list, may_start, started, ended, tied, Stage, Early}
+use Rattle.dnssec_keyset.proofs.Flags.{Late}
 use Rattle.dnssec_keyset.proofs.Sides.{after_early_end-others}
 use Rattle.std.proofs.Common.{◌≡◌, Bool, true, false, not, ◌&&◌, refl, sym, ◌∙◌, ap}
 use Rattle.std.proofs.lemmas.Bool.{and_parts}
@@ -75,7 +76,8 @@ back-fits sd r o i k own may fit both_in =
     both-at (λ i. each_key a b (back_table sd r o i))
     (both-at (λ o. both (λ i. each_key a b (back_table sd r o i)))
     (each_roll-at (λ r. both (λ o. both (λ i. each_key a b (back_table sd r o i))))
-    (back_all sd a b) r) o) i) k) (and-both _ _ own (and-both _ _ (and-both _ _ may fit) both_in))) in
+    (back_all sd a b) r) o) i) k) (and-both _ _ own (and-both _ _ (and-both _ _ may fit) both_in)))
+        in
     (x.0, mp _ _ x.1)
 
 set_table : SideOf → SetKind → RollType → Bool → Bool → KeyType → Bool

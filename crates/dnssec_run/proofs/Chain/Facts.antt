@@ -1,4 +1,5 @@
--- More facts of the tables: the waits, the keys that a call leaves alone, the keys that a wait reads.
+-- More facts of the tables: the waits, the keys that a call leaves alone, the keys that a wait
+-- reads.
 use Rattle.dnssec_keyset.proofs.Tests.{each_key, four, each_key-at, ◌⇒◌, mp, and-both}
 use Rattle.dnssec_keyset.proofs.Flags.{SideOf, affects, fits, has_role, is_blank, is_idle, may_list}
 use Rattle.dnssec_keyset.proofs.Flags.{may_start, started, tolerates, waited1, waited2, Keys, Zone}
@@ -47,7 +48,8 @@ pub record Waited1 (sd : SideOf) (r : RollType) (k : KeyType) : Type 0 where
   pub fit : fits sd (Late r) (waited1 r k) ≡ true
   pub first : first_test sd r (waited1 r k) ≡ true → first_test sd r k ≡ true
   pub keep : switches sd r ≡ true → first_test sd r k ≡ true → first_test sd r (waited1 r k) ≡ true
-  pub second : switches sd r ≡ false → second_test sd r (waited1 r k) ≡ true → second_test sd r k ≡ true
+  pub second : switches sd r ≡ false → second_test sd r (waited1 r k) ≡ true → second_test sd r k
+      ≡ true
   pub inner : switches sd r ≡ true → second_test sd r k ≡ true → first_test sd r k ≡ true
   pub some : remains sd r k ≡ true → live sd (waited1 r k) ≡ true
 
@@ -55,13 +57,16 @@ or_second : (a b : Bool) → (a || b) ≡ true → a ≡ false → b ≡ true
 or_second true b e f = absurd (true≢false f)
 or_second false b e f = e
 
-pub wait1_facts : (sd : SideOf) (r : RollType) (k : KeyType) → affects sd r ≡ true → fits sd (Early r) k ≡ true → Waited1 sd r k
+pub wait1_facts : (sd : SideOf) (r : RollType) (k : KeyType) → affects sd r ≡ true
+    → fits sd (Early r) k ≡ true → Waited1 sd r k
 unfolding wait1_table column
 wait1_facts sd r k own fit =
     let e = mp _ _ (each_key-at (wait1_table sd r) (wait1_all sd r) k) (and-both _ _ own fit) in
     let x = and_parts _ _ e in
     let a = four _ _ _ _ x.0 in
-    record { fit = wait1-fits sd r k own fit; first = mp _ _ a.0; keep = λ w h. mp _ _ a.1 (and-both _ _ w h); second = λ w. mp _ _ (or_second _ _ a.2 w); inner = λ w h. mp _ _ a.3 (and-both _ _ w h); some = mp _ _ x.1 }
+    record { fit = wait1-fits sd r k own fit; first = mp _ _ a.0; keep =
+        λ w h. mp _ _ a.1 (and-both _ _ w h); second = λ w. mp _ _ (or_second _ _ a.2 w); inner =
+        λ w h. mp _ _ a.3 (and-both _ _ w h); some = mp _ _ x.1 }
 
 -- the second wait
 wait2_table : SideOf → RollType → KeyType → Bool
@@ -91,22 +96,28 @@ pub record Waited2 (sd : SideOf) (r : RollType) (k : KeyType) : Type 0 where
   pub second : second_test sd r (waited2 r k) ≡ true → second_test sd r k ≡ true
   pub used : live sd k ≡ true → in_use sd (waited2 r k) ≡ true
 
-pub wait2_facts : (sd : SideOf) (r : RollType) (k : KeyType) → affects sd r ≡ true → fits sd (Late r) k ≡ true → Waited2 sd r k
+pub wait2_facts : (sd : SideOf) (r : RollType) (k : KeyType) → affects sd r ≡ true
+    → fits sd (Late r) k ≡ true → Waited2 sd r k
 unfolding wait2_table column
 wait2_facts sd r k own fit =
-    let x = and_parts _ _ (mp _ _ (each_key-at (wait2_table sd r) (wait2_all sd r) k) (and-both _ _ own fit)) in
+    let x = and_parts _ _ (mp _ _ (each_key-at (wait2_table sd r) (wait2_all sd r) k)
+        (and-both _ _ own fit)) in
     let y = and_parts _ _ x.0 in
-    record { fit = wait2-fits sd r k own fit; first = mp _ _ y.0; second = mp _ _ y.1; used = mp _ _ x.1 }
+    record { fit = wait2-fits sd r k own fit; first = mp _ _ y.0; second = mp _ _ y.1; used =
+        mp _ _ x.1 }
 
--- a key that a roll may not list is left alone by its calls ----------------------------------
+-- ---- a key that a roll may not list is left alone by its calls
 
 unlisted : (r : RollType) (k : KeyType) → started r false false k ≡ k
 unlisted r k = refl
 
-pub untouched_start : (r : RollType) (o i : Bool) (k : KeyType) → may_start r o i k ≡ true → may_list r k ≡ false → started r o i k ≡ k
+pub untouched_start : (r : RollType) (o i : Bool) (k : KeyType) → may_start r o i k ≡ true
+    → may_list r k ≡ false → started r o i k ≡ k
 untouched_start r false false k may e = unlisted r k
 untouched_start r true i k may e = absurd (true≢false (sym (and_parts (may_list r k) _ may).0 ∙ e))
-untouched_start r false true k may e = absurd (true≢false (sym (and_parts (may_list r k) (is_blank k) (and_parts (may_list r k && is_blank k) _ may).0).0 ∙ e))
+untouched_start r false true k may e =
+    absurd (true≢false (sym (and_parts (may_list r k) (is_blank k)
+    (and_parts (may_list r k && is_blank k) _ may).0).0 ∙ e))
 
 pub untouched_wait1 : (r : RollType) (k : KeyType) → may_list r k ≡ false → waited1 r k ≡ k
 unfolding column
@@ -165,7 +176,8 @@ untouched_wait2 AlgorithmRoll (Include s) e = refl
 written_table : Stamp → RollType → Bool → KeyType → Bool
 written_table s r second k = written s r second k ⇒ may_list r k
 
-written_all : (s : Stamp) (r : RollType) (second : Bool) (a b : Bool) → each_key a b (written_table s r second) ≡ true
+written_all : (s : Stamp) (r : RollType) (second : Bool) (a b : Bool)
+    → each_key a b (written_table s r second) ≡ true
 unfolding written_table column
 written_all Visible KskRoll true a b = refl
 written_all Visible KskRoll false a b = refl
@@ -204,9 +216,11 @@ written_all RrsigVisible CskRoll false a b = refl
 written_all RrsigVisible AlgorithmRoll true a b = refl
 written_all RrsigVisible AlgorithmRoll false a b = refl
 
-pub written-touches : (s : Stamp) (r : RollType) (second : Bool) (k : KeyType) → written s r second k ≡ true → may_list r k ≡ true
+pub written-touches : (s : Stamp) (r : RollType) (second : Bool) (k : KeyType)
+    → written s r second k ≡ true → may_list r k ≡ true
 unfolding written_table column
-written-touches s r second k = mp _ _ (each_key-at (written_table s r second) (written_all s r second) k)
+written-touches s r second k = mp _ _
+    (each_key-at (written_table s r second) (written_all s r second) k)
 
 -- which keys a call of another roll leaves alone
 apart_table : SideOf → RollType → KeyType → Bool
@@ -231,9 +245,11 @@ not-false : (b : Bool) → not b ≡ true → b ≡ false
 not-false true e = absurd (true≢false (sym e))
 not-false false e = refl
 
-pub apart : (sd : SideOf) (r : RollType) (k : KeyType) → affects sd r ≡ false → has_role sd k ≡ true → may_list r k ≡ false
+pub apart : (sd : SideOf) (r : RollType) (k : KeyType) → affects sd r ≡ false → has_role sd k ≡ true
+    → may_list r k ≡ false
 unfolding apart_table column
-apart sd r k other role = not-false _ (mp _ _ (each_key-at (apart_table sd r) (apart_all sd r) k) (and-both _ _ (ap not other) role))
+apart sd r k other role = not-false _
+    (mp _ _ (each_key-at (apart_table sd r) (apart_all sd r) k) (and-both _ _ (ap not other) role))
 
 other_table : RollType → RollType → KeyType → Bool
 other_table r q k = (tolerates r q && may_list q k) ⇒ not (may_list r k)
@@ -277,11 +293,13 @@ other_all AlgorithmRoll ZskDoubleSignatureRoll a b = refl
 other_all AlgorithmRoll CskRoll a b = refl
 other_all AlgorithmRoll AlgorithmRoll a b = refl
 
-pub other : (r q : RollType) (k : KeyType) → tolerates r q ≡ true → may_list q k ≡ true → may_list r k ≡ false
+pub other : (r q : RollType) (k : KeyType) → tolerates r q ≡ true → may_list q k ≡ true
+    → may_list r k ≡ false
 unfolding other_table column
-other r q k both_in role = not-false _ (mp _ _ (each_key-at (other_table r q) (other_all r q) k) (and-both _ _ both_in role))
+other r q k both_in role = not-false _
+    (mp _ _ (each_key-at (other_table r q) (other_all r q) k) (and-both _ _ both_in role))
 
--- what matters to a side -----------------------------------------------------------------------
+-- ---- what matters to a side
 
 abbrev pub Seen : SideOf → (KeyType → Bool) → Type 0
 Seen sd p = (k : KeyType) → p k ≡ true → (has_role sd k ≡ true) × (is_idle k ≡ false)
@@ -289,9 +307,11 @@ Seen sd p = (k : KeyType) → p k ≡ true → (has_role sd k ≡ true) × (is_i
 seen_table : SideOf → (KeyType → Bool) → KeyType → Bool
 seen_table sd p k = p k ⇒ (has_role sd k && not (is_idle k))
 
-seen_by : (sd : SideOf) (p : KeyType → Bool) → ((a b : Bool) → each_key a b (seen_table sd p) ≡ true) → Seen sd p
+seen_by : (sd : SideOf) (p : KeyType → Bool)
+    → ((a b : Bool) → each_key a b (seen_table sd p) ≡ true) → Seen sd p
 unfolding seen_table column
-seen_by sd p e k h = let x = and_parts _ _ (mp _ _ (each_key-at (seen_table sd p) e k) h) in (x.0, not-false _ x.1)
+seen_by sd p e k h = let x = and_parts _ _ (mp _ _ (each_key-at (seen_table sd p) e k) h) in
+    (x.0, not-false _ x.1)
 
 pub test-seen : (sd : SideOf) (kind : SetKind) → Seen sd (test_of sd kind)
 unfolding seen_table column
@@ -317,17 +337,19 @@ unfolding seen_table column
 remains-seen Keys KskRoll = seen_by Keys (remains Keys KskRoll) (λ a b. refl)
 remains-seen Keys KskDoubleDsRoll = seen_by Keys (remains Keys KskDoubleDsRoll) (λ a b. refl)
 remains-seen Keys ZskRoll = seen_by Keys (remains Keys ZskRoll) (λ a b. refl)
-remains-seen Keys ZskDoubleSignatureRoll = seen_by Keys (remains Keys ZskDoubleSignatureRoll) (λ a b. refl)
+remains-seen Keys ZskDoubleSignatureRoll =
+    seen_by Keys (remains Keys ZskDoubleSignatureRoll) (λ a b. refl)
 remains-seen Keys CskRoll = seen_by Keys (remains Keys CskRoll) (λ a b. refl)
 remains-seen Keys AlgorithmRoll = seen_by Keys (remains Keys AlgorithmRoll) (λ a b. refl)
 remains-seen Zone KskRoll = seen_by Zone (remains Zone KskRoll) (λ a b. refl)
 remains-seen Zone KskDoubleDsRoll = seen_by Zone (remains Zone KskDoubleDsRoll) (λ a b. refl)
 remains-seen Zone ZskRoll = seen_by Zone (remains Zone ZskRoll) (λ a b. refl)
-remains-seen Zone ZskDoubleSignatureRoll = seen_by Zone (remains Zone ZskDoubleSignatureRoll) (λ a b. refl)
+remains-seen Zone ZskDoubleSignatureRoll =
+    seen_by Zone (remains Zone ZskDoubleSignatureRoll) (λ a b. refl)
 remains-seen Zone CskRoll = seen_by Zone (remains Zone CskRoll) (λ a b. refl)
 remains-seen Zone AlgorithmRoll = seen_by Zone (remains Zone AlgorithmRoll) (λ a b. refl)
 
--- the witness of a phase: a key that the coming wait reads, with the stamp of its report ----------
+-- ---- the witness of a phase: a key that the coming wait reads, with the stamp of its report
 
 abbrev pub timed : RollType → Bool → Bool
 timed ZskDoubleSignatureRoll true = false
@@ -352,7 +374,9 @@ stays AlgorithmRoll true (Csk s t) = enters_now s && signs_now s
 stays _ _ _ = false
 
 stays_table : RollType → Bool → KeyType → Bool
-stays_table r second k = stays r second k ⇒ (may_list r k && not (is_idle k) && (timed r second ⇒ checked r second k) && (timed r second ⇒ written (read r second) r second k))
+stays_table r second k = stays r second k ⇒
+    (may_list r k && not (is_idle k) && (timed r second ⇒ checked r second k)
+    && (timed r second ⇒ written (read r second) r second k))
 
 stays_all : (r : RollType) (second : Bool) (a b : Bool) → each_key a b (stays_table r second) ≡ true
 unfolding stays_table column
@@ -375,9 +399,11 @@ pub record Stays (r : RollType) (second : Bool) (k : KeyType) : Type 0 where
   pub check : timed r second ≡ true → checked r second k ≡ true
   pub write : timed r second ≡ true → written (read r second) r second k ≡ true
 
-pub stays_facts : (r : RollType) (second : Bool) (k : KeyType) → stays r second k ≡ true → Stays r second k
+pub stays_facts : (r : RollType) (second : Bool) (k : KeyType) → stays r second k ≡ true
+    → Stays r second k
 unfolding stays_table column
-stays_facts r second k h = let a = four _ _ _ _ (mp _ _ (each_key-at (stays_table r second) (stays_all r second) k) h) in
+stays_facts r second k h = let a =
+    four _ _ _ _ (mp _ _ (each_key-at (stays_table r second) (stays_all r second) k) h) in
     record { touched = a.0; busy = not-false _ a.1; check = mp _ _ a.2; write = mp _ _ a.3 }
 
 -- the side whose suitable key the waits of a roll read
@@ -396,7 +422,9 @@ timer-affects CskRoll = refl
 timer-affects AlgorithmRoll = refl
 
 stays_start_table : RollType → Bool → Bool → KeyType → Bool
-stays_start_table r o i k = (may_start r o i k && fits (timer r) Quiet k && ((i && serves_new (timer r) r k) || (not o && serves_kept (timer r) r k))) ⇒ stays r false (started r o i k)
+stays_start_table r o i k = (may_start r o i k && fits (timer r) Quiet k
+    && ((i && serves_new (timer r) r k) || (not o && serves_kept (timer r) r k))) ⇒ stays r false
+    (started r o i k)
 
 stays_start_all : (r : RollType) (o i a b : Bool) → each_key a b (stays_start_table r o i) ≡ true
 unfolding stays_start_table column
@@ -425,9 +453,14 @@ stays_start_all AlgorithmRoll true false a b = refl
 stays_start_all AlgorithmRoll false true a b = refl
 stays_start_all AlgorithmRoll false false a b = refl
 
-pub stays_start : (r : RollType) (o i : Bool) (k : KeyType) → may_start r o i k ≡ true → fits (timer r) Quiet k ≡ true → ((i && serves_new (timer r) r k) || (not o && serves_kept (timer r) r k)) ≡ true → stays r false (started r o i k) ≡ true
+pub stays_start : (r : RollType) (o i : Bool) (k : KeyType) → may_start r o i k ≡ true
+    → fits (timer r) Quiet k ≡ true →
+    ((i && serves_new (timer r) r k) || (not o && serves_kept (timer r) r k)) ≡ true
+    → stays r false (started r o i k) ≡ true
 unfolding stays_start_table column
-stays_start r o i k may fit some = mp _ _ (each_key-at (stays_start_table r o i) (stays_start_all r o i) k) (and-both _ _ (and-both _ _ may fit) some)
+stays_start r o i k may fit some =
+    mp _ _ (each_key-at (stays_start_table r o i) (stays_start_all r o i) k)
+    (and-both _ _ (and-both _ _ may fit) some)
 
 stays_wait_table : RollType → KeyType → Bool
 stays_wait_table r k = (fits (timer r) (Early r) k && stays r false k) ⇒ stays r true (waited1 r k)
@@ -441,6 +474,8 @@ stays_wait_all ZskDoubleSignatureRoll a b = refl
 stays_wait_all CskRoll a b = refl
 stays_wait_all AlgorithmRoll a b = refl
 
-pub stays_wait : (r : RollType) (k : KeyType) → fits (timer r) (Early r) k ≡ true → stays r false k ≡ true → stays r true (waited1 r k) ≡ true
+pub stays_wait : (r : RollType) (k : KeyType) → fits (timer r) (Early r) k ≡ true → stays r false k
+    ≡ true → stays r true (waited1 r k) ≡ true
 unfolding stays_wait_table column
-stays_wait r k fit some = mp _ _ (each_key-at (stays_wait_table r) (stays_wait_all r) k) (and-both _ _ fit some)
+stays_wait r k fit some = mp _ _ (each_key-at (stays_wait_table r) (stays_wait_all r) k)
+    (and-both _ _ fit some)

@@ -22,7 +22,8 @@ switches Zone ZskDoubleSignatureRoll = false
 switches Zone AlgorithmRoll = false
 switches _ _ = true
 
--- the two sets of a side: membership in the DNSKEY set (on the key side: signing it too), and in the other set
+-- the two sets of a side: membership in the DNSKEY set (on the key side: signing it too), and in
+-- the other set
 abbrev pub in_keys : SideOf → KeyType → Bool
 in_keys Keys k = in_dnskey k && signs_keys k
 in_keys Zone (Zsk s) = s.present
@@ -33,7 +34,8 @@ abbrev pub in_other : SideOf → KeyType → Bool
 in_other Keys k = in_ds k
 in_other Zone k = signs_zone k
 
--- the kinds of the sets of a roll on a side: the first grows at its start, the second changes at its first wait
+-- the kinds of the sets of a roll on a side: the first grows at its start, the second changes at
+-- its first wait
 abbrev pub first_kind : SideOf → RollType → SetKind
 first_kind Keys KskDoubleDsRoll = Ds
 first_kind _ _ = Dnskey
@@ -79,30 +81,39 @@ start_table : SideOf → RollType → Bool → Bool → KeyType → Bool
 start_table sd r o i k = (affects sd r && (may_start r o i k && fits sd Quiet k)) ⇒
     ((second_test sd r k ⇒ first_test sd r k)
     && (in_use sd k ⇒ in_use sd (started r o i k))
-    && ((switches sd r && second_test sd r (started r o i k)) ⇒ (second_test sd r k && first_test sd r (started r o i k)))
-    && (((i && serves_new sd r k) || (not o && serves_kept sd r k)) ⇒ remains sd r (started r o i k)))
+    && ((switches sd r && second_test sd r (started r o i k)) ⇒
+        (second_test sd r k && first_test sd r (started r o i k)))
+    && (((i && serves_new sd r k) || (not o && serves_kept sd r k)) ⇒ remains sd r
+        (started r o i k)))
 
-start_all : (sd : SideOf) (a b : Bool) → each_roll (λ r. both (λ o. both (λ i. each_key a b (start_table sd r o i)))) ≡ true
+start_all : (sd : SideOf) (a b : Bool)
+    → each_roll (λ r. both (λ o. both (λ i. each_key a b (start_table sd r o i)))) ≡ true
 unfolding start_table column
 start_all Keys a b = refl
 start_all Zone a b = refl
 
-start_holds : (sd : SideOf) (r : RollType) (o i : Bool) (k : KeyType) → start_table sd r o i k ≡ true
+start_holds : (sd : SideOf) (r : RollType) (o i : Bool) (k : KeyType) → start_table sd r o i k
+    ≡ true
 start_holds sd r o i = each_key-at (start_table sd r o i) (λ a b.
     both-at (λ i. each_key a b (start_table sd r o i))
     (both-at (λ o. both (λ i. each_key a b (start_table sd r o i)))
-    (each_roll-at (λ r. both (λ o. both (λ i. each_key a b (start_table sd r o i)))) (start_all sd a b) r) o) i)
+    (each_roll-at (λ r. both (λ o. both (λ i. each_key a b (start_table sd r o i))))
+        (start_all sd a b) r) o) i)
 
 pub record Started (sd : SideOf) (r : RollType) (o i : Bool) (k : KeyType) : Type 0 where
   pub fit : fits sd (Early r) (started r o i k) ≡ true
   pub inner : second_test sd r k ≡ true → first_test sd r k ≡ true
   pub used : in_use sd k ≡ true → in_use sd (started r o i k) ≡ true
-  pub second : switches sd r ≡ true → second_test sd r (started r o i k) ≡ true → (second_test sd r k ≡ true) × (first_test sd r (started r o i k) ≡ true)
-  pub some : ((i && serves_new sd r k) || (not o && serves_kept sd r k)) ≡ true → remains sd r (started r o i k) ≡ true
+  pub second : switches sd r ≡ true → second_test sd r (started r o i k) ≡ true
+      → (second_test sd r k ≡ true) × (first_test sd r (started r o i k) ≡ true)
+  pub some : ((i && serves_new sd r k) || (not o && serves_kept sd r k)) ≡ true
+      → remains sd r (started r o i k) ≡ true
 
-pub start_facts : (sd : SideOf) (r : RollType) (o i : Bool) (k : KeyType) → affects sd r ≡ true → may_start r o i k ≡ true → fits sd Quiet k ≡ true → Started sd r o i k
+pub start_facts : (sd : SideOf) (r : RollType) (o i : Bool) (k : KeyType) → affects sd r ≡ true
+    → may_start r o i k ≡ true → fits sd Quiet k ≡ true → Started sd r o i k
 unfolding start_table column
 start_facts sd r o i k own may fit =
     let e = mp _ _ (start_holds sd r o i k) (and-both _ _ own (and-both _ _ may fit)) in
     let a = four _ _ _ _ e in
-    record { fit = start-fits sd r o i k own may fit; inner = mp _ _ a.0; used = mp _ _ a.1; second = λ w h. and_parts _ _ (mp _ _ a.2 (and-both _ _ w h)); some = mp _ _ a.3 }
+    record { fit = start-fits sd r o i k own may fit; inner = mp _ _ a.0; used = mp _ _ a.1;
+        second = λ w h. and_parts _ _ (mp _ _ a.2 (and-both _ _ w h)); some = mp _ _ a.3 }

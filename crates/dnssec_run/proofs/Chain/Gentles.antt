@@ -39,27 +39,31 @@ use Rattle.dnssec_run.proofs.Chain.Returns.{KeepsLists, early_end_key}
 use Rattle.dnssec_run.proofs.Chain.Invariant.{Gentle}
 use Rattle.dnssec_run.proofs.Chain.Steps.{Mapped}
 
--- kinds stay ------------------------------------------------------------------------------------
+-- ---- kinds stay
 
 role_start_table : SideOf → RollType → Bool → Bool → KeyType → Bool
 role_start_table sd r o i k = alike (has_role sd (started r o i k)) (has_role sd k)
 
-role_start_all : (sd : SideOf) (a b : Bool) → each_roll (λ r. both (λ o. both (λ i. each_key a b (role_start_table sd r o i)))) ≡ true
+role_start_all : (sd : SideOf) (a b : Bool)
+    → each_roll (λ r. both (λ o. both (λ i. each_key a b (role_start_table sd r o i)))) ≡ true
 unfolding role_start_table column
 role_start_all Keys a b = refl
 role_start_all Zone a b = refl
 
-pub role_start : (sd : SideOf) (r : RollType) (o i : Bool) (k : KeyType) → has_role sd (started r o i k) ≡ has_role sd k
+pub role_start : (sd : SideOf) (r : RollType) (o i : Bool) (k : KeyType)
+    → has_role sd (started r o i k) ≡ has_role sd k
 unfolding role_start_table
 role_start sd r o i k = alike-same _ _ (each_key-at (role_start_table sd r o i) (λ a b.
     both-at (λ i. each_key a b (role_start_table sd r o i))
     (both-at (λ o. both (λ i. each_key a b (role_start_table sd r o i)))
-    (each_roll-at (λ r. both (λ o. both (λ i. each_key a b (role_start_table sd r o i)))) (role_start_all sd a b) r) o) i) k)
+    (each_roll-at (λ r. both (λ o. both (λ i. each_key a b (role_start_table sd r o i))))
+        (role_start_all sd a b) r) o) i) k)
 
 role_waited1_table : SideOf → RollType → KeyType → Bool
 role_waited1_table sd r k = alike (has_role sd (waited1 r k)) (has_role sd k)
 
-role_waited1_all : (sd : SideOf) (r : RollType) (a b : Bool) → each_key a b (role_waited1_table sd r) ≡ true
+role_waited1_all : (sd : SideOf) (r : RollType) (a b : Bool)
+    → each_key a b (role_waited1_table sd r) ≡ true
 unfolding role_waited1_table column
 role_waited1_all Keys KskRoll a b = refl
 role_waited1_all Keys KskDoubleDsRoll a b = refl
@@ -74,9 +78,11 @@ role_waited1_all Zone ZskDoubleSignatureRoll a b = refl
 role_waited1_all Zone CskRoll a b = refl
 role_waited1_all Zone AlgorithmRoll a b = refl
 
-pub role_waited1 : (sd : SideOf) (r : RollType) (k : KeyType) → has_role sd (waited1 r k) ≡ has_role sd k
+pub role_waited1 : (sd : SideOf) (r : RollType) (k : KeyType) → has_role sd (waited1 r k)
+    ≡ has_role sd k
 unfolding role_waited1_table column
-role_waited1 sd r k = alike-same _ _ (each_key-at (role_waited1_table sd r) (role_waited1_all sd r) k)
+role_waited1 sd r k = alike-same _ _
+    (each_key-at (role_waited1_table sd r) (role_waited1_all sd r) k)
 
 list_waited1_table : RollType → RollType → KeyType → Bool
 list_waited1_table q r k = alike (may_list q (waited1 r k)) (may_list q k)
@@ -127,7 +133,8 @@ list_waited1 q r k = alike-same _ _ (each_key-at (list_waited1_table q r) (list_
 role_waited2_table : SideOf → RollType → KeyType → Bool
 role_waited2_table sd r k = alike (has_role sd (waited2 r k)) (has_role sd k)
 
-role_waited2_all : (sd : SideOf) (r : RollType) (a b : Bool) → each_key a b (role_waited2_table sd r) ≡ true
+role_waited2_all : (sd : SideOf) (r : RollType) (a b : Bool)
+    → each_key a b (role_waited2_table sd r) ≡ true
 unfolding role_waited2_table column
 role_waited2_all Keys KskRoll a b = refl
 role_waited2_all Keys KskDoubleDsRoll a b = refl
@@ -142,9 +149,11 @@ role_waited2_all Zone ZskDoubleSignatureRoll a b = refl
 role_waited2_all Zone CskRoll a b = refl
 role_waited2_all Zone AlgorithmRoll a b = refl
 
-pub role_waited2 : (sd : SideOf) (r : RollType) (k : KeyType) → has_role sd (waited2 r k) ≡ has_role sd k
+pub role_waited2 : (sd : SideOf) (r : RollType) (k : KeyType) → has_role sd (waited2 r k)
+    ≡ has_role sd k
 unfolding role_waited2_table column
-role_waited2 sd r k = alike-same _ _ (each_key-at (role_waited2_table sd r) (role_waited2_all sd r) k)
+role_waited2 sd r k = alike-same _ _
+    (each_key-at (role_waited2_table sd r) (role_waited2_all sd r) k)
 
 list_waited2_table : RollType → RollType → KeyType → Bool
 list_waited2_table q r k = alike (may_list q (waited2 r k)) (may_list q k)
@@ -195,32 +204,44 @@ list_waited2 q r k = alike-same _ _ (each_key-at (list_waited2_table q r) (list_
 list_start_table : RollType → RollType → Bool → Bool → KeyType → Bool
 list_start_table q r o i k = alike (may_list q (started r o i k)) (may_list q k)
 
-list_start_all : (a b : Bool) → each_roll (λ q. each_roll (λ r. both (λ o. both (λ i. each_key a b (list_start_table q r o i))))) ≡ true
+list_start_all : (a b : Bool) → each_roll
+    (λ q. each_roll (λ r. both (λ o. both (λ i. each_key a b (list_start_table q r o i))))) ≡ true
 unfolding list_start_table column
 list_start_all a b = refl
 
-pub list_start : (q r : RollType) (o i : Bool) (k : KeyType) → may_list q (started r o i k) ≡ may_list q k
+pub list_start : (q r : RollType) (o i : Bool) (k : KeyType) → may_list q (started r o i k)
+    ≡ may_list q k
 unfolding list_start_table
 list_start q r o i k = alike-same _ _ (each_key-at (list_start_table q r o i) (λ a b.
     both-at (λ i. each_key a b (list_start_table q r o i))
     (both-at (λ o. both (λ i. each_key a b (list_start_table q r o i)))
     (each_roll-at (λ r. both (λ o. both (λ i. each_key a b (list_start_table q r o i))))
-    (each_roll-at (λ q. each_roll (λ r. both (λ o. both (λ i. each_key a b (list_start_table q r o i))))) (list_start_all a b) q) r) o) i) k)
+    (each_roll-at (λ q. each_roll (λ r. both
+        (λ o. both (λ i. each_key a b (list_start_table q r o i))))) (list_start_all a b) q) r) o)
+        i) k)
 
--- a key that is mapped to one that the side sees alike ---------------------------------------------
+-- ---- a key that is mapped to one that the side sees alike
 
 abbrev pub LeavesTo : SideOf → Key → KeyType → Type 0
-LeavesTo sd k t = (has_role sd k.keytype ≡ true → t ≡ k.keytype) × (has_role sd t ≡ has_role sd k.keytype)
+LeavesTo sd k t = (has_role sd k.keytype ≡ true → t ≡ k.keytype)
+    × (has_role sd t ≡ has_role sd k.keytype)
 
-fore_some : (sd : SideOf) (f : Key → Key) (o : Option Key) → ((k : Key) → o ≡ Some k → LeavesTo sd k (f k).keytype) → (p : KeyType → Bool) → Seen sd p → if_some p (option_map f o) ≡ true → if_some p o ≡ true
+fore_some : (sd : SideOf) (f : Key → Key) (o : Option Key)
+    → ((k : Key) → o ≡ Some k → LeavesTo sd k (f k).keytype) → (p : KeyType → Bool) → Seen sd p
+    → if_some p (option_map f o) ≡ true → if_some p o ≡ true
 fore_some sd f None l p seen e = e
-fore_some sd f (Some k) l p seen e = let x = l k refl in ap p (sym (x.0 (sym x.1 ∙ (seen (f k).keytype e).0))) ∙ e
+fore_some sd f (Some k) l p seen e = let x = l k refl in
+    ap p (sym (x.0 (sym x.1 ∙ (seen (f k).keytype e).0))) ∙ e
 
-back_some : (sd : SideOf) (f : Key → Key) (o : Option Key) → ((k : Key) → o ≡ Some k → LeavesTo sd k (f k).keytype) → (p : KeyType → Bool) → Seen sd p → if_some p o ≡ true → if_some p (option_map f o) ≡ true
+back_some : (sd : SideOf) (f : Key → Key) (o : Option Key)
+    → ((k : Key) → o ≡ Some k → LeavesTo sd k (f k).keytype) → (p : KeyType → Bool) → Seen sd p
+    → if_some p o ≡ true → if_some p (option_map f o) ≡ true
 back_some sd f None l p seen e = e
 back_some sd f (Some k) l p seen e = let x = l k refl in ap p (x.0 (seen k.keytype e).0) ∙ e
 
-flags_some : (sd : SideOf) (st : Stage) (f : Key → Key) (o : Option Key) → ((k : Key) → o ≡ Some k → LeavesTo sd k (f k).keytype) → all_ok (fits sd st) o ≡ true → all_ok (fits sd st) (option_map f o) ≡ true
+flags_some : (sd : SideOf) (st : Stage) (f : Key → Key) (o : Option Key)
+    → ((k : Key) → o ≡ Some k → LeavesTo sd k (f k).keytype) → all_ok (fits sd st) o ≡ true
+    → all_ok (fits sd st) (option_map f o) ≡ true
 flags_some sd st f None l e = refl
 flags_some sd st f (Some k) l e = by (has_role sd k.keytype) refl
   where
@@ -228,14 +249,17 @@ flags_some sd st f (Some k) l e = by (has_role sd k.keytype) refl
     by true t = ap (fits sd st) ((l k refl).0 t) ∙ e
     by false t = unseen-fits sd st (f k).keytype ((l k refl).1 ∙ t)
 
-pub distinct : (sd : SideOf) (r q : RollType) → affects sd r ≡ false → affects sd q ≡ true → same_roll r q ≡ false
+pub distinct : (sd : SideOf) (r q : RollType) → affects sd r ≡ false → affects sd q ≡ true
+    → same_roll r q ≡ false
 distinct sd r q outside inside = by (same_roll r q) refl
   where
     by : (b : Bool) → same_roll r q ≡ b → b ≡ false
     by true e = absurd (true≢false (sym inside ∙ ap (affects sd) (sym (same-true r q e)) ∙ outside))
     by false e = refl
 
-phase_on : (st : Stage) (r : RollType) (second : Bool) (ttl : ℕ) → stage_fits st r (Some (spreading second)) ≡ true → stage_fits st r (Some (waiting second ttl)) ≡ true
+phase_on : (st : Stage) (r : RollType) (second : Bool) (ttl : ℕ)
+    → stage_fits st r (Some (spreading second)) ≡ true → stage_fits st r (Some (waiting second ttl))
+    ≡ true
 phase_on Quiet r false ttl e = e
 phase_on Quiet r true ttl e = e
 phase_on (Early q) r false ttl e = e
@@ -243,69 +267,107 @@ phase_on (Early q) r true ttl e = e
 phase_on (Late q) r false ttl e = e
 phase_on (Late q) r true ttl e = e
 
-done_on : (st : Stage) (r : RollType) → stage_fits st r (Some Done) ≡ true → stage_fits st r None ≡ true
+done_on : (st : Stage) (r : RollType) → stage_fits st r (Some Done) ≡ true → stage_fits st r None
+    ≡ true
 done_on Quiet r e = refl
 done_on (Early q) r e = absurd (true≢false (sym e))
 done_on (Late q) r e = absurd (true≢false (sym e))
 
 module _ (tale : Tale) (n : ℕ) (sd : SideOf) (st : Stage)
-    (was_rolls : (q : RollType) → affects sd q ≡ true → stage_fits st q ((world_at tale n).roll q) ≡ true)
+    (was_rolls : (q : RollType) → affects sd q ≡ true → stage_fits st q ((world_at tale n).roll q)
+        ≡ true)
     (was_flags : (id : Id) → all_ok (fits sd st) (found (world_at tale n) id) ≡ true)
     (dead : NoDs tale.es n → NoDs tale.es (suc n)) (lists : KeepsLists tale sd n) where
   gentle_map : (f : List ℕ → Key → Key) (r : RollType) (o : Option RollState) → Mapped tale n f r o
-      → ((id : Id) (k : Key) → found (world_at tale n) id ≡ Some k → LeavesTo sd k (f id.0 k).keytype)
+      → ((id : Id) (k : Key) → found (world_at tale n) id ≡ Some k
+          → LeavesTo sd k (f id.0 k).keytype)
       → ((q : RollType) → affects sd q ≡ true → same_roll r q ≡ true → stage_fits st q o ≡ true)
-      → ((q : RollType) → affects sd q ≡ true → is_step q (position_at tale.es (suc n)).mark ≡ false) → Gentle tale sd st n
+      → ((q : RollType) → affects sd q ≡ true → is_step q (position_at tale.es (suc n)).mark
+          ≡ false) → Gentle tale sd st n
   gentle_map f r o m leaves put no_step = record {
-    rolls = λ q own. ap (stage_fits st q) (m.rolls q) ∙ put-fits st (world_at tale n).roll r o q (put q own) (λ e. was_rolls q own);
-    fore = λ p seen id e. fore_some sd (f id.0) (found (world_at tale n) id) (leaves id) p seen (sym (ap (if_some p) (m.founds id)) ∙ e);
-    back = λ p seen id e. ap (if_some p) (m.founds id) ∙ back_some sd (f id.0) (found (world_at tale n) id) (leaves id) p seen e;
-    flags = λ id. ap (all_ok (fits sd st)) (m.founds id) ∙ flags_some sd st (f id.0) (found (world_at tale n) id) (leaves id) (was_flags id);
+    rolls = λ q own. ap (stage_fits st q) (m.rolls q)
+        ∙ put-fits st (world_at tale n).roll r o q (put q own) (λ e. was_rolls q own);
+    fore = λ p seen id e. fore_some sd (f id.0) (found (world_at tale n) id) (leaves id) p seen
+        (sym (ap (if_some p) (m.founds id)) ∙ e);
+    back = λ p seen id e. ap (if_some p) (m.founds id)
+        ∙ back_some sd (f id.0) (found (world_at tale n) id) (leaves id) p seen e;
+    flags = λ id. ap (all_ok (fits sd st)) (m.founds id)
+        ∙ flags_some sd st (f id.0) (found (world_at tale n) id) (leaves id) (was_flags id);
     no_step = no_step;
     dead = dead;
     lists = lists;
   }
 
   -- a start or a wait of a roll of the other side
-  not_this : (r : RollType) → affects sd r ≡ false → (position_at tale.es (suc n)).mark ≡ Step r → (q : RollType) → affects sd q ≡ true → is_step q (position_at tale.es (suc n)).mark ≡ false
+  not_this : (r : RollType) → affects sd r ≡ false → (position_at tale.es (suc n)).mark ≡ Step r
+      → (q : RollType) → affects sd q ≡ true → is_step q (position_at tale.es (suc n)).mark ≡ false
   not_this r other mark q own = ap (is_step q) mark ∙ same-sym q r ∙ distinct sd r q other own
 
-  pub gentle-start : (r : RollType) (now : ℕ) (old new : List (List ℕ)) → affects sd r ≡ false → Mapped tale n (start_key r now old new) r (Some Propagation1)
-      → ((id : Id) → all_ok (may_start r (is_listed id.0 old) (is_listed id.0 new)) (found (world_at tale n) id) ≡ true) → (position_at tale.es (suc n)).mark ≡ Step r → Gentle tale sd st n
-  gentle-start r now old new other m may mark = gentle_map (start_key r now old new) r (Some Propagation1) m
-      (λ id k e. (λ role. untouched_start r _ _ k.keytype (sym (ap (all_ok (may_start r (is_listed id.0 old) (is_listed id.0 new))) e) ∙ may id) (apart sd r k.keytype other role), role_start sd r (is_listed id.0 old) (is_listed id.0 new) k.keytype))
+  pub gentle-start : (r : RollType) (now : ℕ) (old new : List (List ℕ)) → affects sd r ≡ false
+      → Mapped tale n (start_key r now old new) r (Some Propagation1)
+      → ((id : Id) → all_ok (may_start r (is_listed id.0 old) (is_listed id.0 new))
+          (found (world_at tale n) id) ≡ true) → (position_at tale.es (suc n)).mark ≡ Step r
+          → Gentle tale sd st n
+  gentle-start r now old new other m may mark =
+      gentle_map (start_key r now old new) r (Some Propagation1) m
+      (λ id k e. (λ role. untouched_start r _ _ k.keytype
+          (sym (ap (all_ok (may_start r (is_listed id.0 old) (is_listed id.0 new))) e) ∙ may id)
+          (apart sd r k.keytype other role), role_start sd r (is_listed id.0 old)
+          (is_listed id.0 new) k.keytype))
       (λ q own e. absurd (true≢false (sym e ∙ distinct sd r q other own))) (not_this r other mark)
 
-  pub gentle-wait1 : (r : RollType) (now : ℕ) → affects sd r ≡ false → Mapped tale n (λ q. wait1_key r now) r (Some Propagation2) → (position_at tale.es (suc n)).mark ≡ Step r → Gentle tale sd st n
+  pub gentle-wait1 : (r : RollType) (now : ℕ) → affects sd r ≡ false
+      → Mapped tale n (λ q. wait1_key r now) r (Some Propagation2)
+      → (position_at tale.es (suc n)).mark ≡ Step r → Gentle tale sd st n
   gentle-wait1 r now other m mark = gentle_map (λ q. wait1_key r now) r (Some Propagation2) m
-      (λ id k e. (λ role. untouched_wait1 r k.keytype (apart sd r k.keytype other role), role_waited1 sd r k.keytype))
+      (λ id k e. (λ role. untouched_wait1 r k.keytype (apart sd r k.keytype other role),
+          role_waited1 sd r k.keytype))
       (λ q own e. absurd (true≢false (sym e ∙ distinct sd r q other own))) (not_this r other mark)
 
-  pub gentle-wait2 : (r : RollType) (now : ℕ) → affects sd r ≡ false → Mapped tale n (λ q. wait2_key r now) r (Some Done) → (position_at tale.es (suc n)).mark ≡ Other → Gentle tale sd st n
+  pub gentle-wait2 : (r : RollType) (now : ℕ) → affects sd r ≡ false
+      → Mapped tale n (λ q. wait2_key r now) r (Some Done) → (position_at tale.es (suc n)).mark
+      ≡ Other → Gentle tale sd st n
   gentle-wait2 r now other m mark = gentle_map (λ q. wait2_key r now) r (Some Done) m
-      (λ id k e. (λ role. untouched_wait2 r k.keytype (apart sd r k.keytype other role), role_waited2 sd r k.keytype))
-      (λ q own e. absurd (true≢false (sym e ∙ distinct sd r q other own))) (λ q own. ap (is_step q) mark)
+      (λ id k e. (λ role. untouched_wait2 r k.keytype (apart sd r k.keytype other role),
+          role_waited2 sd r k.keytype))
+      (λ q own e. absurd (true≢false (sym e ∙ distinct sd r q other own)))
+          (λ q own. ap (is_step q) mark)
 
-  pub gentle-early-end : (r : RollType) → affects sd r ≡ false → Mapped tale n (early_end_key tale r n) r None → (position_at tale.es (suc n)).mark ≡ Other → Gentle tale sd st n
+  pub gentle-early-end : (r : RollType) → affects sd r ≡ false
+      → Mapped tale n (early_end_key tale r n) r None → (position_at tale.es (suc n)).mark ≡ Other
+      → Gentle tale sd st n
   gentle-early-end r other m mark = gentle_map (early_end_key tale r n) r None m
-      (λ id k e. (λ role. untouched-ended r _ _ k (apart sd r k.keytype other role), role-ended sd r _ _ k.keytype))
-      (λ q own e. absurd (true≢false (sym e ∙ distinct sd r q other own))) (λ q own. ap (is_step q) mark)
+      (λ id k e. (λ role. untouched-ended r _ _ k (apart sd r k.keytype other role), role-ended sd r
+          _ _ k.keytype))
+      (λ q own e. absurd (true≢false (sym e ∙ distinct sd r q other own)))
+          (λ q own. ap (is_step q) mark)
 
   -- a report changes no flags
-  pub gentle-report : (r : RollType) (second : Bool) (ttl now : ℕ) → Mapped tale n (λ q. report_key r second now) r (Some (waiting second ttl))
-      → (world_at tale n).roll r ≡ Some (spreading second) → (position_at tale.es (suc n)).mark ≡ Report r second ttl → Gentle tale sd st n
-  gentle-report r second ttl now m phase mark = gentle_map (λ q. report_key r second now) r (Some (waiting second ttl)) m
+  pub gentle-report : (r : RollType) (second : Bool) (ttl now : ℕ)
+      → Mapped tale n (λ q. report_key r second now) r (Some (waiting second ttl))
+      → (world_at tale n).roll r ≡ Some (spreading second) → (position_at tale.es (suc n)).mark
+          ≡ Report r second ttl → Gentle tale sd st n
+  gentle-report r second ttl now m phase mark =
+      gentle_map (λ q. report_key r second now) r (Some (waiting second ttl)) m
       (λ id k e. (λ role. refl, refl))
-      (λ q own e. let same = same-true r q e in subst (λ q. stage_fits st q (Some (waiting second ttl)) ≡ true) same
-      (phase_on st r second ttl (sym (ap (stage_fits st r) phase) ∙ was_rolls r (subst (λ q. affects sd q ≡ true) (sym same) own))))
+      (λ q own e. let same = same-true r q e in
+          subst (λ q. stage_fits st q (Some (waiting second ttl)) ≡ true) same
+      (phase_on st r second ttl (sym (ap (stage_fits st r) phase)
+          ∙ was_rolls r (subst (λ q. affects sd q ≡ true) (sym same) own))))
       (λ q own. ap (is_step q) mark)
 
   -- the end of a roll
-  pub gentle-done : (r : RollType) → ((id : Id) → found (world_at tale (suc n)) id ≡ found (world_at tale n) id) → ((q : RollType) → (world_at tale (suc n)).roll q ≡ put_roll (world_at tale n).roll r None q)
-      → (world_at tale n).roll r ≡ Some Done → (position_at tale.es (suc n)).mark ≡ Other → Gentle tale sd st n
+  pub gentle-done : (r : RollType)
+      → ((id : Id) → found (world_at tale (suc n)) id ≡ found (world_at tale n) id)
+      → ((q : RollType) → (world_at tale (suc n)).roll q ≡ put_roll (world_at tale n).roll r None q)
+      → (world_at tale n).roll r ≡ Some Done → (position_at tale.es (suc n)).mark ≡ Other
+          → Gentle tale sd st n
   gentle-done r same rolls phase mark = record {
     rolls = λ q own. ap (stage_fits st q) (rolls q) ∙ put-fits st (world_at tale n).roll r None q
-        (λ e. let eq = same-true r q e in subst (λ q. stage_fits st q None ≡ true) eq (done_on st r (sym (ap (stage_fits st r) phase) ∙ was_rolls r (subst (λ q. affects sd q ≡ true) (sym eq) own)))) (λ e. was_rolls q own);
+        (λ e. let eq = same-true r q e in
+            subst (λ q. stage_fits st q None ≡ true) eq
+            (done_on st r (sym (ap (stage_fits st r) phase)
+            ∙ was_rolls r (subst (λ q. affects sd q ≡ true) (sym eq) own)))) (λ e. was_rolls q own);
     fore = λ p seen id e. sym (ap (if_some p) (same id)) ∙ e;
     back = λ p seen id e. ap (if_some p) (same id) ∙ e;
     flags = λ id. ap (all_ok (fits sd st)) (same id) ∙ was_flags id;
@@ -314,7 +376,7 @@ module _ (tale : Tale) (n : ℕ) (sd : SideOf) (st : Stage)
     lists = lists;
   }
 
--- a refusal, an add, a deletion -----------------------------------------------------------------
+-- ---- a refusal, an add, a deletion
 
 -- tests of keys that aren't idle
 abbrev pub Busy : (KeyType → Bool) → Type 0
@@ -322,53 +384,75 @@ Busy p = (k : KeyType) → p k ≡ true → is_idle k ≡ false
 
 pub record Kept (w v : World) : Type 0 where
   pub rolls : (q : RollType) → v.roll q ≡ w.roll q
-  pub keys : (q : List ℕ) (j : Key) → v.key q ≡ Some j → is_idle j.keytype ≡ false → (k : Key) × (w.key q ≡ Some k) × (k.keytype ≡ j.keytype) × ((s : Stamp) → stamp_of s k ≡ stamp_of s j)
-  pub fore : (p : KeyType → Bool) → Busy p → (id : Id) → if_some p (found v id) ≡ true → if_some p (found w id) ≡ true
-  pub back : (p : KeyType → Bool) → Busy p → (id : Id) → if_some p (found w id) ≡ true → if_some p (found v id) ≡ true
-  pub flags : (sd : SideOf) (st : Stage) → ((id : Id) → all_ok (fits sd st) (found w id) ≡ true) → (id : Id) → all_ok (fits sd st) (found v id) ≡ true
+  pub keys : (q : List ℕ) (j : Key) → v.key q ≡ Some j → is_idle j.keytype ≡ false → (k : Key)
+      × (w.key q ≡ Some k) × (k.keytype ≡ j.keytype) × ((s : Stamp) → stamp_of s k ≡ stamp_of s j)
+  pub fore : (p : KeyType → Bool) → Busy p → (id : Id) → if_some p (found v id) ≡ true
+      → if_some p (found w id) ≡ true
+  pub back : (p : KeyType → Bool) → Busy p → (id : Id) → if_some p (found w id) ≡ true
+      → if_some p (found v id) ≡ true
+  pub flags : (sd : SideOf) (st : Stage) → ((id : Id) → all_ok (fits sd st) (found w id) ≡ true)
+      → (id : Id) → all_ok (fits sd st) (found v id) ≡ true
 
 pub kept_same : (w : World) → Kept w w
-kept_same w = record { rolls = λ q. refl; keys = λ q j e u. (j, e, refl, λ s. refl); fore = λ p u id e. e; back = λ p u id e. e; flags = λ sd st h. h }
+kept_same w = record { rolls = λ q. refl; keys = λ q j e u. (j, e, refl, λ s. refl); fore =
+    λ p u id e. e; back = λ p u id e. e; flags = λ sd st h. h }
 
 abbrev pub with_key : World → List ℕ → ℕ → Key → World
 with_key w r n k = record w { key = put w.key r (Some k); added = put w.added r n }
 
-found_added : (b c d : Bool) (o : Option Key) (k : Key) → (b ≡ true → o ≡ None) → is_idle k.keytype ≡ true
-    → (p : KeyType → Bool) → Busy p → if_some p (if (if b then c else d) then (if b then Some k else o) else None) ≡ true → if_some p (if d then o else None) ≡ true
+found_added : (b c d : Bool) (o : Option Key) (k : Key) → (b ≡ true → o ≡ None) → is_idle k.keytype
+    ≡ true
+    → (p : KeyType → Bool) → Busy p → if_some p
+        (if (if b then c else d) then (if b then Some k else o) else None) ≡ true
+        → if_some p (if d then o else None) ≡ true
 found_added true true d o k gone idle p busy e = absurd (true≢false (sym idle ∙ busy k.keytype e))
 found_added true false d o k gone idle p busy e = absurd (true≢false (sym e))
 found_added false c d o k gone idle p busy e = e
 
 still_found : (b c d : Bool) (o : Option Key) (k : Key) → (b ≡ true → o ≡ None)
-    → (p : KeyType → Bool) → if_some p (if d then o else None) ≡ true → if_some p (if (if b then c else d) then (if b then Some k else o) else None) ≡ true
+    → (p : KeyType → Bool) → if_some p (if d then o else None) ≡ true
+        → if_some p (if (if b then c else d) then (if b then Some k else o) else None) ≡ true
 still_found true c true o k gone p e = absurd (true≢false (sym e ∙ ap (if_some p) (gone refl)))
 still_found true c false o k gone p e = absurd (true≢false (sym e))
 still_found false c d o k gone p e = e
 
-fits_added : (b c d : Bool) (o : Option Key) (k : Key) → is_idle k.keytype ≡ true → (sd : SideOf) (st : Stage) → all_ok (fits sd st) (if d then o else None) ≡ true
+fits_added : (b c d : Bool) (o : Option Key) (k : Key) → is_idle k.keytype ≡ true
+    → (sd : SideOf) (st : Stage) → all_ok (fits sd st) (if d then o else None) ≡ true
     → all_ok (fits sd st) (if (if b then c else d) then (if b then Some k else o) else None) ≡ true
 fits_added true true d o k idle sd st e = idle-fits sd st k.keytype idle
 fits_added true false d o k idle sd st e = refl
 fits_added false c d o k idle sd st e = e
 
-tag_added : (b : Bool) (m n t : ℕ) → ((if b then n else m) == t) ≡ (if b then (n == t) else (m == t))
+tag_added : (b : Bool) (m n t : ℕ) → ((if b then n else m) == t)
+    ≡ (if b then (n == t) else (m == t))
 tag_added true m n t = refl
 tag_added false m n t = refl
 
-key_added : (b : Bool) (o : Option Key) (k j : Key) → is_idle k.keytype ≡ true → (if b then Some k else o) ≡ Some j → is_idle j.keytype ≡ false → o ≡ Some j
-key_added true o k j idle e u = absurd (true≢false (sym (subst (λ j. is_idle j.keytype ≡ true) (same_Some k j e) idle) ∙ u))
+key_added : (b : Bool) (o : Option Key) (k j : Key) → is_idle k.keytype ≡ true
+    → (if b then Some k else o) ≡ Some j → is_idle j.keytype ≡ false → o ≡ Some j
+key_added true o k j idle e u = absurd
+    (true≢false (sym (subst (λ j. is_idle j.keytype ≡ true) (same_Some k j e) idle) ∙ u))
 key_added false o k j idle e u = e
 
-pub kept_added : (w : World) (r : List ℕ) (n : ℕ) (k : Key) → w.key r ≡ None → is_idle k.keytype ≡ true → Kept w (with_key w r n k)
+pub kept_added : (w : World) (r : List ℕ) (n : ℕ) (k : Key) → w.key r ≡ None → is_idle k.keytype
+    ≡ true → Kept w (with_key w r n k)
 kept_added w r n k gone idle = record {
   rolls = λ q. refl;
   keys = λ q j e u. (j, key_added (bytes_eq r q) (w.key q) k j idle e u, refl, λ s. refl);
-  fore = λ p busy id e. found_added (bytes_eq r id.0) (n == id.1) (w.added id.0 == id.1) (w.key id.0) k (none_at id.0) idle p busy
-      (sym (ap (λ t. if_some p (if t then (if bytes_eq r id.0 then Some k else w.key id.0) else None)) (tag_added (bytes_eq r id.0) (w.added id.0) n id.1)) ∙ e);
-  back = λ p busy id e. ap (λ t. if_some p (if t then (if bytes_eq r id.0 then Some k else w.key id.0) else None)) (tag_added (bytes_eq r id.0) (w.added id.0) n id.1)
-      ∙ still_found (bytes_eq r id.0) (n == id.1) (w.added id.0 == id.1) (w.key id.0) k (none_at id.0) p e;
-  flags = λ sd st h id. ap (λ t. all_ok (fits sd st) (if t then (if bytes_eq r id.0 then Some k else w.key id.0) else None)) (tag_added (bytes_eq r id.0) (w.added id.0) n id.1)
-      ∙ fits_added (bytes_eq r id.0) (n == id.1) (w.added id.0 == id.1) (w.key id.0) k idle sd st (h id);
+  fore = λ p busy id e. found_added (bytes_eq r id.0) (n == id.1) (w.added id.0 == id.1)
+      (w.key id.0) k (none_at id.0) idle p busy
+      (sym (ap (λ t. if_some p (if t then (if bytes_eq r id.0 then Some k else w.key id.0) else
+          None)) (tag_added (bytes_eq r id.0) (w.added id.0) n id.1)) ∙ e);
+  back = λ p busy id e. ap (λ t. if_some p
+      (if t then (if bytes_eq r id.0 then Some k else w.key id.0) else None))
+      (tag_added (bytes_eq r id.0) (w.added id.0) n id.1)
+      ∙ still_found (bytes_eq r id.0) (n == id.1) (w.added id.0 == id.1) (w.key id.0) k
+          (none_at id.0) p e;
+  flags = λ sd st h id. ap (λ t. all_ok (fits sd st)
+      (if t then (if bytes_eq r id.0 then Some k else w.key id.0) else None))
+      (tag_added (bytes_eq r id.0) (w.added id.0) n id.1)
+      ∙ fits_added (bytes_eq r id.0) (n == id.1) (w.added id.0 == id.1) (w.key id.0) k idle sd st
+          (h id);
 }
   where
     none_at : (q : List ℕ) → bytes_eq r q ≡ true → w.key q ≡ None
@@ -381,31 +465,41 @@ key_deleted : (b : Bool) (o : Option Key) (j : Key) → (if b then None else o) 
 key_deleted true o j e = absurd (none-some j e)
 key_deleted false o j e = e
 
-found_deleted : (b d : Bool) (o : Option Key) (p : KeyType → Bool) → if_some p (if d then (if b then None else o) else None) ≡ true → if_some p (if d then o else None) ≡ true
+found_deleted : (b d : Bool) (o : Option Key) (p : KeyType → Bool)
+    → if_some p (if d then (if b then None else o) else None) ≡ true
+    → if_some p (if d then o else None) ≡ true
 found_deleted true true o p e = absurd (true≢false (sym e))
 found_deleted true false o p e = e
 found_deleted false d o p e = e
 
-still_there : (b d : Bool) (o : Option Key) (p : KeyType → Bool) → (b ≡ true → if_some p o ≡ true → ⊥) → if_some p (if d then o else None) ≡ true → if_some p (if d then (if b then None else o) else None) ≡ true
+still_there : (b d : Bool) (o : Option Key) (p : KeyType → Bool)
+    → (b ≡ true → if_some p o ≡ true → ⊥) → if_some p (if d then o else None) ≡ true
+    → if_some p (if d then (if b then None else o) else None) ≡ true
 still_there true true o p not_it e = absurd (not_it refl e)
 still_there true false o p not_it e = e
 still_there false d o p not_it e = e
 
-fits_deleted : (b d : Bool) (o : Option Key) (sd : SideOf) (st : Stage) → all_ok (fits sd st) (if d then o else None) ≡ true → all_ok (fits sd st) (if d then (if b then None else o) else None) ≡ true
+fits_deleted : (b d : Bool) (o : Option Key) (sd : SideOf) (st : Stage)
+    → all_ok (fits sd st) (if d then o else None) ≡ true
+    → all_ok (fits sd st) (if d then (if b then None else o) else None) ≡ true
 fits_deleted true true o sd st e = refl
 fits_deleted true false o sd st e = refl
 fits_deleted false d o sd st e = e
 
-pub kept_deleted : (w : World) (r : List ℕ) (k : Key) → w.key r ≡ Some k → is_idle k.keytype ≡ true → Kept w (without_key w r)
+pub kept_deleted : (w : World) (r : List ℕ) (k : Key) → w.key r ≡ Some k → is_idle k.keytype ≡ true
+    → Kept w (without_key w r)
 kept_deleted w r k at idle = record {
   rolls = λ q. refl;
   keys = λ q j e u. (j, key_deleted (bytes_eq r q) (w.key q) j e, refl, λ s. refl);
   fore = λ p busy id. found_deleted (bytes_eq r id.0) (w.added id.0 == id.1) (w.key id.0) p;
-  back = λ p busy id. still_there (bytes_eq r id.0) (w.added id.0 == id.1) (w.key id.0) p (not_used p busy id.0);
-  flags = λ sd st h id. fits_deleted (bytes_eq r id.0) (w.added id.0 == id.1) (w.key id.0) sd st (h id);
+  back = λ p busy id. still_there (bytes_eq r id.0) (w.added id.0 == id.1) (w.key id.0) p
+      (not_used p busy id.0);
+  flags = λ sd st h id. fits_deleted (bytes_eq r id.0) (w.added id.0 == id.1) (w.key id.0) sd st
+      (h id);
 }
   where
-    not_used : (p : KeyType → Bool) → Busy p → (q : List ℕ) → bytes_eq r q ≡ true → if_some p (w.key q) ≡ true → ⊥
+    not_used : (p : KeyType → Bool) → Busy p → (q : List ℕ) → bytes_eq r q ≡ true
+        → if_some p (w.key q) ≡ true → ⊥
     not_used p busy q e s =
         let at_q : w.key q ≡ Some k = ap w.key (sym ((bytes_decides r q).0 e)) ∙ at in
         let pass : p k.keytype ≡ true = subst (λ o. if_some p o ≡ true) at_q s in
@@ -471,11 +565,18 @@ kept_changed w f h = record {
       still_fits sd st (f id.0) (w.key id.0) (h id.0) (w.added id.0 == id.1) (was id);
 }
 
-pub gentle_kept : (tale : Tale) (n : ℕ) (v : World) → world_at tale (suc n) ≡ v → Kept (world_at tale n) v → (position_at tale.es (suc n)).mark ≡ Other → (NoDs tale.es n → NoDs tale.es (suc n))
-    → ((sd : SideOf) → KeepsLists tale sd n) → (sd : SideOf) (st : Stage) → ((q : RollType) → affects sd q ≡ true → stage_fits st q ((world_at tale n).roll q) ≡ true) → ((id : Id) → all_ok (fits sd st) (found (world_at tale n) id) ≡ true) → Gentle tale sd st n
+pub gentle_kept : (tale : Tale) (n : ℕ) (v : World) → world_at tale (suc n) ≡ v
+    → Kept (world_at tale n) v → (position_at tale.es (suc n)).mark ≡ Other
+    → (NoDs tale.es n → NoDs tale.es (suc n))
+    → ((sd : SideOf) → KeepsLists tale sd n) → (sd : SideOf) (st : Stage)
+        → ((q : RollType) → affects sd q ≡ true → stage_fits st q ((world_at tale n).roll q) ≡ true)
+        → ((id : Id) → all_ok (fits sd st) (found (world_at tale n) id) ≡ true)
+        → Gentle tale sd st n
 gentle_kept tale n v e k mark dead lists sd st rolls flags = record {
-  rolls = λ q own. ap (λ w. stage_fits st q (w.roll q)) e ∙ ap (stage_fits st q) (k.rolls q) ∙ rolls q own;
-  fore = λ p seen id f. k.fore p (λ t h. (seen t h).1) id (sym (ap (λ w. if_some p (found w id)) e) ∙ f);
+  rolls = λ q own. ap (λ w. stage_fits st q (w.roll q)) e ∙ ap (stage_fits st q) (k.rolls q)
+      ∙ rolls q own;
+  fore = λ p seen id f. k.fore p (λ t h. (seen t h).1) id
+      (sym (ap (λ w. if_some p (found w id)) e) ∙ f);
   back = λ p seen id f. ap (λ w. if_some p (found w id)) e ∙ k.back p (λ t h. (seen t h).1) id f;
   flags = λ id. ap (λ w. all_ok (fits sd st) (found w id)) e ∙ k.flags sd st flags id;
   no_step = λ q own. ap (is_step q) mark;

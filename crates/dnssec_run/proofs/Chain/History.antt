@@ -19,10 +19,13 @@ unfolding time_at
 time_grows es n = omega arith
 
 pub time_mono : (es : List Entry) (m n : ℕ) → m ≤ n → time_at es m ≤ time_at es n
-time_mono es m zero le = let e : m ≡ zero = omega arith in subst (λ x. time_at es x ≤ time_at es zero) (sym e) (omega arith)
+time_mono es m zero le = let e : m ≡ zero = omega arith in
+    subst (λ x. time_at es x ≤ time_at es zero) (sym e) (omega arith)
 time_mono es m (suc n) le = elim (cases_lt m (suc n)) [
-  | inl lt ↦ let before : time_at es m ≤ time_at es n = time_mono es m n (omega arith) in omega (arith, time_grows es n)
-  | inr ge ↦ let e : m ≡ suc n = omega arith in subst (λ x. time_at es x ≤ time_at es (suc n)) (sym e) (omega arith)
+  | inl lt ↦ let before : time_at es m ≤ time_at es n = time_mono es m n (omega arith) in
+      omega (arith, time_grows es n)
+  | inr ge ↦ let e : m ≡ suc n = omega arith in
+      subst (λ x. time_at es x ≤ time_at es (suc n)) (sym e) (omega arith)
 ]
 
 pub time_now : (es : List Entry) (n m : ℕ) → (position_at es n).moment ≡ Some m → m ≤ time_at es n
@@ -30,7 +33,8 @@ unfolding time_at position_at
 time_now es zero m e = absurd (cc)
 time_now es (suc n) m e = rw e (omega arith)
 
-pub retired_stays : (es : List Entry) (kind : SetKind) (q n : ℕ) → Retired es kind q n → Retired es kind q (suc n)
+pub retired_stays : (es : List Entry) (kind : SetKind) (q n : ℕ) → Retired es kind q n
+    → Retired es kind q (suc n)
 retired_stays es kind q n h = record {
   at = h.at;
   roll = h.roll;
@@ -48,24 +52,28 @@ retired_stays es kind q n h = record {
 }
 
 -- the base of a roll after one more position
-pub base_same : (es : List Entry) (r : RollType) (n : ℕ) → is_step r (position_at es n).mark ≡ false → base_below es r (suc n) ≡ base_below es r n
+pub base_same : (es : List Entry) (r : RollType) (n : ℕ) → is_step r (position_at es n).mark ≡ false
+    → base_below es r (suc n) ≡ base_below es r n
 unfolding base_below
 base_same es r n e = rw e refl
 
-pub base_here : (es : List Entry) (r : RollType) (n : ℕ) → is_step r (position_at es n).mark ≡ true → base_below es r (suc n) ≡ Some n
+pub base_here : (es : List Entry) (r : RollType) (n : ℕ) → is_step r (position_at es n).mark ≡ true
+    → base_below es r (suc n) ≡ Some n
 unfolding base_below
 base_here es r n e = rw e refl
 
 -- what a position offers to a key: it holds the key, or as a DS set it is empty
 abbrev pub Serving : SideOf → List Entry → SetKind → ℕ → Id → Type 0
 Serving Keys es Ds q k = ((position_at es q).ds ≡ []) ⊎ Contains (position_at es q).ds k
-Serving Keys es Dnskey q k = Contains (position_at es q).dnskey k × Contains (position_at es q).signers k
+Serving Keys es Dnskey q k = Contains (position_at es q).dnskey k
+    × Contains (position_at es q).signers k
 Serving Keys es ZoneSigners q k = Unit {0}
 Serving Zone es Ds q k = Unit {0}
 Serving Zone es Dnskey q k = Contains (position_at es q).dnskey k
 Serving Zone es ZoneSigners q k = Contains (position_at es q).zone k
 
-pub first-retires : (sd : SideOf) (r : RollType) → affects sd r ≡ true → retires r false (first_kind sd r) ≡ true
+pub first-retires : (sd : SideOf) (r : RollType) → affects sd r ≡ true
+    → retires r false (first_kind sd r) ≡ true
 first-retires Keys KskRoll e = refl
 first-retires Keys KskDoubleDsRoll e = refl
 first-retires Keys ZskRoll e = absurd (true≢false (sym e))
@@ -80,7 +88,8 @@ first-retires Zone CskRoll e = refl
 first-retires Zone AlgorithmRoll e = refl
 
 -- where the second set changes at the first wait, the second report retires it; else the first does
-pub second-retires : (sd : SideOf) (r : RollType) → affects sd r ≡ true → retires r (switches sd r) (second_kind sd r) ≡ true
+pub second-retires : (sd : SideOf) (r : RollType) → affects sd r ≡ true
+    → retires r (switches sd r) (second_kind sd r) ≡ true
 second-retires Keys KskRoll e = refl
 second-retires Keys KskDoubleDsRoll e = refl
 second-retires Keys ZskRoll e = absurd (true≢false (sym e))

@@ -27,7 +27,8 @@ use Rattle.dnssec_run.proofs.Chain.Places.{all_ok, side, shows, NoDs, some_weake
 use Rattle.dnssec_run.proofs.Chain.Returns.{Back, KeepsLists, leads-on}
 
 abbrev pub AtRest : Tale → SideOf → ℕ → Type 0
-AtRest tale sd n = (kind : SetKind) (q : ℕ) → q ≤ n → (Retired tale.es kind q n → ⊥) → (id : Id) → if_some (test_of sd kind) (found (world_at tale n) id) ≡ true → Serving sd tale.es kind q id
+AtRest tale sd n = (kind : SetKind) (q : ℕ) → q ≤ n → (Retired tale.es kind q n → ⊥) → (id : Id)
+    → if_some (test_of sd kind) (found (world_at tale n) id) ≡ true → Serving sd tale.es kind q id
 
 -- the base of a roll in progress
 abbrev pub Based : List Entry → RollType → ℕ → ℕ → Type 0
@@ -57,22 +58,28 @@ Alive tale sd n = (id : Id) × (if_some (in_use sd) (found (world_at tale n) id)
 
 pub record At (tale : Tale) (sd : SideOf) (st : Stage) (n : ℕ) : Type 0 where
   pub own : stage_own sd st ≡ true
-  pub rolls : (q : RollType) → affects sd q ≡ true → stage_fits st q ((world_at tale n).roll q) ≡ true
+  pub rolls : (q : RollType) → affects sd q ≡ true → stage_fits st q ((world_at tale n).roll q)
+      ≡ true
   pub flags : (id : Id) → all_ok (fits sd st) (found (world_at tale n) id) ≡ true
   pub holds : Holds tale sd st n
   pub left : Left tale sd st n
   pub back : Back tale sd st n
 
--- what it gives -----------------------------------------------------------------------------
+-- ---- what it gives
 
 abbrev pub HasCommon : List Entry → SideOf → ℕ → Type 0
-HasCommon es Keys n = (p q : ℕ) → p ≤ n → (Retired es Ds p n → ⊥) → q ≤ n → (Retired es Dnskey q n → ⊥) → (k : Id) × Serving Keys es Ds p k × Serving Keys es Dnskey q k
-HasCommon es Zone n = (q z : ℕ) → q ≤ n → (Retired es Dnskey q n → ⊥) → z ≤ n → (Retired es ZoneSigners z n → ⊥) → (k : Id) × Serving Zone es Dnskey q k × Serving Zone es ZoneSigners z k
+HasCommon es Keys n = (p q : ℕ) → p ≤ n → (Retired es Ds p n → ⊥) → q ≤ n
+    → (Retired es Dnskey q n → ⊥) → (k : Id) × Serving Keys es Ds p k × Serving Keys es Dnskey q k
+HasCommon es Zone n = (q z : ℕ) → q ≤ n → (Retired es Dnskey q n → ⊥) → z ≤ n
+    → (Retired es ZoneSigners z n → ⊥) → (k : Id) × Serving Zone es Dnskey q k
+    × Serving Zone es ZoneSigners z k
 
 -- in use on a side: in both sets of each roll
-used_tests : (sd : SideOf) (r : RollType) (k : KeyType) → in_use sd k ≡ true → (first_test sd r k ≡ true) × (second_test sd r k ≡ true)
+used_tests : (sd : SideOf) (r : RollType) (k : KeyType) → in_use sd k ≡ true
+    → (first_test sd r k ≡ true) × (second_test sd r k ≡ true)
 used_tests Keys KskRoll k e = and_parts (in_keys Keys k) (in_other Keys k) e
-used_tests Keys KskDoubleDsRoll k e = let p = and_parts (in_keys Keys k) (in_other Keys k) e in (p.1, p.0)
+used_tests Keys KskDoubleDsRoll k e = let p = and_parts (in_keys Keys k) (in_other Keys k) e in
+    (p.1, p.0)
 used_tests Keys ZskRoll k e = and_parts (in_keys Keys k) (in_other Keys k) e
 used_tests Keys ZskDoubleSignatureRoll k e = and_parts (in_keys Keys k) (in_other Keys k) e
 used_tests Keys CskRoll k e = and_parts (in_keys Keys k) (in_other Keys k) e
@@ -84,10 +91,12 @@ used_tests Zone ZskDoubleSignatureRoll k e = and_parts (in_keys Zone k) (in_othe
 used_tests Zone CskRoll k e = and_parts (in_keys Zone k) (in_other Zone k) e
 used_tests Zone AlgorithmRoll k e = and_parts (in_keys Zone k) (in_other Zone k) e
 
-pub used_first : (sd : SideOf) (r : RollType) (o : Option Key) → if_some (in_use sd) o ≡ true → if_some (first_test sd r) o ≡ true
+pub used_first : (sd : SideOf) (r : RollType) (o : Option Key) → if_some (in_use sd) o ≡ true
+    → if_some (first_test sd r) o ≡ true
 used_first sd r o = some_weaker (in_use sd) (first_test sd r) (λ k e. (used_tests sd r k e).0) o
 
-pub used_second : (sd : SideOf) (r : RollType) (o : Option Key) → if_some (in_use sd) o ≡ true → if_some (second_test sd r) o ≡ true
+pub used_second : (sd : SideOf) (r : RollType) (o : Option Key) → if_some (in_use sd) o ≡ true
+    → if_some (second_test sd r) o ≡ true
 used_second sd r o = some_weaker (in_use sd) (second_test sd r) (λ k e. (used_tests sd r k e).1) o
 
 module _ (tale : Tale) (n : ℕ) where
@@ -95,7 +104,8 @@ module _ (tale : Tale) (n : ℕ) where
   common_of Keys KskDoubleDsRoll h = h
   common_of Keys KskRoll h = λ p q pl pu ql qu. let w = h q p ql qu pl pu in (w.0, w.2, w.1)
   common_of Keys ZskRoll h = λ p q pl pu ql qu. let w = h q p ql qu pl pu in (w.0, w.2, w.1)
-  common_of Keys ZskDoubleSignatureRoll h = λ p q pl pu ql qu. let w = h q p ql qu pl pu in (w.0, w.2, w.1)
+  common_of Keys ZskDoubleSignatureRoll h = λ p q pl pu ql qu. let w = h q p ql qu pl pu in
+      (w.0, w.2, w.1)
   common_of Keys CskRoll h = λ p q pl pu ql qu. let w = h q p ql qu pl pu in (w.0, w.2, w.1)
   common_of Keys AlgorithmRoll h = λ p q pl pu ql qu. let w = h q p ql qu pl pu in (w.0, w.2, w.1)
   common_of Zone KskRoll h = h
@@ -137,76 +147,115 @@ module _ (tale : Tale) (n : ℕ) where
   side_rest Zone r h Ds = λ q le un id e. tt
 
   alive_side : (sd : SideOf) (r : RollType) → Alive tale sd n → AliveSide (side tale sd r) n
-  alive_side sd r a = (a.0, used_first sd r (found (world_at tale n) a.0) a.1, used_second sd r (found (world_at tale n) a.0) a.1)
+  alive_side sd r a = (a.0, used_first sd r (found (world_at tale n) a.0) a.1, used_second sd r
+      (found (world_at tale n) a.0) a.1)
 
-  early_common : (sd : SideOf) (r : RollType) (b : ℕ) (w : Bool) → (NoDs tale.es n → ⊥) → Alive tale sd n → EarlyOf tale sd r n b w → HasCommon tale.es sd n
-  early_common sd r b true born a h = common_of sd r (early-serves (side tale sd r) n b (alive_side sd r a) h)
+  early_common : (sd : SideOf) (r : RollType) (b : ℕ) (w : Bool) → (NoDs tale.es n → ⊥)
+      → Alive tale sd n → EarlyOf tale sd r n b w → HasCommon tale.es sd n
+  early_common sd r b true born a h =
+      common_of sd r (early-serves (side tale sd r) n b (alive_side sd r a) h)
   early_common sd r b false born a h = common_of sd r (broad-serves (side tale sd r) n b born h)
 
-  late_common : (sd : SideOf) (r : RollType) (b : ℕ) (w : Bool) → (NoDs tale.es n → ⊥) → Alive tale sd n → LateOf tale sd r n b w → HasCommon tale.es sd n
-  late_common sd r b true born a h = common_of sd r (late-serves (side tale sd r) n b born (alive_side sd r a) h)
-  late_common sd r b false born a h = common_of sd r (rest-serves (side tale sd r) n (alive_side sd r a) (rest_side sd r h))
+  late_common : (sd : SideOf) (r : RollType) (b : ℕ) (w : Bool) → (NoDs tale.es n → ⊥)
+      → Alive tale sd n → LateOf tale sd r n b w → HasCommon tale.es sd n
+  late_common sd r b true born a h =
+      common_of sd r (late-serves (side tale sd r) n b born (alive_side sd r a) h)
+  late_common sd r b false born a h =
+      common_of sd r (rest-serves (side tale sd r) n (alive_side sd r a) (rest_side sd r h))
 
-  pub at-common : (sd : SideOf) (st : Stage) → (NoDs tale.es n → ⊥) → Alive tale sd n → At tale sd st n → HasCommon tale.es sd n
-  at-common sd Quiet born a h = common_of sd KskRoll (rest-serves (side tale sd KskRoll) n (alive_side sd KskRoll a) (rest_side sd KskRoll h.holds))
+  pub at-common : (sd : SideOf) (st : Stage) → (NoDs tale.es n → ⊥) → Alive tale sd n
+      → At tale sd st n → HasCommon tale.es sd n
+  at-common sd Quiet born a h = common_of sd KskRoll
+      (rest-serves (side tale sd KskRoll) n (alive_side sd KskRoll a)
+      (rest_side sd KskRoll h.holds))
   at-common sd (Early r) born a h = early_common sd r h.holds.0 (switches sd r) born a h.holds.2
   at-common sd (Late r) born a h = late_common sd r h.holds.0 (switches sd r) born a h.holds.2
 
--- a call that leaves a side alone ------------------------------------------------------------
+-- ---- a call that leaves a side alone
 
 pub record Gentle (tale : Tale) (sd : SideOf) (st : Stage) (n : ℕ) : Type 0 where
-  pub rolls : (q : RollType) → affects sd q ≡ true → stage_fits st q ((world_at tale (suc n)).roll q) ≡ true
-  pub fore : (p : KeyType → Bool) → Seen sd p → (id : Id) → if_some p (found (world_at tale (suc n)) id) ≡ true → if_some p (found (world_at tale n) id) ≡ true
-  pub back : (p : KeyType → Bool) → Seen sd p → (id : Id) → if_some p (found (world_at tale n) id) ≡ true → if_some p (found (world_at tale (suc n)) id) ≡ true
+  pub rolls : (q : RollType) → affects sd q ≡ true
+      → stage_fits st q ((world_at tale (suc n)).roll q) ≡ true
+  pub fore : (p : KeyType → Bool) → Seen sd p → (id : Id)
+      → if_some p (found (world_at tale (suc n)) id) ≡ true → if_some p (found (world_at tale n) id)
+      ≡ true
+  pub back : (p : KeyType → Bool) → Seen sd p → (id : Id) → if_some p (found (world_at tale n) id)
+      ≡ true → if_some p (found (world_at tale (suc n)) id) ≡ true
   pub flags : (id : Id) → all_ok (fits sd st) (found (world_at tale (suc n)) id) ≡ true
-  pub no_step : (q : RollType) → affects sd q ≡ true → is_step q (position_at tale.es (suc n)).mark ≡ false
+  pub no_step : (q : RollType) → affects sd q ≡ true → is_step q (position_at tale.es (suc n)).mark
+      ≡ false
   pub dead : NoDs tale.es n → NoDs tale.es (suc n)
   pub lists : KeepsLists tale sd n
 
-pub early_inner : (sd : SideOf) (r : RollType) (o : Option Key) → affects sd r ≡ true → switches sd r ≡ true → all_ok (fits sd (Early r)) o ≡ true → if_some (second_test sd r) o ≡ true → if_some (first_test sd r) o ≡ true
+pub early_inner : (sd : SideOf) (r : RollType) (o : Option Key) → affects sd r ≡ true
+    → switches sd r ≡ true → all_ok (fits sd (Early r)) o ≡ true → if_some (second_test sd r) o
+    ≡ true → if_some (first_test sd r) o ≡ true
 early_inner sd r None own w h e = absurd (true≢false (sym e))
 early_inner sd r (Some k) own w h e = (wait1_facts sd r k.keytype own h).inner w e
 
 module _ (tale : Tale) (n : ℕ) (here : suc n ≤ length tale.es) where
-  pub rest-next : (sd : SideOf) → ((kind : SetKind) (id : Id) → if_some (test_of sd kind) (found (world_at tale (suc n)) id) ≡ true → if_some (test_of sd kind) (found (world_at tale n) id) ≡ true) → AtRest tale sd n → AtRest tale sd (suc n)
-  rest-next sd less h kind = upto (λ q. (Retired tale.es kind q (suc n) → ⊥) → (id : Id) → if_some (test_of sd kind) (found (world_at tale (suc n)) id) ≡ true → Serving sd tale.es kind q id) n
-      (λ q le un id p. h kind q le (λ r. un (retired_stays tale.es kind q n r)) id (less kind id p)) (λ _. shows tale sd kind (suc n) here)
+  pub rest-next : (sd : SideOf) → ((kind : SetKind) (id : Id)
+      → if_some (test_of sd kind) (found (world_at tale (suc n)) id) ≡ true
+      → if_some (test_of sd kind) (found (world_at tale n) id) ≡ true) → AtRest tale sd n
+      → AtRest tale sd (suc n)
+  rest-next sd less h kind = upto (λ q. (Retired tale.es kind q (suc n) → ⊥) → (id : Id)
+      → if_some (test_of sd kind) (found (world_at tale (suc n)) id) ≡ true
+      → Serving sd tale.es kind q id) n
+      (λ q le un id p. h kind q le (λ r. un (retired_stays tale.es kind q n r)) id (less kind id p))
+          (λ _. shows tale sd kind (suc n) here)
 
   module _ (sd : SideOf) where
-    early_gentle : (r : RollType) (b : ℕ) (w : Bool) → switches sd r ≡ w → affects sd r ≡ true → Gentle tale sd (Early r) n → EarlyOf tale sd r n b w → EarlyOf tale sd r (suc n) b w
+    early_gentle : (r : RollType) (b : ℕ) (w : Bool) → switches sd r ≡ w → affects sd r ≡ true
+        → Gentle tale sd (Early r) n → EarlyOf tale sd r n b w → EarlyOf tale sd r (suc n) b w
     early_gentle r b true sw own g h = early-stays (side tale sd r) n here b
-        (g.fore (first_test sd r) (test-seen sd (first_kind sd r))) (g.fore (second_test sd r) (test-seen sd (second_kind sd r)))
+        (g.fore (first_test sd r) (test-seen sd (first_kind sd r)))
+            (g.fore (second_test sd r) (test-seen sd (second_kind sd r)))
         (λ id. early_inner sd r (found (world_at tale (suc n)) id) own sw (g.flags id)) h
     early_gentle r b false sw own g h = broad-stays (side tale sd r) n here b g.dead
-        (g.back (first_test sd r) (test-seen sd (first_kind sd r))) (g.back (second_test sd r) (test-seen sd (second_kind sd r)))
-        (g.fore (first_test sd r) (test-seen sd (first_kind sd r))) (g.fore (second_test sd r) (test-seen sd (second_kind sd r))) h
+        (g.back (first_test sd r) (test-seen sd (first_kind sd r)))
+            (g.back (second_test sd r) (test-seen sd (second_kind sd r)))
+        (g.fore (first_test sd r) (test-seen sd (first_kind sd r)))
+            (g.fore (second_test sd r) (test-seen sd (second_kind sd r))) h
 
-    late_gentle : (r : RollType) (b : ℕ) (w : Bool) → b ≤ n → Gentle tale sd (Late r) n → LateOf tale sd r n b w → LateOf tale sd r (suc n) b w
+    late_gentle : (r : RollType) (b : ℕ) (w : Bool) → b ≤ n → Gentle tale sd (Late r) n
+        → LateOf tale sd r n b w → LateOf tale sd r (suc n) b w
     late_gentle r b true le g h = late-stays (side tale sd r) n here b le g.dead
         (g.back (first_test sd r) (test-seen sd (first_kind sd r)))
-        (g.fore (first_test sd r) (test-seen sd (first_kind sd r))) (g.fore (second_test sd r) (test-seen sd (second_kind sd r))) h
-    late_gentle r b false le g h = rest-next sd (λ kind. g.fore (test_of sd kind) (test-seen sd kind)) h
+        (g.fore (first_test sd r) (test-seen sd (first_kind sd r)))
+            (g.fore (second_test sd r) (test-seen sd (second_kind sd r))) h
+    late_gentle r b false le g h = rest-next sd
+        (λ kind. g.fore (test_of sd kind) (test-seen sd kind)) h
 
-    based_gentle : (r : RollType) (b : ℕ) → is_step r (position_at tale.es (suc n)).mark ≡ false → Based tale.es r n b → Based tale.es r (suc n) b
+    based_gentle : (r : RollType) (b : ℕ) → is_step r (position_at tale.es (suc n)).mark ≡ false
+        → Based tale.es r n b → Based tale.es r (suc n) b
     based_gentle r b still h = (omega (arith, h.0), base_same tale.es r (suc n) still ∙ h.1)
 
-    holds_gentle : (st : Stage) → stage_own sd st ≡ true → Gentle tale sd st n → Holds tale sd st n → Holds tale sd st (suc n)
-    holds_gentle Quiet own g h = rest-next sd (λ kind. g.fore (test_of sd kind) (test-seen sd kind)) h
-    holds_gentle (Early r) own g h = (h.0, based_gentle r h.0 (g.no_step r own) h.1, early_gentle r h.0 (switches sd r) refl own g h.2)
-    holds_gentle (Late r) own g h = (h.0, based_gentle r h.0 (g.no_step r own) h.1, late_gentle r h.0 (switches sd r) h.1.0 g h.2)
+    holds_gentle : (st : Stage) → stage_own sd st ≡ true → Gentle tale sd st n → Holds tale sd st n
+        → Holds tale sd st (suc n)
+    holds_gentle Quiet own g h = rest-next sd (λ kind. g.fore (test_of sd kind) (test-seen sd kind))
+        h
+    holds_gentle (Early r) own g h =
+        (h.0, based_gentle r h.0 (g.no_step r own) h.1, early_gentle r h.0 (switches sd r) refl own
+        g h.2)
+    holds_gentle (Late r) own g h = (h.0, based_gentle r h.0 (g.no_step r own) h.1, late_gentle r
+        h.0 (switches sd r) h.1.0 g h.2)
 
     left_gentle : (st : Stage) → Gentle tale sd st n → Left tale sd st n → Left tale sd st (suc n)
     left_gentle Quiet g h = tt
     left_gentle (Early r) g h = (h.0, g.back (remains sd r) (remains-seen sd r) h.0 h.1)
     left_gentle (Late r) g h = (h.0, g.back (live sd) (live-seen sd) h.0 h.1)
 
-    back_gentle : (st : Stage) → stage_own sd st ≡ true → Gentle tale sd st n → Back tale sd st n → Back tale sd st (suc n)
+    back_gentle : (st : Stage) → stage_own sd st ≡ true → Gentle tale sd st n → Back tale sd st n
+        → Back tale sd st (suc n)
     back_gentle Quiet own g h = tt
-    back_gentle (Early r) own g h = λ phase. leads-on tale n here sd g.fore g.back g.dead g.lists r own phase (h (g.lists.phase r own phase))
+    back_gentle (Early r) own g h = λ phase. leads-on tale n here sd g.fore g.back g.dead g.lists r
+        own phase (h (g.lists.phase r own phase))
     back_gentle (Late r) own g h = tt
 
     pub at-gentle : (st : Stage) → Gentle tale sd st n → At tale sd st n → At tale sd st (suc n)
-    at-gentle st g h = record { own = h.own; rolls = g.rolls; flags = g.flags; holds = holds_gentle st h.own g h.holds; left = left_gentle st g h.left; back = back_gentle st h.own g h.back }
+    at-gentle st g h = record { own = h.own; rolls = g.rolls; flags = g.flags; holds =
+        holds_gentle st h.own g h.holds; left = left_gentle st g h.left; back =
+        back_gentle st h.own g h.back }
 
     pub alive-gentle : (st : Stage) → Gentle tale sd st n → Alive tale sd n → Alive tale sd (suc n)
     alive-gentle st g a = (a.0, g.back (in_use sd) (use-seen sd) a.0 a.1)

@@ -1,4 +1,5 @@
--- What is kept of starts: how each call changes the lists, and which calls leave a side's keys in them
+-- What is kept of starts: how each call changes the lists, and which calls leave a side's keys in
+-- them
 -- as they were.
 use Rattle.std.proofs.Common.{[], ◌∷◌, ◌≡◌, ℕ, suc, Bool, true, false, not, ◌&&◌, ◌||◌, refl, sym}
 use Rattle.std.proofs.Common.{◌∙◌, ap, List, Option, Some}
@@ -99,7 +100,8 @@ module _ (tale : Tale) (n : ℕ) where
   pub keeps-without : (x : List ℕ)
       → ((q : RollType) → (world_at tale (suc n)).roll q ≡ (world_at tale n).roll q)
       → (real tale (suc n)).set.lists ≡ without x (real tale n).set.lists → (sd : SideOf)
-      → ((id : Id) (k : Key) → found (world_at tale (suc n)) id ≡ Some k → bytes_eq x id.0 ≡ true → has_role sd k.keytype ≡ true → ⊥)
+      → ((id : Id) (k : Key) → found (world_at tale (suc n)) id ≡ Some k → bytes_eq x id.0 ≡ true
+          → has_role sd k.keytype ≡ true → ⊥)
       → KeepsLists tale sd n
   keeps-without x rolls lists sd gone = record {
     phase = λ r own e. sym (rolls r) ∙ e;
@@ -107,15 +109,19 @@ module _ (tale : Tale) (n : ℕ) where
   }
     where
       by : (r : RollType) (id : Id) (b : Bool) → bytes_eq x id.0 ≡ b → (bytes_eq x id.0 ≡ true → ⊥)
-          → (is_listed id.0 (listed_at tale r (suc n)).olds ≡ is_listed id.0 (listed_at tale r n).olds)
-          × (is_listed id.0 (listed_at tale r (suc n)).news ≡ is_listed id.0 (listed_at tale r n).news)
+          → (is_listed id.0 (listed_at tale r (suc n)).olds
+              ≡ is_listed id.0 (listed_at tale r n).olds)
+          × (is_listed id.0 (listed_at tale r (suc n)).news
+              ≡ is_listed id.0 (listed_at tale r n).news)
       by r id true t none = absurd (none t)
       by r id false t none = (
         ap (λ l. is_listed id.0 (listed_by l r).olds) lists
-            ∙ ap (λ (l : Listed). is_listed id.0 l.olds) (listed-without x (real tale n).set.lists r)
+            ∙ ap (λ (l : Listed). is_listed id.0 l.olds)
+                (listed-without x (real tale n).set.lists r)
             ∙ is_listed-others x (listed_at tale r n).olds id.0 t,
         ap (λ l. is_listed id.0 (listed_by l r).news) lists
-            ∙ ap (λ (l : Listed). is_listed id.0 l.news) (listed-without x (real tale n).set.lists r)
+            ∙ ap (λ (l : Listed). is_listed id.0 l.news)
+                (listed-without x (real tale n).set.lists r)
             ∙ is_listed-others x (listed_at tale r n).news id.0 t,
       )
 
@@ -132,7 +138,8 @@ module _ (tale : Tale) (n : ℕ) where
     );
   }
     where
-      apart : (q : RollType) → (world_at tale (suc n)).roll q ≡ Some Propagation1 → same_roll r q ≡ false
+      apart : (q : RollType) → (world_at tale (suc n)).roll q ≡ Some Propagation1 → same_roll r q
+          ≡ false
       apart q e = by (same_roll r q) refl
         where
           by : (b : Bool) → same_roll r q ≡ b → b ≡ false
@@ -147,7 +154,8 @@ module _ (tale : Tale) (n : ℕ) where
       → (sd : SideOf) → ((q : RollType) → affects sd q ≡ true → same_roll r q ≡ false)
       → KeepsLists tale sd n
   keeps-start r o rolls lists sd apart = record {
-    phase = λ q own e. sym (put-other (world_at tale n).roll r o q (apart q own)) ∙ sym (rolls q) ∙ e;
+    phase = λ q own e. sym (put-other (world_at tale n).roll r o q (apart q own)) ∙ sym (rolls q)
+        ∙ e;
     same = λ q own e id k f role. let same = lists q (apart q own) in (
       ap (λ (l : Listed). is_listed id.0 l.olds) same,
       ap (λ (l : Listed). is_listed id.0 l.news) same,

@@ -1,4 +1,5 @@
--- A place of a run: the call, its entry, and the worlds before and after; a side of the chain over the record.
+-- A place of a run: the call, its entry, and the worlds before and after; a side of the chain over
+-- the record.
 use Rattle.std.proofs.Common.{[], ◌≡◌, ◌↔◌, ℕ, zero, suc, ◌<◌, ◌≤◌, inl, inr, Bool, true, false}
 use Rattle.std.proofs.Common.{◌&&◌, refl, sym, ◌∙◌, ap, subst, arith, List, length, Option, None}
 use Rattle.std.proofs.Common.{Some}
@@ -34,21 +35,25 @@ abbrev pub all_ok : (KeyType → Bool) → Option Key → Bool
 all_ok p None = true
 all_ok p (Some k) = p k.keytype
 
-pub some_key : (p : KeyType → Bool) (o : Option Key) → if_some p o ≡ true → (k : Key) × (o ≡ Some k) × (p k.keytype ≡ true)
+pub some_key : (p : KeyType → Bool) (o : Option Key) → if_some p o ≡ true → (k : Key) × (o ≡ Some k)
+    × (p k.keytype ≡ true)
 some_key p None e = absurd (true≢false (sym e))
 some_key p (Some k) e = (k, refl, e)
 
-pub found_key : (w : World) (id : Id) (k : Key) → found w id ≡ Some k → (w.key id.0 ≡ Some k) × (w.added id.0 ≡ id.1)
+pub found_key : (w : World) (id : Id) (k : Key) → found w id ≡ Some k → (w.key id.0 ≡ Some k)
+    × (w.added id.0 ≡ id.1)
 found_key w id k e = at_tag (w.added id.0 == id.1) refl e
   where
-    at_tag : (b : Bool) → (w.added id.0 == id.1) ≡ b → (if b then w.key id.0 else None) ≡ Some k → (w.key id.0 ≡ Some k) × (w.added id.0 ≡ id.1)
+    at_tag : (b : Bool) → (w.added id.0 == id.1) ≡ b → (if b then w.key id.0 else None) ≡ Some k
+        → (w.key id.0 ≡ Some k) × (w.added id.0 ≡ id.1)
     at_tag true t h = (h, eqb-true _ _ t)
     at_tag false t h = absurd (none-some k h)
 
 pub found_now : (w : World) (q : List ℕ) → found w (q, w.added q) ≡ w.key q
 found_now w q = ap (λ b. if b then w.key q else None) (eq-eqb (w.added q) (w.added q) refl)
 
-pub found_map : (b : Bool) (f : Key → Key) (o : Option Key) → (if b then option_map f o else None) ≡ option_map f (if b then o else None)
+pub found_map : (b : Bool) (f : Key → Key) (o : Option Key) → (if b then option_map f o else None)
+    ≡ option_map f (if b then o else None)
 found_map true f o = refl
 found_map false f o = refl
 
@@ -71,7 +76,8 @@ pub record Place (tale : Tale) (i : ℕ) : Type 0 where
   pub ok : rec.IsEntry (real tale i) (real tale (suc i)) call entry
   pub plain : sets_nothing (real tale i).set (rec.call_of call) ≡ true
   pub position_is : position_at tale.es (suc i) ≡ told entry
-  pub added_is : (world_at tale (suc i)).added ≡ rec.added_by (suc i) call entry.reply (world_at tale i).added
+  pub added_is : (world_at tale (suc i)).added
+      ≡ rec.added_by (suc i) call entry.reply (world_at tale i).added
   pub ds : Shows (told entry).ds (real tale (suc i)) in_ds
   pub dnskey : Shows (told entry).dnskey (real tale (suc i)) in_dnskey
   pub signers : Shows (told entry).signers (real tale (suc i)) signs_keys
@@ -104,11 +110,15 @@ pub empty_found : (p : KeyType → Bool) (b : Bool) → if_some p (if b then Non
 empty_found p true e = true≢false (sym e)
 empty_found p false e = true≢false (sym e)
 
-pub none_at_start : (tale : Tale) (p : KeyType → Bool) (id : Id) → if_some p (found (world_at tale zero) id) ≡ true → ⊥
+pub none_at_start : (tale : Tale) (p : KeyType → Bool) (id : Id)
+    → if_some p (found (world_at tale zero) id) ≡ true → ⊥
 unfolding rec.world_at
-none_at_start tale p id e = empty_found p (0 == id.1) (sym (ap (λ o. if_some p (if 0 == id.1 then o else None)) (get-empty (slice_cmp nat_cmp) id.0)) ∙ e)
+none_at_start tale p id e = empty_found p (0 == id.1)
+    (sym (ap (λ o. if_some p (if 0 == id.1 then o else None)) (get-empty (slice_cmp nat_cmp) id.0))
+    ∙ e)
 
-pub some_weaker : (p q : KeyType → Bool) → ((k : KeyType) → p k ≡ true → q k ≡ true) → (o : Option Key) → if_some p o ≡ true → if_some q o ≡ true
+pub some_weaker : (p q : KeyType → Bool) → ((k : KeyType) → p k ≡ true → q k ≡ true)
+    → (o : Option Key) → if_some p o ≡ true → if_some q o ≡ true
 some_weaker p q h None e = absurd (true≢false (sym e))
 some_weaker p q h (Some k) e = h k.keytype e
 
@@ -122,30 +132,43 @@ zone_key (Zsk s) e = e
 zone_key (Csk s t) e = e
 zone_key (Include s) e = absurd (true≢false (sym e))
 
-pub shows_ds : (tale : Tale) (n : ℕ) → n ≤ length tale.es → (id : Id) → if_some in_ds (found (world_at tale n) id) ≡ true → Contains (position_at tale.es n).ds id
+pub shows_ds : (tale : Tale) (n : ℕ) → n ≤ length tale.es → (id : Id)
+    → if_some in_ds (found (world_at tale n) id) ≡ true → Contains (position_at tale.es n).ds id
 shows_ds tale zero le id e = absurd (none_at_start tale in_ds id e)
 shows_ds tale (suc i) le id e = let p = place_at tale i (omega arith) in
     subst (λ q. Contains q.ds id) (sym p.position_is) ((p.ds id).1 e)
 
-pub ds_shown : (tale : Tale) (i : ℕ) → i < length tale.es → (id : Id) → Contains (position_at tale.es (suc i)).ds id → if_some in_ds (found (world_at tale (suc i)) id) ≡ true
+pub ds_shown : (tale : Tale) (i : ℕ) → i < length tale.es → (id : Id)
+    → Contains (position_at tale.es (suc i)).ds id
+    → if_some in_ds (found (world_at tale (suc i)) id) ≡ true
 ds_shown tale i lt id e = let p = place_at tale i lt in
     (p.ds id).0 (subst (λ q. Contains q.ds id) p.position_is e)
 
-pub shows : (tale : Tale) (sd : SideOf) (kind : SetKind) (n : ℕ) → n ≤ length tale.es → (id : Id) → if_some (test_of sd kind) (found (world_at tale n) id) ≡ true → Serving sd tale.es kind n id
+pub shows : (tale : Tale) (sd : SideOf) (kind : SetKind) (n : ℕ) → n ≤ length tale.es → (id : Id)
+    → if_some (test_of sd kind) (found (world_at tale n) id) ≡ true → Serving sd tale.es kind n id
 shows tale Keys Ds n le id e = inr (shows_ds tale n le id e)
 shows tale Keys Dnskey zero le id e = absurd (none_at_start tale (test_of Keys Dnskey) id e)
 shows tale Keys Dnskey (suc i) le id e =
     let p = place_at tale i (omega arith) in (
-      subst (λ q. Contains q.dnskey id) (sym p.position_is) ((p.dnskey id).1 (some_weaker (in_keys Keys) in_dnskey (λ k h. (and_parts (in_dnskey k) (signs_keys k) h).0) (found (world_at tale (suc i)) id) e)),
-      subst (λ q. Contains q.signers id) (sym p.position_is) ((p.signers id).1 (some_weaker (in_keys Keys) signs_keys (λ k h. (and_parts (in_dnskey k) (signs_keys k) h).1) (found (world_at tale (suc i)) id) e)),
+      subst (λ q. Contains q.dnskey id) (sym p.position_is)
+          ((p.dnskey id).1 (some_weaker (in_keys Keys) in_dnskey
+          (λ k h. (and_parts (in_dnskey k) (signs_keys k) h).0) (found (world_at tale (suc i)) id)
+          e)),
+      subst (λ q. Contains q.signers id) (sym p.position_is)
+          ((p.signers id).1 (some_weaker (in_keys Keys) signs_keys
+          (λ k h. (and_parts (in_dnskey k) (signs_keys k) h).1) (found (world_at tale (suc i)) id)
+          e)),
     )
 shows tale Keys ZoneSigners n le id e = tt
 shows tale Zone Ds n le id e = tt
 shows tale Zone Dnskey zero le id e = absurd (none_at_start tale (test_of Zone Dnskey) id e)
 shows tale Zone Dnskey (suc i) le id e =
     let p = place_at tale i (omega arith) in
-    subst (λ q. Contains q.dnskey id) (sym p.position_is) ((p.dnskey id).1 (some_weaker (in_keys Zone) in_dnskey zone_key (found (world_at tale (suc i)) id) e))
-shows tale Zone ZoneSigners zero le id e = absurd (none_at_start tale (test_of Zone ZoneSigners) id e)
+    subst (λ q. Contains q.dnskey id) (sym p.position_is)
+        ((p.dnskey id).1 (some_weaker (in_keys Zone) in_dnskey zone_key
+        (found (world_at tale (suc i)) id) e))
+shows tale Zone ZoneSigners zero le id e =
+    absurd (none_at_start tale (test_of Zone ZoneSigners) id e)
 shows tale Zone ZoneSigners (suc i) le id e =
     let p = place_at tale i (omega arith) in
     subst (λ q. Contains q.zone id) (sym p.position_is) ((p.zone id).1 e)
@@ -155,9 +178,12 @@ abbrev pub NoDs : List Entry → ℕ → Type 0
 NoDs es n = (q : ℕ) → q ≤ n → (position_at es q).ds ≡ []
 
 pub no_ds-next : (tale : Tale) (n : ℕ) → suc n ≤ length tale.es
-    → ((id : Id) → if_some in_ds (found (world_at tale (suc n)) id) ≡ true → if_some in_ds (found (world_at tale n) id) ≡ true) → NoDs tale.es n → NoDs tale.es (suc n)
-no_ds-next tale n here less h = upto (λ q. (position_at tale.es q).ds ≡ []) n h (nothing_in _ (λ id c.
-    let before : Contains (position_at tale.es n).ds id = shows_ds tale n (omega arith) id (less id (ds_shown tale n here id c)) in
+    → ((id : Id) → if_some in_ds (found (world_at tale (suc n)) id) ≡ true
+        → if_some in_ds (found (world_at tale n) id) ≡ true) → NoDs tale.es n → NoDs tale.es (suc n)
+no_ds-next tale n here less h = upto (λ q. (position_at tale.es q).ds ≡ []) n h
+    (nothing_in _ (λ id c.
+    let before : Contains (position_at tale.es n).ds id =
+        shows_ds tale n (omega arith) id (less id (ds_shown tale n here id c)) in
     not_in_empty id (subst (λ l. Contains l id) (h n (omega arith)) before)))
 
 -- a roll's side of the chain

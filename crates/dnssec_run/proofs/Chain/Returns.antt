@@ -34,10 +34,13 @@ early_end_key tale r n q k = record k { keytype = kind_back tale r n q k.keytype
 
 -- after an early end of the roll now the side would be at rest, with a key in use
 pub record LeadsBack (tale : Tale) (sd : SideOf) (r : RollType) (n : ℕ) : Type 0 where
-  pub flags : (id : Id) → all_ok (λ k. fits sd Quiet (kind_back tale r n id.0 k)) (found (world_at tale n) id) ≡ true
+  pub flags : (id : Id) → all_ok (λ k. fits sd Quiet (kind_back tale r n id.0 k))
+      (found (world_at tale n) id) ≡ true
   pub rest : (kind : SetKind) (q : ℕ) → q ≤ n → (Retired tale.es kind q n → ⊥) → (id : Id)
-      → if_some (λ k. test_of sd kind (kind_back tale r n id.0 k)) (found (world_at tale n) id) ≡ true → Serving sd tale.es kind q id
-  pub used : NoDs tale.es n ⊎ ((id : Id) × (if_some (λ k. in_use sd (kind_back tale r n id.0 k)) (found (world_at tale n) id) ≡ true))
+      → if_some (λ k. test_of sd kind (kind_back tale r n id.0 k)) (found (world_at tale n) id)
+          ≡ true → Serving sd tale.es kind q id
+  pub used : NoDs tale.es n ⊎ ((id : Id)
+      × (if_some (λ k. in_use sd (kind_back tale r n id.0 k)) (found (world_at tale n) id) ≡ true))
 
 -- so it is from a start to the first report
 abbrev pub Back : Tale → SideOf → Stage → ℕ → Type 0
@@ -47,9 +50,14 @@ Back tale sd (Late r) n = Unit {0}
 
 -- a call that starts no roll of a side, and leaves its keys in the lists as they were
 pub record KeepsLists (tale : Tale) (sd : SideOf) (n : ℕ) : Type 0 where
-  pub phase : (r : RollType) → affects sd r ≡ true → (world_at tale (suc n)).roll r ≡ Some Propagation1 → (world_at tale n).roll r ≡ Some Propagation1
-  pub same : (r : RollType) → affects sd r ≡ true → (world_at tale (suc n)).roll r ≡ Some Propagation1 → (id : Id) (k : Key) → found (world_at tale (suc n)) id ≡ Some k → has_role sd k.keytype ≡ true
-      → (is_listed id.0 (listed_at tale r (suc n)).olds ≡ is_listed id.0 (listed_at tale r n).olds) × (is_listed id.0 (listed_at tale r (suc n)).news ≡ is_listed id.0 (listed_at tale r n).news)
+  pub phase : (r : RollType) → affects sd r ≡ true → (world_at tale (suc n)).roll r
+      ≡ Some Propagation1 → (world_at tale n).roll r ≡ Some Propagation1
+  pub same : (r : RollType) → affects sd r ≡ true → (world_at tale (suc n)).roll r
+      ≡ Some Propagation1 → (id : Id) (k : Key) → found (world_at tale (suc n)) id ≡ Some k
+      → has_role sd k.keytype ≡ true
+      → (is_listed id.0 (listed_at tale r (suc n)).olds ≡ is_listed id.0 (listed_at tale r n).olds)
+          × (is_listed id.0 (listed_at tale r (suc n)).news
+          ≡ is_listed id.0 (listed_at tale r n).news)
 
 -- a key that the side sees, and that an early end would leave in no order
 misfits : SideOf → (KeyType → KeyType) → KeyType → Bool
@@ -62,62 +70,96 @@ not_true false e = refl
 misfits-seen : (sd : SideOf) (f : KeyType → KeyType) → Seen sd (misfits sd f)
 unfolding misfits
 misfits-seen sd f k e =
-    let x = and_parts (has_role sd k) (not (is_idle k)) (and_parts (has_role sd k && not (is_idle k)) _ e).0 in
+    let x = and_parts (has_role sd k) (not (is_idle k))
+        (and_parts (has_role sd k && not (is_idle k)) _ e).0 in
     (x.0, not_true _ x.1)
 
-misfits-not : (sd : SideOf) (f : KeyType → KeyType) (o : Option Key) → all_ok (λ k. fits sd Quiet (f k)) o ≡ true → if_some (misfits sd f) o ≡ true → ⊥
+misfits-not : (sd : SideOf) (f : KeyType → KeyType) (o : Option Key)
+    → all_ok (λ k. fits sd Quiet (f k)) o ≡ true → if_some (misfits sd f) o ≡ true → ⊥
 unfolding misfits
 misfits-not sd f None h e = true≢false (sym e)
-misfits-not sd f (Some k) h e = true≢false (sym h ∙ not_true _ (and_parts (has_role sd k.keytype && not (is_idle k.keytype)) _ e).1)
+misfits-not sd f (Some k) h e = true≢false
+    (sym h ∙ not_true _ (and_parts (has_role sd k.keytype && not (is_idle k.keytype)) _ e).1)
 
-misfits-by : (sd : SideOf) (f : KeyType → KeyType) (k : KeyType) → (has_role sd k && not (is_idle k)) ≡ true → fits sd Quiet (f k) ≡ false → misfits sd f k ≡ true
+misfits-by : (sd : SideOf) (f : KeyType → KeyType) (k : KeyType)
+    → (has_role sd k && not (is_idle k)) ≡ true → fits sd Quiet (f k) ≡ false → misfits sd f k
+    ≡ true
 unfolding misfits
 misfits-by sd f k seen bad = and-both _ _ seen (ap not bad)
 
 module _ (tale : Tale) (n : ℕ) (here : suc n ≤ length tale.es) (sd : SideOf)
-    (fore : (p : KeyType → Bool) → Seen sd p → (id : Id) → if_some p (found (world_at tale (suc n)) id) ≡ true → if_some p (found (world_at tale n) id) ≡ true)
-    (back : (p : KeyType → Bool) → Seen sd p → (id : Id) → if_some p (found (world_at tale n) id) ≡ true → if_some p (found (world_at tale (suc n)) id) ≡ true)
+    (fore : (p : KeyType → Bool) → Seen sd p → (id : Id)
+        → if_some p (found (world_at tale (suc n)) id) ≡ true
+        → if_some p (found (world_at tale n) id) ≡ true)
+    (back : (p : KeyType → Bool) → Seen sd p → (id : Id) → if_some p (found (world_at tale n) id)
+        ≡ true → if_some p (found (world_at tale (suc n)) id) ≡ true)
     (dead : NoDs tale.es n → NoDs tale.es (suc n)) (lists : KeepsLists tale sd n)
-    (r : RollType) (own : affects sd r ≡ true) (phase : (world_at tale (suc n)).roll r ≡ Some Propagation1) where
-  same_kind : (id : Id) (k : Key) → found (world_at tale (suc n)) id ≡ Some k → has_role sd k.keytype ≡ true → kind_back tale r (suc n) id.0 k.keytype ≡ kind_back tale r n id.0 k.keytype
-  same_kind id k e role = let s = lists.same r own phase id k e role in λ j. ended r (s.0 j) (s.1 j) k.keytype
+    (r : RollType) (own : affects sd r ≡ true)
+        (phase : (world_at tale (suc n)).roll r ≡ Some Propagation1) where
+  same_kind : (id : Id) (k : Key) → found (world_at tale (suc n)) id ≡ Some k
+      → has_role sd k.keytype ≡ true → kind_back tale r (suc n) id.0 k.keytype
+      ≡ kind_back tale r n id.0 k.keytype
+  same_kind id k e role = let s = lists.same r own phase id k e role in
+      λ j. ended r (s.0 j) (s.1 j) k.keytype
 
   was : (p : KeyType → Bool) → ((o i : Bool) → Seen sd (λ k. p (ended r o i k))) → (id : Id)
-      → if_some (λ k. p (kind_back tale r (suc n) id.0 k)) (found (world_at tale (suc n)) id) ≡ true → if_some (λ k. p (kind_back tale r n id.0 k)) (found (world_at tale n) id) ≡ true
+      → if_some (λ k. p (kind_back tale r (suc n) id.0 k)) (found (world_at tale (suc n)) id) ≡ true
+          → if_some (λ k. p (kind_back tale r n id.0 k)) (found (world_at tale n) id) ≡ true
   was p seen id e =
-      let k = some_key (λ k. p (kind_back tale r (suc n) id.0 k)) (found (world_at tale (suc n)) id) e in
+      let k = some_key (λ k. p (kind_back tale r (suc n) id.0 k)) (found (world_at tale (suc n)) id)
+          e in
       let role = (seen _ _ k.0.keytype k.2).0 in
       fore (λ k. p (kind_back tale r n id.0 k)) (seen _ _) id
-      (ap (if_some (λ k. p (kind_back tale r n id.0 k))) k.1 ∙ ap p (sym (same_kind id k.0 k.1 role)) ∙ k.2)
+      (ap (if_some (λ k. p (kind_back tale r n id.0 k))) k.1
+          ∙ ap p (sym (same_kind id k.0 k.1 role)) ∙ k.2)
 
   stays : (p : KeyType → Bool) → ((o i : Bool) → Seen sd (λ k. p (ended r o i k))) → (id : Id)
-      → if_some (λ k. p (kind_back tale r n id.0 k)) (found (world_at tale n) id) ≡ true → if_some (λ k. p (kind_back tale r (suc n) id.0 k)) (found (world_at tale (suc n)) id) ≡ true
+      → if_some (λ k. p (kind_back tale r n id.0 k)) (found (world_at tale n) id) ≡ true
+          → if_some (λ k. p (kind_back tale r (suc n) id.0 k)) (found (world_at tale (suc n)) id)
+          ≡ true
   stays p seen id e =
       let now = back (λ k. p (kind_back tale r n id.0 k)) (seen _ _) id e in
-      let k = some_key (λ k. p (kind_back tale r n id.0 k)) (found (world_at tale (suc n)) id) now in
+      let k = some_key (λ k. p (kind_back tale r n id.0 k)) (found (world_at tale (suc n)) id) now
+          in
       let role = (seen _ _ k.0.keytype k.2).0 in
-      ap (if_some (λ k. p (kind_back tale r (suc n) id.0 k))) k.1 ∙ ap p (same_kind id k.0 k.1 role) ∙ k.2
+      ap (if_some (λ k. p (kind_back tale r (suc n) id.0 k))) k.1 ∙ ap p (same_kind id k.0 k.1 role)
+          ∙ k.2
 
-  flags_next : LeadsBack tale sd r n → (id : Id) → all_ok (λ k. fits sd Quiet (kind_back tale r (suc n) id.0 k)) (found (world_at tale (suc n)) id) ≡ true
+  flags_next : LeadsBack tale sd r n → (id : Id)
+      → all_ok (λ k. fits sd Quiet (kind_back tale r (suc n) id.0 k))
+      (found (world_at tale (suc n)) id) ≡ true
   flags_next h id = by (found (world_at tale (suc n)) id) refl
     where
-      by : (o : Option Key) → found (world_at tale (suc n)) id ≡ o → all_ok (λ k. fits sd Quiet (kind_back tale r (suc n) id.0 k)) o ≡ true
+      by : (o : Option Key) → found (world_at tale (suc n)) id ≡ o
+          → all_ok (λ k. fits sd Quiet (kind_back tale r (suc n) id.0 k)) o ≡ true
       by None e = refl
-      by (Some k) e = at_key (has_role sd k.keytype && not (is_idle k.keytype)) (fits sd Quiet (kind_back tale r n id.0 k.keytype)) refl refl
+      by (Some k) e = at_key (has_role sd k.keytype && not (is_idle k.keytype))
+          (fits sd Quiet (kind_back tale r n id.0 k.keytype)) refl refl
         where
-          at_key : (b c : Bool) → (has_role sd k.keytype && not (is_idle k.keytype)) ≡ b → fits sd Quiet (kind_back tale r n id.0 k.keytype) ≡ c
+          at_key : (b c : Bool) → (has_role sd k.keytype && not (is_idle k.keytype)) ≡ b
+              → fits sd Quiet (kind_back tale r n id.0 k.keytype) ≡ c
               → fits sd Quiet (kind_back tale r (suc n) id.0 k.keytype) ≡ true
           at_key false c f g = unseen-ended sd r _ _ k.keytype f
-          at_key true true f g = ap (fits sd Quiet) (same_kind id k e (and_parts (has_role sd k.keytype) _ f).0) ∙ g
-          at_key true false f g = absurd (misfits-not sd (kind_back tale r n id.0) (found (world_at tale n) id) (h.flags id)
-              (fore (misfits sd (kind_back tale r n id.0)) (misfits-seen sd (kind_back tale r n id.0)) id
-              (ap (if_some (misfits sd (kind_back tale r n id.0))) e ∙ misfits-by sd (kind_back tale r n id.0) k.keytype f g)))
+          at_key true true f g = ap (fits sd Quiet)
+              (same_kind id k e (and_parts (has_role sd k.keytype) _ f).0) ∙ g
+          at_key true false f g = absurd
+              (misfits-not sd (kind_back tale r n id.0) (found (world_at tale n) id) (h.flags id)
+              (fore (misfits sd (kind_back tale r n id.0))
+                  (misfits-seen sd (kind_back tale r n id.0)) id
+              (ap (if_some (misfits sd (kind_back tale r n id.0))) e
+                  ∙ misfits-by sd (kind_back tale r n id.0) k.keytype f g)))
 
   pub leads-on : LeadsBack tale sd r n → LeadsBack tale sd r (suc n)
   leads-on h = record {
     flags = flags_next h;
-    rest = λ kind. upto (λ q. (Retired tale.es kind q (suc n) → ⊥) → (id : Id) → if_some (λ k. test_of sd kind (kind_back tale r (suc n) id.0 k)) (found (world_at tale (suc n)) id) ≡ true → Serving sd tale.es kind q id) n
-        (λ q le un id e. h.rest kind q le (λ x. un (retired_stays tale.es kind q n x)) id (was (test_of sd kind) (ended-seen sd kind r) id e))
-        (λ _ id e. shows tale sd kind (suc n) here id (some_weaker (λ k. test_of sd kind (kind_back tale r (suc n) id.0 k)) (test_of sd kind) (ended-less sd kind r _ _) (found (world_at tale (suc n)) id) e));
-    used = elim (h.used) [ inl d ↦ inl (dead d) | inr a ↦ inr (a.0, stays (in_use sd) (ended-used sd r) a.0 a.1) ];
+    rest = λ kind. upto (λ q. (Retired tale.es kind q (suc n) → ⊥) → (id : Id)
+        → if_some (λ k. test_of sd kind (kind_back tale r (suc n) id.0 k))
+        (found (world_at tale (suc n)) id) ≡ true → Serving sd tale.es kind q id) n
+        (λ q le un id e. h.rest kind q le (λ x. un (retired_stays tale.es kind q n x)) id
+            (was (test_of sd kind) (ended-seen sd kind r) id e))
+        (λ _ id e. shows tale sd kind (suc n) here id
+            (some_weaker (λ k. test_of sd kind (kind_back tale r (suc n) id.0 k)) (test_of sd kind)
+            (ended-less sd kind r _ _) (found (world_at tale (suc n)) id) e));
+    used = elim (h.used) [ inl d ↦ inl (dead d) | inr a ↦
+        inr (a.0, stays (in_use sd) (ended-used sd r) a.0 a.1) ];
   }

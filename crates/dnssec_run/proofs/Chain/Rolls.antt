@@ -118,7 +118,8 @@ same-true AlgorithmRoll CskRoll e = absurd (true≢false (sym e))
 same-true AlgorithmRoll AlgorithmRoll e = refl
 
 -- two rolls of a side never run together
-pub clash : (sd : SideOf) (r q : RollType) → affects sd r ≡ true → affects sd q ≡ true → tolerates r q ≡ false
+pub clash : (sd : SideOf) (r q : RollType) → affects sd r ≡ true → affects sd q ≡ true
+    → tolerates r q ≡ false
 clash Keys KskRoll KskRoll e f = refl
 clash Keys KskRoll KskDoubleDsRoll e f = refl
 clash Keys KskRoll ZskRoll e f = absurd (true≢false (sym f))
@@ -192,7 +193,8 @@ clash Zone AlgorithmRoll ZskDoubleSignatureRoll e f = refl
 clash Zone AlgorithmRoll CskRoll e f = refl
 clash Zone AlgorithmRoll AlgorithmRoll e f = refl
 
-pub stage_early : (st : Stage) (r : RollType) (p : RollState) → stage_fits (Early r) r (Some p) ≡ true → stage_fits st r (Some p) ≡ true → st ≡ Early r
+pub stage_early : (st : Stage) (r : RollType) (p : RollState) → stage_fits (Early r) r (Some p)
+    ≡ true → stage_fits st r (Some p) ≡ true → st ≡ Early r
 stage_early Quiet r Propagation1 k e = absurd (true≢false (sym e))
 stage_early Quiet r (CacheExpire1 t) k e = absurd (true≢false (sym e))
 stage_early Quiet r Propagation2 k e = absurd (true≢false (sym k))
@@ -209,7 +211,8 @@ stage_early (Late q) r Propagation2 k e = absurd (true≢false (sym k))
 stage_early (Late q) r (CacheExpire2 t) k e = absurd (true≢false (sym k))
 stage_early (Late q) r Done k e = absurd (true≢false (sym k))
 
-pub stage_late : (st : Stage) (r : RollType) (p : RollState) → stage_fits (Late r) r (Some p) ≡ true → stage_fits st r (Some p) ≡ true → st ≡ Late r
+pub stage_late : (st : Stage) (r : RollType) (p : RollState) → stage_fits (Late r) r (Some p) ≡ true
+    → stage_fits st r (Some p) ≡ true → st ≡ Late r
 stage_late Quiet r Propagation1 k e = absurd (true≢false (sym k))
 stage_late Quiet r (CacheExpire1 t) k e = absurd (true≢false (sym k))
 stage_late Quiet r Propagation2 k e = absurd (true≢false (sym e))
@@ -226,7 +229,8 @@ stage_late (Late q) r Propagation2 k e = ap Late (same-true q r e)
 stage_late (Late q) r (CacheExpire2 t) k e = ap Late (same-true q r e)
 stage_late (Late q) r Done k e = absurd (true≢false (sym k))
 
-pub stage_quiet : (sd : SideOf) (st : Stage) → stage_own sd st ≡ true → ((q : RollType) → affects sd q ≡ true → stage_fits st q None ≡ true) → st ≡ Quiet
+pub stage_quiet : (sd : SideOf) (st : Stage) → stage_own sd st ≡ true
+    → ((q : RollType) → affects sd q ≡ true → stage_fits st q None ≡ true) → st ≡ Quiet
 stage_quiet sd Quiet own h = refl
 stage_quiet sd (Early r) own h = absurd (true≢false (sym (h r own) ∙ ap not (same-same r)))
 stage_quiet sd (Late r) own h = absurd (true≢false (sym (h r own) ∙ ap not (same-same r)))
@@ -236,7 +240,8 @@ stage_done Quiet r e = refl
 stage_done (Early q) r e = absurd (true≢false (sym e))
 stage_done (Late q) r e = absurd (true≢false (sym e))
 
-pub others_early : (r q : RollType) (o : Option RollState) → stage_fits (Early r) q o ≡ true → same_roll r q ≡ false → o ≡ None
+pub others_early : (r q : RollType) (o : Option RollState) → stage_fits (Early r) q o ≡ true
+    → same_roll r q ≡ false → o ≡ None
 others_early r q None e d = refl
 others_early r q (Some Propagation1) e d = absurd (true≢false (sym e ∙ d))
 others_early r q (Some (CacheExpire1 t)) e d = absurd (true≢false (sym e ∙ d))
@@ -244,7 +249,8 @@ others_early r q (Some Propagation2) e d = absurd (true≢false (sym e))
 others_early r q (Some (CacheExpire2 t)) e d = absurd (true≢false (sym e))
 others_early r q (Some Done) e d = absurd (true≢false (sym e))
 
-pub others_late : (r q : RollType) (o : Option RollState) → stage_fits (Late r) q o ≡ true → same_roll r q ≡ false → o ≡ None
+pub others_late : (r q : RollType) (o : Option RollState) → stage_fits (Late r) q o ≡ true
+    → same_roll r q ≡ false → o ≡ None
 others_late r q None e d = refl
 others_late r q (Some Propagation1) e d = absurd (true≢false (sym e))
 others_late r q (Some (CacheExpire1 t)) e d = absurd (true≢false (sym e))
@@ -253,16 +259,21 @@ others_late r q (Some (CacheExpire2 t)) e d = absurd (true≢false (sym e ∙ d)
 others_late r q (Some Done) e d = absurd (true≢false (sym e))
 
 -- a stage after one roll's state is put
-pub put-fits : (st : Stage) (f : RollType → Option RollState) (r : RollType) (o : Option RollState) (q : RollType)
-    → (same_roll r q ≡ true → stage_fits st q o ≡ true) → (same_roll r q ≡ false → stage_fits st q (f q) ≡ true) → stage_fits st q (put_roll f r o q) ≡ true
+pub put-fits : (st : Stage) (f : RollType → Option RollState) (r : RollType) (o : Option RollState)
+    (q : RollType)
+    → (same_roll r q ≡ true → stage_fits st q o ≡ true)
+        → (same_roll r q ≡ false → stage_fits st q (f q) ≡ true)
+        → stage_fits st q (put_roll f r o q) ≡ true
 put-fits st f r o q here there = by (same_roll r q) refl
   where
     by : (b : Bool) → same_roll r q ≡ b → stage_fits st q (if b then o else f q) ≡ true
     by true e = here e
     by false e = there e
 
-pub put-same : (f : RollType → Option RollState) (r : RollType) (o : Option RollState) → put_roll f r o r ≡ o
+pub put-same : (f : RollType → Option RollState) (r : RollType) (o : Option RollState)
+    → put_roll f r o r ≡ o
 put-same f r o = ap (λ b. if b then o else f r) (same-same r)
 
-pub put-other : (f : RollType → Option RollState) (r : RollType) (o : Option RollState) (q : RollType) → same_roll r q ≡ false → put_roll f r o q ≡ f q
+pub put-other : (f : RollType → Option RollState) (r : RollType) (o : Option RollState)
+    (q : RollType) → same_roll r q ≡ false → put_roll f r o q ≡ f q
 put-other f r o q e = ap (λ b. if b then o else f q) e

@@ -33,37 +33,48 @@ use Rattle.dnssec_run.proofs.Chain.Rolls.{put-fits, clash}
 use Rattle.dnssec_run.proofs.Chain.History.{Serving, base_here, retired_stays}
 use Rattle.dnssec_run.proofs.Chain.Places.{all_ok, side, NoDs, found_key, found_now, some_weaker}
 use Rattle.dnssec_run.proofs.Chain.Places.{real, shows, some_key}
-use Rattle.dnssec_run.proofs.Chain.EarlyEnds.{there_and_back, is_tied, back-fits, back-set, ended-less}
+use Rattle.dnssec_run.proofs.Chain.EarlyEnds.{there_and_back, is_tied, back-fits, back-set}
+use Rattle.dnssec_run.proofs.Chain.EarlyEnds.{ended-less}
 use Rattle.dnssec_run.proofs.Chain.Returns.{LeadsBack, listed_at, kind_back, early_end_key}
 use Rattle.dnssec_run.proofs.Chain.Invariant.{At, AtRest, EarlyOf, LateOf, Alive, used_first}
 use Rattle.dnssec_run.proofs.Chain.Invariant.{used_second, rest_side, side_rest}
 
 -- a roll call: each key is mapped, and one roll's state is put
-pub record Mapped (tale : Tale) (n : ℕ) (f : List ℕ → Key → Key) (r : RollType) (o : Option RollState) : Type 0 where
-  pub keys : (q : List ℕ) → (world_at tale (suc n)).key q ≡ option_map (f q) ((world_at tale n).key q)
-  pub founds : (id : Id) → found (world_at tale (suc n)) id ≡ option_map (f id.0) (found (world_at tale n) id)
-  pub rolls : (q : RollType) → (world_at tale (suc n)).roll q ≡ put_roll (world_at tale n).roll r o q
+pub record Mapped (tale : Tale) (n : ℕ) (f : List ℕ → Key → Key) (r : RollType)
+    (o : Option RollState) : Type 0 where
+  pub keys : (q : List ℕ) → (world_at tale (suc n)).key q
+      ≡ option_map (f q) ((world_at tale n).key q)
+  pub founds : (id : Id) → found (world_at tale (suc n)) id
+      ≡ option_map (f id.0) (found (world_at tale n) id)
+  pub rolls : (q : RollType) → (world_at tale (suc n)).roll q
+      ≡ put_roll (world_at tale n).roll r o q
 
--- one key --------------------------------------------------------------------------------------
+-- ---- one key
 
-pub may_by : (r : RollType) (o i : Bool) (k : KeyType) → (o ≡ true → may_list r k ≡ true) → (i ≡ true → (may_list r k ≡ true) × (is_blank k ≡ true) × (o ≡ false)) → may_start r o i k ≡ true
+pub may_by : (r : RollType) (o i : Bool) (k : KeyType) → (o ≡ true → may_list r k ≡ true)
+    → (i ≡ true → (may_list r k ≡ true) × (is_blank k ≡ true) × (o ≡ false)) → may_start r o i k
+    ≡ true
 may_by r true true k old new = absurd (true≢false (new refl).2)
 may_by r true false k old new = and-both _ true (old refl) refl
 may_by r false true k old new = let x = new refl in and-both _ _ (and-both _ _ x.0 x.1) refl
 may_by r false false k old new = refl
 
-pub may_at : (r : RollType) (w : World) (old new : List (List ℕ)) → CanStart r w old new → (id : Id) → all_ok (may_start r (is_listed id.0 old) (is_listed id.0 new)) (found w id) ≡ true
+pub may_at : (r : RollType) (w : World) (old new : List (List ℕ)) → CanStart r w old new → (id : Id)
+    → all_ok (may_start r (is_listed id.0 old) (is_listed id.0 new)) (found w id) ≡ true
 may_at r w old new can id = by (found w id) refl
   where
-    by : (o : Option Key) → found w id ≡ o → all_ok (may_start r (is_listed id.0 old) (is_listed id.0 new)) o ≡ true
+    by : (o : Option Key) → found w id ≡ o
+        → all_ok (may_start r (is_listed id.0 old) (is_listed id.0 new)) o ≡ true
     by None e = refl
     by (Some k) e =
         let key : w.key id.0 ≡ Some k = (found_key w id k e).0 in
         may_by r (is_listed id.0 old) (is_listed id.0 new) k.keytype
-        (λ t. let x = can.old_is id.0 t in subst (λ k. may_list r k.keytype ≡ true) (same_Some x.0 k (sym x.1 ∙ key)) x.2)
+        (λ t. let x = can.old_is id.0 t in
+            subst (λ k. may_list r k.keytype ≡ true) (same_Some x.0 k (sym x.1 ∙ key)) x.2)
         (λ t. let x = can.new_is id.0 t in
         let same : x.0 ≡ k = same_Some x.0 k (sym x.1 ∙ key) in
-        (subst (λ k. may_list r k.keytype ≡ true) same x.2, subst (λ k. is_blank k.keytype ≡ true) same x.3, x.4))
+        (subst (λ k. may_list r k.keytype ≡ true) same x.2, subst (λ k. is_blank k.keytype ≡ true)
+            same x.3, x.4))
 
 or_left : (a b : Bool) → a ≡ true → (a || b) ≡ true
 or_left true b e = refl
@@ -73,97 +84,141 @@ or_right : (a b : Bool) → b ≡ true → (a || b) ≡ true
 or_right true b e = refl
 or_right false b e = e
 
-pub suits : (o i : Bool) (a b : Bool) → ((i ≡ true) × (a ≡ true)) ⊎ ((o ≡ false) × (b ≡ true)) → ((i && a) || (not o && b)) ≡ true
+pub suits : (o i : Bool) (a b : Bool) → ((i ≡ true) × (a ≡ true)) ⊎ ((o ≡ false) × (b ≡ true))
+    → ((i && a) || (not o && b)) ≡ true
 suits o i a b (inl x) = or_left _ _ (and-both i a x.0 x.1)
 suits o i a b (inr x) = or_right (i && a) _ (and-both (not o) b (ap not x.0) x.1)
 
 module _ (sd : SideOf) (r : RollType) (own : affects sd r ≡ true) (now : ℕ) where
-  start-fit : (old new : List (List ℕ)) (q : List ℕ) (o : Option Key) → all_ok (may_start r (is_listed q old) (is_listed q new)) o ≡ true
-      → all_ok (fits sd Quiet) o ≡ true → all_ok (fits sd (Early r)) (option_map (start_key r now old new q) o) ≡ true
+  start-fit : (old new : List (List ℕ)) (q : List ℕ) (o : Option Key)
+      → all_ok (may_start r (is_listed q old) (is_listed q new)) o ≡ true
+      → all_ok (fits sd Quiet) o ≡ true
+          → all_ok (fits sd (Early r)) (option_map (start_key r now old new q) o) ≡ true
   start-fit old new q None may h = refl
-  start-fit old new q (Some k) may h = (start_facts sd r (is_listed q old) (is_listed q new) k.keytype own may h).fit
+  start-fit old new q (Some k) may h =
+      (start_facts sd r (is_listed q old) (is_listed q new) k.keytype own may h).fit
 
-  start-inner : (old new : List (List ℕ)) (q : List ℕ) (o : Option Key) → all_ok (may_start r (is_listed q old) (is_listed q new)) o ≡ true
-      → all_ok (fits sd Quiet) o ≡ true → if_some (second_test sd r) o ≡ true → if_some (first_test sd r) o ≡ true
+  start-inner : (old new : List (List ℕ)) (q : List ℕ) (o : Option Key)
+      → all_ok (may_start r (is_listed q old) (is_listed q new)) o ≡ true
+      → all_ok (fits sd Quiet) o ≡ true → if_some (second_test sd r) o ≡ true
+          → if_some (first_test sd r) o ≡ true
   start-inner old new q None may h e = absurd (true≢false (sym e))
-  start-inner old new q (Some k) may h e = (start_facts sd r (is_listed q old) (is_listed q new) k.keytype own may h).inner e
+  start-inner old new q (Some k) may h e =
+      (start_facts sd r (is_listed q old) (is_listed q new) k.keytype own may h).inner e
 
-  start-second : (old new : List (List ℕ)) (q : List ℕ) (o : Option Key) → all_ok (may_start r (is_listed q old) (is_listed q new)) o ≡ true
-      → all_ok (fits sd Quiet) o ≡ true → switches sd r ≡ true → if_some (second_test sd r) (option_map (start_key r now old new q) o) ≡ true
-      → (if_some (second_test sd r) o ≡ true) × (if_some (first_test sd r) (option_map (start_key r now old new q) o) ≡ true)
+  start-second : (old new : List (List ℕ)) (q : List ℕ) (o : Option Key)
+      → all_ok (may_start r (is_listed q old) (is_listed q new)) o ≡ true
+      → all_ok (fits sd Quiet) o ≡ true → switches sd r ≡ true
+          → if_some (second_test sd r) (option_map (start_key r now old new q) o) ≡ true
+      → (if_some (second_test sd r) o ≡ true)
+          × (if_some (first_test sd r) (option_map (start_key r now old new q) o) ≡ true)
   start-second old new q None may h w e = absurd (true≢false (sym e))
-  start-second old new q (Some k) may h w e = (start_facts sd r (is_listed q old) (is_listed q new) k.keytype own may h).second w e
+  start-second old new q (Some k) may h w e =
+      (start_facts sd r (is_listed q old) (is_listed q new) k.keytype own may h).second w e
 
-  start-used : (old new : List (List ℕ)) (q : List ℕ) (o : Option Key) → all_ok (may_start r (is_listed q old) (is_listed q new)) o ≡ true
-      → all_ok (fits sd Quiet) o ≡ true → if_some (in_use sd) o ≡ true → if_some (in_use sd) (option_map (start_key r now old new q) o) ≡ true
+  start-used : (old new : List (List ℕ)) (q : List ℕ) (o : Option Key)
+      → all_ok (may_start r (is_listed q old) (is_listed q new)) o ≡ true
+      → all_ok (fits sd Quiet) o ≡ true → if_some (in_use sd) o ≡ true
+          → if_some (in_use sd) (option_map (start_key r now old new q) o) ≡ true
   start-used old new q None may h e = absurd (true≢false (sym e))
-  start-used old new q (Some k) may h e = (start_facts sd r (is_listed q old) (is_listed q new) k.keytype own may h).used e
+  start-used old new q (Some k) may h e =
+      (start_facts sd r (is_listed q old) (is_listed q new) k.keytype own may h).used e
 
-  w1-fit : (o : Option Key) → all_ok (fits sd (Early r)) o ≡ true → all_ok (fits sd (Late r)) (option_map (wait1_key r now) o) ≡ true
+  w1-fit : (o : Option Key) → all_ok (fits sd (Early r)) o ≡ true
+      → all_ok (fits sd (Late r)) (option_map (wait1_key r now) o) ≡ true
   w1-fit None h = refl
   w1-fit (Some k) h = (wait1_facts sd r k.keytype own h).fit
 
-  w1-first : (o : Option Key) → all_ok (fits sd (Early r)) o ≡ true → if_some (first_test sd r) (option_map (wait1_key r now) o) ≡ true → if_some (first_test sd r) o ≡ true
+  w1-first : (o : Option Key) → all_ok (fits sd (Early r)) o ≡ true
+      → if_some (first_test sd r) (option_map (wait1_key r now) o) ≡ true
+      → if_some (first_test sd r) o ≡ true
   w1-first None h e = e
   w1-first (Some k) h e = (wait1_facts sd r k.keytype own h).first e
 
-  w1-keep : (o : Option Key) → switches sd r ≡ true → all_ok (fits sd (Early r)) o ≡ true → if_some (first_test sd r) o ≡ true → if_some (first_test sd r) (option_map (wait1_key r now) o) ≡ true
+  w1-keep : (o : Option Key) → switches sd r ≡ true → all_ok (fits sd (Early r)) o ≡ true
+      → if_some (first_test sd r) o ≡ true
+      → if_some (first_test sd r) (option_map (wait1_key r now) o) ≡ true
   w1-keep None w h e = e
   w1-keep (Some k) w h e = (wait1_facts sd r k.keytype own h).keep w e
 
-  w1-second : (o : Option Key) → switches sd r ≡ false → all_ok (fits sd (Early r)) o ≡ true → if_some (second_test sd r) (option_map (wait1_key r now) o) ≡ true → if_some (second_test sd r) o ≡ true
+  w1-second : (o : Option Key) → switches sd r ≡ false → all_ok (fits sd (Early r)) o ≡ true
+      → if_some (second_test sd r) (option_map (wait1_key r now) o) ≡ true
+      → if_some (second_test sd r) o ≡ true
   w1-second None w h e = e
   w1-second (Some k) w h e = (wait1_facts sd r k.keytype own h).second w e
 
-  w1-some : (o : Option Key) → all_ok (fits sd (Early r)) o ≡ true → if_some (remains sd r) o ≡ true → if_some (live sd) (option_map (wait1_key r now) o) ≡ true
+  w1-some : (o : Option Key) → all_ok (fits sd (Early r)) o ≡ true → if_some (remains sd r) o ≡ true
+      → if_some (live sd) (option_map (wait1_key r now) o) ≡ true
   w1-some None h e = absurd (true≢false (sym e))
   w1-some (Some k) h e = (wait1_facts sd r k.keytype own h).some e
 
-  w2-fit : (o : Option Key) → all_ok (fits sd (Late r)) o ≡ true → all_ok (fits sd Quiet) (option_map (wait2_key r now) o) ≡ true
+  w2-fit : (o : Option Key) → all_ok (fits sd (Late r)) o ≡ true
+      → all_ok (fits sd Quiet) (option_map (wait2_key r now) o) ≡ true
   w2-fit None h = refl
   w2-fit (Some k) h = (wait2_facts sd r k.keytype own h).fit
 
-  w2-first : (o : Option Key) → all_ok (fits sd (Late r)) o ≡ true → if_some (first_test sd r) (option_map (wait2_key r now) o) ≡ true → if_some (first_test sd r) o ≡ true
+  w2-first : (o : Option Key) → all_ok (fits sd (Late r)) o ≡ true
+      → if_some (first_test sd r) (option_map (wait2_key r now) o) ≡ true
+      → if_some (first_test sd r) o ≡ true
   w2-first None h e = e
   w2-first (Some k) h e = (wait2_facts sd r k.keytype own h).first e
 
-  w2-second : (o : Option Key) → all_ok (fits sd (Late r)) o ≡ true → if_some (second_test sd r) (option_map (wait2_key r now) o) ≡ true → if_some (second_test sd r) o ≡ true
+  w2-second : (o : Option Key) → all_ok (fits sd (Late r)) o ≡ true
+      → if_some (second_test sd r) (option_map (wait2_key r now) o) ≡ true
+      → if_some (second_test sd r) o ≡ true
   w2-second None h e = e
   w2-second (Some k) h e = (wait2_facts sd r k.keytype own h).second e
 
-  w2-used : (o : Option Key) → all_ok (fits sd (Late r)) o ≡ true → if_some (live sd) o ≡ true → if_some (in_use sd) (option_map (wait2_key r now) o) ≡ true
+  w2-used : (o : Option Key) → all_ok (fits sd (Late r)) o ≡ true → if_some (live sd) o ≡ true
+      → if_some (in_use sd) (option_map (wait2_key r now) o) ≡ true
   w2-used None h e = absurd (true≢false (sym e))
   w2-used (Some k) h e = (wait2_facts sd r k.keytype own h).used e
 
--- one step -------------------------------------------------------------------------------------
+-- ---- one step
 
 -- what a side may know before the first wait: a key in use, or that nothing is asked of it
 abbrev pub LifeAt : (tale : Tale) → SideOf → RollType → ℕ → Type 0
-LifeAt tale sd r n = Alive tale sd n ⊎ (((id : Id) (q : ℕ) → q ≤ n → Serving sd tale.es (second_kind sd r) q id) ⊎ NoDs tale.es (suc n))
+LifeAt tale sd r n = Alive tale sd n
+    ⊎ (((id : Id) (q : ℕ) → q ≤ n → Serving sd tale.es (second_kind sd r) q id)
+    ⊎ NoDs tale.es (suc n))
 
-module _ (tale : Tale) (n : ℕ) (here : suc n ≤ length tale.es) (sd : SideOf) (r : RollType) (own : affects sd r ≡ true) where
+module _ (tale : Tale) (n : ℕ) (here : suc n ≤ length tale.es) (sd : SideOf) (r : RollType)
+    (own : affects sd r ≡ true) where
   -- a start
-  module _ (now : ℕ) (old new : List (List ℕ)) (m : Mapped tale n (start_key r now old new) r (Some Propagation1)) (can : CanStart r (world_at tale n) old new) (mark : (position_at tale.es (suc n)).mark ≡ Step r)
-      (olds : (q : List ℕ) → is_listed q (listed_at tale r (suc n)).olds ≡ (is_listed q old && is_kept_at (real tale n).set.keys q))
+  module _ (now : ℕ) (old new : List (List ℕ))
+      (m : Mapped tale n (start_key r now old new) r (Some Propagation1))
+      (can : CanStart r (world_at tale n) old new)
+      (mark : (position_at tale.es (suc n)).mark ≡ Step r)
+      (olds : (q : List ℕ) → is_listed q (listed_at tale r (suc n)).olds
+          ≡ (is_listed q old && is_kept_at (real tale n).set.keys q))
       (news : (q : List ℕ) → is_listed q (listed_at tale r (suc n)).news ≡ is_listed q new)
       (ties : (id : Id) → all_ok is_tied (found (world_at tale n) id) ≡ true) where
-    may : (id : Id) → all_ok (may_start r (is_listed id.0 old) (is_listed id.0 new)) (found (world_at tale n) id) ≡ true
+    may : (id : Id) → all_ok (may_start r (is_listed id.0 old) (is_listed id.0 new))
+        (found (world_at tale n) id) ≡ true
     may = may_at r (world_at tale n) old new can
 
-    started_sets : (w : Bool) → switches sd r ≡ w → (NoDs tale.es (suc n) ⊎ Alive tale sd n) → At tale sd Quiet n → EarlyOf tale sd r (suc n) (suc n) w
+    started_sets : (w : Bool) → switches sd r ≡ w → (NoDs tale.es (suc n) ⊎ Alive tale sd n)
+        → At tale sd Quiet n → EarlyOf tale sd r (suc n) (suc n) w
     started_sets true sw life h =
-        let second : (id : Id) → if_some (second_test sd r) (found (world_at tale (suc n)) id) ≡ true
-        → (if_some (second_test sd r) (found (world_at tale n) id) ≡ true) × (if_some (first_test sd r) (found (world_at tale (suc n)) id) ≡ true) =
-        λ id e. let x = start-second sd r own now old new id.0 (found (world_at tale n) id) (may id) (h.flags id) sw (sym (ap (if_some (second_test sd r)) (m.founds id)) ∙ e) in
+        let second : (id : Id) → if_some (second_test sd r) (found (world_at tale (suc n)) id)
+            ≡ true
+        → (if_some (second_test sd r) (found (world_at tale n) id) ≡ true)
+            × (if_some (first_test sd r) (found (world_at tale (suc n)) id) ≡ true) =
+        λ id e. let x = start-second sd r own now old new id.0 (found (world_at tale n) id) (may id)
+            (h.flags id) sw (sym (ap (if_some (second_test sd r)) (m.founds id)) ∙ e) in
         (x.0, ap (if_some (first_test sd r)) (m.founds id) ∙ x.1) in
         rest-starts (side tale sd r) n here
-        (λ id e. start-inner sd r own now old new id.0 (found (world_at tale n) id) (may id) (h.flags id) (second id e).0)
+        (λ id e. start-inner sd r own now old new id.0 (found (world_at tale n) id) (may id)
+            (h.flags id) (second id e).0)
         (λ id e. (second id e).0) (λ id e. (second id e).1) (rest_side tale n sd r h.holds)
     started_sets false sw life h = rest-broadens (side tale sd r) n here
         (elim life [
           | inl d ↦ inl d
           | inr a ↦
-              let used : if_some (in_use sd) (found (world_at tale (suc n)) a.0) ≡ true = ap (if_some (in_use sd)) (m.founds a.0) ∙ start-used sd r own now old new a.0.0 (found (world_at tale n) a.0) (may a.0) (h.flags a.0) a.1 in
+              let used : if_some (in_use sd) (found (world_at tale (suc n)) a.0) ≡ true =
+                  ap (if_some (in_use sd)) (m.founds a.0)
+                  ∙ start-used sd r own now old new a.0.0 (found (world_at tale n) a.0) (may a.0)
+                  (h.flags a.0) a.1 in
               inr (
                 a.0,
                 used_first sd r (found (world_at tale n) a.0) a.1,
@@ -176,109 +231,181 @@ module _ (tale : Tale) (n : ℕ) (here : suc n ≤ length tale.es) (sd : SideOf)
 
     -- what an early end would make of a key now
     back_key : (p : KeyType → Bool) (id : Id) (k : Key) → found (world_at tale n) id ≡ Some k
-        → p (kind_back tale r (suc n) id.0 (started r (is_listed id.0 old) (is_listed id.0 new) k.keytype)) ≡ p (there_and_back r (is_listed id.0 old) (is_listed id.0 new) k.keytype)
+        → p (kind_back tale r (suc n) id.0
+            (started r (is_listed id.0 old) (is_listed id.0 new) k.keytype))
+            ≡ p (there_and_back r (is_listed id.0 old) (is_listed id.0 new) k.keytype)
     back_key p id k e =
         let key : (world_at tale n).key id.0 ≡ Some k = (found_key (world_at tale n) id k e).0 in
-        let was = olds id.0 ∙ ap (λ o. is_listed id.0 old && option_map_or (λ (k : Key). all_states is_kept k.keytype) o false) key in
-        λ j. p (ended r (was j) (news id.0 j) (started r (is_listed id.0 old) (is_listed id.0 new) k.keytype))
+        let was = olds id.0 ∙ ap (λ o. is_listed id.0 old
+            && option_map_or (λ (k : Key). all_states is_kept k.keytype) o false) key in
+        λ j. p (ended r (was j) (news id.0 j)
+            (started r (is_listed id.0 old) (is_listed id.0 new) k.keytype))
 
-    may_be : (id : Id) (k : Key) → found (world_at tale n) id ≡ Some k → may_start r (is_listed id.0 old) (is_listed id.0 new) k.keytype ≡ true
-    may_be id k e = sym (ap (all_ok (may_start r (is_listed id.0 old) (is_listed id.0 new))) e) ∙ may id
+    may_be : (id : Id) (k : Key) → found (world_at tale n) id ≡ Some k
+        → may_start r (is_listed id.0 old) (is_listed id.0 new) k.keytype ≡ true
+    may_be id k e = sym (ap (all_ok (may_start r (is_listed id.0 old) (is_listed id.0 new))) e)
+        ∙ may id
 
     back_facts : At tale sd Quiet n → (id : Id) (k : Key) → found (world_at tale n) id ≡ Some k
-        → (fits sd Quiet (there_and_back r (is_listed id.0 old) (is_listed id.0 new) k.keytype) ≡ true) × (in_use sd k.keytype ≡ true → in_use sd (there_and_back r (is_listed id.0 old) (is_listed id.0 new) k.keytype) ≡ true)
-    back_facts h id k e = back-fits sd r (is_listed id.0 old) (is_listed id.0 new) k.keytype own (may_be id k e)
+        → (fits sd Quiet (there_and_back r (is_listed id.0 old) (is_listed id.0 new) k.keytype)
+            ≡ true) × (in_use sd k.keytype ≡ true
+            → in_use sd (there_and_back r (is_listed id.0 old) (is_listed id.0 new) k.keytype)
+            ≡ true)
+    back_facts h id k e = back-fits sd r (is_listed id.0 old) (is_listed id.0 new) k.keytype own
+        (may_be id k e)
         (sym (ap (all_ok (fits sd Quiet)) e) ∙ h.flags id) (sym (ap (all_ok is_tied) e) ∙ ties id)
 
-    back_set : (kind : SetKind) (id : Id) → if_some (λ k. test_of sd kind (kind_back tale r (suc n) id.0 k)) (found (world_at tale (suc n)) id) ≡ true → if_some (test_of sd kind) (found (world_at tale n) id) ≡ true
+    back_set : (kind : SetKind) (id : Id)
+        → if_some (λ k. test_of sd kind (kind_back tale r (suc n) id.0 k))
+        (found (world_at tale (suc n)) id) ≡ true
+        → if_some (test_of sd kind) (found (world_at tale n) id) ≡ true
     back_set kind id e = by (found (world_at tale n) id) refl
       where
         by : (o : Option Key) → found (world_at tale n) id ≡ o → if_some (test_of sd kind) o ≡ true
-        by None f = absurd (true≢false (sym e ∙ ap (if_some (λ k. test_of sd kind (kind_back tale r (suc n) id.0 k))) (m.founds id ∙ ap (option_map (start_key r now old new id.0)) f)))
-        by (Some k) f = back-set sd kind r (is_listed id.0 old) (is_listed id.0 new) k.keytype (may_be id k f)
-            (sym (ap (if_some (λ k. test_of sd kind (kind_back tale r (suc n) id.0 k))) (m.founds id ∙ ap (option_map (start_key r now old new id.0)) f) ∙ back_key (test_of sd kind) id k f) ∙ e)
+        by None f = absurd (true≢false
+            (sym e ∙ ap (if_some (λ k. test_of sd kind (kind_back tale r (suc n) id.0 k)))
+            (m.founds id ∙ ap (option_map (start_key r now old new id.0)) f)))
+        by (Some k) f = back-set sd kind r (is_listed id.0 old) (is_listed id.0 new) k.keytype
+            (may_be id k f)
+            (sym (ap (if_some (λ k. test_of sd kind (kind_back tale r (suc n) id.0 k)))
+                (m.founds id ∙ ap (option_map (start_key r now old new id.0)) f)
+                ∙ back_key (test_of sd kind) id k f) ∙ e)
 
-    leads-start : (NoDs tale.es (suc n) ⊎ Alive tale sd n) → At tale sd Quiet n → LeadsBack tale sd r (suc n)
+    leads-start : (NoDs tale.es (suc n) ⊎ Alive tale sd n) → At tale sd Quiet n
+        → LeadsBack tale sd r (suc n)
     leads-start life h = record {
       flags = λ id. by id (found (world_at tale n) id) refl;
-      rest = λ kind. upto (λ q. (Retired tale.es kind q (suc n) → ⊥) → (id : Id) → if_some (λ k. test_of sd kind (kind_back tale r (suc n) id.0 k)) (found (world_at tale (suc n)) id) ≡ true → Serving sd tale.es kind q id) n
-          (λ q le un id e. h.holds kind q le (λ x. un (retired_stays tale.es kind q n x)) id (back_set kind id e))
-          (λ _ id e. shows tale sd kind (suc n) here id (some_weaker (λ k. test_of sd kind (kind_back tale r (suc n) id.0 k)) (test_of sd kind) (ended-less sd kind r _ _) (found (world_at tale (suc n)) id) e));
+      rest = λ kind. upto (λ q. (Retired tale.es kind q (suc n) → ⊥) → (id : Id)
+          → if_some (λ k. test_of sd kind (kind_back tale r (suc n) id.0 k))
+          (found (world_at tale (suc n)) id) ≡ true → Serving sd tale.es kind q id) n
+          (λ q le un id e. h.holds kind q le (λ x. un (retired_stays tale.es kind q n x)) id
+              (back_set kind id e))
+          (λ _ id e. shows tale sd kind (suc n) here id
+              (some_weaker (λ k. test_of sd kind (kind_back tale r (suc n) id.0 k))
+              (test_of sd kind) (ended-less sd kind r _ _) (found (world_at tale (suc n)) id) e));
       used = elim life [
         | inl d ↦ inl d
         | inr a ↦
             let k = some_key (in_use sd) (found (world_at tale n) a.0) a.1 in
             inr (
               a.0,
-              ap (if_some (λ k. in_use sd (kind_back tale r (suc n) a.0.0 k))) (m.founds a.0 ∙ ap (option_map (start_key r now old new a.0.0)) k.1)
+              ap (if_some (λ k. in_use sd (kind_back tale r (suc n) a.0.0 k)))
+                  (m.founds a.0 ∙ ap (option_map (start_key r now old new a.0.0)) k.1)
                   ∙ back_key (in_use sd) a.0 k.0 k.1 ∙ (back_facts h a.0 k.0 k.1).1 k.2,
             )
       ];
     }
       where
-        by : (id : Id) (o : Option Key) → found (world_at tale n) id ≡ o → all_ok (λ k. fits sd Quiet (kind_back tale r (suc n) id.0 k)) (found (world_at tale (suc n)) id) ≡ true
-        by id None f = ap (all_ok (λ k. fits sd Quiet (kind_back tale r (suc n) id.0 k))) (m.founds id ∙ ap (option_map (start_key r now old new id.0)) f)
-        by id (Some k) f = ap (all_ok (λ k. fits sd Quiet (kind_back tale r (suc n) id.0 k))) (m.founds id ∙ ap (option_map (start_key r now old new id.0)) f)
+        by : (id : Id) (o : Option Key) → found (world_at tale n) id ≡ o
+            → all_ok (λ k. fits sd Quiet (kind_back tale r (suc n) id.0 k))
+            (found (world_at tale (suc n)) id) ≡ true
+        by id None f = ap (all_ok (λ k. fits sd Quiet (kind_back tale r (suc n) id.0 k)))
+            (m.founds id ∙ ap (option_map (start_key r now old new id.0)) f)
+        by id (Some k) f = ap (all_ok (λ k. fits sd Quiet (kind_back tale r (suc n) id.0 k)))
+            (m.founds id ∙ ap (option_map (start_key r now old new id.0)) f)
             ∙ back_key (fits sd Quiet) id k f ∙ (back_facts h id k f).0
 
-    pub at-start : (NoDs tale.es (suc n) ⊎ Alive tale sd n) → At tale sd Quiet n → At tale sd (Early r) (suc n)
+    pub at-start : (NoDs tale.es (suc n) ⊎ Alive tale sd n) → At tale sd Quiet n
+        → At tale sd (Early r) (suc n)
     at-start life h =
         let s = can.suitable sd own in
         let id : Id = (s.0, (world_at tale n).added s.0) in
-        let at_key : found (world_at tale n) id ≡ Some s.1 = found_now (world_at tale n) s.0 ∙ s.2 in
-        let may_key : may_start r (is_listed s.0 old) (is_listed s.0 new) s.1.keytype ≡ true = subst (λ o. all_ok (may_start r (is_listed s.0 old) (is_listed s.0 new)) o ≡ true) at_key (may id) in
-        let fit_key : fits sd Quiet s.1.keytype ≡ true = subst (λ o. all_ok (fits sd Quiet) o ≡ true) at_key (h.flags id) in
-        let new_key : found (world_at tale (suc n)) id ≡ Some (start_key r now old new s.0 s.1) = m.founds id ∙ ap (option_map (start_key r now old new s.0)) at_key in
+        let at_key : found (world_at tale n) id ≡ Some s.1 = found_now (world_at tale n) s.0 ∙ s.2
+            in
+        let may_key : may_start r (is_listed s.0 old) (is_listed s.0 new) s.1.keytype ≡ true =
+            subst (λ o. all_ok (may_start r (is_listed s.0 old) (is_listed s.0 new)) o ≡ true)
+            at_key (may id) in
+        let fit_key : fits sd Quiet s.1.keytype ≡ true =
+            subst (λ o. all_ok (fits sd Quiet) o ≡ true) at_key (h.flags id) in
+        let new_key : found (world_at tale (suc n)) id ≡ Some (start_key r now old new s.0 s.1) =
+            m.founds id ∙ ap (option_map (start_key r now old new s.0)) at_key in
         record {
           own = own;
-          rolls = λ q e. ap (stage_fits (Early r) q) (m.rolls q) ∙ put-fits (Early r) (world_at tale n).roll r (Some Propagation1) q (λ e. e)
+          rolls = λ q e. ap (stage_fits (Early r) q) (m.rolls q)
+              ∙ put-fits (Early r) (world_at tale n).roll r (Some Propagation1) q (λ e. e)
               (λ d. ap (stage_fits (Early r) q) (can.alone q (clash sd r q own e)) ∙ ap not d);
-          flags = λ id. ap (all_ok (fits sd (Early r))) (m.founds id) ∙ start-fit sd r own now old new id.0 (found (world_at tale n) id) (may id) (h.flags id);
-          holds = (suc n, (omega arith, base_here tale.es r (suc n) (ap (is_step r) mark ∙ same-same r)), started_sets (switches sd r) refl life h);
+          flags = λ id. ap (all_ok (fits sd (Early r))) (m.founds id)
+              ∙ start-fit sd r own now old new id.0 (found (world_at tale n) id) (may id)
+              (h.flags id);
+          holds = (suc n, (omega arith, base_here tale.es r (suc n)
+              (ap (is_step r) mark ∙ same-same r)), started_sets (switches sd r) refl life h);
           left = (
             id,
-            ap (if_some (remains sd r)) new_key ∙ (start_facts sd r (is_listed s.0 old) (is_listed s.0 new) s.1.keytype own may_key fit_key).some
-                (suits (is_listed s.0 old) (is_listed s.0 new) (serves_new sd r s.1.keytype) (serves_kept sd r s.1.keytype) s.3),
+            ap (if_some (remains sd r)) new_key
+                ∙ (start_facts sd r (is_listed s.0 old) (is_listed s.0 new) s.1.keytype own may_key
+                fit_key).some
+                (suits (is_listed s.0 old) (is_listed s.0 new) (serves_new sd r s.1.keytype)
+                    (serves_kept sd r s.1.keytype) s.3),
           );
           back = λ phase. leads-start life h;
         }
 
     pub alive-start : At tale sd Quiet n → Alive tale sd n → Alive tale sd (suc n)
-    alive-start h a = (a.0, ap (if_some (in_use sd)) (m.founds a.0) ∙ start-used sd r own now old new a.0.0 (found (world_at tale n) a.0) (may a.0) (h.flags a.0) a.1)
+    alive-start h a = (a.0, ap (if_some (in_use sd)) (m.founds a.0)
+        ∙ start-used sd r own now old new a.0.0 (found (world_at tale n) a.0) (may a.0)
+        (h.flags a.0) a.1)
 
   -- the first wait
-  module _ (now : ℕ) (m : Mapped tale n (λ q. wait1_key r now) r (Some Propagation2)) (mark : (position_at tale.es (suc n)).mark ≡ Step r)
-      (gone : (kind : SetKind) → retires r false kind ≡ true → (b : ℕ) → base_below tale.es r (suc n) ≡ Some b → (q : ℕ) → q < b → Retired tale.es kind q (suc n))
-      (first-goes : retires r false (first_kind sd r) ≡ true) (second-goes : retires r (switches sd r) (second_kind sd r) ≡ true) where
-    pub live-wait1 : At tale sd (Early r) n → (id : Id) × (if_some (live sd) (found (world_at tale (suc n)) id) ≡ true)
-    live-wait1 h = (h.left.0, ap (if_some (live sd)) (m.founds h.left.0) ∙ w1-some sd r own now (found (world_at tale n) h.left.0) (h.flags h.left.0) h.left.1)
+  module _ (now : ℕ) (m : Mapped tale n (λ q. wait1_key r now) r (Some Propagation2))
+      (mark : (position_at tale.es (suc n)).mark ≡ Step r)
+      (gone : (kind : SetKind) → retires r false kind ≡ true → (b : ℕ)
+          → base_below tale.es r (suc n) ≡ Some b → (q : ℕ) → q < b
+          → Retired tale.es kind q (suc n))
+      (first-goes : retires r false (first_kind sd r) ≡ true)
+          (second-goes : retires r (switches sd r) (second_kind sd r) ≡ true) where
+    pub live-wait1 : At tale sd (Early r) n → (id : Id)
+        × (if_some (live sd) (found (world_at tale (suc n)) id) ≡ true)
+    live-wait1 h = (h.left.0, ap (if_some (live sd)) (m.founds h.left.0)
+        ∙ w1-some sd r own now (found (world_at tale n) h.left.0) (h.flags h.left.0) h.left.1)
 
     pub alive-wait1 : At tale sd (Early r) n → Alive tale sd (suc n)
-    alive-wait1 h = let l = live-wait1 h in (l.0, some_weaker (live sd) (in_use sd) (λ k e. (and_parts _ _ e).0) (found (world_at tale (suc n)) l.0) l.1)
+    alive-wait1 h = let l = live-wait1 h in
+        (l.0, some_weaker (live sd) (in_use sd) (λ k e. (and_parts _ _ e).0)
+        (found (world_at tale (suc n)) l.0) l.1)
 
-    first_less : At tale sd (Early r) n → (id : Id) → if_some (first_test sd r) (found (world_at tale (suc n)) id) ≡ true → if_some (first_test sd r) (found (world_at tale n) id) ≡ true
-    first_less h id e = w1-first sd r own now (found (world_at tale n) id) (h.flags id) (sym (ap (if_some (first_test sd r)) (m.founds id)) ∙ e)
+    first_less : At tale sd (Early r) n → (id : Id)
+        → if_some (first_test sd r) (found (world_at tale (suc n)) id) ≡ true
+        → if_some (first_test sd r) (found (world_at tale n) id) ≡ true
+    first_less h id e = w1-first sd r own now (found (world_at tale n) id) (h.flags id)
+        (sym (ap (if_some (first_test sd r)) (m.founds id)) ∙ e)
 
-    witness : (b : ℕ) → switches sd r ≡ true → At tale sd (Early r) n → EarlyOf tale sd r n b true → LifeAt tale sd r n → NoDs tale.es (suc n) ⊎ Witness (side tale sd r) (suc n) (suc n)
+    witness : (b : ℕ) → switches sd r ≡ true → At tale sd (Early r) n → EarlyOf tale sd r n b true
+        → LifeAt tale sd r n → NoDs tale.es (suc n) ⊎ Witness (side tale sd r) (suc n) (suc n)
     witness b sw h sets (inl a) =
-        let first : if_some (first_test sd r) (found (world_at tale (suc n)) a.0) ≡ true = ap (if_some (first_test sd r)) (m.founds a.0) ∙ w1-keep sd r own now (found (world_at tale n) a.0) sw (h.flags a.0) (used_first sd r (found (world_at tale n) a.0) a.1) in
-        inr (a.0, first, λ q lt un. sets.ys q (omega arith) (λ x. un ((side tale sd r).keepY q n x)) a.0 (used_second sd r (found (world_at tale n) a.0) a.1))
+        let first : if_some (first_test sd r) (found (world_at tale (suc n)) a.0) ≡ true =
+            ap (if_some (first_test sd r)) (m.founds a.0)
+            ∙ w1-keep sd r own now (found (world_at tale n) a.0) sw (h.flags a.0)
+            (used_first sd r (found (world_at tale n) a.0) a.1) in
+        inr (a.0, first, λ q lt un. sets.ys q (omega arith) (λ x. un ((side tale sd r).keepY q n x))
+            a.0 (used_second sd r (found (world_at tale n) a.0) a.1))
     witness b sw h sets (inr (inl all)) = let a = alive-wait1 h in
-        inr (a.0, used_first sd r (found (world_at tale (suc n)) a.0) a.1, λ q lt un. all a.0 q (omega arith))
+        inr (a.0, used_first sd r (found (world_at tale (suc n)) a.0) a.1, λ q lt un. all a.0 q
+            (omega arith))
     witness b sw h sets (inr (inr d)) = inl d
 
-    wait1_sets : (w : Bool) → switches sd r ≡ w → (b : ℕ) → base_below tale.es r (suc n) ≡ Some b → retires r w (second_kind sd r) ≡ true → (switches sd r ≡ true → LifeAt tale sd r n) → At tale sd (Early r) n
+    wait1_sets : (w : Bool) → switches sd r ≡ w → (b : ℕ) → base_below tale.es r (suc n) ≡ Some b
+        → retires r w (second_kind sd r) ≡ true → (switches sd r ≡ true → LifeAt tale sd r n)
+        → At tale sd (Early r) n
         → EarlyOf tale sd r n b w → LateOf tale sd r (suc n) (suc n) w
-    wait1_sets true sw b base goes life h sets = early-switches (side tale sd r) n here b (gone (first_kind sd r) first-goes b base) (first_less h) (witness b sw h sets (life sw)) sets
-    wait1_sets false sw b base goes life h sets = side_rest tale (suc n) sd r (broad-rests (side tale sd r) n here b (gone (first_kind sd r) first-goes b base) (gone (second_kind sd r) goes b base)
-        (first_less h) (λ id e. w1-second sd r own now (found (world_at tale n) id) sw (h.flags id) (sym (ap (if_some (second_test sd r)) (m.founds id)) ∙ e)) sets)
+    wait1_sets true sw b base goes life h sets =
+        early-switches (side tale sd r) n here b (gone (first_kind sd r) first-goes b base)
+        (first_less h) (witness b sw h sets (life sw)) sets
+    wait1_sets false sw b base goes life h sets =
+        side_rest tale (suc n) sd r (broad-rests (side tale sd r) n here b
+        (gone (first_kind sd r) first-goes b base) (gone (second_kind sd r) goes b base)
+        (first_less h) (λ id e. w1-second sd r own now (found (world_at tale n) id) sw (h.flags id)
+            (sym (ap (if_some (second_test sd r)) (m.founds id)) ∙ e)) sets)
 
-    pub at-wait1 : (switches sd r ≡ true → LifeAt tale sd r n) → At tale sd (Early r) n → At tale sd (Late r) (suc n)
+    pub at-wait1 : (switches sd r ≡ true → LifeAt tale sd r n) → At tale sd (Early r) n
+        → At tale sd (Late r) (suc n)
     at-wait1 life h = record {
       own = own;
-      rolls = λ q e. ap (stage_fits (Late r) q) (m.rolls q) ∙ put-fits (Late r) (world_at tale n).roll r (Some Propagation2) q (λ e. e)
-          (λ d. ap (stage_fits (Late r) q) (others_early r q ((world_at tale n).roll q) (h.rolls q e) d) ∙ ap not d);
-      flags = λ id. ap (all_ok (fits sd (Late r))) (m.founds id) ∙ w1-fit sd r own now (found (world_at tale n) id) (h.flags id);
+      rolls = λ q e. ap (stage_fits (Late r) q) (m.rolls q)
+          ∙ put-fits (Late r) (world_at tale n).roll r (Some Propagation2) q (λ e. e)
+          (λ d. ap (stage_fits (Late r) q)
+              (others_early r q ((world_at tale n).roll q) (h.rolls q e) d) ∙ ap not d);
+      flags = λ id. ap (all_ok (fits sd (Late r))) (m.founds id)
+          ∙ w1-fit sd r own now (found (world_at tale n) id) (h.flags id);
       holds = (
         suc n,
         (omega arith, base_here tale.es r (suc n) (ap (is_step r) mark ∙ same-same r)),
@@ -290,56 +417,82 @@ module _ (tale : Tale) (n : ℕ) (here : suc n ≤ length tale.es) (sd : SideOf)
 
   -- the second wait
   module _ (now : ℕ) (m : Mapped tale n (λ q. wait2_key r now) r (Some Done))
-      (gone : (kind : SetKind) → switches sd r ≡ true → retires r true kind ≡ true → (b : ℕ) → base_below tale.es r (suc n) ≡ Some b → (q : ℕ) → q < b → Retired tale.es kind q (suc n))
+      (gone : (kind : SetKind) → switches sd r ≡ true → retires r true kind ≡ true → (b : ℕ)
+          → base_below tale.es r (suc n) ≡ Some b → (q : ℕ) → q < b
+          → Retired tale.es kind q (suc n))
       (second-goes : retires r (switches sd r) (second_kind sd r) ≡ true) where
-    first_less2 : At tale sd (Late r) n → (id : Id) → if_some (first_test sd r) (found (world_at tale (suc n)) id) ≡ true → if_some (first_test sd r) (found (world_at tale n) id) ≡ true
-    first_less2 h id e = w2-first sd r own now (found (world_at tale n) id) (h.flags id) (sym (ap (if_some (first_test sd r)) (m.founds id)) ∙ e)
+    first_less2 : At tale sd (Late r) n → (id : Id)
+        → if_some (first_test sd r) (found (world_at tale (suc n)) id) ≡ true
+        → if_some (first_test sd r) (found (world_at tale n) id) ≡ true
+    first_less2 h id e = w2-first sd r own now (found (world_at tale n) id) (h.flags id)
+        (sym (ap (if_some (first_test sd r)) (m.founds id)) ∙ e)
 
-    second_less2 : At tale sd (Late r) n → (id : Id) → if_some (second_test sd r) (found (world_at tale (suc n)) id) ≡ true → if_some (second_test sd r) (found (world_at tale n) id) ≡ true
-    second_less2 h id e = w2-second sd r own now (found (world_at tale n) id) (h.flags id) (sym (ap (if_some (second_test sd r)) (m.founds id)) ∙ e)
+    second_less2 : At tale sd (Late r) n → (id : Id)
+        → if_some (second_test sd r) (found (world_at tale (suc n)) id) ≡ true
+        → if_some (second_test sd r) (found (world_at tale n) id) ≡ true
+    second_less2 h id e = w2-second sd r own now (found (world_at tale n) id) (h.flags id)
+        (sym (ap (if_some (second_test sd r)) (m.founds id)) ∙ e)
 
-    wait2_sets : (w : Bool) → switches sd r ≡ w → (b : ℕ) → base_below tale.es r (suc n) ≡ Some b → retires r w (second_kind sd r) ≡ true → At tale sd (Late r) n
+    wait2_sets : (w : Bool) → switches sd r ≡ w → (b : ℕ) → base_below tale.es r (suc n) ≡ Some b
+        → retires r w (second_kind sd r) ≡ true → At tale sd (Late r) n
         → LateOf tale sd r n b w → AtRest tale sd (suc n)
-    wait2_sets true sw b base goes h sets = side_rest tale (suc n) sd r (late-closes (side tale sd r) n here b (gone (second_kind sd r) sw goes b base) (first_less2 h) (second_less2 h) sets)
-    wait2_sets false sw b base goes h sets = side_rest tale (suc n) sd r (rest_shrinks (side tale sd r) n here (first_less2 h) (second_less2 h) (rest_side tale n sd r sets))
+    wait2_sets true sw b base goes h sets =
+        side_rest tale (suc n) sd r (late-closes (side tale sd r) n here b
+        (gone (second_kind sd r) sw goes b base) (first_less2 h) (second_less2 h) sets)
+    wait2_sets false sw b base goes h sets =
+        side_rest tale (suc n) sd r (rest_shrinks (side tale sd r) n here (first_less2 h)
+        (second_less2 h) (rest_side tale n sd r sets))
 
     pub at-wait2 : At tale sd (Late r) n → At tale sd Quiet (suc n)
     at-wait2 h = record {
       own = refl;
-      rolls = λ q e. ap (stage_fits Quiet q) (m.rolls q) ∙ put-fits Quiet (world_at tale n).roll r (Some Done) q (λ e. refl)
-          (λ d. ap (stage_fits Quiet q) (others_late r q ((world_at tale n).roll q) (h.rolls q e) d));
-      flags = λ id. ap (all_ok (fits sd Quiet)) (m.founds id) ∙ w2-fit sd r own now (found (world_at tale n) id) (h.flags id);
+      rolls = λ q e. ap (stage_fits Quiet q) (m.rolls q)
+          ∙ put-fits Quiet (world_at tale n).roll r (Some Done) q (λ e. refl)
+          (λ d. ap (stage_fits Quiet q) (others_late r q ((world_at tale n).roll q) (h.rolls q e)
+              d));
+      flags = λ id. ap (all_ok (fits sd Quiet)) (m.founds id)
+          ∙ w2-fit sd r own now (found (world_at tale n) id) (h.flags id);
       holds = wait2_sets (switches sd r) refl h.holds.0 h.holds.1.1 second-goes h h.holds.2;
       left = tt;
       back = tt;
     }
 
     pub alive-wait2 : At tale sd (Late r) n → Alive tale sd (suc n)
-    alive-wait2 h = (h.left.0, ap (if_some (in_use sd)) (m.founds h.left.0) ∙ w2-used sd r own now (found (world_at tale n) h.left.0) (h.flags h.left.0) h.left.1)
+    alive-wait2 h = (h.left.0, ap (if_some (in_use sd)) (m.founds h.left.0)
+        ∙ w2-used sd r own now (found (world_at tale n) h.left.0) (h.flags h.left.0) h.left.1)
 
   -- an early end
   module _ (m : Mapped tale n (early_end_key tale r n) r None) where
     by_kind : (p : KeyType → Bool) (id : Id) (o : Option Key)
-        → if_some p (option_map (early_end_key tale r n id.0) o) ≡ if_some (λ k. p (kind_back tale r n id.0 k)) o
+        → if_some p (option_map (early_end_key tale r n id.0) o)
+            ≡ if_some (λ k. p (kind_back tale r n id.0 k)) o
     by_kind p id None = refl
     by_kind p id (Some k) = refl
 
     all_by_kind : (p : KeyType → Bool) (id : Id) (o : Option Key)
-        → all_ok p (option_map (early_end_key tale r n id.0) o) ≡ all_ok (λ k. p (kind_back tale r n id.0 k)) o
+        → all_ok p (option_map (early_end_key tale r n id.0) o)
+            ≡ all_ok (λ k. p (kind_back tale r n id.0 k)) o
     all_by_kind p id None = refl
     all_by_kind p id (Some k) = refl
 
-    back_now : (p : KeyType → Bool) (id : Id) → if_some p (found (world_at tale (suc n)) id) ≡ if_some (λ k. p (kind_back tale r n id.0 k)) (found (world_at tale n) id)
+    back_now : (p : KeyType → Bool) (id : Id) → if_some p (found (world_at tale (suc n)) id)
+        ≡ if_some (λ k. p (kind_back tale r n id.0 k)) (found (world_at tale n) id)
     back_now p id = ap (if_some p) (m.founds id) ∙ by_kind p id (found (world_at tale n) id)
 
     pub at-early-end : LeadsBack tale sd r n → At tale sd (Early r) n → At tale sd Quiet (suc n)
     at-early-end b h = record {
       own = refl;
-      rolls = λ q e. ap (stage_fits Quiet q) (m.rolls q) ∙ put-fits Quiet (world_at tale n).roll r None q (λ e. refl)
-          (λ d. ap (stage_fits Quiet q) (others_early r q ((world_at tale n).roll q) (h.rolls q e) d));
-      flags = λ id. ap (all_ok (fits sd Quiet)) (m.founds id) ∙ all_by_kind (fits sd Quiet) id (found (world_at tale n) id) ∙ b.flags id;
-      holds = λ kind. upto (λ q. (Retired tale.es kind q (suc n) → ⊥) → (id : Id) → if_some (test_of sd kind) (found (world_at tale (suc n)) id) ≡ true → Serving sd tale.es kind q id) n
-          (λ q le un id e. b.rest kind q le (λ x. un (retired_stays tale.es kind q n x)) id (sym (back_now (test_of sd kind) id) ∙ e))
+      rolls = λ q e. ap (stage_fits Quiet q) (m.rolls q)
+          ∙ put-fits Quiet (world_at tale n).roll r None q (λ e. refl)
+          (λ d. ap (stage_fits Quiet q) (others_early r q ((world_at tale n).roll q) (h.rolls q e)
+              d));
+      flags = λ id. ap (all_ok (fits sd Quiet)) (m.founds id)
+          ∙ all_by_kind (fits sd Quiet) id (found (world_at tale n) id) ∙ b.flags id;
+      holds = λ kind. upto (λ q. (Retired tale.es kind q (suc n) → ⊥) → (id : Id)
+          → if_some (test_of sd kind) (found (world_at tale (suc n)) id) ≡ true
+          → Serving sd tale.es kind q id) n
+          (λ q le un id e. b.rest kind q le (λ x. un (retired_stays tale.es kind q n x)) id
+              (sym (back_now (test_of sd kind) id) ∙ e))
           (λ _. shows tale sd kind (suc n) here);
       left = tt;
       back = tt;

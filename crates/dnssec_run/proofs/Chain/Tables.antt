@@ -46,7 +46,8 @@ read CskRoll true = RrsigVisible
 read AlgorithmRoll true = DsVisible
 read _ _ = Visible
 
-pub reads-stamp : (r : RollType) (second : Bool) (t : Stamps) → stamp_at (half_of r (half second)).reads t ≡ stamp_in (read r second) t
+pub reads-stamp : (r : RollType) (second : Bool) (t : Stamps)
+    → stamp_at (half_of r (half second)).reads t ≡ stamp_in (read r second) t
 unfolding column
 reads-stamp KskRoll false t = refl
 reads-stamp KskRoll true t = refl

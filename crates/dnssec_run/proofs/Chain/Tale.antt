@@ -1,4 +1,5 @@
--- A run as the chain's proof sees it: at each position the keys by reference, the positions of their
+-- A run as the chain's proof sees it: at each position the keys by reference, the positions of
+-- their
 -- adds, and the phases of the rolls.
 use Rattle.std.proofs.Common.{◌≡◌, ℕ, ◌-◌, ◌≤◌, ◌⊎◌, Bool, true, false, List, Option, None, Some}
 use Rattle.std.proofs.Common.{refl}
@@ -13,7 +14,8 @@ use Rattle.dnssec_key.specs.declared.roll.RollState.TheVariants.{Propagation2, C
 use Rattle.dnssec_key.specs.declared.kind.KeyType.{KeyType}
 use Rattle.dnssec_key.specs.Key.{KeyParts}
 use Rattle.dnssec_keyset.specs.KeySet.{phase_of, same_roll}
-use Rattle.dnssec_key.specs.RollTable.{after_start, after_report, after_wait, after_early_end, First, Second}
+use Rattle.dnssec_key.specs.RollTable.{after_start, after_report, after_wait, after_early_end}
+use Rattle.dnssec_key.specs.RollTable.{First, Second}
 use Rattle.dnssec_key.specs.RollTable.{column, with_stamps, written as stamped}
 use Rattle.dnssec_keyset.specs.Start.{is_listed as listed}
 use Rattle.dnssec_run.specs.declared.call.Call.{Call}
@@ -65,17 +67,20 @@ if_some p (Some k) = p k.keytype
 abbrev pub put : {A : Type 0} → (List ℕ → A) → List ℕ → A → List ℕ → A
 put f r a q = if bytes_eq r q then a else f q
 
-abbrev pub put_roll : (RollType → Option RollState) → RollType → Option RollState → RollType → Option RollState
+abbrev pub put_roll : (RollType → Option RollState) → RollType → Option RollState → RollType
+    → Option RollState
 put_roll f r a q = if same_roll r q then a else f q
 
 -- a key after a start, by its parts
 abbrev pub started_key : RollType → ℕ → Bool → Bool → Key → Key
 started_key r now o i k = record k {
   keytype = started r o i k.keytype;
-  timestamps = if i then with_stamps (stamped (column r).stamps (aged o k.keytype)) now k.timestamps else k.timestamps;
+  timestamps = if i then with_stamps (stamped (column r).stamps (aged o k.keytype)) now k.timestamps
+      else k.timestamps;
 }
 
-pub start-parts : (r : RollType) (now : ℕ) (o i : Bool) (k : Key) → after_start r now o i k ≡ started_key r now o i k
+pub start-parts : (r : RollType) (now : ℕ) (o i : Bool) (k : Key) → after_start r now o i k
+    ≡ started_key r now o i k
 start-parts r now true true k = refl
 start-parts r now true false k = refl
 start-parts r now false true k = refl
@@ -112,15 +117,19 @@ abbrev pub rolled : World → (List ℕ → Key → Key) → RollType → Option
 rolled w f r o = record w { key = λ q. option_map (f q) (w.key q); roll = put_roll w.roll r o }
 
 abbrev pub IsOver : RollType → Bool → World → ℕ → ℕ → Type 0
-IsOver r second w ttl now = (q : List ℕ) (k : Key) → w.key q ≡ Some k → checked r second k.keytype ≡ true →
+IsOver r second w ttl now = (q : List ℕ) (k : Key) → w.key q ≡ Some k → checked r second k.keytype
+    ≡ true →
     (m : ℕ) × (stamp_of (read r second) k ≡ Some m) × (ttl * 1_000_000_000 ≤ now - m)
 
 abbrev pub HasSuitable : SideOf → RollType → World → List (List ℕ) → List (List ℕ) → Type 0
 HasSuitable sd r w old new = (q : List ℕ) × (k : Key) × (w.key q ≡ Some k)
-    × (((is_listed q new ≡ true) × (serves_new sd r k.keytype ≡ true)) ⊎ ((is_listed q old ≡ false) × (serves_kept sd r k.keytype ≡ true)))
+    × (((is_listed q new ≡ true) × (serves_new sd r k.keytype ≡ true))
+        ⊎ ((is_listed q old ≡ false) × (serves_kept sd r k.keytype ≡ true)))
 
 pub record CanStart (r : RollType) (w : World) (old new : List (List ℕ)) : Type 0 where
   pub alone : (q : RollType) → tolerates r q ≡ false → w.roll q ≡ None
-  pub old_is : (q : List ℕ) → is_listed q old ≡ true → (k : Key) × (w.key q ≡ Some k) × (may_list r k.keytype ≡ true)
-  pub new_is : (q : List ℕ) → is_listed q new ≡ true → (k : Key) × (w.key q ≡ Some k) × (may_list r k.keytype ≡ true) × (is_blank k.keytype ≡ true) × (is_listed q old ≡ false)
+  pub old_is : (q : List ℕ) → is_listed q old ≡ true → (k : Key) × (w.key q ≡ Some k)
+      × (may_list r k.keytype ≡ true)
+  pub new_is : (q : List ℕ) → is_listed q new ≡ true → (k : Key) × (w.key q ≡ Some k)
+      × (may_list r k.keytype ≡ true) × (is_blank k.keytype ≡ true) × (is_listed q old ≡ false)
   pub suitable : (sd : SideOf) → affects sd r ≡ true → HasSuitable sd r w old new

@@ -20,7 +20,8 @@ pub loop-index-preserved : goal.loop-index-preserved
 loop-index-preserved c =
     let inv = c.loop-index.invariant in
     let within = c.loop-index-test.true in
-    let said = spoken _ _ c.in-Some.statement c.in-Some.own c.in_ok-statement.ensures c.in-Some.is in
+    let said = spoken _ _ c.in-Some.statement c.in-Some.own c.in_ok-statement.ensures c.in-Some.is
+        in
     let grown = c.in_ok-push-in-Some.ensures.items in
     let grown' = c.in_ok-push-in-Some-2.ensures.items in (
       passes_more says_some _ _ within inv.0 (ap is_some said),

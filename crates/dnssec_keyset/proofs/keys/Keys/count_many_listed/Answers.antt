@@ -38,6 +38,7 @@ loop-reference-preserved c =
           l.count c.if-serves_first.count l.invariant.1 more,
       search rules,
       listed-same c.args.self.now _ _ _
-          (λ q. listed_more referred c.args.old.now l.reference-index _ q c.loop-reference-test.true)
+          (λ q. listed_more referred c.args.old.now l.reference-index _ q
+              c.loop-reference-test.true)
           (c.add_tag.ensures.listed _ l.invariant.3),
     )

@@ -7,4 +7,5 @@ use Rattle.dnssec_keyset.proofs.keys.Keys.mark_new.Goals as goal
 pub loop-reference-preserved : goal.loop-reference-preserved
 loop-reference-preserved c = λ q. mark_more (marked_new c.args.roll c.args.now)
     (marked_new-twice c.args.roll c.args.now) referred c.args.new.now
-    c.loop-reference.reference-index _ q _ _ _ _ c.loop-reference-test.true refl (c.loop-reference.invariant q) (c.change_at.ensures q)
+    c.loop-reference.reference-index _ q _ _ _ _ c.loop-reference-test.true refl
+        (c.loop-reference.invariant q) (c.change_at.ensures q)

@@ -5,7 +5,8 @@ use Rattle.dnssec_keyset.proofs.Marks.{mark_more, unmarked_old-twice}
 use Rattle.dnssec_keyset.proofs.keys.Keys.unmark_old.Goals as goal
 
 pub loop-reference-preserved : goal.loop-reference-preserved
-loop-reference-preserved c = λ q. mark_more (unmarked_old c.args.roll) (unmarked_old-twice c.args.roll) string_bytes
+loop-reference-preserved c = λ q. mark_more (unmarked_old c.args.roll)
+    (unmarked_old-twice c.args.roll) string_bytes
     c.args.references.now c.loop-reference.reference-index c.reference-item.result q _ _ _ _
     c.loop-reference-test.true (c.as_str.ensures.value ∙ ap string_bytes c.reference-item.is)
     (c.loop-reference.invariant q) (c.change_at.ensures q)
