@@ -16,7 +16,7 @@ use Rattle.dnssec_keyset.specs.Inner.Tags.{HasListed, is_in}
 use Rattle.dnssec_keyset.specs.KeySet.{Keys}
 use Rattle.dnssec_keyset.specs.Start.{texts, is_listed, new_entry_fault, new_fault}
 use Rattle.dnssec_keyset.specs.Step.{AnswersExactly}
-use Rattle.dnssec_keyset.proofs.Counted.{count-listed}
+use Rattle.dnssec_keyset.proofs.Counted.Lists.{count-listed}
 use Rattle.dnssec_keyset.proofs.Lists.{new_fault-at}
 use Rattle.dnssec_keyset.proofs.Marks.{listed_more, referred}
 use Rattle.dnssec_keyset.proofs.Tags.{fault-listed, first-listed, listed-same}

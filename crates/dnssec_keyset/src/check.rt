@@ -219,7 +219,7 @@ impl Keys {
     }
 
     /// Whether a key that isn't listed as old serves: more serve than the list has of them.
-    #[tactic(auto, using(crate::proofs::Counted::counts))]
+    #[tactic(auto, using(crate::proofs::Counted::Lists::counts))]
     fn has_kept(&self, want: Want, old: &[&str]) -> bool
         ensures { result ≡ some_kept (serves_as_kept (as_want want)) self.now (texts old.now) }
     {

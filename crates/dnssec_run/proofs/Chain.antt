@@ -17,9 +17,13 @@ pub mod Places
 pub mod Returns
 pub mod Lists
 pub mod Invariant
+pub mod OneKey
 pub mod Steps
+pub mod Kinds
 pub mod Gentles
 pub mod Phases
+pub mod RollFacts
 pub mod BothSides
+pub mod SideBySide
 pub mod Allowed
 pub mod Trust

@@ -9,7 +9,7 @@ use Rattle.dnssec_run.specs.declared.call.Call.{Call}
 use Rattle.dnssec_run.specs.declared.record.Entry.{Entry}
 use Rattle.dnssec_run.specs.Published.{World}
 use Rattle.dnssec_keyset.proofs.Sides.{leaves-others}
-use Rattle.dnssec_keyset.proofs.Exchange.{exchange}
+use Rattle.dnssec_keyset.proofs.Exchange.Law.{exchange}
 use Rattle.dnssec_run.specs.Record.{IsRun, StaysSound, KeepsSidesApart, NeighboursMayBeExchanged}
 use Rattle.dnssec_run.specs.Record.{call_of, reply_of, stepped_by, world_at}
 

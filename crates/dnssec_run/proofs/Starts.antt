@@ -23,7 +23,7 @@ use Rattle.dnssec_run.specs.Plain.{DoesAt, IsPlain, EndsNoneEarly, IsPlainByStar
 use Rattle.dnssec_run.specs.Plain.{early_end_of, first_wait_of}
 use Rattle.dnssec_run.specs.Record.{IsRun, call_of, is_accepted, reply_of, world_at}
 use Rattle.dnssec_run.proofs.Chain.Allowed.{can_start, clear_cause, waits_in_phase}
-use Rattle.dnssec_run.proofs.Chain.BothSides.{alone_first}
+use Rattle.dnssec_run.proofs.Chain.RollFacts.{alone_first}
 use Rattle.dnssec_run.proofs.Chain.Rolls.{same-same, same-true}
 use Rattle.dnssec_run.proofs.WholeRolls.Order.{world_of}
 use Rattle.dnssec_run.proofs.WholeRolls.Phases.{put_aside, put_there, split_by}

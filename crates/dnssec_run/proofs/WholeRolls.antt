@@ -2,13 +2,13 @@
 --
 -- | Clause     | Law                  | Lemma             | Files                               |
 -- |------------|----------------------|-------------------|-------------------------------------|
--- | `stamps`   | `NeverMissesStamp`   | `never-misses`    | Keys, Phases, Ended, Order,         |
--- |            |                      |                   | Positions                           |
+-- | `stamps`   | `NeverMissesStamp`   | `never-misses`    | Keys, Phases, Ended, OrderedKeys,   |
+-- |            |                      |                   | Order, Positions                    |
 -- | `settled`  | `SettlesBetweenRolls`| `settles-between` | the same                            |
 -- | `waits`    | `WaitsExactly`       | `waits-exactly`   | these; Armed, Verdicts, Reports,    |
 -- |            |                      |                   | Moments, Steps, Waits               |
 -- | `goes_on`  | `GoesOn`             | `goes-on`         | Completion                          |
--- | `finishes` | `RollsFinish`        | `rolls-finish`    | the first five; Listed, Going,      |
+-- | `finishes` | `RollsFinish`        | `rolls-finish`    | the first six; Listed, Going,       |
 -- |            |                      |                   | Completion                          |
 --
 -- `Keys` has what the flags and stamps of one key may be in each phase, as one test and its tables;
@@ -19,6 +19,7 @@ pub mod Replies
 pub mod Keys
 pub mod Phases
 pub mod Ended
+pub mod OrderedKeys
 pub mod Order
 pub mod Positions
 pub mod Armed

@@ -32,8 +32,9 @@ use Rattle.dnssec_run.proofs.Chain.History.{time_now, time_mono, base_same}
 use Rattle.dnssec_run.proofs.Chain.Places.{all_ok, some_key, found_key, found_now}
 use Rattle.dnssec_run.proofs.Chain.EarlyEnds.{untouched-ended, list-ended}
 use Rattle.dnssec_run.proofs.Chain.Returns.{early_end_key}
-use Rattle.dnssec_run.proofs.Chain.Steps.{Mapped, may_at, suits}
-use Rattle.dnssec_run.proofs.Chain.Gentles.{Kept, list_start, list_waited1, list_waited2}
+use Rattle.dnssec_run.proofs.Chain.OneKey.{Mapped, may_at, suits}
+use Rattle.dnssec_run.proofs.Chain.Gentles.{Kept}
+use Rattle.dnssec_run.proofs.Chain.Kinds.{list_start, list_waited1, list_waited2}
 
 pub record Told (tale : Tale) (r : RollType) (second : Bool) (n ttl : ℕ) : Type 0 where
   pub at : ℕ

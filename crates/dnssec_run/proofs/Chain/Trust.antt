@@ -50,14 +50,14 @@ use Rattle.dnssec_run.proofs.Chain.Rolls.{stage_fits}
 use Rattle.dnssec_run.proofs.Chain.Returns.{KeepsLists, early_end_key}
 use Rattle.dnssec_run.proofs.Chain.Lists.{keeps-same, keeps-without, keeps-on, keeps-start}
 use Rattle.dnssec_run.proofs.Chain.Lists.{listed-same, listed-other, is_listed-filter}
-use Rattle.dnssec_run.proofs.Chain.Steps.{Mapped}
+use Rattle.dnssec_run.proofs.Chain.OneKey.{Mapped}
 use Rattle.dnssec_run.proofs.Chain.Places.{place_at, real, all_ok, same_call, none_at_start}
 use Rattle.dnssec_run.proofs.Chain.Places.{found_key}
 use Rattle.dnssec_run.proofs.Chain.Invariant.{At}
 use Rattle.dnssec_run.proofs.Chain.Gentles.{kept_same, kept_added, kept_deleted, kept_changed}
 use Rattle.dnssec_run.proofs.Chain.Gentles.{distinct, with_key, without_key, with_keys}
-use Rattle.dnssec_run.proofs.Chain.BothSides.{Inv, mapped, calm, report, done, start, wait1, wait2}
-use Rattle.dnssec_run.proofs.Chain.BothSides.{safe_of, PassesAt, end_early}
+use Rattle.dnssec_run.proofs.Chain.BothSides.{Inv, mapped, calm, report, done, PassesAt}
+use Rattle.dnssec_run.proofs.Chain.SideBySide.{start, wait1, wait2, safe_of, end_early}
 use Rattle.dnssec_run.proofs.Chain.Allowed.{can_start, waits_in_phase, clear_cause}
 
 -- ---- replies

@@ -26,7 +26,7 @@ use Rattle.dnssec_run.specs.Published.{World}
 use Rattle.dnssec_run.specs.Record.{IsRun, call_of, is_accepted, reply_of, stepped_by, world_at}
 use Rattle.dnssec_run.proofs.Chain.Tale.{early-end-parts, start-parts}
 use Rattle.dnssec_run.proofs.EarlyEnds.Tables.{tied, tied_facts}
-use Rattle.dnssec_run.proofs.WholeRolls.Order.{back}
+use Rattle.dnssec_run.proofs.WholeRolls.OrderedKeys.{back}
 use Rattle.dnssec_run.proofs.WholeRolls.Replies.{accepted_step, refused_step}
 
 -- each key of the set

@@ -31,7 +31,7 @@ use Rattle.dnssec_run.specs.Record.{IsRun, call_of, is_accepted, reply_of, world
 use Rattle.dnssec_run.specs.WholeRolls.{IsAccepted}
 use Rattle.dnssec_run.proofs.Chain.Allowed.{can_start, clear_cause}
 use Rattle.dnssec_run.proofs.Chain.Rolls.{same-same}
-use Rattle.dnssec_run.proofs.Chain.Steps.{may_by}
+use Rattle.dnssec_run.proofs.Chain.OneKey.{may_by}
 use Rattle.dnssec_run.proofs.Chain.Tale.{CanStart, early-end-parts, seen, start-parts}
 use Rattle.dnssec_run.proofs.EarlyEnds.Keys.{key-step, phase-before}
 use Rattle.dnssec_run.proofs.EarlyEnds.Lists.{is_listed-filter, lists-step}

@@ -26,7 +26,7 @@ use Rattle.dnssec_run.proofs.Chain.Setters.{Harmless, harmless-alike, harmless-b
 use Rattle.dnssec_keyset.proofs.Tests.{each_key, each_key-at, ◌⇒◌, mp, and-both}
 use Rattle.dnssec_run.proofs.Chain.Facts.{stays, timed, stays_facts, timer, other, stays_wait}
 use Rattle.dnssec_run.proofs.Chain.Phases.{wait_stamps}
-use Rattle.dnssec_run.proofs.WholeRolls.Order.{back}
+use Rattle.dnssec_run.proofs.WholeRolls.OrderedKeys.{back}
 
 -- ---- finite facts
 

@@ -33,12 +33,13 @@ use Rattle.dnssec_keyset.proofs.Flags.{SideOf, Keys, Zone, affects, may_list, is
 use Rattle.dnssec_run.proofs.Chain.Tale.{start-parts}
 use Rattle.dnssec_keyset.proofs.Tests.{◌⇒◌, and-both}
 use Rattle.dnssec_run.proofs.Chain.Rolls.{same-same}
-use Rattle.dnssec_run.proofs.Chain.Steps.{may_by}
+use Rattle.dnssec_run.proofs.Chain.OneKey.{may_by}
 use Rattle.dnssec_run.proofs.Chain.Allowed.{can_start, clear_cause}
 use Rattle.dnssec_run.proofs.WholeRolls.Going.{old-step, new-step, still, IsNoAdd}
 use Rattle.dnssec_run.proofs.WholeRolls.Keys.{Idle, in_order}
 use Rattle.dnssec_run.proofs.WholeRolls.Listed.{began, newly, oldly, over_facts}
-use Rattle.dnssec_run.proofs.WholeRolls.Order.{back, world_of}
+use Rattle.dnssec_run.proofs.WholeRolls.OrderedKeys.{back}
+use Rattle.dnssec_run.proofs.WholeRolls.Order.{world_of}
 use Rattle.dnssec_keyset.proofs.Accepted.{finishes, add_free}
 use Rattle.dnssec_run.proofs.WholeRolls.Phases.{phase_fits, phase_is, put_there, roll_now}
 use Rattle.dnssec_run.proofs.WholeRolls.Positions.{in-order, nothing_set}

@@ -34,7 +34,8 @@ use Rattle.dnssec_run.proofs.Chain.Facts.{other}
 use Rattle.dnssec_run.proofs.Chain.Rolls.{same-true}
 use Rattle.dnssec_run.proofs.Chain.Allowed.{can_start, clear_cause, waits_in_phase}
 use Rattle.dnssec_run.proofs.WholeRolls.Listed.{new_facts, newly, old_start, old_wait, oldly}
-use Rattle.dnssec_run.proofs.WholeRolls.Order.{back, is_calm, world_of}
+use Rattle.dnssec_run.proofs.WholeRolls.OrderedKeys.{back}
+use Rattle.dnssec_run.proofs.WholeRolls.Order.{is_calm, world_of}
 use Rattle.dnssec_run.proofs.WholeRolls.Phases.{put_aside, put_there, roll_now, split_by}
 
 -- ---- one call while the roll is in progress

@@ -1,25 +1,20 @@
 -- Calls that set nothing leave the keys of a set in order: for all laws of whole rolls.
-use Rattle.std.proofs.Common.{◌≡◌, ℕ, ◌⊎◌, inl, inr, Bool, true, false, not, ◌&&◌, ◌||◌, refl}
-use Rattle.std.proofs.Common.{sym, ◌∙◌, ap, subst, List, Option, None, Some}
-use Rattle.std.specs.Prelude.{if◌then◌else◌, is_some}
-use Rattle.std.specs.Option.{option_map}
+use Rattle.std.proofs.Common.{◌≡◌, ℕ, ◌⊎◌, inl, inr, Bool, true, false, not, refl, sym, ◌∙◌, ap}
+use Rattle.std.proofs.Common.{subst, List, Option, None, Some}
+use Rattle.std.specs.Prelude.{if◌then◌else◌}
 use Rattle.std.specs.Str.{bytes_eq}
-use Rattle.std.specs.Cmp.Lexicographic.{bytes_decides}
+use Rattle.std.specs.Cmp.Lexicographic.{bytes_decides, slice_cmp}
 use Rattle.std.specs.FinMap.{get, get-empty}
 use Rattle.std.specs.Ordering.{nat_cmp}
-use Rattle.std.specs.Cmp.Lexicographic.{slice_cmp}
 use Rattle.std.proofs.lemmas.Option.{same_Some, none-some}
 use Rattle.dnssec_key.specs.declared.roll.RollType.{RollType}
-use Rattle.dnssec_key.specs.declared.roll.RollState.{RollState}
 use Rattle.dnssec_key.specs.declared.roll.RollState.TheVariants.{Propagation1, CacheExpire1}
-use Rattle.dnssec_key.specs.declared.roll.RollState.TheVariants.{Propagation2, CacheExpire2}
-use Rattle.dnssec_key.specs.declared.roll.RollState.TheVariants.{Done}
-use Rattle.dnssec_key.specs.Key.{KeyParts, all_states}
-use Rattle.dnssec_key.specs.State.{is_kept}
+use Rattle.dnssec_key.specs.declared.roll.RollState.TheVariants.{Propagation2, CacheExpire2, Done}
+use Rattle.dnssec_key.specs.Key.{KeyParts}
 use Rattle.dnssec_keyset.specs.KeySet.{Lists, KeySetParts, PutsKey, MovesOn, new_set, phase_of}
 use Rattle.dnssec_keyset.specs.KeySet.{listed_by, same_roll, with_listed}
-use Rattle.dnssec_key.specs.RollTable.{First, Second, stamp_if, after_start, after_report}
-use Rattle.dnssec_key.specs.RollTable.{after_early_end, after_wait}
+use Rattle.dnssec_key.specs.RollTable.{First, Second, after_start, after_report, after_early_end}
+use Rattle.dnssec_key.specs.RollTable.{after_wait}
 use Rattle.dnssec_key.specs.Setters.{set_by}
 use Rattle.dnssec_keyset.specs.Laws.{LeavesOthers}
 use Rattle.dnssec_keyset.specs.Step as keyset
@@ -27,220 +22,26 @@ use Rattle.dnssec_keyset.proofs.Sides.{leaves-others}
 use Rattle.dnssec_keyset.proofs.Laws.{moved}
 use Rattle.dnssec_run.specs.Published.{World as RealWorld}
 use Rattle.dnssec_run.specs.Plain.{is_plain_setting, sets_nothing}
-use Rattle.dnssec_keyset.proofs.Flags.{SideOf, affects, may_list, is_blank, started, ended, waited1}
-use Rattle.dnssec_keyset.proofs.Flags.{waited2, has_role, may_start, is_idle}
-use Rattle.dnssec_run.proofs.Chain.Tables.{written, Visible, DsVisible, RrsigVisible}
-use Rattle.dnssec_run.proofs.Chain.Tale.{seen, is_listed, CanStart, start-parts, started_key}
-use Rattle.dnssec_run.proofs.Chain.Tale.{early-end-parts}
-use Rattle.dnssec_run.proofs.Chain.Setters.{Harmless, harmless, harmless-alike, others-role}
-use Rattle.dnssec_run.proofs.Chain.Facts.{apart}
-use Rattle.dnssec_run.proofs.Chain.Rolls.{same-true, clash}
-use Rattle.dnssec_run.proofs.Chain.Steps.{may_by}
-use Rattle.dnssec_run.proofs.Chain.Gentles.{role_start, role_waited1, role_waited2}
-use Rattle.dnssec_run.proofs.Chain.Phases.{start_stamps, wait_stamps}
+use Rattle.dnssec_keyset.proofs.Flags.{SideOf, affects, may_list, is_blank, has_role, may_start}
+use Rattle.dnssec_keyset.proofs.Flags.{is_idle}
+use Rattle.dnssec_run.proofs.Chain.Tale.{seen, is_listed, CanStart, start-parts, early-end-parts}
+use Rattle.dnssec_run.proofs.Chain.Setters.{Harmless, harmless}
+use Rattle.dnssec_run.proofs.Chain.Rolls.{clash}
+use Rattle.dnssec_run.proofs.Chain.OneKey.{may_by}
+use Rattle.dnssec_run.proofs.Chain.Kinds.{role_start, role_waited1, role_waited2}
 use Rattle.dnssec_run.proofs.Chain.Allowed.{can_start, clear_cause, waits_in_phase}
-use Rattle.dnssec_run.proofs.WholeRolls.Keys.{Expiring, Idle, Phase, Spreading, blank_orderly}
-use Rattle.dnssec_run.proofs.WholeRolls.Keys.{in_order, orderly, report_orderly, start_orderly}
-use Rattle.dnssec_run.proofs.WholeRolls.Keys.{unseen_orderly, wait1_orderly, wait2_orderly}
+use Rattle.dnssec_run.proofs.WholeRolls.Keys.{Idle, Spreading, blank_orderly, in_order}
 use Rattle.dnssec_keyset.proofs.Accepted.{ends_early, finishes, spreads_first, spreads_second}
 use Rattle.dnssec_run.proofs.WholeRolls.Ended.{Alike, alike_put, alike_same, alike_set}
 use Rattle.dnssec_run.proofs.WholeRolls.Ended.{alike_without, can_end, can_end-alike, can_end-idle}
-use Rattle.dnssec_run.proofs.WholeRolls.Ended.{can_end-set, can_end-unseen, ended_key, listed_start}
-use Rattle.dnssec_run.proofs.WholeRolls.Ended.{role_ended, undone_orderly}
-use Rattle.dnssec_run.proofs.WholeRolls.Phases.{at_phase, distinct, here_fits, idle_is, is_live}
-use Rattle.dnssec_run.proofs.WholeRolls.Phases.{no_phases, none_fits, others_none, own_at}
-use Rattle.dnssec_run.proofs.WholeRolls.Phases.{phase_fits, phase_is, phase_own, put_aside}
-use Rattle.dnssec_run.proofs.WholeRolls.Phases.{put_there}
+use Rattle.dnssec_run.proofs.WholeRolls.Ended.{can_end-set, ended_key, listed_start, role_ended}
+use Rattle.dnssec_run.proofs.WholeRolls.Phases.{idle_is, no_phases, others_none, phase_fits}
+use Rattle.dnssec_run.proofs.WholeRolls.Phases.{phase_is, put_aside, put_there}
+use Rattle.dnssec_run.proofs.WholeRolls.OrderedKeys.{Order, back, calm_side, harmless_key}
+use Rattle.dnssec_run.proofs.WholeRolls.OrderedKeys.{other_side, own_side, report_first}
+use Rattle.dnssec_run.proofs.WholeRolls.OrderedKeys.{report_second, start_key, undone_key}
+use Rattle.dnssec_run.proofs.WholeRolls.OrderedKeys.{wait_first, wait_second}
 
--- the rolls and the keys of a side are in order, and the keys stay so if its roll ends early
-pub record Order (sd : SideOf) (set : KeySetParts) : Type 0 where
-  pub ph : Phase
-  pub own : phase_own sd ph ≡ true
-  pub rolls : (q : RollType) → affects sd q ≡ true → phase_fits ph q (phase_of set.rolls q) ≡ true
-  pub keys : (q : List ℕ) (k : KeyParts) → get set.keys q ≡ Some k → in_order sd ph k ≡ true
-  pub early : (q : List ℕ) (k : KeyParts) → get set.keys q ≡ Some k
-      → can_end sd ph set.lists q k ≡ true
-
--- ---- keys
-
--- what a mapped key was
-pub back : (f : KeyParts → KeyParts) (o : Option KeyParts) (j : KeyParts) → option_map f o ≡ Some j
-    → (k : KeyParts) × (o ≡ Some k) × (f k ≡ j)
-back f None j e = absurd (none-some j e)
-back f (Some k) j e = (k, refl, same_Some _ _ e)
-
-stamped : (b : Bool) (now : ℕ) (s : Option ℕ) → is_some (stamp_if b now s) ≡ (b || is_some s)
-stamped true now s = refl
-stamped false now s = refl
-
-module _ (sd : SideOf) (old new : KeySetParts) where
-  -- a call of a roll of this side
-  own_side : {kept : Lists} (r : RollType) (p p' : RollState) (f : List ℕ → KeyParts → KeyParts)
-      → affects sd r ≡ true → is_live p ≡ true → phase_of old.rolls r ≡ Some p
-      → MovesOn old new r (Some p') kept f
-      → ((q : List ℕ) (k : KeyParts) → in_order sd (at_phase r p) k ≡ true
-      → in_order sd (at_phase r p') (f q k) ≡ true)
-      → ((q : List ℕ) (k : KeyParts) → can_end sd (at_phase r p') new.lists q k ≡ true)
-      → Order sd old → Order sd new
-  own_side r p p' f own live was m step later h = record {
-    ph = at_phase r p';
-    own = own_at sd r p' own;
-    rolls = λ q e. at_roll q e (same_roll r q) refl;
-    keys = λ q j e.
-        let b = back (f q) (get old.keys q) j (sym (m.keys q) ∙ e) in
-        ap (in_order sd (at_phase r p')) (sym b.2)
-        ∙ step q b.0 (ap (λ ph. in_order sd ph b.0) (sym there) ∙ h.keys q b.0 b.1);
-    early = λ q j e. later q j;
-  }
-    where
-      there : h.ph ≡ at_phase r p
-      there = phase_is h.ph r p (ap (phase_fits h.ph r) (sym was) ∙ h.rolls r own)
-
-      at_roll : (q : RollType) → affects sd q ≡ true → (b : Bool) → same_roll r q ≡ b
-          → phase_fits (at_phase r p') q (phase_of new.rolls q) ≡ true
-      at_roll q e true t = ap (phase_fits (at_phase r p') q)
-          (put_there old.rolls new.rolls r (Some p') q m.rolls t)
-          ∙ ap (λ q. phase_fits (at_phase r p') q (Some p')) (sym (same-true r q t))
-          ∙ here_fits r p'
-      at_roll q e false t =
-          let none : phase_of old.rolls q ≡ None =
-          others_none r p q (phase_of old.rolls q) live
-          (ap (λ ph. phase_fits ph q (phase_of old.rolls q)) (sym there) ∙ h.rolls q e) t in
-          ap (phase_fits (at_phase r p') q) (put_aside old.rolls new.rolls r (Some p') q m.rolls t
-          ∙ none) ∙ none_fits r p' q t
-
-  -- a call of a roll of the other side
-  other_side : {kept : Lists} (r : RollType) (o : Option RollState)
-      (f : List ℕ → KeyParts → KeyParts) → affects sd r ≡ false → MovesOn old new r o kept f
-      → ((q : List ℕ) → Alike sd q old.lists kept)
-      → ((q : List ℕ) (k : KeyParts) → get old.keys q ≡ Some k → may_list r k.keytype ≡ false
-      → get new.keys q ≡ Some k)
-      → ((q : List ℕ) (k : KeyParts) → has_role sd (f q k).keytype ≡ has_role sd k.keytype)
-      → Order sd old → Order sd new
-  other_side {kept = kept} r o f out m lists leaves roles h = record {
-    ph = h.ph;
-    own = h.own;
-    rolls = λ q e. ap (phase_fits h.ph q)
-        (put_aside old.rolls new.rolls r o q m.rolls (distinct sd r q out e)) ∙ h.rolls q e;
-    keys = λ q j e. (at_key q j e (back (f q) (get old.keys q) j (sym (m.keys q) ∙ e))).0;
-    early = λ q j e. (at_key q j e (back (f q) (get old.keys q) j (sym (m.keys q) ∙ e))).1;
-  }
-    where
-      at_key : (q : List ℕ) (j : KeyParts) → get new.keys q ≡ Some j → (k : KeyParts)
-          × (get old.keys q ≡ Some k) × (f q k ≡ j)
-          → (in_order sd h.ph j ≡ true) × (can_end sd h.ph new.lists q j ≡ true)
-      at_key q j e b = by (has_role sd b.0.keytype) refl
-        where
-          by : (t : Bool) → has_role sd b.0.keytype ≡ t
-              → (in_order sd h.ph j ≡ true) × (can_end sd h.ph new.lists q j ≡ true)
-          by true t =
-              let same : b.0 ≡ j = same_Some b.0 j
-              (sym (leaves q b.0 b.1 (apart sd r b.0.keytype out t)) ∙ e) in (
-                ap (in_order sd h.ph) (sym same) ∙ h.keys q b.0 b.1,
-                ap (λ l. can_end sd h.ph l q j) m.lists
-                    ∙ can_end-alike sd h.ph q old.lists kept j h.own (lists q)
-                    ∙ ap (can_end sd h.ph old.lists q) (sym same) ∙ h.early q b.0 b.1,
-              )
-          by false t =
-              let unseen = ap (λ (k : KeyParts). has_role sd k.keytype) (sym b.2) ∙ roles q b.0 ∙ t
-              in (
-                unseen_orderly sd h.ph j.keytype _ _ _ unseen,
-                can_end-unseen sd h.ph q new.lists j unseen,
-              )
-
-  -- a call that moves no roll
-  calm_side : new.rolls ≡ old.rolls → (h : Order sd old)
-      → ((q : List ℕ) (j : KeyParts) → get new.keys q ≡ Some j → in_order sd h.ph j ≡ true)
-      → ((q : List ℕ) (j : KeyParts) → get new.keys q ≡ Some j
-      → can_end sd h.ph new.lists q j ≡ true)
-      → Order sd new
-  calm_side same h keys early = record {
-    ph = h.ph;
-    own = h.own;
-    rolls = λ q e. ap (λ x. phase_fits h.ph q (phase_of x q)) same ∙ h.rolls q e;
-    keys = keys;
-    early = early;
-  }
-
--- one key at each call
-
-start_key : (sd : SideOf) (r : RollType) (now : ℕ) (o i : Bool) (k : KeyParts) → affects sd r ≡ true
-    → may_start r o i k.keytype ≡ true → in_order sd Idle k ≡ true
-    → in_order sd (Spreading false r) (started_key r now o i k) ≡ true
-start_key sd r now o i k own may e =
-    let s = start_stamps r now o i k in
-    (λ x. orderly sd (Spreading false r) (started r o i k.keytype) (is_some (sym (s Visible) x))
-    (is_some (sym (s DsVisible) x)) (is_some (sym (s RrsigVisible) x)))
-    ∙ start_orderly sd r o i k.keytype (is_some k.timestamps.visible)
-    (is_some k.timestamps.ds_visible) (is_some k.timestamps.rrsig_visible) own may e
-
-report_first : (sd : SideOf) (r : RollType) (now : ℕ) (k : KeyParts) → affects sd r ≡ true
-    → in_order sd (Spreading false r) k ≡ true
-    → in_order sd (Expiring false r) (after_report r First now k) ≡ true
-report_first sd r now k own e =
-    (λ x. orderly sd (Expiring false r) k.keytype
-    (stamped (written Visible r false k.keytype) now k.timestamps.visible x)
-    (stamped (written DsVisible r false k.keytype) now k.timestamps.ds_visible x)
-    (stamped (written RrsigVisible r false k.keytype) now k.timestamps.rrsig_visible x))
-    ∙ report_orderly sd r false k.keytype (is_some k.timestamps.visible)
-    (is_some k.timestamps.ds_visible) (is_some k.timestamps.rrsig_visible) own e
-
-report_second : (sd : SideOf) (r : RollType) (now : ℕ) (k : KeyParts) → affects sd r ≡ true
-    → in_order sd (Spreading true r) k ≡ true
-    → in_order sd (Expiring true r) (after_report r Second now k) ≡ true
-report_second sd r now k own e =
-    (λ x. orderly sd (Expiring true r) k.keytype
-    (stamped (written Visible r true k.keytype) now k.timestamps.visible x)
-    (stamped (written DsVisible r true k.keytype) now k.timestamps.ds_visible x)
-    (stamped (written RrsigVisible r true k.keytype) now k.timestamps.rrsig_visible x))
-    ∙ report_orderly sd r true k.keytype (is_some k.timestamps.visible)
-    (is_some k.timestamps.ds_visible) (is_some k.timestamps.rrsig_visible) own e
-
-wait_first : (sd : SideOf) (r : RollType) (now : ℕ) (k : KeyParts) → affects sd r ≡ true
-    → in_order sd (Expiring false r) k ≡ true
-    → in_order sd (Spreading true r) (after_wait r First now k) ≡ true
-wait_first sd r now k own e =
-    let s = wait_stamps r false now k in
-    (λ x. orderly sd (Spreading true r) (waited1 r k.keytype) (is_some (sym (s Visible) x))
-    (is_some (sym (s DsVisible) x)) (is_some (sym (s RrsigVisible) x)))
-    ∙ wait1_orderly sd r k.keytype (is_some k.timestamps.visible) (is_some k.timestamps.ds_visible)
-    (is_some k.timestamps.rrsig_visible) own e
-
-wait_second : (sd : SideOf) (r : RollType) (now : ℕ) (k : KeyParts) → affects sd r ≡ true
-    → in_order sd (Expiring true r) k ≡ true → in_order sd Idle (after_wait r Second now k) ≡ true
-wait_second sd r now k own e =
-    let s = wait_stamps r true now k in
-    (λ x. orderly sd Idle (waited2 r k.keytype) (is_some (sym (s Visible) x))
-    (is_some (sym (s DsVisible) x)) (is_some (sym (s RrsigVisible) x)))
-    ∙ wait2_orderly sd r k.keytype (is_some k.timestamps.visible) (is_some k.timestamps.ds_visible)
-    (is_some k.timestamps.rrsig_visible) own e
-
-undone_key : (sd : SideOf) (r : RollType) (now : ℕ) (o i : Bool) (k : KeyParts)
-    → affects sd r ≡ true → may_start r o i k.keytype ≡ true
-    → ((s : SideOf) → affects s r ≡ true → in_order s Idle k ≡ true)
-    → (x y : Bool) → x ≡ (o && all_states is_kept k.keytype) → y ≡ i
-    → in_order sd Idle
-    (record (started_key r now o i k) { keytype = ended r x y (started r o i k.keytype) }) ≡ true
-undone_key sd r now o i k own may idle x y old new =
-    let s = start_stamps r now o i k in
-    (λ z. orderly sd Idle (ended r (old z) (new z) (started r o i k.keytype))
-    (is_some (sym (s Visible) z)) (is_some (sym (s DsVisible) z))
-    (is_some (sym (s RrsigVisible) z)))
-    ∙ undone_orderly sd r o i k.keytype (is_some k.timestamps.visible)
-    (is_some k.timestamps.ds_visible) (is_some k.timestamps.rrsig_visible) own may idle
-
-harmless_key : (sd : SideOf) (ph : Phase) (k j : KeyParts) → Harmless k j
-    → in_order sd ph j ≡ in_order sd ph k
-harmless_key sd ph k j h =
-    harmless-alike (λ t. orderly sd ph t (is_some j.timestamps.visible)
-    (is_some j.timestamps.ds_visible) (is_some j.timestamps.rrsig_visible)) true
-    (λ t other. unseen_orderly sd ph t _ _ _ (others-role sd t other)) k j h
-    ∙ (λ x. orderly sd ph k.keytype (is_some (h.stamps Visible x))
-    (is_some (h.stamps DsVisible x)) (is_some (h.stamps RrsigVisible x)))
-
--- one step
-
--- with this set before it, a call that sets nothing, and adds only keys in no use
 abbrev pub is_calm : KeySetParts → keyset.Call → Bool
 is_calm set (keyset.AddKey r k) = is_idle k.keytype
 is_calm set call = sets_nothing set call

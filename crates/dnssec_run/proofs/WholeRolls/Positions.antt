@@ -32,7 +32,8 @@ use Rattle.dnssec_run.proofs.Chain.Tables.{DsVisible, RrsigVisible}
 use Rattle.dnssec_run.proofs.Chain.Tale.{stamp_of, waiting}
 use Rattle.dnssec_run.proofs.WholeRolls.Keys.{Expiring, Idle, has, in_order, settled_by}
 use Rattle.dnssec_run.proofs.WholeRolls.Keys.{stamp_there}
-use Rattle.dnssec_run.proofs.WholeRolls.Order.{Order, is_calm, order-new, order-step}
+use Rattle.dnssec_run.proofs.WholeRolls.OrderedKeys.{Order}
+use Rattle.dnssec_run.proofs.WholeRolls.Order.{is_calm, order-new, order-step}
 use Rattle.dnssec_run.proofs.WholeRolls.Phases.{at_phase, idle_is, phase_fits, phase_is}
 
 -- ---- at each position

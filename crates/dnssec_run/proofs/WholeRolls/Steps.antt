@@ -21,8 +21,8 @@ use Rattle.dnssec_keyset.specs.Step.{deletion_refusal}
 use Rattle.dnssec_key.specs.Setters.{set_by}
 use Rattle.dnssec_run.proofs.Chain.Rolls.{same-true, same-sym, clash}
 use Rattle.dnssec_run.proofs.Chain.Allowed.{can_start, clear_cause, waits_in_phase}
-use Rattle.dnssec_run.proofs.Chain.Steps.{may_by, suits}
-use Rattle.dnssec_run.proofs.Chain.Gentles.{list_start, list_waited1, list_waited2}
+use Rattle.dnssec_run.proofs.Chain.OneKey.{may_by, suits}
+use Rattle.dnssec_run.proofs.Chain.Kinds.{list_start, list_waited1, list_waited2}
 use Rattle.dnssec_run.proofs.Chain.Trust.{moment, mark}
 use Rattle.dnssec_keyset.specs.KeySet.{KeySetParts, listed_by, phase_of, with_phase, same_roll}
 use Rattle.dnssec_key.specs.RollTable.{Half, First, Second, after_start, after_report}
@@ -43,7 +43,8 @@ use Rattle.dnssec_run.proofs.WholeRolls.Armed.{Beside, NoneLater, beside-alike, 
 use Rattle.dnssec_run.proofs.WholeRolls.Armed.{beside-roll}
 use Rattle.dnssec_run.proofs.WholeRolls.Keys.{fits_of, Idle, Phase, stage_in, in_order}
 use Rattle.dnssec_run.proofs.WholeRolls.Ended.{list_ended}
-use Rattle.dnssec_run.proofs.WholeRolls.Order.{Order, is_calm, world_of}
+use Rattle.dnssec_run.proofs.WholeRolls.OrderedKeys.{Order}
+use Rattle.dnssec_run.proofs.WholeRolls.Order.{is_calm, world_of}
 use Rattle.dnssec_run.proofs.WholeRolls.Phases.{at_phase, idle_is, phase_fits, phase_is, put_aside}
 use Rattle.dnssec_run.proofs.WholeRolls.Phases.{put_there, roll_now, split_by}
 

@@ -1,5 +1,5 @@
 -- A walk counts what there is.
-use Rattle.dnssec_keyset.proofs.Counted.{counts-walked}
+use Rattle.dnssec_keyset.proofs.Counted.Kept.{counts-walked}
 use Rattle.dnssec_keyset.proofs.keys.recount.Goals as goal
 
 pub returns : goal.returns

@@ -6,7 +6,7 @@ use Rattle.std.specs.HashSet.{contains}
 use Rattle.std.proofs.lemmas.Map.Text.{hash_map_updates_text}
 use Rattle.dnssec_keyset.specs.KeySet.{keys_shown}
 use Rattle.dnssec_keyset.specs.Step.{has_tag}
-use Rattle.dnssec_keyset.proofs.Counted.{counts-added, fits-shown}
+use Rattle.dnssec_keyset.proofs.Counted.Kept.{counts-added, fits-shown}
 use Rattle.dnssec_keyset.proofs.Shown.{shown, get-updated}
 use Rattle.dnssec_keyset.proofs.Tags.{tags-has_tag, TagsAgree-added}
 use Rattle.dnssec_keyset.proofs.keys.Keys.add.Goals as goal

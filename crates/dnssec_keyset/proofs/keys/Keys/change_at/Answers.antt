@@ -9,7 +9,7 @@ use Rattle.dnssec_key.specs.Key.{KeyParts}
 use Rattle.dnssec_keyset.specs.Inner.Change.{made}
 use Rattle.dnssec_keyset.specs.Inner.Counts.{CountsAgree, with_key, without_key}
 use Rattle.dnssec_keyset.specs.KeySet.{keys_shown}
-use Rattle.dnssec_keyset.proofs.Counted.{counts-at, fits-shown}
+use Rattle.dnssec_keyset.proofs.Counted.Kept.{counts-at, fits-shown}
 use Rattle.dnssec_keyset.proofs.Shown.{shown, get-absent}
 use Rattle.dnssec_keyset.proofs.Tags.{TagsAgree-mapped, kept_at, kept_made}
 use Rattle.dnssec_keyset.proofs.keys.Keys.change_at.Goals as goal

@@ -3,7 +3,7 @@ use Rattle.std.proofs.Common.{◌≡◌, refl, rules, arith, sym, ap, ◌∙◌,
 use Rattle.std.proofs.Math.Seq.{take-length}
 use Rattle.dnssec_keyset.specs.Start.{texts, is_listed}
 use Rattle.dnssec_keyset.proofs.Entries.{fault-found, fault-behind, listed-behind}
-use Rattle.dnssec_keyset.proofs.Counted.{or_nothing}
+use Rattle.dnssec_keyset.proofs.Counted.Lists.{or_nothing}
 use Rattle.dnssec_keyset.proofs.Marks.{listed_more, referred}
 use Rattle.dnssec_keyset.proofs.Tags.{listed-nothing, listed-same}
 use Rattle.dnssec_keyset.proofs.Words.{zeros}

@@ -3,7 +3,7 @@ use Rattle.std.proofs.Common.{◌≡◌, ◌+◌, arith, sym, ap, ◌∙◌}
 use Rattle.dnssec_keyset.specs.Inner.Code.{as_want}
 use Rattle.dnssec_keyset.specs.Inner.Counts.{bit}
 use Rattle.dnssec_keyset.specs.Start.{serves_as_kept}
-use Rattle.dnssec_keyset.proofs.Counted.{none_listed}
+use Rattle.dnssec_keyset.proofs.Counted.Lists.{none_listed}
 use Rattle.dnssec_keyset.proofs.Entries.{counted-more, low, no_more}
 use Rattle.dnssec_keyset.proofs.keys.Keys.count_few_listed.Goals as goal
 use Rattle.dnssec_keyset.proofs.keys.Keys.count_few_listed.Goals.{then-serves_but_for}

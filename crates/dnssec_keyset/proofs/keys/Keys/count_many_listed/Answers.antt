@@ -4,7 +4,7 @@ use Rattle.std.proofs.Common.{◌∙◌, replicate}
 use Rattle.dnssec_keyset.specs.Inner.Code.{as_want}
 use Rattle.dnssec_keyset.specs.Inner.Counts.{bit}
 use Rattle.dnssec_keyset.specs.Start.{serves_as_kept}
-use Rattle.dnssec_keyset.proofs.Counted.{none_listed}
+use Rattle.dnssec_keyset.proofs.Counted.Lists.{none_listed}
 use Rattle.dnssec_keyset.proofs.Entries.{counted-behind, low, no_more}
 use Rattle.dnssec_keyset.proofs.Marks.{listed_more, referred}
 use Rattle.dnssec_keyset.proofs.Tags.{listed-nothing, listed-same}

@@ -5,7 +5,7 @@ use Rattle.std.specs.FinMap.{get}
 use Rattle.std.specs.HashSet.{contains}
 use Rattle.std.proofs.lemmas.Map.Text.{hash_map_updates_text}
 use Rattle.dnssec_keyset.specs.KeySet.{keys_shown}
-use Rattle.dnssec_keyset.proofs.Counted.{counts-removed}
+use Rattle.dnssec_keyset.proofs.Counted.Kept.{counts-removed}
 use Rattle.dnssec_keyset.proofs.Shown.{shown, get-updated}
 use Rattle.dnssec_keyset.proofs.Tags.{TagsAgree-removed}
 use Rattle.dnssec_keyset.proofs.keys.Keys.delete.Goals as goal

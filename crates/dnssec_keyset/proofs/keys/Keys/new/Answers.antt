@@ -3,7 +3,7 @@ use Rattle.std.proofs.Common.{rules}
 use Rattle.std.specs.Prelude.{nat_eq}
 use Rattle.std.specs.HashSet.{contains}
 use Rattle.dnssec_keyset.specs.KeySet.{keys_shown}
-use Rattle.dnssec_keyset.proofs.Counted.{counts-none}
+use Rattle.dnssec_keyset.proofs.Counted.Kept.{counts-none}
 use Rattle.dnssec_keyset.proofs.Shown.{shown}
 use Rattle.dnssec_keyset.proofs.Tags.{TagsAgree-none}
 use Rattle.dnssec_keyset.proofs.keys.Keys.new.Goals as goal

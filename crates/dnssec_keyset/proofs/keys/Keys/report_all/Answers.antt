@@ -5,7 +5,7 @@ use Rattle.std.specs.HashSet.{contains}
 use Rattle.std.proofs.lemmas.Map.Made.{map_same_pairs}
 use Rattle.dnssec_key.specs.RollTable.{which, after_report}
 use Rattle.dnssec_keyset.specs.KeySet.{keys_shown}
-use Rattle.dnssec_keyset.proofs.Counted.{counts-kept}
+use Rattle.dnssec_keyset.proofs.Counted.Kept.{counts-kept}
 use Rattle.dnssec_keyset.proofs.Shown.{get-walked}
 use Rattle.dnssec_keyset.proofs.Tags.{TagsAgree-mapped}
 use Rattle.dnssec_keyset.proofs.keys.Keys.report_all.Goals as goal

@@ -11,7 +11,7 @@ use Rattle.dnssec_keyset.specs.Inner.Counts.{CountsAgree, moves_counts, with_key
 use Rattle.dnssec_keyset.specs.Inner.Counts.{without_key}
 use Rattle.dnssec_keyset.specs.Inner.Tags.{TagsAgree}
 use Rattle.dnssec_keyset.specs.KeySet.{keys_shown}
-use Rattle.dnssec_keyset.proofs.Counted.{counts-set, fits-shown}
+use Rattle.dnssec_keyset.proofs.Counted.Kept.{counts-set, fits-shown}
 use Rattle.dnssec_keyset.proofs.Shown.{same-written, shown}
 use Rattle.dnssec_keyset.proofs.Tags.{TagsAgree-mapped, kept_at, kept_set}
 use Rattle.dnssec_keyset.proofs.keys.Keys.set.Goals as goal

@@ -1,0 +1,304 @@
+-- A start and a report are told the same where their roll sees the same.
+use Rattle.std.proofs.Common.{◌≡◌, ℕ, Bool, true, false, not, List, [], ◌∷◌, ◌++◌, Some, None, refl}
+use Rattle.std.proofs.Common.{inl, inr, sym, ap, ◌∙◌}
+use Rattle.std.specs.Prelude.{Option, ◌||◌, ◌&&◌, if◌then◌else◌, nat_eq}
+use Rattle.std.specs.Option.{option_map, option_map_or, option_or}
+use Rattle.std.specs.FinMap.{get}
+use Rattle.dnssec_key.specs.declared.kind.KeyType.{KeyType}
+use Rattle.dnssec_key.specs.declared.kind.KeyType.TheVariants.{Ksk, Zsk, Csk, Include}
+use Rattle.dnssec_keyset.specs.Start.{PresentKsk, KskAtParent, PresentZsk, PresentKskRole}
+use Rattle.dnssec_keyset.specs.Start.{PresentZskRole, KskSide, ZskSide, BothSides, algorithm_fault}
+use Rattle.dnssec_keyset.specs.Start.{algorithms_within, has_algorithm, is_listed, lists_kind}
+use Rattle.dnssec_keyset.specs.Start.{may_change_algorithms, new_entry_fault, new_fault}
+use Rattle.dnssec_keyset.specs.Start.{old_entry_fault, old_fault, serves_as_kept, serves_as_new}
+use Rattle.dnssec_keyset.specs.Start.{side_of, some_listed}
+use Rattle.dnssec_key.specs.declared.roll.RollType.{RollType}
+use Rattle.dnssec_key.specs.declared.roll.RollType.TheVariants.{KskRoll, KskDoubleDsRoll, ZskRoll}
+use Rattle.dnssec_key.specs.declared.roll.RollType.TheVariants.{ZskDoubleSignatureRoll, CskRoll}
+use Rattle.dnssec_key.specs.declared.roll.RollType.TheVariants.{AlgorithmRoll}
+use Rattle.dnssec_key.specs.declared.error.Error.TheVariants.{WrongKeyType, WrongKeyState}
+use Rattle.dnssec_key.specs.declared.error.Error.TheVariants.{AlgorithmSetsMismatch}
+use Rattle.dnssec_key.specs.State.{is_fresh}
+use Rattle.dnssec_key.specs.Key.{KeyParts, all_states}
+use Rattle.dnssec_keyset.specs.KeySet.{KeySetParts, some_entry, some_key}
+use Rattle.dnssec_key.specs.RollTable.{Half, First, Second, column, half_of}
+use Rattle.dnssec_keyset.specs.Wait.{left_since, stamp_read, time_left}
+use Rattle.dnssec_keyset.proofs.Quantified.{some_key-found, some_key-none, some_entry-found}
+use Rattle.dnssec_keyset.proofs.Quantified.{some_entry-none}
+use Rattle.dnssec_keyset.proofs.Exchange.Kinds.{split}
+use Rattle.dnssec_keyset.proofs.Exchange.Seen.{Alike, SameFor, alike-found, same-sym}
+
+-- ---- a roll's call is told the same where the roll sees the same
+
+checks-others : (roll : RollType) (half : Half) (t : KeyType) → lists_kind (side_of roll) t ≡ false
+    → (half_of roll half).checks t ≡ false
+unfolding column
+checks-others KskRoll First (Ksk s) e = cc
+checks-others KskRoll First (Zsk s) e = refl
+checks-others KskRoll First (Csk s t) e = refl
+checks-others KskRoll First (Include s) e = refl
+checks-others KskRoll Second (Ksk s) e = cc
+checks-others KskRoll Second (Zsk s) e = refl
+checks-others KskRoll Second (Csk s t) e = refl
+checks-others KskRoll Second (Include s) e = refl
+checks-others KskDoubleDsRoll First (Ksk s) e = cc
+checks-others KskDoubleDsRoll First (Zsk s) e = refl
+checks-others KskDoubleDsRoll First (Csk s t) e = refl
+checks-others KskDoubleDsRoll First (Include s) e = refl
+checks-others KskDoubleDsRoll Second (Ksk s) e = cc
+checks-others KskDoubleDsRoll Second (Zsk s) e = refl
+checks-others KskDoubleDsRoll Second (Csk s t) e = refl
+checks-others KskDoubleDsRoll Second (Include s) e = refl
+checks-others ZskRoll First (Ksk s) e = refl
+checks-others ZskRoll First (Zsk s) e = cc
+checks-others ZskRoll First (Csk s t) e = refl
+checks-others ZskRoll First (Include s) e = refl
+checks-others ZskRoll Second (Ksk s) e = refl
+checks-others ZskRoll Second (Zsk s) e = cc
+checks-others ZskRoll Second (Csk s t) e = refl
+checks-others ZskRoll Second (Include s) e = refl
+checks-others ZskDoubleSignatureRoll First (Ksk s) e = refl
+checks-others ZskDoubleSignatureRoll First (Zsk s) e = cc
+checks-others ZskDoubleSignatureRoll First (Csk s t) e = refl
+checks-others ZskDoubleSignatureRoll First (Include s) e = refl
+checks-others ZskDoubleSignatureRoll Second (Ksk s) e = refl
+checks-others ZskDoubleSignatureRoll Second (Zsk s) e = cc
+checks-others ZskDoubleSignatureRoll Second (Csk s t) e = refl
+checks-others ZskDoubleSignatureRoll Second (Include s) e = refl
+checks-others CskRoll First (Ksk s) e = cc
+checks-others CskRoll First (Zsk s) e = cc
+checks-others CskRoll First (Csk s t) e = cc
+checks-others CskRoll First (Include s) e = refl
+checks-others CskRoll Second (Ksk s) e = cc
+checks-others CskRoll Second (Zsk s) e = cc
+checks-others CskRoll Second (Csk s t) e = cc
+checks-others CskRoll Second (Include s) e = refl
+checks-others AlgorithmRoll First (Ksk s) e = cc
+checks-others AlgorithmRoll First (Zsk s) e = cc
+checks-others AlgorithmRoll First (Csk s t) e = cc
+checks-others AlgorithmRoll First (Include s) e = refl
+checks-others AlgorithmRoll Second (Ksk s) e = cc
+checks-others AlgorithmRoll Second (Zsk s) e = cc
+checks-others AlgorithmRoll Second (Csk s t) e = cc
+checks-others AlgorithmRoll Second (Include s) e = refl
+
+-- a key of another kind has no time left
+pub left-others : (roll : RollType) (half : Half) (ttl now : ℕ) (k : KeyParts)
+    → lists_kind (side_of roll) k.keytype ≡ false → time_left roll half ttl now k ≡ Some 0
+left-others roll half ttl now k e =
+    ap (λ (x : Bool). if x then option_map (left_since ttl now) (stamp_read roll half k) else Some
+    0) (checks-others roll half k.keytype e)
+
+pub new-PresentKsk : (t : KeyType) → lists_kind KskSide t ≡ false → serves_as_new PresentKsk t
+    ≡ false
+new-PresentKsk (Ksk s) e = cc
+new-PresentKsk (Zsk s) e = refl
+new-PresentKsk (Csk s t) e = refl
+new-PresentKsk (Include s) e = refl
+
+pub kept-PresentKsk : (t : KeyType) → lists_kind KskSide t ≡ false → serves_as_kept PresentKsk t
+    ≡ false
+kept-PresentKsk (Ksk s) e = cc
+kept-PresentKsk (Zsk s) e = refl
+kept-PresentKsk (Csk s t) e = refl
+kept-PresentKsk (Include s) e = refl
+
+pub new-KskAtParent : (t : KeyType) → lists_kind KskSide t ≡ false → serves_as_new KskAtParent t
+    ≡ false
+new-KskAtParent (Ksk s) e = cc
+new-KskAtParent (Zsk s) e = refl
+new-KskAtParent (Csk s t) e = refl
+new-KskAtParent (Include s) e = refl
+
+pub kept-KskAtParent : (t : KeyType) → lists_kind KskSide t ≡ false → serves_as_kept KskAtParent t
+    ≡ false
+kept-KskAtParent (Ksk s) e = cc
+kept-KskAtParent (Zsk s) e = refl
+kept-KskAtParent (Csk s t) e = refl
+kept-KskAtParent (Include s) e = refl
+
+pub new-PresentZsk : (t : KeyType) → lists_kind ZskSide t ≡ false → serves_as_new PresentZsk t
+    ≡ false
+new-PresentZsk (Ksk s) e = refl
+new-PresentZsk (Zsk s) e = cc
+new-PresentZsk (Csk s t) e = refl
+new-PresentZsk (Include s) e = refl
+
+pub kept-PresentZsk : (t : KeyType) → lists_kind ZskSide t ≡ false → serves_as_kept PresentZsk t
+    ≡ false
+kept-PresentZsk (Ksk s) e = refl
+kept-PresentZsk (Zsk s) e = cc
+kept-PresentZsk (Csk s t) e = refl
+kept-PresentZsk (Include s) e = refl
+
+pub new-PresentKskRole : (t : KeyType) → lists_kind BothSides t ≡ false
+    → serves_as_new PresentKskRole t
+    ≡ false
+new-PresentKskRole (Ksk s) e = cc
+new-PresentKskRole (Zsk s) e = cc
+new-PresentKskRole (Csk s t) e = cc
+new-PresentKskRole (Include s) e = refl
+
+pub kept-PresentKskRole : (t : KeyType) → lists_kind BothSides t ≡ false
+    → serves_as_kept PresentKskRole t ≡ false
+kept-PresentKskRole (Ksk s) e = cc
+kept-PresentKskRole (Zsk s) e = cc
+kept-PresentKskRole (Csk s t) e = cc
+kept-PresentKskRole (Include s) e = refl
+
+pub new-PresentZskRole : (t : KeyType) → lists_kind BothSides t ≡ false
+    → serves_as_new PresentZskRole t
+    ≡ false
+new-PresentZskRole (Ksk s) e = cc
+new-PresentZskRole (Zsk s) e = cc
+new-PresentZskRole (Csk s t) e = cc
+new-PresentZskRole (Include s) e = refl
+
+pub kept-PresentZskRole : (t : KeyType) → lists_kind BothSides t ≡ false
+    → serves_as_kept PresentZskRole t ≡ false
+kept-PresentZskRole (Ksk s) e = cc
+kept-PresentZskRole (Zsk s) e = cc
+kept-PresentZskRole (Csk s t) e = cc
+kept-PresentZskRole (Include s) e = refl
+
+module _ (b : RollType) where
+  old-entry : (o p : Option KeyParts) → Alike b o p → old_entry_fault b o ≡ old_entry_fault b p
+  unfolding Alike
+  old-entry None None h = refl
+  old-entry None (Some l) h = absurd h
+  old-entry (Some k) None h = absurd h
+  old-entry (Some k) (Some l) h = ap (λ (x : Bool). if x then None else Some WrongKeyType) h.kind
+
+  new-entry : (o p : Option KeyParts) (taken : Bool) → Alike b o p → new_entry_fault b o taken
+      ≡ new_entry_fault b p taken
+  unfolding Alike
+  new-entry None None taken h = refl
+  new-entry None (Some l) taken h = absurd h
+  new-entry (Some k) None taken h = absurd h
+  new-entry (Some k) (Some l) taken h = elim (split (lists_kind (side_of b) k.keytype)) [
+    | inl own ↦ ap (λ x. new_entry_fault b (Some x) taken) (h.same own)
+    | inr other ↦
+        ap (λ (x : Bool). if x then (if all_states is_fresh k.keytype
+            && not taken then None else Some WrongKeyState) else Some WrongKeyType) other
+        ∙ sym (ap (λ (x : Bool). if x then
+            (if all_states is_fresh l.keytype && not taken then None else Some WrongKeyState) else
+            Some WrongKeyType) (sym h.kind ∙ other))
+  ]
+
+  by-algorithm : (f : ℕ → Bool) (d : Bool) (o p : Option KeyParts) → Alike b o p
+      → option_map_or (λ (k : KeyParts). f k.algorithm) o d
+      ≡ option_map_or (λ (k : KeyParts). f k.algorithm) p d
+  unfolding Alike
+  by-algorithm f d None None h = refl
+  by-algorithm f d None (Some l) h = absurd h
+  by-algorithm f d (Some k) None h = absurd h
+  by-algorithm f d (Some k) (Some l) h = ap f h.algorithm
+
+  by-kind : (f : KeyType → Bool) → ((t : KeyType) → lists_kind (side_of b) t ≡ false → f t ≡ false)
+      → (o p : Option KeyParts) → Alike b o p
+      → option_map_or (λ (k : KeyParts). f k.keytype) o false
+          ≡ option_map_or (λ (k : KeyParts). f k.keytype) p false
+  unfolding Alike
+  by-kind f off None None h = refl
+  by-kind f off None (Some l) h = absurd h
+  by-kind f off (Some k) None h = absurd h
+  by-kind f off (Some k) (Some l) h = elim (split (lists_kind (side_of b) k.keytype)) [
+    | inl own ↦ ap (λ (x : KeyParts). f x.keytype) (h.same own)
+    | inr other ↦ off k.keytype other ∙ sym (off l.keytype (sym h.kind ∙ other))
+  ]
+
+  module _ (s t : KeySetParts) (same : SameFor b s t) where
+    pub old-same : (olds : List (List ℕ)) → old_fault b (get s.keys) olds
+        ≡ old_fault b (get t.keys) olds
+    old-same [] = refl
+    old-same (q ∷ qs) = λ i. option_or (old-entry _ _ (same.keys q) i) (old-same qs i)
+
+    pub new-same : (olds earlier news : List (List ℕ)) → new_fault b (get s.keys) olds earlier news
+        ≡ new_fault b (get t.keys) olds earlier news
+    new-same olds earlier [] = refl
+    new-same olds earlier (q ∷ qs) =
+        λ i. option_or (new-entry _ _ (is_listed olds q || is_listed earlier q) (same.keys q) i)
+        (new-same olds (earlier ++ q ∷ []) qs i)
+
+    has-same : (qs : List (List ℕ)) (n : ℕ) → has_algorithm (get s.keys) qs n
+        ≡ has_algorithm (get t.keys) qs n
+    has-same [] n = refl
+    has-same (q ∷ qs) n = λ i. by-algorithm (λ m. nat_eq m n) false _ _ (same.keys q) i
+        || has-same qs n i
+
+    within-entry : (others : List (List ℕ)) (o p : Option KeyParts) → Alike b o p
+        → option_map_or (λ (k : KeyParts). has_algorithm (get s.keys) others k.algorithm) o true
+            ≡ option_map_or (λ (k : KeyParts). has_algorithm (get t.keys) others k.algorithm) p true
+    within-entry others o p h = by-algorithm (has_algorithm (get s.keys) others) true o p h ∙ at p
+      where
+        at : (x : Option KeyParts) → option_map_or
+            (λ (k : KeyParts). has_algorithm (get s.keys) others k.algorithm) x true
+            ≡ option_map_or (λ (k : KeyParts). has_algorithm (get t.keys) others k.algorithm) x true
+        at None = refl
+        at (Some k) = has-same others k.algorithm
+
+    within-same : (qs others : List (List ℕ)) → algorithms_within (get s.keys) qs others
+        ≡ algorithms_within (get t.keys) qs others
+    within-same [] others = refl
+    within-same (q ∷ qs) others = λ i. within-entry others _ _ (same.keys q) i
+        && within-same qs others i
+
+    pub algorithms-same : (olds news : List (List ℕ)) → algorithm_fault b (get s.keys) olds news
+        ≡ algorithm_fault b (get t.keys) olds news
+    algorithms-same olds news = λ i. if may_change_algorithms b
+        || (within-same olds news i && within-same news olds i) then None else Some
+        AlgorithmSetsMismatch
+
+    pub listed-same : (f : KeyType → Bool)
+        → ((x : KeyType) → lists_kind (side_of b) x ≡ false → f x ≡ false) → (qs : List (List ℕ))
+        → some_listed f (get s.keys) qs ≡ some_listed f (get t.keys) qs
+    listed-same f off [] = refl
+    listed-same f off (q ∷ qs) = λ i. by-kind f off _ _ (same.keys q) i || listed-same f off qs i
+
+-- some key passes in one set only if one does in the other, where only keys of the roll's kinds
+-- pass
+module _ (b : RollType) (p : List ℕ → KeyParts → Bool)
+    (own : (q : List ℕ) (k : KeyParts) → p q k ≡ true → lists_kind (side_of b) k.keytype ≡ true)
+    where
+  entry-goes : (s t : KeySetParts) → SameFor b s t → some_entry p s.keys ≡ true
+      → some_entry p t.keys ≡ true
+  entry-goes s t same e =
+      let one = some_entry-found p s.keys e in
+      elim (split (some_entry p t.keys)) [
+        | inl is ↦ is
+        | inr none ↦ absurd (let no = sym
+            (some_entry-none p t.keys one.0 one.1 none
+            (alike-found b _ _ one.1 (same.keys one.0) one.2 (own one.0 one.1 one.3))) ∙ one.3 in
+            cc)
+      ]
+
+  pub entry-same : (s t : KeySetParts) → SameFor b s t → some_entry p s.keys ≡ some_entry p t.keys
+  entry-same s t same = elim (split (some_entry p s.keys)) [
+    | inl is ↦ is ∙ sym (entry-goes s t same is)
+    | inr none ↦ elim (split (some_entry p t.keys)) [
+      | inl is ↦ absurd (let no = sym none ∙ entry-goes t s (same-sym b s t same) is in cc)
+      | inr none2 ↦ none ∙ sym none2
+    ]
+  ]
+
+module _ (b : RollType) (p : KeyParts → Bool)
+    (own : (k : KeyParts) → p k ≡ true → lists_kind (side_of b) k.keytype ≡ true) where
+  key-goes : (s t : KeySetParts) → SameFor b s t → some_key p s.keys ≡ true → some_key p t.keys
+      ≡ true
+  key-goes s t same e =
+      let one = some_key-found p s.keys e in
+      elim (split (some_key p t.keys)) [
+        | inl is ↦ is
+        | inr none ↦ absurd (let no = sym
+            (some_key-none p t.keys one.0 one.1 none
+            (alike-found b _ _ one.1 (same.keys one.0) one.2 (own one.1 one.3))) ∙ one.3 in cc)
+      ]
+
+  pub key-same : (s t : KeySetParts) → SameFor b s t → some_key p s.keys ≡ some_key p t.keys
+  key-same s t same = elim (split (some_key p s.keys)) [
+    | inl is ↦ is ∙ sym (key-goes s t same is)
+    | inr none ↦ elim (split (some_key p t.keys)) [
+      | inl is ↦ absurd (let no = sym none ∙ key-goes t s (same-sym b s t same) is in cc)
+      | inr none2 ↦ none ∙ sym none2
+    ]
+  ]
