@@ -2,7 +2,7 @@
 -- the call.
 use Rattle.std.proofs.Common.{◌≡◌, ℕ, Bool, true, false, cond, List, [], ◌∷◌, map, Some, None, refl}
 use Rattle.std.proofs.Common.{sym, ap, ◌∙◌, inl, inr}
-use Rattle.std.specs.Prelude.{Option, ◌⊎◌, if◌then◌else◌}
+use Rattle.std.specs.Prelude.{Option, if◌then◌else◌}
 use Rattle.std.specs.Option.{option_map}
 use Rattle.std.specs.Str.{bytes_eq}
 use Rattle.std.specs.Ordering.{nat_cmp, is_eq, eq_by_cmp}
@@ -22,10 +22,6 @@ use Rattle.dnssec_keyset.specs.Step.{RollDone, AbortRoll, Reply, Verdict, Barred
 use Rattle.dnssec_keyset.specs.Step.{Changes, Step, StepBy, verdict, accepted_reply, after}
 use Rattle.dnssec_keyset.specs.Step.{after_reply, keys_by}
 use Rattle.dnssec_keyset.proofs.Shown.{same_keys}
-
-split : (b : Bool) → (b ≡ true) ⊎ (b ≡ false)
-split true = inl refl
-split false = inr refl
 
 same_key : (q x : List ℕ) → is_eq (slice_cmp nat_cmp q x) ≡ true → q ≡ x
 same_key q x e = (bytes_decides q x).0 (sym (is_eq-slice_cmp q x) ∙ e)

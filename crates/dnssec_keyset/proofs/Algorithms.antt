@@ -13,19 +13,7 @@ use Rattle.std.proofs.lemmas.Nat.Bits.{bit_at-lt, same_from_bits_below}
 use Rattle.dnssec_key.specs.Key.{KeyParts}
 use Rattle.dnssec_keyset.specs.Inner.Bits.{is_set}
 use Rattle.dnssec_keyset.specs.Start.{has_algorithm, algorithms_within}
-use Rattle.dnssec_keyset.proofs.Quantified.{split}
-
-first_of : (a b : Bool) → (a && b) ≡ true → a ≡ true
-first_of true b h = refl
-first_of false b h = h
-
-second_of : (a b : Bool) → (a && b) ≡ true → b ≡ true
-second_of true b h = h
-second_of false b h = cc
-
-or_more : (a b : Bool) → b ≡ true → (a || b) ≡ true
-or_more true b h = refl
-or_more false b h = h
+use Rattle.std.proofs.lemmas.Bool.{cases_Bool, or_right, and_parts}
 
 same_number : (n : ℕ) → nat_eq n n ≡ true
 same_number n = grind (arith, nat_tests)
@@ -35,7 +23,7 @@ module _ (at : List ℕ → Option KeyParts) where
   found : (qs others : List (List ℕ)) (a : ℕ) → algorithms_within at qs others ≡ true
       → has_algorithm at qs a ≡ true → has_algorithm at others a ≡ true
   found [] others a within has = cc
-  found (q ∷ qs) others a within has = here (found qs others a (second_of _ _ within)) (at q) refl
+  found (q ∷ qs) others a within has = here (found qs others a (and_parts _ _ within).1) (at q) refl
     where
       here : (has_algorithm at qs a ≡ true → has_algorithm at others a ≡ true)
           → (o : Option KeyParts) → at q ≡ o → has_algorithm at others a ≡ true
@@ -45,11 +33,11 @@ module _ (at : List ℕ → Option KeyParts) where
       here rest (Some k) is =
           let one : has_algorithm at others k.algorithm ≡ true =
           sym (ap (λ o. option_map_or (λ (k : KeyParts). has_algorithm at others k.algorithm) o
-          true) is) ∙ first_of _ _ within in
+          true) is) ∙ (and_parts _ _ within).0 in
           let either : (nat_eq k.algorithm a || has_algorithm at qs a) ≡ true =
           sym (ap (λ o. option_map_or (λ (k : KeyParts). nat_eq k.algorithm a) o false
           || has_algorithm at qs a) is) ∙ has in
-          elim (split (nat_eq k.algorithm a)) [
+          elim (cases_Bool (nat_eq k.algorithm a)) [
             | inl same ↦
                 let e : k.algorithm ≡ a = grind (arith, nat_tests) in
                 subst (λ n. has_algorithm at others n ≡ true) e one
@@ -63,7 +51,7 @@ module _ (at : List ℕ → Option KeyParts) where
       → algorithms_within at qs others ≡ true
   within_by [] others h = refl
   within_by (q ∷ qs) others h =
-      (λ i. here (at q) refl i && within_by qs others (λ a has. h a (or_more _ _ has)) i)
+      (λ i. here (at q) refl i && within_by qs others (λ a has. h a (or_right _ _ has)) i)
     where
       here : (o : Option KeyParts) → at q ≡ o →
           option_map_or (λ (k : KeyParts). has_algorithm at others k.algorithm) o true ≡ true
@@ -101,7 +89,7 @@ pub same_algorithms : (at : List ℕ → Option KeyParts) (olds news : List (Lis
     → ((a : ℕ) → is_set ys a ≡ has_algorithm at news a)
     → bytes_eq xs ys ≡ (algorithms_within at olds news && algorithms_within at news olds)
 same_algorithms at olds news xs ys long low_xs low_ys of_olds of_news =
-    elim (split (bytes_eq xs ys)) [
+    elim (cases_Bool (bytes_eq xs ys)) [
       | inl same ↦
           let words : xs ≡ ys = (bytes_decides xs ys).0 same in
           let one : (a : ℕ) → has_algorithm at olds a ≡ has_algorithm at news a =
@@ -109,12 +97,12 @@ same_algorithms at olds news xs ys long low_xs low_ys of_olds of_news =
           same ∙ sym (λ i. within_by at olds news (λ a has. sym (one a) ∙ has) i
           && within_by at news olds (λ a has. one a ∙ has) i)
       | inr apart ↦
-          elim (split (algorithms_within at olds news && algorithms_within at news olds)) [
+          elim (cases_Bool (algorithms_within at olds news && algorithms_within at news olds)) [
             | inl both ↦
                 let words : xs ≡ ys = same_words xs ys long low_xs low_ys
                 (λ a. of_olds a ∙ alike _ _
-                (found at olds news a (first_of _ _ both))
-                (found at news olds a (second_of _ _ both)) ∙ sym (of_news a)) in
+                (found at olds news a (and_parts _ _ both).0)
+                (found at news olds a (and_parts _ _ both).1) ∙ sym (of_news a)) in
                 (bytes_decides xs ys).1 words ∙ sym both
             | inr neither ↦ apart ∙ sym neither
           ]

@@ -1,18 +1,19 @@
 -- What flags a key may have, by side, roll and phase: for the chain of trust and whole rolls.
 use Rattle.std.proofs.Common.{◌≡◌, Bool, true, false, not, ◌&&◌, refl, ap}
 use Rattle.dnssec_key.specs.declared.roll.RollType.{RollType}
-use Rattle.dnssec_key.specs.declared.roll.RollType.TheVariants.{KskRoll, KskDoubleDsRoll}
-use Rattle.dnssec_key.specs.declared.roll.RollType.TheVariants.{ZskRoll, ZskDoubleSignatureRoll}
-use Rattle.dnssec_key.specs.declared.roll.RollType.TheVariants.{CskRoll, AlgorithmRoll}
+use Rattle.dnssec_key.specs.declared.roll.RollType.TheVariants.{KskRoll, KskDoubleDsRoll, ZskRoll}
+use Rattle.dnssec_key.specs.declared.roll.RollType.TheVariants.{ZskDoubleSignatureRoll}
+use Rattle.dnssec_key.specs.declared.roll.RollType.TheVariants.{AlgorithmRoll}
 use Rattle.dnssec_key.specs.declared.kind.KeyType.{KeyType}
 use Rattle.dnssec_key.specs.State.{Flags, is_used, is_stale as stale_state, Flags as KeyState}
 use Rattle.dnssec_key.specs.Key.{all_states}
 use Rattle.dnssec_key.specs.RollTable.{First, Second, half_of, column, at_roles, turns_old}
 use Rattle.dnssec_keyset.specs.Start.{lists_kind, side_of, together}
-use Rattle.std.proofs.lemmas.Bool.{and_parts, true≢false}
+use Rattle.std.proofs.lemmas.Bool.{and_left, and_parts, and_right}
 use Rattle.dnssec_key.specs.declared.kind.KeyType.TheVariants.{Ksk, Zsk, Csk, Include}
-use Rattle.dnssec_keyset.proofs.Tests.{both, both-at, each_key, each_key-at, each_roll}
-use Rattle.dnssec_keyset.proofs.Tests.{each_roll-at, ◌⇒◌, mp, alike, and-both}
+use Rattle.dnssec_keyset.proofs.Tests.{each_in_roll, each_in_roll-at, each_key, each_key-at}
+use Rattle.dnssec_keyset.proofs.Tests.{each_listed, each_listed-at, each_roll, each_roll-at, ◌⇒◌}
+use Rattle.dnssec_keyset.proofs.Tests.{mp, alike, and-both}
 
 -- the kind and the flags of a key after a start
 abbrev pub aged : Bool → KeyType → KeyType
@@ -70,6 +71,20 @@ pub data Stage : Type 0 where
   Quiet : Stage
   Early : RollType → Stage
   Late : RollType → Stage
+
+-- a test of all stages
+abbrev pub each_stage : (Stage → Bool) → Bool
+each_stage p = p Quiet && each_roll (λ r. p (Early r)) && each_roll (λ r. p (Late r))
+
+pub each_stage-at : (p : Stage → Bool) → each_stage p ≡ true → (st : Stage) → p st ≡ true
+each_stage-at p e Quiet =
+    (and_parts (p Quiet) (each_roll (λ r. p (Early r)))
+    (and_parts (p Quiet && each_roll (λ r. p (Early r))) (each_roll (λ r. p (Late r))) e).0).0
+each_stage-at p e (Early r) = each_roll-at (λ r. p (Early r))
+    (and_parts (p Quiet) (each_roll (λ r. p (Early r)))
+    (and_parts (p Quiet && each_roll (λ r. p (Early r))) (each_roll (λ r. p (Late r))) e).0).1 r
+each_stage-at p e (Late r) = each_roll-at (λ r. p (Late r))
+    (and_parts (p Quiet && each_roll (λ r. p (Early r))) (each_roll (λ r. p (Late r))) e).1 r
 
 -- the flags that a role may have: of KSK roles, of those in a Double-DS roll, and of ZSK roles
 abbrev pub k_quiet : KeyState → Bool
@@ -169,53 +184,24 @@ is_idle (Include s) = true
 fit_table : SideOf → Stage → KeyType → Bool
 fit_table sd st k = not (has_role sd k && not (is_idle k)) ⇒ fits sd st k
 
-fit_all : (sd : SideOf) (st : Stage) (a b : Bool) → each_key a b (fit_table sd st) ≡ true
+fit_all : (sd : SideOf) (a b : Bool)
+    → each_stage (λ st. each_key a b (fit_table sd st)) ≡ true
 unfolding fit_table column
-fit_all Keys Quiet a b = refl
-fit_all Keys (Early KskRoll) a b = refl
-fit_all Keys (Early KskDoubleDsRoll) a b = refl
-fit_all Keys (Early ZskRoll) a b = refl
-fit_all Keys (Early ZskDoubleSignatureRoll) a b = refl
-fit_all Keys (Early CskRoll) a b = refl
-fit_all Keys (Early AlgorithmRoll) a b = refl
-fit_all Keys (Late KskRoll) a b = refl
-fit_all Keys (Late KskDoubleDsRoll) a b = refl
-fit_all Keys (Late ZskRoll) a b = refl
-fit_all Keys (Late ZskDoubleSignatureRoll) a b = refl
-fit_all Keys (Late CskRoll) a b = refl
-fit_all Keys (Late AlgorithmRoll) a b = refl
-fit_all Zone Quiet a b = refl
-fit_all Zone (Early KskRoll) a b = refl
-fit_all Zone (Early KskDoubleDsRoll) a b = refl
-fit_all Zone (Early ZskRoll) a b = refl
-fit_all Zone (Early ZskDoubleSignatureRoll) a b = refl
-fit_all Zone (Early CskRoll) a b = refl
-fit_all Zone (Early AlgorithmRoll) a b = refl
-fit_all Zone (Late KskRoll) a b = refl
-fit_all Zone (Late KskDoubleDsRoll) a b = refl
-fit_all Zone (Late ZskRoll) a b = refl
-fit_all Zone (Late ZskDoubleSignatureRoll) a b = refl
-fit_all Zone (Late CskRoll) a b = refl
-fit_all Zone (Late AlgorithmRoll) a b = refl
+fit_all Keys a b = refl
+fit_all Zone a b = refl
 
-and_left : (a b : Bool) → a ≡ false → (a && b) ≡ false
-and_left true b e = absurd (true≢false e)
-and_left false b e = refl
-
-and_right : (a b : Bool) → b ≡ false → (a && b) ≡ false
-and_right true b e = e
-and_right false b e = refl
+fit_holds : (sd : SideOf) (st : Stage) (k : KeyType) → fit_table sd st k ≡ true
+fit_holds sd st = each_key-at (fit_table sd st)
+    (λ a b. each_stage-at (λ st. each_key a b (fit_table sd st)) (fit_all sd a b) st)
 
 pub unseen-fits : (sd : SideOf) (st : Stage) (k : KeyType) → has_role sd k ≡ false
     → fits sd st k ≡ true
 unfolding fit_table column
-unseen-fits sd st k e = mp _ _ (each_key-at (fit_table sd st) (fit_all sd st) k)
-    (ap not (and_left _ _ e))
+unseen-fits sd st k e = mp _ _ (fit_holds sd st k) (ap not (and_left _ _ e))
 
 pub idle-fits : (sd : SideOf) (st : Stage) (k : KeyType) → is_idle k ≡ true → fits sd st k ≡ true
 unfolding fit_table column
-idle-fits sd st k e = mp _ _ (each_key-at (fit_table sd st) (fit_all sd st) k)
-    (ap not (and_right _ _ (ap not e)))
+idle-fits sd st k e = mp _ _ (fit_holds sd st k) (ap not (and_right _ _ (ap not e)))
 
 pub stale-idle : (k : KeyType) → is_stale k ≡ true → is_idle k ≡ true
 stale-idle k = mp _ _ (each_key-at (λ k. is_stale k ⇒ is_idle k) (λ a b. refl) k)
@@ -229,8 +215,7 @@ start_table : SideOf → RollType → Bool → Bool → KeyType → Bool
 start_table sd r o i k = (affects sd r && (may_start r o i k && fits sd Quiet k))
     ⇒ fits sd (Early r) (started r o i k)
 
-start_all : (sd : SideOf) (a b : Bool)
-    → each_roll (λ r. both (λ o. both (λ i. each_key a b (start_table sd r o i)))) ≡ true
+start_all : (sd : SideOf) (a b : Bool) → each_listed a b (start_table sd) ≡ true
 unfolding start_table column
 start_all Keys a b = refl
 start_all Zone a b = refl
@@ -240,17 +225,15 @@ pub start-fits : (sd : SideOf) (r : RollType) (o i : Bool) (k : KeyType) → aff
     → may_start r o i k ≡ true → fits sd Quiet k ≡ true
     → fits sd (Early r) (started r o i k) ≡ true
 unfolding start_table
-start-fits sd r o i k own may fit = mp _ _ (each_key-at (start_table sd r o i) (λ a b.
-    both-at (λ i. each_key a b (start_table sd r o i))
-    (both-at (λ o. both (λ i. each_key a b (start_table sd r o i)))
-    (each_roll-at (λ r. both (λ o. both (λ i. each_key a b (start_table sd r o i))))
-    (start_all sd a b) r) o) i) k) (and-both _ _ own (and-both _ _ may fit))
+start-fits sd r o i k own may fit = mp _ _
+    (each_listed-at (start_table sd) (start_all sd) r o i k)
+    (and-both _ _ own (and-both _ _ may fit))
 
 wait_table : SideOf → RollType → KeyType → Bool
 wait_table sd r k = affects sd r ⇒ ((fits sd (Early r) k ⇒ fits sd (Late r) (waited1 r k))
     && (fits sd (Late r) k ⇒ fits sd Quiet (waited2 r k)))
 
-wait_all : (sd : SideOf) (a b : Bool) → each_roll (λ r. each_key a b (wait_table sd r)) ≡ true
+wait_all : (sd : SideOf) (a b : Bool) → each_in_roll a b (wait_table sd) ≡ true
 unfolding wait_table column
 wait_all Keys a b = refl
 wait_all Zone a b = refl
@@ -260,8 +243,7 @@ wait_facts : (sd : SideOf) (r : RollType) (k : KeyType) → affects sd r ≡ tru
     × (fits sd (Late r) k ≡ true → fits sd Quiet (waited2 r k) ≡ true)
 unfolding wait_table
 wait_facts sd r k own =
-    let x = and_parts _ _ (mp _ _ (each_key-at (wait_table sd r) (λ a b.
-    each_roll-at (λ r. each_key a b (wait_table sd r)) (wait_all sd a b) r) k) own) in
+    let x = and_parts _ _ (mp _ _ (each_in_roll-at (wait_table sd) (wait_all sd) r k) own) in
     (mp _ _ x.0, mp _ _ x.1)
 
 -- a first wait

@@ -1,7 +1,7 @@
 -- Laws of every step, and so of every run: no two keys get one tag, and rolls in progress go
 -- together.
 use Rattle.std.proofs.Common.{◌≡◌, ℕ, Bool, true, false, not, List, Some, None, refl, inl, inr, sym}
-use Rattle.std.proofs.Common.{ap, subst, ◌∙◌, arith}
+use Rattle.std.proofs.Common.{ap, subst, ◌∙◌, arith, zero, suc}
 use Rattle.std.specs.Prelude.{Option, ◌⊎◌, ◌&&◌, ◌||◌, nat_eq, is_some, if◌then◌else◌}
 use Rattle.std.specs.List.{list_any}
 use Rattle.std.specs.Option.{option_map, option_or, unwrap_or}
@@ -9,6 +9,7 @@ use Rattle.std.specs.Str.{bytes_eq}
 use Rattle.std.specs.Cmp.Lexicographic.{bytes_decides, slice_cmp}
 use Rattle.std.specs.FinMap.{get, get-empty}
 use Rattle.std.specs.Ordering.{nat_cmp}
+use Rattle.std.proofs.lemmas.Bool.{cases_Bool, eqb-true}
 use Rattle.std.proofs.lemmas.Bool.Decides.{nat_tests}
 use Rattle.dnssec_keyset.specs.Start.{Side}
 use Rattle.dnssec_keyset.specs.Start.{KskSide, ZskSide, BothSides}
@@ -24,7 +25,7 @@ use Rattle.dnssec_key.specs.declared.error.Error.TheVariants.{WrongStateForRollO
 use Rattle.dnssec_key.specs.declared.error.Error.TheVariants.{ConflictingRollInProgress}
 use Rattle.dnssec_key.specs.Key.{KeyParts}
 use Rattle.dnssec_keyset.specs.KeySet.{Keys, KeySetParts, Lists, Rolls, PutsKey, new_set, phase_of}
-use Rattle.dnssec_keyset.specs.KeySet.{with_phase, same_roll, without}
+use Rattle.dnssec_keyset.specs.KeySet.{with_phase, roll_number, same_roll, without}
 use Rattle.dnssec_key.specs.RollTable.{Half, First, Second, after_start, after_early_end}
 use Rattle.dnssec_key.specs.Setters.{Setting, Decoupled, Present, Signer, AtParent, Stale}
 use Rattle.dnssec_key.specs.Setters.{VisibleAt, DsVisibleAt, RrsigVisibleAt, set_by}
@@ -38,10 +39,6 @@ use Rattle.dnssec_keyset.specs.Step.{report_refusal, verdict, wait_in_phase}
 use Rattle.dnssec_keyset.specs.Laws.{TagsApart, RollsTogether, in_progress}
 use Rattle.dnssec_keyset.proofs.Phases.{phase_of-with_phase}
 use Rattle.dnssec_keyset.proofs.Quantified.{some_key-none}
-
-split : (b : Bool) → (b ≡ true) ⊎ (b ≡ false)
-split true = inl refl
-split false = inr refl
 
 -- ---- a step changes nothing, or makes a change for which no cause stood
 
@@ -63,6 +60,10 @@ no_cause (Some cause) e = cc
 pub no_first : (a b : Option Error) → option_or a b ≡ None → a ≡ None
 no_first None b e = refl
 no_first (Some cause) b e = cc
+
+pub no_rest : (a b : Option Error) → option_or a b ≡ None → b ≡ None
+no_rest None b e = e
+no_rest (Some cause) b e = cc
 
 -- ---- tags
 
@@ -99,7 +100,7 @@ module _ (old new : KeySetParts) (apart : TagsApart old.keys) where
     where
       there : (q : List ℕ) (k : KeyParts) → get new.keys q ≡ Some k → ((r ≡ q) × (o ≡ Some k))
           ⊎ (get old.keys q ≡ Some k)
-      there q k e = elim (split (bytes_eq r q)) [
+      there q k e = elim (cases_Bool (bytes_eq r q)) [
         | inl h ↦ inl ((bytes_decides r q).0 h, sym
             (ap (λ (b : Bool). if b then o else get old.keys q) h) ∙ sym (puts.keys q) ∙ e)
         | inr h ↦ inr (sym (ap (λ (b : Bool). if b then o else get old.keys q) h)
@@ -133,7 +134,7 @@ set-tag (RrsigVisibleAt time) true k = refl
 set-tag setting false k = refl
 
 no_tag : (keys : Keys) (r : List ℕ) (t : ℕ) → add_refusal keys r t ≡ None → has_tag t keys ≡ false
-no_tag keys r t e = elim (split (has_tag t keys)) [
+no_tag keys r t e = elim (cases_Bool (has_tag t keys)) [
   | inl h ↦ let f : Some DuplicateKeyTag ≡ None =
       sym (ap (λ (b : Bool). if b then Some DuplicateKeyTag else
       (if is_some (get keys r) then Some KeyExists else None)) h) ∙ e in cc
@@ -179,43 +180,25 @@ apart-new name = λ q r k l e d same. let f : None ≡ Some k = sym (get-empty (
 
 -- ---- rolls
 
+rolled : ℕ → RollType
+rolled zero = KskRoll
+rolled (suc zero) = KskDoubleDsRoll
+rolled (suc (suc zero)) = ZskRoll
+rolled (suc (suc (suc zero))) = ZskDoubleSignatureRoll
+rolled (suc (suc (suc (suc zero)))) = CskRoll
+rolled (suc (suc (suc (suc (suc n))))) = AlgorithmRoll
+
+rolled-number : (r : RollType) → rolled (roll_number r) ≡ r
+unfolding rolled
+rolled-number KskRoll = refl
+rolled-number KskDoubleDsRoll = refl
+rolled-number ZskRoll = refl
+rolled-number ZskDoubleSignatureRoll = refl
+rolled-number CskRoll = refl
+rolled-number AlgorithmRoll = refl
+
 pub same-is : (a b : RollType) → same_roll a b ≡ true → a ≡ b
-same-is KskRoll KskRoll e = refl
-same-is KskRoll KskDoubleDsRoll e = cc
-same-is KskRoll ZskRoll e = cc
-same-is KskRoll ZskDoubleSignatureRoll e = cc
-same-is KskRoll CskRoll e = cc
-same-is KskRoll AlgorithmRoll e = cc
-same-is KskDoubleDsRoll KskRoll e = cc
-same-is KskDoubleDsRoll KskDoubleDsRoll e = refl
-same-is KskDoubleDsRoll ZskRoll e = cc
-same-is KskDoubleDsRoll ZskDoubleSignatureRoll e = cc
-same-is KskDoubleDsRoll CskRoll e = cc
-same-is KskDoubleDsRoll AlgorithmRoll e = cc
-same-is ZskRoll KskRoll e = cc
-same-is ZskRoll KskDoubleDsRoll e = cc
-same-is ZskRoll ZskRoll e = refl
-same-is ZskRoll ZskDoubleSignatureRoll e = cc
-same-is ZskRoll CskRoll e = cc
-same-is ZskRoll AlgorithmRoll e = cc
-same-is ZskDoubleSignatureRoll KskRoll e = cc
-same-is ZskDoubleSignatureRoll KskDoubleDsRoll e = cc
-same-is ZskDoubleSignatureRoll ZskRoll e = cc
-same-is ZskDoubleSignatureRoll ZskDoubleSignatureRoll e = refl
-same-is ZskDoubleSignatureRoll CskRoll e = cc
-same-is ZskDoubleSignatureRoll AlgorithmRoll e = cc
-same-is CskRoll KskRoll e = cc
-same-is CskRoll KskDoubleDsRoll e = cc
-same-is CskRoll ZskRoll e = cc
-same-is CskRoll ZskDoubleSignatureRoll e = cc
-same-is CskRoll CskRoll e = refl
-same-is CskRoll AlgorithmRoll e = cc
-same-is AlgorithmRoll KskRoll e = cc
-same-is AlgorithmRoll KskDoubleDsRoll e = cc
-same-is AlgorithmRoll ZskRoll e = cc
-same-is AlgorithmRoll ZskDoubleSignatureRoll e = cc
-same-is AlgorithmRoll CskRoll e = cc
-same-is AlgorithmRoll AlgorithmRoll e = refl
+same-is a b e = sym (rolled-number a) ∙ ap rolled (eqb-true _ _ e) ∙ rolled-number b
 
 apart-sym : (a b : Side) → are_apart a b ≡ are_apart b a
 apart-sym KskSide KskSide = refl
@@ -301,7 +284,7 @@ module _ (old : Rolls) (roll : RollType) where
   -- a roll that is put into a phase
   there-put : (phase : RollState) (q : RollType) → in_progress (with_phase old roll (Some phase)) q
       ≡ true → (same_roll roll q ≡ true) ⊎ (in_progress old q ≡ true)
-  there-put phase q h = elim (split (same_roll roll q)) [
+  there-put phase q h = elim (cases_Bool (same_roll roll q)) [
     | inl same ↦ inl same
     | inr other ↦ inr (sym (ap is_some
         (phase_of-with_phase old roll (Some phase) q
@@ -319,7 +302,7 @@ module _ (old : Rolls) (roll : RollType) where
   -- a roll that ends
   there-ends : (q : RollType) → in_progress (with_phase old roll None) q ≡ true → in_progress old q
       ≡ true
-  there-ends q h = elim (split (same_roll roll q)) [
+  there-ends q h = elim (cases_Bool (same_roll roll q)) [
     | inl same ↦ absurd (let f = sym
         (ap is_some (phase_of-with_phase old roll None q
         ∙ ap (λ (b : Bool). if b then None else phase_of old q) same)) ∙ h in cc)

@@ -79,11 +79,6 @@ module _ {S : Type 0} where
   phase_of-shown m CskRoll = lookup-same_roll CskRoll m.entries
   phase_of-shown m AlgorithmRoll = lookup-same_roll AlgorithmRoll m.entries
 
-  -- hash maps that answer alike show the same rolls
-  pub rolls_shown-same : (m n : HashMap RollType RollState S)
-      → ((q : RollType) → get eq-value.it n q ≡ get eq-value.it m q) → rolls_shown n ≡ rolls_shown m
-  rolls_shown-same m n h = same_rolls _ _ (λ q. phase_of-shown n q ∙ h q ∙ sym (phase_of-shown m q))
-
   -- the phases after one of them is put in or taken out
   pub rolls_shown-updates : (m n : HashMap RollType RollState S) (roll : RollType)
       (phase : Option RollState)

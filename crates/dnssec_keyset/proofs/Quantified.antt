@@ -2,7 +2,7 @@
 -- none finds one.
 use Rattle.std.proofs.Common.{◌≡◌, ℕ, Bool, true, false, cond, List, [], ◌∷◌, map, Some, refl, sym}
 use Rattle.std.proofs.Common.{ap, subst, ◌∙◌, inl, inr}
-use Rattle.std.specs.Prelude.{◌⊎◌, ◌&&◌, ◌||◌, T}
+use Rattle.std.specs.Prelude.{◌&&◌, ◌||◌, T}
 use Rattle.std.specs.List.{list_any}
 use Rattle.std.specs.declared.cmp.Ordering.{Ordering}
 use Rattle.std.specs.declared.cmp.Ordering.TheVariants.{Less, Equal, Greater}
@@ -13,10 +13,7 @@ use Rattle.std.specs.FinMap.Entries.{below_all, is_sorted}
 use Rattle.std.proofs.lemmas.Map.Text.{is_eq-slice_cmp}
 use Rattle.dnssec_key.specs.Key.{KeyParts}
 use Rattle.dnssec_keyset.specs.KeySet.{Keys, some_key, some_entry}
-
-pub split : (b : Bool) → (b ≡ true) ⊎ (b ≡ false)
-split true = inl refl
-split false = inr refl
+use Rattle.std.proofs.lemmas.Bool.{cases_Bool, or_parts}
 
 pub first : (a b : Bool) → T (a && b) → T a
 first true b h = tt
@@ -25,14 +22,6 @@ first false b h = absurd h
 pub second : (a b : Bool) → T (a && b) → T b
 second true b h = h
 second false b h = absurd h
-
-left_false : (a b : Bool) → (a || b) ≡ false → a ≡ false
-left_false true b e = e
-left_false false b e = refl
-
-right_false : (a b : Bool) → (a || b) ≡ false → b ≡ false
-right_false true b e = cc
-right_false false b e = e
 
 not_both : (o : Ordering) → T (is_lt o) → is_eq o ≡ true → ⊥
 not_both Less h e = cc
@@ -47,7 +36,7 @@ itself q = is_eq-slice_cmp q q ∙ (bytes_decides q q).1 refl
 
 pub apart : (x q : List ℕ) → T (is_lt (slice_cmp nat_cmp x q)) →
     is_eq (slice_cmp nat_cmp q x) ≡ false
-apart x q h = elim (split (is_eq (slice_cmp nat_cmp q x))) [
+apart x q h = elim (cases_Bool (is_eq (slice_cmp nat_cmp q x))) [
   | inl e ↦ absurd (not_both (slice_cmp nat_cmp x x)
       (subst (λ k. T (is_lt (slice_cmp nat_cmp x k))) (same_key q x e) h) (itself x))
   | inr e ↦ e
@@ -57,7 +46,7 @@ pub below_found : (x q : List ℕ) (v : KeyParts) (es : List (List ℕ × KeyPar
     T (below_all (slice_cmp nat_cmp) x es) → find (slice_cmp nat_cmp) q es ≡ Some v →
     T (is_lt (slice_cmp nat_cmp x q))
 below_found x q v [] b f = cc
-below_found x q v (e ∷ es) b f = elim (split (is_eq (slice_cmp nat_cmp q e.0))) [
+below_found x q v (e ∷ es) b f = elim (cases_Bool (is_eq (slice_cmp nat_cmp q e.0))) [
   | inl h ↦ subst (λ k. T (is_lt (slice_cmp nat_cmp x k))) (sym (same_key q e.0 h)) (first _ _ b)
   | inr h ↦ below_found x q v es (second _ _ b)
       (sym (ap (λ c. cond c (Some e.1) (find (slice_cmp nat_cmp) q es)) h) ∙ f)
@@ -68,7 +57,7 @@ module _ (p : KeyParts → Bool) where
       → list_any p (map (λ e. e.1) es) ≡ true → (q : List ℕ) × (k : KeyParts)
       × (find (slice_cmp nat_cmp) q es ≡ Some k) × (p k ≡ true)
   key_found [] s h = cc
-  key_found (e ∷ es) s h = elim (split (p e.1)) [
+  key_found (e ∷ es) s h = elim (cases_Bool (p e.1)) [
     | inl passes ↦ (e.0, e.1, ap (λ c. cond c (Some e.1) (find (slice_cmp nat_cmp) e.0 es))
         (itself e.0), passes)
     | inr fails ↦
@@ -83,13 +72,13 @@ module _ (p : KeyParts → Bool) where
       → list_any p (map (λ e. e.1) es) ≡ false → find (slice_cmp nat_cmp) q es ≡ Some k → p k
       ≡ false
   no_entry [] q k h f = cc
-  no_entry (e ∷ es) q k h f = elim (split (is_eq (slice_cmp nat_cmp q e.0))) [
+  no_entry (e ∷ es) q k h f = elim (cases_Bool (is_eq (slice_cmp nat_cmp q e.0))) [
     | inl tied ↦
         let one : Some e.1 ≡ Some k = sym
             (ap (λ c. cond c (Some e.1) (find (slice_cmp nat_cmp) q es)) tied) ∙ f in
         let same : e.1 ≡ k = cc in
-        sym (ap p same) ∙ left_false _ _ h
-    | inr other ↦ no_entry es q k (right_false _ _ h)
+        sym (ap p same) ∙ (or_parts _ _ h).0
+    | inr other ↦ no_entry es q k (or_parts _ _ h).1
         (sym (ap (λ c. cond c (Some e.1) (find (slice_cmp nat_cmp) q es)) other) ∙ f)
   ]
 
@@ -111,7 +100,7 @@ module _ (p : List ℕ → KeyParts → Bool) where
       → list_any (λ (e : List ℕ × KeyParts). p e.0 e.1) es ≡ true
       → (q : List ℕ) × (k : KeyParts) × (find (slice_cmp nat_cmp) q es ≡ Some k) × (p q k ≡ true)
   one_entry [] s h = cc
-  one_entry (e ∷ es) s h = elim (split (p e.0 e.1)) [
+  one_entry (e ∷ es) s h = elim (cases_Bool (p e.0 e.1)) [
     | inl passes ↦ (e.0, e.1, ap (λ c. cond c (Some e.1) (find (slice_cmp nat_cmp) e.0 es))
         (itself e.0), passes)
     | inr fails ↦
@@ -126,13 +115,13 @@ module _ (p : List ℕ → KeyParts → Bool) where
       → list_any (λ (e : List ℕ × KeyParts). p e.0 e.1) es ≡ false → find (slice_cmp nat_cmp) q es
       ≡ Some k → p q k ≡ false
   none_entry [] q k h f = cc
-  none_entry (e ∷ es) q k h f = elim (split (is_eq (slice_cmp nat_cmp q e.0))) [
+  none_entry (e ∷ es) q k h f = elim (cases_Bool (is_eq (slice_cmp nat_cmp q e.0))) [
     | inl tied ↦
         let one : Some e.1 ≡ Some k = sym
             (ap (λ c. cond c (Some e.1) (find (slice_cmp nat_cmp) q es)) tied) ∙ f in
         let same : e.1 ≡ k = cc in
-        sym (λ i. p (sym (same_key q e.0 tied) i) (same i)) ∙ left_false _ _ h
-    | inr other ↦ none_entry es q k (right_false _ _ h)
+        sym (λ i. p (sym (same_key q e.0 tied) i) (same i)) ∙ (or_parts _ _ h).0
+    | inr other ↦ none_entry es q k (or_parts _ _ h).1
         (sym (ap (λ c. cond c (Some e.1) (find (slice_cmp nat_cmp) q es)) other) ∙ f)
   ]
 

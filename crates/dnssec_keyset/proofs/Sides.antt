@@ -2,32 +2,31 @@
 use Rattle.std.proofs.Common.{◌≡◌, ℕ, Bool, true, false, List, [], ◌∷◌, ◌++◌, Some, None, refl, inl}
 use Rattle.std.proofs.Common.{inr, sym, ap, ◌∙◌}
 use Rattle.std.specs.Prelude.{Option, ◌⊎◌, ◌||◌, ◌&&◌, not, if◌then◌else◌}
+use Rattle.std.proofs.lemmas.Bool.{and_parts, cases_Bool, not-true}
 use Rattle.std.proofs.lemmas.Option.{same_Some}
-use Rattle.std.specs.Option.{option_map, option_or}
+use Rattle.std.specs.Option.{option_map}
 use Rattle.std.specs.Str.{bytes_eq}
 use Rattle.std.specs.Cmp.Lexicographic.{bytes_decides}
 use Rattle.std.specs.FinMap.{get}
 use Rattle.dnssec_key.specs.declared.kind.KeyType.{KeyType}
-use Rattle.dnssec_key.specs.declared.kind.KeyType.TheVariants.{Ksk, Zsk, Csk, Include}
 use Rattle.dnssec_key.specs.declared.stamps.Stamped.{Stamped}
 use Rattle.dnssec_key.specs.declared.roll.RollType.{RollType}
-use Rattle.dnssec_key.specs.declared.roll.RollType.TheVariants.{KskRoll, KskDoubleDsRoll, ZskRoll}
-use Rattle.dnssec_key.specs.declared.roll.RollType.TheVariants.{ZskDoubleSignatureRoll, CskRoll}
-use Rattle.dnssec_key.specs.declared.roll.RollType.TheVariants.{AlgorithmRoll}
-use Rattle.dnssec_key.specs.declared.error.Error.{Error}
 use Rattle.dnssec_key.specs.declared.error.Error.TheVariants.{WrongKeyType, WrongKeyState}
 use Rattle.dnssec_key.specs.Key.{KeyParts, all_states}
 use Rattle.dnssec_key.specs.State.{is_fresh}
 use Rattle.dnssec_keyset.specs.KeySet.{KeySetParts}
-use Rattle.dnssec_key.specs.RollTable.{Half, First, Second, column, half_of, written, with_stamps}
-use Rattle.dnssec_key.specs.RollTable.{after_start, after_report, after_wait, after_early_end}
+use Rattle.dnssec_key.specs.RollTable.{Half, First, Second, Stamping, column, half_of, written}
+use Rattle.dnssec_key.specs.RollTable.{with_stamps, after_start, after_report, after_wait}
+use Rattle.dnssec_key.specs.RollTable.{after_early_end}
 use Rattle.dnssec_keyset.specs.Start.{algorithm_fault, conflict, is_listed, lists_kind}
 use Rattle.dnssec_keyset.specs.Start.{new_entry_fault, new_fault, old_entry_fault, old_fault}
 use Rattle.dnssec_keyset.specs.Start.{side_of, start_refusal, suitability_fault}
 use Rattle.dnssec_keyset.specs.Step.{Call, AddKey, Set, DeleteKey, StartRoll, Report, Wait}
 use Rattle.dnssec_keyset.specs.Step.{RollDone, AbortRoll, Reply, Clear, Changes, Step, verdict}
 use Rattle.dnssec_keyset.specs.Laws.{LeavesOthers, roll_of}
-use Rattle.dnssec_keyset.proofs.Laws.{moved, no_cause}
+use Rattle.dnssec_keyset.proofs.Laws.{moved, no_cause, no_first, no_rest}
+use Rattle.dnssec_keyset.proofs.Tests.{each_in_roll, each_in_roll-at, four, or_second, same_kind}
+use Rattle.dnssec_keyset.proofs.Tests.{same_kind-is}
 
 -- no stamp is written
 pub unstamped : Stamped
@@ -36,167 +35,72 @@ unstamped = record { published = false; visible = false; ds_visible = false; rrs
 
 -- ---- the table at the keys that a roll doesn't change
 
-report-others : (roll : RollType) (half : Half) (t : KeyType) → lists_kind (side_of roll) t ≡ false
-    → written (half_of roll half).report t ≡ unstamped
-unfolding column unstamped
-report-others KskRoll First (Ksk s) e = cc
-report-others KskRoll First (Zsk s) e = refl
-report-others KskRoll First (Csk s t) e = refl
-report-others KskRoll First (Include s) e = refl
-report-others KskRoll Second (Ksk s) e = cc
-report-others KskRoll Second (Zsk s) e = refl
-report-others KskRoll Second (Csk s t) e = refl
-report-others KskRoll Second (Include s) e = refl
-report-others KskDoubleDsRoll First (Ksk s) e = cc
-report-others KskDoubleDsRoll First (Zsk s) e = refl
-report-others KskDoubleDsRoll First (Csk s t) e = refl
-report-others KskDoubleDsRoll First (Include s) e = refl
-report-others KskDoubleDsRoll Second (Ksk s) e = cc
-report-others KskDoubleDsRoll Second (Zsk s) e = refl
-report-others KskDoubleDsRoll Second (Csk s t) e = refl
-report-others KskDoubleDsRoll Second (Include s) e = refl
-report-others ZskRoll First (Ksk s) e = refl
-report-others ZskRoll First (Zsk s) e = cc
-report-others ZskRoll First (Csk s t) e = refl
-report-others ZskRoll First (Include s) e = refl
-report-others ZskRoll Second (Ksk s) e = refl
-report-others ZskRoll Second (Zsk s) e = cc
-report-others ZskRoll Second (Csk s t) e = refl
-report-others ZskRoll Second (Include s) e = refl
-report-others ZskDoubleSignatureRoll First (Ksk s) e = refl
-report-others ZskDoubleSignatureRoll First (Zsk s) e = cc
-report-others ZskDoubleSignatureRoll First (Csk s t) e = refl
-report-others ZskDoubleSignatureRoll First (Include s) e = refl
-report-others ZskDoubleSignatureRoll Second (Ksk s) e = refl
-report-others ZskDoubleSignatureRoll Second (Zsk s) e = cc
-report-others ZskDoubleSignatureRoll Second (Csk s t) e = refl
-report-others ZskDoubleSignatureRoll Second (Include s) e = refl
-report-others CskRoll First (Ksk s) e = cc
-report-others CskRoll First (Zsk s) e = cc
-report-others CskRoll First (Csk s t) e = cc
-report-others CskRoll First (Include s) e = refl
-report-others CskRoll Second (Ksk s) e = cc
-report-others CskRoll Second (Zsk s) e = cc
-report-others CskRoll Second (Csk s t) e = cc
-report-others CskRoll Second (Include s) e = refl
-report-others AlgorithmRoll First (Ksk s) e = cc
-report-others AlgorithmRoll First (Zsk s) e = cc
-report-others AlgorithmRoll First (Csk s t) e = cc
-report-others AlgorithmRoll First (Include s) e = refl
-report-others AlgorithmRoll Second (Ksk s) e = cc
-report-others AlgorithmRoll Second (Zsk s) e = cc
-report-others AlgorithmRoll Second (Csk s t) e = cc
-report-others AlgorithmRoll Second (Include s) e = refl
+bare : Stamping → KeyType → Bool
+bare w k = not (w.published k) && not (w.visible k) && not (w.ds_visible k)
+    && (not (w.rrsig_visible k) && not (w.withdrawn k))
 
-wait-others : (roll : RollType) (half : Half) (t : KeyType) → lists_kind (side_of roll) t ≡ false
-    → written (half_of roll half).stamps t ≡ unstamped
-unfolding column unstamped
-wait-others KskRoll First (Ksk s) e = cc
-wait-others KskRoll First (Zsk s) e = refl
-wait-others KskRoll First (Csk s t) e = refl
-wait-others KskRoll First (Include s) e = refl
-wait-others KskRoll Second (Ksk s) e = cc
-wait-others KskRoll Second (Zsk s) e = refl
-wait-others KskRoll Second (Csk s t) e = refl
-wait-others KskRoll Second (Include s) e = refl
-wait-others KskDoubleDsRoll First (Ksk s) e = cc
-wait-others KskDoubleDsRoll First (Zsk s) e = refl
-wait-others KskDoubleDsRoll First (Csk s t) e = refl
-wait-others KskDoubleDsRoll First (Include s) e = refl
-wait-others KskDoubleDsRoll Second (Ksk s) e = cc
-wait-others KskDoubleDsRoll Second (Zsk s) e = refl
-wait-others KskDoubleDsRoll Second (Csk s t) e = refl
-wait-others KskDoubleDsRoll Second (Include s) e = refl
-wait-others ZskRoll First (Ksk s) e = refl
-wait-others ZskRoll First (Zsk s) e = cc
-wait-others ZskRoll First (Csk s t) e = refl
-wait-others ZskRoll First (Include s) e = refl
-wait-others ZskRoll Second (Ksk s) e = refl
-wait-others ZskRoll Second (Zsk s) e = cc
-wait-others ZskRoll Second (Csk s t) e = refl
-wait-others ZskRoll Second (Include s) e = refl
-wait-others ZskDoubleSignatureRoll First (Ksk s) e = refl
-wait-others ZskDoubleSignatureRoll First (Zsk s) e = cc
-wait-others ZskDoubleSignatureRoll First (Csk s t) e = refl
-wait-others ZskDoubleSignatureRoll First (Include s) e = refl
-wait-others ZskDoubleSignatureRoll Second (Ksk s) e = refl
-wait-others ZskDoubleSignatureRoll Second (Zsk s) e = cc
-wait-others ZskDoubleSignatureRoll Second (Csk s t) e = refl
-wait-others ZskDoubleSignatureRoll Second (Include s) e = refl
-wait-others CskRoll First (Ksk s) e = cc
-wait-others CskRoll First (Zsk s) e = cc
-wait-others CskRoll First (Csk s t) e = cc
-wait-others CskRoll First (Include s) e = refl
-wait-others CskRoll Second (Ksk s) e = cc
-wait-others CskRoll Second (Zsk s) e = cc
-wait-others CskRoll Second (Csk s t) e = cc
-wait-others CskRoll Second (Include s) e = refl
-wait-others AlgorithmRoll First (Ksk s) e = cc
-wait-others AlgorithmRoll First (Zsk s) e = cc
-wait-others AlgorithmRoll First (Csk s t) e = cc
-wait-others AlgorithmRoll First (Include s) e = refl
-wait-others AlgorithmRoll Second (Ksk s) e = cc
-wait-others AlgorithmRoll Second (Zsk s) e = cc
-wait-others AlgorithmRoll Second (Csk s t) e = cc
-wait-others AlgorithmRoll Second (Include s) e = refl
+bare-is : (w : Stamping) (k : KeyType) → bare w k ≡ true → written w k ≡ unstamped
+unfolding bare unstamped
+bare-is w k e =
+    let x = four (not (w.published k)) (not (w.visible k)) (not (w.ds_visible k))
+        (not (w.rrsig_visible k) && not (w.withdrawn k)) e in
+    let y = and_parts (not (w.rrsig_visible k)) (not (w.withdrawn k)) x.3 in
+    λ i. record {
+      published = not-true (w.published k) x.0 i;
+      visible = not-true (w.visible k) x.1 i;
+      ds_visible = not-true (w.ds_visible k) x.2 i;
+      rrsig_visible = not-true (w.rrsig_visible k) y.0 i;
+      withdrawn = not-true (w.withdrawn k) y.1 i;
+    }
 
-moves-others : (roll : RollType) (half : Half) (t : KeyType) → lists_kind (side_of roll) t ≡ false
-    → (half_of roll half).moves t ≡ t
-unfolding column
-moves-others KskRoll First (Ksk s) e = cc
-moves-others KskRoll First (Zsk s) e = refl
-moves-others KskRoll First (Csk s t) e = refl
-moves-others KskRoll First (Include s) e = refl
-moves-others KskRoll Second (Ksk s) e = cc
-moves-others KskRoll Second (Zsk s) e = refl
-moves-others KskRoll Second (Csk s t) e = refl
-moves-others KskRoll Second (Include s) e = refl
-moves-others KskDoubleDsRoll First (Ksk s) e = cc
-moves-others KskDoubleDsRoll First (Zsk s) e = refl
-moves-others KskDoubleDsRoll First (Csk s t) e = refl
-moves-others KskDoubleDsRoll First (Include s) e = refl
-moves-others KskDoubleDsRoll Second (Ksk s) e = cc
-moves-others KskDoubleDsRoll Second (Zsk s) e = refl
-moves-others KskDoubleDsRoll Second (Csk s t) e = refl
-moves-others KskDoubleDsRoll Second (Include s) e = refl
-moves-others ZskRoll First (Ksk s) e = refl
-moves-others ZskRoll First (Zsk s) e = cc
-moves-others ZskRoll First (Csk s t) e = refl
-moves-others ZskRoll First (Include s) e = refl
-moves-others ZskRoll Second (Ksk s) e = refl
-moves-others ZskRoll Second (Zsk s) e = cc
-moves-others ZskRoll Second (Csk s t) e = refl
-moves-others ZskRoll Second (Include s) e = refl
-moves-others ZskDoubleSignatureRoll First (Ksk s) e = refl
-moves-others ZskDoubleSignatureRoll First (Zsk s) e = cc
-moves-others ZskDoubleSignatureRoll First (Csk s t) e = refl
-moves-others ZskDoubleSignatureRoll First (Include s) e = refl
-moves-others ZskDoubleSignatureRoll Second (Ksk s) e = refl
-moves-others ZskDoubleSignatureRoll Second (Zsk s) e = cc
-moves-others ZskDoubleSignatureRoll Second (Csk s t) e = refl
-moves-others ZskDoubleSignatureRoll Second (Include s) e = refl
-moves-others CskRoll First (Ksk s) e = cc
-moves-others CskRoll First (Zsk s) e = cc
-moves-others CskRoll First (Csk s t) e = cc
-moves-others CskRoll First (Include s) e = refl
-moves-others CskRoll Second (Ksk s) e = cc
-moves-others CskRoll Second (Zsk s) e = cc
-moves-others CskRoll Second (Csk s t) e = cc
-moves-others CskRoll Second (Include s) e = refl
-moves-others AlgorithmRoll First (Ksk s) e = cc
-moves-others AlgorithmRoll First (Zsk s) e = cc
-moves-others AlgorithmRoll First (Csk s t) e = cc
-moves-others AlgorithmRoll First (Include s) e = refl
-moves-others AlgorithmRoll Second (Ksk s) e = cc
-moves-others AlgorithmRoll Second (Zsk s) e = cc
-moves-others AlgorithmRoll Second (Csk s t) e = cc
-moves-others AlgorithmRoll Second (Include s) e = refl
+half_table : Half → RollType → KeyType → Bool
+half_table half r k = lists_kind (side_of r) k
+    || (bare (half_of r half).report k && bare (half_of r half).stamps k
+    && same_kind ((half_of r half).moves k) k && not ((half_of r half).checks k))
+
+half_all : (half : Half) (a b : Bool) → each_in_roll a b (half_table half) ≡ true
+unfolding half_table bare column
+half_all First true true = refl
+half_all First true false = refl
+half_all First false true = refl
+half_all First false false = refl
+half_all Second true true = refl
+half_all Second true false = refl
+half_all Second false true = refl
+half_all Second false false = refl
+
+record HalfOthers (roll : RollType) (half : Half) (t : KeyType) : Type 0 where
+  report : written (half_of roll half).report t ≡ unstamped
+  stamps : written (half_of roll half).stamps t ≡ unstamped
+  moves : (half_of roll half).moves t ≡ t
+  checks : (half_of roll half).checks t ≡ false
+
+half-others : (roll : RollType) (half : Half) (t : KeyType) → lists_kind (side_of roll) t ≡ false
+    → HalfOthers roll half t
+unfolding half_table
+half-others roll half t e =
+    let x = four _ _ _ _
+        (or_second _ _ (each_in_roll-at (half_table half) (half_all half) roll t) e) in
+    record {
+      report = bare-is _ t x.0;
+      stamps = bare-is _ t x.1;
+      moves = same_kind-is _ _ x.2;
+      checks = not-true _ x.3;
+    }
+
+pub moves-others : (roll : RollType) (half : Half) (t : KeyType)
+    → lists_kind (side_of roll) t ≡ false → (half_of roll half).moves t ≡ t
+moves-others roll half t e = (half-others roll half t e).moves
+
+pub checks-others : (roll : RollType) (half : Half) (t : KeyType)
+    → lists_kind (side_of roll) t ≡ false → (half_of roll half).checks t ≡ false
+checks-others roll half t e = (half-others roll half t e).checks
 
 pub after_report-others : (roll : RollType) (half : Half) (now : ℕ) (k : KeyParts)
     → lists_kind (side_of roll) k.keytype ≡ false → after_report roll half now k ≡ k
 unfolding unstamped
 after_report-others roll half now k e =
-    λ i. record k { timestamps = with_stamps (report-others roll half k.keytype e i) now
+    λ i. record k { timestamps = with_stamps ((half-others roll half k.keytype e).report i) now
     k.timestamps }
 
 pub after_wait-others : (roll : RollType) (half : Half) (now : ℕ) (k : KeyParts)
@@ -204,93 +108,43 @@ pub after_wait-others : (roll : RollType) (half : Half) (now : ℕ) (k : KeyPart
 unfolding unstamped
 after_wait-others roll half now k e =
     λ i. record k { keytype = moves-others roll half k.keytype e i; timestamps =
-    with_stamps (wait-others roll half k.keytype e i) now k.timestamps }
+    with_stamps ((half-others roll half k.keytype e).stamps i) now k.timestamps }
 
-returns-others : (roll : RollType) (t : KeyType) → lists_kind (side_of roll) t ≡ false
-    → (column roll).returns t ≡ t
-unfolding column
-returns-others KskRoll (Ksk s) e = cc
-returns-others KskRoll (Zsk s) e = refl
-returns-others KskRoll (Csk s t) e = refl
-returns-others KskRoll (Include s) e = refl
-returns-others KskDoubleDsRoll (Ksk s) e = cc
-returns-others KskDoubleDsRoll (Zsk s) e = refl
-returns-others KskDoubleDsRoll (Csk s t) e = refl
-returns-others KskDoubleDsRoll (Include s) e = refl
-returns-others ZskRoll (Ksk s) e = refl
-returns-others ZskRoll (Zsk s) e = cc
-returns-others ZskRoll (Csk s t) e = refl
-returns-others ZskRoll (Include s) e = refl
-returns-others ZskDoubleSignatureRoll (Ksk s) e = refl
-returns-others ZskDoubleSignatureRoll (Zsk s) e = cc
-returns-others ZskDoubleSignatureRoll (Csk s t) e = refl
-returns-others ZskDoubleSignatureRoll (Include s) e = refl
-returns-others CskRoll (Ksk s) e = cc
-returns-others CskRoll (Zsk s) e = cc
-returns-others CskRoll (Csk s t) e = cc
-returns-others CskRoll (Include s) e = refl
-returns-others AlgorithmRoll (Ksk s) e = cc
-returns-others AlgorithmRoll (Zsk s) e = cc
-returns-others AlgorithmRoll (Csk s t) e = cc
-returns-others AlgorithmRoll (Include s) e = refl
+back_table : RollType → KeyType → Bool
+back_table r k = lists_kind (side_of r) k
+    || (same_kind ((column r).returns k) k && same_kind ((column r).goes k) k)
 
-goes-others : (roll : RollType) (t : KeyType) → lists_kind (side_of roll) t ≡ false
-    → (column roll).goes t ≡ t
-unfolding column
-goes-others KskRoll (Ksk s) e = cc
-goes-others KskRoll (Zsk s) e = refl
-goes-others KskRoll (Csk s t) e = refl
-goes-others KskRoll (Include s) e = refl
-goes-others KskDoubleDsRoll (Ksk s) e = cc
-goes-others KskDoubleDsRoll (Zsk s) e = refl
-goes-others KskDoubleDsRoll (Csk s t) e = refl
-goes-others KskDoubleDsRoll (Include s) e = refl
-goes-others ZskRoll (Ksk s) e = refl
-goes-others ZskRoll (Zsk s) e = cc
-goes-others ZskRoll (Csk s t) e = refl
-goes-others ZskRoll (Include s) e = refl
-goes-others ZskDoubleSignatureRoll (Ksk s) e = refl
-goes-others ZskDoubleSignatureRoll (Zsk s) e = cc
-goes-others ZskDoubleSignatureRoll (Csk s t) e = refl
-goes-others ZskDoubleSignatureRoll (Include s) e = refl
-goes-others CskRoll (Ksk s) e = cc
-goes-others CskRoll (Zsk s) e = cc
-goes-others CskRoll (Csk s t) e = cc
-goes-others CskRoll (Include s) e = refl
-goes-others AlgorithmRoll (Ksk s) e = cc
-goes-others AlgorithmRoll (Zsk s) e = cc
-goes-others AlgorithmRoll (Csk s t) e = cc
-goes-others AlgorithmRoll (Include s) e = refl
+back_all : (a b : Bool) → each_in_roll a b back_table ≡ true
+unfolding back_table column
+back_all true true = refl
+back_all true false = refl
+back_all false true = refl
+back_all false false = refl
+
+back-others : (roll : RollType) (t : KeyType) → lists_kind (side_of roll) t ≡ false
+    → ((column roll).returns t ≡ t) × ((column roll).goes t ≡ t)
+unfolding back_table
+back-others roll t e =
+    let x = and_parts _ _ (or_second _ _ (each_in_roll-at back_table back_all roll t) e) in
+    (same_kind-is _ _ x.0, same_kind-is _ _ x.1)
 
 pub after_early_end-others : (roll : RollType) (was_old was_new : Bool) (k : KeyParts)
     → lists_kind (side_of roll) k.keytype ≡ false → after_early_end roll was_old was_new k ≡ k
 after_early_end-others roll true true k e = λ i. record k {
-  keytype = (ap (column roll).goes (returns-others roll k.keytype e)
-      ∙ goes-others roll k.keytype e) i;
+  keytype = (ap (column roll).goes (back-others roll k.keytype e).0
+      ∙ (back-others roll k.keytype e).1) i;
 }
 after_early_end-others roll true false k e =
-    λ i. record k { keytype = returns-others roll k.keytype e i }
+    λ i. record k { keytype = (back-others roll k.keytype e).0 i }
 after_early_end-others roll false true k e =
-    λ i. record k { keytype = goes-others roll k.keytype e i }
+    λ i. record k { keytype = (back-others roll k.keytype e).1 i }
 after_early_end-others roll false false k e = refl
 
 -- ---- a start lists none of them
 
-split : (b : Bool) → (b ≡ true) ⊎ (b ≡ false)
-split true = inl refl
-split false = inr refl
-
-pub no_first : (a b : Option Error) → option_or a b ≡ None → a ≡ None
-no_first None b e = refl
-no_first (Some cause) b e = cc
-
-pub no_rest : (a b : Option Error) → option_or a b ≡ None → b ≡ None
-no_rest None b e = e
-no_rest (Some cause) b e = cc
-
 listed_cases : (q x : List ℕ) (xs : List (List ℕ)) → is_listed (x ∷ xs) q ≡ true → (q ≡ x)
     ⊎ (is_listed xs q ≡ true)
-listed_cases q x xs e = elim (split (bytes_eq q x)) [
+listed_cases q x xs e = elim (cases_Bool (bytes_eq q x)) [
   | inl same ↦ inl ((bytes_decides q x).0 same)
   | inr other ↦ inr (sym (ap (λ b. b || is_listed xs q) other) ∙ e)
 ]
@@ -354,14 +208,14 @@ module _ (roll : RollType) (set : KeySetParts) (olds news : List (List ℕ))
     (clear : StartsClear roll set olds news) (q : List ℕ) (k : KeyParts)
     (is : get set.keys q ≡ Some k) (other : lists_kind (side_of roll) k.keytype ≡ false) where
   pub not_old : is_listed olds q ≡ false
-  not_old = elim (split (is_listed olds q)) [
+  not_old = elim (cases_Bool (is_listed olds q)) [
     | inl h ↦ absurd (old-kind roll (get set.keys q) k is other
         (old-listed roll (get set.keys) olds q clear.olds_are h))
     | inr h ↦ h
   ]
 
   pub not_new : is_listed news q ≡ false
-  not_new = elim (split (is_listed news q)) [
+  not_new = elim (cases_Bool (is_listed news q)) [
     | inl h ↦ let fault = new-listed roll (get set.keys) olds [] news q clear.news_are h in
         absurd (new-kind roll (get set.keys q) k fault.0 is other fault.1)
     | inr h ↦ h

@@ -21,7 +21,8 @@ use Rattle.dnssec_key.specs.declared.roll.RollType.{RollType}
 use Rattle.dnssec_keyset.specs.Inner.Bits.{is_set}
 use Rattle.dnssec_keyset.specs.Inner.Tags.{TagsAgree, DifferInTags, HasListed, is_in}
 use Rattle.dnssec_keyset.specs.Start.{new_entry_fault}
-use Rattle.dnssec_keyset.proofs.Quantified.{split, some_key-found, some_key-none}
+use Rattle.dnssec_keyset.proofs.Quantified.{some_key-found, some_key-none}
+use Rattle.std.proofs.lemmas.Bool.{cases_Bool}
 
 -- a change at some references keeps the tags
 pub kept_at : (f : KeyParts → KeyParts) → ((k : KeyParts) → (f k).key_tag ≡ k.key_tag) →
@@ -75,13 +76,13 @@ pub TagsAgree-removed : (has left : ℕ → Bool) (m n : Keys) (r : List ℕ) (x
     ((t : ℕ) → left t ≡ (if nat_eq x.key_tag t then false else has t))
     → TagsAgree has m → TagsAgree left n
 TagsAgree-removed has left m n r x found is gone old = record {
-  covers = λ q k e. elim (split (bytes_eq r q)) [
+  covers = λ q k e. elim (cases_Bool (bytes_eq r q)) [
     | inl h ↦ let f : None ≡ Some k = sym (ap (λ (b : Bool). if b then None else get m q) h)
         ∙ sym (is q) ∙ e in cc
     | inr h ↦
         let here : get m q ≡ Some k = sym (ap (λ (b : Bool). if b then None else get m q) h)
         ∙ sym (is q) ∙ e in
-        elim (split (nat_eq x.key_tag k.key_tag)) [
+        elim (cases_Bool (nat_eq x.key_tag k.key_tag)) [
           | inl same ↦
               let tied : x.key_tag ≡ k.key_tag = grind (arith, nat_tests) in
               let one : r ≡ q = old.apart r q x k found here tied in
@@ -90,13 +91,13 @@ TagsAgree-removed has left m n r x found is gone old = record {
               differs ∙ old.covers q k here
         ]
   ];
-  owned = λ t e. elim (split (nat_eq x.key_tag t)) [
+  owned = λ t e. elim (cases_Bool (nat_eq x.key_tag t)) [
     | inl same ↦ let f : false ≡ true = sym (ap (λ (b : Bool). if b then false else has t) same)
         ∙ sym (gone t) ∙ e in cc
     | inr differs ↦
         let o = old.owned t (sym (ap (λ (b : Bool). if b then false else has t) differs)
         ∙ sym (gone t) ∙ e) in
-        elim (split (bytes_eq r o.0)) [
+        elim (cases_Bool (bytes_eq r o.0)) [
           | inl h ↦
               let one : r ≡ o.0 = (bytes_decides r o.0).0 h in
               let key : Some x ≡ Some o.1 = sym found ∙ ap (get m) one ∙ o.2 in
@@ -116,7 +117,7 @@ TagsAgree-removed has left m n r x found is gone old = record {
 }
   where
     kept : (q : List ℕ) (k : KeyParts) → get n q ≡ Some k → get m q ≡ Some k
-    kept q k e = elim (split (bytes_eq r q)) [
+    kept q k e = elim (cases_Bool (bytes_eq r q)) [
       | inl h ↦ let f : None ≡ Some k = sym (ap (λ (b : Bool). if b then None else get m q) h)
           ∙ sym (is q) ∙ e in cc
       | inr h ↦ sym (ap (λ (b : Bool). if b then None else get m q) h) ∙ sym (is q) ∙ e
@@ -129,7 +130,7 @@ pub TagsAgree-added : (has more : ℕ → Bool) (m n : Keys) (r : List ℕ) (x :
     ((t : ℕ) → more t ≡ (if nat_eq x.key_tag t then true else has t))
     → TagsAgree has m → TagsAgree more n
 TagsAgree-added has more m n r x absent free is gains old = record {
-  covers = λ q k e. elim (split (nat_eq x.key_tag k.key_tag)) [
+  covers = λ q k e. elim (cases_Bool (nat_eq x.key_tag k.key_tag)) [
     | inl same ↦ gains k.key_tag ∙ ap (λ (b : Bool). if b then true else has k.key_tag) same
     | inr differs ↦ gains k.key_tag ∙ ap (λ (b : Bool). if b then true else has k.key_tag) differs
         ∙ elim (there q k e) [
@@ -138,7 +139,7 @@ TagsAgree-added has more m n r x absent free is gains old = record {
           | inr h ↦ old.covers q k h
         ]
   ];
-  owned = λ t e. elim (split (nat_eq x.key_tag t)) [
+  owned = λ t e. elim (cases_Bool (nat_eq x.key_tag t)) [
     | inl same ↦ let tag : x.key_tag ≡ t = grind (arith, nat_tests) in (
       r,
       x,
@@ -149,7 +150,7 @@ TagsAgree-added has more m n r x absent free is gains old = record {
     | inr differs ↦
         let o = old.owned t (sym (ap (λ (b : Bool). if b then true else has t) differs)
         ∙ sym (gains t) ∙ e) in
-        elim (split (bytes_eq r o.0)) [
+        elim (cases_Bool (bytes_eq r o.0)) [
           | inl h ↦
               let one : r ≡ o.0 = (bytes_decides r o.0).0 h in
               let f : None ≡ Some o.1 = sym absent ∙ ap (get m) one ∙ o.2 in cc
@@ -182,7 +183,7 @@ TagsAgree-added has more m n r x absent free is gains old = record {
   where
     there : (q : List ℕ) (k : KeyParts) → get n q ≡ Some k → ((r ≡ q) × (x ≡ k))
         ⊎ (get m q ≡ Some k)
-    there q k e = elim (split (bytes_eq r q)) [
+    there q k e = elim (cases_Bool (bytes_eq r q)) [
       | inl h ↦ let f : Some x ≡ Some k = sym (ap (λ (b : Bool). if b then Some x else get m q) h)
           ∙ sym (is q) ∙ e in inl ((bytes_decides r q).0 h, cc)
       | inr h ↦ inr (sym (ap (λ (b : Bool). if b then Some x else get m q) h) ∙ sym (is q) ∙ e)
@@ -208,8 +209,8 @@ TagsAgree-same has more m same old = record {
 
 -- the index answers whether some key has the tag
 pub tags-has_tag : (has : ℕ → Bool) (v : Keys) (t : ℕ) → TagsAgree has v → has t ≡ has_tag t v
-tags-has_tag has v t agree = elim (split (has t)) [
-  | inl h ↦ elim (split (has_tag t v)) [
+tags-has_tag has v t agree = elim (cases_Bool (has t)) [
+  | inl h ↦ elim (cases_Bool (has_tag t v)) [
     | inl g ↦ h ∙ sym g
     | inr g ↦
         let o = agree.owned t h in
@@ -218,7 +219,7 @@ tags-has_tag has v t agree = elim (split (has t)) [
         let tag : o.1.key_tag ≡ t = o.3 in
         absurd (grind (arith, nat_tests))
   ]
-  | inr h ↦ elim (split (has_tag t v)) [
+  | inr h ↦ elim (cases_Bool (has_tag t v)) [
     | inl g ↦
         let o = some_key-found (λ k. nat_eq k.key_tag t) v g in
         let same : nat_eq o.1.key_tag t ≡ true = o.3 in
@@ -246,7 +247,7 @@ listed-none keys tags r none listed old q k at =
     old q k at ∙ sym (or_false (listed q)) ∙ ap (λ b. listed q || b) (sym other)
   where
     other : bytes_eq r q ≡ false
-    other = elim (split (bytes_eq r q)) [
+    other = elim (cases_Bool (bytes_eq r q)) [
       | inl same ↦ let there : None ≡ Some k =
           sym none ∙ ap (get keys) ((bytes_decides r q).0 same) ∙ at in cc
       | inr differs ↦ differs
@@ -259,7 +260,7 @@ pub listed-put : (keys : Keys) → DifferInTags keys → (tags more : List ℕ) 
     → (listed : List ℕ → Bool) → HasListed tags keys listed
     → HasListed more keys (λ q. listed q || bytes_eq r q)
 listed-put keys differ tags more r x found put listed old q k at =
-    elim (split (bytes_eq r q)) [
+    elim (cases_Bool (bytes_eq r q)) [
       | inl same ↦
           let one : Some x ≡ Some k =
           sym found ∙ ap (get keys) ((bytes_decides r q).0 same) ∙ at in
@@ -268,7 +269,7 @@ listed-put keys differ tags more r x found put listed old q k at =
           put k.key_tag ∙ ap (λ b. if b then true else is_set tags k.key_tag) yes
           ∙ sym (or_true (listed q)) ∙ ap (λ b. listed q || b) (sym same)
       | inr differs ↦
-          let no : nat_eq x.key_tag k.key_tag ≡ false = elim (split (nat_eq x.key_tag k.key_tag)) [
+          let no : nat_eq x.key_tag k.key_tag ≡ false = elim (cases_Bool (nat_eq x.key_tag k.key_tag)) [
             | inl e ↦
                 let tag : x.key_tag ≡ k.key_tag = grind (arith, nat_tests) in
                 let yes : bytes_eq r q ≡ true =

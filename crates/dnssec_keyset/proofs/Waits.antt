@@ -36,22 +36,7 @@ use Rattle.dnssec_key.specs.declared.roll.RollState.TheVariants.{Propagation1, C
 use Rattle.dnssec_key.specs.declared.roll.RollState.TheVariants.{Propagation2, CacheExpire2, Done}
 use Rattle.dnssec_keyset.proofs.Walks.{some_key-view}
 use Rattle.dnssec_keyset.proofs.Quantified.{some_key-found, some_key-none}
-
-both_false : (a b : Bool) → a ≡ false → b ≡ false → (a || b) ≡ false
-both_false true b p q = cc
-both_false false b p q = q
-
-or_right : (a b : Bool) → b ≡ true → (a || b) ≡ true
-or_right true b p = refl
-or_right false b p = p
-
-or_left : (a b : Bool) → a ≡ true → (a || b) ≡ true
-or_left true b p = refl
-or_left false b p = cc
-
-split : (b : Bool) → (b ≡ true) ⊎ (b ≡ false)
-split true = inl refl
-split false = inr refl
+use Rattle.std.proofs.lemmas.Bool.{cases_Bool, or_from, or_right, or_left}
 
 -- ---- the walk over a list of keys
 
@@ -109,11 +94,11 @@ module _ (f : KeyParts → Option ℕ) where
           (ap (λ o. fold further (option_map (λ y. max a y) o) ks) (sym is) ∙ e) in
           let below : m ≤ n = omega (arith, rest.from) in
           record {
-            all = both_false _ _ (missing-test k (Some m) is) rest.all;
+            all = or_from _ _ (missing-test k (Some m) is) rest.all;
             from = omega (arith, rest.from);
-            bound = both_false _ _ (above-test n k m is below) rest.bound;
+            bound = or_from _ _ (above-test n k m is below) rest.bound;
             attained = elim rest.attained [
-              | inl same ↦ elim (split (nat_eq m n)) [
+              | inl same ↦ elim (cases_Bool (nat_eq m n)) [
                 | inl eq ↦ inr (or_left _ _ (just-test n k m is (grind (arith, nat_tests))))
                 | inr ne ↦ inl (let other : m ≡ n →
                     ⊥ = (λ h. grind (arith, nat_tests)) in omega arith)
@@ -153,14 +138,14 @@ module _ (f : KeyParts → Option ℕ) where
 weaker : (p r : KeyParts → Bool) → ((k : KeyParts) → p k ≡ true → r k ≡ true)
     → (ks : List KeyParts) → list_any p ks ≡ true → list_any r ks ≡ true
 weaker p r h [] e = cc
-weaker p r h (k ∷ ks) e = elim (split (p k)) [
+weaker p r h (k ∷ ks) e = elim (cases_Bool (p k)) [
   | inl passes ↦ or_left _ _ (h k passes)
   | inr fails ↦ or_right _ _ (weaker p r h ks (sym (ap (λ b. b || list_any p ks) fails) ∙ e))
 ]
 
 none_weaker : (p r : KeyParts → Bool) → ((k : KeyParts) → p k ≡ true → r k ≡ true)
     → (ks : List KeyParts) → list_any r ks ≡ false → list_any p ks ≡ false
-none_weaker p r h ks none = elim (split (list_any p ks)) [
+none_weaker p r h ks none = elim (cases_Bool (list_any p ks)) [
   | inl some ↦ absurd (let one = sym (weaker p r h ks some) ∙ none in cc)
   | inr none ↦ none
 ]
@@ -172,7 +157,7 @@ left_of span now end = min span (end - now)
 left-since : (ttl now s : ℕ) →
     left_since ttl now s ≡ left_of (ttl * 1_000_000_000) now (over_since ttl s)
 unfolding left_of
-left-since ttl now s = elim (split (nat_eq ttl 0)) [
+left-since ttl now s = elim (cases_Bool (nat_eq ttl 0)) [
   | inl none ↦
       let no_ttl : ttl ≡ 0 = grind (arith, nat_tests) in
       let ever : over_since ttl s ≡ 0 = ap (λ b. if b then 0 else s + ttl * 1_000_000_000) none in

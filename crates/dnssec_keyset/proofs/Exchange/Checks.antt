@@ -13,74 +13,20 @@ use Rattle.dnssec_keyset.specs.Start.{may_change_algorithms, new_entry_fault, ne
 use Rattle.dnssec_keyset.specs.Start.{old_entry_fault, old_fault, serves_as_kept, serves_as_new}
 use Rattle.dnssec_keyset.specs.Start.{side_of, some_listed}
 use Rattle.dnssec_key.specs.declared.roll.RollType.{RollType}
-use Rattle.dnssec_key.specs.declared.roll.RollType.TheVariants.{KskRoll, KskDoubleDsRoll, ZskRoll}
-use Rattle.dnssec_key.specs.declared.roll.RollType.TheVariants.{ZskDoubleSignatureRoll, CskRoll}
-use Rattle.dnssec_key.specs.declared.roll.RollType.TheVariants.{AlgorithmRoll}
 use Rattle.dnssec_key.specs.declared.error.Error.TheVariants.{WrongKeyType, WrongKeyState}
 use Rattle.dnssec_key.specs.declared.error.Error.TheVariants.{AlgorithmSetsMismatch}
 use Rattle.dnssec_key.specs.State.{is_fresh}
 use Rattle.dnssec_key.specs.Key.{KeyParts, all_states}
 use Rattle.dnssec_keyset.specs.KeySet.{KeySetParts, some_entry, some_key}
-use Rattle.dnssec_key.specs.RollTable.{Half, First, Second, column, half_of}
+use Rattle.dnssec_key.specs.RollTable.{Half}
 use Rattle.dnssec_keyset.specs.Wait.{left_since, stamp_read, time_left}
 use Rattle.dnssec_keyset.proofs.Quantified.{some_key-found, some_key-none, some_entry-found}
 use Rattle.dnssec_keyset.proofs.Quantified.{some_entry-none}
-use Rattle.dnssec_keyset.proofs.Exchange.Kinds.{split}
+use Rattle.dnssec_keyset.proofs.Sides.{checks-others}
 use Rattle.dnssec_keyset.proofs.Exchange.Seen.{Alike, SameFor, alike-found, same-sym}
+use Rattle.std.proofs.lemmas.Bool.{cases_Bool}
 
 -- ---- a roll's call is told the same where the roll sees the same
-
-checks-others : (roll : RollType) (half : Half) (t : KeyType) → lists_kind (side_of roll) t ≡ false
-    → (half_of roll half).checks t ≡ false
-unfolding column
-checks-others KskRoll First (Ksk s) e = cc
-checks-others KskRoll First (Zsk s) e = refl
-checks-others KskRoll First (Csk s t) e = refl
-checks-others KskRoll First (Include s) e = refl
-checks-others KskRoll Second (Ksk s) e = cc
-checks-others KskRoll Second (Zsk s) e = refl
-checks-others KskRoll Second (Csk s t) e = refl
-checks-others KskRoll Second (Include s) e = refl
-checks-others KskDoubleDsRoll First (Ksk s) e = cc
-checks-others KskDoubleDsRoll First (Zsk s) e = refl
-checks-others KskDoubleDsRoll First (Csk s t) e = refl
-checks-others KskDoubleDsRoll First (Include s) e = refl
-checks-others KskDoubleDsRoll Second (Ksk s) e = cc
-checks-others KskDoubleDsRoll Second (Zsk s) e = refl
-checks-others KskDoubleDsRoll Second (Csk s t) e = refl
-checks-others KskDoubleDsRoll Second (Include s) e = refl
-checks-others ZskRoll First (Ksk s) e = refl
-checks-others ZskRoll First (Zsk s) e = cc
-checks-others ZskRoll First (Csk s t) e = refl
-checks-others ZskRoll First (Include s) e = refl
-checks-others ZskRoll Second (Ksk s) e = refl
-checks-others ZskRoll Second (Zsk s) e = cc
-checks-others ZskRoll Second (Csk s t) e = refl
-checks-others ZskRoll Second (Include s) e = refl
-checks-others ZskDoubleSignatureRoll First (Ksk s) e = refl
-checks-others ZskDoubleSignatureRoll First (Zsk s) e = cc
-checks-others ZskDoubleSignatureRoll First (Csk s t) e = refl
-checks-others ZskDoubleSignatureRoll First (Include s) e = refl
-checks-others ZskDoubleSignatureRoll Second (Ksk s) e = refl
-checks-others ZskDoubleSignatureRoll Second (Zsk s) e = cc
-checks-others ZskDoubleSignatureRoll Second (Csk s t) e = refl
-checks-others ZskDoubleSignatureRoll Second (Include s) e = refl
-checks-others CskRoll First (Ksk s) e = cc
-checks-others CskRoll First (Zsk s) e = cc
-checks-others CskRoll First (Csk s t) e = cc
-checks-others CskRoll First (Include s) e = refl
-checks-others CskRoll Second (Ksk s) e = cc
-checks-others CskRoll Second (Zsk s) e = cc
-checks-others CskRoll Second (Csk s t) e = cc
-checks-others CskRoll Second (Include s) e = refl
-checks-others AlgorithmRoll First (Ksk s) e = cc
-checks-others AlgorithmRoll First (Zsk s) e = cc
-checks-others AlgorithmRoll First (Csk s t) e = cc
-checks-others AlgorithmRoll First (Include s) e = refl
-checks-others AlgorithmRoll Second (Ksk s) e = cc
-checks-others AlgorithmRoll Second (Zsk s) e = cc
-checks-others AlgorithmRoll Second (Csk s t) e = cc
-checks-others AlgorithmRoll Second (Include s) e = refl
 
 -- a key of another kind has no time left
 pub left-others : (roll : RollType) (half : Half) (ttl now : ℕ) (k : KeyParts)
@@ -175,7 +121,7 @@ module _ (b : RollType) where
   new-entry None None taken h = refl
   new-entry None (Some l) taken h = absurd h
   new-entry (Some k) None taken h = absurd h
-  new-entry (Some k) (Some l) taken h = elim (split (lists_kind (side_of b) k.keytype)) [
+  new-entry (Some k) (Some l) taken h = elim (cases_Bool (lists_kind (side_of b) k.keytype)) [
     | inl own ↦ ap (λ x. new_entry_fault b (Some x) taken) (h.same own)
     | inr other ↦
         ap (λ (x : Bool). if x then (if all_states is_fresh k.keytype
@@ -202,7 +148,7 @@ module _ (b : RollType) where
   by-kind f off None None h = refl
   by-kind f off None (Some l) h = absurd h
   by-kind f off (Some k) None h = absurd h
-  by-kind f off (Some k) (Some l) h = elim (split (lists_kind (side_of b) k.keytype)) [
+  by-kind f off (Some k) (Some l) h = elim (cases_Bool (lists_kind (side_of b) k.keytype)) [
     | inl own ↦ ap (λ (x : KeyParts). f x.keytype) (h.same own)
     | inr other ↦ off k.keytype other ∙ sym (off l.keytype (sym h.kind ∙ other))
   ]
@@ -264,7 +210,7 @@ module _ (b : RollType) (p : List ℕ → KeyParts → Bool)
       → some_entry p t.keys ≡ true
   entry-goes s t same e =
       let one = some_entry-found p s.keys e in
-      elim (split (some_entry p t.keys)) [
+      elim (cases_Bool (some_entry p t.keys)) [
         | inl is ↦ is
         | inr none ↦ absurd (let no = sym
             (some_entry-none p t.keys one.0 one.1 none
@@ -273,9 +219,9 @@ module _ (b : RollType) (p : List ℕ → KeyParts → Bool)
       ]
 
   pub entry-same : (s t : KeySetParts) → SameFor b s t → some_entry p s.keys ≡ some_entry p t.keys
-  entry-same s t same = elim (split (some_entry p s.keys)) [
+  entry-same s t same = elim (cases_Bool (some_entry p s.keys)) [
     | inl is ↦ is ∙ sym (entry-goes s t same is)
-    | inr none ↦ elim (split (some_entry p t.keys)) [
+    | inr none ↦ elim (cases_Bool (some_entry p t.keys)) [
       | inl is ↦ absurd (let no = sym none ∙ entry-goes t s (same-sym b s t same) is in cc)
       | inr none2 ↦ none ∙ sym none2
     ]
@@ -287,7 +233,7 @@ module _ (b : RollType) (p : KeyParts → Bool)
       ≡ true
   key-goes s t same e =
       let one = some_key-found p s.keys e in
-      elim (split (some_key p t.keys)) [
+      elim (cases_Bool (some_key p t.keys)) [
         | inl is ↦ is
         | inr none ↦ absurd (let no = sym
             (some_key-none p t.keys one.0 one.1 none
@@ -295,9 +241,9 @@ module _ (b : RollType) (p : KeyParts → Bool)
       ]
 
   pub key-same : (s t : KeySetParts) → SameFor b s t → some_key p s.keys ≡ some_key p t.keys
-  key-same s t same = elim (split (some_key p s.keys)) [
+  key-same s t same = elim (cases_Bool (some_key p s.keys)) [
     | inl is ↦ is ∙ sym (key-goes s t same is)
-    | inr none ↦ elim (split (some_key p t.keys)) [
+    | inr none ↦ elim (cases_Bool (some_key p t.keys)) [
       | inl is ↦ absurd (let no = sym none ∙ key-goes t s (same-sym b s t same) is in cc)
       | inr none2 ↦ none ∙ sym none2
     ]

@@ -1,7 +1,7 @@
 -- The kind of a key as a number, which no step changes; and which kinds rolls that go together have
 -- to themselves.
 use Rattle.std.proofs.Common.{◌≡◌, ℕ, Bool, true, false, refl, inl, inr, sym, ap, ◌∙◌}
-use Rattle.std.specs.Prelude.{◌⊎◌, if◌then◌else◌, nat_eq, nat_lt}
+use Rattle.std.specs.Prelude.{if◌then◌else◌, nat_eq, nat_lt}
 use Rattle.dnssec_key.specs.declared.kind.KeyType.{KeyType}
 use Rattle.dnssec_key.specs.declared.kind.KeyType.TheVariants.{Ksk, Zsk, Csk, Include}
 use Rattle.dnssec_keyset.specs.Start.{Side, KskSide, ZskSide, BothSides, are_apart, lists_kind}
@@ -15,10 +15,7 @@ use Rattle.dnssec_keyset.specs.KeySet.{same_roll}
 use Rattle.dnssec_key.specs.RollTable.{Half, First, Second, column, half_of, at_ksk, at_zsk}
 use Rattle.dnssec_key.specs.RollTable.{at_roles, at_whole_keys, leaves_dnskey}
 use Rattle.dnssec_keyset.proofs.Laws.{same-is}
-
-pub split : (b : Bool) → (b ≡ true) ⊎ (b ≡ false)
-split true = inl refl
-split false = inr refl
+use Rattle.std.proofs.lemmas.Bool.{cases_Bool}
 
 -- ---- kinds
 
@@ -169,7 +166,7 @@ apart-kinds BothSides BothSides (Csk s t) e h = cc
 apart-kinds BothSides BothSides (Include s) e h = cc
 
 pub apart-rolls : (a b : RollType) → together a b ≡ true → same_roll a b ≡ false
-apart-rolls a b e = elim (split (same_roll a b)) [
+apart-rolls a b e = elim (cases_Bool (same_roll a b)) [
   | inl same ↦ absurd (itself (side_of b) (sym (ap (λ r. together r b) (same-is a b same)) ∙ e))
   | inr other ↦ other
 ]

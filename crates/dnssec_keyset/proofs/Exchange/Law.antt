@@ -24,15 +24,16 @@ use Rattle.dnssec_keyset.specs.Step.{Clear, Changes, Step, StepBy, accepted_repl
 use Rattle.dnssec_keyset.specs.Step.{is_kept_at, verdict}
 use Rattle.dnssec_keyset.specs.Laws.{AreApart, MayBeExchanged, roll_of}
 use Rattle.dnssec_keyset.proofs.After.{after-changes}
-use Rattle.dnssec_keyset.proofs.Laws.{no_cause, same-is}
+use Rattle.dnssec_keyset.proofs.Laws.{no_cause, no_first, no_rest, same-is}
 use Rattle.dnssec_keyset.proofs.Phases.{phase_of-with_phase, same_rolls, same_lists}
 use Rattle.dnssec_keyset.proofs.Phases.{listed_by-with_listed}
-use Rattle.dnssec_keyset.proofs.Sides.{starts-clear, no_first, no_rest, old-kind}
-use Rattle.dnssec_keyset.proofs.Exchange.Kinds.{apart-kinds, apart-rolls, split}
+use Rattle.dnssec_keyset.proofs.Sides.{starts-clear, old-kind}
+use Rattle.dnssec_keyset.proofs.Exchange.Kinds.{apart-kinds, apart-rolls}
 use Rattle.dnssec_keyset.proofs.Exchange.Calls.{MovesBy, key_after, kind-after, listed_after}
 use Rattle.dnssec_keyset.proofs.Exchange.Calls.{moves-back, moves-on, phase_after, stays-after}
 use Rattle.dnssec_keyset.proofs.Exchange.Seen.{Alike, SameFor, apart-side, same-after, same-sym}
 use Rattle.dnssec_keyset.proofs.Exchange.Told.{early-by, longest-same, verdict-same}
+use Rattle.std.proofs.lemmas.Bool.{cases_Bool}
 
 -- ---- a refused call is refused in the other set too
 
@@ -118,7 +119,7 @@ unfolding Alike
 kept-same b None None h own = refl
 kept-same b None (Some l) h own = absurd h
 kept-same b (Some k) None h own = absurd h
-kept-same b (Some k) (Some l) h own = elim (split (lists_kind (side_of b) k.keytype)) [
+kept-same b (Some k) (Some l) h own = elim (cases_Bool (lists_kind (side_of b) k.keytype)) [
   | inl is ↦ ap (λ (x : KeyParts). all_states is_kept x.keytype) (h.same is)
   | inr other ↦ absurd (old-kind b (Some k) k refl other own)
 ]
@@ -204,7 +205,7 @@ module _ (a b : RollType) (apart : together a b ≡ true) (s s1 s2 m : KeySetPar
   one-key : (q : List ℕ) (k : KeyParts) → get s.keys q ≡ Some k
       → key_second q (key_first q k) ≡ key_first q (key_second q k)
   unfolding key_first key_second
-  one-key q k is = elim (split (lists_kind (side_of b) k.keytype)) [
+  one-key q k is = elim (cases_Bool (lists_kind (side_of b) k.keytype)) [
     | inl own ↦
         let off : lists_kind (side_of a) k.keytype ≡ false =
         apart-kinds (side_of a) (side_of b) k.keytype apart own in

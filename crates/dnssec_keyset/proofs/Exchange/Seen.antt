@@ -19,9 +19,10 @@ use Rattle.dnssec_keyset.specs.Step.{Call, Clear, Changes, verdict}
 use Rattle.dnssec_keyset.specs.Laws.{roll_of}
 use Rattle.dnssec_keyset.proofs.Laws.{same-is}
 use Rattle.dnssec_keyset.proofs.Phases.{phase_of-with_phase, listed_by-with_listed}
-use Rattle.dnssec_keyset.proofs.Exchange.Kinds.{apart-kinds, apart-rolls, split}
+use Rattle.dnssec_keyset.proofs.Exchange.Kinds.{apart-kinds, apart-rolls}
 use Rattle.dnssec_keyset.proofs.Exchange.Calls.{algorithm-after, key_after, kind-after}
 use Rattle.dnssec_keyset.proofs.Exchange.Calls.{listed_after, moves-on, phase_after, stays-after}
+use Rattle.std.proofs.lemmas.Bool.{cases_Bool}
 
 -- ---- what a roll sees of a key set
 
@@ -104,7 +105,7 @@ module _ (a b : RollType) (apart : together a b ≡ true) where
 
     one-conflict : (q : RollType) → (is_some (phase_of rolls q) && not (together b q))
         ≡ (is_some (phase_of (with_phase rolls a phase) q) && not (together b q))
-    one-conflict q = elim (split (same_roll a q)) [
+    one-conflict q = elim (cases_Bool (same_roll a q)) [
       | inl same ↦ both_off _ _ (together b q)
           (ap (together b) (sym (same-is a q same)) ∙ apart-side)
       | inr other ↦ ap (λ x. is_some x && not (together b q)) (sym (other-phase q other))

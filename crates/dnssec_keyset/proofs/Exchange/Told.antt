@@ -28,7 +28,6 @@ use Rattle.dnssec_keyset.specs.Step.{early_end_refusal, end_refusal, report_refu
 use Rattle.dnssec_keyset.specs.Step.{wait_in_phase}
 use Rattle.dnssec_keyset.specs.Laws.{roll_of}
 use Rattle.dnssec_keyset.proofs.Quantified.{some_key-found}
-use Rattle.dnssec_keyset.proofs.Exchange.Kinds.{split}
 use Rattle.dnssec_keyset.proofs.Exchange.Seen.{SameFor, alike-found, alike-sym}
 use Rattle.dnssec_keyset.proofs.Exchange.Checks.{algorithms-same, entry-same, kept-KskAtParent}
 use Rattle.dnssec_keyset.proofs.Exchange.Checks.{kept-PresentKsk, kept-PresentKskRole}
@@ -36,6 +35,7 @@ use Rattle.dnssec_keyset.proofs.Exchange.Checks.{kept-PresentZsk, kept-PresentZs
 use Rattle.dnssec_keyset.proofs.Exchange.Checks.{left-others, listed-same, new-KskAtParent}
 use Rattle.dnssec_keyset.proofs.Exchange.Checks.{new-PresentKsk, new-PresentKskRole, new-PresentZsk}
 use Rattle.dnssec_keyset.proofs.Exchange.Checks.{new-PresentZskRole, new-same, old-same}
+use Rattle.std.proofs.lemmas.Bool.{cases_Bool}
 
 both_true : (x y : Bool) → (x && y) ≡ true → x ≡ true
 both_true true y e = refl
@@ -45,7 +45,7 @@ both_true false y e = cc
 own_kind : (b : RollType) (f : KeyType → Bool)
     → ((x : KeyType) → lists_kind (side_of b) x ≡ false → f x ≡ false) → (t : KeyType) → f t ≡ true
     → lists_kind (side_of b) t ≡ true
-own_kind b f off t e = elim (split (lists_kind (side_of b) t)) [
+own_kind b f off t e = elim (cases_Bool (lists_kind (side_of b) t)) [
   | inl own ↦ own
   | inr other ↦ absurd (let no = sym (off t other) ∙ e in cc)
 ]
@@ -93,7 +93,7 @@ start-same b s t olds news same = λ i. first_of_causes (
 module _ (b : RollType) (half : Half) (ttl now : ℕ) where
   lacks-own : (k : KeyParts) → not (is_some (time_left b half ttl now k)) ≡ true
       → lists_kind (side_of b) k.keytype ≡ true
-  lacks-own k e = elim (split (lists_kind (side_of b) k.keytype)) [
+  lacks-own k e = elim (cases_Bool (lists_kind (side_of b) k.keytype)) [
     | inl own ↦ own
     | inr other ↦ absurd (let no = sym
         (ap (λ o. not (is_some o)) (left-others b half ttl now k other)) ∙ e in cc)
@@ -101,7 +101,7 @@ module _ (b : RollType) (half : Half) (ttl now : ℕ) where
 
   early-own : (k : KeyParts) → nat_lt 0 (unwrap_or (time_left b half ttl now k) 0) ≡ true
       → lists_kind (side_of b) k.keytype ≡ true
-  early-own k e = elim (split (lists_kind (side_of b) k.keytype)) [
+  early-own k e = elim (cases_Bool (lists_kind (side_of b) k.keytype)) [
     | inl own ↦ own
     | inr other ↦ absurd (let no = sym
         (ap (λ o. nat_lt 0 (unwrap_or o 0)) (left-others b half ttl now k other)) ∙ e in cc)
@@ -153,7 +153,7 @@ longest-same b half ttl now n s t same early longest =
     let more : 0 < n = positive (unwrap_or (left one.1) 0) n one.3 least in
     let most = longest.attained in
     record {
-      bound = λ q l is. elim (split (lists_kind (side_of b) l.keytype)) [
+      bound = λ q l is. elim (cases_Bool (lists_kind (side_of b) l.keytype)) [
         | inl own ↦ longest.bound q l (alike-found b _ _ l (alike-sym b _ _ (same.keys q)) is own)
         | inr other ↦ subst (λ o. unwrap_or o 0 ≤ n) (sym (left-others b half ttl now l other))
             (omega arith)
@@ -167,7 +167,7 @@ longest-same b half ttl now n s t same early longest =
 
     owner : (k : KeyParts) → 0 < n → time_left b half ttl now k ≡ Some n
         → lists_kind (side_of b) k.keytype ≡ true
-    owner k more is = elim (split (lists_kind (side_of b) k.keytype)) [
+    owner k more is = elim (cases_Bool (lists_kind (side_of b) k.keytype)) [
       | inl own ↦ own
       | inr other ↦ absurd (let zero : n ≡ 0 =
           same_Some n 0 (sym is ∙ left-others b half ttl now k other) in omega arith)
@@ -200,7 +200,7 @@ early-wait : (call : Call) (b : RollType) (half : Half) (o : Option ℕ) (now : 
     → EarlyBy call b s left
 early-wait call b half None now s left e = cc
 early-wait call b half (Some ttl) now s left e =
-    elim (split (lacks_stamp (time_left b half ttl now) s.keys)) [
+    elim (cases_Bool (lacks_stamp (time_left b half ttl now) s.keys)) [
   | inl lacks ↦ absurd (let no = sym
       (ap (λ (x : Bool). if x then Barred WrongKeyState else
       (if is_early (time_left b half ttl now) s.keys then Early (time_left b half ttl now) else
@@ -211,7 +211,7 @@ early-wait call b half (Some ttl) now s left e =
           sym (ap (λ (x : Bool). if x then Barred WrongKeyState else
           (if is_early (time_left b half ttl now) s.keys then Early (time_left b half ttl now) else
           Clear)) has) ∙ e in
-      elim (split (is_early (time_left b half ttl now) s.keys)) [
+      elim (cases_Bool (is_early (time_left b half ttl now) s.keys)) [
         | inl early ↦
             let is : left ≡ time_left b half ttl now =
                 same_left _ _ (sym (ap (λ (x : Bool). if x then Early (time_left b half ttl now)
