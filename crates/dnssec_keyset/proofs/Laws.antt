@@ -200,7 +200,7 @@ rolled-number AlgorithmRoll = refl
 pub same-is : (a b : RollType) → same_roll a b ≡ true → a ≡ b
 same-is a b e = sym (rolled-number a) ∙ ap rolled (eqb-true _ _ e) ∙ rolled-number b
 
-apart-sym : (a b : Side) → are_apart a b ≡ are_apart b a
+pub apart-sym : (a b : Side) → are_apart a b ≡ are_apart b a
 apart-sym KskSide KskSide = refl
 apart-sym KskSide ZskSide = refl
 apart-sym KskSide BothSides = refl

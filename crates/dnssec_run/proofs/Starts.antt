@@ -24,10 +24,11 @@ use Rattle.dnssec_run.specs.Plain.{early_end_of, first_wait_of}
 use Rattle.dnssec_run.specs.Record.{IsRun, call_of, is_accepted, reply_of, world_at}
 use Rattle.dnssec_run.proofs.Chain.Allowed.{can_start, clear_cause, waits_in_phase}
 use Rattle.dnssec_run.proofs.Chain.RollFacts.{alone_first}
-use Rattle.dnssec_run.proofs.Chain.Rolls.{same-same, same-true}
+use Rattle.dnssec_run.proofs.Chain.Rolls.{same-same}
 use Rattle.dnssec_run.proofs.WholeRolls.Order.{world_of}
 use Rattle.dnssec_run.proofs.WholeRolls.Phases.{put_aside, put_there, split_by}
 use Rattle.dnssec_run.proofs.WholeRolls.Replies.{accepted_step, refused_step}
+use Rattle.dnssec_keyset.proofs.Laws.{same-is}
 
 -- ---- one call
 
@@ -54,7 +55,7 @@ module _ (old new : KeySetParts) where
   not_early : (r : RollType) (o : Option RollState) → phase_of old.rolls r ≡ o
       → is_early o ≡ false → same_roll r AlgorithmRoll ≡ true → IsEarly old → ⊥
   not_early r o phase past s e = true≢false (sym e
-      ∙ ap (λ r. is_early (phase_of old.rolls r)) (sym (same-true r AlgorithmRoll s))
+      ∙ ap (λ r. is_early (phase_of old.rolls r)) (sym (same-is r AlgorithmRoll s))
       ∙ ap is_early phase ∙ past)
 
   -- only the end of its first wait takes an algorithm roll further
@@ -83,7 +84,7 @@ module _ (old new : KeySetParts) where
     | inr d ↦ inr (aside r _ m.rolls d e)
   ]
   moves-on (keyset.Wait r First now) v m none e = elim (split_by (same_roll r AlgorithmRoll)) [
-    | inl s ↦ inl (ap Some (same-true r AlgorithmRoll s))
+    | inl s ↦ inl (ap Some (same-is r AlgorithmRoll s))
     | inr d ↦ inr (aside r _ m.rolls d e)
   ]
   moves-on (keyset.Wait r Second now) v m none e = elim (split_by (same_roll r AlgorithmRoll)) [
@@ -92,7 +93,7 @@ module _ (old new : KeySetParts) where
     | inr d ↦ inr (aside r _ m.rolls d e)
   ]
   moves-on (keyset.AbortRoll r) v m none e = elim (split_by (same_roll r AlgorithmRoll)) [
-    | inl s ↦ absurd (none (ap Some (same-true r AlgorithmRoll s)))
+    | inl s ↦ absurd (none (ap Some (same-is r AlgorithmRoll s)))
     | inr d ↦ inr (aside r _ m.rolls d e)
   ]
   moves-on (keyset.RollDone r) v m none e = elim (split_by (same_roll r AlgorithmRoll)) [

@@ -21,7 +21,7 @@ use Rattle.dnssec_run.specs.declared.record.Mark.TheVariants.{Other, Report}
 use Rattle.dnssec_run.specs.Asked.{asked_by, asked_at, report_of, RetiresAsAsked}
 use Rattle.dnssec_run.specs.Record.{IsRun, call_of, reply_of, is_accepted, world_at}
 use Rattle.dnssec_run.specs.Safe.{SetKind, position_at, base_below, is_step, retires}
-use Rattle.dnssec_run.proofs.Chain.Rolls.{same-true, same-same, same-sym}
+use Rattle.dnssec_run.proofs.Chain.Rolls.{same-same, same-sym}
 use Rattle.dnssec_run.proofs.Chain.Allowed.{clear_cause, waits_in_phase}
 use Rattle.dnssec_run.proofs.Chain.History.{base_same, base_here}
 use Rattle.dnssec_run.proofs.Chain.Trust.{mark}
@@ -31,6 +31,7 @@ use Rattle.dnssec_keyset.proofs.Accepted.{spreads_first, spreads_second}
 use Rattle.dnssec_run.proofs.WholeRolls.Replies.{accepted_step, refused_step, at_position, marked}
 use Rattle.dnssec_run.proofs.Asked.Actions.{reports, asks_report, report_asked, retires-asked}
 use Rattle.dnssec_run.proofs.Asked.Changes.{due, due_by}
+use Rattle.dnssec_keyset.proofs.Laws.{same-is}
 
 -- the phase in which a roll last asked for something but its last actions
 abbrev opening : RollState → RollState
@@ -84,7 +85,7 @@ module _ (entries : List Entry) (n : ℕ) (old new : KeySetParts) where
       → ((r : RollType) → same_roll q r ≡ false
       → is_step r (position_at entries (suc n)).mark ≡ false) → Before → After
   on_roll q o rolls own none h r p e = elim (split_by (same_roll q r)) [
-    | inl t ↦ subst (λ r. Based entries (suc n) r p) (same-true q r t)
+    | inl t ↦ subst (λ r. Based entries (suc n) r p) (same-is q r t)
         (own p (sym (put_there old.rolls new.rolls q o r rolls t) ∙ e))
     | inr t ↦ based-on entries n r p p refl (none r t)
         (h r p (sym (put_aside old.rolls new.rolls q o r rolls t) ∙ e))

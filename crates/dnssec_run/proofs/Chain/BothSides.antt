@@ -21,7 +21,7 @@ use Rattle.dnssec_run.proofs.Chain.Tale.{Tale, World, Key, found, if_some, world
 use Rattle.dnssec_run.proofs.Chain.Tale.{rolled, report_key, waiting, spreading}
 use Rattle.dnssec_run.proofs.Chain.Flags.{in_use, in_other, in_keys}
 use Rattle.dnssec_run.proofs.Chain.Facts.{test-seen}
-use Rattle.dnssec_run.proofs.Chain.Rolls.{same-true, same-sym, put-same, put-other}
+use Rattle.dnssec_run.proofs.Chain.Rolls.{same-sym, put-same, put-other}
 use Rattle.dnssec_run.proofs.Chain.History.{not_in_empty}
 use Rattle.dnssec_run.proofs.Chain.Places.{NoDs, no_ds-next, shows_ds, found_map, some_weaker}
 use Rattle.dnssec_run.proofs.Chain.Returns.{KeepsLists}
@@ -30,6 +30,7 @@ use Rattle.dnssec_run.proofs.Chain.OneKey.{Mapped}
 use Rattle.dnssec_run.proofs.Chain.Gentles.{Kept, gentle_kept, gentle-report, gentle-done}
 use Rattle.dnssec_run.proofs.Chain.Phases.{Phases, PhaseOf, Told, Reads, Aside, phase-aside}
 use Rattle.dnssec_run.proofs.Chain.Phases.{aside-kept, aside-report, told-report, reads-report}
+use Rattle.dnssec_keyset.proofs.Laws.{same-is}
 
 -- ---- the invariant
 
@@ -121,7 +122,7 @@ module _ (tale : Tale) (n : ℕ) (here : suc n ≤ length tale.es) where
         where
           at_same : (b : Bool) → same_roll r q ≡ b → (x' : RollState)
               × ((world_at tale n).roll q ≡ Some x')
-          at_same true t = (o, ap (world_at tale n).roll (sym (same-true r q t)) ∙ was)
+          at_same true t = (o, ap (world_at tale n).roll (sym (same-is r q t)) ∙ was)
           at_same false t = (x, sym (put-other (world_at tale n).roll r (Some p) q t)
               ∙ sym (rolls q) ∙ e)
 
@@ -134,7 +135,7 @@ module _ (tale : Tale) (n : ℕ) (here : suc n ≤ length tale.es) where
   phases-on r p rolls this aside h q x e = at_same (same_roll r q) refl
     where
       at_same : (b : Bool) → same_roll r q ≡ b → PhaseOf tale q x (suc n)
-      at_same true t = let eq = same-true r q t in
+      at_same true t = let eq = same-is r q t in
           let state : p ≡ x = same_Some p x
               (sym (put-same (world_at tale n).roll r (Some p)) ∙ sym (rolls r)
               ∙ ap (world_at tale (suc n)).roll eq ∙ e) in
@@ -223,7 +224,7 @@ module _ (tale : Tale) (n : ℕ) (here : suc n ≤ length tale.es) where
           × ((world_at tale n).roll q ≡ Some x)
       at_same true t = absurd (none-some x
           (sym (put-same (world_at tale n).roll r None) ∙ sym (rolls r)
-          ∙ ap (world_at tale (suc n)).roll (same-true r q t) ∙ e))
+          ∙ ap (world_at tale (suc n)).roll (same-is r q t) ∙ e))
       at_same false t = (t, sym (put-other (world_at tale n).roll r None q t) ∙ sym (rolls q) ∙ e)
 
   -- the end of a roll

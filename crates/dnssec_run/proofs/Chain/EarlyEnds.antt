@@ -1,16 +1,13 @@
 -- The facts of the tables on early ends: what a start put on keys is taken from them again.
-use Rattle.dnssec_keyset.proofs.Tests.{both, both-at, each_key, each_key-at, each_roll}
-use Rattle.dnssec_keyset.proofs.Tests.{each_roll-at, ◌⇒◌, mp, alike, alike-same, and-both}
+use Rattle.dnssec_keyset.proofs.Tests.{each_key, each_key-at, each_roll, each_roll-at, ◌⇒◌, mp}
+use Rattle.dnssec_keyset.proofs.Tests.{alike, alike-same, and-both, each_listed, each_listed-at}
 use Rattle.dnssec_keyset.proofs.Flags.{SideOf, Keys, Zone, affects, fits, Quiet, has_role, is_idle}
-use Rattle.dnssec_keyset.proofs.Flags.{may_list, may_start, started, ended, tied, Stage, Early}
-use Rattle.dnssec_keyset.proofs.Flags.{Late}
+use Rattle.dnssec_keyset.proofs.Flags.{may_list, may_start, started, ended, tied, Stage, each_stage}
+use Rattle.dnssec_keyset.proofs.Flags.{each_stage-at}
 use Rattle.dnssec_keyset.proofs.Sides.{after_early_end-others}
 use Rattle.std.proofs.Common.{◌≡◌, Bool, true, false, not, ◌&&◌, refl, sym, ◌∙◌, ap}
 use Rattle.std.proofs.lemmas.Bool.{and_parts}
 use Rattle.dnssec_key.specs.declared.roll.RollType.{RollType}
-use Rattle.dnssec_key.specs.declared.roll.RollType.TheVariants.{KskRoll, KskDoubleDsRoll}
-use Rattle.dnssec_key.specs.declared.roll.RollType.TheVariants.{ZskRoll, ZskDoubleSignatureRoll}
-use Rattle.dnssec_key.specs.declared.roll.RollType.TheVariants.{CskRoll, AlgorithmRoll}
 use Rattle.dnssec_key.specs.declared.kind.KeyType.{KeyType}
 use Rattle.dnssec_key.specs.declared.kind.KeyType.TheVariants.{Csk}
 use Rattle.dnssec_key.specs.State.{is_kept}
@@ -35,33 +32,21 @@ is_tied _ = true
 tied_table : Stage → KeyType → Bool
 tied_table st k = fits Zone st k ⇒ is_tied k
 
-tied_all : (st : Stage) (a b : Bool) → each_key a b (tied_table st) ≡ true
+tied_all : (a b : Bool) → each_stage (λ st. each_key a b (tied_table st)) ≡ true
 unfolding tied_table
-tied_all Quiet a b = refl
-tied_all (Early KskRoll) a b = refl
-tied_all (Early KskDoubleDsRoll) a b = refl
-tied_all (Early ZskRoll) a b = refl
-tied_all (Early ZskDoubleSignatureRoll) a b = refl
-tied_all (Early CskRoll) a b = refl
-tied_all (Early AlgorithmRoll) a b = refl
-tied_all (Late KskRoll) a b = refl
-tied_all (Late KskDoubleDsRoll) a b = refl
-tied_all (Late ZskRoll) a b = refl
-tied_all (Late ZskDoubleSignatureRoll) a b = refl
-tied_all (Late CskRoll) a b = refl
-tied_all (Late AlgorithmRoll) a b = refl
+tied_all a b = refl
 
 pub fits-tied : (st : Stage) (k : KeyType) → fits Zone st k ≡ true → is_tied k ≡ true
 unfolding tied_table
-fits-tied st k = mp _ _ (each_key-at (tied_table st) (tied_all st) k)
+fits-tied st k = mp _ _ (each_key-at (tied_table st)
+    (λ a b. each_stage-at (λ st. each_key a b (tied_table st)) (tied_all a b) st) k)
 
 back_table : SideOf → RollType → Bool → Bool → KeyType → Bool
 back_table sd r o i k = (affects sd r && (may_start r o i k && fits sd Quiet k && is_tied k)) ⇒
     (fits sd Quiet (there_and_back r o i k)
     && (in_use sd k ⇒ in_use sd (there_and_back r o i k)))
 
-back_all : (sd : SideOf) (a b : Bool)
-    → each_roll (λ r. both (λ o. both (λ i. each_key a b (back_table sd r o i)))) ≡ true
+back_all : (sd : SideOf) (a b : Bool) → each_listed a b (back_table sd) ≡ true
 unfolding back_table column
 back_all Keys a b = refl
 back_all Zone a b = refl
@@ -72,11 +57,7 @@ pub back-fits : (sd : SideOf) (r : RollType) (o i : Bool) (k : KeyType) → affe
     × (in_use sd k ≡ true → in_use sd (there_and_back r o i k) ≡ true)
 unfolding back_table
 back-fits sd r o i k own may fit both_in =
-    let x = and_parts _ _ (mp _ _ (each_key-at (back_table sd r o i) (λ a b.
-    both-at (λ i. each_key a b (back_table sd r o i))
-    (both-at (λ o. both (λ i. each_key a b (back_table sd r o i)))
-    (each_roll-at (λ r. both (λ o. both (λ i. each_key a b (back_table sd r o i))))
-    (back_all sd a b) r) o) i) k) (and-both _ _ own (and-both _ _ (and-both _ _ may fit) both_in)))
+    let x = and_parts _ _ (mp _ _ (each_listed-at (back_table sd) (back_all sd) r o i k) (and-both _ _ own (and-both _ _ (and-both _ _ may fit) both_in)))
         in
     (x.0, mp _ _ x.1)
 
@@ -85,7 +66,7 @@ set_table sd kind r o i k = may_start r o i k
     ⇒ (test_of sd kind (there_and_back r o i k) ⇒ test_of sd kind k)
 
 set_all : (sd : SideOf) (kind : SetKind) (a b : Bool)
-    → each_roll (λ r. both (λ o. both (λ i. each_key a b (set_table sd kind r o i)))) ≡ true
+    → each_listed a b (set_table sd kind) ≡ true
 unfolding set_table column
 set_all Keys Ds a b = refl
 set_all Keys Dnskey a b = refl
@@ -99,11 +80,7 @@ pub back-set : (sd : SideOf) (kind : SetKind) (r : RollType) (o i : Bool) (k : K
     → may_start r o i k ≡ true → test_of sd kind (there_and_back r o i k) ≡ true
     → test_of sd kind k ≡ true
 unfolding set_table
-back-set sd kind r o i k may h = mp _ _ (mp _ _ (each_key-at (set_table sd kind r o i) (λ a b.
-    both-at (λ i. each_key a b (set_table sd kind r o i))
-    (both-at (λ o. both (λ i. each_key a b (set_table sd kind r o i)))
-    (each_roll-at (λ r. both (λ o. both (λ i. each_key a b (set_table sd kind r o i))))
-    (set_all sd kind a b) r) o) i) k) may) h
+back-set sd kind r o i k may h = mp _ _ (mp _ _ (each_listed-at (set_table sd kind) (set_all sd kind) r o i k) may) h
 
 -- ---- of any key
 
@@ -111,7 +88,7 @@ less_table : SideOf → SetKind → RollType → Bool → Bool → KeyType → B
 less_table sd kind r o i k = test_of sd kind (ended r o i k) ⇒ test_of sd kind k
 
 less_all : (sd : SideOf) (kind : SetKind) (a b : Bool)
-    → each_roll (λ r. both (λ o. both (λ i. each_key a b (less_table sd kind r o i)))) ≡ true
+    → each_listed a b (less_table sd kind) ≡ true
 unfolding less_table column
 less_all Keys Ds a b = refl
 less_all Keys Dnskey a b = refl
@@ -124,19 +101,14 @@ less_all Zone ZoneSigners a b = refl
 pub ended-less : (sd : SideOf) (kind : SetKind) (r : RollType) (o i : Bool) (k : KeyType)
     → test_of sd kind (ended r o i k) ≡ true → test_of sd kind k ≡ true
 unfolding less_table
-ended-less sd kind r o i k = mp _ _ (each_key-at (less_table sd kind r o i) (λ a b.
-    both-at (λ i. each_key a b (less_table sd kind r o i))
-    (both-at (λ o. both (λ i. each_key a b (less_table sd kind r o i)))
-    (each_roll-at (λ r. both (λ o. both (λ i. each_key a b (less_table sd kind r o i))))
-    (less_all sd kind a b) r) o) i) k)
+ended-less sd kind r o i k = mp _ _ (each_listed-at (less_table sd kind) (less_all sd kind) r o i k)
 
 use_table : SideOf → RollType → Bool → Bool → KeyType → Bool
 use_table sd r o i k = (in_use sd (ended r o i k) ⇒ in_use sd k)
     && (not (has_role sd k && not (is_idle k)) ⇒ fits sd Quiet (ended r o i k))
     && alike (has_role sd (ended r o i k)) (has_role sd k)
 
-use_all : (sd : SideOf) (a b : Bool)
-    → each_roll (λ r. both (λ o. both (λ i. each_key a b (use_table sd r o i)))) ≡ true
+use_all : (sd : SideOf) (a b : Bool) → each_listed a b (use_table sd) ≡ true
 unfolding use_table column
 use_all Keys a b = refl
 use_all Zone a b = refl
@@ -147,11 +119,7 @@ use_facts : (sd : SideOf) (r : RollType) (o i : Bool) (k : KeyType)
     × (has_role sd (ended r o i k) ≡ has_role sd k)
 unfolding use_table
 use_facts sd r o i k =
-    let x = and_parts _ _ (each_key-at (use_table sd r o i) (λ a b.
-    both-at (λ i. each_key a b (use_table sd r o i))
-    (both-at (λ o. both (λ i. each_key a b (use_table sd r o i)))
-    (each_roll-at (λ r. both (λ o. both (λ i. each_key a b (use_table sd r o i))))
-    (use_all sd a b) r) o) i) k) in
+    let x = and_parts _ _ (each_listed-at (use_table sd) (use_all sd) r o i k) in
     let y = and_parts _ _ x.0 in
     (mp _ _ y.0, λ e. mp _ _ y.1 (ap not e), alike-same _ _ x.1)
 
@@ -175,20 +143,15 @@ ended-used sd r o i k e = use-seen sd k ((use_facts sd r o i k).0 e)
 list_table : RollType → RollType → Bool → Bool → KeyType → Bool
 list_table q r o i k = alike (may_list q (ended r o i k)) (may_list q k)
 
-list_all : (a b : Bool) → each_roll (λ q. each_roll (λ r.
-    both (λ o. both (λ i. each_key a b (list_table q r o i))))) ≡ true
+list_all : (a b : Bool) → each_roll (λ q. each_listed a b (list_table q)) ≡ true
 unfolding list_table column
 list_all a b = refl
 
 pub list-ended : (q r : RollType) (o i : Bool) (k : KeyType)
     → may_list q (ended r o i k) ≡ may_list q k
 unfolding list_table
-list-ended q r o i k = alike-same _ _ (each_key-at (list_table q r o i) (λ a b.
-    both-at (λ i. each_key a b (list_table q r o i))
-    (both-at (λ o. both (λ i. each_key a b (list_table q r o i)))
-    (each_roll-at (λ r. both (λ o. both (λ i. each_key a b (list_table q r o i))))
-    (each_roll-at (λ q. each_roll (λ r.
-    both (λ o. both (λ i. each_key a b (list_table q r o i))))) (list_all a b) q) r) o) i) k)
+list-ended q r o i k = alike-same _ _ (each_listed-at (list_table q)
+    (λ a b. each_roll-at (λ q. each_listed a b (list_table q)) (list_all a b) q) r o i k)
 
 -- a key that the roll may not list is left alone
 pub untouched-ended : (r : RollType) (o i : Bool) (k : Key) → may_list r k.keytype ≡ false

@@ -1,24 +1,27 @@
 -- More facts of the tables: the waits, the keys that a call leaves alone, the keys that a wait
 -- reads.
-use Rattle.dnssec_keyset.proofs.Tests.{each_key, four, each_key-at, ◌⇒◌, mp, and-both}
+use Rattle.dnssec_keyset.proofs.Tests.{each_key, four, each_key-at, ◌⇒◌, mp, and-both, each_in_roll}
+use Rattle.dnssec_keyset.proofs.Tests.{each_in_roll-at, each_in_half, each_in_half-at, each_listed}
+use Rattle.dnssec_keyset.proofs.Tests.{each_listed-at, each_roll, each_roll-at, or_second}
 use Rattle.dnssec_keyset.proofs.Flags.{SideOf, affects, fits, has_role, is_blank, is_idle, may_list}
 use Rattle.dnssec_keyset.proofs.Flags.{may_start, started, tolerates, waited1, waited2, Keys, Zone}
 use Rattle.dnssec_keyset.proofs.Flags.{Quiet, Early, Late, wait1-fits, wait2-fits}
 use Rattle.std.proofs.Common.{◌≡◌, Bool, true, false, not, ◌&&◌, ◌||◌, refl, sym, ◌∙◌, ap}
-use Rattle.std.proofs.lemmas.Bool.{and_parts, true≢false}
+use Rattle.std.proofs.lemmas.Bool.{and_parts, true≢false, not-true}
 use Rattle.dnssec_key.specs.declared.roll.RollType.{RollType}
 use Rattle.dnssec_key.specs.declared.roll.RollType.TheVariants.{KskRoll, KskDoubleDsRoll}
 use Rattle.dnssec_key.specs.declared.roll.RollType.TheVariants.{ZskRoll, ZskDoubleSignatureRoll}
 use Rattle.dnssec_key.specs.declared.roll.RollType.TheVariants.{CskRoll, AlgorithmRoll}
 use Rattle.dnssec_key.specs.declared.kind.KeyType.{KeyType}
-use Rattle.dnssec_key.specs.declared.kind.KeyType.TheVariants.{Ksk, Zsk, Csk, Include}
+use Rattle.dnssec_key.specs.declared.kind.KeyType.TheVariants.{Ksk, Zsk, Csk}
 use Rattle.dnssec_run.specs.Safe.{SetKind, Ds, Dnskey, ZoneSigners}
-use Rattle.dnssec_key.specs.RollTable.{column}
+use Rattle.dnssec_key.specs.RollTable.{column, First, Second}
 use Rattle.dnssec_run.proofs.Chain.Tables.{written, Stamp, Visible, DsVisible, RrsigVisible, read}
 use Rattle.dnssec_run.proofs.Chain.Tables.{checked, serves_new, serves_kept, enters_now, parent_now}
 use Rattle.dnssec_run.proofs.Chain.Tables.{signs_now}
 use Rattle.dnssec_run.proofs.Chain.Flags.{switches, test_of, first_test, second_test, in_use}
 use Rattle.dnssec_run.proofs.Chain.Flags.{remains, live}
+use Rattle.dnssec_keyset.proofs.Sides.{moves-others}
 
 -- the first wait
 wait1_table : SideOf → RollType → KeyType → Bool
@@ -29,20 +32,10 @@ wait1_table sd r k = (affects sd r && fits sd (Early r) k) ⇒
     && ((switches sd r && second_test sd r k) ⇒ first_test sd r k)
     && (remains sd r k ⇒ live sd (waited1 r k)))
 
-wait1_all : (sd : SideOf) (r : RollType) (a b : Bool) → each_key a b (wait1_table sd r) ≡ true
+wait1_all : (sd : SideOf) (a b : Bool) → each_in_roll a b (wait1_table sd) ≡ true
 unfolding wait1_table column
-wait1_all Keys KskRoll a b = refl
-wait1_all Keys KskDoubleDsRoll a b = refl
-wait1_all Keys ZskRoll a b = refl
-wait1_all Keys ZskDoubleSignatureRoll a b = refl
-wait1_all Keys CskRoll a b = refl
-wait1_all Keys AlgorithmRoll a b = refl
-wait1_all Zone KskRoll a b = refl
-wait1_all Zone KskDoubleDsRoll a b = refl
-wait1_all Zone ZskRoll a b = refl
-wait1_all Zone ZskDoubleSignatureRoll a b = refl
-wait1_all Zone CskRoll a b = refl
-wait1_all Zone AlgorithmRoll a b = refl
+wait1_all Keys a b = refl
+wait1_all Zone a b = refl
 
 pub record Waited1 (sd : SideOf) (r : RollType) (k : KeyType) : Type 0 where
   pub fit : fits sd (Late r) (waited1 r k) ≡ true
@@ -53,15 +46,11 @@ pub record Waited1 (sd : SideOf) (r : RollType) (k : KeyType) : Type 0 where
   pub inner : switches sd r ≡ true → second_test sd r k ≡ true → first_test sd r k ≡ true
   pub some : remains sd r k ≡ true → live sd (waited1 r k) ≡ true
 
-or_second : (a b : Bool) → (a || b) ≡ true → a ≡ false → b ≡ true
-or_second true b e f = absurd (true≢false f)
-or_second false b e f = e
-
 pub wait1_facts : (sd : SideOf) (r : RollType) (k : KeyType) → affects sd r ≡ true
     → fits sd (Early r) k ≡ true → Waited1 sd r k
 unfolding wait1_table column
 wait1_facts sd r k own fit =
-    let e = mp _ _ (each_key-at (wait1_table sd r) (wait1_all sd r) k) (and-both _ _ own fit) in
+    let e = mp _ _ (each_in_roll-at (wait1_table sd) (wait1_all sd) r k) (and-both _ _ own fit) in
     let x = and_parts _ _ e in
     let a = four _ _ _ _ x.0 in
     record { fit = wait1-fits sd r k own fit; first = mp _ _ a.0; keep =
@@ -75,20 +64,10 @@ wait2_table sd r k = (affects sd r && fits sd (Late r) k) ⇒
     && (second_test sd r (waited2 r k) ⇒ second_test sd r k)
     && (live sd k ⇒ in_use sd (waited2 r k)))
 
-wait2_all : (sd : SideOf) (r : RollType) (a b : Bool) → each_key a b (wait2_table sd r) ≡ true
+wait2_all : (sd : SideOf) (a b : Bool) → each_in_roll a b (wait2_table sd) ≡ true
 unfolding wait2_table column
-wait2_all Keys KskRoll a b = refl
-wait2_all Keys KskDoubleDsRoll a b = refl
-wait2_all Keys ZskRoll a b = refl
-wait2_all Keys ZskDoubleSignatureRoll a b = refl
-wait2_all Keys CskRoll a b = refl
-wait2_all Keys AlgorithmRoll a b = refl
-wait2_all Zone KskRoll a b = refl
-wait2_all Zone KskDoubleDsRoll a b = refl
-wait2_all Zone ZskRoll a b = refl
-wait2_all Zone ZskDoubleSignatureRoll a b = refl
-wait2_all Zone CskRoll a b = refl
-wait2_all Zone AlgorithmRoll a b = refl
+wait2_all Keys a b = refl
+wait2_all Zone a b = refl
 
 pub record Waited2 (sd : SideOf) (r : RollType) (k : KeyType) : Type 0 where
   pub fit : fits sd Quiet (waited2 r k) ≡ true
@@ -100,7 +79,7 @@ pub wait2_facts : (sd : SideOf) (r : RollType) (k : KeyType) → affects sd r �
     → fits sd (Late r) k ≡ true → Waited2 sd r k
 unfolding wait2_table column
 wait2_facts sd r k own fit =
-    let x = and_parts _ _ (mp _ _ (each_key-at (wait2_table sd r) (wait2_all sd r) k)
+    let x = and_parts _ _ (mp _ _ (each_in_roll-at (wait2_table sd) (wait2_all sd) r k)
         (and-both _ _ own fit)) in
     let y = and_parts _ _ x.0 in
     record { fit = wait2-fits sd r k own fit; first = mp _ _ y.0; second = mp _ _ y.1; used =
@@ -120,184 +99,55 @@ untouched_start r false true k may e =
     (and_parts (may_list r k && is_blank k) _ may).0).0 ∙ e))
 
 pub untouched_wait1 : (r : RollType) (k : KeyType) → may_list r k ≡ false → waited1 r k ≡ k
-unfolding column
-untouched_wait1 KskRoll (Ksk s) e = absurd (true≢false e)
-untouched_wait1 KskRoll (Zsk s) e = refl
-untouched_wait1 KskRoll (Csk s t) e = refl
-untouched_wait1 KskRoll (Include s) e = refl
-untouched_wait1 KskDoubleDsRoll (Ksk s) e = absurd (true≢false e)
-untouched_wait1 KskDoubleDsRoll (Zsk s) e = refl
-untouched_wait1 KskDoubleDsRoll (Csk s t) e = refl
-untouched_wait1 KskDoubleDsRoll (Include s) e = refl
-untouched_wait1 ZskRoll (Ksk s) e = refl
-untouched_wait1 ZskRoll (Zsk s) e = absurd (true≢false e)
-untouched_wait1 ZskRoll (Csk s t) e = refl
-untouched_wait1 ZskRoll (Include s) e = refl
-untouched_wait1 ZskDoubleSignatureRoll (Ksk s) e = refl
-untouched_wait1 ZskDoubleSignatureRoll (Zsk s) e = absurd (true≢false e)
-untouched_wait1 ZskDoubleSignatureRoll (Csk s t) e = refl
-untouched_wait1 ZskDoubleSignatureRoll (Include s) e = refl
-untouched_wait1 CskRoll (Ksk s) e = absurd (true≢false e)
-untouched_wait1 CskRoll (Zsk s) e = absurd (true≢false e)
-untouched_wait1 CskRoll (Csk s t) e = absurd (true≢false e)
-untouched_wait1 CskRoll (Include s) e = refl
-untouched_wait1 AlgorithmRoll (Ksk s) e = absurd (true≢false e)
-untouched_wait1 AlgorithmRoll (Zsk s) e = absurd (true≢false e)
-untouched_wait1 AlgorithmRoll (Csk s t) e = absurd (true≢false e)
-untouched_wait1 AlgorithmRoll (Include s) e = refl
+untouched_wait1 r = moves-others r First
 
 pub untouched_wait2 : (r : RollType) (k : KeyType) → may_list r k ≡ false → waited2 r k ≡ k
-unfolding column
-untouched_wait2 KskRoll (Ksk s) e = absurd (true≢false e)
-untouched_wait2 KskRoll (Zsk s) e = refl
-untouched_wait2 KskRoll (Csk s t) e = refl
-untouched_wait2 KskRoll (Include s) e = refl
-untouched_wait2 KskDoubleDsRoll (Ksk s) e = absurd (true≢false e)
-untouched_wait2 KskDoubleDsRoll (Zsk s) e = refl
-untouched_wait2 KskDoubleDsRoll (Csk s t) e = refl
-untouched_wait2 KskDoubleDsRoll (Include s) e = refl
-untouched_wait2 ZskRoll (Ksk s) e = refl
-untouched_wait2 ZskRoll (Zsk s) e = absurd (true≢false e)
-untouched_wait2 ZskRoll (Csk s t) e = refl
-untouched_wait2 ZskRoll (Include s) e = refl
-untouched_wait2 ZskDoubleSignatureRoll (Ksk s) e = refl
-untouched_wait2 ZskDoubleSignatureRoll (Zsk s) e = absurd (true≢false e)
-untouched_wait2 ZskDoubleSignatureRoll (Csk s t) e = refl
-untouched_wait2 ZskDoubleSignatureRoll (Include s) e = refl
-untouched_wait2 CskRoll (Ksk s) e = absurd (true≢false e)
-untouched_wait2 CskRoll (Zsk s) e = absurd (true≢false e)
-untouched_wait2 CskRoll (Csk s t) e = absurd (true≢false e)
-untouched_wait2 CskRoll (Include s) e = refl
-untouched_wait2 AlgorithmRoll (Ksk s) e = absurd (true≢false e)
-untouched_wait2 AlgorithmRoll (Zsk s) e = absurd (true≢false e)
-untouched_wait2 AlgorithmRoll (Csk s t) e = absurd (true≢false e)
-untouched_wait2 AlgorithmRoll (Include s) e = refl
+untouched_wait2 r = moves-others r Second
 
 written_table : Stamp → RollType → Bool → KeyType → Bool
 written_table s r second k = written s r second k ⇒ may_list r k
 
-written_all : (s : Stamp) (r : RollType) (second : Bool) (a b : Bool)
-    → each_key a b (written_table s r second) ≡ true
+written_all : (s : Stamp) (a b : Bool) → each_in_half a b (written_table s) ≡ true
 unfolding written_table column
-written_all Visible KskRoll true a b = refl
-written_all Visible KskRoll false a b = refl
-written_all Visible KskDoubleDsRoll true a b = refl
-written_all Visible KskDoubleDsRoll false a b = refl
-written_all Visible ZskRoll true a b = refl
-written_all Visible ZskRoll false a b = refl
-written_all Visible ZskDoubleSignatureRoll true a b = refl
-written_all Visible ZskDoubleSignatureRoll false a b = refl
-written_all Visible CskRoll true a b = refl
-written_all Visible CskRoll false a b = refl
-written_all Visible AlgorithmRoll true a b = refl
-written_all Visible AlgorithmRoll false a b = refl
-written_all DsVisible KskRoll true a b = refl
-written_all DsVisible KskRoll false a b = refl
-written_all DsVisible KskDoubleDsRoll true a b = refl
-written_all DsVisible KskDoubleDsRoll false a b = refl
-written_all DsVisible ZskRoll true a b = refl
-written_all DsVisible ZskRoll false a b = refl
-written_all DsVisible ZskDoubleSignatureRoll true a b = refl
-written_all DsVisible ZskDoubleSignatureRoll false a b = refl
-written_all DsVisible CskRoll true a b = refl
-written_all DsVisible CskRoll false a b = refl
-written_all DsVisible AlgorithmRoll true a b = refl
-written_all DsVisible AlgorithmRoll false a b = refl
-written_all RrsigVisible KskRoll true a b = refl
-written_all RrsigVisible KskRoll false a b = refl
-written_all RrsigVisible KskDoubleDsRoll true a b = refl
-written_all RrsigVisible KskDoubleDsRoll false a b = refl
-written_all RrsigVisible ZskRoll true a b = refl
-written_all RrsigVisible ZskRoll false a b = refl
-written_all RrsigVisible ZskDoubleSignatureRoll true a b = refl
-written_all RrsigVisible ZskDoubleSignatureRoll false a b = refl
-written_all RrsigVisible CskRoll true a b = refl
-written_all RrsigVisible CskRoll false a b = refl
-written_all RrsigVisible AlgorithmRoll true a b = refl
-written_all RrsigVisible AlgorithmRoll false a b = refl
+written_all Visible a b = refl
+written_all DsVisible a b = refl
+written_all RrsigVisible a b = refl
 
 pub written-touches : (s : Stamp) (r : RollType) (second : Bool) (k : KeyType)
     → written s r second k ≡ true → may_list r k ≡ true
 unfolding written_table column
 written-touches s r second k = mp _ _
-    (each_key-at (written_table s r second) (written_all s r second) k)
+    (each_in_half-at (written_table s) (written_all s) r second k)
 
 -- which keys a call of another roll leaves alone
 apart_table : SideOf → RollType → KeyType → Bool
 apart_table sd r k = (not (affects sd r) && has_role sd k) ⇒ not (may_list r k)
 
-apart_all : (sd : SideOf) (r : RollType) (a b : Bool) → each_key a b (apart_table sd r) ≡ true
+apart_all : (sd : SideOf) (a b : Bool) → each_in_roll a b (apart_table sd) ≡ true
 unfolding apart_table column
-apart_all Keys KskRoll a b = refl
-apart_all Keys KskDoubleDsRoll a b = refl
-apart_all Keys ZskRoll a b = refl
-apart_all Keys ZskDoubleSignatureRoll a b = refl
-apart_all Keys CskRoll a b = refl
-apart_all Keys AlgorithmRoll a b = refl
-apart_all Zone KskRoll a b = refl
-apart_all Zone KskDoubleDsRoll a b = refl
-apart_all Zone ZskRoll a b = refl
-apart_all Zone ZskDoubleSignatureRoll a b = refl
-apart_all Zone CskRoll a b = refl
-apart_all Zone AlgorithmRoll a b = refl
-
-not-false : (b : Bool) → not b ≡ true → b ≡ false
-not-false true e = absurd (true≢false (sym e))
-not-false false e = refl
+apart_all Keys a b = refl
+apart_all Zone a b = refl
 
 pub apart : (sd : SideOf) (r : RollType) (k : KeyType) → affects sd r ≡ false → has_role sd k ≡ true
     → may_list r k ≡ false
 unfolding apart_table column
-apart sd r k other role = not-false _
-    (mp _ _ (each_key-at (apart_table sd r) (apart_all sd r) k) (and-both _ _ (ap not other) role))
+apart sd r k other role = not-true _
+    (mp _ _ (each_in_roll-at (apart_table sd) (apart_all sd) r k) (and-both _ _ (ap not other) role))
 
 other_table : RollType → RollType → KeyType → Bool
 other_table r q k = (tolerates r q && may_list q k) ⇒ not (may_list r k)
 
-other_all : (r q : RollType) (a b : Bool) → each_key a b (other_table r q) ≡ true
+other_all : (a b : Bool) → each_roll (λ r. each_in_roll a b (other_table r)) ≡ true
 unfolding other_table column
-other_all KskRoll KskRoll a b = refl
-other_all KskRoll KskDoubleDsRoll a b = refl
-other_all KskRoll ZskRoll a b = refl
-other_all KskRoll ZskDoubleSignatureRoll a b = refl
-other_all KskRoll CskRoll a b = refl
-other_all KskRoll AlgorithmRoll a b = refl
-other_all KskDoubleDsRoll KskRoll a b = refl
-other_all KskDoubleDsRoll KskDoubleDsRoll a b = refl
-other_all KskDoubleDsRoll ZskRoll a b = refl
-other_all KskDoubleDsRoll ZskDoubleSignatureRoll a b = refl
-other_all KskDoubleDsRoll CskRoll a b = refl
-other_all KskDoubleDsRoll AlgorithmRoll a b = refl
-other_all ZskRoll KskRoll a b = refl
-other_all ZskRoll KskDoubleDsRoll a b = refl
-other_all ZskRoll ZskRoll a b = refl
-other_all ZskRoll ZskDoubleSignatureRoll a b = refl
-other_all ZskRoll CskRoll a b = refl
-other_all ZskRoll AlgorithmRoll a b = refl
-other_all ZskDoubleSignatureRoll KskRoll a b = refl
-other_all ZskDoubleSignatureRoll KskDoubleDsRoll a b = refl
-other_all ZskDoubleSignatureRoll ZskRoll a b = refl
-other_all ZskDoubleSignatureRoll ZskDoubleSignatureRoll a b = refl
-other_all ZskDoubleSignatureRoll CskRoll a b = refl
-other_all ZskDoubleSignatureRoll AlgorithmRoll a b = refl
-other_all CskRoll KskRoll a b = refl
-other_all CskRoll KskDoubleDsRoll a b = refl
-other_all CskRoll ZskRoll a b = refl
-other_all CskRoll ZskDoubleSignatureRoll a b = refl
-other_all CskRoll CskRoll a b = refl
-other_all CskRoll AlgorithmRoll a b = refl
-other_all AlgorithmRoll KskRoll a b = refl
-other_all AlgorithmRoll KskDoubleDsRoll a b = refl
-other_all AlgorithmRoll ZskRoll a b = refl
-other_all AlgorithmRoll ZskDoubleSignatureRoll a b = refl
-other_all AlgorithmRoll CskRoll a b = refl
-other_all AlgorithmRoll AlgorithmRoll a b = refl
+other_all a b = refl
 
 pub other : (r q : RollType) (k : KeyType) → tolerates r q ≡ true → may_list q k ≡ true
     → may_list r k ≡ false
 unfolding other_table column
-other r q k both_in role = not-false _
-    (mp _ _ (each_key-at (other_table r q) (other_all r q) k) (and-both _ _ both_in role))
+other r q k both_in role = not-true _
+    (mp _ _ (each_in_roll-at (other_table r)
+    (λ a b. each_roll-at (λ r. each_in_roll a b (other_table r)) (other_all a b) r) q k)
+    (and-both _ _ both_in role))
 
 -- ---- what matters to a side
 
@@ -311,7 +161,7 @@ seen_by : (sd : SideOf) (p : KeyType → Bool)
     → ((a b : Bool) → each_key a b (seen_table sd p) ≡ true) → Seen sd p
 unfolding seen_table column
 seen_by sd p e k h = let x = and_parts _ _ (mp _ _ (each_key-at (seen_table sd p) e k) h) in
-    (x.0, not-false _ x.1)
+    (x.0, not-true _ x.1)
 
 pub test-seen : (sd : SideOf) (kind : SetKind) → Seen sd (test_of sd kind)
 unfolding seen_table column
@@ -332,22 +182,15 @@ unfolding seen_table column
 live-seen Keys = seen_by Keys (live Keys) (λ a b. refl)
 live-seen Zone = seen_by Zone (live Zone) (λ a b. refl)
 
-pub remains-seen : (sd : SideOf) (r : RollType) → Seen sd (remains sd r)
+remains_all : (sd : SideOf) (a b : Bool)
+    → each_roll (λ r. each_key a b (seen_table sd (remains sd r))) ≡ true
 unfolding seen_table column
-remains-seen Keys KskRoll = seen_by Keys (remains Keys KskRoll) (λ a b. refl)
-remains-seen Keys KskDoubleDsRoll = seen_by Keys (remains Keys KskDoubleDsRoll) (λ a b. refl)
-remains-seen Keys ZskRoll = seen_by Keys (remains Keys ZskRoll) (λ a b. refl)
-remains-seen Keys ZskDoubleSignatureRoll =
-    seen_by Keys (remains Keys ZskDoubleSignatureRoll) (λ a b. refl)
-remains-seen Keys CskRoll = seen_by Keys (remains Keys CskRoll) (λ a b. refl)
-remains-seen Keys AlgorithmRoll = seen_by Keys (remains Keys AlgorithmRoll) (λ a b. refl)
-remains-seen Zone KskRoll = seen_by Zone (remains Zone KskRoll) (λ a b. refl)
-remains-seen Zone KskDoubleDsRoll = seen_by Zone (remains Zone KskDoubleDsRoll) (λ a b. refl)
-remains-seen Zone ZskRoll = seen_by Zone (remains Zone ZskRoll) (λ a b. refl)
-remains-seen Zone ZskDoubleSignatureRoll =
-    seen_by Zone (remains Zone ZskDoubleSignatureRoll) (λ a b. refl)
-remains-seen Zone CskRoll = seen_by Zone (remains Zone CskRoll) (λ a b. refl)
-remains-seen Zone AlgorithmRoll = seen_by Zone (remains Zone AlgorithmRoll) (λ a b. refl)
+remains_all Keys a b = refl
+remains_all Zone a b = refl
+
+pub remains-seen : (sd : SideOf) (r : RollType) → Seen sd (remains sd r)
+remains-seen sd r = seen_by sd (remains sd r)
+    (λ a b. each_roll-at (λ r. each_key a b (seen_table sd (remains sd r))) (remains_all sd a b) r)
 
 -- ---- the witness of a phase: a key that the coming wait reads, with the stamp of its report
 
@@ -378,20 +221,9 @@ stays_table r second k = stays r second k ⇒
     (may_list r k && not (is_idle k) && (timed r second ⇒ checked r second k)
     && (timed r second ⇒ written (read r second) r second k))
 
-stays_all : (r : RollType) (second : Bool) (a b : Bool) → each_key a b (stays_table r second) ≡ true
+stays_all : (a b : Bool) → each_in_half a b stays_table ≡ true
 unfolding stays_table column
-stays_all KskRoll true a b = refl
-stays_all KskRoll false a b = refl
-stays_all KskDoubleDsRoll true a b = refl
-stays_all KskDoubleDsRoll false a b = refl
-stays_all ZskRoll true a b = refl
-stays_all ZskRoll false a b = refl
-stays_all ZskDoubleSignatureRoll true a b = refl
-stays_all ZskDoubleSignatureRoll false a b = refl
-stays_all CskRoll true a b = refl
-stays_all CskRoll false a b = refl
-stays_all AlgorithmRoll true a b = refl
-stays_all AlgorithmRoll false a b = refl
+stays_all a b = refl
 
 pub record Stays (r : RollType) (second : Bool) (k : KeyType) : Type 0 where
   pub touched : may_list r k ≡ true
@@ -403,8 +235,8 @@ pub stays_facts : (r : RollType) (second : Bool) (k : KeyType) → stays r secon
     → Stays r second k
 unfolding stays_table column
 stays_facts r second k h = let a =
-    four _ _ _ _ (mp _ _ (each_key-at (stays_table r second) (stays_all r second) k) h) in
-    record { touched = a.0; busy = not-false _ a.1; check = mp _ _ a.2; write = mp _ _ a.3 }
+    four _ _ _ _ (mp _ _ (each_in_half-at stays_table stays_all r second k) h) in
+    record { touched = a.0; busy = not-true _ a.1; check = mp _ _ a.2; write = mp _ _ a.3 }
 
 -- the side whose suitable key the waits of a roll read
 abbrev pub timer : RollType → SideOf
@@ -426,32 +258,9 @@ stays_start_table r o i k = (may_start r o i k && fits (timer r) Quiet k
     && ((i && serves_new (timer r) r k) || (not o && serves_kept (timer r) r k))) ⇒ stays r false
     (started r o i k)
 
-stays_start_all : (r : RollType) (o i a b : Bool) → each_key a b (stays_start_table r o i) ≡ true
+stays_start_all : (a b : Bool) → each_listed a b stays_start_table ≡ true
 unfolding stays_start_table column
-stays_start_all KskRoll true true a b = refl
-stays_start_all KskRoll true false a b = refl
-stays_start_all KskRoll false true a b = refl
-stays_start_all KskRoll false false a b = refl
-stays_start_all KskDoubleDsRoll true true a b = refl
-stays_start_all KskDoubleDsRoll true false a b = refl
-stays_start_all KskDoubleDsRoll false true a b = refl
-stays_start_all KskDoubleDsRoll false false a b = refl
-stays_start_all ZskRoll true true a b = refl
-stays_start_all ZskRoll true false a b = refl
-stays_start_all ZskRoll false true a b = refl
-stays_start_all ZskRoll false false a b = refl
-stays_start_all ZskDoubleSignatureRoll true true a b = refl
-stays_start_all ZskDoubleSignatureRoll true false a b = refl
-stays_start_all ZskDoubleSignatureRoll false true a b = refl
-stays_start_all ZskDoubleSignatureRoll false false a b = refl
-stays_start_all CskRoll true true a b = refl
-stays_start_all CskRoll true false a b = refl
-stays_start_all CskRoll false true a b = refl
-stays_start_all CskRoll false false a b = refl
-stays_start_all AlgorithmRoll true true a b = refl
-stays_start_all AlgorithmRoll true false a b = refl
-stays_start_all AlgorithmRoll false true a b = refl
-stays_start_all AlgorithmRoll false false a b = refl
+stays_start_all a b = refl
 
 pub stays_start : (r : RollType) (o i : Bool) (k : KeyType) → may_start r o i k ≡ true
     → fits (timer r) Quiet k ≡ true →
@@ -459,23 +268,18 @@ pub stays_start : (r : RollType) (o i : Bool) (k : KeyType) → may_start r o i 
     → stays r false (started r o i k) ≡ true
 unfolding stays_start_table column
 stays_start r o i k may fit some =
-    mp _ _ (each_key-at (stays_start_table r o i) (stays_start_all r o i) k)
+    mp _ _ (each_listed-at stays_start_table stays_start_all r o i k)
     (and-both _ _ (and-both _ _ may fit) some)
 
 stays_wait_table : RollType → KeyType → Bool
 stays_wait_table r k = (fits (timer r) (Early r) k && stays r false k) ⇒ stays r true (waited1 r k)
 
-stays_wait_all : (r : RollType) (a b : Bool) → each_key a b (stays_wait_table r) ≡ true
+stays_wait_all : (a b : Bool) → each_in_roll a b stays_wait_table ≡ true
 unfolding stays_wait_table column
-stays_wait_all KskRoll a b = refl
-stays_wait_all KskDoubleDsRoll a b = refl
-stays_wait_all ZskRoll a b = refl
-stays_wait_all ZskDoubleSignatureRoll a b = refl
-stays_wait_all CskRoll a b = refl
-stays_wait_all AlgorithmRoll a b = refl
+stays_wait_all a b = refl
 
 pub stays_wait : (r : RollType) (k : KeyType) → fits (timer r) (Early r) k ≡ true → stays r false k
     ≡ true → stays r true (waited1 r k) ≡ true
 unfolding stays_wait_table column
-stays_wait r k fit some = mp _ _ (each_key-at (stays_wait_table r) (stays_wait_all r) k)
+stays_wait r k fit some = mp _ _ (each_in_roll-at stays_wait_table stays_wait_all r k)
     (and-both _ _ fit some)

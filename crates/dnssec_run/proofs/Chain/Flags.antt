@@ -1,6 +1,5 @@
 -- The finite facts of the tables on both sides of the chain, computed over all kinds and flags.
-use Rattle.dnssec_keyset.proofs.Tests.{both, both-at, each_key, four, each_key-at, each_roll}
-use Rattle.dnssec_keyset.proofs.Tests.{each_roll-at, ◌⇒◌, mp, and-both}
+use Rattle.dnssec_keyset.proofs.Tests.{four, ◌⇒◌, mp, and-both, each_listed, each_listed-at}
 use Rattle.dnssec_keyset.proofs.Flags.{SideOf, affects, fits, has_role, may_start, started, Keys}
 use Rattle.dnssec_keyset.proofs.Flags.{Zone, Quiet, Early, start-fits}
 use Rattle.std.proofs.Common.{◌≡◌, Bool, true, false, not, ◌&&◌, ◌||◌, refl}
@@ -86,19 +85,14 @@ start_table sd r o i k = (affects sd r && (may_start r o i k && fits sd Quiet k)
     && (((i && serves_new sd r k) || (not o && serves_kept sd r k)) ⇒ remains sd r
         (started r o i k)))
 
-start_all : (sd : SideOf) (a b : Bool)
-    → each_roll (λ r. both (λ o. both (λ i. each_key a b (start_table sd r o i)))) ≡ true
+start_all : (sd : SideOf) (a b : Bool) → each_listed a b (start_table sd) ≡ true
 unfolding start_table column
 start_all Keys a b = refl
 start_all Zone a b = refl
 
 start_holds : (sd : SideOf) (r : RollType) (o i : Bool) (k : KeyType) → start_table sd r o i k
     ≡ true
-start_holds sd r o i = each_key-at (start_table sd r o i) (λ a b.
-    both-at (λ i. each_key a b (start_table sd r o i))
-    (both-at (λ o. both (λ i. each_key a b (start_table sd r o i)))
-    (each_roll-at (λ r. both (λ o. both (λ i. each_key a b (start_table sd r o i))))
-        (start_all sd a b) r) o) i)
+start_holds sd r o i = each_listed-at (start_table sd) (start_all sd) r o i
 
 pub record Started (sd : SideOf) (r : RollType) (o i : Bool) (k : KeyType) : Type 0 where
   pub fit : fits sd (Early r) (started r o i k) ≡ true

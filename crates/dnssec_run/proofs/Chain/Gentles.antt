@@ -24,13 +24,14 @@ use Rattle.dnssec_run.proofs.Chain.Tale.{waiting, spreading, stamp_of}
 use Rattle.dnssec_run.proofs.Chain.Setters.{Harmless, harmless-alike, harmless-busy, others-idle}
 use Rattle.dnssec_run.proofs.Chain.Facts.{Seen, apart, untouched_start, untouched_wait1}
 use Rattle.dnssec_run.proofs.Chain.Facts.{untouched_wait2}
-use Rattle.dnssec_run.proofs.Chain.Rolls.{stage_fits, same-sym, same-true, put-fits}
+use Rattle.dnssec_run.proofs.Chain.Rolls.{stage_fits, same-sym, put-fits}
 use Rattle.dnssec_run.proofs.Chain.Places.{all_ok, NoDs}
 use Rattle.dnssec_run.proofs.Chain.EarlyEnds.{untouched-ended, role-ended}
 use Rattle.dnssec_run.proofs.Chain.Returns.{KeepsLists, early_end_key}
 use Rattle.dnssec_run.proofs.Chain.Invariant.{Gentle}
 use Rattle.dnssec_run.proofs.Chain.OneKey.{Mapped}
 use Rattle.dnssec_run.proofs.Chain.Kinds.{role_start, role_waited1, role_waited2}
+use Rattle.dnssec_keyset.proofs.Laws.{same-is}
 
 -- ---- a key that is mapped to one that the side sees alike
 
@@ -66,7 +67,7 @@ pub distinct : (sd : SideOf) (r q : RollType) → affects sd r ≡ false → aff
 distinct sd r q outside inside = by (same_roll r q) refl
   where
     by : (b : Bool) → same_roll r q ≡ b → b ≡ false
-    by true e = absurd (true≢false (sym inside ∙ ap (affects sd) (sym (same-true r q e)) ∙ outside))
+    by true e = absurd (true≢false (sym inside ∙ ap (affects sd) (sym (same-is r q e)) ∙ outside))
     by false e = refl
 
 phase_on : (st : Stage) (r : RollType) (second : Bool) (ttl : ℕ)
@@ -162,7 +163,7 @@ module _ (tale : Tale) (n : ℕ) (sd : SideOf) (st : Stage)
   gentle-report r second ttl now m phase mark =
       gentle_map (λ q. report_key r second now) r (Some (waiting second ttl)) m
       (λ id k e. (λ role. refl, refl))
-      (λ q own e. let same = same-true r q e in
+      (λ q own e. let same = same-is r q e in
           subst (λ q. stage_fits st q (Some (waiting second ttl)) ≡ true) same
       (phase_on st r second ttl (sym (ap (stage_fits st r) phase)
           ∙ was_rolls r (subst (λ q. affects sd q ≡ true) (sym same) own))))
@@ -176,7 +177,7 @@ module _ (tale : Tale) (n : ℕ) (sd : SideOf) (st : Stage)
           → Gentle tale sd st n
   gentle-done r same rolls phase mark = record {
     rolls = λ q own. ap (stage_fits st q) (rolls q) ∙ put-fits st (world_at tale n).roll r None q
-        (λ e. let eq = same-true r q e in
+        (λ e. let eq = same-is r q e in
             subst (λ q. stage_fits st q None ≡ true) eq
             (done_on st r (sym (ap (stage_fits st r) phase)
             ∙ was_rolls r (subst (λ q. affects sd q ≡ true) (sym eq) own)))) (λ e. was_rolls q own);

@@ -18,9 +18,10 @@ use Rattle.dnssec_keyset.proofs.Flags.{SideOf, affects, has_role}
 use Rattle.dnssec_keyset.proofs.Phases.{listed_by-with_listed}
 use Rattle.dnssec_run.specs.Published.{Id}
 use Rattle.dnssec_run.proofs.Chain.Tale.{Tale, Key, found, world_at, put_roll, is_listed}
-use Rattle.dnssec_run.proofs.Chain.Rolls.{same-same, same-true, put-same, put-other}
+use Rattle.dnssec_run.proofs.Chain.Rolls.{same-same, put-same, put-other}
 use Rattle.dnssec_run.proofs.Chain.Places.{real}
 use Rattle.dnssec_run.proofs.Chain.Returns.{KeepsLists, listed_at}
+use Rattle.dnssec_keyset.proofs.Laws.{same-is}
 
 -- ---- one list
 
@@ -144,7 +145,7 @@ module _ (tale : Tale) (n : ℕ) where
         where
           by : (b : Bool) → same_roll r q ≡ b → b ≡ false
           by true t = absurd (moved (sym (put-same (world_at tale n).roll r o) ∙ sym (rolls r)
-              ∙ ap (world_at tale (suc n)).roll (same-true r q t) ∙ e))
+              ∙ ap (world_at tale (suc n)).roll (same-is r q t) ∙ e))
           by false t = refl
 
   -- a start of a roll of the other side

@@ -1,17 +1,14 @@
 -- What a roll in progress waits for: its last report, and a key with that report's stamp.
 use Rattle.std.proofs.Common.{◌≡◌, ℕ, suc, ◌-◌, ◌*◌, ◌<◌, ◌≤◌, Bool, true, false, refl, sym, ◌∙◌}
-use Rattle.std.proofs.Common.{ap, subst, arith, List, Option, None, Some}
+use Rattle.std.proofs.Common.{ap, subst, arith, List, Option, None, Some, not}
 use Rattle.std.specs.Option.{option_map}
-use Rattle.std.proofs.lemmas.Bool.{true≢false}
+use Rattle.std.proofs.lemmas.Bool.{true≢false, not-true}
 use Rattle.std.proofs.lemmas.Option.{same_Some, none-some}
 use Rattle.dnssec_key.specs.declared.roll.RollType.{RollType}
 use Rattle.dnssec_key.specs.declared.roll.RollState.{RollState}
 use Rattle.dnssec_key.specs.declared.roll.RollState.TheVariants.{Propagation1, CacheExpire1}
 use Rattle.dnssec_key.specs.declared.roll.RollState.TheVariants.{Propagation2, CacheExpire2}
 use Rattle.dnssec_key.specs.declared.roll.RollState.TheVariants.{Done}
-use Rattle.dnssec_key.specs.declared.roll.RollType.TheVariants.{KskRoll, KskDoubleDsRoll}
-use Rattle.dnssec_key.specs.declared.roll.RollType.TheVariants.{ZskRoll, ZskDoubleSignatureRoll}
-use Rattle.dnssec_key.specs.declared.roll.RollType.TheVariants.{CskRoll, AlgorithmRoll}
 use Rattle.dnssec_key.specs.declared.kind.KeyType.{KeyType}
 use Rattle.dnssec_key.specs.RollTable.{column, half_of, stamp_if, after_wait}
 use Rattle.dnssec_run.specs.declared.record.Mark.TheVariants.{Other, Report}
@@ -35,6 +32,7 @@ use Rattle.dnssec_run.proofs.Chain.Returns.{early_end_key}
 use Rattle.dnssec_run.proofs.Chain.OneKey.{Mapped, may_at, suits}
 use Rattle.dnssec_run.proofs.Chain.Gentles.{Kept}
 use Rattle.dnssec_run.proofs.Chain.Kinds.{list_start, list_waited1, list_waited2}
+use Rattle.dnssec_keyset.proofs.Tests.{each_roll, each_roll-at, both, both-at}
 
 pub record Told (tale : Tale) (r : RollType) (second : Bool) (n ttl : ℕ) : Type 0 where
   pub at : ℕ
@@ -99,66 +97,30 @@ gone tale n r second ttl now on reads told over moment kind goes b base q lt =
     }
 
 -- a start and the waits leave the stamps alone that a wait reads
-start_none : (r : RollType) (s : Stamp) (k : KeyType) → stamps s (column r).stamps k ≡ false
+start_all : (s : Stamp) (k : KeyType)
+    → each_roll (λ r. not (stamps s (column r).stamps k)) ≡ true
 unfolding column
-start_none KskRoll Visible k = refl
-start_none KskRoll DsVisible k = refl
-start_none KskRoll RrsigVisible k = refl
-start_none KskDoubleDsRoll Visible k = refl
-start_none KskDoubleDsRoll DsVisible k = refl
-start_none KskDoubleDsRoll RrsigVisible k = refl
-start_none ZskRoll Visible k = refl
-start_none ZskRoll DsVisible k = refl
-start_none ZskRoll RrsigVisible k = refl
-start_none ZskDoubleSignatureRoll Visible k = refl
-start_none ZskDoubleSignatureRoll DsVisible k = refl
-start_none ZskDoubleSignatureRoll RrsigVisible k = refl
-start_none CskRoll Visible k = refl
-start_none CskRoll DsVisible k = refl
-start_none CskRoll RrsigVisible k = refl
-start_none AlgorithmRoll Visible k = refl
-start_none AlgorithmRoll DsVisible k = refl
-start_none AlgorithmRoll RrsigVisible k = refl
+start_all Visible k = refl
+start_all DsVisible k = refl
+start_all RrsigVisible k = refl
+
+start_none : (r : RollType) (s : Stamp) (k : KeyType) → stamps s (column r).stamps k ≡ false
+start_none r s k = not-true _
+    (each_roll-at (λ r. not (stamps s (column r).stamps k)) (start_all s k) r)
+
+wait_all : (s : Stamp) (k : KeyType)
+    → each_roll (λ r. both (λ second. not (stamps s (half_of r (half second)).stamps k))) ≡ true
+unfolding column
+wait_all Visible k = refl
+wait_all DsVisible k = refl
+wait_all RrsigVisible k = refl
 
 wait_none : (r : RollType) (second : Bool) (s : Stamp) (k : KeyType)
     → stamps s (half_of r (half second)).stamps k ≡ false
-unfolding column
-wait_none KskRoll false Visible k = refl
-wait_none KskRoll false DsVisible k = refl
-wait_none KskRoll false RrsigVisible k = refl
-wait_none KskRoll true Visible k = refl
-wait_none KskRoll true DsVisible k = refl
-wait_none KskRoll true RrsigVisible k = refl
-wait_none KskDoubleDsRoll false Visible k = refl
-wait_none KskDoubleDsRoll false DsVisible k = refl
-wait_none KskDoubleDsRoll false RrsigVisible k = refl
-wait_none KskDoubleDsRoll true Visible k = refl
-wait_none KskDoubleDsRoll true DsVisible k = refl
-wait_none KskDoubleDsRoll true RrsigVisible k = refl
-wait_none ZskRoll false Visible k = refl
-wait_none ZskRoll false DsVisible k = refl
-wait_none ZskRoll false RrsigVisible k = refl
-wait_none ZskRoll true Visible k = refl
-wait_none ZskRoll true DsVisible k = refl
-wait_none ZskRoll true RrsigVisible k = refl
-wait_none ZskDoubleSignatureRoll false Visible k = refl
-wait_none ZskDoubleSignatureRoll false DsVisible k = refl
-wait_none ZskDoubleSignatureRoll false RrsigVisible k = refl
-wait_none ZskDoubleSignatureRoll true Visible k = refl
-wait_none ZskDoubleSignatureRoll true DsVisible k = refl
-wait_none ZskDoubleSignatureRoll true RrsigVisible k = refl
-wait_none CskRoll false Visible k = refl
-wait_none CskRoll false DsVisible k = refl
-wait_none CskRoll false RrsigVisible k = refl
-wait_none CskRoll true Visible k = refl
-wait_none CskRoll true DsVisible k = refl
-wait_none CskRoll true RrsigVisible k = refl
-wait_none AlgorithmRoll false Visible k = refl
-wait_none AlgorithmRoll false DsVisible k = refl
-wait_none AlgorithmRoll false RrsigVisible k = refl
-wait_none AlgorithmRoll true Visible k = refl
-wait_none AlgorithmRoll true DsVisible k = refl
-wait_none AlgorithmRoll true RrsigVisible k = refl
+wait_none r second s k = not-true _
+    (both-at (λ second. not (stamps s (half_of r (half second)).stamps k))
+    (each_roll-at (λ r. both (λ second. not (stamps s (half_of r (half second)).stamps k)))
+    (wait_all s k) r) second)
 
 left_alone : (b : Bool) (now : ℕ) (s : Option ℕ) → b ≡ false → s ≡ stamp_if b now s
 left_alone true now s e = absurd (true≢false e)

@@ -1,5 +1,5 @@
 -- What is so of each roll, case by case: whose DS sets it leaves alone, and which go together.
-use Rattle.std.proofs.Common.{◌≡◌, ◌||◌, ◌⊎◌, inl, inr, Bool, true, false, refl, sym}
+use Rattle.std.proofs.Common.{◌≡◌, ◌||◌, ◌⊎◌, inl, inr, Bool, true, false, refl, ◌&&◌}
 use Rattle.std.specs.Prelude.{if◌then◌else◌}
 use Rattle.std.proofs.lemmas.Bool.{true≢false}
 use Rattle.dnssec_key.specs.declared.roll.RollType.{RollType}
@@ -13,9 +13,11 @@ use Rattle.dnssec_run.specs.Plain.{wants_first}
 use Rattle.dnssec_keyset.proofs.Flags.{SideOf, Keys, Zone, affects, tolerates, started, waited1}
 use Rattle.dnssec_keyset.proofs.Flags.{waited2, Quiet, Early, Late}
 use Rattle.dnssec_keyset.proofs.Tests.{both, both-at, each_roll, each_roll-at, each_key}
-use Rattle.dnssec_keyset.proofs.Tests.{each_key-at, alike, alike-same}
+use Rattle.dnssec_keyset.proofs.Tests.{each_key-at, alike, alike-same, or_second, mp, and-both, ◌⇒◌}
 use Rattle.dnssec_run.proofs.Chain.Flags.{switches}
 use Rattle.dnssec_run.proofs.Chain.Facts.{timed}
+use Rattle.dnssec_keyset.proofs.Laws.{apart-sym}
+use Rattle.dnssec_keyset.specs.Start.{side_of}
 
 still_table : RollType → Bool → Bool → KeyType → Bool
 still_table r o i k = alike (in_ds (started r o i k)) (in_ds k)
@@ -25,17 +27,13 @@ still_all : (a b : Bool) → each_roll
 unfolding still_table column
 still_all a b = refl
 
-free_or : (a b : Bool) → (a || b) ≡ true → a ≡ false → b ≡ true
-free_or true b e f = absurd (true≢false f)
-free_or false b e f = e
-
 pub still_ds : (r : RollType) → wants_first r ≡ false → (o i : Bool) (k : KeyType)
     → in_ds (started r o i k) ≡ in_ds k
 unfolding still_table
 still_ds r free o i k = alike-same _ _ (each_key-at (still_table r o i) (λ a b.
     both-at (λ i. each_key a b (still_table r o i))
     (both-at (λ o. both (λ i. each_key a b (still_table r o i)))
-    (free_or (wants_first r) _ (each_roll-at
+    (or_second (wants_first r) _ (each_roll-at
         (λ r. wants_first r || both (λ o. both (λ i. each_key a b (still_table r o i))))
         (still_all a b) r) free) o) i) k)
 
@@ -53,7 +51,7 @@ pub waited1_ds : (r : RollType) → affects Keys r ≡ false → (k : KeyType) �
 unfolding waited_table
 waited1_ds r out k = alike-same _ _
     (each_key-at (waited_table r false)
-    (λ a b. free_or (affects Keys r) _
+    (λ a b. or_second (affects Keys r) _
     (each_roll-at (λ r. affects Keys r || each_key a b (waited_table r false))
     (waited_all false a b) r) out) k)
 
@@ -62,7 +60,7 @@ pub waited2_ds : (r : RollType) → affects Keys r ≡ false → (k : KeyType) �
 unfolding waited_table
 waited2_ds r out k = alike-same _ _
     (each_key-at (waited_table r true)
-    (λ a b. free_or (affects Keys r) _
+    (λ a b. or_second (affects Keys r) _
     (each_roll-at (λ r. affects Keys r || each_key a b (waited_table r true)) (waited_all true a b)
     r) out) k)
 
@@ -75,42 +73,7 @@ alone_first CskRoll = refl
 alone_first AlgorithmRoll = refl
 
 pub tolerates-sym : (r q : RollType) → tolerates r q ≡ tolerates q r
-tolerates-sym KskRoll KskRoll = refl
-tolerates-sym KskRoll KskDoubleDsRoll = refl
-tolerates-sym KskRoll ZskRoll = refl
-tolerates-sym KskRoll ZskDoubleSignatureRoll = refl
-tolerates-sym KskRoll CskRoll = refl
-tolerates-sym KskRoll AlgorithmRoll = refl
-tolerates-sym KskDoubleDsRoll KskRoll = refl
-tolerates-sym KskDoubleDsRoll KskDoubleDsRoll = refl
-tolerates-sym KskDoubleDsRoll ZskRoll = refl
-tolerates-sym KskDoubleDsRoll ZskDoubleSignatureRoll = refl
-tolerates-sym KskDoubleDsRoll CskRoll = refl
-tolerates-sym KskDoubleDsRoll AlgorithmRoll = refl
-tolerates-sym ZskRoll KskRoll = refl
-tolerates-sym ZskRoll KskDoubleDsRoll = refl
-tolerates-sym ZskRoll ZskRoll = refl
-tolerates-sym ZskRoll ZskDoubleSignatureRoll = refl
-tolerates-sym ZskRoll CskRoll = refl
-tolerates-sym ZskRoll AlgorithmRoll = refl
-tolerates-sym ZskDoubleSignatureRoll KskRoll = refl
-tolerates-sym ZskDoubleSignatureRoll KskDoubleDsRoll = refl
-tolerates-sym ZskDoubleSignatureRoll ZskRoll = refl
-tolerates-sym ZskDoubleSignatureRoll ZskDoubleSignatureRoll = refl
-tolerates-sym ZskDoubleSignatureRoll CskRoll = refl
-tolerates-sym ZskDoubleSignatureRoll AlgorithmRoll = refl
-tolerates-sym CskRoll KskRoll = refl
-tolerates-sym CskRoll KskDoubleDsRoll = refl
-tolerates-sym CskRoll ZskRoll = refl
-tolerates-sym CskRoll ZskDoubleSignatureRoll = refl
-tolerates-sym CskRoll CskRoll = refl
-tolerates-sym CskRoll AlgorithmRoll = refl
-tolerates-sym AlgorithmRoll KskRoll = refl
-tolerates-sym AlgorithmRoll KskDoubleDsRoll = refl
-tolerates-sym AlgorithmRoll ZskRoll = refl
-tolerates-sym AlgorithmRoll ZskDoubleSignatureRoll = refl
-tolerates-sym AlgorithmRoll CskRoll = refl
-tolerates-sym AlgorithmRoll AlgorithmRoll = refl
+tolerates-sym r q = apart-sym (side_of r) (side_of q)
 
 pub some_side : (r : RollType) → affects Keys r ≡ false → affects Zone r ≡ true
 some_side KskRoll e = absurd (true≢false e)
@@ -120,20 +83,19 @@ some_side ZskDoubleSignatureRoll e = refl
 some_side CskRoll e = refl
 some_side AlgorithmRoll e = refl
 
+switch_table : SideOf → RollType → Bool
+switch_table sd r = (affects sd r && switches sd r) ⇒ timed r true
+
+switch_all : (sd : SideOf) → each_roll (switch_table sd) ≡ true
+unfolding switch_table
+switch_all Keys = refl
+switch_all Zone = refl
+
 pub switch_timed : (sd : SideOf) (r : RollType) → affects sd r ≡ true → switches sd r ≡ true
     → timed r true ≡ true
-switch_timed Keys KskRoll own e = refl
-switch_timed Keys KskDoubleDsRoll own e = refl
-switch_timed Keys ZskRoll own e = refl
-switch_timed Keys ZskDoubleSignatureRoll own e = absurd (true≢false (sym own))
-switch_timed Keys CskRoll own e = refl
-switch_timed Keys AlgorithmRoll own e = refl
-switch_timed Zone KskRoll own e = refl
-switch_timed Zone KskDoubleDsRoll own e = refl
-switch_timed Zone ZskRoll own e = refl
-switch_timed Zone ZskDoubleSignatureRoll own e = absurd (true≢false (sym e))
-switch_timed Zone CskRoll own e = refl
-switch_timed Zone AlgorithmRoll own e = refl
+unfolding switch_table
+switch_timed sd r own e =
+    mp _ _ (each_roll-at (switch_table sd) (switch_all sd) r) (and-both _ _ own e)
 
 pub first_or : (r : RollType) → wants_first r ≡ false → (r ≡ AlgorithmRoll)
     ⊎ (affects Keys r ≡ false)

@@ -1,7 +1,8 @@
 -- Rolls, their states, and the stages of a side.
 use Rattle.std.proofs.Common.{◌≡◌, Bool, true, false, not, Option, None, Some, refl, sym, ◌∙◌, ap}
+use Rattle.std.proofs.Common.{◌&&◌}
 use Rattle.std.specs.Prelude.{if◌then◌else◌}
-use Rattle.std.proofs.lemmas.Bool.{true≢false}
+use Rattle.std.proofs.lemmas.Bool.{true≢false, not-true}
 use Rattle.dnssec_key.specs.declared.roll.RollType.{RollType}
 use Rattle.dnssec_key.specs.declared.roll.RollType.TheVariants.{KskRoll, KskDoubleDsRoll}
 use Rattle.dnssec_key.specs.declared.roll.RollType.TheVariants.{ZskRoll, ZskDoubleSignatureRoll}
@@ -14,6 +15,9 @@ use Rattle.dnssec_keyset.specs.KeySet.{same_roll}
 use Rattle.dnssec_run.proofs.Chain.Tale.{put_roll}
 use Rattle.dnssec_keyset.proofs.Flags.{SideOf, Keys, Zone, affects, tolerates, Stage, Quiet, Early}
 use Rattle.dnssec_keyset.proofs.Flags.{Late}
+use Rattle.dnssec_keyset.proofs.Tests.{each_roll, each_roll-at, alike, alike-same, mp, and-both}
+use Rattle.dnssec_keyset.proofs.Tests.{◌⇒◌}
+use Rattle.dnssec_keyset.proofs.Laws.{same-is}
 
 abbrev pub stage_fits : Stage → RollType → Option RollState → Bool
 stage_fits Quiet _ None = true
@@ -41,157 +45,32 @@ same-same ZskDoubleSignatureRoll = refl
 same-same CskRoll = refl
 same-same AlgorithmRoll = refl
 
-pub same-sym : (r q : RollType) → same_roll r q ≡ same_roll q r
-same-sym KskRoll KskRoll = refl
-same-sym KskRoll KskDoubleDsRoll = refl
-same-sym KskRoll ZskRoll = refl
-same-sym KskRoll ZskDoubleSignatureRoll = refl
-same-sym KskRoll CskRoll = refl
-same-sym KskRoll AlgorithmRoll = refl
-same-sym KskDoubleDsRoll KskRoll = refl
-same-sym KskDoubleDsRoll KskDoubleDsRoll = refl
-same-sym KskDoubleDsRoll ZskRoll = refl
-same-sym KskDoubleDsRoll ZskDoubleSignatureRoll = refl
-same-sym KskDoubleDsRoll CskRoll = refl
-same-sym KskDoubleDsRoll AlgorithmRoll = refl
-same-sym ZskRoll KskRoll = refl
-same-sym ZskRoll KskDoubleDsRoll = refl
-same-sym ZskRoll ZskRoll = refl
-same-sym ZskRoll ZskDoubleSignatureRoll = refl
-same-sym ZskRoll CskRoll = refl
-same-sym ZskRoll AlgorithmRoll = refl
-same-sym ZskDoubleSignatureRoll KskRoll = refl
-same-sym ZskDoubleSignatureRoll KskDoubleDsRoll = refl
-same-sym ZskDoubleSignatureRoll ZskRoll = refl
-same-sym ZskDoubleSignatureRoll ZskDoubleSignatureRoll = refl
-same-sym ZskDoubleSignatureRoll CskRoll = refl
-same-sym ZskDoubleSignatureRoll AlgorithmRoll = refl
-same-sym CskRoll KskRoll = refl
-same-sym CskRoll KskDoubleDsRoll = refl
-same-sym CskRoll ZskRoll = refl
-same-sym CskRoll ZskDoubleSignatureRoll = refl
-same-sym CskRoll CskRoll = refl
-same-sym CskRoll AlgorithmRoll = refl
-same-sym AlgorithmRoll KskRoll = refl
-same-sym AlgorithmRoll KskDoubleDsRoll = refl
-same-sym AlgorithmRoll ZskRoll = refl
-same-sym AlgorithmRoll ZskDoubleSignatureRoll = refl
-same-sym AlgorithmRoll CskRoll = refl
-same-sym AlgorithmRoll AlgorithmRoll = refl
+same-table : RollType → RollType → Bool
+same-table r q = alike (same_roll r q) (same_roll q r)
 
-pub same-true : (r q : RollType) → same_roll r q ≡ true → r ≡ q
-same-true KskRoll KskRoll e = refl
-same-true KskRoll KskDoubleDsRoll e = absurd (true≢false (sym e))
-same-true KskRoll ZskRoll e = absurd (true≢false (sym e))
-same-true KskRoll ZskDoubleSignatureRoll e = absurd (true≢false (sym e))
-same-true KskRoll CskRoll e = absurd (true≢false (sym e))
-same-true KskRoll AlgorithmRoll e = absurd (true≢false (sym e))
-same-true KskDoubleDsRoll KskRoll e = absurd (true≢false (sym e))
-same-true KskDoubleDsRoll KskDoubleDsRoll e = refl
-same-true KskDoubleDsRoll ZskRoll e = absurd (true≢false (sym e))
-same-true KskDoubleDsRoll ZskDoubleSignatureRoll e = absurd (true≢false (sym e))
-same-true KskDoubleDsRoll CskRoll e = absurd (true≢false (sym e))
-same-true KskDoubleDsRoll AlgorithmRoll e = absurd (true≢false (sym e))
-same-true ZskRoll KskRoll e = absurd (true≢false (sym e))
-same-true ZskRoll KskDoubleDsRoll e = absurd (true≢false (sym e))
-same-true ZskRoll ZskRoll e = refl
-same-true ZskRoll ZskDoubleSignatureRoll e = absurd (true≢false (sym e))
-same-true ZskRoll CskRoll e = absurd (true≢false (sym e))
-same-true ZskRoll AlgorithmRoll e = absurd (true≢false (sym e))
-same-true ZskDoubleSignatureRoll KskRoll e = absurd (true≢false (sym e))
-same-true ZskDoubleSignatureRoll KskDoubleDsRoll e = absurd (true≢false (sym e))
-same-true ZskDoubleSignatureRoll ZskRoll e = absurd (true≢false (sym e))
-same-true ZskDoubleSignatureRoll ZskDoubleSignatureRoll e = refl
-same-true ZskDoubleSignatureRoll CskRoll e = absurd (true≢false (sym e))
-same-true ZskDoubleSignatureRoll AlgorithmRoll e = absurd (true≢false (sym e))
-same-true CskRoll KskRoll e = absurd (true≢false (sym e))
-same-true CskRoll KskDoubleDsRoll e = absurd (true≢false (sym e))
-same-true CskRoll ZskRoll e = absurd (true≢false (sym e))
-same-true CskRoll ZskDoubleSignatureRoll e = absurd (true≢false (sym e))
-same-true CskRoll CskRoll e = refl
-same-true CskRoll AlgorithmRoll e = absurd (true≢false (sym e))
-same-true AlgorithmRoll KskRoll e = absurd (true≢false (sym e))
-same-true AlgorithmRoll KskDoubleDsRoll e = absurd (true≢false (sym e))
-same-true AlgorithmRoll ZskRoll e = absurd (true≢false (sym e))
-same-true AlgorithmRoll ZskDoubleSignatureRoll e = absurd (true≢false (sym e))
-same-true AlgorithmRoll CskRoll e = absurd (true≢false (sym e))
-same-true AlgorithmRoll AlgorithmRoll e = refl
+same-all : each_roll (λ r. each_roll (same-table r)) ≡ true
+unfolding same-table
+same-all = refl
+
+pub same-sym : (r q : RollType) → same_roll r q ≡ same_roll q r
+unfolding same-table
+same-sym r q = alike-same _ _ (each_roll-at (same-table r)
+    (each_roll-at (λ r. each_roll (same-table r)) same-all r) q)
+
+clash_table : SideOf → RollType → RollType → Bool
+clash_table sd r q = (affects sd r && affects sd q) ⇒ not (tolerates r q)
+
+clash_all : (sd : SideOf) → each_roll (λ r. each_roll (clash_table sd r)) ≡ true
+unfolding clash_table
+clash_all Keys = refl
+clash_all Zone = refl
 
 -- two rolls of a side never run together
 pub clash : (sd : SideOf) (r q : RollType) → affects sd r ≡ true → affects sd q ≡ true
     → tolerates r q ≡ false
-clash Keys KskRoll KskRoll e f = refl
-clash Keys KskRoll KskDoubleDsRoll e f = refl
-clash Keys KskRoll ZskRoll e f = absurd (true≢false (sym f))
-clash Keys KskRoll ZskDoubleSignatureRoll e f = absurd (true≢false (sym f))
-clash Keys KskRoll CskRoll e f = refl
-clash Keys KskRoll AlgorithmRoll e f = refl
-clash Keys KskDoubleDsRoll KskRoll e f = refl
-clash Keys KskDoubleDsRoll KskDoubleDsRoll e f = refl
-clash Keys KskDoubleDsRoll ZskRoll e f = absurd (true≢false (sym f))
-clash Keys KskDoubleDsRoll ZskDoubleSignatureRoll e f = absurd (true≢false (sym f))
-clash Keys KskDoubleDsRoll CskRoll e f = refl
-clash Keys KskDoubleDsRoll AlgorithmRoll e f = refl
-clash Keys ZskRoll KskRoll e f = absurd (true≢false (sym e))
-clash Keys ZskRoll KskDoubleDsRoll e f = absurd (true≢false (sym e))
-clash Keys ZskRoll ZskRoll e f = refl
-clash Keys ZskRoll ZskDoubleSignatureRoll e f = refl
-clash Keys ZskRoll CskRoll e f = refl
-clash Keys ZskRoll AlgorithmRoll e f = refl
-clash Keys ZskDoubleSignatureRoll KskRoll e f = absurd (true≢false (sym e))
-clash Keys ZskDoubleSignatureRoll KskDoubleDsRoll e f = absurd (true≢false (sym e))
-clash Keys ZskDoubleSignatureRoll ZskRoll e f = refl
-clash Keys ZskDoubleSignatureRoll ZskDoubleSignatureRoll e f = refl
-clash Keys ZskDoubleSignatureRoll CskRoll e f = refl
-clash Keys ZskDoubleSignatureRoll AlgorithmRoll e f = refl
-clash Keys CskRoll KskRoll e f = refl
-clash Keys CskRoll KskDoubleDsRoll e f = refl
-clash Keys CskRoll ZskRoll e f = refl
-clash Keys CskRoll ZskDoubleSignatureRoll e f = refl
-clash Keys CskRoll CskRoll e f = refl
-clash Keys CskRoll AlgorithmRoll e f = refl
-clash Keys AlgorithmRoll KskRoll e f = refl
-clash Keys AlgorithmRoll KskDoubleDsRoll e f = refl
-clash Keys AlgorithmRoll ZskRoll e f = refl
-clash Keys AlgorithmRoll ZskDoubleSignatureRoll e f = refl
-clash Keys AlgorithmRoll CskRoll e f = refl
-clash Keys AlgorithmRoll AlgorithmRoll e f = refl
-clash Zone KskRoll KskRoll e f = refl
-clash Zone KskRoll KskDoubleDsRoll e f = refl
-clash Zone KskRoll ZskRoll e f = absurd (true≢false (sym e))
-clash Zone KskRoll ZskDoubleSignatureRoll e f = absurd (true≢false (sym e))
-clash Zone KskRoll CskRoll e f = refl
-clash Zone KskRoll AlgorithmRoll e f = refl
-clash Zone KskDoubleDsRoll KskRoll e f = refl
-clash Zone KskDoubleDsRoll KskDoubleDsRoll e f = refl
-clash Zone KskDoubleDsRoll ZskRoll e f = absurd (true≢false (sym e))
-clash Zone KskDoubleDsRoll ZskDoubleSignatureRoll e f = absurd (true≢false (sym e))
-clash Zone KskDoubleDsRoll CskRoll e f = refl
-clash Zone KskDoubleDsRoll AlgorithmRoll e f = refl
-clash Zone ZskRoll KskRoll e f = absurd (true≢false (sym f))
-clash Zone ZskRoll KskDoubleDsRoll e f = absurd (true≢false (sym f))
-clash Zone ZskRoll ZskRoll e f = refl
-clash Zone ZskRoll ZskDoubleSignatureRoll e f = refl
-clash Zone ZskRoll CskRoll e f = refl
-clash Zone ZskRoll AlgorithmRoll e f = refl
-clash Zone ZskDoubleSignatureRoll KskRoll e f = absurd (true≢false (sym f))
-clash Zone ZskDoubleSignatureRoll KskDoubleDsRoll e f = absurd (true≢false (sym f))
-clash Zone ZskDoubleSignatureRoll ZskRoll e f = refl
-clash Zone ZskDoubleSignatureRoll ZskDoubleSignatureRoll e f = refl
-clash Zone ZskDoubleSignatureRoll CskRoll e f = refl
-clash Zone ZskDoubleSignatureRoll AlgorithmRoll e f = refl
-clash Zone CskRoll KskRoll e f = refl
-clash Zone CskRoll KskDoubleDsRoll e f = refl
-clash Zone CskRoll ZskRoll e f = refl
-clash Zone CskRoll ZskDoubleSignatureRoll e f = refl
-clash Zone CskRoll CskRoll e f = refl
-clash Zone CskRoll AlgorithmRoll e f = refl
-clash Zone AlgorithmRoll KskRoll e f = refl
-clash Zone AlgorithmRoll KskDoubleDsRoll e f = refl
-clash Zone AlgorithmRoll ZskRoll e f = refl
-clash Zone AlgorithmRoll ZskDoubleSignatureRoll e f = refl
-clash Zone AlgorithmRoll CskRoll e f = refl
-clash Zone AlgorithmRoll AlgorithmRoll e f = refl
+unfolding clash_table
+clash sd r q e f = not-true _ (mp _ _ (each_roll-at (clash_table sd r)
+    (each_roll-at (λ r. each_roll (clash_table sd r)) (clash_all sd) r) q) (and-both _ _ e f))
 
 pub stage_early : (st : Stage) (r : RollType) (p : RollState) → stage_fits (Early r) r (Some p)
     ≡ true → stage_fits st r (Some p) ≡ true → st ≡ Early r
@@ -200,8 +79,8 @@ stage_early Quiet r (CacheExpire1 t) k e = absurd (true≢false (sym e))
 stage_early Quiet r Propagation2 k e = absurd (true≢false (sym k))
 stage_early Quiet r (CacheExpire2 t) k e = absurd (true≢false (sym k))
 stage_early Quiet r Done k e = absurd (true≢false (sym k))
-stage_early (Early q) r Propagation1 k e = ap Early (same-true q r e)
-stage_early (Early q) r (CacheExpire1 t) k e = ap Early (same-true q r e)
+stage_early (Early q) r Propagation1 k e = ap Early (same-is q r e)
+stage_early (Early q) r (CacheExpire1 t) k e = ap Early (same-is q r e)
 stage_early (Early q) r Propagation2 k e = absurd (true≢false (sym k))
 stage_early (Early q) r (CacheExpire2 t) k e = absurd (true≢false (sym k))
 stage_early (Early q) r Done k e = absurd (true≢false (sym k))
@@ -225,8 +104,8 @@ stage_late (Early q) r (CacheExpire2 t) k e = absurd (true≢false (sym e))
 stage_late (Early q) r Done k e = absurd (true≢false (sym k))
 stage_late (Late q) r Propagation1 k e = absurd (true≢false (sym k))
 stage_late (Late q) r (CacheExpire1 t) k e = absurd (true≢false (sym k))
-stage_late (Late q) r Propagation2 k e = ap Late (same-true q r e)
-stage_late (Late q) r (CacheExpire2 t) k e = ap Late (same-true q r e)
+stage_late (Late q) r Propagation2 k e = ap Late (same-is q r e)
+stage_late (Late q) r (CacheExpire2 t) k e = ap Late (same-is q r e)
 stage_late (Late q) r Done k e = absurd (true≢false (sym k))
 
 pub stage_quiet : (sd : SideOf) (st : Stage) → stage_own sd st ≡ true
@@ -234,11 +113,6 @@ pub stage_quiet : (sd : SideOf) (st : Stage) → stage_own sd st ≡ true
 stage_quiet sd Quiet own h = refl
 stage_quiet sd (Early r) own h = absurd (true≢false (sym (h r own) ∙ ap not (same-same r)))
 stage_quiet sd (Late r) own h = absurd (true≢false (sym (h r own) ∙ ap not (same-same r)))
-
-pub stage_done : (st : Stage) (r : RollType) → stage_fits st r (Some Done) ≡ true → st ≡ Quiet
-stage_done Quiet r e = refl
-stage_done (Early q) r e = absurd (true≢false (sym e))
-stage_done (Late q) r e = absurd (true≢false (sym e))
 
 pub others_early : (r q : RollType) (o : Option RollState) → stage_fits (Early r) q o ≡ true
     → same_roll r q ≡ false → o ≡ None

@@ -22,7 +22,7 @@ use Rattle.dnssec_run.proofs.Chain.Tale.{Tale, Key, found, if_some, world_at, st
 use Rattle.dnssec_run.proofs.Chain.Tale.{wait2_key, is_listed, IsOver, CanStart}
 use Rattle.dnssec_run.proofs.Chain.Flags.{second_kind, in_use, in_other, in_keys, switches}
 use Rattle.dnssec_run.proofs.Chain.Facts.{timer, timer-affects}
-use Rattle.dnssec_run.proofs.Chain.Rolls.{stage_fits, same-same, same-true, stage_early, stage_late}
+use Rattle.dnssec_run.proofs.Chain.Rolls.{stage_fits, same-same, stage_early, stage_late}
 use Rattle.dnssec_run.proofs.Chain.Rolls.{stage_quiet, put-other, clash}
 use Rattle.dnssec_run.proofs.Chain.History.{Serving, first-retires, second-retires, not_in_empty}
 use Rattle.dnssec_run.proofs.Chain.Places.{all_ok, NoDs, no_ds-next, shows_ds, some_weaker, real}
@@ -43,6 +43,7 @@ use Rattle.dnssec_run.proofs.Chain.RollFacts.{waited2_ds}
 use Rattle.dnssec_run.proofs.Chain.BothSides.{Inv, Pairs, PassesAt, Unpassed, born, ds_less}
 use Rattle.dnssec_run.proofs.Chain.BothSides.{pairs-on, phases-on, step_other, unpassed-next}
 use Rattle.dnssec_run.proofs.Chain.BothSides.{was-rolling}
+use Rattle.dnssec_keyset.proofs.Laws.{same-is}
 
 -- ---- the calls of a roll, side by side
 
@@ -108,13 +109,13 @@ module _ (tale : Tale) (n : ℕ) (here : suc n ≤ length tale.es) where
             at_tol false f = absurd (none-some x (sym (can.alone q f) ∙ e))
 
         at_a : (t : Bool) → same_roll r a ≡ t → tolerates a b ≡ true
-        at_a true t = let eq = same-true r a t in
+        at_a true t = let eq = same-is r a t in
             subst (λ a. tolerates a b ≡ true) eq
                 (alone b y (was b y (ap (λ a. same_roll a b) eq ∙ d) by))
         at_a false t = at_b (same_roll r b) refl
           where
             at_b : (u : Bool) → same_roll r b ≡ u → tolerates a b ≡ true
-            at_b true u = let eq = same-true r b u in tolerates-sym a b
+            at_b true u = let eq = same-is r b u in tolerates-sym a b
                 ∙ subst (λ b. tolerates b a ≡ true) eq (alone a x (was a x t ax))
             at_b false u = h a b x y (was a x t ax) (was b y u by) d
 

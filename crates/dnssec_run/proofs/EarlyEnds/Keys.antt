@@ -26,10 +26,10 @@ use Rattle.dnssec_keyset.proofs.Flags.{may_list, tolerates}
 use Rattle.dnssec_run.specs.EarlyEnds.{touches}
 use Rattle.dnssec_run.proofs.Chain.Allowed.{can_start, clear_cause, waits_in_phase}
 use Rattle.dnssec_run.proofs.Chain.Facts.{other}
-use Rattle.dnssec_run.proofs.Chain.Rolls.{same-true}
 use Rattle.dnssec_run.proofs.EarlyEnds.Lists.{IsAside}
 use Rattle.dnssec_run.proofs.WholeRolls.Order.{world_of}
 use Rattle.dnssec_run.proofs.WholeRolls.Phases.{put_aside, put_there, split_by}
+use Rattle.dnssec_keyset.proofs.Laws.{same-is}
 
 -- ---- the phase
 
@@ -59,7 +59,7 @@ module _ (roll : RollType) (old new : KeySetParts)
       (sym (ap (λ s. phase_of s roll) m.rolls) ∙ spreads, tt)
   phase-before (keyset.StartRoll r olds news now) m no_start =
       unmoved r (Some Propagation1) m.rolls (λ e t. no_start olds news now
-      (ap (λ r. keyset.StartRoll r olds news now) (same-true r roll t)))
+      (ap (λ r. keyset.StartRoll r olds news now) (same-is r roll t)))
   phase-before (keyset.Report r First ttl now) m no_start =
       unmoved r (Some (CacheExpire1 ttl)) m.rolls (λ e t. cc)
   phase-before (keyset.Report r Second ttl now) m no_start =

@@ -6,7 +6,7 @@ use Rattle.std.specs.Option.{option_map}
 use Rattle.std.specs.FinMap.{get}
 use Rattle.std.specs.Cmp.Lexicographic.{bytes_decides}
 use Rattle.std.specs.Str.{bytes_eq}
-use Rattle.std.proofs.lemmas.Bool.{true≢false, and_parts}
+use Rattle.std.proofs.lemmas.Bool.{true≢false, and_parts, not-true}
 use Rattle.std.proofs.lemmas.Option.{same_Some, none-some}
 use Rattle.dnssec_key.specs.declared.roll.RollType.{RollType}
 use Rattle.dnssec_key.specs.declared.roll.RollType.TheVariants.{KskRoll, KskDoubleDsRoll}
@@ -23,41 +23,28 @@ use Rattle.dnssec_run.proofs.Chain.Tables.{written, Stamp, Visible, DsVisible, R
 use Rattle.dnssec_run.proofs.Chain.Tables.{checked}
 use Rattle.dnssec_run.proofs.Chain.Tale.{stamp_of}
 use Rattle.dnssec_run.proofs.Chain.Setters.{Harmless, harmless-alike, harmless-busy, others-idle}
-use Rattle.dnssec_keyset.proofs.Tests.{each_key, each_key-at, ◌⇒◌, mp, and-both}
+use Rattle.dnssec_keyset.proofs.Tests.{each_key, each_key-at, ◌⇒◌, mp, and-both, each_in_half}
+use Rattle.dnssec_keyset.proofs.Tests.{each_in_half-at, alike}
 use Rattle.dnssec_run.proofs.Chain.Facts.{stays, timed, stays_facts, timer, other, stays_wait}
 use Rattle.dnssec_run.proofs.Chain.Phases.{wait_stamps}
 use Rattle.dnssec_run.proofs.WholeRolls.OrderedKeys.{back}
+use Rattle.dnssec_run.proofs.Chain.RollFacts.{timed_first}
 
 -- ---- finite facts
 
 checked_table : RollType → Bool → KeyType → Bool
 checked_table r second k = checked r second k ⇒ (may_list r k && not (is_idle k))
 
-checked_all : (r : RollType) (second a b : Bool) → each_key a b (checked_table r second) ≡ true
+checked_all : (a b : Bool) → each_in_half a b checked_table ≡ true
 unfolding checked_table column
-checked_all KskRoll true a b = refl
-checked_all KskRoll false a b = refl
-checked_all KskDoubleDsRoll true a b = refl
-checked_all KskDoubleDsRoll false a b = refl
-checked_all ZskRoll true a b = refl
-checked_all ZskRoll false a b = refl
-checked_all ZskDoubleSignatureRoll true a b = refl
-checked_all ZskDoubleSignatureRoll false a b = refl
-checked_all CskRoll true a b = refl
-checked_all CskRoll false a b = refl
-checked_all AlgorithmRoll true a b = refl
-checked_all AlgorithmRoll false a b = refl
-
-not-false : (b : Bool) → not b ≡ true → b ≡ false
-not-false true e = absurd (true≢false (sym e))
-not-false false e = refl
+checked_all a b = refl
 
 pub checked_facts : (r : RollType) (second : Bool) (k : KeyType) → checked r second k ≡ true
     → (may_list r k ≡ true) × (is_idle k ≡ false)
 unfolding checked_table column
 checked_facts r second k h = let x =
-    and_parts _ _ (mp _ _ (each_key-at (checked_table r second) (checked_all r second) k) h) in
-    (x.0, not-false _ x.1)
+    and_parts _ _ (mp _ _ (each_in_half-at checked_table checked_all r second k) h) in
+    (x.0, not-true _ x.1)
 
 -- the key that a Double-Signature ZSK roll waits on in both halves
 zsk_table : KeyType → Bool
@@ -270,14 +257,6 @@ stamp-written2 RrsigVisible r now k e = ap (λ b. stamp_if b now k.timestamps.rr
 abbrev pub NoneLater : ℕ → KeySetParts → Type 0
 NoneLater t set = (q : List ℕ) (k : KeyParts) (s : Stamp) (x : ℕ) → get set.keys q ≡ Some k
     → stamp_of s k ≡ Some x → x ≤ t
-
-pub timed_first : (r : RollType) → timed r false ≡ true
-timed_first KskRoll = refl
-timed_first KskDoubleDsRoll = refl
-timed_first ZskRoll = refl
-timed_first ZskDoubleSignatureRoll = refl
-timed_first CskRoll = refl
-timed_first AlgorithmRoll = refl
 
 pub timed_second : (r : RollType) → is_zds r ≡ false → timed r true ≡ true
 timed_second KskRoll e = refl

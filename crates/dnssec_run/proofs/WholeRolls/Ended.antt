@@ -23,10 +23,10 @@ use Rattle.dnssec_keyset.specs.KeySet.{Keys as KeysBy}
 use Rattle.dnssec_keyset.specs.Start.{is_listed}
 use Rattle.dnssec_keyset.specs.Step.{is_kept_at, listed_at_start, lists_after_setting}
 use Rattle.dnssec_keyset.proofs.Flags.{SideOf, Keys, Zone, affects, ended, has_role, is_idle}
-use Rattle.dnssec_keyset.proofs.Flags.{may_list, may_start, started}
+use Rattle.dnssec_keyset.proofs.Flags.{may_start, started}
 use Rattle.dnssec_keyset.proofs.Phases.{listed_by-with_listed}
-use Rattle.dnssec_keyset.proofs.Tests.{both, both-at, each_key, each_key-at, each_roll}
-use Rattle.dnssec_keyset.proofs.Tests.{each_roll-at, alike, alike-same, ◌⇒◌, mp, and-both}
+use Rattle.dnssec_keyset.proofs.Tests.{both, both-at, each_roll, each_roll-at, ◌⇒◌, mp, and-both}
+use Rattle.dnssec_keyset.proofs.Tests.{each_listed, each_listed-at, implies}
 use Rattle.dnssec_run.specs.Plain.{is_another_signers, is_plain_setting}
 use Rattle.dnssec_run.proofs.Chain.Rolls.{same-same}
 use Rattle.dnssec_run.proofs.Chain.Setters.{Harmless, harmless-alike, others-role}
@@ -35,52 +35,14 @@ use Rattle.dnssec_run.proofs.WholeRolls.Keys.{Expiring, Idle, Phase, Spreading, 
 use Rattle.dnssec_run.proofs.WholeRolls.Keys.{each_dated, each_dated-at, in_order, orderly}
 use Rattle.dnssec_run.proofs.WholeRolls.Keys.{unseen_orderly}
 use Rattle.dnssec_run.proofs.WholeRolls.Phases.{distinct, phase_own}
-
--- ---- kinds stay
-
-role_table : SideOf → RollType → Bool → Bool → KeyType → Bool
-role_table sd r o i k = alike (has_role sd (ended r o i k)) (has_role sd k)
-
-role_all : (sd : SideOf) (a b : Bool)
-    → each_roll (λ r. both (λ o. both (λ i. each_key a b (role_table sd r o i)))) ≡ true
-unfolding role_table column
-role_all Keys a b = refl
-role_all Zone a b = refl
-
-pub role_ended : (sd : SideOf) (r : RollType) (o i : Bool) (k : KeyType)
-    → has_role sd (ended r o i k) ≡ has_role sd k
-unfolding role_table
-role_ended sd r o i k = alike-same _ _ (each_key-at (role_table sd r o i) (λ a b.
-    both-at (λ i. each_key a b (role_table sd r o i))
-    (both-at (λ o. both (λ i. each_key a b (role_table sd r o i)))
-    (each_roll-at (λ r. both (λ o. both (λ i. each_key a b (role_table sd r o i))))
-    (role_all sd a b) r) o) i) k)
-
-list_table : RollType → RollType → Bool → Bool → KeyType → Bool
-list_table q r o i k = alike (may_list q (ended r o i k)) (may_list q k)
-
-list_all : (a b : Bool) → each_roll (λ q. each_roll (λ r.
-    both (λ o. both (λ i. each_key a b (list_table q r o i))))) ≡ true
-unfolding list_table column
-list_all a b = refl
-
-pub list_ended : (q r : RollType) (o i : Bool) (k : KeyType)
-    → may_list q (ended r o i k) ≡ may_list q k
-unfolding list_table
-list_ended q r o i k = alike-same _ _ (each_key-at (list_table q r o i) (λ a b.
-    both-at (λ i. each_key a b (list_table q r o i))
-    (both-at (λ o. both (λ i. each_key a b (list_table q r o i)))
-    (each_roll-at (λ r. both (λ o. both (λ i. each_key a b (list_table q r o i))))
-    (each_roll-at (λ q. each_roll (λ r. both (λ o. both (λ i. each_key a b (list_table q r o i)))))
-    (list_all a b) q) r) o) i) k)
+use Rattle.dnssec_run.proofs.Chain.EarlyEnds.{role-ended}
 
 -- ---- flags
 
 idle_table : RollType → Bool → Bool → KeyType → Bool
 idle_table r o i k = is_idle k ⇒ is_idle (ended r o i k)
 
-idle_all : (a b : Bool)
-    → each_roll (λ r. both (λ o. both (λ i. each_key a b (idle_table r o i)))) ≡ true
+idle_all : (a b : Bool) → each_listed a b idle_table ≡ true
 unfolding idle_table column
 idle_all a b = refl
 
@@ -88,11 +50,7 @@ idle_all a b = refl
 idle_ended : (r : RollType) (o i : Bool) (k : KeyType) → is_idle k ≡ true
     → is_idle (ended r o i k) ≡ true
 unfolding idle_table
-idle_ended r o i k = mp _ _ (each_key-at (idle_table r o i) (λ a b.
-    both-at (λ i. each_key a b (idle_table r o i))
-    (both-at (λ o. both (λ i. each_key a b (idle_table r o i)))
-    (each_roll-at (λ r. both (λ o. both (λ i. each_key a b (idle_table r o i))))
-    (idle_all a b) r) o) i) k)
+idle_ended r o i k = mp _ _ (each_listed-at idle_table idle_all r o i k)
 
 -- in order on the sides of a roll that may start
 abbrev may_begin : RollType → KeyType → Bool → Bool → Bool → Bool
@@ -103,21 +61,11 @@ undone_table : SideOf → RollType → Bool → Bool → Bool → Bool → Bool 
 undone_table sd r o i v d g k = (affects sd r && may_start r o i k && may_begin r k v d g)
     ⇒ orderly sd Idle (ended r (o && all_states is_kept k) i (started r o i k)) v d g
 
-undone_all : (sd : SideOf) (r : RollType) (a b : Bool)
-    → both (λ o. both (λ i. each_dated a b (undone_table sd r o i))) ≡ true
+undone_all : (sd : SideOf) (a b : Bool)
+    → each_roll (λ r. both (λ o. both (λ i. each_dated a b (undone_table sd r o i)))) ≡ true
 unfolding undone_table column
-undone_all Keys KskRoll a b = refl
-undone_all Keys KskDoubleDsRoll a b = refl
-undone_all Keys ZskRoll a b = refl
-undone_all Keys ZskDoubleSignatureRoll a b = refl
-undone_all Keys CskRoll a b = refl
-undone_all Keys AlgorithmRoll a b = refl
-undone_all Zone KskRoll a b = refl
-undone_all Zone KskDoubleDsRoll a b = refl
-undone_all Zone ZskRoll a b = refl
-undone_all Zone ZskDoubleSignatureRoll a b = refl
-undone_all Zone CskRoll a b = refl
-undone_all Zone AlgorithmRoll a b = refl
+undone_all Keys a b = refl
+undone_all Zone a b = refl
 
 -- an early end undoes the start: what was old already stays so
 pub undone_orderly : (sd : SideOf) (r : RollType) (o i : Bool) (k : KeyType) (v d g : Bool)
@@ -128,14 +76,11 @@ unfolding undone_table
 undone_orderly sd r o i k v d g own may fit =
     mp _ _ (each_dated-at (undone_table sd r o i) (λ a b.
     both-at (λ i. each_dated a b (undone_table sd r o i))
-    (both-at (λ o. both (λ i. each_dated a b (undone_table sd r o i))) (undone_all sd r a b) o)
-    i) v d g k)
+    (both-at (λ o. both (λ i. each_dated a b (undone_table sd r o i)))
+    (each_roll-at (λ r. both (λ o. both (λ i. each_dated a b (undone_table sd r o i))))
+    (undone_all sd a b) r) o) i) v d g k)
     (and-both _ _ (and-both _ _ own may)
     (and-both _ _ (implies _ _ (fit Keys)) (implies _ _ (fit Zone))))
-  where
-    implies : (a b : Bool) → (a ≡ true → b ≡ true) → (a ⇒ b) ≡ true
-    implies true b h = h refl
-    implies false b h = refl
 
 -- ---- lists
 
@@ -240,7 +185,7 @@ pub can_end-unseen : (sd : SideOf) (ph : Phase) (q : List ℕ) (a : Lists) (k : 
 can_end-unseen sd Idle q a k e = refl
 can_end-unseen sd (Spreading true r) q a k e = refl
 can_end-unseen sd (Spreading false r) q a k e =
-    unseen_orderly sd Idle _ _ _ _ (role_ended sd r _ _ k.keytype ∙ e)
+    unseen_orderly sd Idle _ _ _ _ (role-ended sd r _ _ k.keytype ∙ e)
 can_end-unseen sd (Expiring second r) q a k e = refl
 
 pub can_end-idle : (sd : SideOf) (ph : Phase) (q : List ℕ) (a : Lists) (k : KeyParts)
@@ -260,7 +205,7 @@ can_end-harmless sd (Spreading false r) q a k j h =
     let i = is_listed (listed_by a r).news q in
     harmless-alike (λ t. orderly sd Idle (ended r o i t) (is_some j.timestamps.visible)
     (is_some j.timestamps.ds_visible) (is_some j.timestamps.rrsig_visible)) true
-    (λ t other. unseen_orderly sd Idle _ _ _ _ (role_ended sd r o i t ∙ others-role sd t other))
+    (λ t other. unseen_orderly sd Idle _ _ _ _ (role-ended sd r o i t ∙ others-role sd t other))
     k j h
     ∙ (λ x. orderly sd Idle (ended r o i k.keytype) (is_some (h.stamps Visible x))
     (is_some (h.stamps DsVisible x)) (is_some (h.stamps RrsigVisible x)))

@@ -31,12 +31,12 @@ use Rattle.dnssec_keyset.specs.Step as keyset
 use Rattle.dnssec_keyset.proofs.Flags.{is_stale, may_list, tolerates, waited1, waited2}
 use Rattle.dnssec_run.proofs.Chain.Tale.{start-parts}
 use Rattle.dnssec_run.proofs.Chain.Facts.{other}
-use Rattle.dnssec_run.proofs.Chain.Rolls.{same-true}
 use Rattle.dnssec_run.proofs.Chain.Allowed.{can_start, clear_cause, waits_in_phase}
 use Rattle.dnssec_run.proofs.WholeRolls.Listed.{new_facts, newly, old_start, old_wait, oldly}
 use Rattle.dnssec_run.proofs.WholeRolls.OrderedKeys.{back}
 use Rattle.dnssec_run.proofs.WholeRolls.Order.{is_calm, world_of}
 use Rattle.dnssec_run.proofs.WholeRolls.Phases.{put_aside, put_there, roll_now, split_by}
+use Rattle.dnssec_keyset.proofs.Laws.{same-is}
 
 -- ---- one call while the roll is in progress
 
@@ -80,7 +80,7 @@ module _ (roll : RollType) (old new : KeySetParts) where
       ends_beside : (p : RollType) → keyset.verdict old (keyset.AbortRoll p) ≡ keyset.Clear
           → (end_of (keyset.AbortRoll p) ≡ Some roll → ⊥) → tolerates p roll ≡ true
       ends_beside p v not_end = elim (split_by (same_roll p roll)) [
-        | inl t ↦ absurd (not_end (ap Some (same-true p roll t)))
+        | inl t ↦ absurd (not_end (ap Some (same-is p roll t)))
         | inr t ↦ beside p Propagation1 (ends_early _ (clear_cause _ v)) t
       ]
 
@@ -180,7 +180,7 @@ module _ (roll : RollType) (old new : KeySetParts) where
               after_wait p First now k,
               m.keys q
                   ∙ ap (option_map (after_wait p First now)) e,
-              ap (λ p. newly roll (waited1 p k.keytype)) (same-true p roll t)
+              ap (λ p. newly roll (waited1 p k.keytype)) (same-is p roll t)
                   ∙ (new_facts roll k.keytype w).first,
             )
             | inr t ↦ let f = waits_in_phase p false now (world_of old) v in (
@@ -196,7 +196,7 @@ module _ (roll : RollType) (old new : KeySetParts) where
               after_wait p Second now k,
               m.keys q
                   ∙ ap (option_map (after_wait p Second now)) e,
-              ap (λ p. newly roll (waited2 p k.keytype)) (same-true p roll t)
+              ap (λ p. newly roll (waited2 p k.keytype)) (same-is p roll t)
                   ∙ (new_facts roll k.keytype w).second,
             )
             | inr t ↦ let f = waits_in_phase p true now (world_of old) v in (
@@ -235,10 +235,10 @@ module _ (roll : RollType) (old new : KeySetParts) where
       still (keyset.Report p half ttl now) m not_end = still-roll p _ m.rolls
       still (keyset.Wait p half now) m not_end = still-roll p _ m.rolls
       still (keyset.RollDone p) m not_end = elim (split_by (same_roll p roll)) [
-        | inl t ↦ absurd (not_end (ap Some (same-true p roll t)))
+        | inl t ↦ absurd (not_end (ap Some (same-is p roll t)))
         | inr t ↦ (x, put_aside old.rolls new.rolls p None roll m.rolls t ∙ going)
       ]
       still (keyset.AbortRoll p) m not_end = elim (split_by (same_roll p roll)) [
-        | inl t ↦ absurd (not_end (ap Some (same-true p roll t)))
+        | inl t ↦ absurd (not_end (ap Some (same-is p roll t)))
         | inr t ↦ (x, put_aside old.rolls new.rolls p None roll m.rolls t ∙ going)
       ]

@@ -7,9 +7,9 @@ use Rattle.dnssec_keyset.proofs.Flags.{SideOf, Keys, Zone, affects, started, wai
 use Rattle.dnssec_keyset.proofs.Flags.{Stage, Quiet, Early, Late, fits, may_start, has_role}
 use Rattle.dnssec_keyset.proofs.Flags.{is_idle}
 use Rattle.dnssec_key.specs.declared.roll.RollType.{RollType}
-use Rattle.dnssec_key.specs.declared.roll.RollType.TheVariants.{KskRoll, KskDoubleDsRoll}
-use Rattle.dnssec_key.specs.declared.roll.RollType.TheVariants.{ZskRoll, ZskDoubleSignatureRoll}
-use Rattle.dnssec_key.specs.declared.roll.RollType.TheVariants.{CskRoll, AlgorithmRoll}
+use Rattle.dnssec_key.specs.declared.roll.RollType.TheVariants.{KskDoubleDsRoll}
+use Rattle.dnssec_key.specs.declared.roll.RollType.TheVariants.{ZskDoubleSignatureRoll}
+use Rattle.dnssec_key.specs.declared.roll.RollType.TheVariants.{AlgorithmRoll}
 use Rattle.dnssec_key.specs.declared.kind.KeyType.{KeyType}
 use Rattle.dnssec_key.specs.declared.kind.KeyType.TheVariants.{Ksk, Zsk, Csk}
 use Rattle.dnssec_key.specs.State.{Flags, kept_present, kept_at_parent, old_present}
@@ -19,12 +19,34 @@ use Rattle.dnssec_run.specs.WholeRolls.{each_role, is_settled_ksk, is_settled_zs
 use Rattle.dnssec_run.proofs.Chain.Tables.{written, Stamp, Visible, DsVisible, RrsigVisible, read}
 use Rattle.dnssec_run.proofs.Chain.Tables.{checked}
 use Rattle.dnssec_keyset.proofs.Tests.{both, both-at, each_key, each_key-at, ◌⇒◌, mp, and-both}
+use Rattle.dnssec_keyset.proofs.Tests.{each_roll, each_roll-at, implies}
 
 -- where a side is in its roll, if any; the second half is true
 pub data Phase : Type 0 where
   Idle : Phase
   Spreading : Bool → RollType → Phase
   Expiring : Bool → RollType → Phase
+
+-- a test of all phases
+abbrev pub each_phase : (Phase → Bool) → Bool
+each_phase p = p Idle && each_roll (λ r. both (λ second. p (Spreading second r)))
+    && each_roll (λ r. both (λ second. p (Expiring second r)))
+
+phase_parts : (p : Phase → Bool) → each_phase p ≡ true → (p Idle ≡ true)
+    × (each_roll (λ r. both (λ second. p (Spreading second r))) ≡ true)
+    × (each_roll (λ r. both (λ second. p (Expiring second r))) ≡ true)
+phase_parts p e =
+    let x = and_parts (p Idle && each_roll (λ r. both (λ second. p (Spreading second r))))
+        (each_roll (λ r. both (λ second. p (Expiring second r)))) e in
+    let y = and_parts (p Idle) (each_roll (λ r. both (λ second. p (Spreading second r)))) x.0 in
+    (y.0, y.1, x.1)
+
+pub each_phase-at : (p : Phase → Bool) → each_phase p ≡ true → (ph : Phase) → p ph ≡ true
+each_phase-at p e Idle = (phase_parts p e).0
+each_phase-at p e (Spreading second r) = both-at (λ second. p (Spreading second r))
+    (each_roll-at (λ r. both (λ second. p (Spreading second r))) (phase_parts p e).1 r) second
+each_phase-at p e (Expiring second r) = both-at (λ second. p (Expiring second r))
+    (each_roll-at (λ r. both (λ second. p (Expiring second r))) (phase_parts p e).2 r) second
 
 abbrev pub stage_in : Phase → Stage
 stage_in Idle = Quiet
@@ -104,57 +126,11 @@ start_table : SideOf → RollType → Bool → Bool → Bool → Bool → Bool �
 start_table sd r o i v d g k = (affects sd r && may_start r o i k && orderly sd Idle k v d g)
     ⇒ dated sd (Spreading false r) (started r o i k) v d g
 
-start_all : (sd : SideOf) (r : RollType) (o i a b : Bool)
-    → each_dated a b (start_table sd r o i) ≡ true
+start_all : (sd : SideOf) (a b : Bool)
+    → each_roll (λ r. both (λ o. both (λ i. each_dated a b (start_table sd r o i)))) ≡ true
 unfolding start_table column
-start_all Keys KskRoll true true a b = refl
-start_all Keys KskRoll true false a b = refl
-start_all Keys KskRoll false true a b = refl
-start_all Keys KskRoll false false a b = refl
-start_all Keys KskDoubleDsRoll true true a b = refl
-start_all Keys KskDoubleDsRoll true false a b = refl
-start_all Keys KskDoubleDsRoll false true a b = refl
-start_all Keys KskDoubleDsRoll false false a b = refl
-start_all Keys ZskRoll true true a b = refl
-start_all Keys ZskRoll true false a b = refl
-start_all Keys ZskRoll false true a b = refl
-start_all Keys ZskRoll false false a b = refl
-start_all Keys ZskDoubleSignatureRoll true true a b = refl
-start_all Keys ZskDoubleSignatureRoll true false a b = refl
-start_all Keys ZskDoubleSignatureRoll false true a b = refl
-start_all Keys ZskDoubleSignatureRoll false false a b = refl
-start_all Keys CskRoll true true a b = refl
-start_all Keys CskRoll true false a b = refl
-start_all Keys CskRoll false true a b = refl
-start_all Keys CskRoll false false a b = refl
-start_all Keys AlgorithmRoll true true a b = refl
-start_all Keys AlgorithmRoll true false a b = refl
-start_all Keys AlgorithmRoll false true a b = refl
-start_all Keys AlgorithmRoll false false a b = refl
-start_all Zone KskRoll true true a b = refl
-start_all Zone KskRoll true false a b = refl
-start_all Zone KskRoll false true a b = refl
-start_all Zone KskRoll false false a b = refl
-start_all Zone KskDoubleDsRoll true true a b = refl
-start_all Zone KskDoubleDsRoll true false a b = refl
-start_all Zone KskDoubleDsRoll false true a b = refl
-start_all Zone KskDoubleDsRoll false false a b = refl
-start_all Zone ZskRoll true true a b = refl
-start_all Zone ZskRoll true false a b = refl
-start_all Zone ZskRoll false true a b = refl
-start_all Zone ZskRoll false false a b = refl
-start_all Zone ZskDoubleSignatureRoll true true a b = refl
-start_all Zone ZskDoubleSignatureRoll true false a b = refl
-start_all Zone ZskDoubleSignatureRoll false true a b = refl
-start_all Zone ZskDoubleSignatureRoll false false a b = refl
-start_all Zone CskRoll true true a b = refl
-start_all Zone CskRoll true false a b = refl
-start_all Zone CskRoll false true a b = refl
-start_all Zone CskRoll false false a b = refl
-start_all Zone AlgorithmRoll true true a b = refl
-start_all Zone AlgorithmRoll true false a b = refl
-start_all Zone AlgorithmRoll false true a b = refl
-start_all Zone AlgorithmRoll false false a b = refl
+start_all Keys a b = refl
+start_all Zone a b = refl
 
 pub start_orderly : (sd : SideOf) (r : RollType) (o i : Bool) (k : KeyType) (v d g : Bool)
     → affects sd r ≡ true → may_start r o i k ≡ true → orderly sd Idle k v d g ≡ true
@@ -162,7 +138,11 @@ pub start_orderly : (sd : SideOf) (r : RollType) (o i : Bool) (k : KeyType) (v d
 unfolding start_table column
 start_orderly sd r o i k v d g own may fit = and-both _ _
     (start-fits sd r o i k own may (fits_of sd Idle k v d g fit))
-    (mp _ _ (each_dated-at (start_table sd r o i) (start_all sd r o i) v d g k)
+    (mp _ _ (each_dated-at (start_table sd r o i) (λ a b.
+    both-at (λ i. each_dated a b (start_table sd r o i))
+    (both-at (λ o. both (λ i. each_dated a b (start_table sd r o i)))
+    (each_roll-at (λ r. both (λ o. both (λ i. each_dated a b (start_table sd r o i))))
+    (start_all sd a b) r) o) i) v d g k)
     (and-both _ _ (and-both _ _ own may) fit))
 
 -- ---- the reports
@@ -177,33 +157,11 @@ report_table sd r second v d g k = (affects sd r && orderly sd (Spreading second
     dated sd (Expiring second r) k (written Visible r second k || v)
     (written DsVisible r second k || d) (written RrsigVisible r second k || g)
 
-report_all : (sd : SideOf) (r : RollType) (second a b : Bool)
-    → each_dated a b (report_table sd r second) ≡ true
+report_all : (sd : SideOf) (a b : Bool)
+    → each_roll (λ r. both (λ second. each_dated a b (report_table sd r second))) ≡ true
 unfolding report_table column
-report_all Keys KskRoll true a b = refl
-report_all Keys KskRoll false a b = refl
-report_all Keys KskDoubleDsRoll true a b = refl
-report_all Keys KskDoubleDsRoll false a b = refl
-report_all Keys ZskRoll true a b = refl
-report_all Keys ZskRoll false a b = refl
-report_all Keys ZskDoubleSignatureRoll true a b = refl
-report_all Keys ZskDoubleSignatureRoll false a b = refl
-report_all Keys CskRoll true a b = refl
-report_all Keys CskRoll false a b = refl
-report_all Keys AlgorithmRoll true a b = refl
-report_all Keys AlgorithmRoll false a b = refl
-report_all Zone KskRoll true a b = refl
-report_all Zone KskRoll false a b = refl
-report_all Zone KskDoubleDsRoll true a b = refl
-report_all Zone KskDoubleDsRoll false a b = refl
-report_all Zone ZskRoll true a b = refl
-report_all Zone ZskRoll false a b = refl
-report_all Zone ZskDoubleSignatureRoll true a b = refl
-report_all Zone ZskDoubleSignatureRoll false a b = refl
-report_all Zone CskRoll true a b = refl
-report_all Zone CskRoll false a b = refl
-report_all Zone AlgorithmRoll true a b = refl
-report_all Zone AlgorithmRoll false a b = refl
+report_all Keys a b = refl
+report_all Zone a b = refl
 
 pub report_orderly : (sd : SideOf) (r : RollType) (second : Bool) (k : KeyType) (v d g : Bool)
     → affects sd r ≡ true → orderly sd (Spreading second r) k v d g ≡ true
@@ -213,7 +171,10 @@ unfolding report_table column
 report_orderly sd r second k v d g own fit = and-both _ _
     (ap (λ st. fits sd st k) (sym (same-stage second r))
     ∙ fits_of sd (Spreading second r) k v d g fit)
-    (mp _ _ (each_dated-at (report_table sd r second) (report_all sd r second) v d g k)
+    (mp _ _ (each_dated-at (report_table sd r second) (λ a b.
+    both-at (λ second. each_dated a b (report_table sd r second))
+    (each_roll-at (λ r. both (λ second. each_dated a b (report_table sd r second)))
+    (report_all sd a b) r) second) v d g k)
     (and-both _ _ own fit))
 
 -- ---- the waits
@@ -222,20 +183,10 @@ wait1_table : SideOf → RollType → Bool → Bool → Bool → KeyType → Boo
 wait1_table sd r v d g k = (affects sd r && orderly sd (Expiring false r) k v d g)
     ⇒ dated sd (Spreading true r) (waited1 r k) v d g
 
-wait1_all : (sd : SideOf) (r : RollType) (a b : Bool) → each_dated a b (wait1_table sd r) ≡ true
+wait1_all : (sd : SideOf) (a b : Bool) → each_roll (λ r. each_dated a b (wait1_table sd r)) ≡ true
 unfolding wait1_table column
-wait1_all Keys KskRoll a b = refl
-wait1_all Keys KskDoubleDsRoll a b = refl
-wait1_all Keys ZskRoll a b = refl
-wait1_all Keys ZskDoubleSignatureRoll a b = refl
-wait1_all Keys CskRoll a b = refl
-wait1_all Keys AlgorithmRoll a b = refl
-wait1_all Zone KskRoll a b = refl
-wait1_all Zone KskDoubleDsRoll a b = refl
-wait1_all Zone ZskRoll a b = refl
-wait1_all Zone ZskDoubleSignatureRoll a b = refl
-wait1_all Zone CskRoll a b = refl
-wait1_all Zone AlgorithmRoll a b = refl
+wait1_all Keys a b = refl
+wait1_all Zone a b = refl
 
 pub wait1_orderly : (sd : SideOf) (r : RollType) (k : KeyType) (v d g : Bool) → affects sd r ≡ true
     → orderly sd (Expiring false r) k v d g ≡ true
@@ -243,97 +194,46 @@ pub wait1_orderly : (sd : SideOf) (r : RollType) (k : KeyType) (v d g : Bool) �
 unfolding wait1_table column
 wait1_orderly sd r k v d g own fit =
     and-both _ _ (wait1-fits sd r k own (fits_of sd (Expiring false r) k v d g fit))
-    (mp _ _ (each_dated-at (wait1_table sd r) (wait1_all sd r) v d g k) (and-both _ _ own fit))
+    (mp _ _ (each_dated-at (wait1_table sd r)
+    (λ a b. each_roll-at (λ r. each_dated a b (wait1_table sd r)) (wait1_all sd a b) r) v d g k)
+    (and-both _ _ own fit))
 
 wait2_table : SideOf → RollType → Bool → Bool → Bool → KeyType → Bool
 wait2_table sd r v d g k = (affects sd r && orderly sd (Expiring true r) k v d g)
     ⇒ dated sd Idle (waited2 r k) v d g
 
-wait2_all : (sd : SideOf) (r : RollType) (a b : Bool) → each_dated a b (wait2_table sd r) ≡ true
+wait2_all : (sd : SideOf) (a b : Bool) → each_roll (λ r. each_dated a b (wait2_table sd r)) ≡ true
 unfolding wait2_table column
-wait2_all Keys KskRoll a b = refl
-wait2_all Keys KskDoubleDsRoll a b = refl
-wait2_all Keys ZskRoll a b = refl
-wait2_all Keys ZskDoubleSignatureRoll a b = refl
-wait2_all Keys CskRoll a b = refl
-wait2_all Keys AlgorithmRoll a b = refl
-wait2_all Zone KskRoll a b = refl
-wait2_all Zone KskDoubleDsRoll a b = refl
-wait2_all Zone ZskRoll a b = refl
-wait2_all Zone ZskDoubleSignatureRoll a b = refl
-wait2_all Zone CskRoll a b = refl
-wait2_all Zone AlgorithmRoll a b = refl
+wait2_all Keys a b = refl
+wait2_all Zone a b = refl
 
 pub wait2_orderly : (sd : SideOf) (r : RollType) (k : KeyType) (v d g : Bool) → affects sd r ≡ true
     → orderly sd (Expiring true r) k v d g ≡ true → orderly sd Idle (waited2 r k) v d g ≡ true
 unfolding wait2_table column
 wait2_orderly sd r k v d g own fit =
     and-both _ _ (wait2-fits sd r k own (fits_of sd (Expiring true r) k v d g fit))
-    (mp _ _ (each_dated-at (wait2_table sd r) (wait2_all sd r) v d g k) (and-both _ _ own fit))
+    (mp _ _ (each_dated-at (wait2_table sd r)
+    (λ a b. each_roll-at (λ r. each_dated a b (wait2_table sd r)) (wait2_all sd a b) r) v d g k)
+    (and-both _ _ own fit))
 
 -- ---- keys in no use
 
 blank_table : SideOf → Phase → Bool → Bool → Bool → KeyType → Bool
 blank_table sd ph v d g k = is_idle k ⇒ dated sd ph k v d g
 
-blank_all : (sd : SideOf) (ph : Phase) (a b : Bool) → each_dated a b (blank_table sd ph) ≡ true
+blank_all : (sd : SideOf) (a b : Bool)
+    → each_phase (λ ph. each_dated a b (blank_table sd ph)) ≡ true
 unfolding blank_table column
-blank_all Keys Idle a b = refl
-blank_all Keys (Spreading true KskRoll) a b = refl
-blank_all Keys (Spreading true KskDoubleDsRoll) a b = refl
-blank_all Keys (Spreading true ZskRoll) a b = refl
-blank_all Keys (Spreading true ZskDoubleSignatureRoll) a b = refl
-blank_all Keys (Spreading true CskRoll) a b = refl
-blank_all Keys (Spreading true AlgorithmRoll) a b = refl
-blank_all Keys (Spreading false KskRoll) a b = refl
-blank_all Keys (Spreading false KskDoubleDsRoll) a b = refl
-blank_all Keys (Spreading false ZskRoll) a b = refl
-blank_all Keys (Spreading false ZskDoubleSignatureRoll) a b = refl
-blank_all Keys (Spreading false CskRoll) a b = refl
-blank_all Keys (Spreading false AlgorithmRoll) a b = refl
-blank_all Keys (Expiring true KskRoll) a b = refl
-blank_all Keys (Expiring true KskDoubleDsRoll) a b = refl
-blank_all Keys (Expiring true ZskRoll) a b = refl
-blank_all Keys (Expiring true ZskDoubleSignatureRoll) a b = refl
-blank_all Keys (Expiring true CskRoll) a b = refl
-blank_all Keys (Expiring true AlgorithmRoll) a b = refl
-blank_all Keys (Expiring false KskRoll) a b = refl
-blank_all Keys (Expiring false KskDoubleDsRoll) a b = refl
-blank_all Keys (Expiring false ZskRoll) a b = refl
-blank_all Keys (Expiring false ZskDoubleSignatureRoll) a b = refl
-blank_all Keys (Expiring false CskRoll) a b = refl
-blank_all Keys (Expiring false AlgorithmRoll) a b = refl
-blank_all Zone Idle a b = refl
-blank_all Zone (Spreading true KskRoll) a b = refl
-blank_all Zone (Spreading true KskDoubleDsRoll) a b = refl
-blank_all Zone (Spreading true ZskRoll) a b = refl
-blank_all Zone (Spreading true ZskDoubleSignatureRoll) a b = refl
-blank_all Zone (Spreading true CskRoll) a b = refl
-blank_all Zone (Spreading true AlgorithmRoll) a b = refl
-blank_all Zone (Spreading false KskRoll) a b = refl
-blank_all Zone (Spreading false KskDoubleDsRoll) a b = refl
-blank_all Zone (Spreading false ZskRoll) a b = refl
-blank_all Zone (Spreading false ZskDoubleSignatureRoll) a b = refl
-blank_all Zone (Spreading false CskRoll) a b = refl
-blank_all Zone (Spreading false AlgorithmRoll) a b = refl
-blank_all Zone (Expiring true KskRoll) a b = refl
-blank_all Zone (Expiring true KskDoubleDsRoll) a b = refl
-blank_all Zone (Expiring true ZskRoll) a b = refl
-blank_all Zone (Expiring true ZskDoubleSignatureRoll) a b = refl
-blank_all Zone (Expiring true CskRoll) a b = refl
-blank_all Zone (Expiring true AlgorithmRoll) a b = refl
-blank_all Zone (Expiring false KskRoll) a b = refl
-blank_all Zone (Expiring false KskDoubleDsRoll) a b = refl
-blank_all Zone (Expiring false ZskRoll) a b = refl
-blank_all Zone (Expiring false ZskDoubleSignatureRoll) a b = refl
-blank_all Zone (Expiring false CskRoll) a b = refl
-blank_all Zone (Expiring false AlgorithmRoll) a b = refl
+blank_all Keys a b = refl
+blank_all Zone a b = refl
 
 pub blank_orderly : (sd : SideOf) (ph : Phase) (k : KeyType) (v d g : Bool) → is_idle k ≡ true
     → orderly sd ph k v d g ≡ true
 unfolding blank_table column
 blank_orderly sd ph k v d g e = and-both _ _ (idle-fits sd (stage_in ph) k e)
-    (mp _ _ (each_dated-at (blank_table sd ph) (blank_all sd ph) v d g k) e)
+    (mp _ _ (each_dated-at (blank_table sd ph)
+    (λ a b. each_phase-at (λ ph. each_dated a b (blank_table sd ph)) (blank_all sd a b) ph)
+    v d g k) e)
 
 pub unseen_orderly : (sd : SideOf) (ph : Phase) (k : KeyType) (v d g : Bool) → has_role sd k ≡ false
     → orderly sd ph k v d g ≡ true
@@ -365,20 +265,10 @@ stamp_table r second v d g k =
     (checked r second k && can_tell Keys r second k v d g && can_tell Zone r second k v d g)
     ⇒ has (read r second) v d g
 
-stamp_all : (r : RollType) (second a b : Bool) → each_dated a b (stamp_table r second) ≡ true
+stamp_all : (a b : Bool)
+    → each_roll (λ r. both (λ second. each_dated a b (stamp_table r second))) ≡ true
 unfolding stamp_table column
-stamp_all KskRoll true a b = refl
-stamp_all KskRoll false a b = refl
-stamp_all KskDoubleDsRoll true a b = refl
-stamp_all KskDoubleDsRoll false a b = refl
-stamp_all ZskRoll true a b = refl
-stamp_all ZskRoll false a b = refl
-stamp_all ZskDoubleSignatureRoll true a b = refl
-stamp_all ZskDoubleSignatureRoll false a b = refl
-stamp_all CskRoll true a b = refl
-stamp_all CskRoll false a b = refl
-stamp_all AlgorithmRoll true a b = refl
-stamp_all AlgorithmRoll false a b = refl
+stamp_all a b = refl
 
 pub stamp_there : (r : RollType) (second : Bool) (k : KeyType) (v d g : Bool)
     → checked r second k ≡ true
@@ -387,9 +277,8 @@ pub stamp_there : (r : RollType) (second : Bool) (k : KeyType) (v d g : Bool)
     → has (read r second) v d g ≡ true
 unfolding stamp_table column
 stamp_there r second k v d g check x y =
-    mp _ _ (each_dated-at (stamp_table r second) (stamp_all r second) v d g k)
+    mp _ _ (each_dated-at (stamp_table r second) (λ a b.
+    both-at (λ second. each_dated a b (stamp_table r second))
+    (each_roll-at (λ r. both (λ second. each_dated a b (stamp_table r second))) (stamp_all a b) r)
+    second) v d g k)
     (and-both _ _ (and-both _ _ check (implies _ _ x)) (implies _ _ y))
-  where
-    implies : (a b : Bool) → (a ≡ true → b ≡ true) → (a ⇒ b) ≡ true
-    implies true b h = h refl
-    implies false b h = refl

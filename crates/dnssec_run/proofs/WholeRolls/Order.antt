@@ -34,13 +34,14 @@ use Rattle.dnssec_run.proofs.WholeRolls.Keys.{Idle, Spreading, blank_orderly, in
 use Rattle.dnssec_keyset.proofs.Accepted.{ends_early, finishes, spreads_first, spreads_second}
 use Rattle.dnssec_run.proofs.WholeRolls.Ended.{Alike, alike_put, alike_same, alike_set}
 use Rattle.dnssec_run.proofs.WholeRolls.Ended.{alike_without, can_end, can_end-alike, can_end-idle}
-use Rattle.dnssec_run.proofs.WholeRolls.Ended.{can_end-set, ended_key, listed_start, role_ended}
+use Rattle.dnssec_run.proofs.WholeRolls.Ended.{can_end-set, ended_key, listed_start}
 use Rattle.dnssec_run.proofs.WholeRolls.Phases.{idle_is, no_phases, others_none, phase_fits}
 use Rattle.dnssec_run.proofs.WholeRolls.Phases.{phase_is, put_aside, put_there}
 use Rattle.dnssec_run.proofs.WholeRolls.OrderedKeys.{Order, back, calm_side, harmless_key}
 use Rattle.dnssec_run.proofs.WholeRolls.OrderedKeys.{other_side, own_side, report_first}
 use Rattle.dnssec_run.proofs.WholeRolls.OrderedKeys.{report_second, start_key, undone_key}
 use Rattle.dnssec_run.proofs.WholeRolls.OrderedKeys.{wait_first, wait_second}
+use Rattle.dnssec_run.proofs.Chain.EarlyEnds.{role-ended}
 
 abbrev pub is_calm : KeySetParts → keyset.Call → Bool
 is_calm set (keyset.AddKey r k) = is_idle k.keytype
@@ -195,7 +196,7 @@ module _ (sd : SideOf) (old new : KeySetParts) where
   role_ended_early : (r : RollType) (o i : Bool) (k : KeyParts)
       → has_role sd (after_early_end r o i k).keytype ≡ has_role sd k.keytype
   role_ended_early r o i k = ap (λ (k : KeyParts). has_role sd k.keytype) (early-end-parts r o i k)
-      ∙ role_ended sd r o i k.keytype
+      ∙ role-ended sd r o i k.keytype
 
   changed_side : (c : keyset.Call) → is_calm old c ≡ true → LeavesOthers old c new
       → keyset.verdict old c ≡ keyset.Clear → keyset.Changes old c new

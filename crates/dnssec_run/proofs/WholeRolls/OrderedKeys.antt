@@ -17,7 +17,6 @@ use Rattle.dnssec_run.proofs.Chain.Tables.{written, Visible, DsVisible, RrsigVis
 use Rattle.dnssec_run.proofs.Chain.Tale.{started_key}
 use Rattle.dnssec_run.proofs.Chain.Setters.{Harmless, harmless-alike, others-role}
 use Rattle.dnssec_run.proofs.Chain.Facts.{apart}
-use Rattle.dnssec_run.proofs.Chain.Rolls.{same-true}
 use Rattle.dnssec_run.proofs.Chain.Phases.{start_stamps, wait_stamps}
 use Rattle.dnssec_run.proofs.WholeRolls.Keys.{Expiring, Idle, Phase, Spreading, in_order, orderly}
 use Rattle.dnssec_run.proofs.WholeRolls.Keys.{report_orderly, start_orderly, unseen_orderly}
@@ -27,6 +26,7 @@ use Rattle.dnssec_run.proofs.WholeRolls.Ended.{undone_orderly}
 use Rattle.dnssec_run.proofs.WholeRolls.Phases.{at_phase, distinct, here_fits, is_live, none_fits}
 use Rattle.dnssec_run.proofs.WholeRolls.Phases.{others_none, own_at, phase_fits, phase_is}
 use Rattle.dnssec_run.proofs.WholeRolls.Phases.{phase_own, put_aside, put_there}
+use Rattle.dnssec_keyset.proofs.Laws.{same-is}
 
 -- the rolls and the keys of a side are in order, and the keys stay so if its roll ends early
 pub record Order (sd : SideOf) (set : KeySetParts) : Type 0 where
@@ -76,7 +76,7 @@ module _ (sd : SideOf) (old new : KeySetParts) where
           → phase_fits (at_phase r p') q (phase_of new.rolls q) ≡ true
       at_roll q e true t = ap (phase_fits (at_phase r p') q)
           (put_there old.rolls new.rolls r (Some p') q m.rolls t)
-          ∙ ap (λ q. phase_fits (at_phase r p') q (Some p')) (sym (same-true r q t))
+          ∙ ap (λ q. phase_fits (at_phase r p') q (Some p')) (sym (same-is r q t))
           ∙ here_fits r p'
       at_roll q e false t =
           let none : phase_of old.rolls q ≡ None =

@@ -15,8 +15,9 @@ use Rattle.dnssec_keyset.specs.KeySet.{KeySetParts, Rolls, phase_of, with_phase,
 use Rattle.dnssec_keyset.specs.KeySet.{same_roll}
 use Rattle.dnssec_keyset.proofs.Phases.{phase_of-with_phase}
 use Rattle.dnssec_keyset.proofs.Flags.{SideOf, affects}
-use Rattle.dnssec_run.proofs.Chain.Rolls.{same-same, same-true}
+use Rattle.dnssec_run.proofs.Chain.Rolls.{same-same}
 use Rattle.dnssec_run.proofs.WholeRolls.Keys.{Expiring, Idle, Phase, Spreading}
+use Rattle.dnssec_keyset.proofs.Laws.{same-is}
 
 abbrev pub phase_fits : Phase → RollType → Option RollState → Bool
 phase_fits Idle _ None = true
@@ -57,25 +58,25 @@ phase_is Idle r (CacheExpire1 t) e = absurd (true≢false (sym e))
 phase_is Idle r Propagation2 e = absurd (true≢false (sym e))
 phase_is Idle r (CacheExpire2 t) e = absurd (true≢false (sym e))
 phase_is Idle r Done e = refl
-phase_is (Spreading false q) r Propagation1 e = ap (Spreading false) (same-true q r e)
+phase_is (Spreading false q) r Propagation1 e = ap (Spreading false) (same-is q r e)
 phase_is (Spreading false q) r (CacheExpire1 t) e = absurd (true≢false (sym e))
 phase_is (Spreading false q) r Propagation2 e = absurd (true≢false (sym e))
 phase_is (Spreading false q) r (CacheExpire2 t) e = absurd (true≢false (sym e))
 phase_is (Spreading false q) r Done e = absurd (true≢false (sym e))
 phase_is (Expiring false q) r Propagation1 e = absurd (true≢false (sym e))
-phase_is (Expiring false q) r (CacheExpire1 t) e = ap (Expiring false) (same-true q r e)
+phase_is (Expiring false q) r (CacheExpire1 t) e = ap (Expiring false) (same-is q r e)
 phase_is (Expiring false q) r Propagation2 e = absurd (true≢false (sym e))
 phase_is (Expiring false q) r (CacheExpire2 t) e = absurd (true≢false (sym e))
 phase_is (Expiring false q) r Done e = absurd (true≢false (sym e))
 phase_is (Spreading true q) r Propagation1 e = absurd (true≢false (sym e))
 phase_is (Spreading true q) r (CacheExpire1 t) e = absurd (true≢false (sym e))
-phase_is (Spreading true q) r Propagation2 e = ap (Spreading true) (same-true q r e)
+phase_is (Spreading true q) r Propagation2 e = ap (Spreading true) (same-is q r e)
 phase_is (Spreading true q) r (CacheExpire2 t) e = absurd (true≢false (sym e))
 phase_is (Spreading true q) r Done e = absurd (true≢false (sym e))
 phase_is (Expiring true q) r Propagation1 e = absurd (true≢false (sym e))
 phase_is (Expiring true q) r (CacheExpire1 t) e = absurd (true≢false (sym e))
 phase_is (Expiring true q) r Propagation2 e = absurd (true≢false (sym e))
-phase_is (Expiring true q) r (CacheExpire2 t) e = ap (Expiring true) (same-true q r e)
+phase_is (Expiring true q) r (CacheExpire2 t) e = ap (Expiring true) (same-is q r e)
 phase_is (Expiring true q) r Done e = absurd (true≢false (sym e))
 
 pub idle_is : (sd : SideOf) (ph : Phase) → phase_own sd ph ≡ true
@@ -140,7 +141,7 @@ pub distinct : (sd : SideOf) (r q : RollType) → affects sd r ≡ false → aff
 distinct sd r q outside inside = by (same_roll r q) refl
   where
     by : (b : Bool) → same_roll r q ≡ b → b ≡ false
-    by true e = absurd (true≢false (sym inside ∙ ap (affects sd) (sym (same-true r q e)) ∙ outside))
+    by true e = absurd (true≢false (sym inside ∙ ap (affects sd) (sym (same-is r q e)) ∙ outside))
     by false e = refl
 
 -- the phase of one roll after it was put

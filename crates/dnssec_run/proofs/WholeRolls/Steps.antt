@@ -19,7 +19,7 @@ use Rattle.dnssec_key.specs.Key.{KeyParts}
 use Rattle.dnssec_keyset.specs.Start.{is_listed}
 use Rattle.dnssec_keyset.specs.Step.{deletion_refusal}
 use Rattle.dnssec_key.specs.Setters.{set_by}
-use Rattle.dnssec_run.proofs.Chain.Rolls.{same-true, same-sym, clash}
+use Rattle.dnssec_run.proofs.Chain.Rolls.{same-sym, clash}
 use Rattle.dnssec_run.proofs.Chain.Allowed.{can_start, clear_cause, waits_in_phase}
 use Rattle.dnssec_run.proofs.Chain.OneKey.{may_by, suits}
 use Rattle.dnssec_run.proofs.Chain.Kinds.{list_start, list_waited1, list_waited2}
@@ -42,11 +42,12 @@ use Rattle.dnssec_run.proofs.WholeRolls.Reports.{data-second, is_report, same_ha
 use Rattle.dnssec_run.proofs.WholeRolls.Armed.{Beside, NoneLater, beside-alike, beside-puts}
 use Rattle.dnssec_run.proofs.WholeRolls.Armed.{beside-roll}
 use Rattle.dnssec_run.proofs.WholeRolls.Keys.{fits_of, Idle, Phase, stage_in, in_order}
-use Rattle.dnssec_run.proofs.WholeRolls.Ended.{list_ended}
 use Rattle.dnssec_run.proofs.WholeRolls.OrderedKeys.{Order}
 use Rattle.dnssec_run.proofs.WholeRolls.Order.{is_calm, world_of}
 use Rattle.dnssec_run.proofs.WholeRolls.Phases.{at_phase, idle_is, phase_fits, phase_is, put_aside}
 use Rattle.dnssec_run.proofs.WholeRolls.Phases.{put_there, roll_now, split_by}
+use Rattle.dnssec_keyset.proofs.Laws.{same-is}
+use Rattle.dnssec_run.proofs.Chain.EarlyEnds.{list-ended}
 
 -- ---- the run
 
@@ -66,13 +67,13 @@ no_report r (keyset.Report q First ttl now) h s = by (same_roll r q) refl
   where
     by : (b : Bool) → same_roll r q ≡ b → (same_roll r q && same_half s false) ≡ false
     by true t = absurd (h First ttl now
-        (ap (λ q. keyset.Report q First ttl now) (sym (same-true r q t))))
+        (ap (λ q. keyset.Report q First ttl now) (sym (same-is r q t))))
     by false t = ap (λ b. b && same_half s false) t
 no_report r (keyset.Report q Second ttl now) h s = by (same_roll r q) refl
   where
     by : (b : Bool) → same_roll r q ≡ b → (same_roll r q && same_half s true) ≡ false
     by true t = absurd (h Second ttl now
-        (ap (λ q. keyset.Report q Second ttl now) (sym (same-true r q t))))
+        (ap (λ q. keyset.Report q Second ttl now) (sym (same-is r q t))))
     by false t = ap (λ b. b && same_half s true) t
 no_report r (keyset.Wait a First c) h s = refl
 no_report r (keyset.Wait a Second c) h s = refl
@@ -133,7 +134,7 @@ module _ (entries : List Entry) (n : ℕ) (old new : KeySetParts) (ks : Order Ke
       → Beside r old new) → ((r : RollType) → same_roll p r ≡ false → (s : Bool)
       → is_report r s (position_at entries (suc n)).mark ≡ false) → Before → After
   data-roll p o rolls own beside none h r y e = elim (split_by (same_roll p r)) [
-    | inl t ↦ let same = same-true p r t in
+    | inl t ↦ let same = same-is p r t in
         subst (λ r. Data entries new (suc n) r y) same
         (own y (sym (put_there old.rolls new.rolls p o r rolls t) ∙ e))
     | inr t ↦ let was : roll_now old r ≡ Some y = sym (put_aside old.rolls new.rolls p o r rolls t)
@@ -272,7 +273,7 @@ module _ (entries : List Entry) (n : ℕ) (old new : KeySetParts) (ks : Order Ke
           let o = is_listed (listed_by old.lists r).olds x in
           let i = is_listed (listed_by old.lists r).news x in
           ap (λ (k : KeyParts). may_list q k.keytype) (early-end-parts r o i k)
-          ∙ list_ended q r o i k.keytype
+          ∙ list-ended q r o i k.keytype
   data-step (keyset.RollDone r) plain v m leaves mk mo late h =
       let was = finishes _ (clear_cause _ v) in
       data-roll r None m.rolls (λ x e. absurd (none-some x e))

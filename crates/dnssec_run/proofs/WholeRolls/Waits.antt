@@ -39,13 +39,14 @@ use Rattle.dnssec_run.proofs.WholeRolls.Reports.{Arms, Data, data-beside, is_rep
 use Rattle.dnssec_run.proofs.WholeRolls.Moments.{late-step, unstamped}
 use Rattle.dnssec_run.proofs.WholeRolls.Steps.{data-step, fits_at}
 use Rattle.dnssec_run.proofs.WholeRolls.Armed.{Armed, NoneLater, beside-same, is_zds, later-same}
-use Rattle.dnssec_run.proofs.WholeRolls.Armed.{timed_first, timed_second, zsk_reads}
+use Rattle.dnssec_run.proofs.WholeRolls.Armed.{timed_second, zsk_reads}
 use Rattle.dnssec_run.proofs.WholeRolls.Keys.{Expiring, stage_in}
 use Rattle.dnssec_run.proofs.WholeRolls.Phases.{at_phase, no_phases, roll_now, split_by}
 use Rattle.dnssec_run.proofs.WholeRolls.Positions.{in-order, no_lack, nothing_set, read_there}
 use Rattle.dnssec_run.proofs.WholeRolls.Replies.{At, at_position, marked, accepted_step}
 use Rattle.dnssec_run.proofs.WholeRolls.Replies.{refused_step}
 use Rattle.dnssec_run.proofs.WholeRolls.Verdicts.{answers}
+use Rattle.dnssec_run.proofs.Chain.RollFacts.{timed_first}
 
 -- ---- at each position
 
