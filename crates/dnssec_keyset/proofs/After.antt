@@ -6,8 +6,7 @@ use Rattle.std.specs.Prelude.{Option, if◌then◌else◌}
 use Rattle.std.specs.Option.{option_map}
 use Rattle.std.specs.Str.{bytes_eq}
 use Rattle.std.specs.Ordering.{nat_cmp, is_eq, eq_by_cmp}
-use Rattle.std.specs.Cmp.Lexicographic.{slice_cmp, nat_list_cmp_total, bytes_decides}
-use Rattle.std.specs.Cmp.Lexicographic.{nat_list_eq_equiv}
+use Rattle.std.specs.Cmp.Lexicographic.{slice_cmp, nat_list_cmp_total, nat_list_eq_equiv}
 use Rattle.dnssec_key.specs.declared.roll.RollType.{RollType}
 use Rattle.dnssec_key.specs.declared.roll.RollState.{RollState}
 use Rattle.std.specs.FinMap.{find, get, insert, remove, entries, get-entries, get-from_entries}
@@ -22,9 +21,7 @@ use Rattle.dnssec_keyset.specs.Step.{RollDone, AbortRoll, Reply, Verdict, Barred
 use Rattle.dnssec_keyset.specs.Step.{Changes, Step, StepBy, verdict, accepted_reply, after}
 use Rattle.dnssec_keyset.specs.Step.{after_reply, keys_by}
 use Rattle.dnssec_keyset.proofs.Shown.{same_keys}
-
-same_key : (q x : List ℕ) → is_eq (slice_cmp nat_cmp q x) ≡ true → q ≡ x
-same_key q x e = (bytes_decides q x).0 (sym (is_eq-slice_cmp q x) ∙ e)
+use Rattle.dnssec_keyset.proofs.Quantified.{same_key}
 
 module _ (f : List ℕ → KeyParts → KeyParts) where
   find-by : (es : List (List ℕ × KeyParts)) (q : List ℕ)

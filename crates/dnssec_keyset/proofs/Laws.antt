@@ -9,7 +9,7 @@ use Rattle.std.specs.Str.{bytes_eq}
 use Rattle.std.specs.Cmp.Lexicographic.{bytes_decides, slice_cmp}
 use Rattle.std.specs.FinMap.{get, get-empty}
 use Rattle.std.specs.Ordering.{nat_cmp}
-use Rattle.std.proofs.lemmas.Bool.{cases_Bool, eqb-true}
+use Rattle.std.proofs.lemmas.Bool.{cases_Bool, eqb-true, true≢false}
 use Rattle.std.proofs.lemmas.Bool.Decides.{nat_tests}
 use Rattle.dnssec_keyset.specs.Start.{Side}
 use Rattle.dnssec_keyset.specs.Start.{KskSide, ZskSide, BothSides}
@@ -37,8 +37,9 @@ use Rattle.dnssec_keyset.specs.Step.{RollDone, AbortRoll, Reply, Verdict, Barred
 use Rattle.dnssec_keyset.specs.Step.{Changes, Step, StepBy, add_refusal, barred_by, has_tag}
 use Rattle.dnssec_keyset.specs.Step.{report_refusal, verdict, wait_in_phase}
 use Rattle.dnssec_keyset.specs.Laws.{TagsApart, RollsTogether, in_progress}
-use Rattle.dnssec_keyset.proofs.Phases.{phase_of-with_phase}
+use Rattle.dnssec_keyset.proofs.Phases.{phase_of-with_phase, no_phases}
 use Rattle.dnssec_keyset.proofs.Quantified.{some_key-none}
+use Rattle.dnssec_keyset.proofs.Tags.{mapped}
 
 -- ---- a step changes nothing, or makes a change for which no cause stood
 
@@ -66,12 +67,6 @@ no_rest None b e = e
 no_rest (Some cause) b e = cc
 
 -- ---- tags
-
--- a value that f gives of what was there
-mapped : (o : Option KeyParts) (f : KeyParts → KeyParts) (l : KeyParts) → option_map f o ≡ Some l
-    → (k : KeyParts) × (o ≡ Some k) × (f k ≡ l)
-mapped None f l e = cc
-mapped (Some k) f l e = (k, refl, cc)
 
 module _ (old new : KeySetParts) (apart : TagsApart old.keys) where
   apart-moves : (f : List ℕ → KeyParts → KeyParts)
@@ -227,7 +222,7 @@ module _ (f : RollType → Bool) (h : list_any f all_rolls ≡ false) where
   none = six_false (f KskRoll) (f KskDoubleDsRoll) (f ZskRoll) (f ZskDoubleSignatureRoll)
       (f CskRoll) (f AlgorithmRoll) h
 
-  no_roll : (q : RollType) → f q ≡ false
+  pub no_roll : (q : RollType) → f q ≡ false
   no_roll KskRoll = none.0
   no_roll KskDoubleDsRoll = none.1
   no_roll ZskRoll = none.2
@@ -246,7 +241,7 @@ neither true b x y e = cc
 neither false true x y e = cc
 neither false false x y e = refl
 
-no_conflict : (roll : RollType) (rolls : Rolls) → conflict roll rolls ≡ None
+pub no_conflict : (roll : RollType) (rolls : Rolls) → conflict roll rolls ≡ None
     → has_conflict roll rolls ≡ false
 unfolding conflict
 no_conflict roll rolls e = neither (is_some (phase_of rolls roll)) (has_conflict roll rolls)
@@ -352,9 +347,4 @@ together-step old new call reply all h = elim (moved old new call reply h) [
 
 -- a new set has no rolls
 pub together-new : (name : List ℕ) → RollsTogether (new_set name).rolls
-together-new name KskRoll b x y = cc
-together-new name KskDoubleDsRoll b x y = cc
-together-new name ZskRoll b x y = cc
-together-new name ZskDoubleSignatureRoll b x y = cc
-together-new name CskRoll b x y = cc
-together-new name AlgorithmRoll b x y = cc
+together-new name a b x y = absurd (true≢false (sym x ∙ ap is_some (no_phases a)))

@@ -1,5 +1,5 @@
 -- The phases that a key set shows, read through the hash map that it holds.
-use Rattle.std.proofs.Common.{◌≡◌, cond, List, [], ◌∷◌, Some, refl, sym, ◌∙◌}
+use Rattle.std.proofs.Common.{◌≡◌, cond, List, [], ◌∷◌, Some, refl, sym, ◌∙◌, None, ℕ}
 use Rattle.std.specs.Prelude.{Option, nat_eq, if◌then◌else◌}
 use Rattle.std.specs.HashMap.{HashMap, get}
 use Rattle.std.specs.Map.{lookup}
@@ -9,9 +9,9 @@ use Rattle.dnssec_key.specs.declared.roll.RollType.TheVariants.{ZskDoubleSignatu
 use Rattle.dnssec_key.specs.declared.roll.RollType.TheVariants.{AlgorithmRoll}
 use Rattle.dnssec_key.specs.declared.roll.RollState.{RollState}
 use Rattle.dnssec_key.specs.contracts.roll.RollTypePartialEq.TheImpl.{eq-value}
-use Rattle.dnssec_keyset.specs.KeySet.{Listed, Lists, listed_by, with_listed}
-use Rattle.dnssec_keyset.specs.KeySet.{Rolls, same_roll, rolls_shown, phase_of, with_phase}
-use Rattle.dnssec_keyset.specs.KeySet.{roll_number}
+use Rattle.dnssec_keyset.specs.KeySet.{Listed, Lists, listed_by, with_listed, Rolls, same_roll}
+use Rattle.dnssec_keyset.specs.KeySet.{rolls_shown, phase_of, with_phase, roll_number, no_rolls}
+use Rattle.dnssec_keyset.specs.KeySet.{without, others}
 use Rattle.dnssec_key.specs.contracts.roll.RollType.{the_type}
 use denote.Enum.Declared.{tag_of}
 
@@ -49,6 +49,15 @@ phase_of-with_phase r roll phase ZskDoubleSignatureRoll = refl
 phase_of-with_phase r roll phase CskRoll = refl
 phase_of-with_phase r roll phase AlgorithmRoll = refl
 
+-- there are none at first
+pub no_phases : (q : RollType) → phase_of no_rolls q ≡ None
+no_phases KskRoll = refl
+no_phases KskDoubleDsRoll = refl
+no_phases ZskRoll = refl
+no_phases ZskDoubleSignatureRoll = refl
+no_phases CskRoll = refl
+no_phases AlgorithmRoll = refl
+
 -- the same of what is kept of starts
 pub same_lists : (a b : Lists) → ((q : RollType) → listed_by a q ≡ listed_by b q) → a ≡ b
 same_lists a b h = λ i. record {
@@ -68,6 +77,15 @@ listed_by-with_listed l roll listed ZskRoll = refl
 listed_by-with_listed l roll listed ZskDoubleSignatureRoll = refl
 listed_by-with_listed l roll listed CskRoll = refl
 listed_by-with_listed l roll listed AlgorithmRoll = refl
+
+pub listed_by-without : (r : List ℕ) (l : Lists) (roll : RollType) → listed_by (without r l) roll
+    ≡ record { olds = others r (listed_by l roll).olds; news = others r (listed_by l roll).news }
+listed_by-without r l KskRoll = refl
+listed_by-without r l KskDoubleDsRoll = refl
+listed_by-without r l ZskRoll = refl
+listed_by-without r l ZskDoubleSignatureRoll = refl
+listed_by-without r l CskRoll = refl
+listed_by-without r l AlgorithmRoll = refl
 
 module _ {S : Type 0} where
   pub phase_of-shown : (m : HashMap RollType RollState S) (roll : RollType)

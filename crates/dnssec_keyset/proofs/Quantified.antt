@@ -23,7 +23,7 @@ pub second : (a b : Bool) → T (a && b) → T b
 second true b h = h
 second false b h = absurd h
 
-not_both : (o : Ordering) → T (is_lt o) → is_eq o ≡ true → ⊥
+pub not_both : (o : Ordering) → T (is_lt o) → is_eq o ≡ true → ⊥
 not_both Less h e = cc
 not_both Equal h e = h
 not_both Greater h e = h

@@ -23,6 +23,7 @@ use Rattle.dnssec_keyset.specs.Inner.Tags.{TagsAgree, DifferInTags, HasListed, i
 use Rattle.dnssec_keyset.specs.Start.{new_entry_fault}
 use Rattle.dnssec_keyset.proofs.Quantified.{some_key-found, some_key-none}
 use Rattle.std.proofs.lemmas.Bool.{cases_Bool}
+use Rattle.std.proofs.Math.Bool.{or-true, or-false}
 
 -- a change at some references keeps the tags
 pub kept_at : (f : KeyParts → KeyParts) → ((k : KeyParts) → (f k).key_tag ≡ k.key_tag) →
@@ -47,7 +48,8 @@ kept_made (UnmarkOld roll) k = refl
 kept_made (UnmarkNew roll) k = refl
 
 -- a value that f gives of what was there
-mapped : (o : Option KeyParts) (f : KeyParts → KeyParts) (l : KeyParts) → option_map f o ≡ Some l
+pub mapped : (o : Option KeyParts) (f : KeyParts → KeyParts) (l : KeyParts)
+    → option_map f o ≡ Some l
     → (k : KeyParts) × (o ≡ Some k) × (f k ≡ l)
 mapped None f l e = cc
 mapped (Some k) f l e = (k, refl, cc)
@@ -231,20 +233,12 @@ tags-has_tag has v t agree = elim (cases_Bool (has t)) [
 
 -- ---- sets of the tags of listed keys
 
-or_true : (b : Bool) → (b || true) ≡ true
-or_true true = refl
-or_true false = refl
-
-or_false : (b : Bool) → (b || false) ≡ b
-or_false true = refl
-or_false false = refl
-
 -- one more reference, at which there is no key
 pub listed-none : (keys : Keys) (tags : List ℕ) (r : List ℕ) → get keys r ≡ None
     → (listed : List ℕ → Bool) → HasListed tags keys listed
     → HasListed tags keys (λ q. listed q || bytes_eq r q)
 listed-none keys tags r none listed old q k at =
-    old q k at ∙ sym (or_false (listed q)) ∙ ap (λ b. listed q || b) (sym other)
+    old q k at ∙ sym (or-false (listed q)) ∙ ap (λ b. listed q || b) (sym other)
   where
     other : bytes_eq r q ≡ false
     other = elim (cases_Bool (bytes_eq r q)) [
@@ -267,9 +261,10 @@ listed-put keys differ tags more r x found put listed old q k at =
           let tag : x.key_tag ≡ k.key_tag = ap (λ (o : Option KeyParts). tag_in o) one in
           let yes : nat_eq x.key_tag k.key_tag ≡ true = grind (arith, nat_tests) in
           put k.key_tag ∙ ap (λ b. if b then true else is_set tags k.key_tag) yes
-          ∙ sym (or_true (listed q)) ∙ ap (λ b. listed q || b) (sym same)
+          ∙ sym (or-true (listed q)) ∙ ap (λ b. listed q || b) (sym same)
       | inr differs ↦
-          let no : nat_eq x.key_tag k.key_tag ≡ false = elim (cases_Bool (nat_eq x.key_tag k.key_tag)) [
+          let no : nat_eq x.key_tag k.key_tag ≡ false =
+              elim (cases_Bool (nat_eq x.key_tag k.key_tag)) [
             | inl e ↦
                 let tag : x.key_tag ≡ k.key_tag = grind (arith, nat_tests) in
                 let yes : bytes_eq r q ≡ true =
@@ -277,7 +272,7 @@ listed-put keys differ tags more r x found put listed old q k at =
             | inr e ↦ e
           ] in
           put k.key_tag ∙ ap (λ b. if b then true else is_set tags k.key_tag) no
-          ∙ old q k at ∙ sym (or_false (listed q)) ∙ ap (λ b. listed q || b) (sym differs)
+          ∙ old q k at ∙ sym (or-false (listed q)) ∙ ap (λ b. listed q || b) (sym differs)
     ]
   where
     tag_in : Option KeyParts → ℕ

@@ -7,7 +7,7 @@
 use Rattle.std.proofs.Common.{◌≡◌, ℕ, zero, suc, ◌<◌, ◌≤◌, ◌⊎◌, inl, inr, Bool, true, false, refl}
 use Rattle.std.proofs.Common.{sym, ◌∙◌, ap, subst, arith, List, length, Option, None, Some}
 use Rattle.std.specs.Prelude.{◌≢◌, slice_get}
-use Rattle.std.proofs.lemmas.Bool.{true≢false, cases_lt}
+use Rattle.std.proofs.lemmas.Bool.{true≢false, cases_lt, cases_Bool}
 use Rattle.std.proofs.lemmas.Option.{same_Some, none-some, slice_get_cases}
 use Rattle.dnssec_key.specs.declared.roll.RollType.{RollType}
 use Rattle.dnssec_key.specs.declared.roll.RollType.TheVariants.{AlgorithmRoll}
@@ -22,13 +22,13 @@ use Rattle.dnssec_run.specs.declared.record.Entry.{Entry}
 use Rattle.dnssec_run.specs.Plain.{DoesAt, IsPlain, EndsNoneEarly, IsPlainByStarts, start_of}
 use Rattle.dnssec_run.specs.Plain.{early_end_of, first_wait_of}
 use Rattle.dnssec_run.specs.Record.{IsRun, call_of, is_accepted, reply_of, world_at}
-use Rattle.dnssec_run.proofs.Chain.Allowed.{can_start, clear_cause, waits_in_phase}
+use Rattle.dnssec_run.proofs.Chain.Allowed.{can_start, waits_in_phase}
 use Rattle.dnssec_run.proofs.Chain.RollFacts.{alone_first}
 use Rattle.dnssec_run.proofs.Chain.Rolls.{same-same}
 use Rattle.dnssec_run.proofs.WholeRolls.Order.{world_of}
-use Rattle.dnssec_run.proofs.WholeRolls.Phases.{put_aside, put_there, split_by}
+use Rattle.dnssec_run.proofs.WholeRolls.Phases.{put_aside, put_there}
 use Rattle.dnssec_run.proofs.WholeRolls.Replies.{accepted_step, refused_step}
-use Rattle.dnssec_keyset.proofs.Laws.{same-is}
+use Rattle.dnssec_keyset.proofs.Laws.{same-is, no_cause}
 
 -- ---- one call
 
@@ -69,35 +69,35 @@ module _ (old new : KeySetParts) where
   moves-on (keyset.DeleteKey q) v m none e =
       inr (ap (λ x. is_early (phase_of x AlgorithmRoll)) m.rolls ∙ e)
   moves-on (keyset.StartRoll r olds news now) v m none e =
-      elim (split_by (same_roll r AlgorithmRoll)) [
+      elim (cases_Bool (same_roll r AlgorithmRoll)) [
     | inl s ↦ inr (there r (Some Propagation1) m.rolls s refl)
     | inr d ↦ inr (aside r (Some Propagation1) m.rolls d e)
   ]
   moves-on (keyset.Report r First ttl now) v m none e =
-      elim (split_by (same_roll r AlgorithmRoll)) [
+      elim (cases_Bool (same_roll r AlgorithmRoll)) [
     | inl s ↦ inr (there r _ m.rolls s refl)
     | inr d ↦ inr (aside r _ m.rolls d e)
   ]
   moves-on (keyset.Report r Second ttl now) v m none e =
-      elim (split_by (same_roll r AlgorithmRoll)) [
-    | inl s ↦ absurd (not_early r _ (spreads_second _ (clear_cause _ v)) refl s e)
+      elim (cases_Bool (same_roll r AlgorithmRoll)) [
+    | inl s ↦ absurd (not_early r _ (spreads_second _ (no_cause _ v)) refl s e)
     | inr d ↦ inr (aside r _ m.rolls d e)
   ]
-  moves-on (keyset.Wait r First now) v m none e = elim (split_by (same_roll r AlgorithmRoll)) [
+  moves-on (keyset.Wait r First now) v m none e = elim (cases_Bool (same_roll r AlgorithmRoll)) [
     | inl s ↦ inl (ap Some (same-is r AlgorithmRoll s))
     | inr d ↦ inr (aside r _ m.rolls d e)
   ]
-  moves-on (keyset.Wait r Second now) v m none e = elim (split_by (same_roll r AlgorithmRoll)) [
+  moves-on (keyset.Wait r Second now) v m none e = elim (cases_Bool (same_roll r AlgorithmRoll)) [
     | inl s ↦ absurd
         (not_early r _ (waits_in_phase r true now (world_of old) v).1 refl s e)
     | inr d ↦ inr (aside r _ m.rolls d e)
   ]
-  moves-on (keyset.AbortRoll r) v m none e = elim (split_by (same_roll r AlgorithmRoll)) [
+  moves-on (keyset.AbortRoll r) v m none e = elim (cases_Bool (same_roll r AlgorithmRoll)) [
     | inl s ↦ absurd (none (ap Some (same-is r AlgorithmRoll s)))
     | inr d ↦ inr (aside r _ m.rolls d e)
   ]
-  moves-on (keyset.RollDone r) v m none e = elim (split_by (same_roll r AlgorithmRoll)) [
-    | inl s ↦ absurd (not_early r _ (finishes _ (clear_cause _ v)) refl s e)
+  moves-on (keyset.RollDone r) v m none e = elim (cases_Bool (same_roll r AlgorithmRoll)) [
+    | inl s ↦ absurd (not_early r _ (finishes _ (no_cause _ v)) refl s e)
     | inr d ↦ inr (aside r _ m.rolls d e)
   ]
 
@@ -122,7 +122,7 @@ alone set (keyset.AddKey q k) v roll s = absurd (none-some roll s)
 alone set (keyset.Set q x) v roll s = absurd (none-some roll s)
 alone set (keyset.DeleteKey q) v roll s = absurd (none-some roll s)
 alone set (keyset.StartRoll r olds news now) v roll s =
-    (can_start (world_of set) r olds news (clear_cause _ v)).alone AlgorithmRoll (alone_first r)
+    (can_start (world_of set) r olds news (no_cause _ v)).alone AlgorithmRoll (alone_first r)
 alone set (keyset.Report r h ttl now) v roll s = absurd (none-some roll s)
 alone set (keyset.Wait r h now) v roll s = absurd (none-some roll s)
 alone set (keyset.RollDone r) v roll s = absurd (none-some roll s)

@@ -1,10 +1,9 @@
 -- What a window keeps is enough, for the judge: reports by the floor, sets by spans.
 use Rattle.std.proofs.Common.{◌≡◌, ℕ, suc, ◌+◌, ◌*◌, ◌<◌, ◌≤◌, Bool, true, false, refl, sym, ◌∙◌}
-use Rattle.std.proofs.Common.{ap, arith, List, Some, ◌-◌, subst, [], ◌∷◌, length, map, get_or, cond}
-use Rattle.std.proofs.Common.{◌++◌, drop, take}
+use Rattle.std.proofs.Common.{ap, arith, List, Some, ◌-◌, [], ◌∷◌, length, map, get_or, cond, ◌++◌}
+use Rattle.std.proofs.Common.{drop, take}
 use Rattle.std.specs.Cmp.Lexicographic.{pointwise}
-use Rattle.std.specs.List.{slice_get, filter, items_where_true}
-use Rattle.std.specs.List.Retain.{IsFiltered, ReturnsInTurn}
+use Rattle.std.specs.List.{slice_get, filter}
 use Rattle.std.specs.Prelude.{if◌then◌else◌, nat_lt, max, not}
 use Rattle.std.proofs.lemmas.Bool.{ltb-false, ltb-true, true≢false}
 use Rattle.std.proofs.lemmas.List.{take_all, take_more}
@@ -16,27 +15,6 @@ use Rattle.dnssec_judge.specs.Chained.{same_id}
 use Rattle.dnssec_judge.specs.Window.{floor_with, over, Held, Tiles, Begins, GoesOnAbove, HasLast}
 use Rattle.dnssec_judge.specs.Window.{ends_below, set_of_span}
 use Rattle.dnssec_judge.proofs.Verdicts.Chains.{both, same-id}
-
--- what `retain` keeps, where its closure stays as it is
-module _ {X P : Type 0} (R : P → X → Bool → P → Type 0) (test : X → Bool) (p : P)
-    (says : (x : X) (b : Bool) (q : P) → R p x b q → (q ≡ p) × (b ≡ test x)) where
-  first_by : (x : X) (xs ys : List X) (bs : List Bool) (b t : Bool) → b ≡ t
-      → items_where_true bs xs ≡ ys → items_where_true (b ∷ bs) (x ∷ xs) ≡ cond t (x ∷ ys) ys
-  first_by x xs ys bs true t e rest = ap (λ l. x ∷ l) rest ∙ ap (λ a. cond a (x ∷ ys) ys) e
-  first_by x xs ys bs false t e rest = rest ∙ ap (λ a. cond a (x ∷ ys) ys) e
-
-  told_by : (q : P) (bs : List Bool) (xs : List X) → length bs ≡ length xs
-      → ReturnsInTurn R p bs xs q → items_where_true bs xs ≡ filter test xs
-  told_by q [] [] e h = refl
-  told_by q [] (x ∷ xs) e h = absurd (omega arith)
-  told_by q (b ∷ bs) [] e h = absurd h
-  told_by q (b ∷ bs) (x ∷ xs) e h =
-      let s = says x b h.0 h.1 in
-      first_by x xs (filter test xs) bs b (test x) s.1
-      (told_by q bs xs (omega arith) (subst (λ j. ReturnsInTurn R j bs xs q) s.0 h.2))
-
-  pub filtered : (xs ys : List X) → IsFiltered R p xs ys → ys ≡ filter test xs
-  filtered xs ys h = h.4 ∙ told_by h.1 h.0 xs h.2 h.3
 
 -- ---- reports
 

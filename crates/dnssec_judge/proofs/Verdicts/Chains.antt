@@ -11,6 +11,7 @@ use Rattle.std.proofs.lemmas.Slice.Eq.{bytes_eq-Decides}
 use Rattle.dnssec_run.specs.Published.{Id}
 use Rattle.dnssec_run.specs.Safe.{Position, TrustsKeys, TrustsZone, HasChain}
 use Rattle.dnssec_judge.specs.Chained.{same_id, is_in, trusts_keys, trusts_zone, is_none, chained}
+use Rattle.std.proofs.Math.Bool.{or-true}
 
 -- a test of what elements are
 pub list_any-map : {A B : Type 0} (p : B → Bool) (f : A → B) (xs : List A)
@@ -76,8 +77,4 @@ chain-to p q z (inl is) =
     λ i. is_none (is i) || (trusts_keys p.ds q.dnskey q.signers && trusts_zone q.dnskey z.zone)
 chain-to p q z (inr h) =
     (let x = (keys-trusted p q).1 h.0 in let y = (zone-trusted q z).1 h.1 in
-    λ i. is_none p.ds || (x i && y i)) ∙ or_true (is_none p.ds)
-  where
-    or_true : (b : Bool) → (b || true) ≡ true
-    or_true true = refl
-    or_true false = refl
+    λ i. is_none p.ds || (x i && y i)) ∙ or-true (is_none p.ds)

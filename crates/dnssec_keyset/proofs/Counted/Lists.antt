@@ -27,6 +27,7 @@ use Rattle.dnssec_keyset.specs.Inner.Counts.{bit, count, count_in, share, kept, 
 use Rattle.dnssec_keyset.proofs.Quantified.{first, second, itself, apart, below_found}
 use Rattle.dnssec_keyset.proofs.Shown.{same_keys}
 use Rattle.dnssec_keyset.proofs.Walks.{AreApart, apart_by_bytes, none_of_length}
+use Rattle.std.proofs.Math.Bool.{or-false}
 
 tied : (r q : List ℕ) → bytes_eq r q ≡ eq_by_cmp (slice_cmp nat_cmp) q r
 tied r q = nat_list_eq_equiv.symm r q ∙ sym (is_eq-slice_cmp q r)
@@ -133,10 +134,6 @@ module _ (p r : List ℕ → KeyParts → Bool) where
 
 -- ---- the keys of a list
 
-pub or_nothing : (b : Bool) → (b || false) ≡ b
-or_nothing true = refl
-or_nothing false = refl
-
 module _ (p : KeyType → Bool) where
   -- one more listed key: it counts where it passes and wasn't listed
   pub count-listed : (qs more : List (List ℕ)) (x : List ℕ) (m : Keys)
@@ -156,7 +153,7 @@ module _ (p : KeyType → Bool) where
               (p k.keytype && (is_listed qs q || b)) ≡ (p k.keytype && is_listed qs q)
           at true h = let gone : None ≡ Some k = sym (get-without m x q
               ∙ ap (λ b. if b then None else get m q) h) ∙ f in cc
-          at false h = ap (λ b. p k.keytype && b) (or_nothing (is_listed qs q))
+          at false h = ap (λ b. p k.keytype && b) (or-false (is_listed qs q))
 
       one_key : (k b : Bool) → bit (k && (b || true)) ≡ bit (k && b) + bit (k && not b)
       one_key true true = refl

@@ -2,7 +2,7 @@
 use Rattle.std.proofs.Common.{[], ◌≡◌, zero, suc, Bool, true, false, ◌&&◌, ◌||◌, List, ◌∷◌, refl}
 use Rattle.std.proofs.Common.{sym, ◌∙◌, ap, arith}
 use Rattle.std.specs.List.{Contains, list_any}
-use Rattle.std.proofs.lemmas.Bool.{true≢false, and_parts}
+use Rattle.std.proofs.lemmas.Bool.{true≢false, and_parts, or_right}
 use Rattle.dnssec_key.specs.declared.roll.Action.{Action}
 use Rattle.dnssec_key.specs.declared.roll.Action.TheVariants as action
 use Rattle.dnssec_key.specs.declared.roll.RollType.{RollType}
@@ -36,11 +36,7 @@ module _ (p : Action → Bool) (x : Action) (one : (a : Action) → p a ≡ true
   finds [] c = absurd (omega (arith, c.1))
   finds (a ∷ list) (zero, lt, e) = ap (λ b. b || list_any p list) (ap p e ∙ passes)
   finds (a ∷ list) (suc i, lt, e) =
-      either (p a) (list_any p list) (finds list (i, omega (arith, lt), e))
-    where
-      either : (a b : Bool) → b ≡ true → (a || b) ≡ true
-      either true b e = refl
-      either false b e = e
+      or_right (p a) (list_any p list) (finds list (i, omega (arith, lt), e))
 
 abbrev pub updates : SetKind → Action → Bool
 updates Ds action.UpdateDsRrset = true

@@ -1,14 +1,14 @@
 -- A call that sets no flag changes only what it asks to publish: for the clause `changes`.
 use Rattle.dnssec_keyset.proofs.Accepted.{no_some, gone_key, add_free}
-use Rattle.std.proofs.Common.{[], ◌≡◌, ℕ, zero, suc, ◌≤◌, ◌⊎◌, inl, inr, Bool, true, false, ◌||◌}
-use Rattle.std.proofs.Common.{refl, sym, ◌∙◌, ap, subst, arith, List, length, Option, None, Some}
+use Rattle.std.proofs.Common.{[], ◌≡◌, ℕ, zero, suc, ◌≤◌, ◌⊎◌, inl, inr, Bool, true, false, refl}
+use Rattle.std.proofs.Common.{sym, ◌∙◌, ap, subst, arith, List, length, Option, None, Some}
 use Rattle.std.specs.Prelude.{slice_get, is_some, if◌then◌else◌}
 use Rattle.std.specs.List.{Contains, list_any}
 use Rattle.std.specs.Option.{option_map, option_map_or}
 use Rattle.std.specs.FinMap.{get}
 use Rattle.std.specs.Str.{bytes_eq}
 use Rattle.std.specs.Cmp.Lexicographic.{bytes_decides}
-use Rattle.std.proofs.lemmas.Bool.{true≢false, and_parts}
+use Rattle.std.proofs.lemmas.Bool.{true≢false, and_parts, or_left, or_right}
 use Rattle.std.proofs.lemmas.Option.{none-some, slice_get_cases}
 use Rattle.dnssec_key.specs.declared.roll.Action.{Action}
 use Rattle.dnssec_key.specs.declared.kind.KeyType.{KeyType}
@@ -34,13 +34,13 @@ use Rattle.dnssec_run.specs.Record.{reference_added, added_by}
 use Rattle.dnssec_run.specs.Safe.{SetKind, Ds, Dnskey, ZoneSigners, position_at, told, blank}
 use Rattle.dnssec_run.proofs.Positions.{same-shown, shown-none}
 use Rattle.dnssec_run.proofs.Chain.Tale.{start-parts, early-end-parts}
-use Rattle.dnssec_keyset.proofs.Tests.{alike-same}
-use Rattle.dnssec_run.proofs.Chain.Allowed.{clear_cause}
+use Rattle.dnssec_keyset.proofs.Tests.{alike-same, or_second}
 use Rattle.dnssec_run.proofs.Chain.Trust.{adds_blank, plainly}
 use Rattle.dnssec_run.proofs.Asked.Actions.{updates, asks_update, start-asks, wait-asks, same_in}
 use Rattle.dnssec_run.proofs.Asked.Actions.{early-end-asks}
 use Rattle.dnssec_run.proofs.Asked.Actions.{none_in, idle-unseen, same-itself}
 use Rattle.dnssec_run.proofs.WholeRolls.Replies.{accepted_step, refused_step, added-next}
+use Rattle.dnssec_keyset.proofs.Laws.{no_cause}
 
 -- ---- look-ups that show the same
 
@@ -101,18 +101,6 @@ set-kind (Signer value) e true k = absurd (true≢false e)
 set-kind (AtParent value) e true k = absurd (true≢false e)
 set-kind Stale e true k = absurd (true≢false e)
 
-or_right : (a b : Bool) → (a || b) ≡ true → a ≡ false → b ≡ true
-or_right true b e f = absurd (true≢false f)
-or_right false b e f = e
-
-or_left : (a b : Bool) → a ≡ true → (a || b) ≡ true
-or_left true b e = refl
-or_left false b e = absurd (true≢false (sym e))
-
-or_by_right : (a b : Bool) → b ≡ true → (a || b) ≡ true
-or_by_right true b e = refl
-or_by_right false b e = e
-
 -- what a reply of the key set asks
 abbrev pub due : keyset.Reply → List Action
 due keyset.Done = []
@@ -141,7 +129,7 @@ module _ (kind : SetKind) (old new : KeySetParts) where
           → Agree kind (if b then Some k else get old.keys q) (get old.keys q)
       by q true t = subst (Agree kind (Some k))
           (sym (no_some (get old.keys q) (ap is_some (ap (get old.keys)
-          (sym ((bytes_decides r q).0 t))) ∙ add_free _ _ _ _ (clear_cause _ v))))
+          (sym ((bytes_decides r q).0 t))) ∙ add_free _ _ _ _ (no_cause _ v))))
           (agree-new kind k (idle-unseen kind k.keytype (or_left _ _ fresh)))
       by q false t = agree-same kind (get old.keys q)
   agree-step (keyset.Set r s) calm fresh v m none =
@@ -153,30 +141,30 @@ module _ (kind : SetKind) (old new : KeySetParts) where
       by : (q : List ℕ) (b : Bool) → bytes_eq r q ≡ b
           → Agree kind (if b then None else get old.keys q) (get old.keys q)
       by q true t =
-          let g = gone_key (get old.keys r) (clear_cause _ v) in
+          let g = gone_key (get old.keys r) (no_cause _ v) in
           subst (Agree kind None) (sym (ap (get old.keys) (sym ((bytes_decides r q).0 t)) ∙ g.1))
-          (agree-gone kind g.0 (idle-unseen kind g.0.keytype (or_by_right _ _ g.2)))
+          (agree-gone kind g.0 (idle-unseen kind g.0.keytype (or_right _ _ g.2)))
       by q false t = agree-same kind (get old.keys q)
   agree-step (keyset.StartRoll r olds news now) calm fresh v m none =
       by_keys _ m.keys (λ q. agree-mapped kind _ (get old.keys q)
       (λ k. ap (λ (j : KeyParts). same_in kind j.keytype k.keytype)
       (start-parts r now (is_listed olds q) (is_listed news q) k)
-      ∙ or_right _ _ (start-asks r (is_listed olds q) (is_listed news q) kind k.keytype) none))
+      ∙ or_second _ _ (start-asks r (is_listed olds q) (is_listed news q) kind k.keytype) none))
   agree-step (keyset.Report r half ttl now) calm fresh v m none =
       by_keys _ m.keys (λ q. agree-mapped kind _ (get old.keys q)
       (λ k. same-itself kind k.keytype))
   agree-step (keyset.Wait r First now) calm fresh v m none =
       by_keys _ m.keys (λ q. agree-mapped kind _ (get old.keys q)
-      (λ k. or_right _ _ (wait-asks r false kind k.keytype) none))
+      (λ k. or_second _ _ (wait-asks r false kind k.keytype) none))
   agree-step (keyset.Wait r Second now) calm fresh v m none =
       by_keys _ m.keys (λ q. agree-mapped kind _ (get old.keys q)
-      (λ k. or_right _ _ (wait-asks r true kind k.keytype) none))
+      (λ k. or_second _ _ (wait-asks r true kind k.keytype) none))
   agree-step (keyset.AbortRoll r) calm fresh v m none =
       by_keys _ m.keys (λ q. agree-mapped kind _ (get old.keys q)
       (λ k. ap (λ (j : KeyParts). same_in kind j.keytype k.keytype)
       (early-end-parts r (is_listed (listed_by old.lists r).olds q)
       (is_listed (listed_by old.lists r).news q) k)
-      ∙ or_right _ _ (early-end-asks r (is_listed (listed_by old.lists r).olds q)
+      ∙ or_second _ _ (early-end-asks r (is_listed (listed_by old.lists r).olds q)
       (is_listed (listed_by old.lists r).news q) kind k.keytype) none))
   agree-step (keyset.RollDone r) calm fresh v m none =
       by_keys _ m.keys (λ q. agree-mapped kind _ (get old.keys q)
@@ -190,7 +178,7 @@ added-same n (keyset.AddKey r key) f set v q k there = by (bytes_eq r q) refl
   where
     by : (b : Bool) → bytes_eq r q ≡ b → (if b then n else f q) ≡ f q
     by true t = absurd (true≢false (sym (ap is_some (ap (get set.keys) ((bytes_decides r q).0 t)
-        ∙ there)) ∙ add_free _ _ _ _ (clear_cause _ v)))
+        ∙ there)) ∙ add_free _ _ _ _ (no_cause _ v)))
     by false t = refl
 added-same n (keyset.Set a b) f set v q k there = refl
 added-same n (keyset.DeleteKey a) f set v q k there = refl

@@ -22,16 +22,18 @@ use Rattle.dnssec_run.specs.Asked.{asked_by, asked_at, report_of, RetiresAsAsked
 use Rattle.dnssec_run.specs.Record.{IsRun, call_of, reply_of, is_accepted, world_at}
 use Rattle.dnssec_run.specs.Safe.{SetKind, position_at, base_below, is_step, retires}
 use Rattle.dnssec_run.proofs.Chain.Rolls.{same-same, same-sym}
-use Rattle.dnssec_run.proofs.Chain.Allowed.{clear_cause, waits_in_phase}
+use Rattle.dnssec_run.proofs.Chain.Allowed.{waits_in_phase}
 use Rattle.dnssec_run.proofs.Chain.History.{base_same, base_here}
 use Rattle.dnssec_run.proofs.Chain.Trust.{mark}
 use Rattle.dnssec_run.proofs.WholeRolls.Order.{world_of}
-use Rattle.dnssec_run.proofs.WholeRolls.Phases.{no_phases, put_aside, put_there, roll_now, split_by}
+use Rattle.dnssec_run.proofs.WholeRolls.Phases.{put_aside, put_there, roll_now}
 use Rattle.dnssec_keyset.proofs.Accepted.{spreads_first, spreads_second}
 use Rattle.dnssec_run.proofs.WholeRolls.Replies.{accepted_step, refused_step, at_position, marked}
 use Rattle.dnssec_run.proofs.Asked.Actions.{reports, asks_report, report_asked, retires-asked}
 use Rattle.dnssec_run.proofs.Asked.Changes.{due, due_by}
-use Rattle.dnssec_keyset.proofs.Laws.{same-is}
+use Rattle.dnssec_keyset.proofs.Laws.{same-is, no_cause}
+use Rattle.dnssec_keyset.proofs.Phases.{no_phases}
+use Rattle.std.proofs.lemmas.Bool.{cases_Bool}
 
 -- the phase in which a roll last asked for something but its last actions
 abbrev opening : RollState → RollState
@@ -84,7 +86,7 @@ module _ (entries : List Entry) (n : ℕ) (old new : KeySetParts) where
       → ((x : RollState) → o ≡ Some x → Based entries (suc n) q x)
       → ((r : RollType) → same_roll q r ≡ false
       → is_step r (position_at entries (suc n)).mark ≡ false) → Before → After
-  on_roll q o rolls own none h r p e = elim (split_by (same_roll q r)) [
+  on_roll q o rolls own none h r p e = elim (cases_Bool (same_roll q r)) [
     | inl t ↦ subst (λ r. Based entries (suc n) r p) (same-is q r t)
         (own p (sym (put_there old.rolls new.rolls q o r rolls t) ∙ e))
     | inr t ↦ based-on entries n r p p refl (none r t)
@@ -109,13 +111,13 @@ module _ (entries : List Entry) (n : ℕ) (old new : KeySetParts) where
       on_roll q (Some (CacheExpire1 ttl)) m.rolls
       (λ x e. subst (Based entries (suc n) q) (same_Some (CacheExpire1 ttl) x e)
       (based-on entries n q Propagation1 (CacheExpire1 ttl) refl (ap (is_step q) mk)
-      (h q Propagation1 (spreads_first _ (clear_cause _ v)))))
+      (h q Propagation1 (spreads_first _ (no_cause _ v)))))
       (λ r t. ap (is_step r) mk) h
   based-step (keyset.Report q Second ttl now) v m mk asked h =
       on_roll q (Some (CacheExpire2 ttl)) m.rolls
       (λ x e. subst (Based entries (suc n) q) (same_Some (CacheExpire2 ttl) x e)
       (based-on entries n q Propagation2 (CacheExpire2 ttl) refl (ap (is_step q) mk)
-      (h q Propagation2 (spreads_second _ (clear_cause _ v)))))
+      (h q Propagation2 (spreads_second _ (no_cause _ v)))))
       (λ r t. ap (is_step r) mk) h
   based-step (keyset.Wait q First now) v m mk asked h =
       on_roll q (Some Propagation2) m.rolls
@@ -215,11 +217,11 @@ module _ (name : List ℕ) (calls : List Call) (entries : List Entry)
   reported n le (keyset.Report r First t now) v roll second ttl e =
       subst (λ m. Retires (suc n) (roll_in m) (half_in m)) e
       (retires-by n r false Propagation1 (retires-asked r false)
-      (based n le r Propagation1 (spreads_first _ (clear_cause _ v))))
+      (based n le r Propagation1 (spreads_first _ (no_cause _ v))))
   reported n le (keyset.Report r Second t now) v roll second ttl e =
       subst (λ m. Retires (suc n) (roll_in m) (half_in m)) e
       (retires-by n r true Propagation2 (retires-asked r true)
-      (based n le r Propagation2 (spreads_second _ (clear_cause _ v))))
+      (based n le r Propagation2 (spreads_second _ (no_cause _ v))))
   reported n le (keyset.AddKey a b) v roll second ttl e = absurd (cc)
   reported n le (keyset.Set a b) v roll second ttl e = absurd (cc)
   reported n le (keyset.DeleteKey a) v roll second ttl e = absurd (cc)

@@ -4,11 +4,11 @@ use Rattle.std.proofs.Common.{◌&&◌, ◌||◌, refl, sym, ◌∙◌, ap, arit
 use Rattle.std.proofs.Common.{Some}
 use Rattle.std.specs.Prelude.{if◌then◌else◌, is_some, unwrap_or, nat_lt}
 use Rattle.std.specs.List.{list_all}
-use Rattle.std.specs.Option.{option_or, option_map_or, option_map}
+use Rattle.std.specs.Option.{option_map_or, option_map}
 use Rattle.std.specs.Str.{bytes_eq}
 use Rattle.std.specs.Cmp.Lexicographic.{bytes_decides}
 use Rattle.std.specs.FinMap.{get}
-use Rattle.std.proofs.lemmas.Bool.{true≢false, and_parts, ltb-false}
+use Rattle.std.proofs.lemmas.Bool.{true≢false, and_parts, ltb-false, not-true, or_parts, or_right}
 use Rattle.std.proofs.lemmas.Option.{none-some}
 use Rattle.dnssec_key.specs.declared.roll.RollType.{RollType}
 use Rattle.dnssec_key.specs.declared.roll.RollType.TheVariants.{KskRoll, KskDoubleDsRoll}
@@ -27,7 +27,7 @@ use Rattle.dnssec_keyset.specs.Start.{is_listed as listed, conflict, has_conflic
 use Rattle.dnssec_keyset.specs.Start.{old_entry_fault, old_fault, new_entry_fault, new_fault}
 use Rattle.dnssec_keyset.specs.Start.{start_refusal, some_listed, some_kept, is_met, wants}
 use Rattle.dnssec_keyset.specs.Start.{algorithm_fault, suitability_fault, first_of_causes}
-use Rattle.dnssec_keyset.specs.Step.{Barred, Early, Clear, wait_in_phase, wait_verdict, barred_by}
+use Rattle.dnssec_keyset.specs.Step.{Barred, Early, Clear, wait_in_phase, wait_verdict}
 use Rattle.dnssec_keyset.specs.Wait.{lacks_stamp, is_early, time_left, ttl_in, left_since}
 use Rattle.dnssec_keyset.specs.Wait.{stamp_read}
 use Rattle.dnssec_keyset.proofs.Quantified.{some_key-none, some_entry-found}
@@ -36,24 +36,18 @@ use Rattle.dnssec_keyset.proofs.Flags.{SideOf, Keys, Zone, affects, is_blank, ma
 use Rattle.dnssec_run.proofs.Chain.Tables.{half, reads-stamp}
 use Rattle.dnssec_run.proofs.Chain.Tale.{seen, waiting, IsOver, HasSuitable, CanStart}
 use Rattle.dnssec_keyset.proofs.Tests.{each_key, each_key-at, ◌⇒◌, mp}
+use Rattle.dnssec_keyset.proofs.Laws.{no_first, no_rest, no_roll, no_conflict}
+use Rattle.dnssec_keyset.proofs.Sides.{old-listed}
 
 -- ---- causes in their order
-
-no_first : (a b : Option Error) → option_or a b ≡ None → a ≡ None
-no_first None b e = refl
-no_first (Some c) b e = e
-
-no_second : (a b : Option Error) → option_or a b ≡ None → b ≡ None
-no_second None b e = e
-no_second (Some c) b e = absurd (none-some c (sym e))
 
 no_causes : (a b c d e : Option Error) → first_of_causes (a ∷ b ∷ c ∷ d ∷ e ∷ []) ≡ None
     → (a ≡ None) × (b ≡ None) × (c ≡ None) × (d ≡ None) × (e ≡ None)
 no_causes a b c d e h =
-    let x = no_second a (first_of_causes (b ∷ c ∷ d ∷ e ∷ [])) h in
-    let y = no_second b (first_of_causes (c ∷ d ∷ e ∷ [])) x in
-    let z = no_second c (first_of_causes (d ∷ e ∷ [])) y in
-    let u = no_second d (first_of_causes (e ∷ [])) z in (
+    let x = no_rest a (first_of_causes (b ∷ c ∷ d ∷ e ∷ [])) h in
+    let y = no_rest b (first_of_causes (c ∷ d ∷ e ∷ [])) x in
+    let z = no_rest c (first_of_causes (d ∷ e ∷ [])) y in
+    let u = no_rest d (first_of_causes (e ∷ [])) z in (
       no_first a (first_of_causes (b ∷ c ∷ d ∷ e ∷ [])) h,
       no_first b (first_of_causes (c ∷ d ∷ e ∷ [])) x,
       no_first c (first_of_causes (d ∷ e ∷ [])) y,
@@ -61,65 +55,25 @@ no_causes a b c d e h =
       no_first e None u,
     )
 
-pub clear_cause : (o : Option Error) → barred_by o ≡ Clear → o ≡ None
-clear_cause None e = refl
-clear_cause (Some c) e = absurd (cc)
-
 -- ---- a start
-
-no_error : (b c : Bool) (e : Error) (o : Option Error) → (if b then Some e else o) ≡ None
-    → (b ≡ false) × (o ≡ None)
-no_error true c e o h = absurd (none-some e (sym h))
-no_error false c e o h = (refl, h)
-
-or_false : (a b : Bool) → (a || b) ≡ false → (a ≡ false) × (b ≡ false)
-or_false true b e = absurd (true≢false e)
-or_false false b e = (refl, e)
 
 no_phase : (o : Option RollState) (t : Bool) → (is_some o && not t) ≡ false → t ≡ false → o ≡ None
 no_phase None t e f = refl
 no_phase (Some p) true e f = absurd (true≢false f)
 no_phase (Some p) false e f = absurd (true≢false e)
 
-six : (a b c d e f : Bool) → (a || (b || (c || (d || (e || (f || false)))))) ≡ false
-    → (a ≡ false) × (b ≡ false) × (c ≡ false) × (d ≡ false) × (e ≡ false) × (f ≡ false)
-six a b c d e f h =
-    let x = or_false a (b || (c || (d || (e || (f || false))))) h in
-    let y = or_false b (c || (d || (e || (f || false)))) x.1 in
-    let z = or_false c (d || (e || (f || false))) y.1 in
-    let u = or_false d (e || (f || false)) z.1 in
-    let v = or_false e (f || false) u.1 in
-    (x.0, y.0, z.0, u.0, v.0, (or_false f false v.1).0)
-
-one_of : (p : RollType → Bool) → (p KskRoll ≡ false) × (p KskDoubleDsRoll ≡ false)
-    × (p ZskRoll ≡ false) × (p ZskDoubleSignatureRoll ≡ false) × (p CskRoll ≡ false)
-    × (p AlgorithmRoll ≡ false)
-    → (q : RollType) → p q ≡ false
-one_of p h KskRoll = h.0
-one_of p h KskDoubleDsRoll = h.1
-one_of p h ZskRoll = h.2
-one_of p h ZskDoubleSignatureRoll = h.3
-one_of p h CskRoll = h.4
-one_of p h AlgorithmRoll = h.5
-
 module _ (r : RollType) (rolls : Rolls) where
   meets : RollType → Bool
   meets q = is_some (phase_of rolls q) && not (together r q)
 
-  none_meets : has_conflict r rolls ≡ false → (q : RollType) → meets q ≡ false
-  unfolding meets
-  none_meets e q = one_of meets (six (meets KskRoll) (meets KskDoubleDsRoll) (meets ZskRoll)
-      (meets ZskDoubleSignatureRoll) (meets CskRoll) (meets AlgorithmRoll) e) q
-
   alone_of : has_conflict r rolls ≡ false → (q : RollType) → together r q ≡ false → phase_of rolls q
       ≡ None
   unfolding meets
-  alone_of e q t = no_phase (phase_of rolls q) (together r q) (none_meets e q) t
+  alone_of e q t = no_phase (phase_of rolls q) (together r q) (no_roll meets e q) t
 
-  no_conflict : conflict r rolls ≡ None → (q : RollType) → together r q ≡ false → phase_of rolls q
+  none_beside : conflict r rolls ≡ None → (q : RollType) → together r q ≡ false → phase_of rolls q
       ≡ None
-  unfolding conflict
-  no_conflict e = alone_of (no_error _ true _ _ (no_error _ true _ _ e).1).0
+  none_beside e = alone_of (no_conflict r rolls e)
 
 module _ (r : RollType) (at : List ℕ → Option KeyParts) where
   old_kind : (o : Option KeyParts) → old_entry_fault r o ≡ None → (k : KeyParts) × (o ≡ Some k)
@@ -159,15 +113,7 @@ module _ (r : RollType) (at : List ℕ → Option KeyParts) where
 
   old_all : (olds : List (List ℕ)) → old_fault r at olds ≡ None → (q : List ℕ) → listed olds q
       ≡ true → (k : KeyParts) × (at q ≡ Some k) × (may_list r k.keytype ≡ true)
-  old_all [] e q l = absurd (true≢false (sym l))
-  old_all (x ∷ xs) e q l = by (old_all xs (no_second _ _ e) q) (bytes_eq q x) refl
-    where
-      by : (listed xs q ≡ true → (k : KeyParts) × (at q ≡ Some k) × (may_list r k.keytype ≡ true))
-          → (b : Bool) → bytes_eq q x ≡ b → (k : KeyParts) × (at q ≡ Some k)
-          × (may_list r k.keytype ≡ true)
-      by rest true t = let h = old_kind (at x) (no_first _ _ e) in
-          (h.0, ap at ((bytes_decides q x).0 t) ∙ h.1, h.2)
-      by rest false t = rest (sym (ap (λ b. b || listed xs q) t) ∙ l)
+  old_all olds e q l = old_kind (at q) (old-listed r at olds q e l)
 
   new_all : (olds earlier news : List (List ℕ)) → new_fault r at olds earlier news ≡ None
       → (q : List ℕ) → listed news q ≡ true
@@ -175,7 +121,7 @@ module _ (r : RollType) (at : List ℕ → Option KeyParts) where
           × (all_states is_fresh k.keytype ≡ true) × (listed olds q ≡ false)
   new_all olds earlier [] e q l = absurd (true≢false (sym l))
   new_all olds earlier (x ∷ xs) e q l =
-      by (new_all olds (earlier ++ x ∷ []) xs (no_second _ _ e) q) (bytes_eq q x) refl
+      by (new_all olds (earlier ++ x ∷ []) xs (no_rest _ _ e) q) (bytes_eq q x) refl
     where
       by : (listed xs q ≡ true → (k : KeyParts) × (at q ≡ Some k) × (may_list r k.keytype ≡ true)
           × (all_states is_fresh k.keytype ≡ true) × (listed olds q ≡ false)) → (b : Bool)
@@ -184,7 +130,7 @@ module _ (r : RollType) (at : List ℕ → Option KeyParts) where
               × (all_states is_fresh k.keytype ≡ true) × (listed olds q ≡ false)
       by rest true t = let same = (bytes_decides q x).0 t in let h =
           new_kind (at x) (listed olds x || listed earlier x) (no_first _ _ e) in
-          (h.0, ap at same ∙ h.1, h.2, h.3, ap (listed olds) same ∙ (or_false _ _ h.4).0)
+          (h.0, ap at same ∙ h.1, h.2, h.3, ap (listed olds) same ∙ (or_parts _ _ h.4).0)
       by rest false t = rest (sym (ap (λ b. b || listed xs q) t) ∙ l)
 
 fresh_all : (a b : Bool) → each_key a b (λ k. all_states is_fresh k ⇒ is_blank k) ≡ true
@@ -211,15 +157,11 @@ listed_key p at (x ∷ xs) e = by (listed_key p at xs) (at x) refl
     here : listed (x ∷ xs) x ≡ true
     here = ap (λ b. b || listed xs x) ((bytes_decides x x).1 refl)
 
-    wider : (a b : Bool) → b ≡ true → (a || b) ≡ true
-    wider true b f = refl
-    wider false b f = f
-
     later : (some_listed p at xs ≡ true → (q : List ℕ) × (k : KeyParts) × (at q ≡ Some k)
         × (listed xs q ≡ true) × (p k.keytype ≡ true)) → some_listed p at xs ≡ true
         → (q : List ℕ) × (k : KeyParts) × (at q ≡ Some k) × (listed (x ∷ xs) q ≡ true)
             × (p k.keytype ≡ true)
-    later rest f = let h = rest f in (h.0, h.1, h.2, wider (bytes_eq h.0 x) _ h.3, h.4)
+    later rest f = let h = rest f in (h.0, h.1, h.2, or_right (bytes_eq h.0 x) _ h.3, h.4)
 
     by : (some_listed p at xs ≡ true → (q : List ℕ) × (k : KeyParts) × (at q ≡ Some k)
         × (listed xs q ≡ true) × (p k.keytype ≡ true)) → (o : Option KeyParts) → at x ≡ o
@@ -237,10 +179,6 @@ listed_key p at (x ∷ xs) e = by (listed_key p at xs) (at x) refl
             (ap (λ o. option_map_or (λ (k : KeyParts). p k.keytype) o false || some_listed p at xs)
             a ∙ ap (λ b. b || some_listed p at xs) t) ∙ e)
 
-not_true : (b : Bool) → not b ≡ true → b ≡ false
-not_true true e = absurd (true≢false (sym e))
-not_true false e = refl
-
 serving_key : (w : RealWorld) (olds news : List (List ℕ)) (new kept : KeyType → Bool)
     → (some_listed new (get w.set.keys) news || some_kept kept w.set.keys olds) ≡ true
     → (q : List ℕ) × (k : KeyParts) × (get w.set.keys q ≡ Some k)
@@ -257,7 +195,7 @@ serving_key w olds news new kept e = by (some_listed new (get w.set.keys) news) 
         let h = some_entry-found (λ q k. kept k.keytype && not (listed olds q)) w.set.keys
             (sym (ap (λ b. b || some_kept kept w.set.keys olds) t) ∙ e) in
         let x = and_parts _ _ h.3 in
-        (h.0, h.1, h.2, inr (not_true _ x.1, x.0))
+        (h.0, h.1, h.2, inr (not-true _ x.1, x.0))
 
 no_want : (b : Bool) (e : Error) → (if b then None else Some e) ≡ None → b ≡ true
 no_want true e h = refl
@@ -289,7 +227,7 @@ can_start w r olds news e =
         (new_fault r (get w.set.keys) olds [] news)
     (algorithm_fault r (get w.set.keys) olds news) (suitability_fault r w.set.keys olds news) e in
     record {
-      alone = no_conflict r w.set.rolls none.0;
+      alone = none_beside r w.set.rolls none.0;
       old_is = old_all r (get w.set.keys) olds none.1;
       new_is = λ q l. let h = new_all r (get w.set.keys) olds [] news none.2 q l in
           (h.0, h.1, h.2, fresh_blank h.0.keytype h.3, h.4);

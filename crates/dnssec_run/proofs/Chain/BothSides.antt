@@ -63,10 +63,6 @@ pub record Inv (tale : Tale) (n : ℕ) : Type 0 where
   pub phases : Phases tale n
   pub life : Life tale ks zs n
 
-abbrev pub stage_of : SideOf → Stage → Stage → Stage
-stage_of Keys ks zs = ks
-stage_of Zone ks zs = zs
-
 pub mapped : (tale : Tale) (n : ℕ) (f : List ℕ → Key → Key) (r : RollType) (o : Option RollState)
     → world_at tale (suc n) ≡ rolled (world_at tale n) f r o → Mapped tale n f r o
 mapped tale n f r o e = record {
@@ -75,11 +71,6 @@ mapped tale n f r o e = record {
       ∙ found_map ((world_at tale n).added id.0 == id.1) (f id.0) ((world_at tale n).key id.0);
   rolls = λ q. ap (λ w. w.roll q) e;
 }
-
-same_ttl : (second : Bool) (a b : ℕ)
-    → ◌≡◌ {A = Option RollState} (Some (waiting second a)) (Some (waiting second b)) → a ≡ b
-same_ttl false a b e = cc
-same_ttl true a b e = cc
 
 map_less : (p : KeyType → Bool) (f : Key → Key) → ((k : Key) → p (f k).keytype ≡ p k.keytype)
     → (o : Option Key) → if_some p (option_map f o) ≡ true → if_some p o ≡ true

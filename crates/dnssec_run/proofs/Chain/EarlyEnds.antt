@@ -57,8 +57,8 @@ pub back-fits : (sd : SideOf) (r : RollType) (o i : Bool) (k : KeyType) → affe
     × (in_use sd k ≡ true → in_use sd (there_and_back r o i k) ≡ true)
 unfolding back_table
 back-fits sd r o i k own may fit both_in =
-    let x = and_parts _ _ (mp _ _ (each_listed-at (back_table sd) (back_all sd) r o i k) (and-both _ _ own (and-both _ _ (and-both _ _ may fit) both_in)))
-        in
+    let x = and_parts _ _ (mp _ _ (each_listed-at (back_table sd) (back_all sd) r o i k)
+        (and-both _ _ own (and-both _ _ (and-both _ _ may fit) both_in))) in
     (x.0, mp _ _ x.1)
 
 set_table : SideOf → SetKind → RollType → Bool → Bool → KeyType → Bool
@@ -80,7 +80,8 @@ pub back-set : (sd : SideOf) (kind : SetKind) (r : RollType) (o i : Bool) (k : K
     → may_start r o i k ≡ true → test_of sd kind (there_and_back r o i k) ≡ true
     → test_of sd kind k ≡ true
 unfolding set_table
-back-set sd kind r o i k may h = mp _ _ (mp _ _ (each_listed-at (set_table sd kind) (set_all sd kind) r o i k) may) h
+back-set sd kind r o i k may h = mp _ _
+    (mp _ _ (each_listed-at (set_table sd kind) (set_all sd kind) r o i k) may) h
 
 -- ---- of any key
 

@@ -132,7 +132,8 @@ pub apart : (sd : SideOf) (r : RollType) (k : KeyType) → affects sd r ≡ fals
     → may_list r k ≡ false
 unfolding apart_table column
 apart sd r k other role = not-true _
-    (mp _ _ (each_in_roll-at (apart_table sd) (apart_all sd) r k) (and-both _ _ (ap not other) role))
+    (mp _ _ (each_in_roll-at (apart_table sd) (apart_all sd) r k)
+    (and-both _ _ (ap not other) role))
 
 other_table : RollType → RollType → KeyType → Bool
 other_table r q k = (tolerates r q && may_list q k) ⇒ not (may_list r k)

@@ -19,7 +19,8 @@ role_start_all Zone a b = refl
 pub role_start : (sd : SideOf) (r : RollType) (o i : Bool) (k : KeyType)
     → has_role sd (started r o i k) ≡ has_role sd k
 unfolding role_start_table
-role_start sd r o i k = alike-same _ _ (each_listed-at (role_start_table sd) (role_start_all sd) r o i k)
+role_start sd r o i k = alike-same _ _
+    (each_listed-at (role_start_table sd) (role_start_all sd) r o i k)
 
 role_waited1_table : SideOf → RollType → KeyType → Bool
 role_waited1_table sd r k = alike (has_role sd (waited1 r k)) (has_role sd k)

@@ -7,15 +7,12 @@ use Rattle.std.specs.Prelude.{filter, if◌then◌else◌}
 use Rattle.std.specs.Str.{bytes_eq}
 use Rattle.std.specs.Cmp.Lexicographic.{bytes_decides}
 use Rattle.dnssec_key.specs.declared.roll.RollType.{RollType}
-use Rattle.dnssec_key.specs.declared.roll.RollType.TheVariants.{KskRoll, KskDoubleDsRoll}
-use Rattle.dnssec_key.specs.declared.roll.RollType.TheVariants.{ZskRoll, ZskDoubleSignatureRoll}
-use Rattle.dnssec_key.specs.declared.roll.RollType.TheVariants.{CskRoll, AlgorithmRoll}
 use Rattle.dnssec_key.specs.declared.roll.RollState.{RollState}
 use Rattle.dnssec_key.specs.declared.roll.RollState.TheVariants.{Propagation1}
 use Rattle.dnssec_keyset.specs.KeySet.{Listed, Lists, listed_by, with_listed, without, others}
 use Rattle.dnssec_keyset.specs.KeySet.{same_roll}
 use Rattle.dnssec_keyset.proofs.Flags.{SideOf, affects, has_role}
-use Rattle.dnssec_keyset.proofs.Phases.{listed_by-with_listed}
+use Rattle.dnssec_keyset.proofs.Phases.{listed_by-with_listed, listed_by-without}
 use Rattle.dnssec_run.specs.Published.{Id}
 use Rattle.dnssec_run.proofs.Chain.Tale.{Tale, Key, found, world_at, put_roll, is_listed}
 use Rattle.dnssec_run.proofs.Chain.Rolls.{same-same, put-same, put-other}
@@ -73,15 +70,6 @@ pub listed-other : (l : Lists) (r : RollType) (listed : Listed) (q : RollType)
 listed-other l r listed q e = listed_by-with_listed l r listed q
     ∙ ap (λ b. if b then listed else listed_by l q) e
 
-pub listed-without : (x : List ℕ) (l : Lists) (r : RollType) → listed_by (without x l) r
-    ≡ record { olds = others x (listed_by l r).olds; news = others x (listed_by l r).news }
-listed-without x l KskRoll = refl
-listed-without x l KskDoubleDsRoll = refl
-listed-without x l ZskRoll = refl
-listed-without x l ZskDoubleSignatureRoll = refl
-listed-without x l CskRoll = refl
-listed-without x l AlgorithmRoll = refl
-
 -- ---- the calls
 
 module _ (tale : Tale) (n : ℕ) where
@@ -118,11 +106,11 @@ module _ (tale : Tale) (n : ℕ) where
       by r id false t none = (
         ap (λ l. is_listed id.0 (listed_by l r).olds) lists
             ∙ ap (λ (l : Listed). is_listed id.0 l.olds)
-                (listed-without x (real tale n).set.lists r)
+                (listed_by-without x (real tale n).set.lists r)
             ∙ is_listed-others x (listed_at tale r n).olds id.0 t,
         ap (λ l. is_listed id.0 (listed_by l r).news) lists
             ∙ ap (λ (l : Listed). is_listed id.0 l.news)
-                (listed-without x (real tale n).set.lists r)
+                (listed_by-without x (real tale n).set.lists r)
             ∙ is_listed-others x (listed_at tale r n).news id.0 t,
       )
 

@@ -2,7 +2,7 @@
 use Rattle.std.proofs.Common.{◌≡◌, ℕ, suc, ◌⊎◌, inl, inr, Bool, true, false, not, ◌&&◌, ◌||◌, refl}
 use Rattle.std.proofs.Common.{sym, ◌∙◌, ap, subst, List, Option, None, Some}
 use Rattle.std.specs.Option.{option_map}
-use Rattle.std.proofs.lemmas.Bool.{true≢false}
+use Rattle.std.proofs.lemmas.Bool.{true≢false, or_left, or_right}
 use Rattle.std.proofs.lemmas.Option.{same_Some}
 use Rattle.dnssec_key.specs.declared.roll.RollType.{RollType}
 use Rattle.dnssec_key.specs.declared.roll.RollState.{RollState}
@@ -54,14 +54,6 @@ may_at r w old new can id = by (found w id) refl
         let same : x.0 ≡ k = same_Some x.0 k (sym x.1 ∙ key) in
         (subst (λ k. may_list r k.keytype ≡ true) same x.2, subst (λ k. is_blank k.keytype ≡ true)
             same x.3, x.4))
-
-or_left : (a b : Bool) → a ≡ true → (a || b) ≡ true
-or_left true b e = refl
-or_left false b e = absurd (true≢false (sym e))
-
-or_right : (a b : Bool) → b ≡ true → (a || b) ≡ true
-or_right true b e = refl
-or_right false b e = e
 
 pub suits : (o i : Bool) (a b : Bool) → ((i ≡ true) × (a ≡ true)) ⊎ ((o ≡ false) × (b ≡ true))
     → ((i && a) || (not o && b)) ≡ true

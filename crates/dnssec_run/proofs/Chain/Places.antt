@@ -1,8 +1,7 @@
 -- A place of a run: the call, its entry, and the worlds before and after; a side of the chain over
 -- the record.
 use Rattle.std.proofs.Common.{[], ◌≡◌, ◌↔◌, ℕ, zero, suc, ◌<◌, ◌≤◌, inl, inr, Bool, true, false}
-use Rattle.std.proofs.Common.{◌&&◌, refl, sym, ◌∙◌, ap, subst, arith, List, length, Option, None}
-use Rattle.std.proofs.Common.{Some}
+use Rattle.std.proofs.Common.{refl, sym, ◌∙◌, ap, subst, arith, List, length, Option, None, Some}
 use Rattle.std.specs.Prelude.{slice_get, if◌then◌else◌, ◌==◌}
 use Rattle.std.specs.Option.{option_map}
 use Rattle.std.specs.List.{Contains}
@@ -121,10 +120,6 @@ pub some_weaker : (p q : KeyType → Bool) → ((k : KeyType) → p k ≡ true �
     → (o : Option Key) → if_some p o ≡ true → if_some q o ≡ true
 some_weaker p q h None e = absurd (true≢false (sym e))
 some_weaker p q h (Some k) e = h k.keytype e
-
-no_and : (b : Bool) → (b && false) ≡ true → ⊥
-no_and true e = true≢false (sym e)
-no_and false e = true≢false (sym e)
 
 zone_key : (k : KeyType) → in_keys Zone k ≡ true → in_dnskey k ≡ true
 zone_key (Ksk s) e = absurd (true≢false (sym e))

@@ -1,7 +1,7 @@
 -- What a side keeps of a roll in its first phase: an early end would lead it back to rest.
 use Rattle.std.proofs.Common.{◌≡◌, ℕ, suc, ◌≤◌, ◌⊎◌, inl, inr, Bool, true, false, not, ◌&&◌, refl}
 use Rattle.std.proofs.Common.{sym, ◌∙◌, ap, List, length, Option, None, Some}
-use Rattle.std.proofs.lemmas.Bool.{true≢false, and_parts}
+use Rattle.std.proofs.lemmas.Bool.{true≢false, and_parts, not-true}
 use Rattle.dnssec_key.specs.declared.roll.RollType.{RollType}
 use Rattle.dnssec_key.specs.declared.roll.RollState.TheVariants.{Propagation1}
 use Rattle.dnssec_key.specs.declared.kind.KeyType.{KeyType}
@@ -63,23 +63,19 @@ pub record KeepsLists (tale : Tale) (sd : SideOf) (n : ℕ) : Type 0 where
 misfits : SideOf → (KeyType → KeyType) → KeyType → Bool
 misfits sd f k = (has_role sd k && not (is_idle k)) && not (fits sd Quiet (f k))
 
-not_true : (b : Bool) → not b ≡ true → b ≡ false
-not_true true e = absurd (true≢false (sym e))
-not_true false e = refl
-
 misfits-seen : (sd : SideOf) (f : KeyType → KeyType) → Seen sd (misfits sd f)
 unfolding misfits
 misfits-seen sd f k e =
     let x = and_parts (has_role sd k) (not (is_idle k))
         (and_parts (has_role sd k && not (is_idle k)) _ e).0 in
-    (x.0, not_true _ x.1)
+    (x.0, not-true _ x.1)
 
 misfits-not : (sd : SideOf) (f : KeyType → KeyType) (o : Option Key)
     → all_ok (λ k. fits sd Quiet (f k)) o ≡ true → if_some (misfits sd f) o ≡ true → ⊥
 unfolding misfits
 misfits-not sd f None h e = true≢false (sym e)
 misfits-not sd f (Some k) h e = true≢false
-    (sym h ∙ not_true _ (and_parts (has_role sd k.keytype && not (is_idle k.keytype)) _ e).1)
+    (sym h ∙ not-true _ (and_parts (has_role sd k.keytype && not (is_idle k.keytype)) _ e).1)
 
 misfits-by : (sd : SideOf) (f : KeyType → KeyType) (k : KeyType)
     → (has_role sd k && not (is_idle k)) ≡ true → fits sd Quiet (f k) ≡ false → misfits sd f k

@@ -1,46 +1,19 @@
 -- A published list has exactly the keys that pass its test.
 use Rattle.std.proofs.Common.{[], ◌≡◌, ℕ, zero, suc, ◌↔◌, Bool, true, false, cond, List, ◌∷◌, map}
 use Rattle.std.proofs.Common.{Option, None, Some, refl, sym, ap, subst, ◌∙◌, arith}
-use Rattle.std.specs.Prelude.{if◌then◌else◌, ◌==◌, T, ◌&&◌, filter}
+use Rattle.std.specs.Prelude.{if◌then◌else◌, ◌==◌, T, filter}
 use Rattle.std.specs.List.{Contains}
-use Rattle.std.specs.declared.cmp.Ordering.{Ordering}
-use Rattle.std.specs.declared.cmp.Ordering.TheVariants.{Less, Equal, Greater}
-use Rattle.std.specs.Ordering.{nat_cmp, is_eq, is_lt}
-use Rattle.std.specs.Cmp.Lexicographic.{slice_cmp, bytes_decides}
+use Rattle.std.specs.Ordering.{nat_cmp, is_eq}
+use Rattle.std.specs.Cmp.Lexicographic.{slice_cmp}
 use Rattle.std.specs.FinMap.{find, entries, get, get-entries, entries_sorted}
 use Rattle.std.specs.FinMap.Entries.{below_all, is_sorted}
 use Rattle.std.proofs.lemmas.Bool.{true≢false, eqb-true, eq-eqb}
-use Rattle.std.proofs.lemmas.Map.Text.{is_eq-slice_cmp}
 use Rattle.std.proofs.lemmas.Option.{same_Some, none-some}
 use Rattle.dnssec_key.specs.declared.kind.KeyType.{KeyType}
 use Rattle.dnssec_key.specs.Key.{KeyParts}
 use Rattle.dnssec_run.specs.Published.{Id, World as RealWorld, shown}
 use Rattle.dnssec_run.proofs.Chain.Tale.{seen, found, if_some}
-
-Pair : Type 0
-Pair = List ℕ × KeyParts
-
-cmp : List ℕ → List ℕ → Ordering
-cmp = slice_cmp nat_cmp
-
-first : (a b : Bool) → T (a && b) → T a
-first true b h = tt
-first false b h = absurd h
-
-second : (a b : Bool) → T (a && b) → T b
-second true b h = h
-second false b h = absurd h
-
-not_both : (o : Ordering) → T (is_lt o) → is_eq o ≡ true → ⊥
-not_both Less h e = cc
-not_both Equal h e = h
-not_both Greater h e = h
-
-same_key : (q x : List ℕ) → is_eq (slice_cmp nat_cmp q x) ≡ true → q ≡ x
-same_key q x e = (bytes_decides q x).0 (sym (is_eq-slice_cmp q x) ∙ e)
-
-itself : (q : List ℕ) → is_eq (slice_cmp nat_cmp q q) ≡ true
-itself q = is_eq-slice_cmp q q ∙ (bytes_decides q q).1 refl
+use Rattle.dnssec_keyset.proofs.Quantified.{first, second, not_both, same_key, itself}
 
 -- a key that stands below all of the list is none of it
 not_below : (x q : List ℕ) (v : KeyParts) (es : List (List ℕ × KeyParts))

@@ -21,9 +21,8 @@ use Rattle.dnssec_key.specs.declared.roll.RollState.TheVariants.{Propagation1, C
 use Rattle.dnssec_key.specs.declared.roll.RollState.TheVariants.{Propagation2, CacheExpire2}
 use Rattle.dnssec_key.specs.declared.roll.RollState.TheVariants.{Done}
 use Rattle.dnssec_key.specs.declared.kind.KeyType.{KeyType}
-use Rattle.dnssec_keyset.specs.KeySet.{Listed, listed_by, nothing_listed, ChangesKey}
-use Rattle.dnssec_keyset.specs.KeySet.{Lists, KeySetParts, Rolls, MovesOn, phase_of, with_phase}
-use Rattle.dnssec_keyset.specs.KeySet.{no_rolls}
+use Rattle.dnssec_keyset.specs.KeySet.{Listed, listed_by, nothing_listed, ChangesKey, Lists}
+use Rattle.dnssec_keyset.specs.KeySet.{KeySetParts, Rolls, MovesOn, phase_of, with_phase}
 use Rattle.dnssec_key.specs.RollTable.{First, Second}
 use Rattle.dnssec_key.specs.Setters.{Setting, Decoupled, Present, Signer, AtParent, Stale}
 use Rattle.dnssec_key.specs.Setters.{VisibleAt, DsVisibleAt, RrsigVisibleAt}
@@ -58,7 +57,9 @@ use Rattle.dnssec_run.proofs.Chain.Gentles.{kept_same, kept_added, kept_deleted,
 use Rattle.dnssec_run.proofs.Chain.Gentles.{distinct, with_key, without_key, with_keys}
 use Rattle.dnssec_run.proofs.Chain.BothSides.{Inv, mapped, calm, report, done, PassesAt}
 use Rattle.dnssec_run.proofs.Chain.SideBySide.{start, wait1, wait2, safe_of, end_early}
-use Rattle.dnssec_run.proofs.Chain.Allowed.{can_start, waits_in_phase, clear_cause}
+use Rattle.dnssec_run.proofs.Chain.Allowed.{can_start, waits_in_phase}
+use Rattle.dnssec_keyset.proofs.Laws.{no_cause}
+use Rattle.dnssec_keyset.proofs.Phases.{no_phases}
 
 -- ---- replies
 
@@ -201,7 +202,7 @@ module _ (tale : Tale) (n : ℕ) (here : suc n ≤ length tale.es) where
       calm tale n here (with_key (world_at tale n) r (suc n) k)
       (worlds (world_at tale (suc n)) (with_key (world_at tale n) r (suc n) k) h.keys added rolls)
       (kept_added (world_at tale n) r (suc n) k
-          (no_some _ (no_error _ _ _ (no_error _ _ _ (clear_cause _ v)).1).0)
+          (no_some _ (no_error _ _ _ (no_error _ _ _ (no_cause _ v)).1).0)
           (blank-idle k.keytype blank)) m
       (λ s. none-some AlgorithmRoll (only s)) (keeps-same tale n rolls h.lists) inv
   accepted (keyset.Set r s) v h plain blank added m t only some inv =
@@ -213,7 +214,7 @@ module _ (tale : Tale) (n : ℕ) (here : suc n ≤ length tale.es) where
           (harmless before r s plain)) m
       (λ s. none-some AlgorithmRoll (only s)) (set_lists r s plain h) inv
   accepted (keyset.DeleteKey r) v h plain blank added m t only some inv =
-      let k = gone_key (get before.keys r) (clear_cause _ v) in
+      let k = gone_key (get before.keys r) (no_cause _ v) in
       calm tale n here (without_key (world_at tale n) r)
       (worlds (world_at tale (suc n)) (without_key (world_at tale n) r) h.keys added
           (λ q. ap (λ rolls. phase_of rolls q) h.rolls))
@@ -228,7 +229,7 @@ module _ (tale : Tale) (n : ℕ) (here : suc n ≤ length tale.es) where
       mapped tale n (start_key r now old new) r (Some Propagation1)
           (moved _ (start_key r now old new) r (Some Propagation1) h
           (λ q. start-parts r now (is_listed q old) (is_listed q new)) added) in
-      start tale n here r now old new on (can_start (real tale n) r old new (clear_cause _ v)) m
+      start tale n here r now old new on (can_start (real tale n) r old new (no_cause _ v)) m
       (λ q. ap (λ l. is_listed q (listed_by l r).olds) h.lists
           ∙ ap (λ (l : Listed). is_listed q l.olds)
           (listed-same before.lists r (keyset.listed_at_start before.keys old new))
@@ -247,7 +248,7 @@ module _ (tale : Tale) (n : ℕ) (here : suc n ≤ length tale.es) where
           (moved _ (λ q. report_key r false now) r (Some (CacheExpire1 ttl)) h (λ q k. refl) added)
           in
       report tale n here r false ttl now on
-      (spreads_first _ (clear_cause _ v)) m t (λ s. none-some AlgorithmRoll (only s))
+      (spreads_first _ (no_cause _ v)) m t (λ s. none-some AlgorithmRoll (only s))
       (keeps-on tale n r (Some (CacheExpire1 ttl)) (λ e. cc) on.rolls
           (λ q d. ap (λ l. listed_by l q) h.lists ∙ listed-other before.lists r nothing_listed q d))
           inv
@@ -257,7 +258,7 @@ module _ (tale : Tale) (n : ℕ) (here : suc n ≤ length tale.es) where
           (moved _ (λ q. report_key r true now) r (Some (CacheExpire2 ttl)) h (λ q k. refl) added)
           in
       report tale n here r true ttl now on
-      (spreads_second _ (clear_cause _ v)) m t (λ s. none-some AlgorithmRoll (only s))
+      (spreads_second _ (no_cause _ v)) m t (λ s. none-some AlgorithmRoll (only s))
       (keeps-on tale n r (Some (CacheExpire2 ttl)) (λ e. cc) on.rolls
           (λ q d. ap (λ l. listed_by l q) h.lists)) inv
   accepted (keyset.Wait r First now) v h plain blank added m t only some inv =
@@ -280,7 +281,7 @@ module _ (tale : Tale) (n : ℕ) (here : suc n ≤ length tale.es) where
       let on : Mapped tale n (early_end_key tale r n) r None =
           mapped tale n (early_end_key tale r n) r None
           (moved _ (early_end_key tale r n) r None h (λ q. early-end-parts r _ _) added) in
-      end_early tale n here r on (ends_early _ (clear_cause _ v)) m
+      end_early tale n here r on (ends_early _ (no_cause _ v)) m
       (keeps-on tale n r None (λ e. none-some Propagation1 e) on.rolls
           (λ q d. ap (λ l. listed_by l q) h.lists ∙ listed-other before.lists r nothing_listed q d))
       (λ s. none-some AlgorithmRoll (only s)) inv
@@ -289,7 +290,7 @@ module _ (tale : Tale) (n : ℕ) (here : suc n ≤ length tale.es) where
       let rolls = λ (q : RollType). ap (λ rolls. phase_of rolls q) h.rolls
           ∙ phase_with before.rolls r None q in
       done tale n here r keys (λ id. λ i. if added id.0 i == id.1 then keys id.0 i else None)
-      rolls (finishes _ (clear_cause _ v)) m (λ s. none-some AlgorithmRoll (only s))
+      rolls (finishes _ (no_cause _ v)) m (λ s. none-some AlgorithmRoll (only s))
       (keeps-on tale n r None (λ e. none-some Propagation1 e) rolls
           (λ q d. ap (λ l. listed_by l q) h.lists)) inv
 
@@ -339,14 +340,6 @@ module _ (tale : Tale) (n : ℕ) (here : suc n ≤ length tale.es) where
           accepted = a; roll_is = e }) inv
 
 -- ---- the whole run
-
-no_phases : (q : RollType) → phase_of no_rolls q ≡ None
-no_phases KskRoll = refl
-no_phases KskDoubleDsRoll = refl
-no_phases ZskRoll = refl
-no_phases ZskDoubleSignatureRoll = refl
-no_phases CskRoll = refl
-no_phases AlgorithmRoll = refl
 
 none_there : (b : Bool) (o : Option Key) (p : KeyType → Bool) → o ≡ None
     → all_ok p (if b then o else None) ≡ true

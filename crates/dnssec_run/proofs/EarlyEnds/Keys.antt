@@ -6,7 +6,7 @@ use Rattle.std.specs.Option.{option_map}
 use Rattle.std.specs.Str.{bytes_eq}
 use Rattle.std.specs.Cmp.Lexicographic.{bytes_decides}
 use Rattle.std.specs.FinMap.{get}
-use Rattle.std.proofs.lemmas.Bool.{true≢false}
+use Rattle.std.proofs.lemmas.Bool.{true≢false, cases_Bool}
 use Rattle.std.proofs.lemmas.Option.{none-some}
 use Rattle.dnssec_key.specs.declared.roll.RollType.{RollType}
 use Rattle.dnssec_key.specs.declared.roll.RollState.{RollState}
@@ -24,12 +24,12 @@ use Rattle.dnssec_keyset.specs.Step as keyset
 use Rattle.dnssec_keyset.proofs.Accepted.{add_free, ends_early}
 use Rattle.dnssec_keyset.proofs.Flags.{may_list, tolerates}
 use Rattle.dnssec_run.specs.EarlyEnds.{touches}
-use Rattle.dnssec_run.proofs.Chain.Allowed.{can_start, clear_cause, waits_in_phase}
+use Rattle.dnssec_run.proofs.Chain.Allowed.{can_start, waits_in_phase}
 use Rattle.dnssec_run.proofs.Chain.Facts.{other}
 use Rattle.dnssec_run.proofs.EarlyEnds.Lists.{IsAside}
 use Rattle.dnssec_run.proofs.WholeRolls.Order.{world_of}
-use Rattle.dnssec_run.proofs.WholeRolls.Phases.{put_aside, put_there, split_by}
-use Rattle.dnssec_keyset.proofs.Laws.{same-is}
+use Rattle.dnssec_run.proofs.WholeRolls.Phases.{put_aside, put_there}
+use Rattle.dnssec_keyset.proofs.Laws.{same-is, no_cause}
 
 -- ---- the phase
 
@@ -42,7 +42,7 @@ module _ (roll : RollType) (old new : KeySetParts)
   unmoved : (r : RollType) (o : Option RollState) → new.rolls ≡ with_phase old.rolls r o
       → (o ≡ Some Propagation1 → same_roll r roll ≡ true → ⊥)
       → (phase_of old.rolls roll ≡ Some Propagation1) × (same_roll r roll ≡ false)
-  unmoved r o rolls never = elim (split_by (same_roll r roll)) [
+  unmoved r o rolls never = elim (cases_Bool (same_roll r roll)) [
     | inl t ↦ absurd
         (never (sym (put_there old.rolls new.rolls r o roll rolls t) ∙ spreads) t)
     | inr t ↦ (sym (put_aside old.rolls new.rolls r o roll rolls t) ∙ spreads, t)
@@ -113,7 +113,7 @@ module _ (roll : RollType) (old new : KeySetParts) (all : RollsTogether old.roll
         by : (b : Bool) → bytes_eq r q ≡ b → Remains
         by true t = absurd (true≢false
             (sym (ap is_some (ap (get old.keys) ((bytes_decides r q).0 t) ∙ there))
-            ∙ add_free _ _ _ _ (clear_cause _ v)))
+            ∙ add_free _ _ _ _ (no_cause _ v)))
         by false t = (
           k,
           m.keys q ∙ ap (λ b. if b then Some key else get old.keys q) t ∙ there,
@@ -127,8 +127,8 @@ module _ (roll : RollType) (old new : KeySetParts) (all : RollsTogether old.roll
     key-step (keyset.DeleteKey r) v m leaves aside none =
         (k, m.keys q ∙ ap (λ b. if b then None else get old.keys q) none ∙ there, refl)
     key-step (keyset.StartRoll r olds news now) v m leaves aside none =
-        let can = can_start (world_of old) r olds news (clear_cause _ v) in
-        elim (split_by (tolerates r roll)) [
+        let can = can_start (world_of old) r olds news (no_cause _ v) in
+        elim (cases_Bool (tolerates r roll)) [
           | inl t ↦ left (keyset.StartRoll r olds news now) r leaves refl t
           | inr t ↦ absurd (none-some Propagation1 (sym (can.alone roll t) ∙ going))
         ]
@@ -145,4 +145,4 @@ module _ (roll : RollType) (old new : KeySetParts) (all : RollsTogether old.roll
         (k, m.keys q ∙ ap (option_map (λ k. k)) there, refl)
     key-step (keyset.AbortRoll r) v m leaves aside none =
         left (keyset.AbortRoll r) r leaves refl
-        (beside r Propagation1 (ends_early _ (clear_cause _ v)) aside)
+        (beside r Propagation1 (ends_early _ (no_cause _ v)) aside)

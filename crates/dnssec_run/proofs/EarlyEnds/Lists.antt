@@ -5,17 +5,15 @@ use Rattle.std.specs.Prelude.{filter, if◌then◌else◌}
 use Rattle.std.specs.Str.{bytes_eq}
 use Rattle.std.specs.Cmp.Lexicographic.{bytes_decides}
 use Rattle.dnssec_key.specs.declared.roll.RollType.{RollType}
-use Rattle.dnssec_key.specs.declared.roll.RollType.TheVariants.{KskRoll, KskDoubleDsRoll}
-use Rattle.dnssec_key.specs.declared.roll.RollType.TheVariants.{ZskRoll, ZskDoubleSignatureRoll}
-use Rattle.dnssec_key.specs.declared.roll.RollType.TheVariants.{CskRoll, AlgorithmRoll}
 use Rattle.dnssec_key.specs.RollTable.{First, Second}
 use Rattle.dnssec_key.specs.Setters.{is_flag_setting}
-use Rattle.dnssec_keyset.specs.KeySet.{KeySetParts, Listed, Lists, listed_by, others, same_roll}
+use Rattle.dnssec_keyset.specs.KeySet.{KeySetParts, Listed, Lists, listed_by, same_roll}
 use Rattle.dnssec_keyset.specs.KeySet.{with_listed, without}
 use Rattle.dnssec_keyset.specs.Start.{is_listed}
 use Rattle.dnssec_keyset.specs.Step as keyset
-use Rattle.dnssec_keyset.proofs.Phases.{listed_by-with_listed}
+use Rattle.dnssec_keyset.proofs.Phases.{listed_by-with_listed, listed_by-without}
 use Rattle.dnssec_run.specs.EarlyEnds.{touches}
+use Rattle.std.proofs.Math.Bool.{and-true, and-false}
 
 -- ---- the references of a list that pass
 
@@ -48,12 +46,8 @@ is_listed-filter p (x ∷ xs) q = at (p x) refl (bytes_eq q x) refl (is_listed-f
     at false e true f rest =
         ap (λ b. is_listed (cond b (x ∷ filter p xs) (filter p xs)) q) e
         ∙ rest ∙ ap (λ b. is_listed xs q && b) (ap p (same_text q x f) ∙ e)
-        ∙ none (is_listed xs q)
+        ∙ and-false (is_listed xs q)
         ∙ sym (ap (λ c. (c || is_listed xs q) && p q) f ∙ ap p (same_text q x f) ∙ e)
-      where
-        none : (b : Bool) → (b && false) ≡ false
-        none true = refl
-        none false = refl
     at false e false f rest =
         ap (λ b. is_listed (cond b (x ∷ filter p xs) (filter p xs)) q) e
         ∙ rest ∙ sym (ap (λ c. (c || is_listed xs q) && p q) f)
@@ -74,27 +68,14 @@ pub record Follows (old new : Listed) (call : keyset.Call) (q : List ℕ) : Type
   pub olds : is_listed new.olds q ≡ (is_listed old.olds q && not (touches call q))
   pub news : is_listed new.news q ≡ (is_listed old.news q && not (touches call q))
 
-all_kept : (b : Bool) → b ≡ (b && true)
-all_kept true = refl
-all_kept false = refl
-
-listed_by-without : (r : List ℕ) (l : Lists) (roll : RollType) → listed_by (without r l) roll
-    ≡ record { olds = others r (listed_by l roll).olds; news = others r (listed_by l roll).news }
-listed_by-without r l KskRoll = refl
-listed_by-without r l KskDoubleDsRoll = refl
-listed_by-without r l ZskRoll = refl
-listed_by-without r l ZskDoubleSignatureRoll = refl
-listed_by-without r l CskRoll = refl
-listed_by-without r l AlgorithmRoll = refl
-
 module _ (roll : RollType) (old : Lists) (q : List ℕ) where
   -- nothing of the roll is changed
   same_kept : (new : Lists) (call : keyset.Call) → listed_by new roll ≡ listed_by old roll
       → touches call q ≡ false → Follows (listed_by old roll) (listed_by new roll) call q
   same_kept new call same none = record {
-    olds = ap (λ (l : Listed). is_listed l.olds q) same ∙ all_kept _
+    olds = ap (λ (l : Listed). is_listed l.olds q) same ∙ sym (and-true _)
         ∙ ap (λ b. is_listed (listed_by old roll).olds q && not b) (sym none);
-    news = ap (λ (l : Listed). is_listed l.news q) same ∙ all_kept _
+    news = ap (λ (l : Listed). is_listed l.news q) same ∙ sym (and-true _)
         ∙ ap (λ b. is_listed (listed_by old roll).news q && not b) (sym none);
   }
 

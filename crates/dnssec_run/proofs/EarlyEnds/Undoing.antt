@@ -5,7 +5,8 @@ use Rattle.std.proofs.Common.{Some}
 use Rattle.std.specs.Prelude.{slice_get, if◌then◌else◌}
 use Rattle.std.specs.Option.{option_map, option_map_or}
 use Rattle.std.specs.FinMap.{get}
-use Rattle.std.proofs.lemmas.Bool.{true≢false, and_parts, cases_lt}
+use Rattle.std.proofs.lemmas.Bool.{true≢false, and_parts, cases_lt, cases_Bool, not-true, or_left}
+use Rattle.std.proofs.lemmas.Bool.{or_right}
 use Rattle.std.proofs.lemmas.Option.{same_Some, none-some, slice_get_cases}
 use Rattle.dnssec_key.specs.declared.kind.KeyType.{KeyType}
 use Rattle.dnssec_key.specs.declared.roll.RollType.{RollType}
@@ -29,7 +30,7 @@ use Rattle.dnssec_run.specs.Plain.{start_of}
 use Rattle.dnssec_run.specs.Published.{World}
 use Rattle.dnssec_run.specs.Record.{IsRun, call_of, is_accepted, reply_of, world_at}
 use Rattle.dnssec_run.specs.WholeRolls.{IsAccepted}
-use Rattle.dnssec_run.proofs.Chain.Allowed.{can_start, clear_cause}
+use Rattle.dnssec_run.proofs.Chain.Allowed.{can_start}
 use Rattle.dnssec_run.proofs.Chain.Rolls.{same-same}
 use Rattle.dnssec_run.proofs.Chain.OneKey.{may_by}
 use Rattle.dnssec_run.proofs.Chain.Tale.{CanStart, early-end-parts, seen, start-parts}
@@ -39,29 +40,14 @@ use Rattle.dnssec_run.proofs.EarlyEnds.Roles.{all-tied}
 use Rattle.dnssec_run.proofs.EarlyEnds.Tables.{tied, undone_facts}
 use Rattle.dnssec_run.proofs.Laws.{stays-sound}
 use Rattle.dnssec_run.proofs.WholeRolls.Order.{world_of}
-use Rattle.dnssec_run.proofs.WholeRolls.Phases.{split_by}
 use Rattle.dnssec_run.proofs.WholeRolls.Replies.{accepted_step, refused_step, step-made}
-
-not_touched : (b : Bool) → not b ≡ true → b ≡ false
-not_touched true e = absurd (true≢false (sym e))
-not_touched false e = refl
-
-and_true : (b : Bool) → (b && true) ≡ b
-and_true true = refl
-and_true false = refl
+use Rattle.dnssec_keyset.proofs.Laws.{no_cause}
+use Rattle.std.proofs.Math.Bool.{and-true}
 
 one_listed : (a b : Bool) → (a ≡ true → ⊥) → (b ≡ true → ⊥) → (a ≡ false) × (b ≡ false)
 one_listed true b p r = absurd (p refl)
 one_listed false true p r = absurd (r refl)
 one_listed false false p r = (refl, refl)
-
-or_left : (a b : Bool) → a ≡ true → (a || b) ≡ true
-or_left true b e = refl
-or_left false b e = absurd (true≢false (sym e))
-
-or_right : (a b : Bool) → b ≡ true → (a || b) ≡ true
-or_right true b e = refl
-or_right false b e = e
 
 unmapped : (o : Option KeyParts) (f : KeyParts → KeyParts) → ((k : KeyParts) → f k ≡ k)
     → option_map f o ≡ o
@@ -156,14 +142,14 @@ module _ (name : List ℕ) (calls : List Call) (entries : List Entry)
           × ((may_start roll is_old is_new k.keytype && tied k.keytype) ≡ true)
 
       began : (is_old || is_new) ≡ true → Began
-      began l = elim (split_by is_old) [
+      began l = elim (cases_Bool is_old) [
         | inl t ↦ let x = can.old_is q t in (x.0, x.1, may x.0 x.1)
         | inr t ↦ let x = can.new_is q (sym (ap (λ b. b || is_new) t) ∙ l) in
             (x.0, x.1, may x.0 x.1)
       ]
         where
           can : CanStart roll (seen (world_of old)) olds news
-          can = can_start (world_of old) roll olds news (clear_cause _ started_so.0)
+          can = can_start (world_of old) roll olds news (no_cause _ started_so.0)
 
           may : (k : KeyParts) → get old.keys q ≡ Some k
               → (may_start roll is_old is_new k.keytype && tied k.keytype) ≡ true
@@ -260,15 +246,15 @@ module _ (name : List ℕ) (calls : List Call) (entries : List Entry)
               untouched-here s q n c e ci ei later t u in
               record {
                 of_olds = λ l. let x = and_parts _ _ (sym f.olds ∙ l) in
-                    next (h.of_olds x.0) (not_touched _ x.1);
+                    next (h.of_olds x.0) (not-true _ x.1);
                 of_news = λ l. let x = and_parts _ _ (sym f.news ∙ l) in
-                    next (h.of_news x.0) (not_touched _ x.1);
+                    next (h.of_news x.0) (not-true _ x.1);
                 olds_are = λ u. f.olds
                     ∙ ap (λ b. is_listed (listed_by (at n).set.lists roll).olds q && not b) (here u)
-                    ∙ and_true _ ∙ h.olds_are (untouched-before s q n u);
+                    ∙ and-true _ ∙ h.olds_are (untouched-before s q n u);
                 news_are = λ u. f.news
                     ∙ ap (λ b. is_listed (listed_by (at n).set.lists roll).news q && not b) (here u)
-                    ∙ and_true _ ∙ h.news_are (untouched-before s q n u);
+                    ∙ and-true _ ∙ h.news_are (untouched-before s q n u);
                 key = λ k there may l u.
                     let x = h.key k there may l (untouched-before s q n u) in
                     let own : may_list roll x.0.keytype ≡ true = ap (may_list roll) x.2
@@ -328,7 +314,7 @@ module _ (name : List ℕ) (calls : List Call) (entries : List Entry)
           (ok.0, ok.1)
 
       stands : (q : List ℕ) → Standing q here (IsUntouched calls entries s n q)
-      stands q = standing q n later within none (ends_early _ (clear_cause _ ended_so.0))
+      stands q = standing q n later within none (ends_early _ (no_cause _ ended_so.0))
         where
           within : n ≤ length entries
           within = elim ((slice_get_cases entries n).1) [

@@ -34,7 +34,7 @@ use Rattle.dnssec_run.proofs.Chain.Tale.{start-parts}
 use Rattle.dnssec_keyset.proofs.Tests.{◌⇒◌, and-both}
 use Rattle.dnssec_run.proofs.Chain.Rolls.{same-same}
 use Rattle.dnssec_run.proofs.Chain.OneKey.{may_by}
-use Rattle.dnssec_run.proofs.Chain.Allowed.{can_start, clear_cause}
+use Rattle.dnssec_run.proofs.Chain.Allowed.{can_start}
 use Rattle.dnssec_run.proofs.WholeRolls.Going.{old-step, new-step, still, IsNoAdd}
 use Rattle.dnssec_run.proofs.WholeRolls.Keys.{Idle, in_order}
 use Rattle.dnssec_run.proofs.WholeRolls.Listed.{began, newly, oldly, over_facts}
@@ -44,6 +44,7 @@ use Rattle.dnssec_keyset.proofs.Accepted.{finishes, add_free}
 use Rattle.dnssec_run.proofs.WholeRolls.Phases.{phase_fits, phase_is, put_there, roll_now}
 use Rattle.dnssec_run.proofs.WholeRolls.Positions.{in-order, nothing_set}
 use Rattle.dnssec_run.proofs.WholeRolls.Replies.{step-made, added-next, accepted_step, refused_step}
+use Rattle.dnssec_keyset.proofs.Laws.{no_cause}
 
 -- ---- the run
 
@@ -183,7 +184,7 @@ module _ (name : List ℕ) (calls : List Call) (entries : List Entry) (run : IsR
             apart true t =
                 absurd (true≢false
                 (sym (ap is_some (ap (get (at n).set.keys) ((bytes_decides r q).0 t) ∙ there))
-                ∙ add_free _ _ _ _ (clear_cause _ v)))
+                ∙ add_free _ _ _ _ (no_cause _ v)))
             apart false t = ap (λ b. if b then suc n else (at n).added q) t
         no_add (keyset.Set a b) v = refl
         no_add (keyset.DeleteKey a) v = refl
@@ -270,7 +271,7 @@ module _ (name : List ℕ) (calls : List Call) (entries : List Entry) (run : IsR
         step-made name calls entries run s (keyset.StartRoll roll olds news now) st.0 in
         let ok = accepted_step (keyset.verdict old (keyset.StartRoll roll olds news now)) old new
         (keyset.StartRoll roll olds news now) st.0.entry.reply st.1 step in
-        let can = can_start (world_of old) roll olds news (clear_cause _ ok.0) in
+        let can = can_start (world_of old) roll olds news (no_cause _ ok.0) in
         let may = λ (q : List ℕ) (k : KeyParts) (e : get old.keys q ≡ Some k).
         may_by roll (is_listed olds q) (is_listed news q) k.keytype
         (λ t. let x = can.old_is q t in
@@ -337,7 +338,7 @@ module _ (name : List ℕ) (calls : List Call) (entries : List Entry) (run : IsR
         step-made name calls entries run n (keyset.RollDone roll) ends.0 in
         let ok = accepted_step (keyset.verdict old (keyset.RollDone roll)) old new
         (keyset.RollDone roll) ends.0.entry.reply ends.1 step in
-        let done = finishes _ (clear_cause _ ok.0) in
+        let done = finishes _ (no_cause _ ok.0) in
         let h = lasting st n later within none in
         let keys = λ (q : List ℕ). ok.1.keys q ∙ unmapped (get old.keys q) in
         let facts = λ (q : List ℕ) (k : KeyParts) (e : get old.keys q ≡ Some k).

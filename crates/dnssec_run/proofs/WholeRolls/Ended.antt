@@ -34,8 +34,10 @@ use Rattle.dnssec_run.proofs.Chain.Tables.{Visible, DsVisible, RrsigVisible}
 use Rattle.dnssec_run.proofs.WholeRolls.Keys.{Expiring, Idle, Phase, Spreading, blank_orderly}
 use Rattle.dnssec_run.proofs.WholeRolls.Keys.{each_dated, each_dated-at, in_order, orderly}
 use Rattle.dnssec_run.proofs.WholeRolls.Keys.{unseen_orderly}
-use Rattle.dnssec_run.proofs.WholeRolls.Phases.{distinct, phase_own}
+use Rattle.dnssec_run.proofs.WholeRolls.Phases.{phase_own}
 use Rattle.dnssec_run.proofs.Chain.EarlyEnds.{role-ended}
+use Rattle.dnssec_run.proofs.Chain.Gentles.{distinct}
+use Rattle.std.proofs.Math.Bool.{and-true, and-false}
 
 -- ---- flags
 
@@ -84,14 +86,6 @@ undone_orderly sd r o i k v d g own may fit =
 
 -- ---- lists
 
-and_false : (b : Bool) → (b && false) ≡ false
-and_false true = refl
-and_false false = refl
-
-and_true : (b : Bool) → (b && true) ≡ b
-and_true true = refl
-and_true false = refl
-
 -- a reference of those that pass
 listed_filter : (p : List ℕ → Bool) (q : List ℕ) (qs : List (List ℕ))
     → is_listed (filter p qs) q ≡ (is_listed qs q && p q)
@@ -110,7 +104,7 @@ listed_filter p q (x ∷ xs) = at (p x) refl (bytes_eq q x) refl (listed_filter 
         ∙ sym (ap (λ c. (c || is_listed xs q) && p q) u)
     at false t true u h = let fails : p q ≡ false = ap p ((bytes_decides q x).0 u) ∙ t in
         ap (λ b. is_listed (cond b (x ∷ filter p xs) (filter p xs)) q) t ∙ h
-        ∙ ap (λ b. is_listed xs q && b) fails ∙ and_false (is_listed xs q) ∙ sym fails
+        ∙ ap (λ b. is_listed xs q && b) fails ∙ and-false (is_listed xs q) ∙ sym fails
         ∙ sym (ap (λ c. (c || is_listed xs q) && p q) u)
     at false t false u h = ap (λ b. is_listed (cond b (x ∷ filter p xs) (filter p xs)) q) t ∙ h
         ∙ sym (ap (λ c. (c || is_listed xs q) && p q) u)
@@ -139,7 +133,7 @@ alike_without sd q r a apart x own = by x
   where
     kept : (qs : List (List ℕ)) → is_listed (others r qs) q ≡ is_listed qs q
     kept qs = listed_filter (λ q. not (bytes_eq r q)) q qs
-        ∙ ap (λ b. is_listed qs q && not b) apart ∙ and_true (is_listed qs q)
+        ∙ ap (λ b. is_listed qs q && not b) apart ∙ and-true (is_listed qs q)
 
     by : (x : RollType)
         → (is_listed (listed_by (without r a) x).olds q ≡ is_listed (listed_by a x).olds q)

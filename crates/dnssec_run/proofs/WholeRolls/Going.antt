@@ -8,7 +8,7 @@ use Rattle.std.specs.Option.{option_map}
 use Rattle.std.specs.Str.{bytes_eq}
 use Rattle.std.specs.Cmp.Lexicographic.{bytes_decides}
 use Rattle.std.specs.FinMap.{get}
-use Rattle.std.proofs.lemmas.Bool.{and_parts, true≢false}
+use Rattle.std.proofs.lemmas.Bool.{and_parts, true≢false, cases_Bool}
 use Rattle.std.proofs.lemmas.Option.{none-some}
 use Rattle.dnssec_key.specs.declared.roll.RollType.{RollType}
 use Rattle.dnssec_key.specs.declared.roll.RollState.{RollState}
@@ -31,12 +31,12 @@ use Rattle.dnssec_keyset.specs.Step as keyset
 use Rattle.dnssec_keyset.proofs.Flags.{is_stale, may_list, tolerates, waited1, waited2}
 use Rattle.dnssec_run.proofs.Chain.Tale.{start-parts}
 use Rattle.dnssec_run.proofs.Chain.Facts.{other}
-use Rattle.dnssec_run.proofs.Chain.Allowed.{can_start, clear_cause, waits_in_phase}
+use Rattle.dnssec_run.proofs.Chain.Allowed.{can_start, waits_in_phase}
 use Rattle.dnssec_run.proofs.WholeRolls.Listed.{new_facts, newly, old_start, old_wait, oldly}
 use Rattle.dnssec_run.proofs.WholeRolls.OrderedKeys.{back}
 use Rattle.dnssec_run.proofs.WholeRolls.Order.{is_calm, world_of}
-use Rattle.dnssec_run.proofs.WholeRolls.Phases.{put_aside, put_there, roll_now, split_by}
-use Rattle.dnssec_keyset.proofs.Laws.{same-is}
+use Rattle.dnssec_run.proofs.WholeRolls.Phases.{put_aside, put_there, roll_now}
+use Rattle.dnssec_keyset.proofs.Laws.{same-is, no_cause}
 
 -- ---- one call while the roll is in progress
 
@@ -79,9 +79,9 @@ module _ (roll : RollType) (old new : KeySetParts) where
       -- another roll that ends early runs beside this one
       ends_beside : (p : RollType) → keyset.verdict old (keyset.AbortRoll p) ≡ keyset.Clear
           → (end_of (keyset.AbortRoll p) ≡ Some roll → ⊥) → tolerates p roll ≡ true
-      ends_beside p v not_end = elim (split_by (same_roll p roll)) [
+      ends_beside p v not_end = elim (cases_Bool (same_roll p roll)) [
         | inl t ↦ absurd (not_end (ap Some (same-is p roll t)))
-        | inr t ↦ beside p Propagation1 (ends_early _ (clear_cause _ v)) t
+        | inr t ↦ beside p Propagation1 (ends_early _ (no_cause _ v)) t
       ]
 
       -- an old key stays old
@@ -136,7 +136,7 @@ module _ (roll : RollType) (old new : KeySetParts) where
           by : (b : Bool) → bytes_eq r q ≡ b → Stays q
           by true t = absurd (true≢false
               (sym (ap is_some (ap (get old.keys) ((bytes_decides r q).0 t) ∙ e))
-              ∙ add_free _ _ _ _ (clear_cause _ v)))
+              ∙ add_free _ _ _ _ (no_cause _ v)))
           by false t = (k, m.keys q ∙ ap (λ b. if b then Some key else get old.keys q) t ∙ e, w)
       new-step (keyset.Set r s) plain v m leaves not_end q k e w = (
         (if bytes_eq r q then set_by s k else k),
@@ -155,12 +155,12 @@ module _ (roll : RollType) (old new : KeySetParts) where
           by true t = absurd (true≢false (sym (new_facts roll k.keytype w).stays
               ∙ ap not (stale (is_stale k.keytype) refl
               (ap deletion_refusal (sym (ap (get old.keys) ((bytes_decides r q).0 t) ∙ e))
-              ∙ clear_cause _ v))))
+              ∙ no_cause _ v))))
           by false t = (k, m.keys q ∙ ap (λ b. if b then None else get old.keys q) t ∙ e, w)
       new-step (keyset.StartRoll p olds news now) plain v m leaves not_end q k e w =
-          let can = can_start (world_of old) p olds news (clear_cause _ v) in
+          let can = can_start (world_of old) p olds news (no_cause _ v) in
           let together : tolerates p roll ≡ true =
-          elim (split_by (tolerates p roll)) [
+          elim (cases_Bool (tolerates p roll)) [
             | inl t ↦ t
             | inr t ↦ absurd
                 (none-some x (sym (can.alone roll t) ∙ going))
@@ -175,7 +175,7 @@ module _ (roll : RollType) (old new : KeySetParts) where
       new-step (keyset.Report p Second ttl now) plain v m leaves not_end q k e w =
           (after_report p Second now k, m.keys q ∙ ap (option_map (after_report p Second now)) e, w)
       new-step (keyset.Wait p First now) plain v m leaves not_end q k e w =
-          elim (split_by (same_roll p roll)) [
+          elim (cases_Bool (same_roll p roll)) [
             | inl t ↦ (
               after_wait p First now k,
               m.keys q
@@ -191,7 +191,7 @@ module _ (roll : RollType) (old new : KeySetParts) where
             )
           ]
       new-step (keyset.Wait p Second now) plain v m leaves not_end q k e w =
-          elim (split_by (same_roll p roll)) [
+          elim (cases_Bool (same_roll p roll)) [
             | inl t ↦ (
               after_wait p Second now k,
               m.keys q
@@ -221,7 +221,7 @@ module _ (roll : RollType) (old new : KeySetParts) where
 
       still-roll : (p : RollType) (y : RollState) → new.rolls ≡ with_phase old.rolls p (Some y)
           → GoesOnStill
-      still-roll p y rolls = elim (split_by (same_roll p roll)) [
+      still-roll p y rolls = elim (cases_Bool (same_roll p roll)) [
         | inl t ↦ (y, put_there old.rolls new.rolls p (Some y) roll rolls t)
         | inr t ↦ (x, put_aside old.rolls new.rolls p (Some y) roll rolls t ∙ going)
       ]
@@ -234,11 +234,11 @@ module _ (roll : RollType) (old new : KeySetParts) where
       still (keyset.StartRoll p olds news now) m not_end = still-roll p Propagation1 m.rolls
       still (keyset.Report p half ttl now) m not_end = still-roll p _ m.rolls
       still (keyset.Wait p half now) m not_end = still-roll p _ m.rolls
-      still (keyset.RollDone p) m not_end = elim (split_by (same_roll p roll)) [
+      still (keyset.RollDone p) m not_end = elim (cases_Bool (same_roll p roll)) [
         | inl t ↦ absurd (not_end (ap Some (same-is p roll t)))
         | inr t ↦ (x, put_aside old.rolls new.rolls p None roll m.rolls t ∙ going)
       ]
-      still (keyset.AbortRoll p) m not_end = elim (split_by (same_roll p roll)) [
+      still (keyset.AbortRoll p) m not_end = elim (cases_Bool (same_roll p roll)) [
         | inl t ↦ absurd (not_end (ap Some (same-is p roll t)))
         | inr t ↦ (x, put_aside old.rolls new.rolls p None roll m.rolls t ∙ going)
       ]

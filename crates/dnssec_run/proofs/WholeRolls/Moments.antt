@@ -1,6 +1,6 @@
 -- No stamp is later than the time of the set, from one set to the next: for the clause `waits`.
 use Rattle.std.proofs.Common.{◌≡◌, ℕ, ◌≤◌, ◌⊎◌, inl, inr, Bool, true, false, refl, sym, ◌∙◌, ap}
-use Rattle.std.proofs.Common.{arith, Option, None, Some}
+use Rattle.std.proofs.Common.{arith, None, Some}
 use Rattle.std.specs.Prelude.{if◌then◌else◌}
 use Rattle.std.specs.Str.{bytes_eq}
 use Rattle.std.proofs.lemmas.Option.{same_Some, none-some}
@@ -57,11 +57,6 @@ unstamped (call.Propagation2Complete a b c) = tt
 unstamped (call.CacheExpired2 a b) = tt
 unstamped (call.RollDone a) = tt
 unstamped (call.AbortRoll a) = tt
-
--- the moments of calls are no earlier than the time of the set before
-abbrev AtLeast : ℕ → Option ℕ → Type 0
-AtLeast t None = Unit {0}
-AtLeast t (Some now) = t ≤ now
 
 start-late : (r : RollType) (now : ℕ) (o i : Bool) (k : KeyParts) (s : Stamp) (x : ℕ)
     → stamp_of s (after_start r now o i k) ≡ Some x → stamp_of s k ≡ Some x

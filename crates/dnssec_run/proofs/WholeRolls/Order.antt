@@ -1,6 +1,6 @@
 -- Calls that set nothing leave the keys of a set in order: for all laws of whole rolls.
-use Rattle.std.proofs.Common.{◌≡◌, ℕ, ◌⊎◌, inl, inr, Bool, true, false, not, refl, sym, ◌∙◌, ap}
-use Rattle.std.proofs.Common.{subst, List, Option, None, Some}
+use Rattle.std.proofs.Common.{◌≡◌, ℕ, inl, inr, Bool, true, false, not, refl, sym, ◌∙◌, ap, subst}
+use Rattle.std.proofs.Common.{List, Option, None, Some}
 use Rattle.std.specs.Prelude.{if◌then◌else◌}
 use Rattle.std.specs.Str.{bytes_eq}
 use Rattle.std.specs.Cmp.Lexicographic.{bytes_decides, slice_cmp}
@@ -19,7 +19,7 @@ use Rattle.dnssec_key.specs.Setters.{set_by}
 use Rattle.dnssec_keyset.specs.Laws.{LeavesOthers}
 use Rattle.dnssec_keyset.specs.Step as keyset
 use Rattle.dnssec_keyset.proofs.Sides.{leaves-others}
-use Rattle.dnssec_keyset.proofs.Laws.{moved}
+use Rattle.dnssec_keyset.proofs.Laws.{moved, no_cause}
 use Rattle.dnssec_run.specs.Published.{World as RealWorld}
 use Rattle.dnssec_run.specs.Plain.{is_plain_setting, sets_nothing}
 use Rattle.dnssec_keyset.proofs.Flags.{SideOf, affects, may_list, is_blank, has_role, may_start}
@@ -29,19 +29,21 @@ use Rattle.dnssec_run.proofs.Chain.Setters.{Harmless, harmless}
 use Rattle.dnssec_run.proofs.Chain.Rolls.{clash}
 use Rattle.dnssec_run.proofs.Chain.OneKey.{may_by}
 use Rattle.dnssec_run.proofs.Chain.Kinds.{role_start, role_waited1, role_waited2}
-use Rattle.dnssec_run.proofs.Chain.Allowed.{can_start, clear_cause, waits_in_phase}
+use Rattle.dnssec_run.proofs.Chain.Allowed.{can_start, waits_in_phase}
 use Rattle.dnssec_run.proofs.WholeRolls.Keys.{Idle, Spreading, blank_orderly, in_order}
 use Rattle.dnssec_keyset.proofs.Accepted.{ends_early, finishes, spreads_first, spreads_second}
 use Rattle.dnssec_run.proofs.WholeRolls.Ended.{Alike, alike_put, alike_same, alike_set}
 use Rattle.dnssec_run.proofs.WholeRolls.Ended.{alike_without, can_end, can_end-alike, can_end-idle}
 use Rattle.dnssec_run.proofs.WholeRolls.Ended.{can_end-set, ended_key, listed_start}
-use Rattle.dnssec_run.proofs.WholeRolls.Phases.{idle_is, no_phases, others_none, phase_fits}
+use Rattle.dnssec_run.proofs.WholeRolls.Phases.{idle_is, others_none, phase_fits}
 use Rattle.dnssec_run.proofs.WholeRolls.Phases.{phase_is, put_aside, put_there}
 use Rattle.dnssec_run.proofs.WholeRolls.OrderedKeys.{Order, back, calm_side, harmless_key}
 use Rattle.dnssec_run.proofs.WholeRolls.OrderedKeys.{other_side, own_side, report_first}
 use Rattle.dnssec_run.proofs.WholeRolls.OrderedKeys.{report_second, start_key, undone_key}
 use Rattle.dnssec_run.proofs.WholeRolls.OrderedKeys.{wait_first, wait_second}
 use Rattle.dnssec_run.proofs.Chain.EarlyEnds.{role-ended}
+use Rattle.dnssec_keyset.proofs.Phases.{no_phases}
+use Rattle.std.proofs.lemmas.Bool.{cases_Bool}
 
 abbrev pub is_calm : KeySetParts → keyset.Call → Bool
 is_calm set (keyset.AddKey r k) = is_idle k.keytype
@@ -184,10 +186,6 @@ module _ (sd : SideOf) (old new : KeySetParts) where
           ∙ others_none r Propagation1 q (phase_of old.rolls q) refl
           (ap (λ ph. phase_fits ph q (phase_of old.rolls q)) (sym there) ∙ h.rolls q e) t)
 
-  split_by : (b : Bool) → (b ≡ true) ⊎ (b ≡ false)
-  split_by true = inl refl
-  split_by false = inr refl
-
   role_started : (r : RollType) (now : ℕ) (o i : Bool) (k : KeyParts)
       → has_role sd (after_start r now o i k).keytype ≡ has_role sd k.keytype
   role_started r now o i k = ap (λ (k : KeyParts). has_role sd k.keytype) (start-parts r now o i k)
@@ -232,34 +230,35 @@ module _ (sd : SideOf) (old new : KeySetParts) where
       puts_side r None m (λ q t. alike_without sd q r old.lists t) (h sd)
       (λ j e. absurd (none-some j e))
   changed_side (keyset.StartRoll r olds news now) plain leaves v m h =
-      elim (split_by (affects sd r)) [
+      elim (cases_Bool (affects sd r)) [
         | inl own ↦ start_side r olds news now
-            (can_start (world_of old) r olds news (clear_cause _ v))
+            (can_start (world_of old) r olds news (no_cause _ v))
             m own h
         | inr out ↦ other_side sd old new r (Some Propagation1)
             (λ q. after_start r now (is_listed q olds) (is_listed q news)) out m
             (λ q. alike_put sd q old.lists r _ out) (λ q k e l. leaves r q k refl e l)
             (λ q k. role_started r now (is_listed q olds) (is_listed q news) k) (h sd)
       ]
-  changed_side (keyset.Report r First ttl now) plain leaves v m h = elim (split_by (affects sd r)) [
+  changed_side (keyset.Report r First ttl now) plain leaves v m h =
+      elim (cases_Bool (affects sd r)) [
     | inl own ↦ own_side sd old new r Propagation1 (CacheExpire1 ttl)
-        (λ q. after_report r First now) own refl (spreads_first _ (clear_cause _ v)) m
+        (λ q. after_report r First now) own refl (spreads_first _ (no_cause _ v)) m
         (λ q k. report_first sd r now k own) (λ q k. refl) (h sd)
     | inr out ↦ other_side sd old new r (Some (CacheExpire1 ttl)) (λ q. after_report r First now)
         out m (λ q. alike_put sd q old.lists r _ out) (λ q k e l. leaves r q k refl e l)
         (λ q k. refl) (h sd)
   ]
   changed_side (keyset.Report r Second ttl now) plain leaves v m h =
-      elim (split_by (affects sd r)) [
+      elim (cases_Bool (affects sd r)) [
         | inl own ↦ own_side sd old new r Propagation2 (CacheExpire2 ttl)
-            (λ q. after_report r Second now) own refl (spreads_second _ (clear_cause _ v)) m
+            (λ q. after_report r Second now) own refl (spreads_second _ (no_cause _ v)) m
             (λ q k. report_second sd r now k own) (λ q k. refl) (h sd)
         | inr out ↦ other_side sd old new r (Some (CacheExpire2 ttl))
             (λ q. after_report r Second now)
             out m (λ q. alike_same sd q old.lists) (λ q k e l. leaves r q k refl e l)
             (λ q k. refl) (h sd)
       ]
-  changed_side (keyset.Wait r First now) plain leaves v m h = elim (split_by (affects sd r)) [
+  changed_side (keyset.Wait r First now) plain leaves v m h = elim (cases_Bool (affects sd r)) [
     | inl own ↦ let w = waits_in_phase r false now (world_of old) v in
         own_side sd old new r (CacheExpire1 w.0) Propagation2 (λ q. after_wait r First now) own refl
         w.1 m (λ q k. wait_first sd r now k own) (λ q k. refl) (h sd)
@@ -267,7 +266,7 @@ module _ (sd : SideOf) (old new : KeySetParts) where
         (λ q. alike_same sd q old.lists) (λ q k e l. leaves r q k refl e l)
         (λ q k. role_waited1 sd r k.keytype) (h sd)
   ]
-  changed_side (keyset.Wait r Second now) plain leaves v m h = elim (split_by (affects sd r)) [
+  changed_side (keyset.Wait r Second now) plain leaves v m h = elim (cases_Bool (affects sd r)) [
     | inl own ↦ let w = waits_in_phase r true now (world_of old) v in
         own_side sd old new r (CacheExpire2 w.0) Done (λ q. after_wait r Second now) own refl w.1 m
         (λ q k. wait_second sd r now k own) (λ q k. refl) (h sd)
@@ -275,16 +274,16 @@ module _ (sd : SideOf) (old new : KeySetParts) where
         (λ q. alike_same sd q old.lists) (λ q k e l. leaves r q k refl e l)
         (λ q k. role_waited2 sd r k.keytype) (h sd)
   ]
-  changed_side (keyset.AbortRoll r) plain leaves v m h = elim (split_by (affects sd r)) [
-    | inl own ↦ early_end_side r (ends_early _ (clear_cause _ v)) m own (h sd)
+  changed_side (keyset.AbortRoll r) plain leaves v m h = elim (cases_Bool (affects sd r)) [
+    | inl own ↦ early_end_side r (ends_early _ (no_cause _ v)) m own (h sd)
     | inr out ↦ other_side sd old new r None
         (λ q. after_early_end r (is_listed q (listed_by old.lists r).olds)
         (is_listed q (listed_by old.lists r).news)) out m
         (λ q. alike_put sd q old.lists r _ out) (λ q k e l. leaves r q k refl e l)
         (λ q k. role_ended_early r _ _ k) (h sd)
   ]
-  changed_side (keyset.RollDone r) plain leaves v m h = elim (split_by (affects sd r)) [
-    | inl own ↦ done_side r (finishes _ (clear_cause _ v)) m own (h sd)
+  changed_side (keyset.RollDone r) plain leaves v m h = elim (cases_Bool (affects sd r)) [
+    | inl own ↦ done_side r (finishes _ (no_cause _ v)) m own (h sd)
     | inr out ↦ other_side sd old new r None (λ q k. k) out m (λ q. alike_same sd q old.lists)
         (λ q k e l. leaves r q k refl e l) (λ q k. refl) (h sd)
   ]

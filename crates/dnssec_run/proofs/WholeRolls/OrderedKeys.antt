@@ -23,10 +23,11 @@ use Rattle.dnssec_run.proofs.WholeRolls.Keys.{report_orderly, start_orderly, uns
 use Rattle.dnssec_run.proofs.WholeRolls.Keys.{wait1_orderly, wait2_orderly}
 use Rattle.dnssec_run.proofs.WholeRolls.Ended.{Alike, can_end, can_end-alike, can_end-unseen}
 use Rattle.dnssec_run.proofs.WholeRolls.Ended.{undone_orderly}
-use Rattle.dnssec_run.proofs.WholeRolls.Phases.{at_phase, distinct, here_fits, is_live, none_fits}
+use Rattle.dnssec_run.proofs.WholeRolls.Phases.{at_phase, here_fits, is_live, none_fits}
 use Rattle.dnssec_run.proofs.WholeRolls.Phases.{others_none, own_at, phase_fits, phase_is}
 use Rattle.dnssec_run.proofs.WholeRolls.Phases.{phase_own, put_aside, put_there}
 use Rattle.dnssec_keyset.proofs.Laws.{same-is}
+use Rattle.dnssec_run.proofs.Chain.Gentles.{distinct}
 
 -- the rolls and the keys of a side are in order, and the keys stay so if its roll ends early
 pub record Order (sd : SideOf) (set : KeySetParts) : Type 0 where

@@ -1,18 +1,13 @@
 -- The phase of a side and those of its rolls, before and after a call: for all laws of whole rolls.
-use Rattle.std.proofs.Common.{◌≡◌, ◌⊎◌, inl, inr, Bool, true, false, not, refl, sym, ◌∙◌, ap}
-use Rattle.std.proofs.Common.{Option, None, Some}
+use Rattle.std.proofs.Common.{◌≡◌, Bool, true, false, not, refl, sym, ◌∙◌, ap, Option, None, Some}
 use Rattle.std.specs.Prelude.{if◌then◌else◌}
 use Rattle.std.proofs.lemmas.Bool.{true≢false}
 use Rattle.dnssec_key.specs.declared.roll.RollType.{RollType}
-use Rattle.dnssec_key.specs.declared.roll.RollType.TheVariants.{KskRoll, KskDoubleDsRoll}
-use Rattle.dnssec_key.specs.declared.roll.RollType.TheVariants.{ZskRoll, ZskDoubleSignatureRoll}
-use Rattle.dnssec_key.specs.declared.roll.RollType.TheVariants.{CskRoll, AlgorithmRoll}
 use Rattle.dnssec_key.specs.declared.roll.RollState.{RollState}
 use Rattle.dnssec_key.specs.declared.roll.RollState.TheVariants.{Propagation1, CacheExpire1}
 use Rattle.dnssec_key.specs.declared.roll.RollState.TheVariants.{Propagation2, CacheExpire2}
 use Rattle.dnssec_key.specs.declared.roll.RollState.TheVariants.{Done}
-use Rattle.dnssec_keyset.specs.KeySet.{KeySetParts, Rolls, phase_of, with_phase, no_rolls}
-use Rattle.dnssec_keyset.specs.KeySet.{same_roll}
+use Rattle.dnssec_keyset.specs.KeySet.{KeySetParts, Rolls, phase_of, with_phase, same_roll}
 use Rattle.dnssec_keyset.proofs.Phases.{phase_of-with_phase}
 use Rattle.dnssec_keyset.proofs.Flags.{SideOf, affects}
 use Rattle.dnssec_run.proofs.Chain.Rolls.{same-same}
@@ -136,14 +131,6 @@ own_at sd r Propagation2 e = e
 own_at sd r (CacheExpire2 t) e = e
 own_at sd r Done e = refl
 
-pub distinct : (sd : SideOf) (r q : RollType) → affects sd r ≡ false → affects sd q ≡ true
-    → same_roll r q ≡ false
-distinct sd r q outside inside = by (same_roll r q) refl
-  where
-    by : (b : Bool) → same_roll r q ≡ b → b ≡ false
-    by true e = absurd (true≢false (sym inside ∙ ap (affects sd) (sym (same-is r q e)) ∙ outside))
-    by false e = refl
-
 -- the phase of one roll after it was put
 pub put_there : (old new : Rolls) (r : RollType) (o : Option RollState) (q : RollType)
     → new ≡ with_phase old r o → same_roll r q ≡ true → phase_of new q ≡ o
@@ -155,18 +142,7 @@ pub put_aside : (old new : Rolls) (r : RollType) (o : Option RollState) (q : Rol
 put_aside old new r o q e t = ap (λ x. phase_of x q) e ∙ phase_of-with_phase old r o q
     ∙ ap (λ b. if b then o else phase_of old q) t
 
-pub no_phases : (q : RollType) → phase_of no_rolls q ≡ None
-no_phases KskRoll = refl
-no_phases KskDoubleDsRoll = refl
-no_phases ZskRoll = refl
-no_phases ZskDoubleSignatureRoll = refl
-no_phases CskRoll = refl
-no_phases AlgorithmRoll = refl
-
 -- a call that leaves a roll's phase
 abbrev pub roll_now : KeySetParts → RollType → Option RollState
 roll_now set r = phase_of set.rolls r
 
-pub split_by : (b : Bool) → (b ≡ true) ⊎ (b ≡ false)
-split_by true = inl refl
-split_by false = inr refl

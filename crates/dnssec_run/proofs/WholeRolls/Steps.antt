@@ -7,7 +7,7 @@ use Rattle.std.specs.Prelude.{is_some, if◌then◌else◌}
 use Rattle.std.specs.Option.{option_map}
 use Rattle.std.specs.FinMap.{get}
 use Rattle.std.specs.Str.{bytes_eq}
-use Rattle.std.proofs.lemmas.Bool.{true≢false}
+use Rattle.std.proofs.lemmas.Bool.{true≢false, cases_Bool}
 use Rattle.std.proofs.lemmas.Option.{same_Some, none-some}
 use Rattle.dnssec_key.specs.declared.roll.RollType.{RollType}
 use Rattle.dnssec_key.specs.declared.roll.RollState.{RollState}
@@ -20,13 +20,13 @@ use Rattle.dnssec_keyset.specs.Start.{is_listed}
 use Rattle.dnssec_keyset.specs.Step.{deletion_refusal}
 use Rattle.dnssec_key.specs.Setters.{set_by}
 use Rattle.dnssec_run.proofs.Chain.Rolls.{same-sym, clash}
-use Rattle.dnssec_run.proofs.Chain.Allowed.{can_start, clear_cause, waits_in_phase}
+use Rattle.dnssec_run.proofs.Chain.Allowed.{can_start, waits_in_phase}
 use Rattle.dnssec_run.proofs.Chain.OneKey.{may_by, suits}
 use Rattle.dnssec_run.proofs.Chain.Kinds.{list_start, list_waited1, list_waited2}
 use Rattle.dnssec_run.proofs.Chain.Trust.{moment, mark}
 use Rattle.dnssec_keyset.specs.KeySet.{KeySetParts, listed_by, phase_of, with_phase, same_roll}
-use Rattle.dnssec_key.specs.RollTable.{Half, First, Second, after_start, after_report}
-use Rattle.dnssec_key.specs.RollTable.{after_early_end, after_wait}
+use Rattle.dnssec_key.specs.RollTable.{First, Second, after_start, after_report, after_early_end}
+use Rattle.dnssec_key.specs.RollTable.{after_wait}
 use Rattle.dnssec_keyset.specs.Laws.{LeavesOthers, RollsTogether}
 use Rattle.dnssec_keyset.specs.Step as keyset
 use Rattle.dnssec_run.specs.declared.record.Entry.{Entry}
@@ -45,8 +45,8 @@ use Rattle.dnssec_run.proofs.WholeRolls.Keys.{fits_of, Idle, Phase, stage_in, in
 use Rattle.dnssec_run.proofs.WholeRolls.OrderedKeys.{Order}
 use Rattle.dnssec_run.proofs.WholeRolls.Order.{is_calm, world_of}
 use Rattle.dnssec_run.proofs.WholeRolls.Phases.{at_phase, idle_is, phase_fits, phase_is, put_aside}
-use Rattle.dnssec_run.proofs.WholeRolls.Phases.{put_there, roll_now, split_by}
-use Rattle.dnssec_keyset.proofs.Laws.{same-is}
+use Rattle.dnssec_run.proofs.WholeRolls.Phases.{put_there, roll_now}
+use Rattle.dnssec_keyset.proofs.Laws.{same-is, no_cause}
 use Rattle.dnssec_run.proofs.Chain.EarlyEnds.{list-ended}
 
 -- ---- the run
@@ -55,30 +55,6 @@ fits_in : (sd : SideOf) (ph : Phase) (k : KeyParts) → in_order sd ph k ≡ tru
     → fits sd (stage_in ph) k.keytype ≡ true
 fits_in sd ph k e = fits_of sd ph k.keytype (is_some k.timestamps.visible)
     (is_some k.timestamps.ds_visible) (is_some k.timestamps.rrsig_visible) e
-
-no_report : (r : RollType) (c : keyset.Call)
-    → ((h : Half) (ttl now : ℕ) → c ≡ keyset.Report r h ttl now → ⊥) → (s : Bool)
-    → is_report r s (mark c) ≡ false
-no_report r (keyset.AddKey a b) h s = refl
-no_report r (keyset.Set a b) h s = refl
-no_report r (keyset.DeleteKey a) h s = refl
-no_report r (keyset.StartRoll a b d e) h s = refl
-no_report r (keyset.Report q First ttl now) h s = by (same_roll r q) refl
-  where
-    by : (b : Bool) → same_roll r q ≡ b → (same_roll r q && same_half s false) ≡ false
-    by true t = absurd (h First ttl now
-        (ap (λ q. keyset.Report q First ttl now) (sym (same-is r q t))))
-    by false t = ap (λ b. b && same_half s false) t
-no_report r (keyset.Report q Second ttl now) h s = by (same_roll r q) refl
-  where
-    by : (b : Bool) → same_roll r q ≡ b → (same_roll r q && same_half s true) ≡ false
-    by true t = absurd (h Second ttl now
-        (ap (λ q. keyset.Report q Second ttl now) (sym (same-is r q t))))
-    by false t = ap (λ b. b && same_half s true) t
-no_report r (keyset.Wait a First c) h s = refl
-no_report r (keyset.Wait a Second c) h s = refl
-no_report r (keyset.RollDone a) h s = refl
-no_report r (keyset.AbortRoll a) h s = refl
 
 stale_gone : (k : KeyParts) → deletion_refusal (Some k) ≡ None → is_idle k.keytype ≡ true
 stale_gone k e = by (is_stale k.keytype) refl
@@ -133,7 +109,7 @@ module _ (entries : List Entry) (n : ℕ) (old new : KeySetParts) (ks : Order Ke
       → ((r : RollType) (y : RollState) → roll_now old r ≡ Some y → same_roll p r ≡ false
       → Beside r old new) → ((r : RollType) → same_roll p r ≡ false → (s : Bool)
       → is_report r s (position_at entries (suc n)).mark ≡ false) → Before → After
-  data-roll p o rolls own beside none h r y e = elim (split_by (same_roll p r)) [
+  data-roll p o rolls own beside none h r y e = elim (cases_Bool (same_roll p r)) [
     | inl t ↦ let same = same-is p r t in
         subst (λ r. Data entries new (suc n) r y) same
         (own y (sym (put_there old.rolls new.rolls p o r rolls t) ∙ e))
@@ -151,7 +127,7 @@ module _ (entries : List Entry) (n : ℕ) (old new : KeySetParts) (ks : Order Ke
   data-step (keyset.AddKey r k) plain v m leaves mk mo late h = data-calm m.rolls
       (λ q. beside-puts q old new r (Some k) m
       (λ j e. ap (λ (j : KeyParts). is_idle j.keytype) (sym (same_Some k j e)) ∙ plain)
-      (λ j e. absurd (true≢false (sym (ap is_some e) ∙ add_free _ _ _ _ (clear_cause _ v)))))
+      (λ j e. absurd (true≢false (sym (ap is_some e) ∙ add_free _ _ _ _ (no_cause _ v)))))
       (λ q s. ap (is_report q s) mk) h
   data-step (keyset.Set r setting) plain v m leaves mk mo late h = data-calm m.rolls
       (λ q. beside-alike q old new (λ x k. if bytes_eq r x then set_by setting k else k) m.keys
@@ -159,7 +135,7 @@ module _ (entries : List Entry) (n : ℕ) (old new : KeySetParts) (ks : Order Ke
       (λ q s. ap (is_report q s) mk) h
   data-step (keyset.DeleteKey r) plain v m leaves mk mo late h = data-calm m.rolls
       (λ q. beside-puts q old new r None m (λ j e. absurd (none-some j e))
-      (λ k e. stale_gone k (ap deletion_refusal (sym e) ∙ clear_cause _ v)))
+      (λ k e. stale_gone k (ap deletion_refusal (sym e) ∙ no_cause _ v)))
       (λ q s. ap (is_report q s) mk) h
   data-step (keyset.StartRoll r olds news now) plain v m leaves mk mo late h =
       data-roll r (Some Propagation1) m.rolls
@@ -169,11 +145,11 @@ module _ (entries : List Entry) (n : ℕ) (old new : KeySetParts) (ks : Order Ke
       (λ q d s. ap (is_report q s) mk) h
     where
       can : CanStart r (seen (world_of old)) olds news
-      can = can_start (world_of old) r olds news (clear_cause _ v)
+      can = can_start (world_of old) r olds news (no_cause _ v)
 
       alone : (q : RollType) (y : RollState) → roll_now old q ≡ Some y → tolerates r q ≡ true
       alone q y e =
-          elim (split_by (tolerates r q)) [
+          elim (cases_Bool (tolerates r q)) [
             | inl t ↦ t
             | inr t ↦ absurd
                 (none-some y (sym (can.alone q t) ∙ e))
@@ -219,7 +195,7 @@ module _ (entries : List Entry) (n : ℕ) (old new : KeySetParts) (ks : Order Ke
                 s.3),
           )
   data-step (keyset.Report r First ttl now) plain v m leaves mk mo late h =
-      let was = spreads_first _ (clear_cause _ v) in
+      let was = spreads_first _ (no_cause _ v) in
       data-roll r (Some (CacheExpire1 ttl)) m.rolls
       (λ x e. subst (Data entries new (suc n) r) (same_Some (CacheExpire1 ttl) x e)
       (data-first entries r n old new ttl now m.keys (late now refl) mk mo
@@ -229,7 +205,7 @@ module _ (entries : List Entry) (n : ℕ) (old new : KeySetParts) (ks : Order Ke
       (λ x k. refl))
       (λ q d s. ap (is_report q s) mk ∙ ap (λ b. b && same_half s false) (same-sym q r ∙ d)) h
   data-step (keyset.Report r Second ttl now) plain v m leaves mk mo late h =
-      let was = spreads_second _ (clear_cause _ v) in
+      let was = spreads_second _ (no_cause _ v) in
       data-roll r (Some (CacheExpire2 ttl)) m.rolls
       (λ x e. subst (Data entries new (suc n) r) (same_Some (CacheExpire2 ttl) x e)
       (data-second entries r n old new ttl now m.keys (late now refl) mk mo
@@ -260,7 +236,7 @@ module _ (entries : List Entry) (n : ℕ) (old new : KeySetParts) (ks : Order Ke
       finished : Data entries new (suc n) r Done
       finished = tt
   data-step (keyset.AbortRoll r) plain v m leaves mk mo late h =
-      let was = ends_early _ (clear_cause _ v) in
+      let was = ends_early _ (no_cause _ v) in
       data-roll r None m.rolls (λ x e. absurd (none-some x e))
       (λ q y e d. beside-roll q r old new _ (goes_with r q Propagation1 y was e d) m.keys
       (λ x k at l. leaves r x k refl at l) (λ x k. kinds q x k))
@@ -275,7 +251,7 @@ module _ (entries : List Entry) (n : ℕ) (old new : KeySetParts) (ks : Order Ke
           ap (λ (k : KeyParts). may_list q k.keytype) (early-end-parts r o i k)
           ∙ list-ended q r o i k.keytype
   data-step (keyset.RollDone r) plain v m leaves mk mo late h =
-      let was = finishes _ (clear_cause _ v) in
+      let was = finishes _ (no_cause _ v) in
       data-roll r None m.rolls (λ x e. absurd (none-some x e))
       (λ q y e d. beside-roll q r old new (λ x k. k) (goes_with r q Done y was e d) m.keys
       (λ x k at l. leaves r x k refl at l) (λ x k. refl))

@@ -5,7 +5,7 @@ use Rattle.std.specs.Prelude.{slice_get, unwrap_or, max}
 use Rattle.std.specs.FinMap.{get-empty}
 use Rattle.std.specs.Ordering.{nat_cmp}
 use Rattle.std.specs.Cmp.Lexicographic.{slice_cmp}
-use Rattle.std.proofs.lemmas.Bool.{true≢false}
+use Rattle.std.proofs.lemmas.Bool.{true≢false, cases_Bool}
 use Rattle.std.proofs.lemmas.Option.{none-some, slice_get_cases}
 use Rattle.dnssec_key.specs.declared.roll.RollType.{RollType}
 use Rattle.dnssec_key.specs.declared.roll.RollType.TheVariants.{KskRoll, KskDoubleDsRoll}
@@ -41,12 +41,13 @@ use Rattle.dnssec_run.proofs.WholeRolls.Steps.{data-step, fits_at}
 use Rattle.dnssec_run.proofs.WholeRolls.Armed.{Armed, NoneLater, beside-same, is_zds, later-same}
 use Rattle.dnssec_run.proofs.WholeRolls.Armed.{timed_second, zsk_reads}
 use Rattle.dnssec_run.proofs.WholeRolls.Keys.{Expiring, stage_in}
-use Rattle.dnssec_run.proofs.WholeRolls.Phases.{at_phase, no_phases, roll_now, split_by}
+use Rattle.dnssec_run.proofs.WholeRolls.Phases.{at_phase, roll_now}
 use Rattle.dnssec_run.proofs.WholeRolls.Positions.{in-order, no_lack, nothing_set, read_there}
 use Rattle.dnssec_run.proofs.WholeRolls.Replies.{At, at_position, marked, accepted_step}
 use Rattle.dnssec_run.proofs.WholeRolls.Replies.{refused_step}
 use Rattle.dnssec_run.proofs.WholeRolls.Verdicts.{answers}
 use Rattle.dnssec_run.proofs.Chain.RollFacts.{timed_first}
+use Rattle.dnssec_keyset.proofs.Phases.{no_phases}
 
 -- ---- at each position
 
@@ -184,7 +185,7 @@ module _ (name : List ℕ) (calls : List Call) (entries : List Entry) (run : IsR
       → roll_now (set_at n) r ≡ Some (waiting second ttl)
       → (m : ℕ) (a : Armed r second m (set_at n)) → checked r second a.parts.keytype ≡ true
   checks n r false ttl e m a = (stays_facts r false a.parts.keytype a.goes_on).check (timed_first r)
-  checks n r true ttl e m a = elim (split_by (is_zds r)) [
+  checks n r true ttl e m a = elim (cases_Bool (is_zds r)) [
     | inl z ↦ zds_checks n r z (CacheExpire2 ttl) refl e m a
     | inr z ↦ (stays_facts r true a.parts.keytype a.goes_on).check (timed_second r z)
   ]

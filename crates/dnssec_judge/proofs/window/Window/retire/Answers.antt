@@ -4,8 +4,9 @@ use Rattle.std.specs.Prelude.{not}
 use Rattle.dnssec_judge.specs.declared.window.Due.{Due}
 use Rattle.dnssec_judge.specs.Window.{floor_with}
 use Rattle.dnssec_judge.proofs.window.Window.retire.Goals as goal
-use Rattle.dnssec_judge.proofs.OneByOne.Windows.{filtered, floor-take, floor-all, is_over_at}
-use Rattle.dnssec_judge.proofs.OneByOne.Windows.{waiting, floor-retired}
+use Rattle.dnssec_judge.proofs.OneByOne.Windows.{floor-take, floor-all, is_over_at, waiting}
+use Rattle.dnssec_judge.proofs.OneByOne.Windows.{floor-retired}
+use Rattle.dnssec_keyset.proofs.Retained.{filtered}
 use Rattle.dnssec_judge.proofs.window.Window.retire.Goals.{then-floor-over, else-floor-over}
 
 pub loop-due-preserved : goal.loop-due-preserved

@@ -3,7 +3,7 @@ use Rattle.std.proofs.Common.{◌≡◌, refl, rules, arith, sym, ap, ◌∙◌,
 use Rattle.std.proofs.Math.Seq.{take-length}
 use Rattle.dnssec_keyset.specs.Start.{texts, is_listed}
 use Rattle.dnssec_keyset.proofs.Entries.{fault-found, fault-behind, listed-behind}
-use Rattle.dnssec_keyset.proofs.Counted.Lists.{or_nothing}
+use Rattle.std.proofs.Math.Bool.{or-false}
 use Rattle.dnssec_keyset.proofs.Marks.{listed_more, referred}
 use Rattle.dnssec_keyset.proofs.Tags.{listed-nothing, listed-same}
 use Rattle.dnssec_keyset.proofs.Words.{zeros}
@@ -30,7 +30,7 @@ loop-reference-init c =
       refl,
       c.loop-entry.invariant.0,
       listed-same c.args.self.now _ _ _
-          (λ q. or_nothing (is_listed (texts rs) q) ∙ ap (λ rs. is_listed (texts rs) q) (sym all))
+          (λ q. or-false (is_listed (texts rs) q) ∙ ap (λ rs. is_listed (texts rs) q) (sym all))
           c.loop-entry.invariant.1,
     )
 
