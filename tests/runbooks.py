@@ -550,8 +550,12 @@ class Operator:
     def roll(self, roll, old, new, name=None):
         """A roll, or the first keys, from the start to the deletion of the old keys."""
         if self.dice.random() < (0.6 if self.point == SAME_KEY else 0.15):
-            yield from self.ended_early(roll, old, new)
-            if roll == DOUBLE_DS and self.point != SAME_KEY:
+            # (It may have been the other roll of such keys.)
+            kinds = ROLLS[roll]["kinds"]
+            like = [roll] if " " in kinds else [r for r in ROLLS if ROLLS[r]["kinds"] == kinds]
+            early = self.dice.choice(like)
+            yield from self.ended_early(early, old, new)
+            if DOUBLE_DS == early == roll and self.point != SAME_KEY:
                 new = [self.another(key) for key in new]
         steps = self.book[name or roll]
         began, actions = self.rounded_down(), self.start(roll, old, new)
