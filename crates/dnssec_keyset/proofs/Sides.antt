@@ -19,7 +19,7 @@ use Rattle.dnssec_key.specs.declared.error.Error.TheVariants.{WrongKeyType, Wron
 use Rattle.dnssec_key.specs.Key.{KeyParts, all_states}
 use Rattle.dnssec_key.specs.State.{is_fresh}
 use Rattle.dnssec_keyset.specs.KeySet.{KeySetParts}
-use Rattle.dnssec_key.specs.RollTable.{Half, First, Second, column, half_of, written, with_stamps}
+use Rattle.dnssec_key.specs.RollTable.{Half, First, Second, column, half_of, stamps_on, with_stamps}
 use Rattle.dnssec_key.specs.RollTable.{after_start, after_report, after_wait, after_early_end}
 use Rattle.dnssec_keyset.specs.Start.{algorithm_fault, conflict, is_listed, lists_kind}
 use Rattle.dnssec_keyset.specs.Start.{new_entry_fault, new_fault, old_entry_fault, old_fault}
@@ -29,7 +29,7 @@ use Rattle.dnssec_keyset.specs.Step.{RollDone, AbortRoll, Reply, Clear, Changes,
 use Rattle.dnssec_keyset.specs.Laws.{LeavesOthers, roll_of}
 use Rattle.dnssec_keyset.proofs.Laws.{moved, no_cause}
 
--- no stamp is written
+-- no stamp is stamps_on
 pub unstamped : Stamped
 unstamped = record { published = false; visible = false; ds_visible = false; rrsig_visible = false;
     withdrawn = false }
@@ -37,7 +37,7 @@ unstamped = record { published = false; visible = false; ds_visible = false; rrs
 -- ---- the table at the keys that a roll doesn't change
 
 report-others : (roll : RollType) (half : Half) (t : KeyType) → lists_kind (side_of roll) t ≡ false
-    → written (half_of roll half).report t ≡ unstamped
+    → stamps_on (half_of roll half).report t ≡ unstamped
 unfolding column unstamped
 report-others KskRoll First (Ksk s) e = cc
 report-others KskRoll First (Zsk s) e = refl
@@ -89,7 +89,7 @@ report-others AlgorithmRoll Second (Csk s t) e = cc
 report-others AlgorithmRoll Second (Include s) e = refl
 
 wait-others : (roll : RollType) (half : Half) (t : KeyType) → lists_kind (side_of roll) t ≡ false
-    → written (half_of roll half).stamps t ≡ unstamped
+    → stamps_on (half_of roll half).stamps t ≡ unstamped
 unfolding column unstamped
 wait-others KskRoll First (Ksk s) e = cc
 wait-others KskRoll First (Zsk s) e = refl

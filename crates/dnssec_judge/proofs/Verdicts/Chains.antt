@@ -10,7 +10,8 @@ use Rattle.std.proofs.lemmas.List.Folds.{Any-from_list_any, list_any-from_Any}
 use Rattle.std.proofs.lemmas.Slice.Eq.{bytes_eq-Decides}
 use Rattle.dnssec_run.specs.Published.{Id}
 use Rattle.dnssec_run.specs.Safe.{Position, TrustsKeys, TrustsZone, HasChain}
-use Rattle.dnssec_judge.specs.Chained.{same_id, is_in, trusts_keys, trusts_zone, is_none, chained}
+use Rattle.dnssec_judge.specs.Inner.Chained.{same_id, is_in, trusts_keys, trusts_zone, is_none}
+use Rattle.dnssec_judge.specs.Inner.Chained.{has_chain}
 
 -- a test of what elements are
 pub list_any-map : {A B : Type 0} (p : B → Bool) (f : A → B) (xs : List A)
@@ -61,7 +62,7 @@ zone-trusted q z = (
 )
 
 -- the test of a chain
-pub chain-from : (p q z : Position) → chained p q z ≡ true → HasChain p q z
+pub chain-from : (p q z : Position) → has_chain p q z ≡ true → HasChain p q z
 chain-from p q z = by p.ds refl
   where
     by : (ds : List Id) → p.ds ≡ ds
@@ -71,7 +72,7 @@ chain-from p q z = by p.ds refl
     by (k ∷ ks) is e = let h = both _ _ e in
         inr ((keys-trusted p q).0 h.0, (zone-trusted q z).0 h.1)
 
-pub chain-to : (p q z : Position) → HasChain p q z → chained p q z ≡ true
+pub chain-to : (p q z : Position) → HasChain p q z → has_chain p q z ≡ true
 chain-to p q z (inl is) =
     λ i. is_none (is i) || (trusts_keys p.ds q.dnskey q.signers && trusts_zone q.dnskey z.zone)
 chain-to p q z (inr h) =
