@@ -44,7 +44,8 @@ fuzz: lib
 	@tests/library.py library/out fuzz $(RUNS)
 
 # What the documents print is compared with the examples; then every proof, edit, test and program,
-# and beside them each request for memory fails in turn. It tells when each step was done.
+# and beside them the runbooks are played, and each request for memory fails in turn. It tells when
+# each step was done.
 test:
 	@tests/gate.py
 

@@ -1,6 +1,6 @@
 #!/usr/bin/env python3
-"""The gate: `tests/docs.py`, then `rt ci`, beside its first proofs `tests/memory.py`, and beside
-its edits `tests/sets.py` and `tests/library.py`. Before the last line of `rt ci` it tells when, in
+"""The gate: `tests/docs.py`, then `rt ci`, beside its first proofs `tests/runbooks.py` and
+`tests/memory.py`, and beside its edits `tests/sets.py` and `tests/library.py`. Before the last line of `rt ci` it tells when, in
 minutes and seconds since the start, each step was done, so that a rise is seen."""
 
 import os
@@ -137,10 +137,12 @@ def main():
     with tempfile.TemporaryDirectory() as folder:
         # At low priority: each crate waits for the proofs of those below it.
         memory = Beside("memory", copy_of_sources(folder), under=["nice"])
+        first = [Beside("runbooks", under=["nice"]), memory]
         behind = [Behind("library", "keyset", "keyset_c"), Behind("sets", "whole_sets")]
-        memory.start()
+        for beside in first:
+            beside.start()
         status, last = prove(behind)
-        for beside in (memory, *behind):
+        for beside in (*first, *behind):
             fault = beside.fault()
             # (A script never begins where a proof that it rests on has failed, which is told.)
             if fault and (beside.ident or status == 0):

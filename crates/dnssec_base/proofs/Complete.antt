@@ -7,8 +7,8 @@ use Rattle.dnssec_base.specs.NameText.{Spells, is_root, StandsFirst, HasNoFault}
 use Rattle.dnssec_base.specs.NameText.{IsSymbol, plain, escaped, decimal, BeginsWithSymbol, IsDigit}
 use Rattle.dnssec_base.specs.NameText.{dot, backslash, decimal_of, root_text, root_name, ended}
 use Rattle.dnssec_base.specs.NameLaws.{SpellsUnlessFault}
-use Rattle.dnssec_base.specs.DraftName.{DraftName}
-use Rattle.dnssec_base.specs.Pieces.{IsDecimal, IsPiece, IsBadPiece}
+use Rattle.dnssec_base.specs.Inner.DraftName.{DraftName}
+use Rattle.dnssec_base.specs.Inner.Pieces.{IsDecimal, IsPiece, IsBadPiece}
 use Rattle.dnssec_base.specs.declared.name.piece.Piece.TheVariants.{Byte}
 use Rattle.dnssec_base.specs.declared.name.error.NameError.{NameError}
 use Rattle.dnssec_base.specs.declared.name.error.NameError.TheVariants.{EmptyLabel, LongLabel}

@@ -5,9 +5,9 @@ use Rattle.dnssec_base.specs.WireName.{IsWireName, wire_label}
 use Rattle.dnssec_base.specs.NameText.{Place, at_start, after_symbol, after_dot, dot, root_text}
 use Rattle.dnssec_base.specs.NameText.{IsFault, BeginsWith, BeginsWithSymbol, StandsFirst, Spells}
 use Rattle.dnssec_base.specs.NameText.{has_labels, ended}
-use Rattle.dnssec_base.specs.Draft.{IsLimit, HasRoom, IsRead}
-use Rattle.dnssec_base.specs.Pieces.{IsPiece, IsBadPiece}
-use Rattle.dnssec_base.specs.DraftName.{DraftName}
+use Rattle.dnssec_base.specs.Inner.Draft.{IsLimit, HasRoom, IsRead}
+use Rattle.dnssec_base.specs.Inner.Pieces.{IsPiece, IsBadPiece}
+use Rattle.dnssec_base.specs.Inner.DraftName.{DraftName}
 use Rattle.dnssec_base.specs.declared.name.piece.Piece.TheVariants.{Byte}
 use Rattle.dnssec_base.specs.declared.name.error.NameError.{NameError}
 use Rattle.dnssec_base.specs.declared.name.error.NameError.TheVariants.{EmptyLabel}

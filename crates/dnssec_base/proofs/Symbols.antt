@@ -2,7 +2,7 @@
 use Rattle.std.proofs.Common.{ℕ, ◌≡◌, ◌≢◌, ◌≤◌, refl, sym, subst, List, [], ◌∷◌, ◌++◌}
 use Rattle.dnssec_base.specs.NameText.{IsSymbol, plain, escaped, decimal, dot, backslash}
 use Rattle.dnssec_base.specs.NameText.{decimal_of, IsDigit, IsVisible, BeginsWithSymbol}
-use Rattle.dnssec_base.specs.Pieces.{IsDecimal, IsEscape, IsPiece}
+use Rattle.dnssec_base.specs.Inner.Pieces.{IsDecimal, IsEscape, IsPiece}
 use Rattle.dnssec_base.specs.declared.name.piece.Piece.TheVariants.{Byte}
 
 -- the same symbol, and the same text after it

@@ -1,7 +1,5 @@
 pub mod AlgorithmNames
-pub mod Draft
-pub mod DraftName
+pub mod Inner
 pub mod NameLaws
 pub mod NameText
-pub mod Pieces
 pub mod WireName

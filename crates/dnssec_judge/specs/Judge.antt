@@ -6,10 +6,10 @@ use Rattle.dnssec_run.specs.declared.record.Entry.{Entry}
 use Rattle.dnssec_run.specs.declared.record.Mark.{Mark}
 use Rattle.dnssec_run.specs.declared.record.Published.{Published}
 use Rattle.dnssec_run.specs.Safe.{SetKind, Ds, Dnskey, ZoneSigners, base_below, position_at}
-use Rattle.dnssec_run.specs.Safe.{time_at, told}
+use Rattle.dnssec_run.specs.Safe.{time_at, position_of}
 use Rattle.dnssec_judge.specs.declared.judging.Judge.{Judge}
 use Rattle.dnssec_judge.specs.Verdict.{IsVerdict}
-use Rattle.dnssec_judge.specs.Window.{GoesOnWith, Watches, held, held_in, step_of}
+use Rattle.dnssec_judge.specs.Inner.Window.{GoesOnWith, Watches, set_at, set_in, step_of}
 
 -- of the entries so far, as much as the next ones ask for
 pub record Follows (entries : List Entry) (j : Judge) : Type 0 where
@@ -26,8 +26,8 @@ pub record ComesNext (entries : List Entry) (entry : Entry) (mark : Mark) (momen
     (sets : Option Published) : Type 0 where
   pub has_mark : entry.mark ≡ mark
   pub has_moment : entry.moment ≡ moment
-  pub publishes : (kind : SetKind) → GoesOnWith (option_map (held_in kind) sets)
-      (held kind (position_at entries (length entries))) (held kind (told entry))
+  pub publishes : (kind : SetKind) → GoesOnWith (option_map (set_in kind) sets)
+      (set_at kind (position_at entries (length entries))) (set_at kind (position_of entry))
 
 -- the verdict on the entries so far; and where every position was safe, what the next ones ask for
 pub record Knows (entries : List Entry) (j : Judge) : Type 0 where

@@ -4,7 +4,7 @@ use Rattle.dnssec_run.specs.declared.call.Call.{Call}
 use Rattle.dnssec_run.specs.declared.record.Entry.{Entry}
 use Rattle.dnssec_run.specs.Plain.{IsPlain, StaysSafe}
 use Rattle.dnssec_run.specs.Record.{IsRun}
-use Rattle.dnssec_run.specs.Safe.{Ds, Dnskey, ZoneSigners, HasChain, IsSafe, IsUnretired}
+use Rattle.dnssec_run.specs.Safe.{Ds, Dnskey, ZoneSigners, HasChain, IsSafe, MayBeCached}
 use Rattle.dnssec_run.specs.Safe.{position_at}
 use Rattle.dnssec_judge.specs.declared.verdict.Broken.{Broken}
 
@@ -12,9 +12,9 @@ use Rattle.dnssec_judge.specs.declared.verdict.Broken.{Broken}
 -- 5)
 pub record IsBroken (entries : List Entry) (b : Broken) : Type 0 where
   pub within : b.at ≤ length entries
-  pub ds : IsUnretired entries Ds b.ds b.at
-  pub dnskey : IsUnretired entries Dnskey b.dnskey b.at
-  pub zone : IsUnretired entries ZoneSigners b.zone b.at
+  pub ds : MayBeCached entries Ds b.ds b.at
+  pub dnskey : MayBeCached entries Dnskey b.dnskey b.at
+  pub zone : MayBeCached entries ZoneSigners b.zone b.at
   pub no_chain : HasChain (position_at entries b.ds) (position_at entries b.dnskey)
       (position_at entries b.zone) → ⊥
 

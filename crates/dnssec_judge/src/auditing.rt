@@ -2,11 +2,12 @@
 ghost use Rattle.std.specs.Prelude.{◌≡◌, ◌≤◌, map, length};
 ghost use Rattle.std.specs.Option.{option_copied, option_map_or};
 ghost use Rattle.dnssec_run.specs.Published.{id_of};
-ghost use Rattle.dnssec_run.specs.Safe.{base_below, blank, position_at, time_at, told};
-ghost use Rattle.dnssec_judge.specs.Chained.{chained};
-ghost use Rattle.dnssec_judge.specs.Floor.{floor_by, floor_up_to};
-ghost use Rattle.dnssec_judge.specs.Search.{Finds, FindsDs, FindsKeys, IsChained, IsVerdictAt};
-ghost use Rattle.dnssec_judge.specs.Search.{kind_of, set_of};
+ghost use Rattle.dnssec_run.specs.Safe.{base_below, blank, position_at, time_at, position_of};
+ghost use Rattle.dnssec_judge.specs.Inner.Chained.{has_chain};
+ghost use Rattle.dnssec_judge.specs.Inner.Floor.{floor_by, floor_up_to};
+ghost use Rattle.dnssec_judge.specs.Inner.Search.{Finds, FindsDs, FindsKeys, IsChained};
+ghost use Rattle.dnssec_judge.specs.Inner.Search.{IsVerdictAt};
+ghost use Rattle.dnssec_judge.specs.Inner.Search.{kind_of, set_of};
 ghost use Rattle.dnssec_judge.specs.Verdict.{IsVerdict};
 
 use crate::safety::{Kind, is_over, later, retires, trusts_keys, trusts_zone};
@@ -155,7 +156,7 @@ fn find_zone(entries: &[Entry], ds: usize, dnskey: usize, from: usize, at: usize
 /// Whether the DS set, the DNSKEY set with its signers and the zone signers of three positions have
 /// a chain.
 fn has_chain(entries: &[Entry], ds: usize, dnskey: usize, zone: usize) -> bool
-    ensures { result ≡ chained (position_at entries.now ds) (position_at entries.now dnskey)
+    ensures { result ≡ has_chain (position_at entries.now ds) (position_at entries.now dnskey)
         (position_at entries.now zone) }
 {
     let ds = keys_at(entries, ds, Shown::Ds);
@@ -199,7 +200,7 @@ fn moment_at(entries: &[Entry], n: usize) -> Option<UnixTime>
 
 /// The entry of a position: none of position 0, the new set.
 fn entry_at(entries: &[Entry], n: usize) -> Option<&Entry>
-    ensures { position_at entries.now n ≡ option_map_or told (option_copied result) blank }
+    ensures { position_at entries.now n ≡ option_map_or position_of (option_copied result) blank }
 {
     if n == 0 {
         return None;

@@ -6,7 +6,7 @@ ghost use Rattle.dnssec_key.specs.declared.error.Error.TheVariants.{OutOfMemory}
 ghost use Rattle.dnssec_run.specs.declared.record.Entry.{Entry};
 ghost use Rattle.dnssec_judge.specs.Judge.{ComesNext, Follows, Knows};
 ghost use Rattle.dnssec_judge.specs.Verdict.{IsVerdict};
-ghost use Rattle.dnssec_judge.specs.Window.{found_ds};
+ghost use Rattle.dnssec_judge.specs.Inner.Window.{first_ds};
 
 use crate::safety::{Kind, later};
 use crate::steps::Steps;
@@ -113,7 +113,7 @@ impl Judge {
     /// The first sets without a chain at a position, where some of them are new: else what had a
     /// chain before has one still.
     fn find(&self, at: usize, is_news: bool) -> Option<Broken>
-        ensures found { is_news ≡ true → result ≡ found_ds at
+        ensures found { is_news ≡ true → result ≡ first_ds at
             self.now.ds.floor self.now.ds.spans.items
             self.now.dnskey.floor self.now.dnskey.spans.items
             self.now.zone.floor self.now.zone.spans.items }

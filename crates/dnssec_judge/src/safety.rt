@@ -3,8 +3,8 @@
 ghost use Rattle.std.specs.Prelude.{◌≡◌, ◌+◌, ◌*◌, map, max, nat_lt, not, unwrap_or};
 ghost use Rattle.dnssec_run.specs.Published.{id_of};
 ghost use Rattle.dnssec_run.specs.Safe.{retires};
-ghost use Rattle.dnssec_judge.specs.Chained.{is_in, trusts_keys, trusts_zone};
-ghost use Rattle.dnssec_judge.specs.Search.{kind_of};
+ghost use Rattle.dnssec_judge.specs.Inner.Chained.{is_in, trusts_keys, trusts_zone};
+ghost use Rattle.dnssec_judge.specs.Inner.Search.{kind_of};
 
 use dnssec_keyset::{RollType, UnixTime};
 use dnssec_run::PublishedKey;

@@ -3,7 +3,7 @@ ghost use Rattle.std.specs.Prelude.{◌≡◌, None, Some, if◌then◌else◌};
 ghost use Rattle.dnssec_key.specs.declared.roll.RollType.{RollType};
 ghost use Rattle.dnssec_keyset.specs.KeySet.{same_roll};
 ghost use Rattle.dnssec_run.specs.Safe.{is_step};
-ghost use Rattle.dnssec_judge.specs.Window.{step_of};
+ghost use Rattle.dnssec_judge.specs.Inner.Window.{step_of};
 
 use dnssec_keyset::RollType;
 use dnssec_run::Mark;

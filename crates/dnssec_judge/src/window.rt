@@ -5,12 +5,14 @@ ghost use Rattle.std.specs.Option.{option_map};
 ghost use Rattle.dnssec_key.specs.declared.error.Error.TheVariants.{OutOfMemory};
 ghost use Rattle.dnssec_run.specs.Published.{id_of};
 ghost use Rattle.dnssec_run.specs.Safe.{SetKind};
-ghost use Rattle.dnssec_judge.specs.Search.{kind_of};
-ghost use Rattle.dnssec_judge.specs.Window.{Begins, GoesOnAbove, GoesOnWith, HasLast, Held};
-ghost use Rattle.dnssec_judge.specs.Window.{IsNoted, IsShown, Tiles, held_in};
-ghost use Rattle.dnssec_judge.specs.Window.{Watches, chained_sets, ends_below, first_failing};
-ghost use Rattle.dnssec_judge.specs.Window.{floor_with, found_ds, found_keys, over, over_any};
-ghost use Rattle.dnssec_judge.specs.Window.{over_by, set_of_span, step_of};
+ghost use Rattle.dnssec_judge.specs.Inner.Search.{kind_of};
+ghost use Rattle.dnssec_judge.specs.Inner.Window.{Begins, GoesOnAbove, GoesOnWith, HasLast};
+ghost use Rattle.dnssec_judge.specs.Inner.Window.{CachedSet};
+ghost use Rattle.dnssec_judge.specs.Inner.Window.{IsNoted, IsShown, Tiles, set_in};
+ghost use Rattle.dnssec_judge.specs.Inner.Window.{Watches, sets_have_chain, ends_below};
+ghost use Rattle.dnssec_judge.specs.Inner.Window.{first_failing};
+ghost use Rattle.dnssec_judge.specs.Inner.Window.{floor_with, first_ds, first_keys, over, over_any};
+ghost use Rattle.dnssec_judge.specs.Inner.Window.{over_by, set_of_span, step_of};
 
 use crate::safety::{Kind, is_over, retires, trusts_keys, trusts_zone};
 use crate::steps::Steps;
@@ -120,10 +122,10 @@ impl Window {
         ensures dues { OnOk result ((t : ℕ) → time ≤ t →
             floor_with self.new.floor self.new.dues.items t
             ≡ max (floor_with self.old.floor self.old.dues.items t) (over_any due t)) }
-        ensures spans { OnOk result ((before after : ℕ → Held) (n : ℕ) → at ≡ suc n →
+        ensures spans { OnOk result ((before after : ℕ → CachedSet) (n : ℕ) → at ≡ suc n →
             Tiles before n self.old.spans.items → Begins self.old.floor self.old.spans.items →
             ((q : ℕ) → q ≤ n → after q ≡ before q) →
-            GoesOnWith (option_map (λ sets. held_in (kind_of kind) sets.now) published.entry)
+            GoesOnWith (option_map (λ sets. set_in (kind_of kind) sets.now) published.entry)
             (before n) (after (suc n)) →
             Tiles after (suc n) self.new.spans.items
             × Begins self.new.floor self.new.spans.items
@@ -148,7 +150,7 @@ impl Window {
         ensures floor { OnOk result (self.new.floor ≡ self.old.floor) }
         ensures dues { OnOk result (self.new.dues ≡ self.old.dues) }
         ensures spans { OnOk result (IsNoted
-            (option_map (λ sets. held_in (kind_of kind) sets.now) published.entry) at
+            (option_map (λ sets. set_in (kind_of kind) sets.now) published.entry) at
             self.old.spans.items self.new.spans.items) }
         ensures err { IfErr result (λ e. e ≡ OutOfMemory) }
     {
@@ -241,7 +243,7 @@ impl Window {
     fn trim(&mut self)
         ensures floor { self.new.floor ≡ self.old.floor }
         ensures dues { self.new.dues ≡ self.old.dues }
-        ensures spans { (at : ℕ → Held) (n : ℕ) → Tiles at n self.old.spans.items →
+        ensures spans { (at : ℕ → CachedSet) (n : ℕ) → Tiles at n self.old.spans.items →
             Begins self.old.floor self.old.spans.items →
             Tiles at n self.new.spans.items × Begins self.new.floor self.new.spans.items
             × GoesOnAbove self.new.floor self.new.spans.items }
@@ -263,7 +265,7 @@ impl Window {
 
     /// The first of these DS sets, with a DNSKEY set and zone signers, that has no chain.
     pub(crate) fn find_ds(&self, dnskey: &Window, zone: &Window, at: usize) -> Option<Broken>
-        ensures { result ≡ found_ds at self.now.floor self.now.spans.items
+        ensures { result ≡ first_ds at self.now.floor self.now.spans.items
             dnskey.now.floor dnskey.now.spans.items zone.now.floor zone.now.spans.items }
     {
         for span in &self.spans {
@@ -276,7 +278,7 @@ impl Window {
 
     /// The first of these DNSKEY sets, with zone signers, that leaves the DS set without a chain.
     fn find_keys(&self, zone: &Window, ds: &Span, from: usize, at: usize) -> Option<Broken>
-        ensures { result ≡ found_keys at from (set_of_span ds.now)
+        ensures { result ≡ first_keys at from (set_of_span ds.now)
             self.now.floor self.now.spans.items zone.now.floor zone.now.spans.items }
     {
         for span in &self.spans {
@@ -294,7 +296,7 @@ impl Window {
 
     /// The first zone signers that leave the other two sets without a chain.
     fn find_zone(&self, ds: &Span, dnskey: &Span) -> Option<usize>
-        ensures { result ≡ first_failing (chained_sets (set_of_span ds.now)
+        ensures { result ≡ first_failing (sets_have_chain (set_of_span ds.now)
             (set_of_span dnskey.now)) self.now.floor self.now.spans.items }
     {
         for span in &self.spans {
@@ -319,7 +321,7 @@ impl Window {
 
 /// Whether the sets of three spans have a chain.
 fn is_chained(ds: &Span, dnskey: &Span, zone: &Span) -> bool
-    ensures { result ≡ chained_sets (set_of_span ds.now) (set_of_span dnskey.now)
+    ensures { result ≡ sets_have_chain (set_of_span ds.now) (set_of_span dnskey.now)
         (set_of_span zone.now) }
 {
     ds.keys.is_empty()

@@ -1,4 +1,5 @@
--- What a contract sees of a key, and which of its roles a sentence speaks of.
+-- What a contract sees of a key, and which of its roles a sentence speaks of (RFC 6781, section
+-- 3.1).
 use Rattle.std.specs.Prelude.{ℕ, List, Bool, true, false, ◌&&◌, ◌||◌, Option, None, Some}
 use Rattle.std.specs.Option.{option_map_or}
 use Rattle.dnssec_key.specs.declared.kind.KeyType.{KeyType}
@@ -7,7 +8,7 @@ use Rattle.dnssec_key.specs.declared.state.Available.{Available as Availability}
 use Rattle.dnssec_key.specs.declared.state.Available.TheVariants.{Available, NotAvailable}
 use Rattle.dnssec_key.specs.State.{Flags, Stamps, no_stamps}
 
--- the parts of a key; a private reference is its bytes (RFC 6781, section 3.1)
+-- the parts of a key; a private reference is its bytes
 pub record KeyParts : Type 0 where
   pub privref : Option (List ℕ)
   pub decoupled : Bool
@@ -18,92 +19,92 @@ pub record KeyParts : Type 0 where
 
 -- ---- the roles of a key
 
--- the role of a KSK (RFC 6781, section 3.1)
+-- the role of a KSK
 abbrev pub ksk_state : KeyType → Option Flags
 ksk_state (Ksk s) = Some s
 ksk_state (Zsk s) = None
 ksk_state (Csk s t) = None
 ksk_state (Include s) = None
 
--- the role of a ZSK (RFC 6781, section 3.1)
+-- the role of a ZSK
 abbrev pub zsk_state : KeyType → Option Flags
 zsk_state (Ksk s) = None
 zsk_state (Zsk s) = Some s
 zsk_state (Csk s t) = None
 zsk_state (Include s) = None
 
--- the KSK role of a KSK or a CSK (RFC 6781, section 3.1)
+-- the KSK role of a KSK or a CSK
 abbrev pub ksk_role_state : KeyType → Option Flags
 ksk_role_state (Ksk s) = Some s
 ksk_role_state (Zsk s) = None
 ksk_role_state (Csk s t) = Some s
 ksk_role_state (Include s) = None
 
--- the ZSK role of a ZSK or a CSK (RFC 6781, section 3.1)
+-- the ZSK role of a ZSK or a CSK
 abbrev pub zsk_role_state : KeyType → Option Flags
 zsk_role_state (Ksk s) = None
 zsk_role_state (Zsk s) = Some s
 zsk_role_state (Csk s t) = Some t
 zsk_role_state (Include s) = None
 
--- the state that says whether it is published: of a CSK its KSK role's (RFC 6781, section 3.1)
+-- the state that says whether it is published: of a CSK its KSK role's
 abbrev pub key_state : KeyType → Option Flags
 key_state (Ksk s) = Some s
 key_state (Zsk s) = Some s
 key_state (Csk s t) = Some s
 key_state (Include s) = None
 
--- the same of the keys that can sign the zone (RFC 6781, section 3.1)
+-- the same of the keys that can sign the zone
 abbrev pub zone_key_state : KeyType → Option Flags
 zone_key_state (Ksk s) = None
 zone_key_state (Zsk s) = Some s
 zone_key_state (Csk s t) = Some s
 zone_key_state (Include s) = None
 
--- a KSK, and no CSK, whose state passes (RFC 6781, section 3.1)
+-- a KSK, and no CSK, whose state passes
 abbrev pub ksk : (Flags → Bool) → KeyType → Bool
 ksk p k = option_map_or p (ksk_state k) false
 
--- a ZSK, and no CSK, whose state passes (RFC 6781, section 3.1)
+-- a ZSK, and no CSK, whose state passes
 abbrev pub zsk : (Flags → Bool) → KeyType → Bool
 zsk p k = option_map_or p (zsk_state k) false
 
--- a KSK or a CSK whose KSK role passes (RFC 6781, section 3.1)
+-- a KSK or a CSK whose KSK role passes
 abbrev pub ksk_role : (Flags → Bool) → KeyType → Bool
 ksk_role p k = option_map_or p (ksk_role_state k) false
 
--- a ZSK or a CSK whose ZSK role passes (RFC 6781, section 3.1)
+-- a ZSK or a CSK whose ZSK role passes
 abbrev pub zsk_role : (Flags → Bool) → KeyType → Bool
 zsk_role p k = option_map_or p (zsk_role_state k) false
 
--- not another signer's, and its state passes: of a CSK its KSK role's (RFC 6781, section 3.1)
+-- not another signer's, and its state passes: of a CSK its KSK role's
 abbrev pub any_key : (Flags → Bool) → KeyType → Bool
 any_key p k = option_map_or p (key_state k) false
 
--- a ZSK or a CSK whose state passes: of a CSK its KSK role's (RFC 6781, section 3.1)
+-- a ZSK or a CSK whose state passes: of a CSK its KSK role's
 abbrev pub zone_key : (Flags → Bool) → KeyType → Bool
 zone_key p k = option_map_or p (zone_key_state k) false
 
--- every key, also another signer's (RFC 6781, section 3.1)
+-- every key, also another signer's
 abbrev pub every_key : KeyType → Bool
 every_key k = true
 
--- no key (RFC 6781, section 3.1)
+-- no key
 abbrev pub no_key : KeyType → Bool
 no_key k = false
 
--- a key that passes one test or the other (RFC 6781, section 3.1)
+-- a key that passes one test or the other
 abbrev pub either : (KeyType → Bool) → (KeyType → Bool) → KeyType → Bool
 either p q k = p k || q k
 
--- each state of the key passes, also that of another signer's key (RFC 6781, section 3.1)
+-- each state of the key passes, also that of another signer's key
 abbrev pub all_states : (Flags → Bool) → KeyType → Bool
 all_states p (Ksk s) = p s
 all_states p (Zsk s) = p s
 all_states p (Csk s t) = p s && p t
 all_states p (Include s) = p s
 
--- the only state of a key, or that of its KSK role (RFC 6781, section 3.1)
+-- the only state of a key, or that of its KSK role
 abbrev pub first_state : KeyType → Flags
 first_state (Ksk s) = s
 first_state (Zsk s) = s
@@ -112,12 +113,12 @@ first_state (Include s) = s
 
 -- ---- a new key
 
--- the new key may come in by a roll (RFC 6781, section 4.1)
+-- the new key may come in by a roll
 abbrev pub is_available : Availability → Bool
 is_available Available = true
 is_available NotAvailable = false
 
--- no flag but the one that lets it come in (RFC 6781, section 4.1)
+-- no flag but the one that lets it come in
 abbrev pub new_state : Bool → Flags
 new_state available = record {
   available = available;
@@ -127,7 +128,7 @@ new_state available = record {
   at_parent = false;
 }
 
--- a key that was only made (RFC 6781, section 4.1)
+-- a key that was only made
 abbrev pub new_key : Option (List ℕ) → KeyType → ℕ → ℕ → ℕ → KeyParts
 new_key privref keytype algorithm key_tag created = record {
   privref = privref;

@@ -1,7 +1,8 @@
--- The six rolls as columns of one table. A column says what a start puts on a new key, and for each
--- half of the roll which stamps its report writes, which keys its wait checks and what the wait
--- then does, with the actions due. Tests are on the flags before the call; what a
--- column doesn't name stays.
+-- The six rolls as columns of one table (RFC 6781, section 4.1; stamps: RFC 7583, section 3). A
+-- column says what a start puts on a new key, and for each half of the roll which stamps its report
+-- writes, which keys its wait checks and what the wait then does, with the actions due. Tests are
+-- on
+-- the flags before the call; what a column doesn't name stays.
 use Rattle.std.specs.Prelude.{ℕ, Bool, true, false, not, ◌||◌, if◌then◌else◌, Option, None}
 use Rattle.std.specs.Prelude.{Some, List, [], ◌∷◌}
 use Rattle.dnssec_key.specs.declared.kind.KeyType.{KeyType}
@@ -41,7 +42,7 @@ use Rattle.dnssec_key.specs.Key.{every_key, no_key, either}
 abbrev pub comes_in : Flags → Flags
 comes_in s = record s { present = true }
 
--- it goes into the DNSKEY set, and signs (RFC 6781, section 4.1)
+-- it goes into the DNSKEY set, and signs
 abbrev pub comes_in_signing : Flags → Flags
 comes_in_signing s = record s { present = true; signer = true }
 
@@ -65,7 +66,7 @@ signatures_follow s =
     if kept_present s then record s { signer = true }
     else (if s.old then record s { signer = false } else s)
 
--- a key that leaves drops out of the DNSKEY set, and signs no more (RFC 6781, section 4.1)
+-- a key that leaves drops out of the DNSKEY set, and signs no more
 abbrev pub leaves_dnskey : Flags → Flags
 leaves_dnskey s = record s { present = false; signer = false }
 
@@ -77,35 +78,35 @@ leaves_parent s = record s { at_parent = false }
 abbrev pub leaves_silently : Flags → Flags
 leaves_silently s = record s { present = false }
 
--- it is on its way out no more (RFC 6781, section 4.1)
+-- it is on its way out no more
 abbrev pub turns_back : Flags → Flags
 turns_back s = record s { old = false }
 
--- nothing happens to it (RFC 6781, section 4.1)
+-- nothing happens to it
 abbrev pub stays : Flags → Flags
 stays s = s
 
--- it happens to those alone that pass (RFC 6781, section 4.1)
+-- it happens to those alone that pass
 abbrev pub only : (Flags → Bool) → (Flags → Flags) → Flags → Flags
 only p f s = if p s then f s else s
 
 -- ---- which roles it happens to
 
--- at the role of a KSK, and of no CSK (RFC 6781, section 3.1)
+-- at the role of a KSK, and of no CSK
 abbrev pub at_ksk : (Flags → Flags) → KeyType → KeyType
 at_ksk f (Ksk s) = Ksk (f s)
 at_ksk f (Zsk s) = Zsk s
 at_ksk f (Csk s t) = Csk s t
 at_ksk f (Include s) = Include s
 
--- at the role of a ZSK, and of no CSK (RFC 6781, section 3.1)
+-- at the role of a ZSK, and of no CSK
 abbrev pub at_zsk : (Flags → Flags) → KeyType → KeyType
 at_zsk f (Ksk s) = Ksk s
 at_zsk f (Zsk s) = Zsk (f s)
 at_zsk f (Csk s t) = Csk s t
 at_zsk f (Include s) = Include s
 
--- f at each KSK role, g at each ZSK role (RFC 6781, section 3.1)
+-- f at each KSK role, g at each ZSK role
 abbrev pub at_roles : (Flags → Flags) → (Flags → Flags) → KeyType → KeyType
 at_roles f g (Ksk s) = Ksk (f s)
 at_roles f g (Zsk s) = Zsk (g s)
@@ -119,13 +120,13 @@ at_whole_keys p f (Zsk s) = Zsk (only p f s)
 at_whole_keys p f (Csk s t) = if p s then Csk (f s) (f t) else Csk s t
 at_whole_keys p f (Include s) = Include s
 
--- at no role (RFC 6781, section 3.1)
+-- at no role
 abbrev pub at_none : KeyType → KeyType
 at_none k = k
 
 -- ---- the columns
 
--- on which keys each stamp is written (RFC 7583, section 3)
+-- on which keys each stamp is stamps_on
 pub record Stamping : Type 0 where
   pub published : KeyType → Bool
   pub visible : KeyType → Bool
@@ -133,7 +134,7 @@ pub record Stamping : Type 0 where
   pub rrsig_visible : KeyType → Bool
   pub withdrawn : KeyType → Bool
 
--- no stamp but those that a column names (RFC 7583, section 3)
+-- no stamp but those that a column names
 abbrev pub no_stamp : Stamping
 no_stamp = record {
   published = no_key;
@@ -143,17 +144,17 @@ no_stamp = record {
   withdrawn = no_key;
 }
 
--- the two halves of a roll (RFC 6781, section 4.1)
+-- the two halves of a roll
 pub data Half : Type 0 where
   First : Half
   Second : Half
 
--- the half that the code means (RFC 6781, section 4.1)
+-- the half that the code means
 abbrev pub which : HalfOfCode → Half
 which code.First = First
 which code.Second = Second
 
--- half of a roll: a change spreads, is reported, and its wait passes (RFC 6781, section 4.1)
+-- half of a roll: a change spreads, is reported, and its wait passes
 pub record HalfRoll : Type 0 where
   pub report : Stamping  -- what the report stamps
   pub checks : KeyType → Bool  -- the keys that the wait checks
@@ -161,7 +162,7 @@ pub record HalfRoll : Type 0 where
   pub moves : KeyType → KeyType  -- what happens once the wait is over
   pub stamps : Stamping  -- and what is stamped then
 
--- a roll: its start, its two halves, and the actions due (RFC 6781, section 4.1)
+-- a roll: its start, its two halves, and the actions due
 pub record Column : Type 0 where
   pub comes : KeyType → KeyType  -- what a start puts on a new key
   pub stamps : Stamping  -- and what it stamps
@@ -345,7 +346,7 @@ algorithm_roll = record {
       WaitRrsigPropagated ∷ [];
 }
 
--- the column of each roll (RFC 6781, section 4.1)
+-- the column of each roll
 unfoldable pub column : RollType → Column
 column KskRoll = ksk_double_signature
 column KskDoubleDsRoll = ksk_double_ds
@@ -354,14 +355,14 @@ column ZskDoubleSignatureRoll = zsk_double_signature
 column CskRoll = csk_roll
 column AlgorithmRoll = algorithm_roll
 
--- a half of a roll, by its column (RFC 6781, section 4.1)
+-- a half of a roll, by its column
 abbrev pub half_of : RollType → Half → HalfRoll
 half_of roll First = (column roll).first
 half_of roll Second = (column roll).second
 
 -- ---- the table at one key
 
--- the moment of a stamp, where it was written (RFC 7583, section 3)
+-- the moment of a stamp, where it was stamps_on
 abbrev pub stamp_at : Stamp → Stamps → Option ℕ
 stamp_at Published t = t.published
 stamp_at Visible t = t.visible
@@ -369,9 +370,9 @@ stamp_at DsVisible t = t.ds_visible
 stamp_at RrsigVisible t = t.rrsig_visible
 stamp_at Withdrawn t = t.withdrawn
 
--- which stamps are written on a key of this kind (RFC 7583, section 3)
-abbrev pub written : Stamping → KeyType → Stamped
-written stamps k = record {
+-- which stamps are stamps_on on a key of this kind
+abbrev pub stamps_on : Stamping → KeyType → Stamped
+stamps_on stamps k = record {
   published = stamps.published k;
   visible = stamps.visible k;
   ds_visible = stamps.ds_visible k;
@@ -379,11 +380,11 @@ written stamps k = record {
   withdrawn = stamps.withdrawn k;
 }
 
--- a stamp that is written at now, or stays as it was (RFC 7583, section 3)
+-- a stamp that is stamps_on at now, or stays as it was
 abbrev pub stamp_if : Bool → ℕ → Option ℕ → Option ℕ
 stamp_if b now before = if b then Some now else before
 
--- the stamps with those that are written at now (RFC 7583, section 3)
+-- the stamps with those that are stamps_on at now
 abbrev pub with_stamps : Stamped → ℕ → Stamps → Stamps
 with_stamps w now t = record {
   creation = t.creation;
@@ -394,70 +395,67 @@ with_stamps w now t = record {
   withdrawn = stamp_if w.withdrawn now t.withdrawn;
 }
 
--- a key whose flags move and whose stamps are written, by the flags before (RFC 6781, section 4.1)
-abbrev pub changed : (KeyType → KeyType) → Stamping → ℕ → KeyParts → KeyParts
-changed moves stamps now k = record k {
+-- a key whose flags move and whose stamps are stamps_on, by the flags before
+abbrev pub key_by : (KeyType → KeyType) → Stamping → ℕ → KeyParts → KeyParts
+key_by moves stamps now k = record k {
   keytype = moves k.keytype;
-  timestamps = with_stamps (written stamps k.keytype) now k.timestamps;
+  timestamps = with_stamps (stamps_on stamps k.keytype) now k.timestamps;
 }
 
--- it is on its way out from now on (RFC 6781, section 4.1)
+-- it is on its way out from now on
 abbrev pub turns_old : Flags → Flags
 turns_old s = record s { old = true }
 
--- a key that a start lists as old (RFC 6781, section 4.1)
-abbrev pub marked_old : KeyParts → KeyParts
-marked_old k = record k { keytype = at_roles turns_old turns_old k.keytype }
+-- a key that a start lists as old
+abbrev pub old_at_start : KeyParts → KeyParts
+old_at_start k = record k { keytype = at_roles turns_old turns_old k.keytype }
 
--- a key that a start lists as new (RFC 6781, section 4.1)
-abbrev pub marked_new : RollType → ℕ → KeyParts → KeyParts
-marked_new roll = changed (column roll).comes (column roll).stamps
+-- a key that a start lists as new
+abbrev pub new_at_start : RollType → ℕ → KeyParts → KeyParts
+new_at_start roll = key_by (column roll).comes (column roll).stamps
 
--- a key after a start, by whether it is listed as old, and whether as new (RFC 6781, section 4.1)
+-- a key after a start, by whether it is listed as old, and whether as new
 abbrev pub after_start : RollType → ℕ → Bool → Bool → KeyParts → KeyParts
 after_start roll now is_old is_new k =
-    let old = (if is_old then marked_old k else k) in
-    if is_new then marked_new roll now old else old
+    let old = (if is_old then old_at_start k else k) in
+    if is_new then new_at_start roll now old else old
 
--- an old key of a roll that is ended early: it is old no more, and no stamp changes (RFC 6781,
--- section
--- 4.1)
-abbrev pub unmarked_old : RollType → KeyParts → KeyParts
-unmarked_old roll k = record k { keytype = (column roll).returns k.keytype }
+-- an old key of a roll that is ended early: it is old no more, and no stamp changes
+abbrev pub old_at_early_end : RollType → KeyParts → KeyParts
+old_at_early_end roll k = record k { keytype = (column roll).returns k.keytype }
 
--- a new key of such a roll: it goes as it came, and no stamp changes (RFC 6781, section 4.1)
-abbrev pub unmarked_new : RollType → KeyParts → KeyParts
-unmarked_new roll k = record k { keytype = (column roll).goes k.keytype }
+-- a new key of such a roll: it goes as it came, and no stamp changes
+abbrev pub new_at_early_end : RollType → KeyParts → KeyParts
+new_at_early_end roll k = record k { keytype = (column roll).goes k.keytype }
 
 -- a key after an early end, by whether it is kept as an old one of the roll, and whether as a new
 -- one
--- (RFC 6781, section 4.1)
 abbrev pub after_early_end : RollType → Bool → Bool → KeyParts → KeyParts
 after_early_end roll was_old was_new k =
-    let old = (if was_old then unmarked_old roll k else k) in
-    if was_new then unmarked_new roll old else old
+    let old = (if was_old then old_at_early_end roll k else k) in
+    if was_new then new_at_early_end roll old else old
 
--- a key after a report (RFC 6781, section 4.1)
+-- a key after a report
 abbrev pub after_report : RollType → Half → ℕ → KeyParts → KeyParts
-after_report roll half = changed at_none (half_of roll half).report
+after_report roll half = key_by at_none (half_of roll half).report
 
--- a key after an accepted wait (RFC 6781, section 4.1)
+-- a key after an accepted wait
 abbrev pub after_wait : RollType → Half → ℕ → KeyParts → KeyParts
-after_wait roll half = changed (half_of roll half).moves (half_of roll half).stamps
+after_wait roll half = key_by (half_of roll half).moves (half_of roll half).stamps
 
 -- ---- phases, and what is asked in them
 
--- old data with this TTL leaves the caches (RFC 6781, section 4.1)
+-- old data with this TTL leaves the caches
 abbrev pub expiring : Half → ℕ → RollState
 expiring First ttl = CacheExpire1 ttl
 expiring Second ttl = CacheExpire2 ttl
 
--- the phase behind the wait (RFC 6781, section 4.1)
+-- the phase behind the wait
 abbrev pub behind : Half → RollState
 behind First = Propagation2
 behind Second = Done
 
--- what a roll asks of the operator in a phase (RFC 6781, section 4.1)
+-- what a roll asks of the operator in a phase
 abbrev pub actions_of : RollType → RollState → List Action
 actions_of roll Propagation1 = (column roll).asks
 actions_of roll (CacheExpire1 ttl) = []
@@ -465,7 +463,7 @@ actions_of roll Propagation2 = (column roll).asks_between
 actions_of roll (CacheExpire2 ttl) = []
 actions_of roll Done = (column roll).asks_last
 
--- the same of a roll that may not be in progress (RFC 6781, section 4.1)
+-- the same of a roll that may not be in progress
 abbrev pub actions_at : RollType → Option RollState → List Action
 actions_at roll None = []
 actions_at roll (Some phase) = actions_of roll phase

@@ -11,7 +11,7 @@ use Rattle.dnssec_key.specs.declared.error.Error.TheVariants.{WrongKeyType}
 use Rattle.dnssec_key.specs.State.{Flags, is_any}
 use Rattle.dnssec_key.specs.Key.{KeyParts, ksk_role, any_key}
 
--- what a setter sets (RFC 6781, section 4.1)
+-- what a setter sets
 pub data Setting : Type 0 where
   Decoupled : Bool → Setting
   Present : Bool → ℕ → Setting  -- at this moment
@@ -22,56 +22,56 @@ pub data Setting : Type 0 where
   DsVisibleAt : ℕ → Setting
   RrsigVisibleAt : ℕ → Setting
 
--- the setting that the code means (RFC 6781, section 4.1)
-abbrev pub meant : SettingOfCode → Setting
-meant (code.Decoupled value) = Decoupled value
-meant (code.Present value now) = Present value now
-meant (code.Signer value) = Signer value
-meant (code.AtParent value) = AtParent value
-meant code.Stale = Stale
-meant (code.VisibleAt time) = VisibleAt time
-meant (code.DsVisibleAt time) = DsVisibleAt time
-meant (code.RrsigVisibleAt time) = RrsigVisibleAt time
+-- the setting that the code means
+abbrev pub setting_of : SettingOfCode → Setting
+setting_of (code.Decoupled value) = Decoupled value
+setting_of (code.Present value now) = Present value now
+setting_of (code.Signer value) = Signer value
+setting_of (code.AtParent value) = AtParent value
+setting_of code.Stale = Stale
+setting_of (code.VisibleAt time) = VisibleAt time
+setting_of (code.DsVisibleAt time) = DsVisibleAt time
+setting_of (code.RrsigVisibleAt time) = RrsigVisibleAt time
 
 -- ---- what a setter changes
 
--- f at each state of the key, also at that of another signer's key (RFC 6781, section 3.1)
+-- f at each state of the key, also at that of another signer's key
 abbrev pub at_states : (Flags → Flags) → KeyType → KeyType
 at_states f (Ksk s) = Ksk (f s)
 at_states f (Zsk s) = Zsk (f s)
 at_states f (Csk s t) = Csk (f s) (f t)
 at_states f (Include s) = Include (f s)
 
--- f at the KSK role alone (RFC 6781, section 3.1)
+-- f at the KSK role alone
 abbrev pub at_ksk_role : (Flags → Flags) → KeyType → KeyType
 at_ksk_role f (Ksk s) = Ksk (f s)
 at_ksk_role f (Zsk s) = Zsk s
 at_ksk_role f (Csk s t) = Csk (f s) t
 at_ksk_role f (Include s) = Include s
 
--- it is in the DNSKEY set, or not (RFC 6781, section 4.1)
+-- it is in the DNSKEY set, or not
 abbrev pub with_present : Bool → Flags → Flags
 with_present value s = record s { present = value }
 
--- it signs, or not (RFC 6781, section 4.1)
+-- it signs, or not
 abbrev pub with_signer : Bool → Flags → Flags
 with_signer value s = record s { signer = value }
 
--- it has to have a DS record at the parent, or not (RFC 6781, section 4.1)
+-- it has to have a DS record at the parent, or not
 abbrev pub with_at_parent : Bool → Flags → Flags
 with_at_parent value s = record s { at_parent = value }
 
--- it has left: old, and in use in no way (RFC 6781, section 4.1)
-abbrev pub turned_stale : Flags → Flags
-turned_stale s = record s { old = true; signer = false; present = false; at_parent = false }
+-- it has left: old, and in use in no way
+abbrev pub stale_by_hand : Flags → Flags
+stale_by_hand s = record s { old = true; signer = false; present = false; at_parent = false }
 
--- a key put into the DNSKEY set was published then, unless it was before (RFC 7583, section 3.1)
+-- a key put into the DNSKEY set was published then, unless it was before
 abbrev pub first_published : Bool → ℕ → Option ℕ → Option ℕ
 first_published true now None = Some now
 first_published true now (Some before) = Some before
 first_published false now before = before
 
--- a key after a setter (RFC 6781, section 4.1)
+-- a key after a setter
 abbrev pub set_by : Setting → KeyParts → KeyParts
 set_by (Decoupled value) k = record k { decoupled = value }
 set_by (Present value now) k = record k {
@@ -80,7 +80,7 @@ set_by (Present value now) k = record k {
 }
 set_by (Signer value) k = record k { keytype = at_states (with_signer value) k.keytype }
 set_by (AtParent value) k = record k { keytype = at_ksk_role (with_at_parent value) k.keytype }
-set_by Stale k = record k { keytype = at_states turned_stale k.keytype }
+set_by Stale k = record k { keytype = at_states stale_by_hand k.keytype }
 set_by (VisibleAt time) k = record k { timestamps = record k.timestamps { visible = Some time } }
 set_by (DsVisibleAt time) k = record k {
   timestamps = record k.timestamps
@@ -89,7 +89,7 @@ set_by (DsVisibleAt time) k = record k {
 set_by (RrsigVisibleAt time) k =
     record k { timestamps = record k.timestamps { rrsig_visible = Some time } }
 
--- it sets a flag: neither a time, nor whether the key is decoupled (RFC 6781, section 4.1)
+-- it sets a flag: neither a time, nor whether the key is decoupled
 abbrev pub is_flag_setting : Setting → Bool
 is_flag_setting (Present value now) = true
 is_flag_setting (Signer value) = true
@@ -99,7 +99,7 @@ is_flag_setting _ = false
 
 -- ---- what it is refused for
 
--- another signer's key signs nothing here, and only a KSK role has a DS (RFC 6781, section 3.1)
+-- another signer's key signs nothing here, and only a KSK role has a DS
 abbrev pub suits_kind : Setting → KeyType → Bool
 suits_kind (Decoupled value) k = true
 suits_kind (Present value now) k = true
@@ -110,6 +110,6 @@ suits_kind (VisibleAt time) k = true
 suits_kind (DsVisibleAt time) k = true
 suits_kind (RrsigVisibleAt time) k = true
 
--- why a key refuses a setter (RFC 6781, section 3.1)
+-- why a key refuses a setter
 abbrev pub kind_refusal : Setting → KeyType → Option Error
 kind_refusal setting k = if suits_kind setting k then None else Some WrongKeyType

@@ -106,7 +106,7 @@ error_text OutOfMemory = codes "out of memory"
 
 -- ---- rolls
 
--- the name of a roll in a script (RFC 6781, section 4.1)
+-- the name of a roll in a script
 abbrev pub roll_name : RollType → List ℕ
 roll_name KskRoll = codes "ksk-roll"
 roll_name KskDoubleDsRoll = codes "ksk-double-ds-roll"
@@ -115,14 +115,14 @@ roll_name ZskDoubleSignatureRoll = codes "zsk-double-signature-roll"
 roll_name CskRoll = codes "csk-roll"
 roll_name AlgorithmRoll = codes "algorithm-roll"
 
--- the roll that has this name, or that none has it (RFC 6781, section 4.1)
+-- the roll that has this name, or that none has it
 abbrev pub NamesRoll : List ℕ → Result RollType Error → Type 0
 NamesRoll text r = MatchResult r (λ roll. text ≡ roll_name roll)
     (λ e. (e ≡ UnknownRollType) × ((roll : RollType) → text ≢ roll_name roll))
 
 -- ---- states
 
--- the flags that the text names, each with its word (RFC 6781, section 3.1)
+-- the flags that the text names, each with its word
 abbrev pub named_flags : Flags → List (Bool × List ℕ)
 named_flags s =
     (s.old, codes "Old") ∷ (s.signer, codes "Signer") ∷ (s.present, codes "Present")
@@ -136,7 +136,7 @@ set_words flags = map (λ (f : Bool × List ℕ). f.1) (filter (λ f. f.0) flags
 abbrev pub listed : List (List ℕ) → List ℕ
 listed words = join_by (λ w. w) (codes ", ") words
 
--- what stands at the end, by the flags old, signer and present (RFC 7583, section 3.1)
+-- what stands at the end, by the flags old, signer and present
 abbrev pub ending : Bool → Bool → Bool → List ℕ
 ending false false false = codes "(Future)"
 ending false false true = codes " (Incoming)"
@@ -146,6 +146,6 @@ ending true false true = codes " (Retired)"
 ending true false false = codes " (Stale)"
 ending _ true false = []
 
--- the words of the flags that are set, and then the ending (RFC 7583, section 3.1)
+-- the words of the flags that are set, and then the ending
 abbrev pub state_text : Flags → List ℕ
 state_text s = listed (set_words (named_flags s)) ++ ending s.old s.signer s.present

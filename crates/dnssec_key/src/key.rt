@@ -3,10 +3,10 @@ ghost use Rattle.std.specs.Prelude.{◌≡◌, IfOk, IfErr, string_bytes};
 ghost use Rattle.std.specs.Option.{option_map};
 ghost use Rattle.dnssec_key.specs.State.{is_stale, is_fresh, is_kept};
 ghost use Rattle.dnssec_key.specs.Key.{all_states, new_key};
-ghost use Rattle.dnssec_key.specs.RollTable.{which, after_report, after_wait, marked_new};
-ghost use Rattle.dnssec_key.specs.RollTable.{marked_old, unmarked_new, unmarked_old};
+ghost use Rattle.dnssec_key.specs.RollTable.{which, after_report, after_wait, new_at_start};
+ghost use Rattle.dnssec_key.specs.RollTable.{old_at_start, new_at_early_end, old_at_early_end};
 ghost use Rattle.dnssec_key.specs.declared.error.Error.TheVariants.{OutOfMemory};
-ghost use Rattle.dnssec_key.specs.Setters.{meant, set_by};
+ghost use Rattle.dnssec_key.specs.Setters.{setting_of, set_by};
 
 use crate::error::Error;
 use crate::kind::KeyType;
@@ -177,7 +177,7 @@ impl Key {
 
     /// Sets what is set, whatever the kind of the key.
     pub fn set(&mut self, setting: Setting)
-        ensures { self.new ≡ set_by (meant setting) self.old }
+        ensures { self.new ≡ set_by (setting_of setting) self.old }
     {
         let keytype = self.keytype();
         let stamps = *self.timestamps();
@@ -189,7 +189,7 @@ impl Key {
             }
             Setting::Signer(value) => self.put_keytype(keytype.with_signer(value)),
             Setting::AtParent(value) => self.put_keytype(keytype.with_at_parent(value)),
-            Setting::Stale => self.put_keytype(keytype.turned_stale()),
+            Setting::Stale => self.put_keytype(keytype.as_stale()),
             Setting::VisibleAt(time) => self.put_timestamps(stamps.with_visible(time)),
             Setting::DsVisibleAt(time) => self.put_timestamps(stamps.with_ds_visible(time)),
             Setting::RrsigVisibleAt(time) => self.put_timestamps(stamps.with_rrsig_visible(time)),
@@ -216,39 +216,39 @@ impl Key {
 
     /// A start lists the key as old.
     pub fn mark_old(&mut self)
-        ensures { self.new ≡ marked_old self.old }
+        ensures { self.new ≡ old_at_start self.old }
     {
-        self.keytype = self.keytype.turned_old();
+        self.keytype = self.keytype.after_start_as_old();
     }
 
     /// A start lists the key as new.
     pub fn mark_new(&mut self, roll: RollType, now: UnixTime)
-        ensures { self.new ≡ marked_new roll now self.old }
+        ensures { self.new ≡ new_at_start roll now self.old }
     {
-        let stamped = self.keytype.stamped_at_start(roll);
-        self.keytype = self.keytype.coming_in(roll);
+        let stamped = self.keytype.stamps_at_start(roll);
+        self.keytype = self.keytype.after_start_as_new(roll);
         self.timestamps = self.timestamps.with(stamped, now);
     }
 
     /// A roll that listed the key as old is ended early.
     pub fn unmark_old(&mut self, roll: RollType)
-        ensures { self.new ≡ unmarked_old roll self.old }
+        ensures { self.new ≡ old_at_early_end roll self.old }
     {
-        self.keytype = self.keytype.turned_back(roll);
+        self.keytype = self.keytype.after_early_end_as_old(roll);
     }
 
     /// A roll that listed the key as new is ended early.
     pub fn unmark_new(&mut self, roll: RollType)
-        ensures { self.new ≡ unmarked_new roll self.old }
+        ensures { self.new ≡ new_at_early_end roll self.old }
     {
-        self.keytype = self.keytype.going_out(roll);
+        self.keytype = self.keytype.after_early_end_as_new(roll);
     }
 
     /// A report of a roll is made.
     pub fn report(&mut self, roll: RollType, half: Half, now: UnixTime)
         ensures { self.new ≡ after_report roll (which half) now self.old }
     {
-        let stamped = self.keytype.stamped_by_report(roll, half);
+        let stamped = self.keytype.stamps_by_report(roll, half);
         self.timestamps = self.timestamps.with(stamped, now);
     }
 
@@ -256,8 +256,8 @@ impl Key {
     pub fn go_on(&mut self, roll: RollType, half: Half, now: UnixTime)
         ensures { self.new ≡ after_wait roll (which half) now self.old }
     {
-        let stamped = self.keytype.stamped_by_wait(roll, half);
-        self.keytype = self.keytype.moved_by_wait(roll, half);
+        let stamped = self.keytype.stamps_by_wait(roll, half);
+        self.keytype = self.keytype.after_wait(roll, half);
         self.timestamps = self.timestamps.with(stamped, now);
     }
 }

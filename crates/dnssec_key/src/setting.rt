@@ -1,7 +1,7 @@
 //! What the setters do to a key of each kind.
 ghost use Rattle.std.specs.Prelude.{◌≡◌};
-ghost use Rattle.dnssec_key.specs.Setters.{meant, at_ksk_role, at_states, is_flag_setting};
-ghost use Rattle.dnssec_key.specs.Setters.{suits_kind, turned_stale, with_at_parent, with_present};
+ghost use Rattle.dnssec_key.specs.Setters.{setting_of, at_ksk_role, at_states, is_flag_setting};
+ghost use Rattle.dnssec_key.specs.Setters.{suits_kind, stale_by_hand, with_at_parent, with_present};
 ghost use Rattle.dnssec_key.specs.Setters.{with_signer};
 
 use crate::kind::KeyType;
@@ -24,7 +24,7 @@ pub enum Setting {
 impl Setting {
     /// Whether a flag is set: neither a time, nor whether the key is decoupled.
     pub fn sets_flag(&self) -> bool
-        ensures { result ≡ is_flag_setting (meant self.now) }
+        ensures { result ≡ is_flag_setting (setting_of self.now) }
     {
         matches!(
             self,
@@ -62,8 +62,8 @@ impl KeyState {
         }
     }
 
-    fn turned_stale(self) -> KeyState
-        ensures { result ≡ turned_stale self }
+    fn as_stale(self) -> KeyState
+        ensures { result ≡ stale_by_hand self }
     {
         KeyState {
             old: true,
@@ -111,20 +111,20 @@ impl KeyType {
         }
     }
 
-    pub(crate) fn turned_stale(self) -> KeyType
-        ensures { result ≡ at_states turned_stale self }
+    pub(crate) fn as_stale(self) -> KeyType
+        ensures { result ≡ at_states stale_by_hand self }
     {
         match self {
-            KeyType::Ksk(state) => KeyType::Ksk(state.turned_stale()),
-            KeyType::Zsk(state) => KeyType::Zsk(state.turned_stale()),
-            KeyType::Csk(ksk, zsk) => KeyType::Csk(ksk.turned_stale(), zsk.turned_stale()),
-            KeyType::Include(state) => KeyType::Include(state.turned_stale()),
+            KeyType::Ksk(state) => KeyType::Ksk(state.as_stale()),
+            KeyType::Zsk(state) => KeyType::Zsk(state.as_stale()),
+            KeyType::Csk(ksk, zsk) => KeyType::Csk(ksk.as_stale(), zsk.as_stale()),
+            KeyType::Include(state) => KeyType::Include(state.as_stale()),
         }
     }
 
     /// Whether a key of this kind has what is set.
     pub fn suits(&self, setting: &Setting) -> bool
-        ensures { result ≡ suits_kind (meant setting.now) self.now }
+        ensures { result ≡ suits_kind (setting_of setting.now) self.now }
     {
         match setting {
             Setting::Signer(_) => !matches!(self, KeyType::Include(_)),

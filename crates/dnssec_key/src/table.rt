@@ -3,7 +3,8 @@
 
 ghost use Rattle.std.specs.Prelude.{◌≡◌};
 ghost use Rattle.dnssec_key.specs.declared.kind.KeyType.TheVariants.{Csk};
-ghost use Rattle.dnssec_key.specs.RollTable.{which, column, half_of, written, at_roles, turns_old};
+ghost use Rattle.dnssec_key.specs.RollTable.{which, column, half_of, stamps_on, at_roles};
+ghost use Rattle.dnssec_key.specs.RollTable.{turns_old};
 ghost use Rattle.dnssec_key.specs.RollTable.{leaves_dnskey};
 
 use crate::kind::KeyType;
@@ -29,7 +30,7 @@ fn leaving_csk(ksk: KeyState, zsk: KeyState) -> KeyType
 /// The rows.
 impl KeyType {
     /// A start lists the key as old.
-    pub(crate) fn turned_old(&self) -> KeyType
+    pub(crate) fn after_start_as_old(&self) -> KeyType
         ensures { result ≡ at_roles turns_old turns_old self.now }
     {
         match *self {
@@ -41,7 +42,7 @@ impl KeyType {
     }
 
     /// What a start puts on a new key.
-    pub(crate) fn coming_in(&self, roll: RollType) -> KeyType
+    pub(crate) fn after_start_as_new(&self, roll: RollType) -> KeyType
         ensures { result ≡ (column roll).comes self.now }
     {
         match *self {
@@ -65,7 +66,7 @@ impl KeyType {
     }
 
     /// What an early end takes from a new key: what its start put on it.
-    pub(crate) fn going_out(&self, roll: RollType) -> KeyType
+    pub(crate) fn after_early_end_as_new(&self, roll: RollType) -> KeyType
         ensures { result ≡ (column roll).goes self.now }
     {
         match *self {
@@ -89,7 +90,7 @@ impl KeyType {
     }
 
     /// What an early end leaves of an old key: it is old no more.
-    pub(crate) fn turned_back(&self, roll: RollType) -> KeyType
+    pub(crate) fn after_early_end_as_old(&self, roll: RollType) -> KeyType
         ensures { result ≡ (column roll).returns self.now }
     {
         match *self {
@@ -110,8 +111,8 @@ impl KeyType {
     }
 
     /// What a start stamps on a new key.
-    pub(crate) fn stamped_at_start(&self, roll: RollType) -> Stamped
-        ensures { result ≡ written (column roll).stamps self.now }
+    pub(crate) fn stamps_at_start(&self, roll: RollType) -> Stamped
+        ensures { result ≡ stamps_on (column roll).stamps self.now }
     {
         Stamped {
             published: roll != KskDoubleDsRoll,
@@ -120,8 +121,8 @@ impl KeyType {
     }
 
     /// What a report stamps.
-    pub(crate) fn stamped_by_report(&self, roll: RollType, half: Half) -> Stamped
-        ensures { result ≡ written (half_of roll (which half)).report self.now }
+    pub(crate) fn stamps_by_report(&self, roll: RollType, half: Half) -> Stamped
+        ensures { result ≡ stamps_on (half_of roll (which half)).report self.now }
     {
         let none = Stamped::default();
         match (roll, half) {
@@ -186,16 +187,16 @@ impl KeyType {
     }
 
     /// What happens to the key once a wait is over.
-    pub(crate) fn moved_by_wait(&self, roll: RollType, half: Half) -> KeyType
+    pub(crate) fn after_wait(&self, roll: RollType, half: Half) -> KeyType
         ensures { result ≡ (half_of roll (which half)).moves self.now }
     {
         match half {
-            First => self.moved_by_first_wait(roll),
-            Second => self.moved_by_second_wait(roll),
+            First => self.after_first_wait(roll),
+            Second => self.after_second_wait(roll),
         }
     }
 
-    fn moved_by_first_wait(&self, roll: RollType) -> KeyType
+    fn after_first_wait(&self, roll: RollType) -> KeyType
         ensures { result ≡ (column roll).first.moves self.now }
     {
         match *self {
@@ -218,7 +219,7 @@ impl KeyType {
         }
     }
 
-    fn moved_by_second_wait(&self, roll: RollType) -> KeyType
+    fn after_second_wait(&self, roll: RollType) -> KeyType
         ensures { result ≡ (column roll).second.moves self.now }
     {
         match *self {
@@ -247,8 +248,8 @@ impl KeyType {
     }
 
     /// What is stamped once a wait is over.
-    pub(crate) fn stamped_by_wait(&self, roll: RollType, half: Half) -> Stamped
-        ensures { result ≡ written (half_of roll (which half)).stamps self.now }
+    pub(crate) fn stamps_by_wait(&self, roll: RollType, half: Half) -> Stamped
+        ensures { result ≡ stamps_on (half_of roll (which half)).stamps self.now }
     {
         let none = Stamped::default();
         match (roll, half) {

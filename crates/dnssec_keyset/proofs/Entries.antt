@@ -12,7 +12,7 @@ use Rattle.dnssec_key.specs.declared.roll.RollType.{RollType}
 use Rattle.dnssec_key.specs.Key.{KeyParts}
 use Rattle.dnssec_keyset.specs.Inner.Bits.{is_set}
 use Rattle.dnssec_keyset.specs.Inner.Counts.{bit, count_in, listed}
-use Rattle.dnssec_keyset.specs.Inner.Tags.{HasListed, is_in}
+use Rattle.dnssec_keyset.specs.Inner.Tags.{HasListed, has_its_tag}
 use Rattle.dnssec_keyset.specs.KeySet.{Keys}
 use Rattle.dnssec_keyset.specs.Start.{texts, is_listed, new_entry_fault, new_fault}
 use Rattle.dnssec_keyset.specs.Step.{AnswersExactly}
@@ -32,7 +32,7 @@ module _ (roll : RollType) (keys : Keys) (olds : List (List ℕ)) (news : List (
     (texts (drop i news)) ≡ all) where
   here : Option Error
   here = new_entry_fault roll (get keys (get_or news i d).now)
-      (is_in tags (get keys (get_or news i d).now))
+      (has_its_tag tags (get keys (get_or news i d).now))
 
   behind : Option Error
   behind = new_fault roll (get keys) olds (texts (take (i + 1) news)) (texts (drop (i + 1) news))
@@ -45,7 +45,7 @@ module _ (roll : RollType) (keys : Keys) (olds : List (List ℕ)) (news : List (
   -- the new entry at i is refused
   pub fault-found : (fault : Error) → {found : Option Error} → Some fault ≡ found
       → found ≡ new_entry_fault roll (get keys (get_or news i d).now)
-      (is_in tags (get keys (get_or news i d).now))
+      (has_its_tag tags (get keys (get_or news i d).now))
       → AnswersExactly {T = Unit {0}} all (Err fault)
   unfolding here behind
   fault-found fault is there =
@@ -55,7 +55,7 @@ module _ (roll : RollType) (keys : Keys) (olds : List (List ℕ)) (news : List (
   -- it isn't, and the first fault stands behind it
   pub fault-behind : {found : Option Error} → found ≡ None
       → found ≡ new_entry_fault roll (get keys (get_or news i d).now)
-      (is_in tags (get keys (get_or news i d).now))
+      (has_its_tag tags (get keys (get_or news i d).now))
       → new_fault roll (get keys) olds (texts (take (i + 1) news)) (texts (drop (i + 1) news)) ≡ all
   unfolding here behind
   fault-behind is there = sym (apart ∙ ap (λ o. option_or o behind) (sym (sym is ∙ there)))

@@ -17,9 +17,9 @@ use Rattle.dnssec_key.specs.declared.roll.RollType.TheVariants.{AlgorithmRoll}
 use Rattle.dnssec_key.specs.State.{Flags}
 use Rattle.dnssec_key.specs.Key.{KeyParts}
 use Rattle.dnssec_key.specs.RollTable.{column, at_ksk, at_zsk, at_roles, turns_old, comes_in}
-use Rattle.dnssec_key.specs.RollTable.{comes_in_signing, ds_comes_in, marked_old, marked_new}
+use Rattle.dnssec_key.specs.RollTable.{comes_in_signing, ds_comes_in, old_at_start, new_at_start}
 use Rattle.dnssec_key.specs.RollTable.{turns_back, leaves_dnskey, leaves_parent, leaves_silently}
-use Rattle.dnssec_key.specs.RollTable.{unmarked_old, unmarked_new}
+use Rattle.dnssec_key.specs.RollTable.{old_at_early_end, new_at_early_end}
 use Rattle.dnssec_keyset.specs.Start.{is_listed}
 use Rattle.dnssec_keyset.proofs.Lists.{map-push}
 
@@ -46,7 +46,7 @@ at_zsk-twice f ff (Zsk s) = ap Zsk (ff s)
 at_zsk-twice f ff (Csk s t) = refl
 at_zsk-twice f ff (Include s) = refl
 
-pub marked_old-twice : (k : KeyParts) → marked_old (marked_old k) ≡ marked_old k
+pub marked_old-twice : (k : KeyParts) → old_at_start (old_at_start k) ≡ old_at_start k
 marked_old-twice k =
     λ i. record k {
       keytype = at_roles-twice turns_old turns_old (λ s. refl) (λ s. refl) k.keytype
@@ -54,25 +54,25 @@ marked_old-twice k =
     }
 
 pub marked_new-twice : (roll : RollType) (now : ℕ) (k : KeyParts) →
-    marked_new roll now (marked_new roll now k) ≡ marked_new roll now k
+    new_at_start roll now (new_at_start roll now k) ≡ new_at_start roll now k
 unfolding column
 marked_new-twice KskRoll now k =
-    λ i. record (marked_new KskRoll now k)
+    λ i. record (new_at_start KskRoll now k)
     { keytype = at_ksk-twice comes_in_signing (λ s. refl) k.keytype i }
-marked_new-twice KskDoubleDsRoll now k = λ i. record (marked_new KskDoubleDsRoll now k)
+marked_new-twice KskDoubleDsRoll now k = λ i. record (new_at_start KskDoubleDsRoll now k)
     { keytype = at_ksk-twice ds_comes_in (λ s. refl) k.keytype i }
 marked_new-twice ZskRoll now k =
-    λ i. record (marked_new ZskRoll now k) {
+    λ i. record (new_at_start ZskRoll now k) {
       keytype = at_zsk-twice comes_in (λ s. refl) k.keytype
           i;
     }
 marked_new-twice ZskDoubleSignatureRoll now k =
-    λ i. record (marked_new ZskDoubleSignatureRoll now k)
+    λ i. record (new_at_start ZskDoubleSignatureRoll now k)
     { keytype = at_zsk-twice comes_in_signing (λ s. refl) k.keytype i }
 marked_new-twice CskRoll now k =
-    λ i. record (marked_new CskRoll now k)
+    λ i. record (new_at_start CskRoll now k)
     { keytype = at_roles-twice comes_in_signing comes_in (λ s. refl) (λ s. refl) k.keytype i }
-marked_new-twice AlgorithmRoll now k = λ i. record (marked_new AlgorithmRoll now k) {
+marked_new-twice AlgorithmRoll now k = λ i. record (new_at_start AlgorithmRoll now k) {
   keytype = at_roles-twice comes_in_signing comes_in_signing (λ s. refl) (λ s. refl) k.keytype
       i;
 }
@@ -88,7 +88,7 @@ returns-twice CskRoll t = at_roles-twice turns_back turns_back (λ s. refl) (λ 
 returns-twice AlgorithmRoll t = at_roles-twice turns_back turns_back (λ s. refl) (λ s. refl) t
 
 pub unmarked_old-twice : (roll : RollType) (k : KeyParts)
-    → unmarked_old roll (unmarked_old roll k) ≡ unmarked_old roll k
+    → old_at_early_end roll (old_at_early_end roll k) ≡ old_at_early_end roll k
 unmarked_old-twice roll k = λ i. record k { keytype = returns-twice roll k.keytype i }
 
 goes-twice : (roll : RollType) (t : KeyType)
@@ -102,7 +102,7 @@ goes-twice CskRoll t = at_roles-twice leaves_dnskey leaves_silently (λ s. refl)
 goes-twice AlgorithmRoll t = at_roles-twice leaves_dnskey leaves_dnskey (λ s. refl) (λ s. refl) t
 
 pub unmarked_new-twice : (roll : RollType) (k : KeyParts)
-    → unmarked_new roll (unmarked_new roll k) ≡ unmarked_new roll k
+    → new_at_early_end roll (new_at_early_end roll k) ≡ new_at_early_end roll k
 unmarked_new-twice roll k = λ i. record k { keytype = goes-twice roll k.keytype i }
 
 -- ---- a step of the loop

@@ -10,7 +10,7 @@ use Rattle.dnssec_key.specs.declared.roll.RollType.TheVariants.{AlgorithmRoll}
 use Rattle.dnssec_key.specs.declared.roll.RollState.{RollState}
 use Rattle.dnssec_key.specs.contracts.roll.RollTypePartialEq.TheImpl.{eq-value}
 use Rattle.dnssec_keyset.specs.KeySet.{Listed, Lists, listed_by, with_listed, Rolls, same_roll}
-use Rattle.dnssec_keyset.specs.KeySet.{rolls_shown, phase_of, with_phase, roll_number, no_rolls}
+use Rattle.dnssec_keyset.specs.KeySet.{rolls_in_map, phase_of, with_phase, roll_number, no_rolls}
 use Rattle.dnssec_keyset.specs.KeySet.{without, others}
 use Rattle.dnssec_key.specs.contracts.roll.RollType.{the_type}
 use denote.Enum.Declared.{tag_of}
@@ -89,7 +89,7 @@ listed_by-without r l AlgorithmRoll = refl
 
 module _ {S : Type 0} where
   pub phase_of-shown : (m : HashMap RollType RollState S) (roll : RollType)
-      → phase_of (rolls_shown m) roll ≡ get eq-value.it m roll
+      → phase_of (rolls_in_map m) roll ≡ get eq-value.it m roll
   phase_of-shown m KskRoll = lookup-same_roll KskRoll m.entries
   phase_of-shown m KskDoubleDsRoll = lookup-same_roll KskDoubleDsRoll m.entries
   phase_of-shown m ZskRoll = lookup-same_roll ZskRoll m.entries
@@ -101,11 +101,11 @@ module _ {S : Type 0} where
   pub rolls_shown-updates : (m n : HashMap RollType RollState S) (roll : RollType)
       (phase : Option RollState)
       → ((q : RollType) → get eq-value.it n q
-          ≡ cond (eq-value.it roll q) phase (get eq-value.it m q)) → rolls_shown n
-          ≡ with_phase (rolls_shown m) roll phase
+          ≡ cond (eq-value.it roll q) phase (get eq-value.it m q)) → rolls_in_map n
+          ≡ with_phase (rolls_in_map m) roll phase
   rolls_shown-updates m n roll phase h =
       same_rolls _ _ (λ q. phase_of-shown n q ∙ h q
       ∙ (λ i. cond (same_roll-eq roll q i) phase (sym (phase_of-shown m q) i))
-      ∙ sym (phase_of-with_phase (rolls_shown m) roll phase q))
+      ∙ sym (phase_of-with_phase (rolls_in_map m) roll phase q))
 
 pub ruleset phases = (phase_of-shown, rolls_shown-updates)

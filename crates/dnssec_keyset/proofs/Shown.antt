@@ -18,7 +18,7 @@ use Rattle.std.proofs.lemmas.Map.Text.{is_text, is_eq-slice_cmp, text_keys}
 use Rattle.std.proofs.lemmas.Map.Made.{lookup-map_values}
 use Rattle.std.specs.Option.{option_map}
 use Rattle.dnssec_key.specs.Key.{KeyParts}
-use Rattle.dnssec_keyset.specs.KeySet.{Keys, keys_shown, entries_by_bytes}
+use Rattle.dnssec_keyset.specs.KeySet.{Keys, keys_in_map, entries_by_bytes}
 use Rattle.dnssec_keyset.specs.declared.keys.Keys.TheInside.{Inside}
 use Rattle.dnssec_keyset.specs.contracts.keys.Keys.{the_view}
 
@@ -35,13 +35,13 @@ module _ {Y : Type 0} where
   module _ {S : Type 0} where
     -- the finite map has at the bytes q what the hash map has there
     pub get-keys_shown : (m : HashMap (String Y) KeyParts S) (q : List ℕ) →
-        fin.get (keys_shown m) q ≡ get_by_text m q
+        fin.get (keys_in_map m) q ≡ get_by_text m q
     get-keys_shown m q = get-from_entries nat_list_cmp_total (entries_by_bytes m) q
         ∙ find_by_bytes m.entries q
 
     -- two hash maps that answer alike show one finite map
     pub keys_shown-same : (m n : HashMap (String Y) KeyParts S) →
-        ((q : List ℕ) → get_by_text m q ≡ get_by_text n q) → keys_shown m ≡ keys_shown n
+        ((q : List ℕ) → get_by_text m q ≡ get_by_text n q) → keys_in_map m ≡ keys_in_map n
     keys_shown-same m n same =
         same_keys _ _ (λ q. get-keys_shown m q ∙ same q ∙ sym (get-keys_shown n q))
       where
@@ -61,9 +61,9 @@ get-shown i v q e = sym (ap (λ (w : Keys). fin.get w q) e) ∙ get-keys_shown i
 
 -- what the keys show once a walk has put every key through a step
 pub get-walked : {Y S : Type 0} (step : KeyParts → KeyParts) (m n : HashMap (String Y) KeyParts S)
-    (v : Keys) → keys_shown m ≡ v
+    (v : Keys) → keys_in_map m ≡ v
     → n.entries ≡ map (λ (e : String Y × KeyParts). (e.0, step e.1)) m.entries
-    → (q : List ℕ) → fin.get (keys_shown n) q ≡ option_map step (fin.get v q)
+    → (q : List ℕ) → fin.get (keys_in_map n) q ≡ option_map step (fin.get v q)
 get-walked step m n v e is q = get-keys_shown n q ∙ ap (lookup (is_text q)) is
     ∙ lookup-map_values step (is_text q) m.entries
     ∙ ap (option_map step) (sym (get-keys_shown m q) ∙ ap (λ (w : Keys). fin.get w q) e)
@@ -94,8 +94,8 @@ same-written v n r k found is = same_keys n v (λ q. is q ∙ at q (bytes_eq r q
 pub get-updated : {Y S : Type 0} (m n : HashMap (String Y) KeyParts S) (r : List ℕ)
     (o : Option KeyParts)
     → ((q : List ℕ) → get_by_text n q ≡ (if bytes_eq r q then o else get_by_text m q))
-    → (q : List ℕ) → fin.get (keys_shown n) q
-    ≡ (if bytes_eq r q then o else fin.get (keys_shown m) q)
+    → (q : List ℕ) → fin.get (keys_in_map n) q
+    ≡ (if bytes_eq r q then o else fin.get (keys_in_map m) q)
 get-updated m n r o is q = get-keys_shown n q ∙ is q
     ∙ ap (λ (x : Option KeyParts). if bytes_eq r q then o else x) (sym (get-keys_shown m q))
 

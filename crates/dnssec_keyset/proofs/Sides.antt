@@ -15,7 +15,7 @@ use Rattle.dnssec_key.specs.declared.error.Error.TheVariants.{WrongKeyType, Wron
 use Rattle.dnssec_key.specs.Key.{KeyParts, all_states}
 use Rattle.dnssec_key.specs.State.{is_fresh}
 use Rattle.dnssec_keyset.specs.KeySet.{KeySetParts}
-use Rattle.dnssec_key.specs.RollTable.{Half, First, Second, Stamping, column, half_of, written}
+use Rattle.dnssec_key.specs.RollTable.{Half, First, Second, Stamping, column, half_of, stamps_on}
 use Rattle.dnssec_key.specs.RollTable.{with_stamps, after_start, after_report, after_wait}
 use Rattle.dnssec_key.specs.RollTable.{after_early_end}
 use Rattle.dnssec_keyset.specs.Start.{algorithm_fault, conflict, is_listed, lists_kind}
@@ -39,7 +39,7 @@ bare : Stamping → KeyType → Bool
 bare w k = not (w.published k) && not (w.visible k) && not (w.ds_visible k)
     && (not (w.rrsig_visible k) && not (w.withdrawn k))
 
-bare-is : (w : Stamping) (k : KeyType) → bare w k ≡ true → written w k ≡ unstamped
+bare-is : (w : Stamping) (k : KeyType) → bare w k ≡ true → stamps_on w k ≡ unstamped
 unfolding bare unstamped
 bare-is w k e =
     let x = four (not (w.published k)) (not (w.visible k)) (not (w.ds_visible k))
@@ -70,8 +70,8 @@ half_all Second false true = refl
 half_all Second false false = refl
 
 record HalfOthers (roll : RollType) (half : Half) (t : KeyType) : Type 0 where
-  report : written (half_of roll half).report t ≡ unstamped
-  stamps : written (half_of roll half).stamps t ≡ unstamped
+  report : stamps_on (half_of roll half).report t ≡ unstamped
+  stamps : stamps_on (half_of roll half).stamps t ≡ unstamped
   moves : (half_of roll half).moves t ≡ t
   checks : (half_of roll half).checks t ≡ false
 

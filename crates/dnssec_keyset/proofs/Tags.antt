@@ -15,11 +15,12 @@ use Rattle.dnssec_keyset.specs.Step.{has_tag}
 use Rattle.dnssec_keyset.specs.declared.keys.Change.{Change}
 use Rattle.dnssec_keyset.specs.declared.keys.Change.TheVariants.{MarkOld, MarkNew}
 use Rattle.dnssec_keyset.specs.declared.keys.Change.TheVariants.{UnmarkOld, UnmarkNew}
-use Rattle.dnssec_keyset.specs.Inner.Change.{made}
+use Rattle.dnssec_keyset.specs.Inner.Change.{makes}
 use Rattle.dnssec_key.specs.declared.kind.KeyType.{KeyType}
 use Rattle.dnssec_key.specs.declared.roll.RollType.{RollType}
 use Rattle.dnssec_keyset.specs.Inner.Bits.{is_set}
-use Rattle.dnssec_keyset.specs.Inner.Tags.{TagsAgree, DifferInTags, HasListed, is_in}
+use Rattle.dnssec_keyset.specs.Inner.Tags.{TagsAgree, HasListed, has_its_tag}
+use Rattle.dnssec_keyset.specs.Laws.{TagsApart}
 use Rattle.dnssec_keyset.specs.Start.{new_entry_fault}
 use Rattle.dnssec_keyset.proofs.Quantified.{some_key-found, some_key-none}
 use Rattle.std.proofs.lemmas.Bool.{cases_Bool}
@@ -41,7 +42,7 @@ kept_set (VisibleAt time) k = refl
 kept_set (DsVisibleAt time) k = refl
 kept_set (RrsigVisibleAt time) k = refl
 
-pub kept_made : (change : Change) (k : KeyParts) → (made change k).key_tag ≡ k.key_tag
+pub kept_made : (change : Change) (k : KeyParts) → (makes change k).key_tag ≡ k.key_tag
 kept_made MarkOld k = refl
 kept_made (MarkNew roll now) k = refl
 kept_made (UnmarkOld roll) k = refl
@@ -248,7 +249,7 @@ listed-none keys tags r none listed old q k at =
     ]
 
 -- one more reference, and the tag of the key there
-pub listed-put : (keys : Keys) → DifferInTags keys → (tags more : List ℕ) (r : List ℕ)
+pub listed-put : (keys : Keys) → TagsApart keys → (tags more : List ℕ) (r : List ℕ)
     (x : KeyParts) → get keys r ≡ Some x
     → ((t : ℕ) → is_set more t ≡ (if nat_eq x.key_tag t then true else is_set tags t))
     → (listed : List ℕ → Bool) → HasListed tags keys listed
@@ -292,12 +293,12 @@ listed-nothing keys tags none q k at = none k.key_tag
 -- what is wrong with a new entry, by the tags of those before it
 pub fault-listed : (roll : RollType) (keys : Keys) (tags : List ℕ) (listed : List ℕ → Bool)
     (r : List ℕ) → HasListed tags keys listed
-    → new_entry_fault roll (get keys r) (is_in tags (get keys r))
+    → new_entry_fault roll (get keys r) (has_its_tag tags (get keys r))
     ≡ new_entry_fault roll (get keys r) (listed r)
 fault-listed roll keys tags listed r has = at (get keys r) refl
   where
     at : (o : Option KeyParts) → get keys r ≡ o →
-        new_entry_fault roll o (is_in tags o) ≡ new_entry_fault roll o (listed r)
+        new_entry_fault roll o (has_its_tag tags o) ≡ new_entry_fault roll o (listed r)
     at None e = refl
     at (Some k) e = ap (new_entry_fault roll (Some k)) (has r k e)
 

@@ -26,8 +26,10 @@ use Rattle.dnssec_keyset.specs.contracts.set.KeySet.{the_view as set_view}
 use Rattle.dnssec_key.specs.Key.{KeyParts}
 use Rattle.dnssec_keyset.specs.KeySet.{Keys, KeySetParts, phase_of, some_key}
 use Rattle.dnssec_key.specs.RollTable.{half_of}
-use Rattle.dnssec_keyset.specs.Wait.{ttl_in, time_left, left_since, stamp_read, over_at}
-use Rattle.dnssec_keyset.specs.Wait.{over_since, lacks_stamp, is_early, IsLongest}
+use Rattle.dnssec_keyset.specs.Wait.{ttl_in, time_left, left_since, stamp_read}
+use Rattle.dnssec_keyset.specs.Inner.Over.{over_at}
+use Rattle.dnssec_keyset.specs.Wait.{lacks_stamp, is_early, IsLongest}
+use Rattle.dnssec_keyset.specs.Inner.Over.{over_since}
 use Rattle.dnssec_keyset.specs.Step.{Verdict, Barred, Early, Clear, AnswersWait, wait_in_phase}
 use Rattle.dnssec_keyset.specs.Step.{wait_verdict}
 use Rattle.dnssec_keyset.specs.WaitEnd.{IsEarlyBy, IsOverFrom, LacksStamp, HasNoWait}

@@ -20,7 +20,7 @@ use Rattle.std.proofs.lemmas.List.Sorted.{IsPermutation-map, list_any-IsPermutat
 use Rattle.std.proofs.lemmas.Map.{lookup-none}
 use Rattle.std.proofs.lemmas.Map.Text.{is_text}
 use Rattle.dnssec_key.specs.Key.{KeyParts}
-use Rattle.dnssec_keyset.specs.KeySet.{Keys, keys_shown, entries_by_bytes, some_key}
+use Rattle.dnssec_keyset.specs.KeySet.{Keys, keys_in_map, entries_by_bytes, some_key}
 use Rattle.dnssec_keyset.specs.declared.keys.Keys.TheInside.{Inside}
 use Rattle.dnssec_keyset.specs.contracts.keys.Keys.{the_view}
 use Rattle.dnssec_keyset.proofs.Shown.{find_by_bytes}
@@ -92,13 +92,13 @@ module _ {Y : Type 0} where
   module _ {S : Type 0} where
     -- the values of the finite map, in another order
     pub values_permute : (m : HashMap (String Y) KeyParts S) → IsUnique string_eq m
-        → IsPermutation (values m) (fin.values (keys_shown m))
-    values_permute m unique = subst (λ xs. IsPermutation xs (fin.values (keys_shown m)))
+        → IsPermutation (values m) (fin.values (keys_in_map m))
+    values_permute m unique = subst (λ xs. IsPermutation xs (fin.values (keys_in_map m)))
         (values_by_bytes m.entries) (IsPermutation-map (λ (e : List ℕ × KeyParts). e.1) _ _
         (entries_permute (entries_by_bytes m) (apart_by_bytes m.entries unique)))
 
     pub some_key-shown : (p : KeyParts → Bool) (m : HashMap (String Y) KeyParts S)
-        → IsUnique string_eq m → some_key p (keys_shown m) ≡ list_any p (values m)
+        → IsUnique string_eq m → some_key p (keys_in_map m) ≡ list_any p (values m)
     some_key-shown p m unique = sym (list_any-IsPermutation p _ _ (values_permute m unique))
 
 -- what some key of a key set passes, through the hash map that it holds

@@ -4,3 +4,4 @@ pub mod Code
 pub mod Change
 pub mod Tags
 pub mod Counts
+pub mod Over

@@ -16,16 +16,16 @@ abbrev pub TagsApart : Keys → Type 0
 TagsApart keys = (q r : List ℕ) (k l : KeyParts) →
     get keys q ≡ Some k → get keys r ≡ Some l → k.key_tag ≡ l.key_tag → q ≡ r
 
--- the roll is in progress (RFC 6781, section 4.1)
+-- the roll is in progress
 abbrev pub in_progress : Rolls → RollType → Bool
 in_progress rolls roll = is_some (phase_of rolls roll)
 
--- of two rolls in progress one changes KSKs alone, the other ZSKs alone (RFC 6781, section 4.1)
+-- of two rolls in progress one changes KSKs alone, the other ZSKs alone
 abbrev pub RollsTogether : Rolls → Type 0
 RollsTogether rolls = (a b : RollType) → in_progress rolls a ≡ true → in_progress rolls b ≡ true →
     (same_roll a b ≡ true) ⊎ (together a b ≡ true)
 
--- the roll that a call is on, if any (RFC 6781, section 4.1)
+-- the roll that a call is on, if any
 abbrev pub roll_of : Call → Option RollType
 roll_of (StartRoll roll olds news now) = Some roll
 roll_of (Report roll half ttl now) = Some roll
@@ -34,13 +34,13 @@ roll_of (RollDone roll) = Some roll
 roll_of (AbortRoll roll) = Some roll
 roll_of _ = None
 
--- a call on a roll leaves every key as it was that the roll doesn't change (RFC 6781, section 3.1)
+-- a call on a roll leaves every key as it was that the roll doesn't change
 abbrev pub LeavesOthers : KeySetParts → Call → KeySetParts → Type 0
 LeavesOthers old call new = (roll : RollType) (q : List ℕ) (k : KeyParts) →
     roll_of call ≡ Some roll →
     get old.keys q ≡ Some k → lists_kind (side_of roll) k.keytype ≡ false → get new.keys q ≡ Some k
 
--- two calls on rolls that go together, neither refused for memory (RFC 6781, section 3.1)
+-- two calls on rolls that go together, neither refused for memory
 pub record AreApart (first second : Call) (reply_first reply_second : Reply) : Type 0 where
   pub roll_first : RollType
   pub roll_second : RollType
@@ -50,7 +50,7 @@ pub record AreApart (first second : Call) (reply_first reply_second : Reply) : T
   pub memory_first : reply_first ≢ Refused OutOfMemory
   pub memory_second : reply_second ≢ Refused OutOfMemory
 
--- in the other order the calls reply the same, and end in the same set (RFC 6781, section 3.1)
+-- in the other order the calls reply the same, and end in the same set
 pub record MayBeExchanged (before after : KeySetParts) (first second : Call)
     (reply_first reply_second : Reply) : Type 0 where
   pub between : KeySetParts

@@ -1,6 +1,6 @@
 -- Why a start is refused: the first cause that stands, in this order: another roll, an old entry, a
--- new entry, the algorithms, and no key to go on with. All of it is said of the keys and rolls
--- before the call.
+-- new entry, the algorithms, and no key to go on with (RFC 6781, section 4.1). All of it is said of
+-- the keys and rolls before the call.
 use Rattle.std.specs.Prelude.{ℕ, Bool, true, false, not, ◌&&◌, ◌||◌, Option, None, Some, List, []}
 use Rattle.std.specs.Prelude.{◌∷◌, ◌++◌, if◌then◌else◌, nat_eq, is_some, map}
 use Rattle.std.specs.List.{list_any, list_all}
@@ -26,13 +26,13 @@ use Rattle.dnssec_keyset.specs.KeySet.{Keys, Rolls, KeySetParts, phase_of, some_
 
 -- ---- rolls side by side
 
--- which keys a roll changes: KSKs alone, ZSKs alone, or KSKs, ZSKs and CSKs (RFC 6781, section 4.1)
+-- which keys a roll changes: KSKs alone, ZSKs alone, or KSKs, ZSKs and CSKs
 pub data Side : Type 0 where
   KskSide : Side
   ZskSide : Side
   BothSides : Side
 
--- the side of a roll (RFC 6781, section 4.1)
+-- the side of a roll
 abbrev pub side_of : RollType → Side
 side_of KskRoll = KskSide
 side_of KskDoubleDsRoll = KskSide
@@ -41,7 +41,7 @@ side_of ZskDoubleSignatureRoll = ZskSide
 side_of CskRoll = BothSides
 side_of AlgorithmRoll = BothSides
 
--- one side is that of KSKs alone, and the other that of ZSKs alone (RFC 6781, section 4.1)
+-- one side is that of KSKs alone, and the other that of ZSKs alone
 abbrev pub are_apart : Side → Side → Bool
 are_apart KskSide ZskSide = true
 are_apart ZskSide KskSide = true
@@ -51,21 +51,21 @@ are_apart ZskSide ZskSide = false
 are_apart ZskSide BothSides = false
 are_apart BothSides _ = false
 
--- two rolls go together where one changes KSKs alone, the other ZSKs alone (RFC 6781, section 4.1)
+-- two rolls go together where one changes KSKs alone, the other ZSKs alone
 abbrev pub together : RollType → RollType → Bool
 together roll other = are_apart (side_of roll) (side_of other)
 
--- the six rolls (RFC 6781, section 4.1)
+-- the six rolls
 abbrev pub all_rolls : List RollType
 all_rolls =
     KskRoll ∷ KskDoubleDsRoll ∷ ZskRoll ∷ ZskDoubleSignatureRoll ∷ CskRoll ∷ AlgorithmRoll ∷ []
 
--- some roll is in progress beside which this one may not begin (RFC 6781, section 4.1)
+-- some roll is in progress beside which this one may not begin
 abbrev pub has_conflict : RollType → Rolls → Bool
 has_conflict roll rolls =
     list_any (λ other. is_some (phase_of rolls other) && not (together roll other)) all_rolls
 
--- the same roll in progress, or one beside which this may not begin (RFC 6781, section 4.1)
+-- the same roll in progress, or one beside which this may not begin
 unfoldable pub conflict : RollType → Rolls → Option Error
 conflict roll rolls =
     if is_some (phase_of rolls roll) then Some WrongStateForRollOperation
@@ -73,32 +73,32 @@ conflict roll rolls =
 
 -- ---- the two lists of references
 
--- the texts that references point to (RFC 6781, section 4.1)
+-- the texts that references point to
 abbrev pub texts : List (Bor (List ℕ)) → List (List ℕ)
 texts rs = map (λ (r : Bor (List ℕ)). r.now) rs
 
--- the reference stands in the list (RFC 6781, section 4.1)
+-- the reference stands in the list
 abbrev pub is_listed : List (List ℕ) → List ℕ → Bool
 is_listed qs q = list_any (bytes_eq q) qs
 
--- a roll may list the keys of its side, and none of another signer (RFC 6781, section 3.1)
+-- a roll may list the keys of its side, and none of another signer
 abbrev pub lists_kind : Side → KeyType → Bool
 lists_kind KskSide = ksk is_any
 lists_kind ZskSide = zsk is_any
 lists_kind BothSides = any_key is_any
 
--- what is wrong with an old entry, with the key that it names (RFC 6781, section 4.1)
+-- what is wrong with an old entry, with the key that it names
 abbrev pub old_entry_fault : RollType → Option KeyParts → Option Error
 old_entry_fault roll None = Some KeyNotFound
 old_entry_fault roll (Some k) =
     if lists_kind (side_of roll) k.keytype then None else Some WrongKeyType
 
--- the first fault among the old entries (RFC 6781, section 4.1)
+-- the first fault among the old entries
 abbrev pub old_fault : RollType → (List ℕ → Option KeyParts) → List (List ℕ) → Option Error
 old_fault roll at [] = None
 old_fault roll at (q ∷ qs) = option_or (old_entry_fault roll (at q)) (old_fault roll at qs)
 
--- what is wrong with a new entry; taken: it stands in a list before (RFC 6781, section 4.1)
+-- what is wrong with a new entry; taken: it stands in a list before
 abbrev pub new_entry_fault : RollType → Option KeyParts → Bool → Option Error
 new_entry_fault roll None taken = Some KeyNotFound
 new_entry_fault roll (Some k) taken =
@@ -106,7 +106,7 @@ new_entry_fault roll (Some k) taken =
     then (if all_states is_fresh k.keytype && not taken then None else Some WrongKeyState)
     else Some WrongKeyType
 
--- the first fault among the new entries, those before them given (RFC 6781, section 4.1)
+-- the first fault among the new entries, those before them given
 abbrev pub new_fault : RollType → (List ℕ → Option KeyParts)
     → List (List ℕ) → List (List ℕ) → List (List ℕ) → Option Error
 new_fault roll at olds earlier [] = None
@@ -146,7 +146,7 @@ algorithm_fault roll at olds news =
 -- ---- the keys to go on with
 
 -- a key that a start has to leave: a KSK in the DNSKEY set or one with a DS, a ZSK in the DNSKEY
--- set, or there a KSK or CSK, or a ZSK or CSK (RFC 6781, section 4.1)
+-- set, or there a KSK or CSK, or a ZSK or CSK
 pub data Want : Type 0 where
   PresentKsk : Want
   KskAtParent : Want
@@ -154,7 +154,7 @@ pub data Want : Type 0 where
   PresentKskRole : Want
   PresentZskRole : Want
 
--- what a start has to leave: a key that serves on each side of the roll (RFC 6781, section 4.1)
+-- what a start has to leave: a key that serves on each side of the roll
 abbrev pub wants : RollType → List Want
 wants KskRoll = PresentKsk ∷ []
 wants KskDoubleDsRoll = KskAtParent ∷ []
@@ -163,7 +163,7 @@ wants ZskDoubleSignatureRoll = PresentZsk ∷ []
 wants CskRoll = PresentKskRole ∷ PresentZskRole ∷ []
 wants AlgorithmRoll = PresentKskRole ∷ PresentZskRole ∷ []
 
--- a new key serves as soon as it comes in (RFC 6781, section 4.1)
+-- a new key serves as soon as it comes in
 abbrev pub serves_as_new : Want → KeyType → Bool
 serves_as_new PresentKsk = ksk is_any
 serves_as_new KskAtParent = ksk is_any
@@ -171,7 +171,7 @@ serves_as_new PresentZsk = zsk is_any
 serves_as_new PresentKskRole = ksk_role is_any
 serves_as_new PresentZskRole = zsk_role is_any
 
--- a key that isn't listed as old serves in this state (RFC 6781, section 4.1)
+-- a key that isn't listed as old serves in this state
 abbrev pub serves_as_kept : Want → KeyType → Bool
 serves_as_kept PresentKsk = ksk kept_present
 serves_as_kept KskAtParent = ksk kept_at_parent
@@ -179,32 +179,32 @@ serves_as_kept PresentZsk = zsk kept_present
 serves_as_kept PresentKskRole = ksk_role kept_present
 serves_as_kept PresentZskRole = zsk_role kept_present
 
--- a listed key passes (RFC 6781, section 4.1)
+-- a listed key passes
 abbrev pub some_listed : (KeyType → Bool) → (List ℕ → Option KeyParts) → List (List ℕ) → Bool
 some_listed p at qs = list_any (λ q. option_map_or (λ k. p k.keytype) (at q) false) qs
 
--- a key that isn't listed passes (RFC 6781, section 4.1)
+-- a key that isn't listed passes
 abbrev pub some_kept : (KeyType → Bool) → Keys → List (List ℕ) → Bool
 some_kept p keys olds = some_entry (λ q k. p k.keytype && not (is_listed olds q)) keys
 
--- a new key serves so, or a key that isn't listed as old (RFC 6781, section 4.1)
+-- a new key serves so, or a key that isn't listed as old
 abbrev pub is_met : Keys → List (List ℕ) → List (List ℕ) → Want → Bool
 is_met keys olds news want =
     some_listed (serves_as_new want) (get keys) news || some_kept (serves_as_kept want) keys olds
 
--- the start would leave no key to go on with (RFC 6781, section 4.1)
+-- the start would leave no key to go on with
 abbrev pub suitability_fault : RollType → Keys → List (List ℕ) → List (List ℕ) → Option Error
 suitability_fault roll keys olds news =
     if list_all (is_met keys olds news) (wants roll) then None else Some NoSuitableKeyPresent
 
 -- ---- the verdict
 
--- the first cause that stands, if any (RFC 6781, section 4.1)
+-- the first cause that stands, if any
 abbrev pub first_of_causes : List (Option Error) → Option Error
 first_of_causes [] = None
 first_of_causes (cause ∷ causes) = option_or cause (first_of_causes causes)
 
--- why a start is refused: the first cause, in this order (RFC 6781, section 4.1)
+-- why a start is refused: the first cause, in this order
 abbrev pub start_refusal : RollType → KeySetParts → List (List ℕ) → List (List ℕ) → Option Error
 start_refusal roll set olds news = first_of_causes (
     conflict roll set.rolls

@@ -1,6 +1,6 @@
--- The allowed step: from a key set, which reply a call may have and which key set it then leaves. A
--- cause is answered before anything is changed; without one the call is accepted, or has run out of
--- memory where it takes some, and then too nothing is changed.
+-- The allowed step: from a key set, which reply a call may have and which key set it then leaves
+-- (RFC 6781, section 4.1). A cause is answered before anything is changed; without one the call is
+-- accepted, or has run out of memory where it takes some, and then too nothing is changed.
 use Rattle.std.specs.Prelude.{◌≡◌, ◌≢◌, ℕ, Bool, false, Option, None, Some, List, [], ◌∷◌}
 use Rattle.std.specs.Prelude.{filter, map, ◌⊎◌, Result, Ok, Err, IsOk, if◌then◌else◌, is_some}
 use Rattle.std.specs.Prelude.{nat_eq}
@@ -41,29 +41,29 @@ use Rattle.dnssec_keyset.specs.Wait.{ttl_in, lacks_stamp, is_early, time_left, I
 abbrev pub has_tag : ℕ → Keys → Bool
 has_tag tag = some_key (λ k. nat_eq k.key_tag tag)
 
--- why an add of a key is refused: first its tag, then its reference (RFC 6781, section 4.1)
+-- why an add of a key is refused: first its tag, then its reference
 abbrev pub add_refusal : Keys → List ℕ → ℕ → Option Error
 add_refusal keys reference tag =
     if has_tag tag keys then Some DuplicateKeyTag
     else (if is_some (get keys reference) then Some KeyExists else None)
 
--- why a setter is refused, with the key that it names (RFC 6781, section 3.1)
+-- why a setter is refused, with the key that it names
 abbrev pub setting_refusal : Setting → Option KeyParts → Option Error
 setting_refusal setting None = Some KeyNotFound
 setting_refusal setting (Some k) = kind_refusal setting k.keytype
 
--- why a deletion is refused: only a key that has left in every role may go (RFC 6781, section 4.1)
+-- why a deletion is refused: only a key that has left in every role may go
 abbrev pub deletion_refusal : Option KeyParts → Option Error
 deletion_refusal None = Some KeyNotFound
 deletion_refusal (Some k) = if all_states is_stale k.keytype then None else Some KeyNotOld
 
--- why a report is refused: it belongs to the phase of its change (RFC 6781, section 4.1)
+-- why a report is refused: it belongs to the phase of its change
 abbrev pub report_refusal : Half → Option RollState → Option Error
 report_refusal First (Some Propagation1) = None
 report_refusal Second (Some Propagation2) = None
 report_refusal half _ = Some WrongStateForRollOperation
 
--- why the end of a roll is refused: it belongs to its last phase (RFC 6781, section 4.1)
+-- why the end of a roll is refused: it belongs to its last phase
 abbrev pub end_refusal : Option RollState → Option Error
 end_refusal (Some Finishing) = None
 end_refusal _ = Some WrongStateForRollOperation
@@ -75,18 +75,18 @@ abbrev pub early_end_refusal : Option RollState → Option Error
 early_end_refusal (Some Propagation1) = None
 early_end_refusal _ = Some WrongStateForRollOperation
 
--- a cause, or too early (with the time left for a key), or neither (RFC 6781, section 4.1)
+-- a cause, or too early (with the time left for a key), or neither
 pub data Verdict : Type 0 where
   Barred : Error → Verdict
   Early : (KeyParts → Option ℕ) → Verdict
   Clear : Verdict
 
--- barred by the cause, or clear where there is none (RFC 6781, section 4.1)
+-- barred by the cause, or clear where there is none
 abbrev pub barred_by : Option Error → Verdict
 barred_by None = Clear
 barred_by (Some cause) = Barred cause
 
--- a wait with this TTL: a missing stamp first, then the time that is left (RFC 6781, section 4.1)
+-- a wait with this TTL: a missing stamp first, then the time that is left
 abbrev pub wait_in_phase : RollType → Half → Option ℕ → ℕ → Keys → Verdict
 wait_in_phase roll half None now keys = Barred WrongStateForRollOperation
 wait_in_phase roll half (Some ttl) now keys =
@@ -94,28 +94,28 @@ wait_in_phase roll half (Some ttl) now keys =
     if lacks_stamp left keys then Barred WrongKeyState
     else (if is_early left keys then Early left else Clear)
 
--- what a wait is told in the phase that its roll is in (RFC 6781, section 4.1)
+-- what a wait is told in the phase that its roll is in
 abbrev pub wait_verdict : RollType → Half → ℕ → KeySetParts → Verdict
 wait_verdict roll half now set =
     wait_in_phase roll half (ttl_in half (phase_of set.rolls roll)) now set.keys
 
 -- ---- what a call answers
 
--- a call that takes no memory answers its cause, or is accepted (RFC 6781, section 4.1)
+-- a call that takes no memory answers its cause, or is accepted
 abbrev pub AnswersExactly : {T : Type 0} → Option Error → Result T Error → Type 0
 AnswersExactly (Some cause) r = r ≡ Err cause
 AnswersExactly None r = IsOk r
 
--- a call that takes memory may also run out of it, but has no cause then (RFC 6781, section 4.1)
+-- a call that takes memory may also run out of it, but has no cause then
 abbrev pub Answers : {T : Type 0} → Option Error → Result T Error → Type 0
 Answers (Some cause) r = r ≡ Err cause
 Answers None r = IsOk r ⊎ (r ≡ Err OutOfMemory)
 
--- the answer is to wait for the longest of the times that are left (RFC 6781, section 4.1)
+-- the answer is to wait for the longest of the times that are left
 abbrev pub IsToldToWait : {T : Type 0} → (KeyParts → Option ℕ) → Keys → Result T Error → Type 0
 IsToldToWait left keys r = (d : Duration) × (r ≡ Err (WaitFor d)) × IsLongest left keys (as_nanos d)
 
--- a wait answers its verdict, and takes memory for a list of actions alone (RFC 6781, section 4.1)
+-- a wait answers its verdict, and takes memory for a list of actions alone
 abbrev pub AnswersWait : {T : Type 0} → Verdict → Keys → List Action → Result T Error → Type 0
 AnswersWait (Barred cause) keys actions r = r ≡ Err cause
 AnswersWait (Early left) keys actions r = IsToldToWait left keys r
@@ -124,7 +124,7 @@ AnswersWait Clear keys (action ∷ actions) r = IsOk r ⊎ (r ≡ Err OutOfMemor
 
 -- ---- the step
 
--- the calls that can change a key set (RFC 6781, section 4.1)
+-- the calls that can change a key set
 pub data Call : Type 0 where
   AddKey : List ℕ → KeyParts → Call
   Set : List ℕ → Setting → Call
@@ -135,23 +135,23 @@ pub data Call : Type 0 where
   RollDone : RollType → Call
   AbortRoll : RollType → Call
 
--- what a call answers: done, actions for the operator, or why it is refused (RFC 6781, section 4.1)
+-- what a call answers: done, actions for the operator, or why it is refused
 pub data Reply : Type 0 where
   Done : Reply
   Actions : List Action → Reply
   Refused : Error → Reply
 
--- what a call of `KeySet` answered, as a reply (RFC 6781, section 4.1)
+-- what a call of `KeySet` answered, as a reply
 abbrev pub reply_done : Result (Unit {0}) Error → Reply
 reply_done (Ok u) = Done
 reply_done (Err cause) = Refused cause
 
--- the same of a call that answers actions (RFC 6781, section 4.1)
+-- the same of a call that answers actions
 abbrev pub reply_list : Result (Vec Action Global) Error → Reply
 reply_list (Ok actions) = Actions actions.items
 reply_list (Err cause) = Refused cause
 
--- what each call is told (RFC 6781, section 4.1)
+-- what each call is told
 abbrev pub verdict : KeySetParts → Call → Verdict
 verdict set (AddKey reference key) = barred_by (add_refusal set.keys reference key.key_tag)
 verdict set (Set reference setting) = barred_by (setting_refusal setting (get set.keys reference))
@@ -162,7 +162,7 @@ verdict set (Wait roll half now) = wait_verdict roll half now set
 verdict set (RollDone roll) = barred_by (end_refusal (phase_of set.rolls roll))
 verdict set (AbortRoll roll) = barred_by (early_end_refusal (phase_of set.rolls roll))
 
--- what an accepted call answers: the actions due in the phase behind it (RFC 6781, section 4.1)
+-- what an accepted call answers: the actions due in the phase behind it
 abbrev pub accepted_reply : Call → Reply
 accepted_reply (AddKey reference key) = Done
 accepted_reply (Set reference setting) = Done
@@ -195,7 +195,7 @@ lists_after_report roll Second lists = lists
 
 -- ---- what a call changes
 
--- what an accepted call changes (RFC 6781, section 4.1)
+-- what an accepted call changes
 abbrev pub Changes : KeySetParts → Call → KeySetParts → Type 0
 Changes old (AddKey reference key) new = PutsKey old new reference (Some key) old.lists
 Changes old (Set reference setting) new =
@@ -217,8 +217,7 @@ Changes old (AbortRoll roll) new =
     MovesOn old new roll None (with_listed old.lists roll nothing_listed)
     (λ q. after_early_end roll (is_listed listed.olds q) (is_listed listed.news q))
 
--- the calls that take memory: adds, starts, early ends, and waits with a list to answer (RFC 6781,
--- section 4.1)
+-- the calls that take memory: adds, starts, early ends, and waits with a list to answer
 abbrev pub TakesMemory : Call → Type 0
 TakesMemory (AddKey reference key) = Unit {0}
 TakesMemory (Set reference setting) = ⊥
@@ -229,7 +228,7 @@ TakesMemory (Wait roll half now) = actions_of roll (behind half) ≢ []
 TakesMemory (RollDone roll) = ⊥
 TakesMemory (AbortRoll roll) = Unit {0}
 
--- a call with this verdict may have the reply and leave new (RFC 6781, section 4.1)
+-- a call with this verdict may have the reply and leave new
 abbrev pub StepBy : Verdict → KeySetParts → Call → Reply → KeySetParts → Type 0
 StepBy (Barred cause) old call reply new = (reply ≡ Refused cause) × (new ≡ old)
 StepBy (Early left) old call reply new =
@@ -239,17 +238,17 @@ StepBy Clear old call reply new =
     ((reply ≡ accepted_reply call) × Changes old call new)
     ⊎ (TakesMemory call × (reply ≡ Refused OutOfMemory) × (new ≡ old))
 
--- from old, the call may have the reply and leave new (RFC 6781, section 4.1)
+-- from old, the call may have the reply and leave new
 abbrev pub Step : KeySetParts → Call → Reply → KeySetParts → Type 0
 Step old call reply new = StepBy (verdict old call) old call reply new
 
 -- ---- the set afterwards, as a function of the set before, the call and the reply
 
--- every key by f, under its reference (RFC 6781, section 4.1)
+-- every key by f, under its reference
 abbrev pub keys_by : (List ℕ → KeyParts → KeyParts) → Keys → Keys
 keys_by f keys = from_entries (map (λ (e : List ℕ × KeyParts). (e.0, f e.0 e.1)) (entries keys))
 
--- the set after an accepted call (RFC 6781, section 4.1)
+-- the set after an accepted call
 unfoldable pub after : Call → KeySetParts → KeySetParts
 after (AddKey reference key) set = record set { keys = insert set.keys reference key }
 after (Set reference setting) set = record set {
@@ -284,7 +283,7 @@ after (AbortRoll roll) set =
       lists = with_listed set.lists roll nothing_listed;
     }
 
--- the set after a call with this reply (RFC 6781, section 4.1)
+-- the set after a call with this reply
 abbrev pub after_reply : Reply → Call → KeySetParts → KeySetParts
 after_reply Done call set = after call set
 after_reply (Actions actions) call set = after call set

@@ -8,7 +8,7 @@ ghost use Rattle.std.specs.FinMap as map;
 ghost use Rattle.dnssec_keyset.specs.Inner.Bits.{is_set};
 ghost use Rattle.dnssec_keyset.specs.Inner.Code.{as_want};
 ghost use Rattle.dnssec_keyset.specs.Inner.Counts.{count_in, listed};
-ghost use Rattle.dnssec_keyset.specs.Inner.Tags.{HasListed, is_in};
+ghost use Rattle.dnssec_keyset.specs.Inner.Tags.{HasListed, has_its_tag};
 ghost use Rattle.dnssec_keyset.specs.Start.{texts, is_listed, old_entry_fault, old_fault};
 ghost use Rattle.dnssec_keyset.specs.Start.{new_entry_fault, new_fault, has_algorithm};
 ghost use Rattle.dnssec_keyset.specs.Start.{algorithms_within, algorithm_fault};
@@ -69,7 +69,7 @@ impl Keys {
     /// What is wrong with a new entry, where the keys of these tags are listed before it.
     fn new_entry_fault(&self, roll: RollType, reference: &str, taken: &TagSet) -> Option<Error>
         ensures { result ≡ new_entry_fault roll (map.get self.now reference.now)
-            (is_in taken.now (map.get self.now reference.now)) }
+            (has_its_tag taken.now (map.get self.now reference.now)) }
     {
         match self.get(reference) {
             None => Some(Error::KeyNotFound),

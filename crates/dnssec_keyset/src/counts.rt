@@ -1,6 +1,6 @@
 //! How many keys a start could go on with.
 ghost use Rattle.std.specs.Prelude.{◌≡◌, if◌then◌else◌};
-ghost use Rattle.dnssec_key.specs.Setters.{meant};
+ghost use Rattle.dnssec_key.specs.Setters.{setting_of};
 ghost use Rattle.dnssec_keyset.specs.Inner.Code.{as_want};
 ghost use Rattle.dnssec_keyset.specs.Inner.Counts.{count_of, moves_counts, no_counts};
 ghost use Rattle.dnssec_keyset.specs.Inner.Counts.{one_less, one_more};
@@ -113,7 +113,7 @@ impl Counts {
 
     /// Follows a setter that made a key another one. None of them asks whether a key signs.
     pub(crate) fn follow(&mut self, setting: &Setting, before: &KeyType, after: &KeyType)
-        ensures { self.new ≡ (if moves_counts (meant setting.now)
+        ensures { self.new ≡ (if moves_counts (setting_of setting.now)
             then with_key after.now (without_key before.now self.old) else self.old) }
     {
         if matches!(

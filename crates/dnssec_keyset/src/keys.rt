@@ -11,21 +11,21 @@ ghost use Rattle.std.specs.FinMap as map;
 ghost use Rattle.std.specs.HashMap as hash;
 ghost use Rattle.std.specs.HashSet.{contains, spare};
 ghost use Rattle.dnssec_key.specs.declared.error.Error.TheVariants.{OutOfMemory};
-ghost use Rattle.dnssec_key.specs.RollTable.{which, after_report, after_wait, marked_new};
-ghost use Rattle.dnssec_key.specs.RollTable.{after_early_end, marked_old, unmarked_new};
-ghost use Rattle.dnssec_key.specs.RollTable.{unmarked_old};
-ghost use Rattle.dnssec_key.specs.Setters.{meant, set_by};
-ghost use Rattle.dnssec_keyset.specs.Inner.Change.{made};
+ghost use Rattle.dnssec_key.specs.RollTable.{which, after_report, after_wait, new_at_start};
+ghost use Rattle.dnssec_key.specs.RollTable.{after_early_end, old_at_start, new_at_early_end};
+ghost use Rattle.dnssec_key.specs.RollTable.{old_at_early_end};
+ghost use Rattle.dnssec_key.specs.Setters.{setting_of, set_by};
+ghost use Rattle.dnssec_keyset.specs.Inner.Change.{makes};
 ghost use Rattle.dnssec_keyset.specs.Inner.Code.{as_want};
 ghost use Rattle.dnssec_keyset.specs.Inner.Counts.{CountsAgree, count_in, no_counts, passes};
 ghost use Rattle.dnssec_keyset.specs.Inner.Counts.{with_key};
-ghost use Rattle.dnssec_keyset.specs.Inner.Tags.{DifferInTags};
-ghost use Rattle.dnssec_keyset.specs.KeySet.{keys_shown};
+ghost use Rattle.dnssec_keyset.specs.Laws.{TagsApart};
+ghost use Rattle.dnssec_keyset.specs.KeySet.{keys_in_map};
 ghost use Rattle.dnssec_keyset.specs.Start.{is_listed, serves_as_kept, texts};
 ghost use Rattle.dnssec_keyset.specs.Step.{Answers, AnswersExactly, add_refusal, has_tag};
 ghost use Rattle.dnssec_keyset.specs.Step.{deletion_refusal, is_kept_at, listed_at_start};
 ghost use Rattle.dnssec_keyset.specs.Step.{setting_refusal};
-ghost use Rattle.dnssec_keyset.specs.Wait.{over_at};
+ghost use Rattle.dnssec_keyset.specs.Inner.Over.{over_at};
 ghost use Rattle.dnssec_keyset.specs.WaitEnd.{IsOverFrom, LacksStamp};
 
 use crate::counts::Counts;
@@ -53,16 +53,16 @@ impl Model for Keys {
     ghost use Rattle.std.specs.HashSet.{contains};
     ghost use Rattle.dnssec_keyset.specs.Inner.Counts.{CountsAgree};
     ghost use Rattle.dnssec_keyset.specs.Inner.Tags.{TagsAgree};
-    ghost use Rattle.dnssec_keyset.specs.KeySet.{Keys as ByReference, keys_code, keys_shown};
+    ghost use Rattle.dnssec_keyset.specs.KeySet.{Keys as ByReference, keys_code, keys_in_map};
 
     ghost Value = { ByReference };
 
     ghost coded = { Prim.hlevel (codes, keys_code) };
 
-    ghost view = { λ s. keys_shown s.map };
+    ghost view = { λ s. keys_in_map s.map };
 
-    ghost invariant = { λ s. TagsAgree (contains nat_eq s.tags) (keys_shown s.map)
-        × CountsAgree s.counts (keys_shown s.map) };
+    ghost invariant = { λ s. TagsAgree (contains nat_eq s.tags) (keys_in_map s.map)
+        × CountsAgree s.counts (keys_in_map s.map) };
 }
 
 /// A change of one key.
@@ -76,7 +76,7 @@ pub(crate) enum Change {
 
 impl Change {
     fn make(self, key: &mut Key)
-        ensures { key.new ≡ made self key.old }
+        ensures { key.new ≡ makes self key.old }
     {
         match self {
             Change::MarkOld => key.mark_old(),
@@ -111,7 +111,7 @@ impl Keys {
 
     /// The map itself, for callers to read.
     pub(crate) fn as_map(&self) -> &HashMap<String, Key>
-        ensures shown { keys_shown result.now ≡ self.now }
+        ensures shown { keys_in_map result.now ≡ self.now }
         ensures at { (q : List ℕ) → hash.get_by_text result.now q ≡ map.get self.now q }
     {
         &self.map
@@ -127,7 +127,7 @@ impl Keys {
 
     /// No two keys have one tag.
     pub(crate) fn differ_in_tags(&self)
-        ensures { DifferInTags self.now }
+        ensures { TagsApart self.now }
     {
         let _ = &self.map;
     }
@@ -198,9 +198,9 @@ impl Keys {
     #[tactic(auto, using(crate::proofs::Shown::shown))]
     pub(crate) fn set(&mut self, pubref: &str, setting: Setting) -> Result<(), Error>
         ensures reply { AnswersExactly
-            (setting_refusal (meant setting) (map.get self.old pubref.now)) result }
+            (setting_refusal (setting_of setting) (map.get self.old pubref.now)) result }
         ensures ok { OnOk result ((q : List ℕ) → map.get self.new q ≡ option_map
-            (λ k. if bytes_eq pubref.now q then set_by (meant setting) k else k)
+            (λ k. if bytes_eq pubref.now q then set_by (setting_of setting) k else k)
             (map.get self.old q)) }
         ensures err { OnErr result (self.new ≡ self.old) }
     {
@@ -221,7 +221,7 @@ impl Keys {
     /// Marks the keys that a start lists as old.
     pub(crate) fn mark_old(&mut self, old: &[&str])
         ensures { (q : List ℕ) → map.get self.new q
-            ≡ option_map (λ k. if is_listed (texts old.now) q then marked_old k else k)
+            ≡ option_map (λ k. if is_listed (texts old.now) q then old_at_start k else k)
             (map.get self.old q) }
     {
         for reference in old {
@@ -232,7 +232,7 @@ impl Keys {
     /// Marks the keys that a start lists as new.
     pub(crate) fn mark_new(&mut self, roll: RollType, new: &[&str], now: UnixTime)
         ensures { (q : List ℕ) → map.get self.new q
-            ≡ option_map (λ k. if is_listed (texts new.now) q then marked_new roll now k else k)
+            ≡ option_map (λ k. if is_listed (texts new.now) q then new_at_start roll now k else k)
             (map.get self.old q) }
     {
         for reference in new {
@@ -244,7 +244,7 @@ impl Keys {
     fn unmark_old(&mut self, roll: RollType, references: &[String])
         ensures { (q : List ℕ) → map.get self.new q ≡ option_map
             (λ k. if is_listed (list_map string_bytes references.now) q
-            then unmarked_old roll k else k) (map.get self.old q) }
+            then old_at_early_end roll k else k) (map.get self.old q) }
     {
         for reference in references {
             self.change_at(reference.as_str(), Change::UnmarkOld(roll));
@@ -255,7 +255,7 @@ impl Keys {
     fn unmark_new(&mut self, roll: RollType, references: &[String])
         ensures { (q : List ℕ) → map.get self.new q ≡ option_map
             (λ k. if is_listed (list_map string_bytes references.now) q
-            then unmarked_new roll k else k) (map.get self.old q) }
+            then new_at_early_end roll k else k) (map.get self.old q) }
     {
         for reference in references {
             self.change_at(reference.as_str(), Change::UnmarkNew(roll));
@@ -312,7 +312,7 @@ impl Keys {
     #[tactic(auto, using(crate::proofs::Shown::shown))]
     fn change_at(&mut self, reference: &str, change: Change)
         ensures { (q : List ℕ) → map.get self.new q ≡ option_map
-            (λ k. if bytes_eq reference.now q then made change k else k) (map.get self.old q) }
+            (λ k. if bytes_eq reference.now q then makes change k else k) (map.get self.old q) }
     {
         let Some(key) = self.map.get_mut(reference) else {
             return;
@@ -362,7 +362,7 @@ impl Keys {
 }
 
 fn clone_map(map: &HashMap<String, Key>) -> Result<HashMap<String, Key>, Error>
-    ensures same { IfOk result (λ m. keys_shown m ≡ keys_shown map.now) }
+    ensures same { IfOk result (λ m. keys_in_map m ≡ keys_in_map map.now) }
     ensures err { IfErr result (λ e. e ≡ OutOfMemory) }
 {
     match map.clone() {
@@ -372,8 +372,8 @@ fn clone_map(map: &HashMap<String, Key>) -> Result<HashMap<String, Key>, Error>
 }
 
 fn clone_tags(tags: &HashSet<u16>) -> Result<HashSet<u16>, Error>
-    ensures same { IfOk result (λ made. (t : ℕ) →
-        contains nat_eq made t ≡ contains nat_eq tags.now t) }
+    ensures same { IfOk result (λ makes. (t : ℕ) →
+        contains nat_eq makes t ≡ contains nat_eq tags.now t) }
     ensures err { IfErr result (λ e. e ≡ OutOfMemory) }
 {
     match tags.clone() {
@@ -408,7 +408,7 @@ fn put_tag(tags: &mut HashSet<u16>, key_tag: u16)
 
 /// The counts by a walk over the keys.
 fn recount(keys: &HashMap<String, Key>) -> Counts
-    ensures { CountsAgree result (keys_shown keys.now) }
+    ensures { CountsAgree result (keys_in_map keys.now) }
 {
     is_sound(keys);
     count_all(keys)

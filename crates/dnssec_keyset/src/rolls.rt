@@ -6,7 +6,7 @@ ghost use Rattle.std.specs.HashMap as hash;
 ghost use Rattle.dnssec_key.specs.declared.error.Error.TheVariants.{OutOfMemory};
 ghost use Rattle.dnssec_key.specs.declared.roll.RollType.{RollType as AnyRoll};
 ghost use Rattle.dnssec_key.specs.RollTable.{which};
-ghost use Rattle.dnssec_keyset.specs.KeySet.{phase_of, with_phase, no_rolls, rolls_shown};
+ghost use Rattle.dnssec_keyset.specs.KeySet.{phase_of, with_phase, no_rolls, rolls_in_map};
 ghost use Rattle.dnssec_keyset.specs.Start.{has_conflict, conflict};
 ghost use Rattle.dnssec_keyset.specs.Step.{AnswersExactly, report_refusal, end_refusal};
 ghost use Rattle.dnssec_keyset.specs.Step.{early_end_refusal};
@@ -35,13 +35,13 @@ pub(crate) struct Rolls {
 
 impl Model for Rolls {
     ghost use Rattle.std.specs.Coded.{codes};
-    ghost use Rattle.dnssec_keyset.specs.KeySet.{Rolls as Phases, rolls_shown};
+    ghost use Rattle.dnssec_keyset.specs.KeySet.{Rolls as Phases, rolls_in_map};
 
     ghost Value = { Phases };
 
     ghost coded = { Prim.hlevel codes };
 
-    ghost view = { λ s. rolls_shown s.phases };
+    ghost view = { λ s. rolls_in_map s.phases };
 }
 
 impl Rolls {
@@ -66,7 +66,7 @@ impl Rolls {
     /// The map itself, for callers to read.
     #[tactic(auto, using(crate::proofs::Phases::phases))]
     pub(crate) fn as_map(&self) -> &HashMap<RollType, RollState>
-        ensures shown { rolls_shown result.now ≡ self.now }
+        ensures shown { rolls_in_map result.now ≡ self.now }
         ensures at { (roll : AnyRoll) → hash.get_by (⟦<RollType as PartialEq>⟧.eq roll) result.now
             ≡ phase_of self.now roll }
     {

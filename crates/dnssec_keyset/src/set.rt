@@ -8,8 +8,8 @@ ghost use Rattle.dnssec_key.specs.declared.kind.KeyType.TheVariants.{Ksk, Zsk, C
 ghost use Rattle.dnssec_key.specs.declared.roll.RollType.{RollType as AnyRoll};
 ghost use Rattle.dnssec_key.specs.Key.{new_key, new_state, is_available};
 ghost use Rattle.dnssec_key.specs.Setters.{Decoupled, Present, Signer, AtParent, Stale};
-ghost use Rattle.dnssec_key.specs.Setters.{VisibleAt, DsVisibleAt, RrsigVisibleAt, meant};
-ghost use Rattle.dnssec_keyset.specs.KeySet.{keys_shown, rolls_shown, new_set, phase_of};
+ghost use Rattle.dnssec_key.specs.Setters.{VisibleAt, DsVisibleAt, RrsigVisibleAt, setting_of};
+ghost use Rattle.dnssec_keyset.specs.KeySet.{keys_in_map, rolls_in_map, new_set, phase_of};
 ghost use Rattle.dnssec_keyset.specs.Step.{AddKey, Set, DeleteKey, Changes};
 ghost use Rattle.dnssec_keyset.specs.Step.{Answers, AnswersExactly, add_refusal};
 ghost use Rattle.dnssec_keyset.specs.Step.{setting_refusal, deletion_refusal};
@@ -116,7 +116,7 @@ impl KeySet {
 
     /// The keys by their public references, in no order that may be relied on.
     pub fn keys(&self) -> &HashMap<String, Key>
-        ensures shown { keys_shown result.now ≡ self.now.keys }
+        ensures shown { keys_in_map result.now ≡ self.now.keys }
         ensures at { (q : List ℕ) → hash.get_by_text result.now q ≡ map.get self.now.keys q }
     {
         self.keys.as_map()
@@ -124,7 +124,7 @@ impl KeySet {
 
     /// The rolls in progress, each in its phase.
     pub fn rollstates(&self) -> &HashMap<RollType, RollState>
-        ensures shown { rolls_shown result.now ≡ self.now.rolls }
+        ensures shown { rolls_in_map result.now ≡ self.now.rolls }
         ensures at { (roll : AnyRoll) → hash.get_by (⟦<RollType as PartialEq>⟧.eq roll) result.now
             ≡ phase_of self.now.rolls roll }
     {
@@ -388,8 +388,8 @@ impl KeySet {
     /// Sets something of a key. A key whose flag is set by hand is left alone by an early end.
     fn set(&mut self, pubref: &str, setting: Setting) -> Result<(), Error>
         ensures reply { AnswersExactly
-            (setting_refusal (meant setting) (map.get self.old.keys pubref.now)) result }
-        ensures ok { OnOk result (Changes self.old (Set pubref.now (meant setting)) self.new) }
+            (setting_refusal (setting_of setting) (map.get self.old.keys pubref.now)) result }
+        ensures ok { OnOk result (Changes self.old (Set pubref.now (setting_of setting)) self.new) }
         ensures err { OnErr result (self.new ≡ self.old) }
     {
         self.keys.set(pubref, setting)?;

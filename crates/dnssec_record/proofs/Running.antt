@@ -13,14 +13,14 @@ use Rattle.dnssec_run.specs.declared.record.PublishedKey.{PublishedKey}
 use Rattle.dnssec_run.specs.declared.running.Recorder.{Recorder}
 use Rattle.dnssec_run.specs.Published.{id_of}
 use Rattle.dnssec_run.specs.Recorder.{HasSameKeys, Records, TellsOutcome}
-use Rattle.dnssec_run.specs.Safe.{SetKind, Ds, Dnskey, ZoneSigners, position_at, told}
+use Rattle.dnssec_run.specs.Safe.{SetKind, Ds, Dnskey, ZoneSigners, position_at, position_of}
 use Rattle.dnssec_run.proofs.Grow.{at_end}
 use Rattle.dnssec_run.proofs.Recorded.{last-ds, last-dnskey, last-signers, last-zone}
 use Rattle.dnssec_judge.specs.declared.judging.Judge.{Judge}
 use Rattle.dnssec_judge.specs.declared.verdict.Broken.{Broken}
 use Rattle.dnssec_judge.specs.Judge.{ComesNext, Knows}
 use Rattle.dnssec_judge.specs.Verdict.{IsVerdict}
-use Rattle.dnssec_judge.specs.Window.{GoesOnWith, held, held_in}
+use Rattle.dnssec_judge.specs.Inner.Window.{GoesOnWith, set_at, set_in}
 use Rattle.dnssec_record.specs.Answer.{Answers}
 use Rattle.dnssec_record.specs.Output.{answers, chain_line, published_text, reply_text, set_line}
 use Rattle.dnssec_record.specs.Output.{set_text, sets_text}
@@ -76,14 +76,14 @@ last_of entries e =
 -- what the last position holds of a kind
 last_held : (name : List ℕ) (calls : List Call) (entries : List Entry) (r : Recorder)
     → Records name calls entries r → (kind : SetKind)
-    → held_in kind r.published ≡ held kind (position_at entries (length entries))
+    → set_in kind r.published ≡ set_at kind (position_at entries (length entries))
 last_held name calls entries r so Ds = λ i. (sym (last-ds name calls entries r so) i, [])
 last_held name calls entries r so Dnskey = λ i.
     (sym (last-dnskey name calls entries r so) i, sym (last-signers name calls entries r so) i)
 last_held name calls entries r so ZoneSigners =
     λ i. (sym (last-zone name calls entries r so) i, [])
 
-told_held : (e : Entry) (kind : SetKind) → held kind (told e) ≡ held_in kind e.published
+told_held : (e : Entry) (kind : SetKind) → set_at kind (position_of e) ≡ set_in kind e.published
 told_held e Ds = refl
 told_held e Dnskey = refl
 told_held e ZoneSigners = refl
@@ -99,16 +99,17 @@ next_comes : (name : List ℕ) (calls : List Call) (entries : List Entry) (r s :
 next_comes name calls entries r s outcome e news b so mark moment sets may kept handed = record {
   has_mark = mark;
   has_moment = moment;
-  publishes = λ kind. subst (λ news. GoesOnWith (option_map (held_in kind) news)
-      (held kind (position_at entries (length entries))) (held kind (told e))) (sym handed)
+  publishes = λ kind. subst (λ news. GoesOnWith (option_map (set_in kind) news)
+      (set_at kind (position_at entries (length entries))) (set_at kind (position_of e)))
+          (sym handed)
       (by b kept kind);
 }
   where
     by : (b : Bool) → (b ≡ false → s.published ≡ r.published) → (kind : SetKind)
-        → GoesOnWith (option_map (held_in kind) (if b then Some s.published else None))
-        (held kind (position_at entries (length entries))) (held kind (told e))
-    by true kept kind = told_held e kind ∙ ap (held_in kind) sets
-    by false kept kind = told_held e kind ∙ ap (held_in kind) (sets ∙ kept refl)
+        → GoesOnWith (option_map (set_in kind) (if b then Some s.published else None))
+        (set_at kind (position_at entries (length entries))) (set_at kind (position_of e))
+    by true kept kind = told_held e kind ∙ ap (set_in kind) sets
+    by false kept kind = told_held e kind ∙ ap (set_in kind) (sets ∙ kept refl)
         ∙ last_held name calls entries r so kind
 
 -- one more call

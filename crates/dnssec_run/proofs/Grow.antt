@@ -7,7 +7,7 @@ use Rattle.std.proofs.lemmas.Bool.{cases_lt}
 use Rattle.dnssec_run.specs.declared.call.Call.{Call}
 use Rattle.dnssec_run.specs.declared.record.Entry.{Entry}
 use Rattle.dnssec_run.specs.Published.{World}
-use Rattle.dnssec_run.specs.Record.{IsRun, IsEntry, world_at, stepped, stepped_by, new_world}
+use Rattle.dnssec_run.specs.Record.{IsRun, IsEntry, world_at, world_after, world_behind, new_world}
 
 pub front : {A : Type 0} (xs ys : List A) (i : ℕ) → i < length xs → slice_get (xs ++ ys) i
     ≡ slice_get xs i
@@ -25,16 +25,16 @@ module _ (name : List ℕ) where
   unfolding world_at
   world_front cs ds es fs zero lc le = refl
   world_front cs ds es fs (suc n) lc le =
-      λ i. stepped_by (suc n) (world_front cs ds es fs n (omega arith) (omega arith) i)
+      λ i. world_behind (suc n) (world_front cs ds es fs n (omega arith) (omega arith) i)
           (front cs ds n lc i) (front es fs n le i)
 
   -- the world after one more call
   pub world_more : (cs : List Call) (es : List Entry) (c : Call) (e : Entry) → length es ≡ length cs
       → world_at name (cs ++ c ∷ []) (es ++ e ∷ []) (suc (length cs))
-          ≡ stepped (suc (length cs)) (world_at name cs es (length cs)) c e.reply
+          ≡ world_after (suc (length cs)) (world_at name cs es (length cs)) c e.reply
   unfolding world_at
   world_more cs es c e same =
-      λ i. stepped_by (suc (length cs))
+      λ i. world_behind (suc (length cs))
           (world_front cs (c ∷ []) es (e ∷ []) (length cs) (omega arith) (omega arith) i)
           (at_end cs c i)
       ((subst (λ n. slice_get (es ++ e ∷ []) n ≡ Some e) same (at_end es e)) i)
@@ -45,7 +45,7 @@ module _ (name : List ℕ) where
 
   pub run_more : (cs : List Call) (es : List Entry) (c : Call) (e : Entry) (after : World)
       → IsRun name cs es
-      → after ≡ stepped (suc (length cs)) (world_at name cs es (length cs)) c e.reply
+      → after ≡ world_after (suc (length cs)) (world_at name cs es (length cs)) c e.reply
           → IsEntry (world_at name cs es (length cs)) after c e
           → IsRun name (cs ++ c ∷ []) (es ++ e ∷ [])
   run_more cs es c e after run next ok = record {

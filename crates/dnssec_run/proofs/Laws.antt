@@ -11,7 +11,7 @@ use Rattle.dnssec_run.specs.Published.{World}
 use Rattle.dnssec_keyset.proofs.Sides.{leaves-others}
 use Rattle.dnssec_keyset.proofs.Exchange.Law.{exchange}
 use Rattle.dnssec_run.specs.Record.{IsRun, StaysSound, KeepsSidesApart, NeighboursMayBeExchanged}
-use Rattle.dnssec_run.specs.Record.{call_of, reply_of, stepped_by, world_at}
+use Rattle.dnssec_run.specs.Record.{call_of, reply_of, world_behind, world_at}
 
 module _ (P : KeySetParts → Type 0) (start : (name : List ℕ) → P (new_set name))
     (step : (old new : KeySetParts) (call : keyset.Call) (reply : keyset.Reply) → P old
@@ -24,17 +24,17 @@ module _ (P : KeySetParts → Type 0) (start : (name : List ℕ) → P (new_set 
   kept-at (suc n) = at (slice_get calls n) (slice_get entries n) refl refl (kept-at n)
     where
       next : Option Call → Option Entry → World
-      next c e = stepped_by (suc n) (world_at name calls entries n) c e
+      next c e = world_behind (suc n) (world_at name calls entries n) c e
 
       at : (oc : Option Call) (oe : Option Entry) → slice_get calls n ≡ oc → slice_get entries n
           ≡ oe → P (world_at name calls entries n).set
-          → P (stepped_by (suc n) (world_at name calls entries n) oc oe).set
+          → P (world_behind (suc n) (world_at name calls entries n) oc oe).set
       at None oe ci ei before = before
       at (Some c) None ci ei before = before
       at (Some c) (Some e) ci ei before =
           let then : world_at name calls entries (suc n)
-              ≡ stepped_by (suc n) (world_at name calls entries n) (Some c) (Some e) =
-              λ i. stepped_by (suc n) (world_at name calls entries n) (ci i) (ei i) in
+              ≡ world_behind (suc n) (world_at name calls entries n) (Some c) (Some e) =
+              λ i. world_behind (suc n) (world_at name calls entries n) (ci i) (ei i) in
           step _ _ (call_of c) (reply_of e.reply) before
               (subst (λ (w : World). keyset.Step (world_at name calls entries n).set (call_of c)
               (reply_of e.reply) w.set) then (run.each n c e ci ei).step)

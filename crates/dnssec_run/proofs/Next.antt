@@ -28,9 +28,9 @@ use Rattle.dnssec_run.specs.declared.record.Reply.TheVariants.{Done, Actions, Re
 use Rattle.dnssec_run.specs.Published.{IsPublished, World, id_of, in_ds, in_dnskey, signs_dnskey}
 use Rattle.dnssec_run.specs.Published.{signs_zone}
 use Rattle.dnssec_run.specs.Record.{call_of, reply_of, is_accepted, mark_of, mark_after}
-use Rattle.dnssec_run.specs.Record.{IsEntry, reference_added, with_added, stepped, new_world}
+use Rattle.dnssec_run.specs.Record.{IsEntry, reference_added, with_added, world_after, new_world}
 use Rattle.dnssec_run.specs.declared.record.Mark.TheVariants.{Other}
-use Rattle.dnssec_run.specs.Recorder.{Agrees, HasSameKeys, IsOutcome, TellsOutcome, noted}
+use Rattle.dnssec_run.specs.Recorder.{Agrees, HasSameKeys, IsOutcome, TellsOutcome, positions_after}
 use Rattle.dnssec_run.specs.Recorder.{reference_deleted}
 use Rattle.dnssec_run.proofs.Positions.{shown-none}
 
@@ -47,7 +47,7 @@ still n f (Some k) = refl
 module _ (n : ℕ) (w : World) (at : List ℕ → Option ℕ)
     (agrees : (q : List ℕ) → at q ≡ option_map (λ k. w.added q) (get w.set.keys q)) where
   Next : keyset.Call → List ℕ → Type 0
-  Next c q = noted n (reference_added c) (reference_deleted c) at q
+  Next c q = positions_after n (reference_added c) (reference_deleted c) at q
       ≡ option_map (λ k. with_added n (reference_added c) w.added q) (get (after c w.set).keys q)
 
   moved : (f : KeyParts → KeyParts) (o : Option KeyParts) (q : List ℕ) → o
@@ -98,8 +98,8 @@ module _ (n : ℕ) (w : World) (at : List ℕ → Option ℕ)
 pub agrees-accepted : (n : ℕ) (w : World) (old new : KeySetParts) (at later : List ℕ → Option ℕ)
     (call : Call) (reply : Reply) → is_accepted reply ≡ true
     → Agrees old at w → new ≡ after_reply (reply_of reply) (call_of call) old
-    → ((q : List ℕ) → later q ≡ noted n (reference_added (call_of call))
-        (reference_deleted (call_of call)) at q) → Agrees new later (stepped n w call reply)
+    → ((q : List ℕ) → later q ≡ positions_after n (reference_added (call_of call))
+        (reference_deleted (call_of call)) at q) → Agrees new later (world_after n w call reply)
 unfolding Next
 agrees-accepted n w old new at later call Done ok agrees step notes = record {
   same = step ∙ ap (after (call_of call)) agrees.same;
@@ -115,7 +115,7 @@ agrees-accepted n w old new at later call (Refused cause) ok agrees step notes =
 pub agrees-refused : (n : ℕ) (w : World) (old new : KeySetParts) (at : List ℕ → Option ℕ)
     (call : Call) (reply : Reply) → is_accepted reply ≡ false
     → Agrees old at w → new ≡ after_reply (reply_of reply) (call_of call) old
-        → Agrees new at (stepped n w call reply)
+        → Agrees new at (world_after n w call reply)
 agrees-refused n w old new at call Done ok agrees step = cc
 agrees-refused n w old new at call (Actions actions) ok agrees step = cc
 agrees-refused n w old new at call (Refused cause) ok agrees step =

@@ -23,7 +23,7 @@ use Rattle.std.proofs.lemmas.Map.Text.{is_eq-slice_cmp}
 use Rattle.dnssec_key.specs.declared.kind.KeyType.{KeyType}
 use Rattle.dnssec_key.specs.Key.{KeyParts}
 use Rattle.dnssec_keyset.specs.KeySet.{KeySetParts, new_set}
-use Rattle.dnssec_run.specs.Published.{Id, World, shown}
+use Rattle.dnssec_run.specs.Published.{Id, World, keys_where}
 use Rattle.dnssec_run.specs.Record.{new_world}
 use Rattle.dnssec_run.specs.Recorder.{Agrees, passing, shown_once}
 
@@ -215,7 +215,7 @@ module _ {Y : Type 0} (p : KeyType → Bool) (key : List ℕ → Option KeyParts
   abbrev ids : List (String Y × ℕ) → List Id
   ids = map (λ (e : String Y × ℕ). (string_bytes e.0, e.1))
 
-  -- the first entry's key is shown, and then those of the others
+  -- the first entry's key is keys_where, and then those of the others
   passing-first : (e : String Y × ℕ) (es : List (String Y × ℕ)) → passing p key (e ∷ es)
       ≡ shown_once p (key (string_bytes e.0)) (string_bytes e.0, e.1) ++ passing p key es
   passing-first e es = at (key (string_bytes e.0))
@@ -233,7 +233,7 @@ module _ {Y : Type 0} (p : KeyType → Bool) (key : List ℕ → Option KeyParts
       at None rest = refl
       at (Some k) rest = by (p k.keytype) rest
 
-  -- a walk that shows the keys found so far has shown one more
+  -- a walk that shows the keys found so far has keys_where one more
   pub shows-next : (old new whole : List Id) (left : List (String Y × ℕ)) (e : String Y × ℕ)
       (es : List (String Y × ℕ)) (o : Option KeyParts) → left ≡ e ∷ es
       → o ≡ key (string_bytes e.0) → new ≡ old ++ shown_once p o (string_bytes e.0, e.1)
@@ -254,7 +254,7 @@ module _ {Y : Type 0} (p : KeyType → Bool) (key : List ℕ → Option KeyParts
 
   pub passing-shown : (m : BTreeMap (String Y) ℕ) (set : KeySetParts) (w : World)
       → IsOrdered string_cmp m → Agrees set (tree.get_by_text m) w
-      → ((q : List ℕ) → key q ≡ get set.keys q) → passing p key m.entries ≡ shown p w
+      → ((q : List ℕ) → key q ≡ get set.keys q) → passing p key m.entries ≡ keys_where p w
   unfolding placed
   passing-shown m set w ordered agrees keys =
       let es = entries w.set.keys in
@@ -280,7 +280,8 @@ module _ (p : KeyType → Bool) (w : World) where
       (λ q. get-entries w.set.keys q) (entries w.set.keys)
       (all_found (entries w.set.keys) (entries_sorted w.set.keys))
 
-  shown-tested : filter (test p (get w.set.keys)) (placed w.added (entries w.set.keys)) ≡ shown p w
+  shown-tested : filter (test p (get w.set.keys)) (placed w.added (entries w.set.keys))
+      ≡ keys_where p w
   unfolding placed
   shown-tested = filter-placed w.added p (get w.set.keys) (entries w.set.keys) found_there
 
@@ -305,12 +306,12 @@ module _ (p : KeyType → Bool) (w : World) where
       (find-placed w.added (entries w.set.keys) q
       ∙ ap (option_map (λ k. w.added q)) (sym (get-entries w.set.keys q)))
 
--- where the same keys pass, each added at the same position, the same list is shown
+-- where the same keys pass, each added at the same position, the same list is keys_where
 pub same-shown : (p : KeyType → Bool) (w v : World)
     → ((q : List ℕ) → option_map_or (λ (k : KeyParts). p k.keytype) (get v.set.keys q) false
     ≡ option_map_or (λ (k : KeyParts). p k.keytype) (get w.set.keys q) false)
     → ((q : List ℕ) (k : KeyParts) → get w.set.keys q ≡ Some k → v.added q ≡ w.added q)
-    → shown p v ≡ shown p w
+    → keys_where p v ≡ keys_where p w
 same-shown p w v passes added =
     sym (shown-tested p v) ∙ same_entries (slice_cmp nat_cmp) nat_list_cmp_total
     (slice_cmp-IsAntisymmetric nat_cmp-IsAntisymmetric) _ _ (sorted-tested p v) (sorted-tested p w)
@@ -331,7 +332,7 @@ same-shown p w v passes added =
     at q (Some j) (Some k) same added = λ i. cond (same i) (Some (added k refl i)) None
 
 -- a new set shows nothing
-pub shown-none : (p : KeyType → Bool) (name : List ℕ) → shown p (new_world name) ≡ []
+pub shown-none : (p : KeyType → Bool) (name : List ℕ) → keys_where p (new_world name) ≡ []
 shown-none p name =
     ap (λ es. map (λ (e : List ℕ × KeyParts). (e.0, 0))
     (filter (λ (e : List ℕ × KeyParts). p e.1.keytype) es))

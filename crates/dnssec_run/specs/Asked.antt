@@ -42,7 +42,7 @@ update_of Ds = UpdateDsRrset
 update_of Dnskey = UpdateDnskeyRrset
 update_of ZoneSigners = UpdateRrsig
 
--- the action that asks to report when all servers have them (RFC 7583, section 3)
+-- the action that asks to report when all servers have them
 abbrev pub report_of : SetKind → Action
 report_of Ds = ReportDsPropagated
 report_of Dnskey = ReportDnskeyPropagated

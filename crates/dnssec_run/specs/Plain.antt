@@ -76,16 +76,17 @@ pub record DoesAt (does : keyset.Call → Option RollType) (calls : List Call) (
   pub roll_is : does (call_of call) ≡ Some roll
 
 -- a roll of keys that the parent's DS has to follow already: it wants a first algorithm roll
-abbrev pub wants_first : RollType → Bool
-wants_first KskRoll = true
-wants_first KskDoubleDsRoll = true
-wants_first CskRoll = true
-wants_first _ = false
+abbrev pub needs_algorithm_roll : RollType → Bool
+needs_algorithm_roll KskRoll = true
+needs_algorithm_roll KskDoubleDsRoll = true
+needs_algorithm_roll CskRoll = true
+needs_algorithm_roll _ = false
 
 -- before each accepted start of a KSK roll or of a CSK roll, an accepted call does this for an
 -- algorithm roll, which brings the zone its first keys
 abbrev pub AlgorithmRollFirst : (keyset.Call → Option RollType) → List Call → List Entry → Type 0
-AlgorithmRollFirst does calls entries = (n : ℕ) (roll : RollType) → wants_first roll ≡ true →
+AlgorithmRollFirst does calls entries = (n : ℕ) (roll : RollType) → needs_algorithm_roll roll ≡ true
+    →
     DoesAt start_of calls entries n roll →
     (m : ℕ) × (m < n) × DoesAt does calls entries m AlgorithmRoll
 

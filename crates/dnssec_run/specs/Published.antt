@@ -44,14 +44,14 @@ pub record World : Type 0 where
   pub added : List ℕ → ℕ
 
 -- the keys that pass, in the order of their references
-abbrev pub shown : (KeyType → Bool) → World → List Id
-shown passes w =
+abbrev pub keys_where : (KeyType → Bool) → World → List Id
+keys_where passes w =
     map (λ (e : List ℕ × KeyParts). (e.0, w.added e.0))
     (filter (λ (e : List ℕ × KeyParts). passes e.1.keytype) (entries w.set.keys))
 
 -- these are the sets that are published there
 pub record IsPublished (sets : Published) (w : World) : Type 0 where
-  pub ds : map id_of sets.ds.items ≡ shown in_ds w
-  pub dnskey : map id_of sets.dnskey.items ≡ shown in_dnskey w
-  pub dnskey_signers : map id_of sets.dnskey_signers.items ≡ shown signs_dnskey w
-  pub zone_signers : map id_of sets.zone_signers.items ≡ shown signs_zone w
+  pub ds : map id_of sets.ds.items ≡ keys_where in_ds w
+  pub dnskey : map id_of sets.dnskey.items ≡ keys_where in_dnskey w
+  pub dnskey_signers : map id_of sets.dnskey_signers.items ≡ keys_where signs_dnskey w
+  pub zone_signers : map id_of sets.zone_signers.items ≡ keys_where signs_zone w

@@ -76,14 +76,14 @@ reply_of (Refused cause) = keyset.Refused cause
 
 -- the moment that a call is given as now, if any: a creation stamp and the time of a setter are
 -- none
-abbrev pub moment_of : Call → Option ℕ
-moment_of (SetPresent pubref value now) = Some now
-moment_of (StartRoll roll old new now) = Some now
-moment_of (Propagation1Complete roll ttl now) = Some now
-moment_of (CacheExpired1 roll now) = Some now
-moment_of (Propagation2Complete roll ttl now) = Some now
-moment_of (CacheExpired2 roll now) = Some now
-moment_of _ = None
+abbrev pub call_moment : Call → Option ℕ
+call_moment (SetPresent pubref value now) = Some now
+call_moment (StartRoll roll old new now) = Some now
+call_moment (Propagation1Complete roll ttl now) = Some now
+call_moment (CacheExpired1 roll now) = Some now
+call_moment (Propagation2Complete roll ttl now) = Some now
+call_moment (CacheExpired2 roll now) = Some now
+call_moment _ = None
 
 -- what an accepted call means for the caches: a start or a first wait of a roll is what its next
 -- report counts from, and a report tells for how long older data may be held
@@ -124,16 +124,16 @@ added_by n call reply added =
     if is_accepted reply then with_added n (reference_added (call_of call)) added else added
 
 -- what is there after a call with this reply, at position n
-abbrev pub stepped : ℕ → World → Call → Reply → World
-stepped n w call reply = record {
+abbrev pub world_after : ℕ → World → Call → Reply → World
+world_after n w call reply = record {
   set = keyset.after_reply (reply_of reply) (call_of call) w.set;
   added = added_by n call reply w.added;
 }
 
 -- the same with the entry of the call, where both are there
-abbrev pub stepped_by : ℕ → World → Option Call → Option Entry → World
-stepped_by n w (Some call) (Some entry) = stepped n w call entry.reply
-stepped_by n w _ _ = w
+abbrev pub world_behind : ℕ → World → Option Call → Option Entry → World
+world_behind n w (Some call) (Some entry) = world_after n w call entry.reply
+world_behind n w _ _ = w
 
 -- a new key set of this name
 abbrev pub new_world : List ℕ → World
@@ -143,7 +143,7 @@ new_world name = record { set = new_set name; added = λ q. 0 }
 unfoldable pub world_at : List ℕ → List Call → List Entry → ℕ → World
 world_at name calls entries zero = new_world name
 world_at name calls entries (suc n) =
-    stepped_by (suc n) (world_at name calls entries n) (slice_get calls n) (slice_get entries n)
+    world_behind (suc n) (world_at name calls entries n) (slice_get calls n) (slice_get entries n)
 
 -- ---- the record
 
@@ -152,7 +152,7 @@ world_at name calls entries (suc n) =
 pub record IsEntry (w v : World) (call : Call) (entry : Entry) : Type 0 where
   pub step : keyset.Step w.set (call_of call) (reply_of entry.reply) v.set
   pub mark : entry.mark ≡ mark_after call entry.reply
-  pub moment : entry.moment ≡ moment_of call
+  pub moment : entry.moment ≡ call_moment call
   pub published : IsPublished entry.published v
 
 -- the entries are the record of a run of the calls on a new key set of this name

@@ -21,7 +21,7 @@ use Rattle.dnssec_run.specs.declared.running.Shown.TheVariants.{Ds, Dnskey, Dnsk
 use Rattle.dnssec_run.specs.declared.running.Shown.TheVariants.{ZoneSigners}
 use Rattle.dnssec_run.specs.Published.{Id, IsPublished, World, id_of, in_ds, in_dnskey}
 use Rattle.dnssec_run.specs.Published.{signs_dnskey, signs_zone}
-use Rattle.dnssec_run.specs.Record.{IsRun, call_of, mark_after, moment_of, reply_of, world_at}
+use Rattle.dnssec_run.specs.Record.{IsRun, call_of, mark_after, call_moment, reply_of, world_at}
 
 -- the keys that a set shows
 abbrev pub shows : Shown → KeyType → Bool
@@ -36,10 +36,11 @@ reference_deleted (keyset.DeleteKey reference) = Some reference
 reference_deleted _ = None
 
 -- the positions of the keys that are there, after one is put or taken
-abbrev pub noted : ℕ → Option (List ℕ) → Option (List ℕ) → (List ℕ → Option ℕ) → List ℕ → Option ℕ
-noted n (Some put) taken at q = if bytes_eq put q then Some n else at q
-noted n None (Some taken) at q = if bytes_eq taken q then None else at q
-noted n None None at q = at q
+abbrev pub positions_after : ℕ → Option (List ℕ) → Option (List ℕ) → (List ℕ → Option ℕ) → List ℕ
+    → Option ℕ
+positions_after n (Some put) taken at q = if bytes_eq put q then Some n else at q
+positions_after n None (Some taken) at q = if bytes_eq taken q then None else at q
+positions_after n None None at q = at q
 
 -- the positions are those of the keys that are there, and of no other
 pub record Agrees (set : KeySetParts) (at : List ℕ → Option ℕ) (w : World) : Type 0 where
@@ -77,7 +78,7 @@ pub record TellsOutcome (entry : Entry) (outcome : Outcome) : Type 0 where
 pub record IsOutcome (w v : World) (call : Call) (outcome : Outcome) : Type 0 where
   pub step : keyset.Step w.set (call_of call) (reply_of outcome.reply) v.set
   pub mark : outcome.mark ≡ mark_after call outcome.reply
-  pub moment : outcome.moment ≡ moment_of call
+  pub moment : outcome.moment ≡ call_moment call
   pub kept : outcome.may_publish ≡ false → (sets : Published) → IsPublished sets w →
       IsPublished sets v
 

@@ -1,6 +1,5 @@
 -- When a record is safe: whatever of it caches may still hold has a chain of trust. Nothing here
--- knows
--- of flags, stamps or phases: only of what was published, of reports, and of moments.
+-- knows of flags, stamps or phases: only of what was published, of reports, and of moments.
 use Rattle.std.specs.Prelude.{◌≡◌, ℕ, zero, suc, ◌+◌, ◌*◌, ◌<◌, ◌≤◌, ◌⊎◌, max, Bool, true, false}
 use Rattle.std.specs.Prelude.{List, [], map, if◌then◌else◌, slice_get, Option, None, Some}
 use Rattle.std.specs.Prelude.{unwrap_or}
@@ -32,8 +31,8 @@ abbrev pub blank : Position
 blank = record { moment = None; mark = Other; ds = []; dnskey = []; signers = []; zone = [] }
 
 -- what an entry tells
-abbrev pub told : Entry → Position
-told entry = record {
+abbrev pub position_of : Entry → Position
+position_of entry = record {
   moment = entry.moment;
   mark = entry.mark;
   ds = map id_of entry.published.ds.items;
@@ -45,7 +44,7 @@ told entry = record {
 -- position n is that after call n
 unfoldable pub position_at : List Entry → ℕ → Position
 position_at entries zero = blank
-position_at entries (suc n) = option_map_or told (slice_get entries n) blank
+position_at entries (suc n) = option_map_or position_of (slice_get entries n) blank
 
 -- ---- what a report retires (RFC 6781, section 4.1; RFC 7583, section 3)
 
@@ -92,7 +91,7 @@ time_at entries (suc n) =
 
 -- the set of position q is in no cache at n: a report up to n spoke of its kind, q lies before what
 -- the report counts from, and the report's TTL has passed since its moment
-pub record Retired (entries : List Entry) (kind : SetKind) (q n : ℕ) : Type 0 where
+pub record IsGone (entries : List Entry) (kind : SetKind) (q n : ℕ) : Type 0 where
   pub at : ℕ
   pub roll : RollType
   pub second : Bool
@@ -108,8 +107,8 @@ pub record Retired (entries : List Entry) (kind : SetKind) (q n : ℕ) : Type 0 
   pub over : moment + ttl * 1_000_000_000 ≤ time_at entries n
 
 -- the set of position q may still be in a cache at n
-abbrev pub IsUnretired : List Entry → SetKind → ℕ → ℕ → Type 0
-IsUnretired entries kind q n = (q ≤ n) × (Retired entries kind q n → ⊥)
+abbrev pub MayBeCached : List Entry → SetKind → ℕ → ℕ → Type 0
+MayBeCached entries kind q n = (q ≤ n) × (IsGone entries kind q n → ⊥)
 
 -- ---- the chain of trust (RFC 4035, section 5)
 
@@ -128,7 +127,7 @@ HasChain p q z = (p.ds ≡ []) ⊎ (TrustsKeys p q × TrustsZone q z)
 -- whatever sets caches may hold at n, of whatever positions, have a chain
 abbrev pub IsSafe : List Entry → ℕ → Type 0
 IsSafe entries n = (p q z : ℕ) →
-    IsUnretired entries Ds p n →
-    IsUnretired entries Dnskey q n →
-    IsUnretired entries ZoneSigners z n →
+    MayBeCached entries Ds p n →
+    MayBeCached entries Dnskey q n →
+    MayBeCached entries ZoneSigners z n →
     HasChain (position_at entries p) (position_at entries q) (position_at entries z)

@@ -27,7 +27,7 @@ use Rattle.dnssec_run.specs.declared.record.Entry.{Entry}
 use Rattle.dnssec_run.specs.declared.record.Mark.TheVariants.{Report}
 use Rattle.dnssec_run.specs.Plain.{DoesAt, SetsNothing}
 use Rattle.dnssec_run.specs.Published.{World}
-use Rattle.dnssec_run.specs.Record.{call_of, is_accepted, moment_of, reply_of, world_at}
+use Rattle.dnssec_run.specs.Record.{call_of, is_accepted, call_moment, reply_of, world_at}
 use Rattle.dnssec_run.specs.Safe.{position_at}
 
 -- ---- words of these laws
@@ -36,7 +36,7 @@ use Rattle.dnssec_run.specs.Safe.{position_at}
 abbrev pub NeverFalls : List Call → Type 0
 NeverFalls calls = (i j : ℕ) (c d : Call) (a b : ℕ) → i ≤ j →
     slice_get calls i ≡ Some c → slice_get calls j ≡ Some d →
-    moment_of c ≡ Some a → moment_of d ≡ Some b → a ≤ b
+    call_moment c ≡ Some a → call_moment d ≡ Some b → a ≤ b
 
 -- behind position n this call is made, and has its entry
 pub record IsMade (calls : List Call) (entries : List Entry) (n : ℕ) (call : keyset.Call)
@@ -54,7 +54,7 @@ IsAccepted calls entries n call =
 
 -- ---- no wait misses a stamp
 
--- no wait finds a key without the stamp that it reads: a report wrote it (RFC 7583, section 3)
+-- no wait finds a key without the stamp that it reads: a report wrote it
 abbrev pub NeverMissesStamp : List ℕ → List Call → List Entry → Type 0
 NeverMissesStamp name calls entries = SetsNothing name calls entries →
     (n : ℕ) (roll : RollType) (half : Half) (now : ℕ)
@@ -134,7 +134,7 @@ WaitsExactly name calls entries = SetsNothing name calls entries → NeverFalls 
 
 -- ---- whole rolls
 
--- the phase in which a change spreads, until it is reported (RFC 6781, section 4.1)
+-- the phase in which a change spreads, until it is reported
 abbrev pub spreading : Half → RollState
 spreading First = Propagation1
 spreading Second = Propagation2
@@ -166,7 +166,7 @@ end_of (keyset.AbortRoll roll) = Some roll
 end_of _ = None
 
 -- when a started roll ends that wasn't ended early, each key that it listed as old is stale or was
--- deleted, and each role of each key that it listed as new is at work (RFC 6781, section 4.1)
+-- deleted, and each role of each key that it listed as new is at work
 abbrev pub RollsFinish : List ℕ → List Call → List Entry → Type 0
 RollsFinish name calls entries = SetsNothing name calls entries →
     (s n : ℕ) (roll : RollType) (olds news : List (List ℕ)) (now : ℕ) → s < n →

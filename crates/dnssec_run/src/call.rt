@@ -4,7 +4,7 @@ ghost use Rattle.std.specs.Option.{option_map};
 ghost use Rattle.dnssec_keyset.specs.Step.{Step, reply_done, reply_list};
 ghost use Rattle.dnssec_run.specs.Asked.{sets_flag};
 ghost use Rattle.dnssec_run.specs.Recorder.{reference_deleted};
-ghost use Rattle.dnssec_run.specs.Record.{call_of, mark_of, moment_of, reference_added};
+ghost use Rattle.dnssec_run.specs.Record.{call_of, mark_of, call_moment, reference_added};
 ghost use Rattle.dnssec_run.specs.Record.{reply_of};
 
 use crate::record::{Mark, Reply};
@@ -117,7 +117,7 @@ pub enum Call<'a> {
 impl<'a> Call<'a> {
     /// The moment that the call is given as `now`, if any.
     pub(crate) fn moment(&self) -> Option<UnixTime>
-        ensures { result ≡ moment_of self.now }
+        ensures { result ≡ call_moment self.now }
     {
         match self {
             Call::SetPresent { now, .. }

@@ -14,9 +14,9 @@ ghost use Rattle.dnssec_run.specs.Plain.{StaysSafe};
 ghost use Rattle.dnssec_run.specs.Published.{IsPublished, World, id_of};
 ghost use Rattle.dnssec_run.specs.Record.{IsRun, KeepsSidesApart};
 ghost use Rattle.dnssec_run.specs.Record.{NeighboursMayBeExchanged, StaysSound, call_of};
-ghost use Rattle.dnssec_run.specs.Record.{reference_added, stepped, world_at};
+ghost use Rattle.dnssec_run.specs.Record.{reference_added, world_after, world_at};
 ghost use Rattle.dnssec_run.specs.Recorder.{Agrees, HasSameKeys, IsOutcome, Records, TellsOutcome};
-ghost use Rattle.dnssec_run.specs.Recorder.{noted, shown_once, shows};
+ghost use Rattle.dnssec_run.specs.Recorder.{positions_after, shown_once, shows};
 ghost use Rattle.dnssec_run.specs.declared.call.Call.{Call};
 ghost use Rattle.dnssec_run.specs.declared.record.Entry.{Entry};
 
@@ -66,7 +66,7 @@ fn note(
     at: usize,
 ) -> Result<(), Error>
     ensures ok { OnOk result ((q : List ℕ) → tree.get_by_text added.new q
-        ≡ noted at (option_map string_bytes put) (option_map (λ r. r.now) taken.entry)
+        ≡ positions_after at (option_map string_bytes put) (option_map (λ r. r.now) taken.entry)
         (tree.get_by_text added.old) q) }
     ensures err { IfErr result (λ e. e ≡ OutOfMemory) }
 {
@@ -226,10 +226,10 @@ fn advance(
 ) -> Result<Outcome, Error>
     ensures outcome { IfOk result (λ outcome. (w : World) → Agrees keyset.old
         (tree.get_by_text added.old) w →
-        IsOutcome w (stepped at w call.entry outcome.reply) call.entry outcome) }
+        IsOutcome w (world_after at w call.entry outcome.reply) call.entry outcome) }
     ensures next { IfOk result (λ outcome. (w : World) → Agrees keyset.old
         (tree.get_by_text added.old) w → Agrees keyset.new
-        (tree.get_by_text added.new) (stepped at w call.entry outcome.reply)) }
+        (tree.get_by_text added.new) (world_after at w call.entry outcome.reply)) }
     ensures err { IfErr result (λ e. e ≡ OutOfMemory) }
 {
     let moment = call.moment();

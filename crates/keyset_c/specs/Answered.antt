@@ -8,8 +8,8 @@ abbrev pub StaysSafeIfPlain : List ℕ → List ℕ → Type 0
 StaysSafeIfPlain script text = (a : Answers script text) → StaysSafe a.name a.calls a.entries
 
 -- and if its list is plain, the last line of the text says so
-abbrev pub EndsSafe : List ℕ → List ℕ → Type 0
-EndsSafe script text =
+abbrev pub TextEndsSafe : List ℕ → List ℕ → Type 0
+TextEndsSafe script text =
     (a : Answers script text) → IsPlain a.name a.calls a.entries →
     (front : List ℕ) × (text ≡ front ++ codes "\nchain safe\n")
 

@@ -8,7 +8,7 @@ ghost use Rattle.std.specs.Prelude.{◌≡◌, ◌≢◌, ◌⊎◌, ℕ, ◌<�
 ghost use Rattle.dnssec_record.specs.Answer.{Answers};
 ghost use Rattle.dnssec_record.specs.Script.{IsFirstMalformed, IsScript};
 ghost use Rattle.dnssec_run.specs.declared.call.Call.{Call};
-ghost use Rattle.keyset_c.specs.Answered.{EndsSafe, IsAnswerOfLength, StaysSafeIfPlain};
+ghost use Rattle.keyset_c.specs.Answered.{TextEndsSafe, IsAnswerOfLength, StaysSafeIfPlain};
 
 use dnssec_record::{ScriptFault, Std, run_script};
 use std::alloc::Global;
@@ -53,7 +53,7 @@ pub extern "C" fn keyset_answer(alloc: Global, script: &[u8], out: &mut [u8]) ->
     // Where the list of its calls is plain, the run is safe, and the last line says so.
     ensures safe { result.status ≡ 0 →
         StaysSafeIfPlain script.now (take result.length out.new) }
-    ensures chain { result.status ≡ 0 → EndsSafe script.now (take result.length out.new) }
+    ensures chain { result.status ≡ 0 → TextEndsSafe script.now (take result.length out.new) }
 
     // A malformed input is told by its first malformed line, and a script is never called so.
     ensures malformed { result.status ≡ 1 → IsFirstMalformed script.now result.line }

@@ -1,7 +1,7 @@
 //! The wire bytes of a name while its text is read. They take no memory but the stack's, so that
 //! lack of memory is no answer to a text with a fault.
 ghost use Rattle.std.specs.Prelude.{◌≡◌, ◌≢◌, [], ◌∷◌, ◌++◌, length, OnOk, IfErr};
-ghost use Rattle.dnssec_base.specs.Draft.{HasRoom, IsLimit};
+ghost use Rattle.dnssec_base.specs.Inner.Draft.{HasRoom, IsLimit};
 ghost use Rattle.dnssec_base.specs.NameText.{ended};
 ghost use Rattle.dnssec_base.specs.WireName.{wire_label};
 
@@ -20,11 +20,11 @@ pub struct Draft {
 }
 
 impl Model for Draft {
-    ghost use Rattle.dnssec_base.specs.DraftName.{DraftName};
+    ghost use Rattle.dnssec_base.specs.Inner.DraftName.{DraftName};
 
     ghost Value = { DraftName };
 
-    ghost use Rattle.dnssec_base.specs.Draft.{draft_of, IsDraft};
+    ghost use Rattle.dnssec_base.specs.Inner.Draft.{draft_of, IsDraft};
 
     ghost view = { draft_of };
 

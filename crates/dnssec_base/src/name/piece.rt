@@ -1,7 +1,7 @@
 //! The pieces of a name's text: dots, and symbols that stand for bytes (RFC 1035, section 5.1).
 ghost use Rattle.std.specs.Prelude.{◌∷◌, ℕ, List, IfOk, IfErr, IfNone, IfSome};
 ghost use Rattle.dnssec_base.specs.NameText.{BeginsWithSymbol, backslash};
-ghost use Rattle.dnssec_base.specs.Pieces.{IsPiece, IsEscape, IsDecimal, IsBadPiece};
+ghost use Rattle.dnssec_base.specs.Inner.Pieces.{IsPiece, IsEscape, IsDecimal, IsBadPiece};
 
 use super::NameError;
 

@@ -1,6 +1,6 @@
 //! A name's text, read into its labels.
 ghost use Rattle.std.specs.Prelude.{◌≢◌, [], IfOk, IfErr};
-ghost use Rattle.dnssec_base.specs.Draft.{IsRead};
+ghost use Rattle.dnssec_base.specs.Inner.Draft.{IsRead};
 ghost use Rattle.dnssec_base.specs.NameText.{StandsFirst, root_text};
 
 use super::NameError;

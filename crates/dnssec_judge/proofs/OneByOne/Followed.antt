@@ -8,18 +8,19 @@ use Rattle.dnssec_run.specs.declared.record.Entry.{Entry}
 use Rattle.dnssec_run.specs.declared.record.Mark.{Mark}
 use Rattle.dnssec_run.specs.declared.record.Mark.TheVariants.{Other, Step, Report}
 use Rattle.dnssec_run.specs.Safe.{SetKind, position_at, base_below, time_at, retires, Ds, Dnskey}
-use Rattle.dnssec_run.specs.Safe.{ZoneSigners, told, blank, is_step}
+use Rattle.dnssec_run.specs.Safe.{ZoneSigners, position_of, blank, is_step}
 use Rattle.dnssec_judge.specs.declared.steps.Steps.{Steps}
 use Rattle.dnssec_judge.specs.declared.verdict.Broken.{Broken}
 use Rattle.dnssec_judge.specs.declared.window.Due.{Due}
 use Rattle.dnssec_judge.specs.declared.window.Span.{Span}
 use Rattle.dnssec_judge.specs.declared.window.Window.{Window}
-use Rattle.dnssec_judge.specs.Floor.{due_of, floor_by, floor_up_to, base_once_over}
-use Rattle.dnssec_judge.specs.Search.{IsVerdictAt}
+use Rattle.dnssec_judge.specs.Inner.Floor.{due_of, floor_by, floor_up_to, base_once_over}
+use Rattle.dnssec_judge.specs.Inner.Search.{IsVerdictAt}
 use Rattle.dnssec_judge.specs.Verdict.{IsVerdict}
-use Rattle.dnssec_judge.specs.Window.{floor_with, Held, Tiles, Begins, GoesOnAbove, GoesOnWith}
-use Rattle.dnssec_judge.specs.Window.{set_of_span}
-use Rattle.dnssec_judge.specs.Window.{Watches, held, over_any, over_by, step_of}
+use Rattle.dnssec_judge.specs.Inner.Window.{floor_with, CachedSet, Tiles, Begins, GoesOnAbove}
+use Rattle.dnssec_judge.specs.Inner.Window.{GoesOnWith}
+use Rattle.dnssec_judge.specs.Inner.Window.{set_of_span}
+use Rattle.dnssec_judge.specs.Inner.Window.{Watches, set_at, over_any, over_by, step_of}
 use Rattle.dnssec_judge.proofs.OneByOne.Kept.{verdict-next, first-kept}
 use Rattle.dnssec_judge.proofs.OneByOne.More.{position-kept, base-new, position-new, time-new}
 use Rattle.dnssec_judge.proofs.OneByOne.More.{watches-more}
@@ -42,7 +43,7 @@ module _ (es : List Entry) (e : Entry) where
   count = omega (arith, length-append es (e ∷ []))
 
   pub window-follows : (kind : SetKind) (steps : Steps) (old new : Window) (time : ℕ)
-      (due : Option Due) (news : Option Held)
+      (due : Option Due) (news : Option CachedSet)
       → ((roll : RollType) → step_of steps roll ≡ base_below es roll (suc (length es)))
       → Watches es kind (length es) old
       → time ≡ max (time_at es (length es)) (unwrap_or e.moment 0)
@@ -51,20 +52,20 @@ module _ (es : List Entry) (e : Entry) where
       → ((t : ℕ) → time ≤ t
       → floor_with new.floor new.dues.items t
       ≡ max (floor_with old.floor old.dues.items t) (over_any due t))
-      → ((before after : ℕ → Held) (n : ℕ) → suc (length es) ≡ suc n
+      → ((before after : ℕ → CachedSet) (n : ℕ) → suc (length es) ≡ suc n
       → Tiles before n old.spans.items → Begins old.floor old.spans.items
       → ((q : ℕ) → q ≤ n → after q ≡ before q)
       → GoesOnWith news (before n) (after (suc n))
       → Tiles after (suc n) new.spans.items × Begins new.floor new.spans.items
       × GoesOnAbove new.floor new.spans.items)
-      → GoesOnWith news (held kind (position_at es (length es))) (held kind (told e))
+      → GoesOnWith news (set_at kind (position_at es (length es))) (set_at kind (position_of e))
       → Watches more kind (length more) new
   window-follows kind steps old new time due news base h is d floor dues spans shows =
-      let s = spans (λ q. held kind (position_at es q)) (λ q. held kind (position_at more q))
+      let s = spans (λ q. set_at kind (position_at es q)) (λ q. set_at kind (position_at more q))
       (length es) refl h.spans h.begins
-      (λ q le. ap (held kind) (position-kept es e q le))
-      (subst (GoesOnWith news (held kind (position_at es (length es))))
-      (sym (ap (held kind) (position-new es e))) shows) in
+      (λ q le. ap (set_at kind) (position-kept es e q le))
+      (subst (GoesOnWith news (set_at kind (position_at es (length es))))
+      (sym (ap (set_at kind) (position-new es e))) shows) in
       subst (λ n. Watches more kind n new) (sym count)
       (watches-more es e kind old new (over_any due) time h is
       (λ t. d t
@@ -112,17 +113,17 @@ unfolding position_at floor_up_to
 watches-none kind w s f d i from set = record {
   floor = f;
   dues = λ t le. (λ k. floor_with (f k) (d k) t);
-  spans = subst (Tiles (λ q. held kind (position_at [] q)) 0) (sym i) (
+  spans = subst (Tiles (λ q. set_at kind (position_at [] q)) 0) (sym i) (
     omega arith,
     λ q ge le.
         (let z : 0 ≡ q = omega arith in
-        set ∙ blank-set kind ∙ ap (λ q. held kind (position_at [] q)) z),
+        set ∙ blank-set kind ∙ ap (λ q. set_at kind (position_at [] q)) z),
   );
   begins = subst (Begins w.floor) (sym i) (omega arith);
   goes_on = subst (GoesOnAbove w.floor) (sym i) tt;
 }
   where
-    blank-set : (kind : SetKind) → ([], []) ≡ held kind blank
+    blank-set : (kind : SetKind) → ([], []) ≡ set_at kind blank
     blank-set Ds = refl
     blank-set Dnskey = refl
     blank-set ZoneSigners = refl

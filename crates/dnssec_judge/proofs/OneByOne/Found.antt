@@ -5,14 +5,14 @@ use Rattle.std.specs.Prelude.{if◌then◌else◌}
 use Rattle.std.proofs.lemmas.Bool.{cases_lt}
 use Rattle.dnssec_key.specs.declared.roll.RollType.{RollType}
 use Rattle.dnssec_run.specs.declared.record.Entry.{Entry}
-use Rattle.dnssec_run.specs.Safe.{SetKind, position_at, base_below, time_at, Retired, Ds, Dnskey}
+use Rattle.dnssec_run.specs.Safe.{SetKind, position_at, base_below, time_at, IsGone, Ds, Dnskey}
 use Rattle.dnssec_run.specs.Safe.{ZoneSigners, is_step}
 use Rattle.dnssec_judge.specs.declared.auditing.Floors.{Floors}
 use Rattle.dnssec_judge.specs.declared.verdict.Broken.{Broken}
 use Rattle.dnssec_judge.specs.declared.window.Window.{Window}
-use Rattle.dnssec_judge.specs.Floor.{floor_up_to}
-use Rattle.dnssec_judge.specs.Search.{IsVerdictAt, FindsDs}
-use Rattle.dnssec_judge.specs.Window.{found_ds, Watches, held}
+use Rattle.dnssec_judge.specs.Inner.Floor.{floor_up_to}
+use Rattle.dnssec_judge.specs.Inner.Search.{IsVerdictAt, FindsDs}
+use Rattle.dnssec_judge.specs.Inner.Window.{first_ds, Watches, set_at}
 use Rattle.dnssec_judge.proofs.Verdicts.Floors.{retired-below}
 use Rattle.dnssec_judge.proofs.Verdicts.Searches.{verdict-at}
 use Rattle.dnssec_judge.proofs.OneByOne.Spans.{ds-found}
@@ -35,7 +35,7 @@ base-lt entries roll (suc n) b e =
 floor-within : (entries : List Entry) (kind : SetKind) (n : ℕ)
     → floor_up_to entries kind (time_at entries n) n ≤ n
 floor-within entries kind n = elim (cases_lt n (floor_up_to entries kind (time_at entries n) n)) [
-  | inl lt ↦ absurd (let r : Retired entries kind n n = (retired-below entries kind n n).1 lt in
+  | inl lt ↦ absurd (let r : IsGone entries kind n n = (retired-below entries kind n n).1 lt in
       omega (arith, r.above, r.within, base-lt entries r.roll r.at r.base r.base_is))
   | inr ge ↦ omega arith
 ]
@@ -51,20 +51,20 @@ module _ (entries : List Entry) (n : ℕ) (within : n ≤ length entries) (ds dn
   low kind w h = omega (arith, h.floor, floor-within entries kind n)
 
   abbrev found : Option Broken
-  found = found_ds n ds.floor ds.spans.items dnskey.floor dnskey.spans.items
+  found = first_ds n ds.floor ds.spans.items dnskey.floor dnskey.spans.items
       zone.floor zone.spans.items
 
   finds : (o : Option Broken) → o ≡ found → FindsDs entries floors n o
-  finds None e = (ds-found (λ k. held Ds (position_at entries k))
-      (λ k. held Dnskey (position_at entries k)) (λ k. held ZoneSigners (position_at entries k))
+  finds None e = (ds-found (λ k. set_at Ds (position_at entries k))
+      (λ k. set_at Dnskey (position_at entries k)) (λ k. set_at ZoneSigners (position_at entries k))
       n ds.floor dnskey.floor zone.floor ds.spans.items dnskey.spans.items zone.spans.items
       z.spans z.begins z.goes_on (low ZoneSigners zone z)
       q.spans q.begins q.goes_on (low Dnskey dnskey q)
       p.spans p.begins p.goes_on (low Ds ds p) n None e).0 refl
   finds (Some b) e =
-      let f = (ds-found (λ k. held Ds (position_at entries k))
-      (λ k. held Dnskey (position_at entries k))
-      (λ k. held ZoneSigners (position_at entries k))
+      let f = (ds-found (λ k. set_at Ds (position_at entries k))
+      (λ k. set_at Dnskey (position_at entries k))
+      (λ k. set_at ZoneSigners (position_at entries k))
       n ds.floor dnskey.floor zone.floor ds.spans.items dnskey.spans.items zone.spans.items
       z.spans z.begins z.goes_on (low ZoneSigners zone z)
       q.spans q.begins q.goes_on (low Dnskey dnskey q)

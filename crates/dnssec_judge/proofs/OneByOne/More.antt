@@ -8,24 +8,27 @@ use Rattle.dnssec_key.specs.declared.roll.RollType.{RollType}
 use Rattle.dnssec_run.specs.declared.record.Entry.{Entry}
 use Rattle.dnssec_run.specs.declared.record.Mark.{Mark}
 use Rattle.dnssec_run.specs.declared.record.Mark.TheVariants.{Other, Step, Report}
-use Rattle.dnssec_run.specs.Safe.{SetKind, position_at, base_below, time_at, retires, told, blank}
+use Rattle.dnssec_run.specs.Safe.{SetKind, position_at, base_below, time_at, retires, position_of}
+use Rattle.dnssec_run.specs.Safe.{blank}
 use Rattle.dnssec_run.specs.Safe.{is_step}
 use Rattle.dnssec_run.proofs.Grow.{front, at_end}
 use Rattle.dnssec_judge.specs.declared.window.Span.{Span}
 use Rattle.dnssec_judge.specs.declared.window.Window.{Window}
-use Rattle.dnssec_judge.specs.Floor.{due_of, floor_by, floor_up_to, base_once_over}
-use Rattle.dnssec_judge.specs.Window.{floor_with, Held, Tiles, Begins, GoesOnAbove, HasLast}
-use Rattle.dnssec_judge.specs.Window.{IsShown, Watches, held}
+use Rattle.dnssec_judge.specs.Inner.Floor.{due_of, floor_by, floor_up_to, base_once_over}
+use Rattle.dnssec_judge.specs.Inner.Window.{floor_with, CachedSet, Tiles, Begins, GoesOnAbove}
+use Rattle.dnssec_judge.specs.Inner.Window.{HasLast}
+use Rattle.dnssec_judge.specs.Inner.Window.{IsShown, Watches, set_at}
 
 -- the last of the spans has the set of the last position
-pub last-of-tiles : (at : ℕ → Held) (n : ℕ) (spans : List Span) → Tiles at n spans
+pub last-of-tiles : (at : ℕ → CachedSet) (n : ℕ) (spans : List Span) → Tiles at n spans
     → HasLast (at n) spans
 last-of-tiles at n [] h = absurd h
 last-of-tiles at n (s ∷ []) h = h.1 n h.0 (omega arith)
 last-of-tiles at n (s ∷ t ∷ ss) h = last-of-tiles at n (t ∷ ss) h.2
 
 -- a set that is shown tiles the next position
-pub tiles-shown : (at next : ℕ → Held) (n : ℕ) (set : Held) (old new : List Span) → Tiles at n old
+pub tiles-shown : (at next : ℕ → CachedSet) (n : ℕ) (set : CachedSet) (old new : List Span)
+    → Tiles at n old
     → ((q : ℕ) → q ≤ n → next q ≡ at q) → next (suc n) ≡ set → IsShown set (suc n) old new
     → Tiles next (suc n) new
 tiles-shown at next n set old new h kept is (inl s) =
@@ -70,7 +73,7 @@ tiles-shown at next n set old new h kept is (inr s) =
     added (t ∷ u ∷ ss) h =
         (h.0, λ q ge lt. h.1 q ge lt ∙ sym (kept q (below u ss h.2 q lt)), added (u ∷ ss) h.2)
 
-pub begins-shown : (set : Held) (at floor next : ℕ) (old new : List Span) → Begins floor old
+pub begins-shown : (set : CachedSet) (at floor next : ℕ) (old new : List Span) → Begins floor old
     → floor ≤ next → IsShown set at old new → Begins next new
 begins-shown set at floor next old new b le (inl s) = subst (Begins next) (sym s.0) (by old b)
   where
@@ -91,11 +94,12 @@ module _ (es : List Entry) (e : Entry) where
   unfolding position_at
   position-kept zero le = refl
   position-kept (suc q) le =
-      ap (λ (o : Option Entry). option_map_or told o blank) (front es (e ∷ []) q (omega arith))
+      ap (λ (o : Option Entry). option_map_or position_of o blank)
+          (front es (e ∷ []) q (omega arith))
 
-  pub position-new : position_at more (suc (length es)) ≡ told e
+  pub position-new : position_at more (suc (length es)) ≡ position_of e
   unfolding position_at
-  position-new = ap (λ (o : Option Entry). option_map_or told o blank) (at_end es e)
+  position-new = ap (λ (o : Option Entry). option_map_or position_of o blank) (at_end es e)
 
   pub time-kept : (n : ℕ) → n ≤ length es → time_at more n ≡ time_at es n
   unfolding time_at
@@ -161,7 +165,7 @@ module _ (es : List Entry) (e : Entry) where
       → ((t : ℕ) → time ≤ t
       → floor_with new.floor new.dues.items t
       ≡ max (floor_with old.floor old.dues.items t) (retired t))
-      → Tiles (λ q. held kind (position_at more q)) (suc (length es)) new.spans.items
+      → Tiles (λ q. set_at kind (position_at more q)) (suc (length es)) new.spans.items
       → Begins new.floor new.spans.items → GoesOnAbove new.floor new.spans.items
       → Watches more kind (suc (length es)) new
   watches-more kind old new retired time h is r floor dues spans begins goes = record {

@@ -3,21 +3,22 @@ use Rattle.std.proofs.Common.{◌≡◌, ℕ, suc, inl, inr, sym, ◌∙◌, ap,
 use Rattle.std.proofs.Common.{length}
 use Rattle.std.proofs.lemmas.Bool.{cases_lt}
 use Rattle.dnssec_run.specs.declared.record.Entry.{Entry}
-use Rattle.dnssec_run.specs.Safe.{SetKind, position_at, told, Retired, IsUnretired, IsSafe}
+use Rattle.dnssec_run.specs.Safe.{SetKind, position_at, position_of, IsGone, MayBeCached, IsSafe}
 use Rattle.dnssec_run.specs.Safe.{Ds, Dnskey, ZoneSigners}
-use Rattle.dnssec_judge.specs.Window.{chained_sets, held}
+use Rattle.dnssec_judge.specs.Inner.Window.{sets_have_chain, set_at}
 use Rattle.dnssec_judge.proofs.OneByOne.Found.{base-lt}
 use Rattle.dnssec_judge.proofs.OneByOne.More.{position-kept, position-new, time-new, base-kept}
 use Rattle.dnssec_judge.proofs.Verdicts.Chains.{chain-from, chain-to}
 
 module _ (es : List Entry) (e : Entry)
-    (same : (kind : SetKind) → held kind (told e) ≡ held kind (position_at es (length es))) where
+    (same : (kind : SetKind) → set_at kind (position_of e)
+        ≡ set_at kind (position_at es (length es))) where
   abbrev more : List Entry
   more = es ++ e ∷ []
 
   -- what is retired stays retired
-  retired-later : (kind : SetKind) (q : ℕ) → Retired es kind q (length es)
-      → Retired more kind q (suc (length es))
+  retired-later : (kind : SetKind) (q : ℕ) → IsGone es kind q (length es)
+      → IsGone more kind q (suc (length es))
   retired-later kind q r = record {
     at = r.at;
     roll = r.roll;
@@ -35,28 +36,28 @@ module _ (es : List Entry) (e : Entry)
   }
 
   -- the last position is not retired
-  last-unretired : (kind : SetKind) → IsUnretired es kind (length es) (length es)
+  last-unretired : (kind : SetKind) → MayBeCached es kind (length es) (length es)
   last-unretired kind = (
     omega arith,
     λ r. omega (arith, r.above, r.within, base-lt es r.roll r.at r.base r.base_is),
   )
 
   -- what caches may hold of a kind they might before
-  held-before : (kind : SetKind) (p : ℕ) → IsUnretired more kind p (suc (length es))
-      → (q : ℕ) × IsUnretired es kind q (length es)
-      × (held kind (position_at es q) ≡ held kind (position_at more p))
+  held-before : (kind : SetKind) (p : ℕ) → MayBeCached more kind p (suc (length es))
+      → (q : ℕ) × MayBeCached es kind q (length es)
+      × (set_at kind (position_at es q) ≡ set_at kind (position_at more p))
   held-before kind p u = elim (cases_lt p (suc (length es))) [
     | inl lt ↦ (
       p,
       (omega arith, λ r. u.1 (retired-later kind p r)),
-      ap (held kind) (sym (position-kept es e p (omega arith))),
+      ap (set_at kind) (sym (position-kept es e p (omega arith))),
     )
     | inr ge ↦
         let last : suc (length es) ≡ p = omega (arith, u.0) in (
           length es,
           last-unretired kind,
-          sym (same kind) ∙ ap (held kind) (sym (position-new es e))
-              ∙ ap (λ n. held kind (position_at more n)) last,
+          sym (same kind) ∙ ap (set_at kind) (sym (position-new es e))
+              ∙ ap (λ n. set_at kind (position_at more n)) last,
         )
   ]
 
@@ -67,6 +68,6 @@ module _ (es : List Entry) (e : Entry)
       let b = held-before Dnskey q uq in
       let c = held-before ZoneSigners z uz in
       chain-from (position_at more p) (position_at more q) (position_at more z)
-      ((λ i. chained_sets (sym a.2 i) (sym b.2 i) (sym c.2 i))
+      ((λ i. sets_have_chain (sym a.2 i) (sym b.2 i) (sym c.2 i))
       ∙ chain-to (position_at es a.0) (position_at es b.0) (position_at es c.0)
       (safe a.0 b.0 c.0 a.1 b.1 c.1))

@@ -5,23 +5,24 @@ use Rattle.std.specs.Prelude.{if◌then◌else◌, max}
 use Rattle.std.proofs.lemmas.Bool.{cases_lt, true≢false}
 use Rattle.dnssec_judge.specs.declared.verdict.Broken.{Broken}
 use Rattle.dnssec_judge.specs.declared.window.Span.{Span}
-use Rattle.dnssec_judge.specs.Search.{IsFirst, HoldsFrom}
-use Rattle.dnssec_judge.specs.Window.{Held, Tiles, Begins, GoesOnAbove, set_of_span, chained_sets}
-use Rattle.dnssec_judge.specs.Window.{first_failing, found_ds, found_keys, or_else, with_zone}
+use Rattle.dnssec_judge.specs.Inner.Search.{IsFirst, HoldsFrom}
+use Rattle.dnssec_judge.specs.Inner.Window.{CachedSet, Tiles, Begins, GoesOnAbove, set_of_span}
+use Rattle.dnssec_judge.specs.Inner.Window.{sets_have_chain}
+use Rattle.dnssec_judge.specs.Inner.Window.{first_failing, first_ds, first_keys, or_else, with_zone}
 
 -- each span has the property
-abbrev NoneFails : (Held → Type 0) → List Span → Type 0
+abbrev NoneFails : (CachedSet → Type 0) → List Span → Type 0
 NoneFails P [] = Unit {0}
 NoneFails P (s ∷ ss) = P (set_of_span s) × NoneFails P ss
 
 -- the first that has not begins at m, and has the other property
-abbrev FailsAt : (Held → Type 0) → (Held → Type 0) → ℕ → ℕ → List Span → Type 0
+abbrev FailsAt : (CachedSet → Type 0) → (CachedSet → Type 0) → ℕ → ℕ → List Span → Type 0
 FailsAt P Q floor m [] = ⊥
 FailsAt P Q floor m (s ∷ ss) =
     ((P (set_of_span s) → ⊥) × Q (set_of_span s) × (m ≡ max floor s.from)) ⊎
     (P (set_of_span s) × FailsAt P Q floor m ss)
 
-module _ (at : ℕ → Held) (n : ℕ) (P : Held → Type 0) where
+module _ (at : ℕ → CachedSet) (n : ℕ) (P : CachedSet → Type 0) where
   all-held : (floor : ℕ) (spans : List Span) → Tiles at n spans → Begins floor spans
       → NoneFails P spans → HoldsFrom (λ q. P (at q)) floor n
   all-held floor [] h b f = absurd h
@@ -31,7 +32,7 @@ module _ (at : ℕ → Held) (n : ℕ) (P : Held → Type 0) where
     | inr more ↦ all-held t.from (t ∷ ss) h.2 (omega arith) f.1 q more le
   ]
 
-  module _ (Q : Held → Type 0) (floor m : ℕ) where
+  module _ (Q : CachedSet → Type 0) (floor m : ℕ) where
     abbrev First : ℕ → Type 0
     First from = IsFirst (λ q. P (at q)) from n m × Q (at m)
 
@@ -98,16 +99,16 @@ module _ (at : ℕ → Held) (n : ℕ) (P : Held → Type 0) where
 
 -- ---- the three searches
 
-module _ (pat qat zat : ℕ → Held) (n pf qf zf : ℕ) (ps qs zs : List Span) where
+module _ (pat qat zat : ℕ → CachedSet) (n pf qf zf : ℕ) (ps qs zs : List Span) where
   -- zone signers
 
-  abbrev ZonesAll : Held → Held → Type 0
-  ZonesAll p q = HoldsFrom (λ z. chained_sets p q (zat z) ≡ true) zf n
+  abbrev ZonesAll : CachedSet → CachedSet → Type 0
+  ZonesAll p q = HoldsFrom (λ z. sets_have_chain p q (zat z) ≡ true) zf n
 
-  abbrev ZoneFirst : Held → Held → ℕ → Type 0
-  ZoneFirst p q m = IsFirst (λ z. chained_sets p q (zat z) ≡ true) zf n m
+  abbrev ZoneFirst : CachedSet → CachedSet → ℕ → Type 0
+  ZoneFirst p q m = IsFirst (λ z. sets_have_chain p q (zat z) ≡ true) zf n m
 
-  failing : (test : Held → Bool) (ss : List Span) (o : Option ℕ) → first_failing test zf ss ≡ o
+  failing : (test : CachedSet → Bool) (ss : List Span) (o : Option ℕ) → first_failing test zf ss ≡ o
       → (o ≡ None → NoneFails (λ x. test x ≡ true) ss)
       × ((m : ℕ) → o ≡ Some m → FailsAt (λ x. test x ≡ true) (λ x. Unit {0}) zf m ss)
   failing test [] o e = (λ k. tt, λ m k. absurd (cc))
@@ -128,33 +129,33 @@ module _ (pat qat zat : ℕ → Held) (n pf qf zf : ℕ) (ps qs zs : List Span) 
 
   module _ (zone : Tiles zat n zs) (zone_begins : Begins zf zs) (zone_goes : GoesOnAbove zf zs)
       (zone_floor : zf ≤ n) where
-    zone-none : (p q : Held) → first_failing (chained_sets p q) zf zs ≡ None → ZonesAll p q
+    zone-none : (p q : CachedSet) → first_failing (sets_have_chain p q) zf zs ≡ None → ZonesAll p q
     zone-none p q e =
-        all-held zat n (λ z. chained_sets p q z ≡ true) zf zs zone zone_begins
-        ((failing (chained_sets p q) zs None e).0 refl)
+        all-held zat n (λ z. sets_have_chain p q z ≡ true) zf zs zone zone_begins
+        ((failing (sets_have_chain p q) zs None e).0 refl)
 
-    zone-some : (p q : Held) (m : ℕ) → first_failing (chained_sets p q) zf zs ≡ Some m
+    zone-some : (p q : CachedSet) (m : ℕ) → first_failing (sets_have_chain p q) zf zs ≡ Some m
         → ZoneFirst p q m
     zone-some p q m e =
-        (first-held zat n (λ z. chained_sets p q z ≡ true)
+        (first-held zat n (λ z. sets_have_chain p q z ≡ true)
         (λ z. Unit {0}) zf m zs zone zone_begins zone_goes zone_floor
-        ((failing (chained_sets p q) zs (Some m) e).1 m refl)).0
+        ((failing (sets_have_chain p q) zs (Some m) e).1 m refl)).0
 
     -- DNSKEY sets
-    abbrev KeysAnswer : ℕ → ℕ → Held → List Span → Option Broken → Type 0
+    abbrev KeysAnswer : ℕ → ℕ → CachedSet → List Span → Option Broken → Type 0
     KeysAnswer k d p ss None = NoneFails (λ q. ZonesAll p q) ss
     KeysAnswer k d p ss (Some t) =
         (t.at ≡ k) × (t.ds ≡ d)
         × FailsAt (λ q. ZonesAll p q) (λ q. ZoneFirst p q t.zone) qf t.dnskey ss
 
-    keys-answer : (k d : ℕ) (p : Held) (ss : List Span)
-        → KeysAnswer k d p ss (found_keys k d p qf ss zf zs)
+    keys-answer : (k d : ℕ) (p : CachedSet) (ss : List Span)
+        → KeysAnswer k d p ss (first_keys k d p qf ss zf zs)
     keys-answer k d p [] = tt
     keys-answer k d p (s ∷ ss) =
-        by (first_failing (chained_sets p (set_of_span s)) zf zs) refl
-        (found_keys k d p qf ss zf zs) (keys-answer k d p ss)
+        by (first_failing (sets_have_chain p (set_of_span s)) zf zs) refl
+        (first_keys k d p qf ss zf zs) (keys-answer k d p ss)
       where
-        by : (o : Option ℕ) → first_failing (chained_sets p (set_of_span s)) zf zs ≡ o
+        by : (o : Option ℕ) → first_failing (sets_have_chain p (set_of_span s)) zf zs ≡ o
             → (r : Option Broken) → KeysAnswer k d p ss r
             → KeysAnswer k d p (s ∷ ss) (with_zone k d (max qf s.from) o r)
         by None e None h = (zone-none p (set_of_span s) e, h)
@@ -164,19 +165,19 @@ module _ (pat qat zat : ℕ → Held) (n pf qf zf : ℕ) (ps qs zs : List Span) 
 
     module _ (dnskey : Tiles qat n qs) (dnskey_begins : Begins qf qs)
         (dnskey_goes : GoesOnAbove qf qs) (dnskey_floor : qf ≤ n) where
-      abbrev KeysAll : Held → Type 0
+      abbrev KeysAll : CachedSet → Type 0
       KeysAll p = HoldsFrom (λ q. ZonesAll p (qat q)) qf n
 
-      abbrev KeysFirst : Held → Broken → Type 0
+      abbrev KeysFirst : CachedSet → Broken → Type 0
       KeysFirst p t =
           IsFirst (λ q. ZonesAll p (qat q)) qf n t.dnskey × ZoneFirst p (qat t.dnskey) t.zone
 
-      keys-none : (k d : ℕ) (p : Held) (r : Option Broken) → r ≡ None → KeysAnswer k d p qs r
+      keys-none : (k d : ℕ) (p : CachedSet) (r : Option Broken) → r ≡ None → KeysAnswer k d p qs r
           → KeysAll p
       keys-none k d p None e h = all-held qat n (λ q. ZonesAll p q) qf qs dnskey dnskey_begins h
       keys-none k d p (Some t) e h = absurd (cc)
 
-      keys-some : (k d : ℕ) (p : Held) (r : Option Broken) (t : Broken) → r ≡ Some t
+      keys-some : (k d : ℕ) (p : CachedSet) (r : Option Broken) (t : Broken) → r ≡ Some t
           → KeysAnswer k d p qs r → (t.at ≡ k) × (t.ds ≡ d) × KeysFirst p t
       keys-some k d p None t e h = absurd (cc)
       keys-some k d p (Some u) t e h =
@@ -194,11 +195,11 @@ module _ (pat qat zat : ℕ → Held) (n pf qf zf : ℕ) (ps qs zs : List Span) 
       DsAnswer k ss None = NoneFails KeysAll ss
       DsAnswer k ss (Some t) = (t.at ≡ k) × FailsAt KeysAll (λ p. KeysFirst p t) pf t.ds ss
 
-      ds-answer : (k : ℕ) (ss : List Span) → DsAnswer k ss (found_ds k pf ss qf qs zf zs)
+      ds-answer : (k : ℕ) (ss : List Span) → DsAnswer k ss (first_ds k pf ss qf qs zf zs)
       ds-answer k [] = tt
       ds-answer k (s ∷ ss) =
-          by (found_keys k (max pf s.from) (set_of_span s) qf qs zf zs)
-          (keys-answer k (max pf s.from) (set_of_span s) qs) (found_ds k pf ss qf qs zf zs)
+          by (first_keys k (max pf s.from) (set_of_span s) qf qs zf zs)
+          (keys-answer k (max pf s.from) (set_of_span s) qs) (first_ds k pf ss qf qs zf zs)
           (ds-answer k ss)
         where
           by : (o : Option Broken) → KeysAnswer k (max pf s.from) (set_of_span s) qs o
@@ -218,7 +219,7 @@ module _ (pat qat zat : ℕ → Held) (n pf qf zf : ℕ) (ps qs zs : List Span) 
               )
 
       pub ds-found : Tiles pat n ps → Begins pf ps → GoesOnAbove pf ps → pf ≤ n
-          → (k : ℕ) (o : Option Broken) → o ≡ found_ds k pf ps qf qs zf zs
+          → (k : ℕ) (o : Option Broken) → o ≡ first_ds k pf ps qf qs zf zs
           → (o ≡ None → HoldsFrom (λ p. KeysAll (pat p)) pf n)
           × ((t : Broken) → o ≡ Some t
           → (t.at ≡ k) × IsFirst (λ p. KeysAll (pat p)) pf n t.ds × KeysFirst (pat t.ds) t)

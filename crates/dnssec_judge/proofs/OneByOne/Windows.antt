@@ -11,9 +11,10 @@ use Rattle.dnssec_run.specs.declared.record.PublishedKey.{PublishedKey}
 use Rattle.dnssec_run.specs.Published.{id_of}
 use Rattle.dnssec_judge.specs.declared.window.Due.{Due}
 use Rattle.dnssec_judge.specs.declared.window.Span.{Span}
-use Rattle.dnssec_judge.specs.Chained.{same_id}
-use Rattle.dnssec_judge.specs.Window.{floor_with, over, Held, Tiles, Begins, GoesOnAbove, HasLast}
-use Rattle.dnssec_judge.specs.Window.{ends_below, set_of_span}
+use Rattle.dnssec_judge.specs.Inner.Chained.{same_id}
+use Rattle.dnssec_judge.specs.Inner.Window.{floor_with, over, CachedSet, Tiles, Begins, GoesOnAbove}
+use Rattle.dnssec_judge.specs.Inner.Window.{HasLast}
+use Rattle.dnssec_judge.specs.Inner.Window.{ends_below, set_of_span}
 use Rattle.dnssec_judge.proofs.Verdicts.Chains.{both, same-id}
 
 -- ---- reports
@@ -92,7 +93,7 @@ ids-same (x ∷ xs) (y ∷ ys) e =
     λ i. x i ∷ r i
 
 -- what the last span has
-pub last-has : (set : Held) (spans : List Span) (l : Span)
+pub last-has : (set : CachedSet) (spans : List Span) (l : Span)
     → Some l ≡ slice_get spans (length spans - 1) → set_of_span l ≡ set → HasLast set spans
 last-has set [] l e h = absurd (cc)
 last-has set (s ∷ []) l e h = let same : l ≡ s = cc in ap set_of_span (sym same) ∙ h
@@ -102,7 +103,8 @@ last-has set (s ∷ t ∷ ss) l e h =
     last-has set (t ∷ ss) l (e ∙ ap (slice_get (s ∷ t ∷ ss)) n ∙ ap (slice_get (t ∷ ss)) (sym m)) h
 
 -- a span below the floor may go
-pub drop-first : (at : ℕ → Held) (n floor : ℕ) (spans : List Span) → ends_below floor spans ≡ true
+pub drop-first : (at : ℕ → CachedSet) (n floor : ℕ) (spans : List Span) → ends_below floor spans
+    ≡ true
     → Tiles at n spans → Tiles at n (drop 1 spans) × Begins floor (drop 1 spans)
 drop-first at n floor [] e h = absurd (true≢false (sym e))
 drop-first at n floor (s ∷ []) e h = absurd (true≢false (sym e))

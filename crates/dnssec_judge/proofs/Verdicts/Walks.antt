@@ -11,25 +11,27 @@ use Rattle.dnssec_key.specs.declared.roll.RollType.{RollType}
 use Rattle.dnssec_run.specs.declared.record.Entry.{Entry}
 use Rattle.dnssec_run.specs.declared.record.Mark.{Mark}
 use Rattle.dnssec_run.specs.declared.record.Mark.TheVariants.{Other, Step, Report}
-use Rattle.dnssec_run.specs.Safe.{SetKind, position_at, base_below, time_at, told, blank, is_step}
+use Rattle.dnssec_run.specs.Safe.{SetKind, position_at, base_below, time_at, position_of, blank}
+use Rattle.dnssec_run.specs.Safe.{is_step}
 use Rattle.dnssec_run.specs.contracts.record.MarkPartialEq.TheImpl.{eq-value}
-use Rattle.dnssec_judge.specs.Floor.{floor_by, floor_up_to}
+use Rattle.dnssec_judge.specs.Inner.Floor.{floor_by, floor_up_to}
 
 -- position n is that of entry n - 1
 pub position-found : (entries : List Entry) (n : ℕ) (r : Option (Bor Entry)) → (n ≡ 0 → ⊥)
     → IsItemAt entries (n - 1) r
-    → position_at entries n ≡ option_map_or told (option_copied r) blank
+    → position_at entries n ≡ option_map_or position_of (option_copied r) blank
 unfolding position_at
 position-found entries zero r e h = absurd (e refl)
 position-found entries (suc n) r e h =
     by r (subst (λ k. IsItemAt entries k r) (let k : suc n - 1 ≡ n = omega arith in k) h)
   where
     by : (r : Option (Bor Entry)) → IsItemAt entries n r
-        → option_map_or told (slice_get entries n) blank
-        ≡ option_map_or told (option_copied r) blank
-    by None h = ap (λ (o : Option Entry). option_map_or told o blank) (slice_get_past entries n h.3)
+        → option_map_or position_of (slice_get entries n) blank
+        ≡ option_map_or position_of (option_copied r) blank
+    by None h = ap (λ (o : Option Entry). option_map_or position_of o blank)
+        (slice_get_past entries n h.3)
     by (Some x) h =
-        ap (λ (o : Option Entry). option_map_or told o blank)
+        ap (λ (o : Option Entry). option_map_or position_of o blank)
         (slice_get_read entries (length entries) n x.now refl h.3.0 h.1)
 
 -- the time at a position that has an entry
@@ -42,7 +44,7 @@ time-more entries i t e lt at is =
     slice_get_read entries (length entries) i e refl lt at in
     (λ j. max (is j) (unwrap_or e.moment 0))
     ∙ ap (λ (o : Option Entry).
-    max (time_at entries i) (unwrap_or (option_map_or told o blank).moment 0)) (sym found))
+    max (time_at entries i) (unwrap_or (option_map_or position_of o blank).moment 0)) (sym found))
 
 -- ---- bases and floors
 

@@ -19,7 +19,7 @@ use Rattle.dnssec_key.specs.Key.{KeyParts}
 use Rattle.dnssec_key.specs.Setters.{Setting, Decoupled, Present, Signer, AtParent, Stale}
 use Rattle.dnssec_key.specs.Setters.{VisibleAt, DsVisibleAt, RrsigVisibleAt, set_by, at_states}
 use Rattle.dnssec_key.specs.Setters.{with_signer}
-use Rattle.dnssec_keyset.specs.KeySet.{Keys, keys_shown, entries_by_bytes}
+use Rattle.dnssec_keyset.specs.KeySet.{Keys, keys_in_map, entries_by_bytes}
 use Rattle.dnssec_keyset.specs.declared.counts.Counts.{Counts}
 use Rattle.dnssec_keyset.specs.Start.{serves_as_kept, Want, PresentKsk, KskAtParent, PresentZsk}
 use Rattle.dnssec_keyset.specs.Start.{PresentKskRole, PresentZskRole}
@@ -60,7 +60,7 @@ module _ {Y S : Type 0} where
   -- no more keys pass than there are in the hash map
   pub count-fits : (p : List ℕ → KeyParts → Bool) (m : HashMap (String Y) KeyParts S) →
       IsUnique string_eq m → length m.entries ≤ 18446744073709551615 →
-      count_in p (keys_shown m) ≤ 18446744073709551615
+      count_in p (keys_in_map m) ≤ 18446744073709551615
   count-fits p m unique fits =
       let all = count-entries p (entries_by_bytes m) (apart_by_bytes m.entries unique) in
       let some = at_most p (entries_by_bytes m) in
@@ -217,7 +217,7 @@ counts-set (RrsigVisibleAt time) c m n r k found is fits =
 
 module _ {Y S : Type 0} where
   pub fits-shown : (m : HashMap (String Y) KeyParts S) → IsUnique string_eq m →
-      length m.entries ≤ 18446744073709551615 → Fits (keys_shown m)
+      length m.entries ≤ 18446744073709551615 → Fits (keys_in_map m)
   unfolding Fits
   fits-shown m unique fits w = count-fits (passes (serves_as_kept w)) m unique fits
 
@@ -251,7 +251,7 @@ module _ (step : KeyParts → KeyParts) (kept : (k : KeyParts) → (step k).keyt
     pub counts-kept : (c : Counts) (m n : HashMap (String Y) KeyParts S) →
         IsUnique string_eq m → IsUnique string_eq n
         → n.entries ≡ map (λ (e : String Y × KeyParts). (e.0, step e.1)) m.entries
-        → CountsAgree c (keys_shown m) → CountsAgree c (keys_shown n)
+        → CountsAgree c (keys_in_map m) → CountsAgree c (keys_in_map n)
     counts-kept c m n one two is old w =
         let p : KeyType → Bool = serves_as_kept w in
         old w ∙ sym (count-shown p m one) ∙ sym (as_many p m.entries)
@@ -282,7 +282,7 @@ module _ {Y S : Type 0} where
   -- the counts by a walk
   pub counts-walked : (m : HashMap (String Y) KeyParts S) → IsUnique string_eq m →
       length m.entries ≤ 18446744073709551615 →
-      CountsAgree (fold (λ c k. with_key k.keytype c) no_counts (values m)) (keys_shown m)
+      CountsAgree (fold (λ c k. with_key k.keytype c) no_counts (values m)) (keys_in_map m)
   counts-walked m unique fits w =
       let all = folded w (values m) no_counts (zero_at w) in
       let these = count-shown (serves_as_kept w) m unique in

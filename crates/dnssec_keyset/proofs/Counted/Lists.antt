@@ -21,7 +21,7 @@ use Rattle.std.proofs.lemmas.Map.Text.{is_eq-slice_cmp}
 use Rattle.std.proofs.lemmas.Bool.Decides.{nat_tests}
 use Rattle.dnssec_key.specs.declared.kind.KeyType.{KeyType}
 use Rattle.dnssec_key.specs.Key.{KeyParts}
-use Rattle.dnssec_keyset.specs.KeySet.{Keys, keys_shown, entries_by_bytes}
+use Rattle.dnssec_keyset.specs.KeySet.{Keys, keys_in_map, entries_by_bytes}
 use Rattle.dnssec_keyset.specs.Start.{is_listed, some_kept}
 use Rattle.dnssec_keyset.specs.Inner.Counts.{bit, count, count_in, share, kept, listed, passes}
 use Rattle.dnssec_keyset.proofs.Quantified.{first, second, itself, apart, below_found}
@@ -252,7 +252,7 @@ module _ {Y : Type 0} (p : KeyType → Bool) where
 
   pub count-shown : {S : Type 0} (m : HashMap (String Y) KeyParts S) → IsUnique string_eq m →
       length (filter (λ (k : KeyParts). p k.keytype) (values m))
-      ≡ count_in (passes p) (keys_shown m)
+      ≡ count_in (passes p) (keys_in_map m)
   count-shown m unique =
       sym (count-entries (passes p) (entries_by_bytes m) (apart_by_bytes m.entries unique)
       ∙ counted m.entries)

@@ -1,13 +1,14 @@
 -- A change of one key, of the inside of the crate.
 use Rattle.dnssec_key.specs.Key.{KeyParts}
-use Rattle.dnssec_key.specs.RollTable.{marked_old, marked_new, unmarked_old, unmarked_new}
+use Rattle.dnssec_key.specs.RollTable.{old_at_start, new_at_start, old_at_early_end}
+use Rattle.dnssec_key.specs.RollTable.{new_at_early_end}
 use Rattle.dnssec_keyset.specs.declared.keys.Change.{Change}
 use Rattle.dnssec_keyset.specs.declared.keys.Change.TheVariants.{MarkOld, MarkNew}
 use Rattle.dnssec_keyset.specs.declared.keys.Change.TheVariants.{UnmarkOld, UnmarkNew}
 
 -- the key after a change
-abbrev pub made : Change → KeyParts → KeyParts
-made MarkOld = marked_old
-made (MarkNew roll now) = marked_new roll now
-made (UnmarkOld roll) = unmarked_old roll
-made (UnmarkNew roll) = unmarked_new roll
+abbrev pub makes : Change → KeyParts → KeyParts
+makes MarkOld = old_at_start
+makes (MarkNew roll now) = new_at_start roll now
+makes (UnmarkOld roll) = old_at_early_end roll
+makes (UnmarkNew roll) = new_at_early_end roll

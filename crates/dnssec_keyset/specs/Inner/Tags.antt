@@ -4,18 +4,14 @@ use Rattle.std.specs.FinMap.{get}
 use Rattle.dnssec_key.specs.Key.{KeyParts}
 use Rattle.dnssec_keyset.specs.Inner.Bits.{is_set}
 use Rattle.dnssec_keyset.specs.KeySet.{Keys}
-
--- no two keys have one tag
-abbrev pub DifferInTags : Keys → Type 0
-DifferInTags keys = (q r : List ℕ) (k l : KeyParts) → get keys q ≡ Some k → get keys r ≡ Some l →
-    k.key_tag ≡ l.key_tag → q ≡ r
+use Rattle.dnssec_keyset.specs.Laws.{TagsApart}
 
 -- the index has the tags of the keys and no other, and no two keys have one tag
 pub record TagsAgree (has : ℕ → Bool) (keys : Keys) : Type 0 where
   pub covers : (q : List ℕ) (k : KeyParts) → get keys q ≡ Some k → has k.key_tag ≡ true
   pub owned : (t : ℕ) → has t ≡ true →
       (q : List ℕ) × (k : KeyParts) × (get keys q ≡ Some k) × (k.key_tag ≡ t)
-  pub apart : DifferInTags keys
+  pub apart : TagsApart keys
 
 -- a set of tags has those of the keys that are listed
 abbrev pub HasListed : List ℕ → Keys → (List ℕ → Bool) → Type 0
@@ -23,6 +19,6 @@ HasListed tags keys listed =
     (q : List ℕ) (k : KeyParts) → get keys q ≡ Some k → is_set tags k.key_tag ≡ listed q
 
 -- the tag of a key, if there is one, is in a set
-abbrev pub is_in : List ℕ → Option KeyParts → Bool
-is_in tags None = false
-is_in tags (Some k) = is_set tags k.key_tag
+abbrev pub has_its_tag : List ℕ → Option KeyParts → Bool
+has_its_tag tags None = false
+has_its_tag tags (Some k) = is_set tags k.key_tag

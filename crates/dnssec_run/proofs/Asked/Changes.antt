@@ -27,11 +27,12 @@ use Rattle.dnssec_run.specs.declared.record.Reply.{Reply}
 use Rattle.dnssec_run.specs.declared.record.Reply.TheVariants as reply
 use Rattle.dnssec_run.specs.Asked.{asked_by, asked_at, update_of, sets_flag}
 use Rattle.dnssec_run.specs.Asked.{SamePublished, ChangesAsAsked}
-use Rattle.dnssec_run.specs.Published.{IsPublished, World, shown, in_ds, in_dnskey, signs_dnskey}
+use Rattle.dnssec_run.specs.Published.{IsPublished, World, keys_where, in_ds, in_dnskey}
+use Rattle.dnssec_run.specs.Published.{signs_dnskey}
 use Rattle.dnssec_run.specs.Published.{signs_zone}
 use Rattle.dnssec_run.specs.Record.{IsRun, call_of, reply_of, is_accepted, world_at, with_added}
 use Rattle.dnssec_run.specs.Record.{reference_added, added_by}
-use Rattle.dnssec_run.specs.Safe.{SetKind, Ds, Dnskey, ZoneSigners, position_at, told, blank}
+use Rattle.dnssec_run.specs.Safe.{SetKind, Ds, Dnskey, ZoneSigners, position_at, position_of, blank}
 use Rattle.dnssec_run.proofs.Positions.{same-shown, shown-none}
 use Rattle.dnssec_run.proofs.Chain.Tale.{start-parts, early-end-parts}
 use Rattle.dnssec_keyset.proofs.Tests.{alike-same, or_second}
@@ -264,15 +265,15 @@ module _ (name : List ℕ) (calls : List Call) (entries : List Entry)
 
   -- what a position shows
   pub record Shows (n : ℕ) : Type 0 where
-    pub ds : (position_at entries n).ds ≡ shown in_ds (at n)
-    pub dnskey : (position_at entries n).dnskey ≡ shown in_dnskey (at n)
-    pub signers : (position_at entries n).signers ≡ shown signs_dnskey (at n)
-    pub zone : (position_at entries n).zone ≡ shown signs_zone (at n)
+    pub ds : (position_at entries n).ds ≡ keys_where in_ds (at n)
+    pub dnskey : (position_at entries n).dnskey ≡ keys_where in_dnskey (at n)
+    pub signers : (position_at entries n).signers ≡ keys_where signs_dnskey (at n)
+    pub zone : (position_at entries n).zone ≡ keys_where signs_zone (at n)
 
   place : (n : ℕ) (e : Entry) → slice_get entries n ≡ Some e
-      → position_at entries (suc n) ≡ told e
+      → position_at entries (suc n) ≡ position_of e
   unfolding position_at
-  place n e ei = ap (λ o. option_map_or told o blank) ei
+  place n e ei = ap (λ o. option_map_or position_of o blank) ei
 
   shows-entry : (n : ℕ) (c : Call) (e : Entry) → slice_get calls n ≡ Some c
       → slice_get entries n ≡ Some e → Shows (suc n)

@@ -11,7 +11,7 @@ use Rattle.dnssec_keyset.proofs.Flags.{SideOf, Keys, Zone, affects}
 use Rattle.dnssec_run.specs.declared.record.Entry.{Entry}
 use Rattle.dnssec_run.specs.Published.{Id}
 use Rattle.dnssec_run.specs.Safe.{SetKind, Ds, Dnskey, ZoneSigners, position_at, base_below}
-use Rattle.dnssec_run.specs.Safe.{time_at, Retired, is_step, retires}
+use Rattle.dnssec_run.specs.Safe.{time_at, IsGone, is_step, retires}
 use Rattle.dnssec_run.proofs.Chain.Flags.{first_kind, second_kind, switches}
 
 pub time_grows : (es : List Entry) (n : ℕ) → time_at es n ≤ time_at es (suc n)
@@ -33,8 +33,8 @@ unfolding time_at position_at
 time_now es zero m e = absurd (cc)
 time_now es (suc n) m e = rw e (omega arith)
 
-pub retired_stays : (es : List Entry) (kind : SetKind) (q n : ℕ) → Retired es kind q n
-    → Retired es kind q (suc n)
+pub retired_stays : (es : List Entry) (kind : SetKind) (q n : ℕ) → IsGone es kind q n
+    → IsGone es kind q (suc n)
 retired_stays es kind q n h = record {
   at = h.at;
   roll = h.roll;

@@ -10,7 +10,7 @@ use Rattle.dnssec_key.specs.declared.kind.KeyType.{KeyType}
 use Rattle.dnssec_run.specs.declared.record.Entry.{Entry}
 use Rattle.dnssec_run.specs.Published.{Id}
 use Rattle.dnssec_run.specs.Safe.{SetKind, Ds, Dnskey, ZoneSigners, position_at, base_below}
-use Rattle.dnssec_run.specs.Safe.{is_step, Retired}
+use Rattle.dnssec_run.specs.Safe.{is_step, IsGone}
 use Rattle.dnssec_keyset.proofs.Flags.{SideOf, Keys, Zone, affects, Stage, Quiet, Early, Late, fits}
 use Rattle.dnssec_run.proofs.Chain.Tale.{Tale, Key, found, if_some, world_at}
 use Rattle.dnssec_run.proofs.Chain.Side.{upto, Rest, Early as EarlySets, Late as LateSets, Broad}
@@ -27,7 +27,7 @@ use Rattle.dnssec_run.proofs.Chain.Places.{all_ok, side, shows, NoDs, some_weake
 use Rattle.dnssec_run.proofs.Chain.Returns.{Back, KeepsLists, leads-on}
 
 abbrev pub AtRest : Tale → SideOf → ℕ → Type 0
-AtRest tale sd n = (kind : SetKind) (q : ℕ) → q ≤ n → (Retired tale.es kind q n → ⊥) → (id : Id)
+AtRest tale sd n = (kind : SetKind) (q : ℕ) → q ≤ n → (IsGone tale.es kind q n → ⊥) → (id : Id)
     → if_some (test_of sd kind) (found (world_at tale n) id) ≡ true → Serving sd tale.es kind q id
 
 -- the base of a roll in progress
@@ -68,10 +68,10 @@ pub record At (tale : Tale) (sd : SideOf) (st : Stage) (n : ℕ) : Type 0 where
 -- ---- what it gives
 
 abbrev pub HasCommon : List Entry → SideOf → ℕ → Type 0
-HasCommon es Keys n = (p q : ℕ) → p ≤ n → (Retired es Ds p n → ⊥) → q ≤ n
-    → (Retired es Dnskey q n → ⊥) → (k : Id) × Serving Keys es Ds p k × Serving Keys es Dnskey q k
-HasCommon es Zone n = (q z : ℕ) → q ≤ n → (Retired es Dnskey q n → ⊥) → z ≤ n
-    → (Retired es ZoneSigners z n → ⊥) → (k : Id) × Serving Zone es Dnskey q k
+HasCommon es Keys n = (p q : ℕ) → p ≤ n → (IsGone es Ds p n → ⊥) → q ≤ n
+    → (IsGone es Dnskey q n → ⊥) → (k : Id) × Serving Keys es Ds p k × Serving Keys es Dnskey q k
+HasCommon es Zone n = (q z : ℕ) → q ≤ n → (IsGone es Dnskey q n → ⊥) → z ≤ n
+    → (IsGone es ZoneSigners z n → ⊥) → (k : Id) × Serving Zone es Dnskey q k
     × Serving Zone es ZoneSigners z k
 
 -- in use on a side: in both sets of each roll
@@ -198,7 +198,7 @@ module _ (tale : Tale) (n : ℕ) (here : suc n ≤ length tale.es) where
       → if_some (test_of sd kind) (found (world_at tale (suc n)) id) ≡ true
       → if_some (test_of sd kind) (found (world_at tale n) id) ≡ true) → AtRest tale sd n
       → AtRest tale sd (suc n)
-  rest-next sd less h kind = upto (λ q. (Retired tale.es kind q (suc n) → ⊥) → (id : Id)
+  rest-next sd less h kind = upto (λ q. (IsGone tale.es kind q (suc n) → ⊥) → (id : Id)
       → if_some (test_of sd kind) (found (world_at tale (suc n)) id) ≡ true
       → Serving sd tale.es kind q id) n
       (λ q le un id p. h kind q le (λ r. un (retired_stays tale.es kind q n r)) id (less kind id p))

@@ -13,7 +13,7 @@ use Rattle.dnssec_key.specs.declared.kind.KeyType.{KeyType}
 use Rattle.dnssec_key.specs.RollTable.{column, half_of, stamp_if, after_wait}
 use Rattle.dnssec_run.specs.declared.record.Mark.TheVariants.{Other, Report}
 use Rattle.dnssec_run.specs.Published.{Id}
-use Rattle.dnssec_run.specs.Safe.{SetKind, position_at, base_below, time_at, is_step, Retired}
+use Rattle.dnssec_run.specs.Safe.{SetKind, position_at, base_below, time_at, is_step, IsGone}
 use Rattle.dnssec_run.specs.Safe.{retires}
 use Rattle.dnssec_keyset.proofs.Flags.{may_list, aged, tolerates, Quiet, Early, fits, may_start}
 use Rattle.dnssec_keyset.proofs.Flags.{is_idle}
@@ -64,7 +64,7 @@ pub gone : (tale : Tale) (n : ℕ) (r : RollType) (second : Bool) (ttl now : ℕ
     ≡ true → Reads tale r second n → Told tale r second n ttl
     → IsOver r second (world_at tale n) ttl now → (position_at tale.es (suc n)).moment ≡ Some now
     → (kind : SetKind) → retires r second kind ≡ true → (b : ℕ) → base_below tale.es r (suc n)
-        ≡ Some b → (q : ℕ) → q < b → Retired tale.es kind q (suc n)
+        ≡ Some b → (q : ℕ) → q < b → IsGone tale.es kind q (suc n)
 gone tale n r second ttl now on reads told over moment kind goes b base q lt =
     let k = some_key (stays r second) (found (world_at tale n) reads.0) reads.1 in
     let key : (world_at tale n).key reads.0.0 ≡ Some k.0 =

@@ -14,10 +14,11 @@ use Rattle.dnssec_key.specs.declared.kind.KeyType.{KeyType}
 use Rattle.dnssec_key.specs.declared.kind.KeyType.TheVariants.{Ksk, Zsk, Csk, Include}
 use Rattle.dnssec_run.specs.declared.call.Call.{Call}
 use Rattle.dnssec_run.specs.declared.record.Entry.{Entry}
-use Rattle.dnssec_run.specs.Published.{Id, World as RealWorld, shown, in_ds, in_dnskey}
+use Rattle.dnssec_run.specs.Published.{Id, World as RealWorld, keys_where, in_ds, in_dnskey}
 use Rattle.dnssec_run.specs.Published.{signs_dnskey as signs_keys, signs_zone}
 use Rattle.dnssec_run.specs.Record as rec
-use Rattle.dnssec_run.specs.Safe.{SetKind, Ds, Dnskey, ZoneSigners, told, position_at, Retired}
+use Rattle.dnssec_run.specs.Safe.{SetKind, Ds, Dnskey, ZoneSigners, position_of, position_at}
+use Rattle.dnssec_run.specs.Safe.{IsGone}
 use Rattle.dnssec_key.specs.declared.roll.RollType.{RollType}
 use Rattle.dnssec_keyset.specs.Step as keyset
 use Rattle.dnssec_run.specs.Plain.{sets_nothing, DoesAt}
@@ -56,11 +57,12 @@ pub found_map : (b : Bool) (f : Key → Key) (o : Option Key) → (if b then opt
 found_map true f o = refl
 found_map false f o = refl
 
--- a list that is told shows exactly the keys that pass
+-- a list that is position_of shows exactly the keys that pass
 abbrev pub Shows : List Id → RealWorld → (KeyType → Bool) → Type 0
 Shows ids w p = (id : Id) → Contains ids id ↔ (if_some p (found (seen w) id) ≡ true)
 
-shows_by : (p : KeyType → Bool) (w : RealWorld) (ids : List Id) → ids ≡ shown p w → Shows ids w p
+shows_by : (p : KeyType → Bool) (w : RealWorld) (ids : List Id) → ids ≡ keys_where p w
+    → Shows ids w p
 shows_by p w ids e id = let h = shown-found p w id in
     (λ c. h.0 (subst (λ l. Contains l id) e c), λ f. subst (λ l. Contains l id) (sym e) (h.1 f))
 
@@ -74,13 +76,13 @@ pub record Place (tale : Tale) (i : ℕ) : Type 0 where
   pub entry_is : slice_get tale.es i ≡ Some entry
   pub ok : rec.IsEntry (real tale i) (real tale (suc i)) call entry
   pub plain : sets_nothing (real tale i).set (rec.call_of call) ≡ true
-  pub position_is : position_at tale.es (suc i) ≡ told entry
+  pub position_is : position_at tale.es (suc i) ≡ position_of entry
   pub added_is : (world_at tale (suc i)).added
       ≡ rec.added_by (suc i) call entry.reply (world_at tale i).added
-  pub ds : Shows (told entry).ds (real tale (suc i)) in_ds
-  pub dnskey : Shows (told entry).dnskey (real tale (suc i)) in_dnskey
-  pub signers : Shows (told entry).signers (real tale (suc i)) signs_keys
-  pub zone : Shows (told entry).zone (real tale (suc i)) signs_zone
+  pub ds : Shows (position_of entry).ds (real tale (suc i)) in_ds
+  pub dnskey : Shows (position_of entry).dnskey (real tale (suc i)) in_dnskey
+  pub signers : Shows (position_of entry).signers (real tale (suc i)) signs_keys
+  pub zone : Shows (position_of entry).zone (real tale (suc i)) signs_zone
 
 pub place_at : (tale : Tale) (i : ℕ) → i < length tale.es → Place tale i
 unfolding position_at rec.world_at
@@ -187,8 +189,8 @@ side tale sd r = record {
   Id = Id;
   last = length tale.es;
   D = NoDs tale.es;
-  RX = Retired tale.es (first_kind sd r);
-  RY = Retired tale.es (second_kind sd r);
+  RX = IsGone tale.es (first_kind sd r);
+  RY = IsGone tale.es (second_kind sd r);
   X = Serving sd tale.es (first_kind sd r);
   Y = Serving sd tale.es (second_kind sd r);
   x = λ n id. if_some (first_test sd r) (found (world_at tale n) id) ≡ true;

@@ -7,7 +7,7 @@ use Rattle.dnssec_key.specs.declared.roll.RollState.TheVariants.{Propagation1}
 use Rattle.dnssec_key.specs.declared.kind.KeyType.{KeyType}
 use Rattle.dnssec_keyset.specs.KeySet.{Listed, listed_by}
 use Rattle.dnssec_run.specs.Published.{Id}
-use Rattle.dnssec_run.specs.Safe.{SetKind, Retired}
+use Rattle.dnssec_run.specs.Safe.{SetKind, IsGone}
 use Rattle.dnssec_keyset.proofs.Tests.{and-both}
 use Rattle.dnssec_keyset.proofs.Flags.{SideOf, affects, Stage, Quiet, Early, Late, fits, has_role}
 use Rattle.dnssec_keyset.proofs.Flags.{is_idle, ended}
@@ -36,7 +36,7 @@ early_end_key tale r n q k = record k { keytype = kind_back tale r n q k.keytype
 pub record LeadsBack (tale : Tale) (sd : SideOf) (r : RollType) (n : ℕ) : Type 0 where
   pub flags : (id : Id) → all_ok (λ k. fits sd Quiet (kind_back tale r n id.0 k))
       (found (world_at tale n) id) ≡ true
-  pub rest : (kind : SetKind) (q : ℕ) → q ≤ n → (Retired tale.es kind q n → ⊥) → (id : Id)
+  pub rest : (kind : SetKind) (q : ℕ) → q ≤ n → (IsGone tale.es kind q n → ⊥) → (id : Id)
       → if_some (λ k. test_of sd kind (kind_back tale r n id.0 k)) (found (world_at tale n) id)
           ≡ true → Serving sd tale.es kind q id
   pub used : NoDs tale.es n ⊎ ((id : Id)
@@ -148,7 +148,7 @@ module _ (tale : Tale) (n : ℕ) (here : suc n ≤ length tale.es) (sd : SideOf)
   pub leads-on : LeadsBack tale sd r n → LeadsBack tale sd r (suc n)
   leads-on h = record {
     flags = flags_next h;
-    rest = λ kind. upto (λ q. (Retired tale.es kind q (suc n) → ⊥) → (id : Id)
+    rest = λ kind. upto (λ q. (IsGone tale.es kind q (suc n) → ⊥) → (id : Id)
         → if_some (λ k. test_of sd kind (kind_back tale r (suc n) id.0 k))
         (found (world_at tale (suc n)) id) ≡ true → Serving sd tale.es kind q id) n
         (λ q le un id e. h.rest kind q le (λ x. un (retired_stays tale.es kind q n x)) id

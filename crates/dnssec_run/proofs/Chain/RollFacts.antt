@@ -9,7 +9,7 @@ use Rattle.dnssec_key.specs.declared.roll.RollType.TheVariants.{AlgorithmRoll}
 use Rattle.dnssec_key.specs.declared.kind.KeyType.{KeyType}
 use Rattle.dnssec_key.specs.RollTable.{column}
 use Rattle.dnssec_run.specs.Published.{in_ds}
-use Rattle.dnssec_run.specs.Plain.{wants_first}
+use Rattle.dnssec_run.specs.Plain.{needs_algorithm_roll}
 use Rattle.dnssec_keyset.proofs.Flags.{SideOf, Keys, Zone, affects, tolerates, started, waited1}
 use Rattle.dnssec_keyset.proofs.Flags.{waited2, Quiet, Early, Late}
 use Rattle.dnssec_keyset.proofs.Tests.{both, both-at, each_roll, each_roll-at, each_key}
@@ -23,18 +23,18 @@ still_table : RollType → Bool → Bool → KeyType → Bool
 still_table r o i k = alike (in_ds (started r o i k)) (in_ds k)
 
 still_all : (a b : Bool) → each_roll
-    (λ r. wants_first r || both (λ o. both (λ i. each_key a b (still_table r o i)))) ≡ true
+    (λ r. needs_algorithm_roll r || both (λ o. both (λ i. each_key a b (still_table r o i)))) ≡ true
 unfolding still_table column
 still_all a b = refl
 
-pub still_ds : (r : RollType) → wants_first r ≡ false → (o i : Bool) (k : KeyType)
+pub still_ds : (r : RollType) → needs_algorithm_roll r ≡ false → (o i : Bool) (k : KeyType)
     → in_ds (started r o i k) ≡ in_ds k
 unfolding still_table
 still_ds r free o i k = alike-same _ _ (each_key-at (still_table r o i) (λ a b.
     both-at (λ i. each_key a b (still_table r o i))
     (both-at (λ o. both (λ i. each_key a b (still_table r o i)))
-    (or_second (wants_first r) _ (each_roll-at
-        (λ r. wants_first r || both (λ o. both (λ i. each_key a b (still_table r o i))))
+    (or_second (needs_algorithm_roll r) _ (each_roll-at
+        (λ r. needs_algorithm_roll r || both (λ o. both (λ i. each_key a b (still_table r o i))))
         (still_all a b) r) free) o) i) k)
 
 waited_table : RollType → Bool → KeyType → Bool
@@ -97,7 +97,7 @@ unfolding switch_table
 switch_timed sd r own e =
     mp _ _ (each_roll-at (switch_table sd) (switch_all sd) r) (and-both _ _ own e)
 
-pub first_or : (r : RollType) → wants_first r ≡ false → (r ≡ AlgorithmRoll)
+pub first_or : (r : RollType) → needs_algorithm_roll r ≡ false → (r ≡ AlgorithmRoll)
     ⊎ (affects Keys r ≡ false)
 first_or KskRoll e = absurd (true≢false e)
 first_or KskDoubleDsRoll e = absurd (true≢false e)

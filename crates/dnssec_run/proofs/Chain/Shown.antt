@@ -11,7 +11,7 @@ use Rattle.std.proofs.lemmas.Bool.{true≢false, eqb-true, eq-eqb}
 use Rattle.std.proofs.lemmas.Option.{same_Some, none-some}
 use Rattle.dnssec_key.specs.declared.kind.KeyType.{KeyType}
 use Rattle.dnssec_key.specs.Key.{KeyParts}
-use Rattle.dnssec_run.specs.Published.{Id, World as RealWorld, shown}
+use Rattle.dnssec_run.specs.Published.{Id, World as RealWorld, keys_where}
 use Rattle.dnssec_run.proofs.Chain.Tale.{seen, found, if_some}
 use Rattle.dnssec_keyset.proofs.Quantified.{first, second, not_both, same_key, itself}
 
@@ -89,28 +89,29 @@ module _ (p : KeyType → Bool) (added : List ℕ → ℕ) where
               (filter (λ (e : List ℕ × KeyParts). p e.1.keytype) es))) id) (sym passes)
           (0, omega arith, same)
 
--- a list that is shown has exactly the keys that are found and pass
+-- a list that is keys_where has exactly the keys that are found and pass
 pub shown-found : (p : KeyType → Bool) (w : RealWorld) (id : Id)
-    → Contains (shown p w) id ↔ (if_some p (found (seen w) id) ≡ true)
+    → Contains (keys_where p w) id ↔ (if_some p (found (seen w) id) ≡ true)
 shown-found p w id = (to_found, from_found)
   where
-    to_found : Contains (shown p w) id → if_some p (found (seen w) id) ≡ true
+    to_found : Contains (keys_where p w) id → if_some p (found (seen w) id) ≡ true
     to_found c =
         let h = from_list p w.added (entries w.set.keys) (entries_sorted w.set.keys) id c in
         ap (λ b. if_some p (if b then get w.set.keys id.0 else None))
             (eq-eqb (w.added id.0) id.1 h.3)
         ∙ ap (if_some p) (get-entries w.set.keys id.0 ∙ h.1) ∙ h.2
 
-    from_found : if_some p (found (seen w) id) ≡ true → Contains (shown p w) id
+    from_found : if_some p (found (seen w) id) ≡ true → Contains (keys_where p w) id
     from_found e = by (w.added id.0 == id.1) refl e
       where
         by : (b : Bool) → (w.added id.0 == id.1) ≡ b
-            → if_some p (if b then get w.set.keys id.0 else None) ≡ true → Contains (shown p w) id
+            → if_some p (if b then get w.set.keys id.0 else None) ≡ true
+                → Contains (keys_where p w) id
         by false t f = absurd (true≢false (sym f))
         by true t f = at_key (get w.set.keys id.0) refl f
           where
             at_key : (o : Option KeyParts) → get w.set.keys id.0 ≡ o → if_some p o ≡ true
-                → Contains (shown p w) id
+                → Contains (keys_where p w) id
             at_key None g f = absurd (true≢false (sym f))
             at_key (Some k) g f = to_list p w.added (entries w.set.keys) id
                 (k, sym (get-entries w.set.keys id.0) ∙ g, f, eqb-true _ _ t)

@@ -15,7 +15,7 @@ use Rattle.dnssec_keyset.specs.Step.{is_kept_at}
 use Rattle.dnssec_run.specs.declared.record.Mark.TheVariants.{Other, Step}
 use Rattle.dnssec_run.specs.Published.{Id, in_ds}
 use Rattle.dnssec_run.specs.Safe.{SetKind, Ds, position_at, is_step, IsSafe}
-use Rattle.dnssec_run.specs.Plain.{DoesAt, start_of, wants_first}
+use Rattle.dnssec_run.specs.Plain.{DoesAt, start_of, needs_algorithm_roll}
 use Rattle.dnssec_keyset.proofs.Flags.{SideOf, Keys, Zone, affects, tolerates, Stage, Quiet, Early}
 use Rattle.dnssec_keyset.proofs.Flags.{Late, fits}
 use Rattle.dnssec_run.proofs.Chain.Tale.{Tale, Key, found, if_some, world_at, start_key, wait1_key}
@@ -139,7 +139,8 @@ module _ (tale : Tale) (n : ℕ) (here : suc n ≤ length tale.es) where
             at_tol false f = absurd (none-some x (sym (can.alone q f) ∙ e))
 
     -- from no DS at all
-    start_unborn : wants_first r ≡ false → Unpassed tale (suc n) → NoDs tale.es n → (h : Inv tale n)
+    start_unborn : needs_algorithm_roll r ≡ false → Unpassed tale (suc n) → NoDs tale.es n
+        → (h : Inv tale n)
         → h.ks ≡ Quiet → Inv tale (suc n)
     start_unborn free none d h quiet =
         let d' : NoDs tale.es (suc n) =
@@ -178,7 +179,7 @@ module _ (tale : Tale) (n : ℕ) (here : suc n ≤ length tale.es) where
           record { ks = x.0.0; zs = y.0.0; keys = x.0.1; zone = y.0.1; pairs = start_pairs h.pairs;
               phases = start_phases h; life = inl (x.1 a.0, y.1 a.1) }
       | inr d ↦ elim (d.1.1) [
-        | inl u ↦ by_first (wants_first r) refl u d.1.0 d.0
+        | inl u ↦ by_first (needs_algorithm_roll r) refl u d.1.0 d.0
         | inr u ↦ absurd (true≢false (sym
             ((subst (λ s. At tale Keys s n) u.0 h.keys).rolls AlgorithmRoll refl)
             ∙ ap (stage_fits (Early AlgorithmRoll) AlgorithmRoll)
@@ -186,7 +187,8 @@ module _ (tale : Tale) (n : ℕ) (here : suc n ≤ length tale.es) where
       ]
     ]
       where
-        by_first : (b : Bool) → wants_first r ≡ b → h.ks ≡ Quiet → Unpassed tale n → NoDs tale.es n
+        by_first : (b : Bool) → needs_algorithm_roll r ≡ b → h.ks ≡ Quiet → Unpassed tale n
+            → NoDs tale.es n
             → Inv tale (suc n)
         by_first true w quiet none_before d = let x = tale.plain.first n r w starts in
             absurd (none_before x.0 x.1 x.2)

@@ -11,7 +11,7 @@ use Rattle.dnssec_key.specs.declared.roll.RollState.TheVariants.{Propagation1, P
 use Rattle.dnssec_key.specs.declared.kind.KeyType.{KeyType}
 use Rattle.dnssec_run.specs.declared.record.Mark.TheVariants.{Step}
 use Rattle.dnssec_run.specs.Published.{Id}
-use Rattle.dnssec_run.specs.Safe.{SetKind, position_at, base_below, is_step, Retired, retires}
+use Rattle.dnssec_run.specs.Safe.{SetKind, position_at, base_below, is_step, IsGone, retires}
 use Rattle.dnssec_keyset.proofs.Flags.{SideOf, affects, Quiet, Early, Late, fits, may_start}
 use Rattle.dnssec_keyset.proofs.Flags.{started, ended}
 use Rattle.dnssec_run.proofs.Chain.Tables.{serves_new, serves_kept}
@@ -136,7 +136,7 @@ module _ (tale : Tale) (n : ℕ) (here : suc n ≤ length tale.es) (sd : SideOf)
         → LeadsBack tale sd r (suc n)
     leads-start life h = record {
       flags = λ id. by id (found (world_at tale n) id) refl;
-      rest = λ kind. upto (λ q. (Retired tale.es kind q (suc n) → ⊥) → (id : Id)
+      rest = λ kind. upto (λ q. (IsGone tale.es kind q (suc n) → ⊥) → (id : Id)
           → if_some (λ k. test_of sd kind (kind_back tale r (suc n) id.0 k))
           (found (world_at tale (suc n)) id) ≡ true → Serving sd tale.es kind q id) n
           (λ q le un id e. h.holds kind q le (λ x. un (retired_stays tale.es kind q n x)) id
@@ -211,7 +211,7 @@ module _ (tale : Tale) (n : ℕ) (here : suc n ≤ length tale.es) (sd : SideOf)
       (mark : (position_at tale.es (suc n)).mark ≡ Step r)
       (gone : (kind : SetKind) → retires r false kind ≡ true → (b : ℕ)
           → base_below tale.es r (suc n) ≡ Some b → (q : ℕ) → q < b
-          → Retired tale.es kind q (suc n))
+          → IsGone tale.es kind q (suc n))
       (first-goes : retires r false (first_kind sd r) ≡ true)
           (second-goes : retires r (switches sd r) (second_kind sd r) ≡ true) where
     pub live-wait1 : At tale sd (Early r) n → (id : Id)
@@ -280,7 +280,7 @@ module _ (tale : Tale) (n : ℕ) (here : suc n ≤ length tale.es) (sd : SideOf)
   module _ (now : ℕ) (m : Mapped tale n (λ q. wait2_key r now) r (Some Done))
       (gone : (kind : SetKind) → switches sd r ≡ true → retires r true kind ≡ true → (b : ℕ)
           → base_below tale.es r (suc n) ≡ Some b → (q : ℕ) → q < b
-          → Retired tale.es kind q (suc n))
+          → IsGone tale.es kind q (suc n))
       (second-goes : retires r (switches sd r) (second_kind sd r) ≡ true) where
     first_less2 : At tale sd (Late r) n → (id : Id)
         → if_some (first_test sd r) (found (world_at tale (suc n)) id) ≡ true
@@ -349,7 +349,7 @@ module _ (tale : Tale) (n : ℕ) (here : suc n ≤ length tale.es) (sd : SideOf)
               d));
       flags = λ id. ap (all_ok (fits sd Quiet)) (m.founds id)
           ∙ all_by_kind (fits sd Quiet) id (found (world_at tale n) id) ∙ b.flags id;
-      holds = λ kind. upto (λ q. (Retired tale.es kind q (suc n) → ⊥) → (id : Id)
+      holds = λ kind. upto (λ q. (IsGone tale.es kind q (suc n) → ⊥) → (id : Id)
           → if_some (test_of sd kind) (found (world_at tale (suc n)) id) ≡ true
           → Serving sd tale.es kind q id) n
           (λ q le un id e. b.rest kind q le (λ x. un (retired_stays tale.es kind q n x)) id

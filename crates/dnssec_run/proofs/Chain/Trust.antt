@@ -90,7 +90,7 @@ adds_blank _ = true
 
 pub record Plainly (c : Call) : Type 0 where
   pub mark_is : rec.mark_of c ≡ mark (rec.call_of c)
-  pub moment_is : rec.moment_of c ≡ moment (rec.call_of c)
+  pub moment_is : rec.call_moment c ≡ moment (rec.call_of c)
   pub blank : adds_blank (rec.call_of c) ≡ true
 
 pub plainly : (c : Call) → Plainly c

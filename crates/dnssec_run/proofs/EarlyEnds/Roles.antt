@@ -14,7 +14,7 @@ use Rattle.dnssec_key.specs.Key.{KeyParts}
 use Rattle.dnssec_key.specs.RollTable.{First, Second}
 use Rattle.dnssec_key.specs.Setters.{Setting, Decoupled, Present, Signer, AtParent, Stale}
 use Rattle.dnssec_key.specs.Setters.{VisibleAt, DsVisibleAt, RrsigVisibleAt, set_by, with_at_parent}
-use Rattle.dnssec_key.specs.Setters.{at_ksk_role, at_states, turned_stale, with_present}
+use Rattle.dnssec_key.specs.Setters.{at_ksk_role, at_states, stale_by_hand, with_present}
 use Rattle.dnssec_key.specs.Setters.{with_signer}
 use Rattle.dnssec_keyset.specs.KeySet.{KeySetParts, listed_by}
 use Rattle.dnssec_keyset.specs.Start.{is_listed}
@@ -23,7 +23,7 @@ use Rattle.dnssec_run.specs.declared.call.Call.{Call}
 use Rattle.dnssec_run.specs.declared.call.Call.TheVariants as call
 use Rattle.dnssec_run.specs.declared.record.Entry.{Entry}
 use Rattle.dnssec_run.specs.Published.{World}
-use Rattle.dnssec_run.specs.Record.{IsRun, call_of, is_accepted, reply_of, stepped_by, world_at}
+use Rattle.dnssec_run.specs.Record.{IsRun, call_of, is_accepted, reply_of, world_behind, world_at}
 use Rattle.dnssec_run.proofs.Chain.Tale.{early-end-parts, start-parts}
 use Rattle.dnssec_run.proofs.EarlyEnds.Tables.{tied, tied_facts}
 use Rattle.dnssec_run.proofs.WholeRolls.OrderedKeys.{back}
@@ -56,7 +56,7 @@ tied-at_parent value (Zsk s) h = refl
 tied-at_parent value (Csk s t) h = h
 tied-at_parent value (Include s) h = refl
 
-tied-stale : (k : KeyType) → tied (at_states turned_stale k) ≡ true
+tied-stale : (k : KeyType) → tied (at_states stale_by_hand k) ≡ true
 tied-stale (Ksk s) = refl
 tied-stale (Zsk s) = refl
 tied-stale (Csk s t) = refl
@@ -161,16 +161,16 @@ module _ (name : List ℕ) (calls : List Call) (entries : List Entry)
 
       at : (oc : Option Call) (oe : Option Entry) → slice_get calls n ≡ oc
           → slice_get entries n ≡ oe → AllTied before.set
-          → AllTied (stepped_by (suc n) before oc oe).set
+          → AllTied (world_behind (suc n) before oc oe).set
       at None oe ci ei h = h
       at (Some c) None ci ei h = h
       at (Some c) (Some e) ci ei h = by (is_accepted e.reply) refl
         where
           after : World
-          after = stepped_by (suc n) before (Some c) (Some e)
+          after = world_behind (suc n) before (Some c) (Some e)
 
           next : world_at name calls entries (suc n) ≡ after
-          next = λ i. stepped_by (suc n) before (ci i) (ei i)
+          next = λ i. world_behind (suc n) before (ci i) (ei i)
 
           step : keyset.Step before.set (call_of c) (reply_of e.reply) after.set
           step = subst

@@ -25,7 +25,7 @@ use Rattle.dnssec_run.specs.declared.call.Call.TheVariants as call
 use Rattle.dnssec_run.specs.declared.record.Entry.{Entry}
 use Rattle.dnssec_run.specs.Published.{World}
 use Rattle.dnssec_run.specs.Plain.{SetsNothing, sets_nothing}
-use Rattle.dnssec_run.specs.Record.{IsRun, call_of, reply_of, stepped_by, world_at}
+use Rattle.dnssec_run.specs.Record.{IsRun, call_of, reply_of, world_behind, world_at}
 use Rattle.dnssec_keyset.proofs.Flags.{SideOf, Keys, Zone, affects}
 use Rattle.dnssec_run.proofs.Chain.Tables.{half, read, reads-stamp, checked, Stamp, Visible}
 use Rattle.dnssec_run.proofs.Chain.Tables.{DsVisible, RrsigVisible}
@@ -73,13 +73,13 @@ module _ (name : List ℕ) (calls : List Call) (entries : List Entry) (run : IsR
       at : (oc : Option Call) (oe : Option Entry) → slice_get calls n ≡ oc
           → slice_get entries n ≡ oe
           → ((s : SideOf) → Order s (world_at name calls entries n).set)
-          → Order sd (stepped_by (suc n) (world_at name calls entries n) oc oe).set
+          → Order sd (world_behind (suc n) (world_at name calls entries n) oc oe).set
       at None oe ci ei before = before sd
       at (Some c) None ci ei before = before sd
       at (Some c) (Some e) ci ei before =
           let step_to : world_at name calls entries (suc n)
-          ≡ stepped_by (suc n) (world_at name calls entries n) (Some c) (Some e) =
-          λ i. stepped_by (suc n) (world_at name calls entries n) (ci i) (ei i) in
+          ≡ world_behind (suc n) (world_at name calls entries n) (Some c) (Some e) =
+          λ i. world_behind (suc n) (world_at name calls entries n) (ci i) (ei i) in
           order-step sd _ _ (call_of c) (reply_of e.reply)
           (nothing_set (world_at name calls entries n).set c (plain n c ci))
           (subst (λ (w : World). keyset.Step (world_at name calls entries n).set (call_of c)

@@ -6,7 +6,7 @@ use Rattle.dnssec_keyset.specs.KeySet.{KeySetParts}
 use Rattle.dnssec_keyset.specs.Step as keyset
 use Rattle.dnssec_run.specs.declared.record.Reply.{Reply}
 use Rattle.dnssec_run.specs.declared.record.Reply.TheVariants as reply
-use Rattle.dnssec_run.specs.Record.{IsRun, reply_of, is_accepted, mark_after, moment_of, call_of}
+use Rattle.dnssec_run.specs.Record.{IsRun, reply_of, is_accepted, mark_after, call_moment, call_of}
 use Rattle.dnssec_run.specs.Record.{world_at, added_by}
 use Rattle.std.specs.Prelude.{slice_get, if◌then◌else◌}
 use Rattle.dnssec_run.specs.WholeRolls.{IsMade}
@@ -40,7 +40,7 @@ pub record At (calls : List Call) (entries : List Entry) (n : ℕ) (c : Call) (e
   pub call_is : slice_get calls n ≡ Some c
   pub entry_is : slice_get entries n ≡ Some e
   pub mark_is : (position_at entries (suc n)).mark ≡ mark_after c e.reply
-  pub when : (position_at entries (suc n)).moment ≡ moment_of c
+  pub when : (position_at entries (suc n)).moment ≡ call_moment c
 
 -- the mark of an entry
 pub marked : (c : Call) (r : Reply) (b : Bool) → is_accepted r ≡ b

@@ -30,7 +30,7 @@ use Rattle.dnssec_keyset.proofs.Sides.{leaves-others}
 use Rattle.dnssec_keyset.proofs.Laws.{together-new, together-step}
 use Rattle.dnssec_run.proofs.Laws.{stays-sound, kept-at}
 use Rattle.dnssec_run.proofs.Chain.History.{time_grows, time_now, time_mono}
-use Rattle.dnssec_run.specs.Record.{IsRun, call_of, reply_of, world_at, moment_of}
+use Rattle.dnssec_run.specs.Record.{IsRun, call_of, reply_of, world_at, call_moment}
 use Rattle.dnssec_keyset.proofs.Flags.{Keys, Zone, fits}
 use Rattle.dnssec_run.proofs.Chain.Tables.{half, checked}
 use Rattle.dnssec_run.proofs.Chain.Tale.{waiting}
@@ -62,7 +62,7 @@ module _ (name : List ℕ) (calls : List Call) (entries : List Entry) (run : IsR
         → Data entries (set_at n) n r p
 
   -- no time before a call is later than its moment
-  time_before : (n : ℕ) (c : Call) (now : ℕ) → slice_get calls n ≡ Some c → moment_of c ≡ Some now
+  time_before : (n : ℕ) (c : Call) (now : ℕ) → slice_get calls n ≡ Some c → call_moment c ≡ Some now
       → (k : ℕ) → k ≤ n → k ≤ length entries → time_at entries k ≤ now
   unfolding time_at
   time_before n c now ci mo zero le within = omega arith
@@ -70,14 +70,14 @@ module _ (name : List ℕ) (calls : List Call) (entries : List Entry) (run : IsR
       let before = time_before n c now ci mo k (omega arith) (omega arith) in
       elim ((slice_get_cases entries k).1) [
         | inl e ↦ elim ((slice_get_cases calls k).1) [
-          | inl d ↦ by d.0 (at_position name calls entries run k d.0 e.0 d.2 e.2) (moment_of d.0)
+          | inl d ↦ by d.0 (at_position name calls entries run k d.0 e.0 d.2 e.2) (call_moment d.0)
               refl before
           | inr d ↦ absurd (omega (arith, d.0, run.count))
         ]
         | inr e ↦ absurd (omega (arith, e.0))
       ]
     where
-      by : {e : Entry} (d : Call) → At calls entries k d e → (o : Option ℕ) → moment_of d ≡ o
+      by : {e : Entry} (d : Call) → At calls entries k d e → (o : Option ℕ) → call_moment d ≡ o
           → time_at entries k ≤ now
           → max (time_at entries k) (unwrap_or (position_at entries (suc k)).moment 0) ≤ now
       by d a None m before = let none : unwrap_or (position_at entries (suc k)).moment 0 ≡ 0 =
@@ -90,7 +90,7 @@ module _ (name : List ℕ) (calls : List Call) (entries : List Entry) (run : IsR
 
   time_after : (n : ℕ) (c : Call) (e : Entry) (now : ℕ) → n ≤ length entries
       → At calls entries n c e
-      → moment_of c ≡ Some now → time_at entries (suc n) ≤ now
+      → call_moment c ≡ Some now → time_at entries (suc n) ≤ now
   unfolding time_at
   time_after n c e now within a m =
       let before = time_before n c now a.call_is m n (omega arith) within in
@@ -193,7 +193,7 @@ module _ (name : List ℕ) (calls : List Call) (entries : List Entry) (run : IsR
   whole : (n : ℕ) (r : RollType) (second : Bool) (ttl now : ℕ)
       → roll_now (set_at n) r ≡ Some (waiting second ttl) → n ≤ length entries
       → (a : Arms entries (set_at n) n r second) → (c : Call) → slice_get calls n ≡ Some c
-      → moment_of c ≡ Some now
+      → call_moment c ≡ Some now
       → (new : KeySetParts) (h : Half) (reply : keyset.Reply) → half second ≡ h
       → keyset.StepBy (keyset.wait_in_phase r (half second) (Some ttl) now (set_at n).keys)
       (set_at n) (keyset.Wait r h now) reply new
@@ -231,7 +231,7 @@ module _ (name : List ℕ) (calls : List Call) (entries : List Entry) (run : IsR
       ]
 
       mo : (h : Half) → (wait : IsMade calls entries n (keyset.Wait r h now))
-          → moment_of wait.made ≡ Some now
+          → call_moment wait.made ≡ Some now
       mo h wait = (plainly wait.made).moment_is ∙ ap moment wait.call_is
 
       step : (h : Half) → (wait : IsMade calls entries n (keyset.Wait r h now))

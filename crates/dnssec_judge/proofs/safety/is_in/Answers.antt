@@ -1,7 +1,7 @@
 -- The `contains` of a slice, read at what its keys are.
 use Rattle.std.proofs.Common.{sym, ◌∙◌}
 use Rattle.dnssec_run.specs.Published.{id_of}
-use Rattle.dnssec_judge.specs.Chained.{same_id}
+use Rattle.dnssec_judge.specs.Inner.Chained.{same_id}
 use Rattle.dnssec_judge.proofs.safety.is_in.Goals as goal
 use Rattle.dnssec_judge.proofs.Verdicts.Chains.{list_any-map}
 

@@ -4,8 +4,8 @@ use Rattle.std.specs.Option.{option_map}
 use Rattle.std.specs.BTreeMap as tree
 use Rattle.dnssec_keyset.proofs.After.{step-after}
 use Rattle.dnssec_keyset.specs.Step as keyset
-use Rattle.dnssec_run.specs.Record.{call_of, reply_of, stepped, mark_after, reference_added}
-use Rattle.dnssec_run.specs.Recorder.{Agrees, noted}
+use Rattle.dnssec_run.specs.Record.{call_of, reply_of, world_after, mark_after, reference_added}
+use Rattle.dnssec_run.specs.Recorder.{Agrees, positions_after}
 use Rattle.dnssec_run.proofs.Asked.Changes.{unasked}
 use Rattle.dnssec_run.proofs.Next.{agrees-accepted, agrees-refused, mark-accepted, mark-refused}
 use Rattle.dnssec_run.proofs.running.advance.Goals as goal
@@ -23,13 +23,14 @@ returns-clause-next c w agrees =
           (tree.get_by_text c.if-is_accepted.added) a.call r
           (sym c.is_accepted.ensures ∙ b.if-is_accepted.true) agrees step
           (λ q. ap (λ m. tree.get_by_text m q) b.added-is ∙ b.in_ok-note.ensures.ok q
-          ∙ ap (λ put. noted a.at put
+          ∙ ap (λ put. positions_after a.at put
           (option_map (λ (r : Bor (List ℕ)). r.now) c.deleted-taken.result)
           (tree.get_by_text a.added.now) q) c.in_ok-put.ensures.ok
-          ∙ ap (λ taken. noted a.at (reference_added (call_of a.call)) taken
+          ∙ ap (λ taken. positions_after a.at (reference_added (call_of a.call)) taken
           (tree.get_by_text a.added.now) q) c.deleted-taken.ensures)
       | else-is_accepted b ↦
-          subst (λ m. Agrees set (tree.get_by_text m) (stepped a.at w a.call r)) (sym b.added-is)
+          subst (λ m. Agrees set (tree.get_by_text m) (world_after a.at w a.call r))
+              (sym b.added-is)
           (agrees-refused a.at w a.keyset.now set (tree.get_by_text a.added.now) a.call r
           (sym c.is_accepted.ensures ∙ b.if-is_accepted.false) agrees step)
     ]
@@ -39,7 +40,7 @@ returns-clause-outcome c w agrees =
     let a = c.args in
     let r = c.make-reply.result in
     let then : Agrees c.make-reply.new.set (tree.get_by_text c.if-is_accepted.added)
-    (stepped a.at w a.call r) = returns-clause-next c w agrees in
+    (world_after a.at w a.call r) = returns-clause-next c w agrees in
     let mark : c.if-is_accepted.mark ≡ mark_after a.call r = elim c.if-is_accepted.branch [
       | then-is_accepted+in_ok-note b ↦ b.mark-is ∙ c.mark-mark.ensures
           ∙ mark-accepted a.call r (sym c.is_accepted.ensures ∙ b.if-is_accepted.true)
@@ -47,14 +48,14 @@ returns-clause-outcome c w agrees =
           ∙ mark-refused a.call r (sym c.is_accepted.ensures ∙ b.if-is_accepted.false)
     ] in
     let step = subst (λ s. keyset.Step s (call_of a.call) (reply_of r)
-    (stepped a.at w a.call r).set) agrees.same
+    (world_after a.at w a.call r).set) agrees.same
     (subst (keyset.Step a.keyset.now (call_of a.call) (reply_of r)) then.same
     c.make-reply.ensures) in
     record {
       step = step;
       mark = mark;
       moment = c.moment-moment.ensures;
-      kept = λ no. unasked a.at w (stepped a.at w a.call r) a.call r step refl
+      kept = λ no. unasked a.at w (world_after a.at w a.call r) a.call r step refl
           (λ t. let calm = c.may_publish-may_publish.ensures no t in
           (sym c.sets_flag-sets_flag.ensures ∙ calm.0, calm.1));
     }

@@ -1,7 +1,7 @@
 -- What the reader answers is what `from_str` promises of the text, from the empty text on.
 use Rattle.std.proofs.Common.{◌≡◌, ◌≢◌, ◌==◌, [], List, false, ℕ, sym, ap, subst, ◌∙◌, length}
 use Rattle.std.proofs.Common.{eqb-true}
-use Rattle.dnssec_base.specs.Draft.{IsRead}
+use Rattle.dnssec_base.specs.Inner.Draft.{IsRead}
 use Rattle.dnssec_base.proofs.Reading.{empty_text, read_spells}
 use Rattle.dnssec_base.proofs.name.Name+Vec+u8.from_str.Goals as goal
 

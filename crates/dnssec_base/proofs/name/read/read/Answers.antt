@@ -2,7 +2,7 @@
 use Rattle.std.proofs.Common.{◌≡◌, List, sym, ap, subst, ◌∙◌, length, arith, ℕ}
 use Rattle.std.proofs.lemmas.List.{nil_from_length}
 use Rattle.std.proofs.lemmas.Result.{err_from_is_err_and}
-use Rattle.dnssec_base.specs.Pieces.{IsPiece}
+use Rattle.dnssec_base.specs.Inner.Pieces.{IsPiece}
 use Rattle.dnssec_base.specs.declared.name.piece.Piece.{Piece}
 use Rattle.dnssec_base.specs.declared.name.piece.Piece.TheVariants.{Dot, Byte}
 use Rattle.dnssec_base.proofs.Reading.{reads_start, reads_dot, reads_byte, empty_label, over_limit}

@@ -4,16 +4,16 @@ use Rattle.std.specs.Option.{option_map}
 use Rattle.std.specs.Prelude.{if◌then◌else◌, max, unwrap_or}
 use Rattle.dnssec_run.specs.declared.record.Mark.{Mark}
 use Rattle.dnssec_run.specs.declared.record.Published.{Published}
-use Rattle.dnssec_run.specs.Safe.{SetKind, position_at, time_at, told, is_step, Ds, Dnskey}
+use Rattle.dnssec_run.specs.Safe.{SetKind, position_at, time_at, position_of, is_step, Ds, Dnskey}
 use Rattle.dnssec_run.specs.Safe.{ZoneSigners}
-use Rattle.dnssec_judge.specs.Window.{GoesOnWith, Held, held, held_in, over_by, step_of}
+use Rattle.dnssec_judge.specs.Inner.Window.{GoesOnWith, CachedSet, set_at, set_in, over_by, step_of}
 use Rattle.dnssec_judge.proofs.judging.Judge.follow.Goals as goal
 use Rattle.dnssec_judge.proofs.OneByOne.Followed.{window-follows, steps-follow, time-follows}
 
 -- what is handed in, read at once
 at-once : (kind : SetKind) (sets : Option (Bor Published))
-    → option_map (held_in kind) (option_map (λ (s : Bor Published). s.now) sets)
-    ≡ option_map (λ (s : Bor Published). held_in kind s.now) sets
+    → option_map (set_in kind) (option_map (λ (s : Bor Published). s.now) sets)
+    ≡ option_map (λ (s : Bor Published). set_in kind s.now) sets
 at-once kind None = refl
 at-once kind (Some s) = refl
 
@@ -28,10 +28,10 @@ returns-clause-follows c es e at next h =
     ≡ over_by kind (step_of j.steps) e.mark e.moment t =
     (λ kind t i. over_by kind (step_of j.steps) (sym next.has_mark i) (sym next.has_moment i) t) in
     let shows : (kind : SetKind)
-    → GoesOnWith (option_map (λ (s : Bor Published). held_in kind s.now) c.args.published)
-    (held kind (position_at es last)) (held kind (told e)) =
-    (λ kind. subst (λ (news : Option Held). GoesOnWith news (held kind (position_at es last))
-    (held kind (told e))) (at-once kind c.args.published) (next.publishes kind)) in
+    → GoesOnWith (option_map (λ (s : Bor Published). set_in kind s.now) c.args.published)
+    (set_at kind (position_at es last)) (set_at kind (position_of e)) =
+    (λ kind. subst (λ (news : Option CachedSet). GoesOnWith news (set_at kind (position_at es last))
+    (set_at kind (position_of e))) (at-once kind c.args.published) (next.publishes kind)) in
     record {
       steps = steps-follow es e j.steps c.after-self.result h.steps j.at at
           (λ roll. c.after-self.ensures roll

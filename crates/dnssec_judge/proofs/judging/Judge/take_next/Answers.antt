@@ -8,18 +8,18 @@ use Rattle.dnssec_run.specs.declared.record.Entry.{Entry}
 use Rattle.dnssec_run.specs.declared.record.Published.{Published}
 use Rattle.dnssec_run.specs.Safe.{SetKind, IsSafe}
 use Rattle.dnssec_judge.specs.declared.verdict.Broken.{Broken}
-use Rattle.dnssec_judge.specs.Search.{IsVerdictAt}
+use Rattle.dnssec_judge.specs.Inner.Search.{IsVerdictAt}
 use Rattle.dnssec_judge.specs.Verdict.{IsVerdict}
-use Rattle.dnssec_judge.specs.Window.{GoesOnWith, Held, found_ds, held_in}
+use Rattle.dnssec_judge.specs.Inner.Window.{GoesOnWith, CachedSet, first_ds, set_in}
 use Rattle.dnssec_judge.proofs.judging.Judge.take_next.Goals as goal
 use Rattle.dnssec_judge.proofs.OneByOne.Followed.{count, some-kept, none-found, is-none, not-none}
 use Rattle.dnssec_judge.proofs.OneByOne.Found.{judged}
 use Rattle.dnssec_judge.proofs.OneByOne.Same.{stays-safe}
 
 -- where no sets are handed in, what is held goes on
-nothing-new : (kind : SetKind) (sets : Option (Bor Published)) (before next : Held)
+nothing-new : (kind : SetKind) (sets : Option (Bor Published)) (before next : CachedSet)
     → is_some sets ≡ false
-    → GoesOnWith (option_map (held_in kind) (option_map (λ (s : Bor Published). s.now) sets))
+    → GoesOnWith (option_map (set_in kind) (option_map (λ (s : Bor Published). s.now) sets))
     before next → next ≡ before
 nothing-new kind None before next none goes = goes
 nothing-new kind (Some s) before next none goes = cc
@@ -53,7 +53,7 @@ returns-clause-ok c es e next h =
     let g = c.in_ok-follow.ensures.follows es e at next
     (record { steps = f.steps; time = f.time; ds = f.ds; dnskey = f.dnskey; zone = f.zone }) in
     let here : c.in-Some.at ≡ length more = at ∙ sym (count es e) in
-    let search = λ (n : ℕ). found_ds n new.ds.floor new.ds.spans.items
+    let search = λ (n : ℕ). first_ds n new.ds.floor new.ds.spans.items
     new.dnskey.floor new.dnskey.spans.items new.zone.floor new.zone.spans.items in
     let was : IsSafe es (length es) =
     subst (λ (o : Option Broken). IsVerdict es o) none h.verdict (length es) (omega arith) in

@@ -2,7 +2,7 @@
 use Rattle.std.proofs.Common.{◌≡◌, ◌∙◌, ap, arith, List, rules, tests}
 use Rattle.std.specs.Prelude.{not}
 use Rattle.dnssec_judge.specs.declared.window.Due.{Due}
-use Rattle.dnssec_judge.specs.Window.{floor_with}
+use Rattle.dnssec_judge.specs.Inner.Window.{floor_with}
 use Rattle.dnssec_judge.proofs.window.Window.retire.Goals as goal
 use Rattle.dnssec_judge.proofs.OneByOne.Windows.{floor-take, floor-all, is_over_at, waiting}
 use Rattle.dnssec_judge.proofs.OneByOne.Windows.{floor-retired}

@@ -4,14 +4,15 @@ use Rattle.std.proofs.Common.{None, Some, subst, Bor}
 use Rattle.std.specs.Option.{option_map}
 use Rattle.dnssec_run.specs.declared.record.Published.{Published}
 use Rattle.dnssec_judge.specs.declared.window.Span.{Span}
-use Rattle.dnssec_judge.specs.Search.{kind_of}
-use Rattle.dnssec_judge.specs.Window.{GoesOnWith, HasLast, Held, IsNoted, IsShown, held_in}
+use Rattle.dnssec_judge.specs.Inner.Search.{kind_of}
+use Rattle.dnssec_judge.specs.Inner.Window.{GoesOnWith, HasLast, CachedSet, IsNoted, IsShown}
+use Rattle.dnssec_judge.specs.Inner.Window.{set_in}
 use Rattle.dnssec_judge.proofs.window.Window.take.Goals as goal
 use Rattle.dnssec_judge.proofs.OneByOne.More.{last-of-tiles, tiles-shown, begins-shown}
 use Rattle.dnssec_judge.proofs.OneByOne.Windows.{floor-le}
 
 -- what goes on with a set has shown it
-noted-shown : (news : Option Held) (before next : Held) (n : ℕ) (old new : List Span)
+noted-shown : (news : Option CachedSet) (before next : CachedSet) (n : ℕ) (old new : List Span)
     → HasLast before old → GoesOnWith news before next → IsNoted news n old new
     → IsShown next n old new
 noted-shown None before next n old new last is noted =
@@ -22,7 +23,7 @@ noted-shown (Some set) before next n old new last is noted =
 pub returns-clause-spans : goal.returns-clause-spans
 returns-clause-spans c before after n at tiles begins kept is =
     let w = c.args.self.now in
-    let news = option_map (λ (s : Bor Published). held_in (kind_of c.args.kind) s.now)
+    let news = option_map (λ (s : Bor Published). set_in (kind_of c.args.kind) s.now)
     c.args.published in
     let new = c.go_on.new.self.spans.items in
     let same : c.retire.new.self.spans.items ≡ w.spans.items =

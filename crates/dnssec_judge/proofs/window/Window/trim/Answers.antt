@@ -1,7 +1,7 @@
 -- A span that ends below the floor may go.
 use Rattle.std.proofs.Common.{sym, ◌∙◌, List, subst}
 use Rattle.dnssec_judge.specs.declared.window.Span.{Span}
-use Rattle.dnssec_judge.specs.Window.{Tiles, Begins}
+use Rattle.dnssec_judge.specs.Inner.Window.{Tiles, Begins}
 use Rattle.dnssec_judge.proofs.window.Window.trim.Goals as goal
 use Rattle.dnssec_judge.proofs.OneByOne.Windows.{drop-first, goes-on}
 

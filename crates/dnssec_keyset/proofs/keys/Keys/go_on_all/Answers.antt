@@ -4,7 +4,7 @@ use Rattle.std.specs.Prelude.{nat_eq}
 use Rattle.std.specs.HashSet.{contains}
 use Rattle.std.proofs.lemmas.Map.Made.{map_same_pairs}
 use Rattle.dnssec_key.specs.RollTable.{which, after_wait}
-use Rattle.dnssec_keyset.specs.KeySet.{keys_shown}
+use Rattle.dnssec_keyset.specs.KeySet.{keys_in_map}
 use Rattle.dnssec_keyset.proofs.Shown.{get-walked}
 use Rattle.dnssec_keyset.proofs.Tags.{TagsAgree-mapped}
 use Rattle.dnssec_keyset.proofs.keys.Keys.go_on_all.Goals as goal
@@ -21,7 +21,7 @@ invariant_of-self c =
     let n = c.retain.new.self in
     let step = after_wait c.args.roll (which c.args.half) c.args.now in
     let e = map_same_pairs _ step _ (λ k v b w f t. search rules) _ _ c.retain.ensures.filtered in (
-      TagsAgree-mapped (contains nat_eq i.tags) (keys_shown i.map) (keys_shown n) (λ q. step)
+      TagsAgree-mapped (contains nat_eq i.tags) (keys_in_map i.map) (keys_in_map n) (λ q. step)
           (λ q k. refl) (get-walked step i.map n _ refl e) c.self.invariant.0,
       c.recount-self-inside.ensures,
     )

@@ -2,7 +2,7 @@
 use Rattle.std.proofs.Common.{rules}
 use Rattle.std.specs.Prelude.{nat_eq}
 use Rattle.std.specs.HashSet.{contains}
-use Rattle.dnssec_keyset.specs.KeySet.{keys_shown}
+use Rattle.dnssec_keyset.specs.KeySet.{keys_in_map}
 use Rattle.dnssec_keyset.proofs.Counted.Kept.{counts-none}
 use Rattle.dnssec_keyset.proofs.Shown.{shown}
 use Rattle.dnssec_keyset.proofs.Tags.{TagsAgree-none}
@@ -10,7 +10,7 @@ use Rattle.dnssec_keyset.proofs.keys.Keys.new.Goals as goal
 
 pub invariant_of-result : goal.invariant_of-result
 invariant_of-result c = (
-  TagsAgree-none (contains nat_eq c.new-2.result) (keys_shown c.new.result) (λ t. search rules)
+  TagsAgree-none (contains nat_eq c.new-2.result) (keys_in_map c.new.result) (λ t. search rules)
       (λ q. search (rules, shown)),
-  rw c.none.ensures (counts-none (keys_shown c.new.result) (λ q. search (rules, shown))),
+  rw c.none.ensures (counts-none (keys_in_map c.new.result) (λ q. search (rules, shown))),
 )

@@ -6,11 +6,11 @@ use Rattle.std.specs.Str.{bytes_eq}
 use Rattle.std.specs.Option.{option_map}
 use Rattle.std.specs.FinMap as map
 use Rattle.dnssec_key.specs.Key.{KeyParts}
-use Rattle.dnssec_key.specs.Setters.{meant, set_by}
+use Rattle.dnssec_key.specs.Setters.{setting_of, set_by}
 use Rattle.dnssec_keyset.specs.Inner.Counts.{CountsAgree, moves_counts, with_key}
 use Rattle.dnssec_keyset.specs.Inner.Counts.{without_key}
 use Rattle.dnssec_keyset.specs.Inner.Tags.{TagsAgree}
-use Rattle.dnssec_keyset.specs.KeySet.{keys_shown}
+use Rattle.dnssec_keyset.specs.KeySet.{keys_in_map}
 use Rattle.dnssec_keyset.proofs.Counted.Kept.{counts-set, fits-shown}
 use Rattle.dnssec_keyset.proofs.Shown.{same-written, shown}
 use Rattle.dnssec_keyset.proofs.Tags.{TagsAgree-mapped, kept_at, kept_set}
@@ -21,8 +21,8 @@ invariant_of-self-then-not-suits c =
     let i = c.self.inside in
     let r = c.args.pubref.now in
     let k = c.in-Some.key.now in
-    let found : map.get (keys_shown i.map) r ≡ Some k = search (rules, shown) in
-    let same = same-written (keys_shown i.map) (keys_shown (c.get_mut.follows.lender k)) r k found
+    let found : map.get (keys_in_map i.map) r ≡ Some k = search (rules, shown) in
+    let same = same-written (keys_in_map i.map) (keys_in_map (c.get_mut.follows.lender k)) r k found
     (λ q. search (rules, shown)) in
     subst (λ keys. TagsAgree (contains nat_eq i.tags) keys × CountsAgree i.counts keys) (sym same)
     c.self.invariant
@@ -32,21 +32,21 @@ returns-then-not-suits-clause-err c =
     let i = c.self.inside in
     let r = c.args.pubref.now in
     let k = c.in-Some.key.now in
-    let found : map.get (keys_shown i.map) r ≡ Some k = search (rules, shown) in
-    same-written (keys_shown i.map) (keys_shown (c.get_mut.follows.lender k)) r k found
+    let found : map.get (keys_in_map i.map) r ≡ Some k = search (rules, shown) in
+    same-written (keys_in_map i.map) (keys_in_map (c.get_mut.follows.lender k)) r k found
     (λ q. search (rules, shown)) ∙ c.self.view_is
 
 pub invariant_of-self-2 : goal.invariant_of-self-2
 invariant_of-self-2 c =
     let i = c.self.inside in
     let r = c.args.pubref.now in
-    let setting = meant c.args.setting in
+    let setting = setting_of c.args.setting in
     let f = set_by setting in
     let n = c.get_mut.follows.lender c.set.new.self in
     let k = c.in-Some.key.now in
-    let found : map.get (keys_shown i.map) r ≡ Some k = search (rules, shown) in
-    let is : (q : List ℕ) → map.get (keys_shown n) q
-    ≡ option_map (λ k. if bytes_eq r q then f k else k) (map.get (keys_shown i.map) q) =
+    let found : map.get (keys_in_map i.map) r ≡ Some k = search (rules, shown) in
+    let is : (q : List ℕ) → map.get (keys_in_map n) q
+    ≡ option_map (λ k. if bytes_eq r q then f k else k) (map.get (keys_in_map i.map) q) =
     λ q. search (rules, shown) in
     let after : c.keytype-after.result ≡ (f k).keytype = c.keytype-after.ensures
     ∙ ap (λ (x : KeyParts). x.keytype) c.set.ensures in
@@ -55,10 +55,10 @@ invariant_of-self-2 c =
     c.follow.ensures
     ∙ (λ j. if moves_counts setting
     then with_key (after j) (without_key (c.keytype-before.ensures j) i.counts) else i.counts) in (
-      TagsAgree-mapped (contains nat_eq i.tags) (keys_shown i.map) (keys_shown n)
+      TagsAgree-mapped (contains nat_eq i.tags) (keys_in_map i.map) (keys_in_map n)
           (λ q k. if bytes_eq r q then f k else k)
           (λ q k. kept_at f (kept_set setting) _ k) is c.self.invariant.0,
-      subst (λ counts. CountsAgree counts (keys_shown n)) (sym counts)
-          (counts-set setting i.counts (keys_shown i.map) (keys_shown n) r k found is
+      subst (λ counts. CountsAgree counts (keys_in_map n)) (sym counts)
+          (counts-set setting i.counts (keys_in_map i.map) (keys_in_map n) r k found is
           (fits-shown n c.is_sound.ensures.unique c.is_sound.ensures.fits) c.self.invariant.1),
     )

@@ -2,7 +2,7 @@ use Rattle.std.proofs.Common.{◌≡◌, ℕ, List, take, map, string_bytes}
 use Rattle.std.specs.Prelude.{if◌then◌else◌}
 use Rattle.std.specs.Option.{option_map}
 use Rattle.std.specs.FinMap.{get}
-use Rattle.dnssec_key.specs.RollTable.{unmarked_new}
+use Rattle.dnssec_key.specs.RollTable.{new_at_early_end}
 use Rattle.dnssec_keyset.specs.Start.{is_listed}
 use Rattle.dnssec_keyset.proofs.keys.Keys.unmark_new.Given as goal
 
@@ -10,4 +10,4 @@ use Rattle.dnssec_keyset.proofs.keys.Keys.unmark_new.Given as goal
 abbrev pub invariant-loop-reference : goal.invariant-loop-reference
 invariant-loop-reference l = (q : List ℕ) → get l.self q
     ≡ option_map (λ k. if is_listed (map string_bytes (take l.reference-index l.references)) q
-    then unmarked_new l.roll k else k) (get l.initial.self q)
+    then new_at_early_end l.roll k else k) (get l.initial.self q)

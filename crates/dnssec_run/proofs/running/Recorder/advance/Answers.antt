@@ -4,7 +4,7 @@ use Rattle.std.proofs.Common.{length-append, Bool, true, false}
 use Rattle.std.specs.BTreeMap as tree
 use Rattle.dnssec_run.specs.declared.record.Published.{Published}
 use Rattle.dnssec_run.specs.Published.{IsPublished, World}
-use Rattle.dnssec_run.specs.Record.{IsEntry, world_at, stepped}
+use Rattle.dnssec_run.specs.Record.{IsEntry, world_at, world_after}
 use Rattle.dnssec_run.specs.Recorder.{Agrees, IsOutcome}
 use Rattle.dnssec_run.proofs.Grow.{run_more, world_more}
 use Rattle.dnssec_run.proofs.Next.{entry-of}
@@ -26,9 +26,9 @@ returns-clause-ok c name calls entries e tells same so =
     let here : c.in-Some.at ≡ suc (length calls) =
     omega (arith, so.at, so.run.count, c.in-Some.ensures) in
     let before = world_at name calls entries (length calls) in
-    let after : World = stepped (suc (length calls)) before x e.reply in
-    let reached : stepped c.in-Some.at before x o.reply ≡ after =
-    (λ i. stepped (here i) before x (sym tells.reply i)) in
+    let after : World = world_after (suc (length calls)) before x e.reply in
+    let reached : world_after c.in-Some.at before x o.reply ≡ after =
+    (λ i. world_after (here i) before x (sym tells.reply i)) in
     let agrees : Agrees c.advance.new.keyset (tree.get_by_text c.advance.new.added) after =
     subst (Agrees c.advance.new.keyset (tree.get_by_text c.advance.new.added)) reached
     (c.in_ok-outcome.ensures.next before so.agrees) in

@@ -25,6 +25,6 @@ is_none [] = true
 is_none (k ∷ ks) = false
 
 -- there is no DS, or both hold
-abbrev pub chained : Position → Position → Position → Bool
-chained p q z =
+abbrev pub has_chain : Position → Position → Position → Bool
+has_chain p q z =
     is_none p.ds || (trusts_keys p.ds q.dnskey q.signers && trusts_zone q.dnskey z.zone)

@@ -9,7 +9,7 @@ use Rattle.dnssec_judge.specs.declared.auditing.Floors.{Floors}
 use Rattle.dnssec_judge.specs.declared.safety.Kind.{Kind}
 use Rattle.dnssec_judge.specs.declared.safety.Kind.TheVariants as code
 use Rattle.dnssec_judge.specs.declared.verdict.Broken.{Broken}
-use Rattle.dnssec_judge.specs.Chained.{chained}
+use Rattle.dnssec_judge.specs.Inner.Chained.{has_chain}
 use Rattle.dnssec_judge.specs.Verdict.{ComesBefore, IsBroken}
 
 -- the kind that the code means
@@ -57,7 +57,7 @@ Finds P from to (Some n) = IsFirst P from to n
 -- the sets of these positions have a chain
 abbrev pub IsChained : List Entry → ℕ → ℕ → ℕ → Type 0
 IsChained entries p q z =
-    chained (position_at entries p) (position_at entries q) (position_at entries z) ≡ true
+    has_chain (position_at entries p) (position_at entries q) (position_at entries z) ≡ true
 
 -- with all zone signers from the floor on
 abbrev pub ZonesHold : List Entry → ℕ → ℕ → ℕ → ℕ → Type 0

@@ -19,8 +19,8 @@ use Rattle.dnssec_judge.specs.declared.verdict.Broken.{Broken}
 use Rattle.dnssec_judge.specs.declared.window.Due.{Due}
 use Rattle.dnssec_judge.specs.declared.window.Span.{Span}
 use Rattle.dnssec_judge.specs.declared.window.Window.{Window}
-use Rattle.dnssec_judge.specs.Chained.{is_none, trusts_keys, trusts_zone}
-use Rattle.dnssec_judge.specs.Floor.{due_of, floor_up_to, base_once_over}
+use Rattle.dnssec_judge.specs.Inner.Chained.{is_none, trusts_keys, trusts_zone}
+use Rattle.dnssec_judge.specs.Inner.Floor.{due_of, floor_up_to, base_once_over}
 
 -- ---- reports
 
@@ -55,30 +55,30 @@ floor_with floor (d ∷ ds) time = max (floor_with floor ds time) (over d time)
 -- ---- spans
 
 -- what caches hold as one: a set of keys, and of a DNSKEY set its signers too
-abbrev pub Held : Type 0
-Held = List Id × List Id
+abbrev pub CachedSet : Type 0
+CachedSet = List Id × List Id
 
-abbrev pub held : SetKind → Position → Held
-held Ds p = (p.ds, [])
-held Dnskey p = (p.dnskey, p.signers)
-held ZoneSigners p = (p.zone, [])
+abbrev pub set_at : SetKind → Position → CachedSet
+set_at Ds p = (p.ds, [])
+set_at Dnskey p = (p.dnskey, p.signers)
+set_at ZoneSigners p = (p.zone, [])
 
 -- the same of what is published
-abbrev pub held_in : SetKind → Published → Held
-held_in Ds sets = (map id_of sets.ds.items, [])
-held_in Dnskey sets = (map id_of sets.dnskey.items, map id_of sets.dnskey_signers.items)
-held_in ZoneSigners sets = (map id_of sets.zone_signers.items, [])
+abbrev pub set_in : SetKind → Published → CachedSet
+set_in Ds sets = (map id_of sets.ds.items, [])
+set_in Dnskey sets = (map id_of sets.dnskey.items, map id_of sets.dnskey_signers.items)
+set_in ZoneSigners sets = (map id_of sets.zone_signers.items, [])
 
--- what is held next is what is handed in, or what was held before
-abbrev pub GoesOnWith : Option Held → Held → Held → Type 0
+-- what is set_at next is what is handed in, or what was set_at before
+abbrev pub GoesOnWith : Option CachedSet → CachedSet → CachedSet → Type 0
 GoesOnWith None before next = next ≡ before
 GoesOnWith (Some set) before next = next ≡ set
 
-abbrev pub set_of_span : Span → Held
+abbrev pub set_of_span : Span → CachedSet
 set_of_span s = (map id_of s.keys.items, map id_of s.signers.items)
 
 -- the spans are of all positions from the first one's up to n
-abbrev pub Tiles : (ℕ → Held) → ℕ → List Span → Type 0
+abbrev pub Tiles : (ℕ → CachedSet) → ℕ → List Span → Type 0
 Tiles at n [] = ⊥
 Tiles at n (s ∷ []) = (s.from ≤ n) × ((q : ℕ) → s.from ≤ q → q ≤ n → set_of_span s ≡ at q)
 Tiles at n (s ∷ t ∷ ss) = (s.from < t.from) ×
@@ -95,18 +95,18 @@ GoesOnAbove floor (s ∷ t ∷ ss) = floor < t.from
 GoesOnAbove floor ss = Unit {0}
 
 -- the last has this set
-abbrev pub HasLast : Held → List Span → Type 0
+abbrev pub HasLast : CachedSet → List Span → Type 0
 HasLast set [] = ⊥
 HasLast set (s ∷ []) = set_of_span s ≡ set
 HasLast set (s ∷ t ∷ ss) = HasLast set (t ∷ ss)
 
 -- the set is published at a position too: the last span has it, or a new one
-abbrev pub IsShown : Held → ℕ → List Span → List Span → Type 0
+abbrev pub IsShown : CachedSet → ℕ → List Span → List Span → Type 0
 IsShown set at old new = ((new ≡ old) × HasLast set old) ⊎
     ((s : Span) × (new ≡ old ++ s ∷ []) × (s.from ≡ at) × (set_of_span s ≡ set))
 
 -- the same where a set is handed in, and else nothing
-abbrev pub IsNoted : Option Held → ℕ → List Span → List Span → Type 0
+abbrev pub IsNoted : Option CachedSet → ℕ → List Span → List Span → Type 0
 IsNoted None at old new = new ≡ old
 IsNoted (Some set) at old new = IsShown set at old new
 
@@ -117,11 +117,11 @@ ends_below floor ss = false
 
 -- ---- searches
 
-abbrev pub chained_sets : Held → Held → Held → Bool
-chained_sets p q z = is_none p.0 || (trusts_keys p.0 q.0 q.1 && trusts_zone q.0 z.0)
+abbrev pub sets_have_chain : CachedSet → CachedSet → CachedSet → Bool
+sets_have_chain p q z = is_none p.0 || (trusts_keys p.0 q.0 q.1 && trusts_zone q.0 z.0)
 
 -- the first position from the floor on whose set fails the test
-abbrev pub first_failing : (Held → Bool) → ℕ → List Span → Option ℕ
+abbrev pub first_failing : (CachedSet → Bool) → ℕ → List Span → Option ℕ
 first_failing test floor [] = None
 first_failing test floor (s ∷ ss) =
     if test (set_of_span s) then first_failing test floor ss else Some (max floor s.from)
@@ -131,22 +131,22 @@ with_zone at p q None rest = rest
 with_zone at p q (Some z) rest = Some (record { at = at; ds = p; dnskey = q; zone = z })
 
 -- the first DNSKEY set, with zone signers, that leaves the DS set of p without a chain
-abbrev pub found_keys : ℕ → ℕ → Held → ℕ → List Span → ℕ → List Span → Option Broken
-found_keys at p ds qf [] zf zs = None
-found_keys at p ds qf (s ∷ ss) zf zs =
-    with_zone at p (max qf s.from) (first_failing (chained_sets ds (set_of_span s)) zf zs)
-    (found_keys at p ds qf ss zf zs)
+abbrev pub first_keys : ℕ → ℕ → CachedSet → ℕ → List Span → ℕ → List Span → Option Broken
+first_keys at p ds qf [] zf zs = None
+first_keys at p ds qf (s ∷ ss) zf zs =
+    with_zone at p (max qf s.from) (first_failing (sets_have_chain ds (set_of_span s)) zf zs)
+    (first_keys at p ds qf ss zf zs)
 
 abbrev pub or_else : Option Broken → Option Broken → Option Broken
 or_else None rest = rest
 or_else (Some b) rest = Some b
 
 -- the same with the first DS set
-abbrev pub found_ds : ℕ → ℕ → List Span → ℕ → List Span → ℕ → List Span → Option Broken
-found_ds at pf [] qf qs zf zs = None
-found_ds at pf (s ∷ ss) qf qs zf zs =
-    or_else (found_keys at (max pf s.from) (set_of_span s) qf qs zf zs)
-    (found_ds at pf ss qf qs zf zs)
+abbrev pub first_ds : ℕ → ℕ → List Span → ℕ → List Span → ℕ → List Span → Option Broken
+first_ds at pf [] qf qs zf zs = None
+first_ds at pf (s ∷ ss) qf qs zf zs =
+    or_else (first_keys at (max pf s.from) (set_of_span s) qf qs zf zs)
+    (first_ds at pf ss qf qs zf zs)
 
 -- ---- what is known
 
@@ -155,6 +155,6 @@ pub record Watches (entries : List Entry) (kind : SetKind) (n : ℕ) (w : Window
   pub floor : w.floor ≡ floor_up_to entries kind (time_at entries n) n
   pub dues : (time : ℕ) → time_at entries n ≤ time →
       floor_with w.floor w.dues.items time ≡ floor_up_to entries kind time n
-  pub spans : Tiles (λ q. held kind (position_at entries q)) n w.spans.items
+  pub spans : Tiles (λ q. set_at kind (position_at entries q)) n w.spans.items
   pub begins : Begins w.floor w.spans.items
   pub goes_on : GoesOnAbove w.floor w.spans.items

@@ -2,7 +2,7 @@
 -- clause does.
 use Rattle.std.specs.Prelude.{◌≡◌, ◌⊎◌, ℕ, ◌+◌, ◌-◌, ◌<◌, ◌≤◌}
 use Rattle.std.specs.Prelude.{List, [], ◌++◌, take, drop, slice_index, length}
-use Rattle.dnssec_base.specs.DraftName.{DraftName}
+use Rattle.dnssec_base.specs.Inner.DraftName.{DraftName}
 use Rattle.dnssec_base.specs.NameText.{Place, HasNoFault, ended}
 use Rattle.dnssec_base.specs.WireName.{IsWireName, wire_label}
 use Rattle.dnssec_base.specs.declared.name.draft.Draft.TheInside.{Inside}

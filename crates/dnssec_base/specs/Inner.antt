@@ -1,0 +1,4 @@
+-- What only the inside of the crate needs: no contract of a public call names it.
+pub mod Draft
+pub mod DraftName
+pub mod Pieces
