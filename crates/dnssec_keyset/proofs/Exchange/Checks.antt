@@ -5,13 +5,12 @@ use Rattle.std.specs.Prelude.{Option, ◌||◌, ◌&&◌, if◌then◌else◌, n
 use Rattle.std.specs.Option.{option_map, option_map_or, option_or}
 use Rattle.std.specs.FinMap.{get}
 use Rattle.dnssec_key.specs.declared.kind.KeyType.{KeyType}
-use Rattle.dnssec_key.specs.declared.kind.KeyType.TheVariants.{Ksk, Zsk, Csk, Include}
 use Rattle.dnssec_keyset.specs.Start.{PresentKsk, KskAtParent, PresentZsk, PresentKskRole}
 use Rattle.dnssec_keyset.specs.Start.{PresentZskRole, KskSide, ZskSide, BothSides, algorithm_fault}
 use Rattle.dnssec_keyset.specs.Start.{algorithms_within, has_algorithm, is_listed, lists_kind}
 use Rattle.dnssec_keyset.specs.Start.{may_change_algorithms, new_entry_fault, new_fault}
 use Rattle.dnssec_keyset.specs.Start.{old_entry_fault, old_fault, serves_as_kept, serves_as_new}
-use Rattle.dnssec_keyset.specs.Start.{side_of, some_listed}
+use Rattle.dnssec_keyset.specs.Start.{side_of, some_listed, Want, Side}
 use Rattle.dnssec_key.specs.declared.roll.RollType.{RollType}
 use Rattle.dnssec_key.specs.declared.error.Error.TheVariants.{WrongKeyType, WrongKeyState}
 use Rattle.dnssec_key.specs.declared.error.Error.TheVariants.{AlgorithmSetsMismatch}
@@ -24,7 +23,8 @@ use Rattle.dnssec_keyset.proofs.Quantified.{some_key-found, some_key-none, some_
 use Rattle.dnssec_keyset.proofs.Quantified.{some_entry-none}
 use Rattle.dnssec_keyset.proofs.Sides.{checks-others}
 use Rattle.dnssec_keyset.proofs.Exchange.Seen.{Alike, SameFor, alike-found, same-sym}
-use Rattle.std.proofs.lemmas.Bool.{cases_Bool}
+use Rattle.std.proofs.lemmas.Bool.{cases_Bool, and_parts, not-true}
+use Rattle.dnssec_keyset.proofs.Tests.{each_key, each_key-at, or_second}
 
 -- ---- a roll's call is told the same where the roll sees the same
 
@@ -35,77 +35,34 @@ left-others roll half ttl now k e =
     ap (λ (x : Bool). if x then option_map (left_since ttl now) (stamp_read roll half k) else Some
     0) (checks-others roll half k.keytype e)
 
-pub new-PresentKsk : (t : KeyType) → lists_kind KskSide t ≡ false → serves_as_new PresentKsk t
-    ≡ false
-new-PresentKsk (Ksk s) e = cc
-new-PresentKsk (Zsk s) e = refl
-new-PresentKsk (Csk s t) e = refl
-new-PresentKsk (Include s) e = refl
+-- the kinds of keys that serve
+abbrev pub serving_side : Want → Side
+serving_side PresentKsk = KskSide
+serving_side KskAtParent = KskSide
+serving_side PresentZsk = ZskSide
+serving_side PresentKskRole = BothSides
+serving_side PresentZskRole = BothSides
 
-pub kept-PresentKsk : (t : KeyType) → lists_kind KskSide t ≡ false → serves_as_kept PresentKsk t
-    ≡ false
-kept-PresentKsk (Ksk s) e = cc
-kept-PresentKsk (Zsk s) e = refl
-kept-PresentKsk (Csk s t) e = refl
-kept-PresentKsk (Include s) e = refl
+serves_table : Want → KeyType → Bool
+serves_table want k = lists_kind (serving_side want) k
+    || (not (serves_as_new want k) && not (serves_as_kept want k))
 
-pub new-KskAtParent : (t : KeyType) → lists_kind KskSide t ≡ false → serves_as_new KskAtParent t
-    ≡ false
-new-KskAtParent (Ksk s) e = cc
-new-KskAtParent (Zsk s) e = refl
-new-KskAtParent (Csk s t) e = refl
-new-KskAtParent (Include s) e = refl
+serves_all : (want : Want) (a b : Bool) → each_key a b (serves_table want) ≡ true
+unfolding serves_table
+serves_all PresentKsk a b = refl
+serves_all KskAtParent a b = refl
+serves_all PresentZsk a b = refl
+serves_all PresentKskRole a b = refl
+serves_all PresentZskRole a b = refl
 
-pub kept-KskAtParent : (t : KeyType) → lists_kind KskSide t ≡ false → serves_as_kept KskAtParent t
-    ≡ false
-kept-KskAtParent (Ksk s) e = cc
-kept-KskAtParent (Zsk s) e = refl
-kept-KskAtParent (Csk s t) e = refl
-kept-KskAtParent (Include s) e = refl
-
-pub new-PresentZsk : (t : KeyType) → lists_kind ZskSide t ≡ false → serves_as_new PresentZsk t
-    ≡ false
-new-PresentZsk (Ksk s) e = refl
-new-PresentZsk (Zsk s) e = cc
-new-PresentZsk (Csk s t) e = refl
-new-PresentZsk (Include s) e = refl
-
-pub kept-PresentZsk : (t : KeyType) → lists_kind ZskSide t ≡ false → serves_as_kept PresentZsk t
-    ≡ false
-kept-PresentZsk (Ksk s) e = refl
-kept-PresentZsk (Zsk s) e = cc
-kept-PresentZsk (Csk s t) e = refl
-kept-PresentZsk (Include s) e = refl
-
-pub new-PresentKskRole : (t : KeyType) → lists_kind BothSides t ≡ false
-    → serves_as_new PresentKskRole t
-    ≡ false
-new-PresentKskRole (Ksk s) e = cc
-new-PresentKskRole (Zsk s) e = cc
-new-PresentKskRole (Csk s t) e = cc
-new-PresentKskRole (Include s) e = refl
-
-pub kept-PresentKskRole : (t : KeyType) → lists_kind BothSides t ≡ false
-    → serves_as_kept PresentKskRole t ≡ false
-kept-PresentKskRole (Ksk s) e = cc
-kept-PresentKskRole (Zsk s) e = cc
-kept-PresentKskRole (Csk s t) e = cc
-kept-PresentKskRole (Include s) e = refl
-
-pub new-PresentZskRole : (t : KeyType) → lists_kind BothSides t ≡ false
-    → serves_as_new PresentZskRole t
-    ≡ false
-new-PresentZskRole (Ksk s) e = cc
-new-PresentZskRole (Zsk s) e = cc
-new-PresentZskRole (Csk s t) e = cc
-new-PresentZskRole (Include s) e = refl
-
-pub kept-PresentZskRole : (t : KeyType) → lists_kind BothSides t ≡ false
-    → serves_as_kept PresentZskRole t ≡ false
-kept-PresentZskRole (Ksk s) e = cc
-kept-PresentZskRole (Zsk s) e = cc
-kept-PresentZskRole (Csk s t) e = cc
-kept-PresentZskRole (Include s) e = refl
+-- a key of another kind doesn't serve
+pub serves-others : (want : Want) (t : KeyType) → lists_kind (serving_side want) t ≡ false
+    → (serves_as_new want t ≡ false) × (serves_as_kept want t ≡ false)
+unfolding serves_table
+serves-others want t e =
+    let x = and_parts _ _
+        (or_second _ _ (each_key-at (serves_table want) (serves_all want) t) e) in
+    (not-true _ x.0, not-true _ x.1)
 
 module _ (b : RollType) where
   old-entry : (o p : Option KeyParts) → Alike b o p → old_entry_fault b o ≡ old_entry_fault b p

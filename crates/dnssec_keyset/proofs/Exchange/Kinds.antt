@@ -1,21 +1,18 @@
 -- The kind of a key as a number, which no step changes; and which kinds rolls that go together have
 -- to themselves.
-use Rattle.std.proofs.Common.{◌≡◌, ℕ, Bool, true, false, refl, inl, inr, sym, ap, ◌∙◌}
-use Rattle.std.specs.Prelude.{if◌then◌else◌, nat_eq, nat_lt}
+use Rattle.std.proofs.Common.{◌≡◌, ℕ, Bool, true, false, refl, inl, inr, sym, ap, ◌∙◌, ◌&&◌}
+use Rattle.std.specs.Prelude.{nat_eq, nat_lt}
 use Rattle.dnssec_key.specs.declared.kind.KeyType.{KeyType}
 use Rattle.dnssec_key.specs.declared.kind.KeyType.TheVariants.{Ksk, Zsk, Csk, Include}
 use Rattle.dnssec_keyset.specs.Start.{Side, KskSide, ZskSide, BothSides, are_apart, lists_kind}
 use Rattle.dnssec_keyset.specs.Start.{side_of, together}
 use Rattle.dnssec_key.specs.declared.roll.RollType.{RollType}
-use Rattle.dnssec_key.specs.declared.roll.RollType.TheVariants.{KskRoll, KskDoubleDsRoll, ZskRoll}
-use Rattle.dnssec_key.specs.declared.roll.RollType.TheVariants.{ZskDoubleSignatureRoll, CskRoll}
-use Rattle.dnssec_key.specs.declared.roll.RollType.TheVariants.{AlgorithmRoll}
-use Rattle.dnssec_key.specs.State.{Flags, old_present}
+use Rattle.dnssec_key.specs.State.{Flags}
 use Rattle.dnssec_keyset.specs.KeySet.{same_roll}
-use Rattle.dnssec_key.specs.RollTable.{Half, First, Second, column, half_of, at_ksk, at_zsk}
-use Rattle.dnssec_key.specs.RollTable.{at_roles, at_whole_keys, leaves_dnskey}
+use Rattle.dnssec_key.specs.RollTable.{Half, First, Second, column, half_of, at_roles}
 use Rattle.dnssec_keyset.proofs.Laws.{same-is}
-use Rattle.std.proofs.lemmas.Bool.{cases_Bool}
+use Rattle.std.proofs.lemmas.Bool.{cases_Bool, and_parts, eqb-true}
+use Rattle.dnssec_keyset.proofs.Tests.{each_in_roll, each_in_roll-at}
 
 -- ---- kinds
 
@@ -45,20 +42,6 @@ lists-number BothSides (Zsk s) = refl
 lists-number BothSides (Csk s t) = refl
 lists-number BothSides (Include s) = refl
 
-number-at_ksk : (f : Flags → Flags) (t : KeyType) → kind_number (at_ksk f t) ≡ kind_number t
-unfolding kind_number
-number-at_ksk f (Ksk s) = refl
-number-at_ksk f (Zsk s) = refl
-number-at_ksk f (Csk s t) = refl
-number-at_ksk f (Include s) = refl
-
-number-at_zsk : (f : Flags → Flags) (t : KeyType) → kind_number (at_zsk f t) ≡ kind_number t
-unfolding kind_number
-number-at_zsk f (Ksk s) = refl
-number-at_zsk f (Zsk s) = refl
-number-at_zsk f (Csk s t) = refl
-number-at_zsk f (Include s) = refl
-
 pub number-at_roles : (f g : Flags → Flags) (t : KeyType) → kind_number (at_roles f g t)
     ≡ kind_number t
 unfolding kind_number
@@ -67,103 +50,69 @@ number-at_roles f g (Zsk s) = refl
 number-at_roles f g (Csk s t) = refl
 number-at_roles f g (Include s) = refl
 
-number-at_whole_keys : (p : Flags → Bool) (f : Flags → Flags) (t : KeyType)
-    → kind_number (at_whole_keys p f t) ≡ kind_number t
-unfolding kind_number
-number-at_whole_keys p f (Ksk s) = refl
-number-at_whole_keys p f (Zsk s) = refl
-number-at_whole_keys p f (Csk s t) = at (p s)
-  where
-    at : (b : Bool) → kind_number (if b then Csk (f s) (f t) else Csk s t) ≡ 2
-    at true = refl
-    at false = refl
-number-at_whole_keys p f (Include s) = refl
+same_number : KeyType → KeyType → Bool
+same_number j k = nat_eq (kind_number j) (kind_number k)
+
+column_table : RollType → KeyType → Bool
+column_table r k = same_number ((column r).comes k) k && same_number ((column r).goes k) k
+    && same_number ((column r).returns k) k
+
+column_all : (a b : Bool) → each_in_roll a b column_table ≡ true
+unfolding column_table same_number kind_number column
+column_all a b = refl
+
+column_facts : (roll : RollType) (t : KeyType)
+    → (kind_number ((column roll).comes t) ≡ kind_number t)
+    × (kind_number ((column roll).goes t) ≡ kind_number t)
+    × (kind_number ((column roll).returns t) ≡ kind_number t)
+unfolding column_table same_number
+column_facts roll t =
+    let x = and_parts _ _ (each_in_roll-at column_table column_all roll t) in
+    let y = and_parts _ _ x.0 in
+    (eqb-true _ _ y.0, eqb-true _ _ y.1, eqb-true _ _ x.1)
 
 pub number-comes : (roll : RollType) (t : KeyType) → kind_number ((column roll).comes t)
     ≡ kind_number t
-unfolding column
-number-comes KskRoll t = number-at_ksk _ t
-number-comes KskDoubleDsRoll t = number-at_ksk _ t
-number-comes ZskRoll t = number-at_zsk _ t
-number-comes ZskDoubleSignatureRoll t = number-at_zsk _ t
-number-comes CskRoll t = number-at_roles _ _ t
-number-comes AlgorithmRoll t = number-at_roles _ _ t
+number-comes roll t = (column_facts roll t).0
 
 pub number-goes : (roll : RollType) (t : KeyType) → kind_number ((column roll).goes t)
     ≡ kind_number t
-unfolding column
-number-goes KskRoll t = number-at_ksk _ t
-number-goes KskDoubleDsRoll t = number-at_ksk _ t
-number-goes ZskRoll t = number-at_zsk _ t
-number-goes ZskDoubleSignatureRoll t = number-at_zsk _ t
-number-goes CskRoll t = number-at_roles _ _ t
-number-goes AlgorithmRoll t = number-at_roles _ _ t
+number-goes roll t = (column_facts roll t).1
 
 pub number-returns : (roll : RollType) (t : KeyType)
     → kind_number ((column roll).returns t) ≡ kind_number t
-unfolding column
-number-returns KskRoll t = number-at_ksk _ t
-number-returns KskDoubleDsRoll t = number-at_ksk _ t
-number-returns ZskRoll t = number-at_zsk _ t
-number-returns ZskDoubleSignatureRoll t = number-at_zsk _ t
-number-returns CskRoll t = number-at_roles _ _ t
-number-returns AlgorithmRoll t = number-at_roles _ _ t
+number-returns roll t = (column_facts roll t).2
+
+moves_table : Half → RollType → KeyType → Bool
+moves_table half r k = same_number ((half_of r half).moves k) k
+
+moves_all : (half : Half) (a b : Bool) → each_in_roll a b (moves_table half) ≡ true
+unfolding moves_table same_number kind_number column
+moves_all First a b = refl
+moves_all Second a b = refl
 
 pub number-moves : (roll : RollType) (half : Half) (t : KeyType)
     → kind_number ((half_of roll half).moves t) ≡ kind_number t
-unfolding column
-number-moves KskRoll First t = number-at_ksk _ t
-number-moves KskRoll Second t = number-at_ksk _ t
-number-moves KskDoubleDsRoll First t = number-at_ksk _ t
-number-moves KskDoubleDsRoll Second t = number-at_ksk _ t
-number-moves ZskRoll First t = number-at_zsk _ t
-number-moves ZskRoll Second t = number-at_zsk _ t
-number-moves ZskDoubleSignatureRoll First t = number-at_zsk _ t
-number-moves ZskDoubleSignatureRoll Second t = refl
-number-moves CskRoll First t = number-at_roles _ _ t
-number-moves CskRoll Second t = number-at_roles _ _ t
-number-moves AlgorithmRoll First t = number-at_roles _ _ t
-number-moves AlgorithmRoll Second t = number-at_whole_keys old_present leaves_dnskey t
+unfolding moves_table same_number
+number-moves roll half t =
+    eqb-true _ _ (each_in_roll-at (moves_table half) (moves_all half) roll t)
 
 -- two rolls that go together change no kind of key in common
 pub apart-kinds : (a b : Side) (t : KeyType) → are_apart a b ≡ true → lists_kind b t ≡ true
     → lists_kind a t ≡ false
-apart-kinds KskSide KskSide (Ksk s) e h = cc
-apart-kinds KskSide KskSide (Zsk s) e h = cc
-apart-kinds KskSide KskSide (Csk s t) e h = cc
-apart-kinds KskSide KskSide (Include s) e h = cc
+apart-kinds KskSide KskSide t e h = cc
 apart-kinds KskSide ZskSide (Ksk s) e h = cc
 apart-kinds KskSide ZskSide (Zsk s) e h = refl
 apart-kinds KskSide ZskSide (Csk s t) e h = cc
 apart-kinds KskSide ZskSide (Include s) e h = cc
-apart-kinds KskSide BothSides (Ksk s) e h = cc
-apart-kinds KskSide BothSides (Zsk s) e h = cc
-apart-kinds KskSide BothSides (Csk s t) e h = cc
-apart-kinds KskSide BothSides (Include s) e h = cc
+apart-kinds KskSide BothSides t e h = cc
 apart-kinds ZskSide KskSide (Ksk s) e h = refl
 apart-kinds ZskSide KskSide (Zsk s) e h = cc
 apart-kinds ZskSide KskSide (Csk s t) e h = cc
 apart-kinds ZskSide KskSide (Include s) e h = cc
-apart-kinds ZskSide ZskSide (Ksk s) e h = cc
-apart-kinds ZskSide ZskSide (Zsk s) e h = cc
-apart-kinds ZskSide ZskSide (Csk s t) e h = cc
-apart-kinds ZskSide ZskSide (Include s) e h = cc
-apart-kinds ZskSide BothSides (Ksk s) e h = cc
-apart-kinds ZskSide BothSides (Zsk s) e h = cc
-apart-kinds ZskSide BothSides (Csk s t) e h = cc
-apart-kinds ZskSide BothSides (Include s) e h = cc
-apart-kinds BothSides KskSide (Ksk s) e h = cc
-apart-kinds BothSides KskSide (Zsk s) e h = cc
-apart-kinds BothSides KskSide (Csk s t) e h = cc
-apart-kinds BothSides KskSide (Include s) e h = cc
-apart-kinds BothSides ZskSide (Ksk s) e h = cc
-apart-kinds BothSides ZskSide (Zsk s) e h = cc
-apart-kinds BothSides ZskSide (Csk s t) e h = cc
-apart-kinds BothSides ZskSide (Include s) e h = cc
-apart-kinds BothSides BothSides (Ksk s) e h = cc
-apart-kinds BothSides BothSides (Zsk s) e h = cc
-apart-kinds BothSides BothSides (Csk s t) e h = cc
-apart-kinds BothSides BothSides (Include s) e h = cc
+apart-kinds ZskSide ZskSide t e h = cc
+apart-kinds ZskSide BothSides t e h = cc
+apart-kinds BothSides b t e h = cc
 
 pub apart-rolls : (a b : RollType) → together a b ≡ true → same_roll a b ≡ false
 apart-rolls a b e = elim (cases_Bool (same_roll a b)) [

@@ -29,17 +29,9 @@ use Rattle.dnssec_keyset.specs.Step.{wait_in_phase}
 use Rattle.dnssec_keyset.specs.Laws.{roll_of}
 use Rattle.dnssec_keyset.proofs.Quantified.{some_key-found}
 use Rattle.dnssec_keyset.proofs.Exchange.Seen.{SameFor, alike-found, alike-sym}
-use Rattle.dnssec_keyset.proofs.Exchange.Checks.{algorithms-same, entry-same, kept-KskAtParent}
-use Rattle.dnssec_keyset.proofs.Exchange.Checks.{kept-PresentKsk, kept-PresentKskRole}
-use Rattle.dnssec_keyset.proofs.Exchange.Checks.{kept-PresentZsk, kept-PresentZskRole, key-same}
-use Rattle.dnssec_keyset.proofs.Exchange.Checks.{left-others, listed-same, new-KskAtParent}
-use Rattle.dnssec_keyset.proofs.Exchange.Checks.{new-PresentKsk, new-PresentKskRole, new-PresentZsk}
-use Rattle.dnssec_keyset.proofs.Exchange.Checks.{new-PresentZskRole, new-same, old-same}
-use Rattle.std.proofs.lemmas.Bool.{cases_Bool}
-
-both_true : (x y : Bool) → (x && y) ≡ true → x ≡ true
-both_true true y e = refl
-both_true false y e = cc
+use Rattle.dnssec_keyset.proofs.Exchange.Checks.{algorithms-same, entry-same, key-same, left-others}
+use Rattle.dnssec_keyset.proofs.Exchange.Checks.{listed-same, new-same, old-same, serves-others}
+use Rattle.std.proofs.lemmas.Bool.{cases_Bool, and_parts}
 
 -- what passes only where the roll's kind does
 own_kind : (b : RollType) (f : KeyType → Bool)
@@ -52,27 +44,29 @@ own_kind b f off t e = elim (cases_Bool (lists_kind (side_of b) t)) [
 
 module _ (s t : KeySetParts) (olds news : List (List ℕ)) where
   met : (b : RollType) → SameFor b s t → (want : Want)
-      → ((x : KeyType) → lists_kind (side_of b) x ≡ false → serves_as_new want x ≡ false)
-      → ((x : KeyType) → lists_kind (side_of b) x ≡ false → serves_as_kept want x ≡ false)
-          → is_met s.keys olds news want ≡ is_met t.keys olds news want
-  met b same want new kept = λ i.
-      listed-same b s t same (serves_as_new want) new news i
+      → ((x : KeyType) → lists_kind (side_of b) x ≡ false
+      → (serves_as_new want x ≡ false) × (serves_as_kept want x ≡ false))
+      → is_met s.keys olds news want ≡ is_met t.keys olds news want
+  met b same want off = λ i.
+      listed-same b s t same (serves_as_new want) (λ x e. (off x e).0) news i
       || entry-same b (λ q k. serves_as_kept want k.keytype && not (is_listed olds q))
-          (λ q k e. own_kind b (serves_as_kept want) kept k.keytype (both_true _ _ e)) s t same i
+          (λ q k e. own_kind b (serves_as_kept want) (λ x e. (off x e).1) k.keytype
+          (and_parts _ _ e).0) s t same i
 
   suits : (b : RollType) → SameFor b s t → list_all (is_met s.keys olds news) (wants b)
       ≡ list_all (is_met t.keys olds news) (wants b)
-  suits KskRoll same = λ i. met KskRoll same PresentKsk new-PresentKsk kept-PresentKsk i && true
-  suits KskDoubleDsRoll same = λ i. met KskDoubleDsRoll same KskAtParent new-KskAtParent
-      kept-KskAtParent i && true
-  suits ZskRoll same = λ i. met ZskRoll same PresentZsk new-PresentZsk kept-PresentZsk i && true
+  suits KskRoll same = λ i. met KskRoll same PresentKsk (serves-others PresentKsk) i && true
+  suits KskDoubleDsRoll same =
+      λ i. met KskDoubleDsRoll same KskAtParent (serves-others KskAtParent) i && true
+  suits ZskRoll same = λ i. met ZskRoll same PresentZsk (serves-others PresentZsk) i && true
   suits ZskDoubleSignatureRoll same =
-      λ i. met ZskDoubleSignatureRoll same PresentZsk new-PresentZsk kept-PresentZsk i && true
-  suits CskRoll same = λ i. met CskRoll same PresentKskRole new-PresentKskRole kept-PresentKskRole i
-      && (met CskRoll same PresentZskRole new-PresentZskRole kept-PresentZskRole i && true)
-  suits AlgorithmRoll same = λ i. met AlgorithmRoll same PresentKskRole new-PresentKskRole
-      kept-PresentKskRole i && (met AlgorithmRoll same PresentZskRole new-PresentZskRole
-      kept-PresentZskRole i && true)
+      λ i. met ZskDoubleSignatureRoll same PresentZsk (serves-others PresentZsk) i && true
+  suits CskRoll same = λ i.
+      met CskRoll same PresentKskRole (serves-others PresentKskRole) i
+      && (met CskRoll same PresentZskRole (serves-others PresentZskRole) i && true)
+  suits AlgorithmRoll same = λ i.
+      met AlgorithmRoll same PresentKskRole (serves-others PresentKskRole) i
+      && (met AlgorithmRoll same PresentZskRole (serves-others PresentZskRole) i && true)
 
 conflict-same : (b : RollType) (s t : KeySetParts) → SameFor b s t → conflict b s.rolls
     ≡ conflict b t.rolls
