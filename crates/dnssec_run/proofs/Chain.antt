@@ -8,6 +8,7 @@ pub mod Tables
 pub mod Flags
 pub mod Facts
 pub mod Tale
+pub mod Kinds
 pub mod EarlyEnds
 pub mod Setters
 pub mod Shown
@@ -19,7 +20,6 @@ pub mod Lists
 pub mod Invariant
 pub mod OneKey
 pub mod Steps
-pub mod Kinds
 pub mod Gentles
 pub mod Phases
 pub mod RollFacts

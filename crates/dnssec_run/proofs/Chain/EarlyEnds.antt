@@ -1,6 +1,6 @@
 -- The facts of the tables on early ends: what a start put on keys is taken from them again.
-use Rattle.dnssec_keyset.proofs.Tests.{each_key, each_key-at, each_roll, each_roll-at, ◌⇒◌, mp}
-use Rattle.dnssec_keyset.proofs.Tests.{alike, alike-same, and-both, each_listed, each_listed-at}
+use Rattle.dnssec_keyset.proofs.Tests.{each_key, each_key-at, ◌⇒◌, mp, and-both, each_listed}
+use Rattle.dnssec_keyset.proofs.Tests.{each_listed-at}
 use Rattle.dnssec_keyset.proofs.Flags.{SideOf, Keys, Zone, affects, fits, Quiet, has_role, is_idle}
 use Rattle.dnssec_keyset.proofs.Flags.{may_list, may_start, started, ended, tied, Stage, each_stage}
 use Rattle.dnssec_keyset.proofs.Flags.{each_stage-at}
@@ -17,6 +17,7 @@ use Rattle.dnssec_run.specs.Safe.{SetKind, Ds, Dnskey, ZoneSigners}
 use Rattle.dnssec_run.proofs.Chain.Tale.{Key, early-end-parts}
 use Rattle.dnssec_run.proofs.Chain.Flags.{test_of, in_use}
 use Rattle.dnssec_run.proofs.Chain.Facts.{Seen, test-seen, use-seen}
+use Rattle.dnssec_run.proofs.Chain.Kinds.{same_role, same_list, number_ended}
 
 -- ---- after a start
 
@@ -107,7 +108,6 @@ ended-less sd kind r o i k = mp _ _ (each_listed-at (less_table sd kind) (less_a
 use_table : SideOf → RollType → Bool → Bool → KeyType → Bool
 use_table sd r o i k = (in_use sd (ended r o i k) ⇒ in_use sd k)
     && (not (has_role sd k && not (is_idle k)) ⇒ fits sd Quiet (ended r o i k))
-    && alike (has_role sd (ended r o i k)) (has_role sd k)
 
 use_all : (sd : SideOf) (a b : Bool) → each_listed a b (use_table sd) ≡ true
 unfolding use_table column
@@ -117,12 +117,10 @@ use_all Zone a b = refl
 use_facts : (sd : SideOf) (r : RollType) (o i : Bool) (k : KeyType)
     → (in_use sd (ended r o i k) ≡ true → in_use sd k ≡ true)
     × ((has_role sd k && not (is_idle k)) ≡ false → fits sd Quiet (ended r o i k) ≡ true)
-    × (has_role sd (ended r o i k) ≡ has_role sd k)
 unfolding use_table
 use_facts sd r o i k =
     let x = and_parts _ _ (each_listed-at (use_table sd) (use_all sd) r o i k) in
-    let y = and_parts _ _ x.0 in
-    (mp _ _ y.0, λ e. mp _ _ y.1 (ap not e), alike-same _ _ x.1)
+    (mp _ _ x.0, λ e. mp _ _ x.1 (ap not e))
 
 -- a key that the side doesn't see, or that is idle, fits the side at rest
 pub unseen-ended : (sd : SideOf) (r : RollType) (o i : Bool) (k : KeyType)
@@ -131,7 +129,7 @@ unseen-ended sd r o i k = (use_facts sd r o i k).1
 
 pub role-ended : (sd : SideOf) (r : RollType) (o i : Bool) (k : KeyType)
     → has_role sd (ended r o i k) ≡ has_role sd k
-role-ended sd r o i k = (use_facts sd r o i k).2
+role-ended sd r o i k = same_role sd _ k (number_ended r o i k)
 
 pub ended-seen : (sd : SideOf) (kind : SetKind) (r : RollType) (o i : Bool)
     → Seen sd (λ k. test_of sd kind (ended r o i k))
@@ -141,18 +139,9 @@ pub ended-used : (sd : SideOf) (r : RollType) (o i : Bool)
     → Seen sd (λ k. in_use sd (ended r o i k))
 ended-used sd r o i k e = use-seen sd k ((use_facts sd r o i k).0 e)
 
-list_table : RollType → RollType → Bool → Bool → KeyType → Bool
-list_table q r o i k = alike (may_list q (ended r o i k)) (may_list q k)
-
-list_all : (a b : Bool) → each_roll (λ q. each_listed a b (list_table q)) ≡ true
-unfolding list_table column
-list_all a b = refl
-
 pub list-ended : (q r : RollType) (o i : Bool) (k : KeyType)
     → may_list q (ended r o i k) ≡ may_list q k
-unfolding list_table
-list-ended q r o i k = alike-same _ _ (each_listed-at (list_table q)
-    (λ a b. each_roll-at (λ q. each_listed a b (list_table q)) (list_all a b) q) r o i k)
+list-ended q r o i k = same_list q _ k (number_ended r o i k)
 
 -- a key that the roll may not list is left alone
 pub untouched-ended : (r : RollType) (o i : Bool) (k : Key) → may_list r k.keytype ≡ false

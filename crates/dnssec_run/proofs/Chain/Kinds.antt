@@ -1,88 +1,78 @@
--- No step of a roll changes the kind of a key.
-use Rattle.std.proofs.Common.{◌≡◌, Bool, true, refl}
+-- No step of a roll changes the kind of a key, so none changes its roles or which rolls list it.
+use Rattle.std.proofs.Common.{◌≡◌, ℕ, Bool, true, false, ◌||◌, refl, sym, ap, ◌∙◌}
+use Rattle.std.specs.Prelude.{nat_eq}
 use Rattle.dnssec_key.specs.declared.roll.RollType.{RollType}
 use Rattle.dnssec_key.specs.declared.kind.KeyType.{KeyType}
-use Rattle.dnssec_key.specs.RollTable.{column}
-use Rattle.dnssec_keyset.proofs.Flags.{SideOf, Keys, Zone, may_list, started, waited1, waited2}
-use Rattle.dnssec_keyset.proofs.Flags.{has_role}
-use Rattle.dnssec_keyset.proofs.Tests.{each_roll, each_roll-at, alike, alike-same, each_in_roll}
-use Rattle.dnssec_keyset.proofs.Tests.{each_in_roll-at, each_listed, each_listed-at}
+use Rattle.dnssec_key.specs.declared.kind.KeyType.TheVariants.{Ksk, Zsk, Csk, Include}
+use Rattle.dnssec_key.specs.RollTable.{First, Second, at_roles, turns_old}
+use Rattle.dnssec_keyset.specs.Start.{side_of}
+use Rattle.dnssec_keyset.proofs.Exchange.Kinds.{kind_number, lists-number, lists_by, number-comes}
+use Rattle.dnssec_keyset.proofs.Exchange.Kinds.{number-at_roles, number-goes, number-moves}
+use Rattle.dnssec_keyset.proofs.Exchange.Kinds.{number-returns}
+use Rattle.dnssec_keyset.proofs.Flags.{SideOf, Keys, Zone, may_list, started, ended, waited1}
+use Rattle.dnssec_keyset.proofs.Flags.{waited2, has_role}
 
-role_start_table : SideOf → RollType → Bool → Bool → KeyType → Bool
-role_start_table sd r o i k = alike (has_role sd (started r o i k)) (has_role sd k)
+number_started : (r : RollType) (o i : Bool) (k : KeyType)
+    → kind_number (started r o i k) ≡ kind_number k
+number_started r true true k = number-comes r (at_roles turns_old turns_old k)
+    ∙ number-at_roles turns_old turns_old k
+number_started r true false k = number-at_roles turns_old turns_old k
+number_started r false true k = number-comes r k
+number_started r false false k = refl
 
-role_start_all : (sd : SideOf) (a b : Bool) → each_listed a b (role_start_table sd) ≡ true
-unfolding role_start_table column
-role_start_all Keys a b = refl
-role_start_all Zone a b = refl
+pub number_ended : (r : RollType) (o i : Bool) (k : KeyType)
+    → kind_number (ended r o i k) ≡ kind_number k
+number_ended r true true k = number-goes r _ ∙ number-returns r k
+number_ended r true false k = number-returns r k
+number_ended r false true k = number-goes r k
+number_ended r false false k = refl
 
-pub role_start : (sd : SideOf) (r : RollType) (o i : Bool) (k : KeyType)
-    → has_role sd (started r o i k) ≡ has_role sd k
-unfolding role_start_table
-role_start sd r o i k = alike-same _ _
-    (each_listed-at (role_start_table sd) (role_start_all sd) r o i k)
+-- ---- which rolls list it
 
-role_waited1_table : SideOf → RollType → KeyType → Bool
-role_waited1_table sd r k = alike (has_role sd (waited1 r k)) (has_role sd k)
-
-role_waited1_all : (sd : SideOf) (a b : Bool) → each_in_roll a b (role_waited1_table sd) ≡ true
-unfolding role_waited1_table column
-role_waited1_all Keys a b = refl
-role_waited1_all Zone a b = refl
-
-pub role_waited1 : (sd : SideOf) (r : RollType) (k : KeyType) → has_role sd (waited1 r k)
-    ≡ has_role sd k
-unfolding role_waited1_table column
-role_waited1 sd r k = alike-same _ _
-    (each_in_roll-at (role_waited1_table sd) (role_waited1_all sd) r k)
-
-list_waited1_table : RollType → RollType → KeyType → Bool
-list_waited1_table q r k = alike (may_list q (waited1 r k)) (may_list q k)
-
-list_waited1_all : (a b : Bool) → each_roll (λ q. each_in_roll a b (list_waited1_table q)) ≡ true
-unfolding list_waited1_table column
-list_waited1_all a b = refl
-
-pub list_waited1 : (q r : RollType) (k : KeyType) → may_list q (waited1 r k) ≡ may_list q k
-unfolding list_waited1_table column
-list_waited1 q r k = alike-same _ _ (each_in_roll-at (list_waited1_table q) (λ a b.
-    each_roll-at (λ q. each_in_roll a b (list_waited1_table q)) (list_waited1_all a b) q) r k)
-
-role_waited2_table : SideOf → RollType → KeyType → Bool
-role_waited2_table sd r k = alike (has_role sd (waited2 r k)) (has_role sd k)
-
-role_waited2_all : (sd : SideOf) (a b : Bool) → each_in_roll a b (role_waited2_table sd) ≡ true
-unfolding role_waited2_table column
-role_waited2_all Keys a b = refl
-role_waited2_all Zone a b = refl
-
-pub role_waited2 : (sd : SideOf) (r : RollType) (k : KeyType) → has_role sd (waited2 r k)
-    ≡ has_role sd k
-unfolding role_waited2_table column
-role_waited2 sd r k = alike-same _ _
-    (each_in_roll-at (role_waited2_table sd) (role_waited2_all sd) r k)
-
-list_waited2_table : RollType → RollType → KeyType → Bool
-list_waited2_table q r k = alike (may_list q (waited2 r k)) (may_list q k)
-
-list_waited2_all : (a b : Bool) → each_roll (λ q. each_in_roll a b (list_waited2_table q)) ≡ true
-unfolding list_waited2_table column
-list_waited2_all a b = refl
-
-pub list_waited2 : (q r : RollType) (k : KeyType) → may_list q (waited2 r k) ≡ may_list q k
-unfolding list_waited2_table column
-list_waited2 q r k = alike-same _ _ (each_in_roll-at (list_waited2_table q) (λ a b.
-    each_roll-at (λ q. each_in_roll a b (list_waited2_table q)) (list_waited2_all a b) q) r k)
-
-list_start_table : RollType → RollType → Bool → Bool → KeyType → Bool
-list_start_table q r o i k = alike (may_list q (started r o i k)) (may_list q k)
-
-list_start_all : (a b : Bool) → each_roll (λ q. each_listed a b (list_start_table q)) ≡ true
-unfolding list_start_table column
-list_start_all a b = refl
+pub same_list : (q : RollType) (j k : KeyType) → kind_number j ≡ kind_number k
+    → may_list q j ≡ may_list q k
+same_list q j k e = lists-number (side_of q) j ∙ ap (lists_by (side_of q)) e
+    ∙ sym (lists-number (side_of q) k)
 
 pub list_start : (q r : RollType) (o i : Bool) (k : KeyType) → may_list q (started r o i k)
     ≡ may_list q k
-unfolding list_start_table
-list_start q r o i k = alike-same _ _ (each_listed-at (list_start_table q) (λ a b.
-    each_roll-at (λ q. each_listed a b (list_start_table q)) (list_start_all a b) q) r o i k)
+list_start q r o i k = same_list q _ k (number_started r o i k)
+
+pub list_waited1 : (q r : RollType) (k : KeyType) → may_list q (waited1 r k) ≡ may_list q k
+list_waited1 q r k = same_list q _ k (number-moves r First k)
+
+pub list_waited2 : (q r : RollType) (k : KeyType) → may_list q (waited2 r k) ≡ may_list q k
+list_waited2 q r k = same_list q _ k (number-moves r Second k)
+
+-- ---- its roles
+
+role_by : SideOf → ℕ → Bool
+role_by Keys n = nat_eq n 0 || nat_eq n 2
+role_by Zone n = nat_eq n 1 || nat_eq n 2
+
+role-number : (sd : SideOf) (k : KeyType) → has_role sd k ≡ role_by sd (kind_number k)
+unfolding role_by kind_number
+role-number Keys (Ksk s) = refl
+role-number Keys (Zsk s) = refl
+role-number Keys (Csk s t) = refl
+role-number Keys (Include s) = refl
+role-number Zone (Ksk s) = refl
+role-number Zone (Zsk s) = refl
+role-number Zone (Csk s t) = refl
+role-number Zone (Include s) = refl
+
+pub same_role : (sd : SideOf) (j k : KeyType) → kind_number j ≡ kind_number k
+    → has_role sd j ≡ has_role sd k
+same_role sd j k e = role-number sd j ∙ ap (role_by sd) e ∙ sym (role-number sd k)
+
+pub role_start : (sd : SideOf) (r : RollType) (o i : Bool) (k : KeyType)
+    → has_role sd (started r o i k) ≡ has_role sd k
+role_start sd r o i k = same_role sd _ k (number_started r o i k)
+
+pub role_waited1 : (sd : SideOf) (r : RollType) (k : KeyType) → has_role sd (waited1 r k)
+    ≡ has_role sd k
+role_waited1 sd r k = same_role sd _ k (number-moves r First k)
+
+pub role_waited2 : (sd : SideOf) (r : RollType) (k : KeyType) → has_role sd (waited2 r k)
+    ≡ has_role sd k
+role_waited2 sd r k = same_role sd _ k (number-moves r Second k)
