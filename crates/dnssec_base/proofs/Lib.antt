@@ -1,3 +1,18 @@
+-- Domain names and algorithms. What carries each clause:
+--
+-- | Function and clause            | Lemma                    | Files                       |
+-- |--------------------------------|--------------------------|-----------------------------|
+-- | `Name::from_str`, `name`       | `read_spells`            | Reading, Wholes, WireLabels |
+-- | `read`, both                   | ruleset `reading`        | Reading, Faults, Wholes     |
+-- | `split_piece`, `split_escape`  | `plain_piece`, `escapes` | Symbols                     |
+-- | `are_labels`, `split_label`    | `front`, `label_front`   | WireLabels                  |
+-- | `Display` of names and bytes   | `next_label`, `styled`   | PrintedLabels, PrintedBytes |
+-- | `SecurityAlgorithm::from_name` | `no_name`                | AlgorithmNames              |
+-- | `spells_one_name`              | of its name, as all laws | OneName, Places, Symbols    |
+-- | `spells_no_fault`              |                          | NoFault, Faults, Places     |
+-- | `spells_unless_fault`          |                          | Complete, Reading, Places   |
+-- | `one_fault_stands_first`       |                          | OneFault, Faults, Places    |
+-- | `prints_its_spelling`          |                          | PrintedNames, PrintedBytes  |
 pub mod AlgorithmNames
 pub mod Complete
 pub mod OneFault

@@ -1,3 +1,19 @@
+-- Scripts and their answers. What carries each clause:
+--
+-- | Function and clause         | Lemma                            | Files              |
+-- |-----------------------------|----------------------------------|--------------------|
+-- | `Fields::next`              | `cut_at`, `no_cut`               | Cuts               |
+-- | `roll_named`                | `roll_read`                      | Rolls, Zone        |
+-- | `algorithm_named`           | `no_text`                        | Algorithms, Zone   |
+-- | `references`                | `kept_more`, `reference_utf8`    | Texts, References  |
+-- | `zone`, `zone_name`         | `zone_found`, `spelled_utf8`     | Zone               |
+-- | `read_calls`, `with_lists`  | `kept_statement`, `all_said-nil` | Reading, Texts     |
+-- | `read_script`               | `lines_split`, `spell_each`      | Judging            |
+-- | `answer`                    | `one_more`, `all_answered`       | Running            |
+-- | `run_script`, `well_formed` | `of_input`, `never_fault`        | Answering, Judging |
+-- | `run_script`, `begun`       | `begins`                         | Answering          |
+-- | `run_script`, `safe`        | `stays-safe`                     | Ending             |
+-- | `run_script`, `chain`       | `last-line-safe`                 | Ending             |
 pub mod Cuts
 pub mod References
 pub mod Zone

@@ -1,3 +1,18 @@
+-- Runs and their records. What carries each clause; those of `run` that a folder carries stand at
+-- the head of Chain, WholeRolls, EarlyEnds and Asked.
+--
+-- | Function and clause       | Lemma                         | Files                        |
+-- |---------------------------|-------------------------------|------------------------------|
+-- | `run`, `run`              | `run_none`, `run_more`        | Grow                         |
+-- | `run`, `sound`            | `stays-sound`                 | Laws; the key set's Laws     |
+-- | `run`, `sides`            | `sides-apart`                 | Laws; the key set's Sides    |
+-- | `run`, `exchange`         | `neighbours-exchange`         | Laws; the key set's Exchange |
+-- | `Recorder::new`           | `agrees-new`, `published-new` | Next                         |
+-- | `Recorder::advance`, `ok` | `entry-of`, `world_more`      | Next, Grow                   |
+-- | `advance`, both           | `agrees-accepted`             | Next; the key set's After    |
+-- | `published`, `ok`         | `shows-all`                   | Positions                    |
+-- | `starts_suffice`          | `starts-suffice`              | Starts                       |
+-- | for callers of `Recorder` | `last-ds` and the like        | Recorded                     |
 pub mod Positions
 pub mod Next
 pub mod Grow
