@@ -7,7 +7,7 @@ use Rattle.std.specs.declared.string.String.{String}
 use Rattle.std.specs.String.{string_eq}
 use Rattle.std.specs.HashMap.{HashMap, IsUnique, values}
 use Rattle.std.specs.FinMap as fin
-use Rattle.std.specs.FinMap.{get-from_entries, get, entries}
+use Rattle.std.specs.FinMap.{get-from_entries, get}
 use Rattle.std.specs.List.{fold}
 use Rattle.std.specs.Option.{option_map}
 use Rattle.std.specs.Str.{bytes_eq}
@@ -23,7 +23,7 @@ use Rattle.dnssec_keyset.specs.KeySet.{Keys, keys_in_map, entries_by_bytes}
 use Rattle.dnssec_keyset.specs.declared.counts.Counts.{Counts}
 use Rattle.dnssec_keyset.specs.Start.{serves_as_kept, Want, PresentKsk, KskAtParent, PresentZsk}
 use Rattle.dnssec_keyset.specs.Start.{PresentKskRole, PresentZskRole}
-use Rattle.dnssec_keyset.specs.Inner.Counts.{bit, count, count_in, share, kept, passes, CountsAgree}
+use Rattle.dnssec_keyset.specs.Inner.Counts.{bit, count, count_in, share, passes, CountsAgree}
 use Rattle.dnssec_keyset.specs.Inner.Counts.{moves_counts, count_of, no_counts, with_key}
 use Rattle.dnssec_keyset.specs.Inner.Counts.{without_key}
 use Rattle.dnssec_keyset.proofs.Shown.{same_keys}
