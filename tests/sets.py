@@ -103,12 +103,10 @@ def courses():
 
 def many_keys():
     """The lines of keys that have a tag each, which is refused to a second key, and given to one
-    when the first is deleted. A DS without its key breaks the chain at once, where both audits have
-    their verdict: the slow one would look at all positions."""
+    when the first is deleted."""
     last = MANY - 1
     yield "zone example.com"
-    yield from ("add-ksk 0 - 13 0 0 yes", "set-at-parent 0 yes")
-    yield from (f"add-ksk {tag} - 13 {tag} 0 yes" for tag in range(1, MANY))
+    yield from (f"add-ksk {tag} - 13 {tag} 0 yes" for tag in range(MANY))
     yield from (f"add-ksk again - 13 {tag} 1 yes" for tag in range(MANY))
     yield from (f"set-stale {last}", f"delete {last}", f"add-ksk again - 13 {last} 2 yes")
     yield f"add-ksk {last} - 13 {last} 3 yes"

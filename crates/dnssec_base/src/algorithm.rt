@@ -50,6 +50,13 @@ impl SecurityAlgorithm {
 
     /// The algorithm with this name, if it is that of a constant above: `ED25519` names number 15.
     /// Upper case alone is read, and `15` is no name.
+    ///
+    /// ```rust
+    /// let algorithm = match SecurityAlgorithm::from_name(word) {
+    ///     Some(algorithm) => algorithm,
+    ///     None => SecurityAlgorithm::from_int(word.parse()?),
+    /// };
+    /// ```
     #[tactic(auto, unfolding(crate::specs::AlgorithmNames::algorithm_named))]
     pub fn from_name(name: &str) -> Option<SecurityAlgorithm>
         ensures { result ≡ algorithm_named name.now }

@@ -4,6 +4,11 @@ ghost use Rattle.std.specs.Prelude.{◌≡◌};
 use std::marker::Model;
 
 /// A timestamp as DNSSEC records hold it: whole seconds since the start of 1970 (RFC 4034, 3.1.5).
+///
+/// ```rust
+/// let signed = Timestamp::from(1_700_000_000);
+/// let seconds = signed.into_int();
+/// ```
 #[derive(Clone, Copy, Debug, PartialEq, Eq)]
 pub struct Timestamp {
     seconds: u32,

@@ -1,8 +1,9 @@
 //! The audit of a record: the definition of a safe record, made to run.
-ghost use Rattle.std.specs.Prelude.{◌≡◌, ◌≤◌, map, length};
+ghost use Rattle.std.specs.Prelude.{◌≡◌, ◌≤◌, map, length, true};
 ghost use Rattle.std.specs.Option.{option_copied, option_map_or};
 ghost use Rattle.dnssec_run.specs.Published.{id_of};
-ghost use Rattle.dnssec_run.specs.Safe.{base_below, blank, position_at, time_at, position_of};
+ghost use Rattle.dnssec_run.specs.Safe.{Position, base_below, blank, position_at, time_at};
+ghost use Rattle.dnssec_run.specs.Safe.{position_of};
 ghost use Rattle.dnssec_judge.specs.Inner.Chained.{has_chain};
 ghost use Rattle.dnssec_judge.specs.Inner.Floor.{floor_by, floor_up_to};
 ghost use Rattle.dnssec_judge.specs.Inner.Search.{Finds, FindsDs, FindsKeys, IsChained};
@@ -124,10 +125,14 @@ fn find_ds(entries: &[Entry], floors: Floors, at: usize) -> Option<Broken>
     None
 }
 
-/// The first DNSKEY set, with zone signers, that leaves the DS set without a chain.
+/// The first DNSKEY set, with zone signers, that leaves the DS set without a chain. Where there is
+/// no DS, no set does, and none is looked at.
 fn find_keys(entries: &[Entry], ds: usize, floors: Floors, at: usize) -> Option<Broken>
     ensures { FindsKeys entries.now ds floors at result }
 {
+    if has_no_ds(entries, ds) {
+        return None;
+    }
     for dnskey in floors.dnskey..=at {
         if let Some(zone) = find_zone(entries, ds, dnskey, floors.zone, at) {
             return Some(Broken {
@@ -151,6 +156,13 @@ fn find_zone(entries: &[Entry], ds: usize, dnskey: usize, from: usize, at: usize
         }
     }
     None
+}
+
+/// Whether the DS set of a position is empty, and so has a chain with all other sets.
+fn has_no_ds(entries: &[Entry], n: usize) -> bool
+    ensures { result ≡ true → (q z : Position) → has_chain (position_at entries.now n) q z ≡ true }
+{
+    keys_at(entries, n, Shown::Ds).is_empty()
 }
 
 /// Whether the DS set, the DNSKEY set with its signers and the zone signers of three positions have

@@ -173,6 +173,14 @@ impl Judge {
 /// # Errors
 ///
 /// `OutOfMemory` alone.
+///
+/// ```rust
+/// let run = run(alloc, name, calls)?;
+/// if let Some(broken) = audit_window(alloc, &run.entries)? {
+///     // Behind call number `broken.at` caches may hold three sets without a chain.
+///     let entry = &run.entries[broken.at - 1];
+/// }
+/// ```
 pub fn audit_window(alloc: Global, entries: &[Entry]) -> Result<Option<Broken>, Error>
     ensures ok { IfOk result (λ verdict. IsVerdict entries.now verdict) }
     ensures err { IfErr result (λ e. e ≡ OutOfMemory) }

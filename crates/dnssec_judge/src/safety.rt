@@ -1,6 +1,6 @@
 //! What makes a record safe, as tests: what a report retires and when, and whether sets have a
 //! chain.
-ghost use Rattle.std.specs.Prelude.{◌≡◌, ◌+◌, ◌*◌, map, max, nat_lt, not, unwrap_or};
+ghost use Rattle.std.specs.Prelude.{◌≡◌, ◌+◌, ◌*◌, map, max, nat_lt, not, true, unwrap_or};
 ghost use Rattle.dnssec_run.specs.Published.{id_of};
 ghost use Rattle.dnssec_run.specs.Safe.{retires};
 ghost use Rattle.dnssec_judge.specs.Inner.Chained.{is_in, trusts_keys, trusts_zone};
@@ -9,6 +9,9 @@ ghost use Rattle.dnssec_judge.specs.Inner.Search.{kind_of};
 use dnssec_keyset::{RollType, UnixTime};
 use dnssec_run::PublishedKey;
 use std::time::Duration;
+
+/// Lists of at most so many keys are looked through.
+const SHORT: usize = 8;
 
 /// The kinds of sets that caches hold.
 #[derive(Clone, Copy, Debug, PartialEq)]
@@ -58,10 +61,26 @@ pub(crate) fn later(time: UnixTime, moment: Option<UnixTime>) -> UnixTime
     }
 }
 
+/// Whether a list has the key. It is looked for at its place first: the lists of a run are in order,
+/// but a record of another origin may have others.
 fn is_in(keys: &[PublishedKey], key: &PublishedKey) -> bool
     ensures { result ≡ is_in (map id_of keys.now) (id_of key.now) }
 {
-    keys.contains(key)
+    is_at_its_place(keys, key) || keys.contains(key)
+}
+
+/// Whether a search in a list that is in the order of its references finds the key. A short one is
+/// sooner looked through.
+fn is_at_its_place(keys: &[PublishedKey], key: &PublishedKey) -> bool
+    ensures { result ≡ true → is_in (map id_of keys.now) (id_of key.now) ≡ true }
+{
+    if keys.len() <= SHORT {
+        return false;
+    }
+    match keys.binary_search_by(|other| other.reference.cmp(&key.reference)) {
+        Ok(place) => keys[place] == *key,
+        Err(_) => false,
+    }
 }
 
 /// Whether a DS key is in the DNSKEY set and signs it.

@@ -82,6 +82,8 @@ pub(crate) struct Window {
     dues: Vec<Due>,
     /// The sets of the positions from the floor on, in their order.
     spans: Vec<Span>,
+    /// The keys of spans that were dropped, for the next copies of sets to use again.
+    dropped: Vec<Vec<PublishedKey>>,
 }
 
 impl Window {
@@ -103,6 +105,7 @@ impl Window {
             floor: 0,
             dues: Vec::new(alloc),
             spans,
+            dropped: Vec::new(alloc),
         })
     }
 
@@ -217,10 +220,14 @@ impl Window {
         if self.has_last(keys, signers) {
             return Ok(());
         }
+        let dropped = match self.dropped.pop() {
+            Some(keys) => keys,
+            None => Vec::new(alloc),
+        };
         let span = Span {
             from: at,
-            keys: copy_keys(alloc, keys)?,
-            signers: copy_keys(alloc, signers)?,
+            keys: copy_keys(alloc, keys, dropped)?,
+            signers: copy_keys(alloc, signers, Vec::new(alloc))?,
         };
         if self.spans.push(span).is_err() {
             return Err(Error::OutOfMemory);
@@ -249,7 +256,9 @@ impl Window {
             × GoesOnAbove self.new.floor self.new.spans.items }
     {
         while self.ends_below() {
-            self.spans.remove(0);
+            let keys = self.spans.remove(0).keys;
+            // Where there is no memory to keep them, they are gone.
+            let _ = self.dropped.push(keys);
         }
     }
 

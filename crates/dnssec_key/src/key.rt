@@ -62,6 +62,8 @@ impl Clone for Key {
 }
 
 impl Key {
+    /// A key of this kind, in its state, that was made at the moment `creation`. It has no other
+    /// stamp, and isn't decoupled.
     pub fn new(
         privref: Option<String>,
         keytype: KeyType,

@@ -178,6 +178,7 @@ pub(crate) fn is_leaving(role: Option<KeyState>) -> bool
     role.is_some_and(|state| state.old && !state.stale())
 }
 
+/// Whether the role is there, in the DNSKEY set, and not old.
 pub fn is_kept_present(role: Option<KeyState>) -> bool
     ensures { result ≡ option_map_or kept_present role false }
 {
@@ -190,6 +191,7 @@ pub(crate) fn is_kept_signing(role: Option<KeyState>) -> bool
     role.is_some_and(|state| !state.old && state.signer)
 }
 
+/// Whether the role is there, has to have a DS at the parent, and is not old.
 pub fn is_kept_at_parent(role: Option<KeyState>) -> bool
     ensures { result ≡ option_map_or kept_at_parent role false }
 {

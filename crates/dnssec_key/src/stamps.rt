@@ -105,6 +105,7 @@ impl KeyTimestamps {
         self.withdrawn
     }
 
+    /// The moment of one of the stamps that rolls write, if it was written.
     pub fn at(&self, stamp: Stamp) -> Option<UnixTime>
         ensures { result ≡ stamp_at stamp self.now }
     {

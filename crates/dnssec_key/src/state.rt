@@ -51,6 +51,7 @@ impl Model for KeyState {
 }
 
 impl KeyState {
+    /// The state of a role that no roll has taken in yet.
     pub fn new(available: Available) -> KeyState
         ensures { result ≡ new_state (is_available available) }
     {

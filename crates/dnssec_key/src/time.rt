@@ -10,6 +10,15 @@ use std::time::Duration;
 /// A moment: the time since the start of 1970.
 ///
 /// Nothing here reads a clock. A caller asks its own, and hands the moment in.
+///
+/// ```rust
+/// let reported = UnixTime::from(Timestamp::from(1_700_000_000));
+/// let ttl = Duration::from_secs(3600);
+/// if reported.fits(ttl) {
+///     // From this moment on no cache holds what was published before the report.
+///     let expired = reported + ttl;
+/// }
+/// ```
 #[derive(Clone, Copy, Debug, PartialEq, Eq, PartialOrd, Ord)]
 pub struct UnixTime {
     secs: u64,

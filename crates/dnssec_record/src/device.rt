@@ -19,8 +19,12 @@ pub trait Source {
 
     /// Reads the next bytes into the front of `buf`, and answers how many these are.
     ///
-    /// For a buffer that isn't empty the answer is 0 only at the end. A fault gives nothing, and
-    /// is counted. The caller sees to it that the count has room.
+    /// For a buffer that isn't empty the answer is 0 only at the end. The caller sees to it that
+    /// the count of faults has room for one more.
+    ///
+    /// # Errors
+    ///
+    /// `DeviceFault` where the device has failed. It gave nothing then, and the fault is counted.
     fn read(&mut self, buf: &mut [u8]) -> Result<usize, DeviceFault>
         requires { faults self.old < u64.MAX }
         ensures bound { IfOk result (λ n. n ≤ length buf.new) }
@@ -41,9 +45,11 @@ pub trait Sink {
     ghost faults: { Self → ℕ };
 
     /// Writes first bytes of `buf`, and answers how many were taken: at least one of a piece that
-    /// isn't empty.
+    /// isn't empty. The caller sees to it that the count of faults has room for one more.
     ///
-    /// A fault takes nothing, and is counted. The caller sees to it that the count has room.
+    /// # Errors
+    ///
+    /// `DeviceFault` where the device has failed. It took nothing then, and the fault is counted.
     fn write(&mut self, buf: &[u8]) -> Result<usize, DeviceFault>
         requires { faults self.old < u64.MAX }
         ensures bound { IfOk result (λ n. n ≤ length buf.now) }
@@ -58,6 +64,13 @@ pub trait Sink {
 
 /// A reader or a writer of the standard library as a device, which counts its errors. A write that
 /// takes nothing of a piece that isn't empty is one too.
+///
+/// ```rust
+/// let mut input = Std::new(script.as_bytes());
+/// let mut output = Std::new(Vec::new(alloc));
+/// run_script(alloc, &mut input, &mut output)?;
+/// let answers = output.into_inner();
+/// ```
 #[derive(Debug, Drop)]
 pub struct Std<T> {
     inner: T,

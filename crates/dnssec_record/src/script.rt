@@ -38,6 +38,14 @@ const PIECE: usize = 4096;
 /// - `Device` where `input` or `output` has failed. What was written is a beginning of the
 ///   answers.
 /// - `OutOfMemory` where memory runs out. Nothing was written.
+///
+/// ```rust
+/// let mut input = Std::new(rt.stdin());
+/// let mut output = Std::new(rt.stdout());
+/// if let Err(fault) = run_script(rt.alloc(), &mut input, &mut output) {
+///     eprintln!(rt; "{fault}")?;
+/// }
+/// ```
 pub fn run_script<R: Source, W: Sink>(
     alloc: Global,
     input: &mut R,

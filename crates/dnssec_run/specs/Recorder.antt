@@ -1,8 +1,10 @@
 -- What the recorder of a run keeps beside the key set.
+use denote.Ref.{Bor}
 use Rattle.std.specs.Prelude.{◌≡◌, ℕ, Bool, false, List, [], ◌∷◌, length, map, filter}
 use Rattle.std.specs.Prelude.{Option, None, Some}
 use Rattle.std.specs.Prelude.{if◌then◌else◌, string_bytes}
 use Rattle.std.specs.Option.{option_map, option_map_or}
+use Rattle.std.specs.List.{All}
 use Rattle.std.specs.Str.{bytes_eq}
 use Rattle.std.specs.FinMap.{get}
 use Rattle.std.specs.BTreeMap as tree
@@ -54,6 +56,11 @@ passing {Y} p key es =
     map (λ (e : String Y × ℕ). (string_bytes e.0, e.1))
     (filter (λ (e : String Y × ℕ). option_map_or (λ (k : KeyParts). p k.keytype)
     (key (string_bytes e.0)) false) es)
+
+-- each of these keys is the one at its reference
+abbrev pub AreFound : {Y : Type 0} → (List ℕ → Option KeyParts)
+    → List (Bor (String Y) × Bor KeyParts) → Type 0
+AreFound key = All (λ e. key (string_bytes e.0.now) ≡ Some e.1.now)
 
 -- a key as one of a record, where it is there and passes
 abbrev pub shown_once : (KeyType → Bool) → Option KeyParts → Id → List Id

@@ -1,5 +1,5 @@
 -- Each of the four lists is the keys that its set shows.
-use Rattle.std.proofs.Common.{◌∙◌, ap}
+use Rattle.std.proofs.Common.{◌∙◌}
 use Rattle.std.specs.HashMap as hash
 use Rattle.dnssec_run.specs.Published.{in_ds, in_dnskey, signs_dnskey, signs_zone}
 use Rattle.dnssec_run.proofs.Positions.{passing-shown, shows-next, shows-all}
@@ -10,7 +10,7 @@ loop-reference-preserved c =
     let key = hash.get_by_text c.keys-keys.result.now in
     let steps = c.in-Some.ensures.steps in
     let inv = c.loop-reference.invariant in
-    let found = c.get-key.ensures.value ∙ ap key c.as_str.ensures.value in
+    let found = c.key_at-key.ensures in
     record {
       ds = shows-next in_ds key _ _ _ _ _ _ _ steps
           found c.in_ok-show.ensures.ok inv.ds;

@@ -7,16 +7,16 @@ use Rattle.dnssec_run.proofs.running.published.Given as goal
 
 abbrev pub invariant-loop-reference : goal.invariant-loop-reference
 invariant-loop-reference l = record {
-  ds : map id_of l.ds.items
+  ds : map id_of l.ds.keys.items
       ++ passing in_ds (hash.get_by_text l.keys) l.reference-iterator
       ≡ passing in_ds (hash.get_by_text l.keys) l.added.entries;
-  dnskey : map id_of l.dnskey.items
+  dnskey : map id_of l.dnskey.keys.items
       ++ passing in_dnskey (hash.get_by_text l.keys) l.reference-iterator
       ≡ passing in_dnskey (hash.get_by_text l.keys) l.added.entries;
-  dnskey_signers : map id_of l.dnskey_signers.items
+  dnskey_signers : map id_of l.dnskey_signers.keys.items
       ++ passing signs_dnskey (hash.get_by_text l.keys) l.reference-iterator
       ≡ passing signs_dnskey (hash.get_by_text l.keys) l.added.entries;
-  zone_signers : map id_of l.zone_signers.items
+  zone_signers : map id_of l.zone_signers.keys.items
       ++ passing signs_zone (hash.get_by_text l.keys) l.reference-iterator
       ≡ passing signs_zone (hash.get_by_text l.keys) l.added.entries;
 }

@@ -11,7 +11,20 @@ loop-self-preserved c =
       floor = c.loop-self.invariant.floor;
       dues = c.loop-self.invariant.dues;
       spans = λ at n t b.
-          subst (λ (xs : List Span). Tiles at n xs × Begins w.floor xs) (sym c.remove.ensures.items)
+          subst (λ (xs : List Span). Tiles at n xs × Begins w.floor xs)
+              (sym c.remove-keys.ensures.items)
+          (drop-first at n w.floor w.spans.items (sym c.ends_below.ensures ∙ c.loop-self-test.true)
+          (c.loop-self.invariant.spans at n t b).0);
+    }
+
+pub loop-self-preserved-in-loop-self : goal.loop-self-preserved-in-loop-self
+loop-self-preserved-in-loop-self c =
+    let w = c.loop-self.self in record {
+      floor = c.loop-self.invariant.floor;
+      dues = c.loop-self.invariant.dues;
+      spans = λ at n t b.
+          subst (λ (xs : List Span). Tiles at n xs × Begins w.floor xs)
+              (sym c.remove-keys.ensures.items)
           (drop-first at n w.floor w.spans.items (sym c.ends_below.ensures ∙ c.loop-self-test.true)
           (c.loop-self.invariant.spans at n t b).0);
     }
