@@ -4,9 +4,9 @@ use Rattle.dnssec_record.specs.Answer.{Answers, AnswerFault, TakesBeginning}
 use Rattle.dnssec_record.specs.Reading.{TakesFront}
 use Rattle.dnssec_record.specs.Script.{IsScript, lines_of}
 use Rattle.dnssec_run.specs.declared.call.Call.{Call}
-use Rattle.dnssec_record.specs.declared.script.ScriptFault.{ScriptFault}
-use Rattle.dnssec_record.specs.declared.script.ScriptFault.TheVariants.{Malformed, Device}
-use Rattle.dnssec_record.specs.declared.script.ScriptFault.TheVariants.{OutOfMemory}
+use Rattle.dnssec_record.specs.declared.fault.ScriptFault.{ScriptFault}
+use Rattle.dnssec_record.specs.declared.fault.ScriptFault.TheVariants.{Malformed, Device}
+use Rattle.dnssec_record.specs.declared.fault.ScriptFault.TheVariants.{OutOfMemory}
 use Rattle.dnssec_record.proofs.Judging.{never_malformed}
 
 -- what holds of the bytes that were read holds of those that the input had left

@@ -11,9 +11,9 @@ use Rattle.dnssec_record.specs.Script.{says, said, IsZoneLine, SpellEach, AreScr
 use Rattle.dnssec_record.specs.Script.{line_of, lines_of, without_end, IsFirstOf}
 use Rattle.dnssec_record.specs.Answer.{AnswerFault}
 use Rattle.dnssec_record.specs.Reading.{CallsFault, SilentFirst}
-use Rattle.dnssec_record.specs.declared.script.ScriptFault.{ScriptFault}
-use Rattle.dnssec_record.specs.declared.script.ScriptFault.TheVariants.{Malformed, Device}
-use Rattle.dnssec_record.specs.declared.script.ScriptFault.TheVariants.{OutOfMemory}
+use Rattle.dnssec_record.specs.declared.fault.ScriptFault.{ScriptFault}
+use Rattle.dnssec_record.specs.declared.fault.ScriptFault.TheVariants.{Malformed, Device}
+use Rattle.dnssec_record.specs.declared.fault.ScriptFault.TheVariants.{OutOfMemory}
 use Rattle.dnssec_run.specs.declared.call.Call.{Call}
 
 -- there is always a first line
@@ -46,7 +46,7 @@ past_first i = let other : suc (suc i) ≢ 1 = omega arith in grind (arith, nat_
 
 pub form_past : (zone : List ℕ) (lines : List (List ℕ)) (i : ℕ)
     → IsSome (says (get_or lines i []))
-        → HasForm (suc (suc i)) (line_of (zone ∷ lines) (suc (suc i)))
+    → HasForm (suc (suc i)) (line_of (zone ∷ lines) (suc (suc i)))
 form_past zone lines i some =
     let line = line_past zone lines i in
     let other = past_first i in
@@ -54,7 +54,7 @@ form_past zone lines i some =
 
 pub form_past-says : (zone : List ℕ) (lines : List (List ℕ)) (i : ℕ)
     → HasForm (suc (suc i)) (line_of (zone ∷ lines) (suc (suc i)))
-        → IsSome (says (get_or lines i []))
+    → IsSome (says (get_or lines i []))
 form_past-says zone lines i form =
     let line = line_past zone lines i in
     let other = past_first i in
@@ -113,7 +113,7 @@ calls_fault script zone lines name OutOfMemory split named first = tt
 
 -- calls that say what the lines say are the lines' calls
 pub spell_each : (lines : List (List ℕ)) (calls : List Call)
-    → map (λ c. Some (said c)) calls ≡ map says lines → SpellEach lines calls
+    → map Some (map said calls) ≡ map says lines → SpellEach lines calls
 spell_each [] [] same = tt
 spell_each [] (call ∷ calls) same = cc
 spell_each (line ∷ lines) [] same = cc

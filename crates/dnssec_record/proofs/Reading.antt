@@ -1,19 +1,19 @@
--- The lines of a script, one after another: what is kept of each, and its end.
+-- The lines of a script, one after another: what is kept of each, its end, and its calls.
 use Rattle.std.proofs.Common.{◌≡◌, ◌≢◌, ℕ, ◌+◌, ◌<◌, ◌==◌, if◌then◌else◌, Bool, true, false, Option}
 use Rattle.std.proofs.Common.{Some, None, is_some, List, [], ◌∷◌, ◌++◌, Bor, map, length, take}
-use Rattle.std.proofs.Common.{refl, sym, ap, ◌∙◌, arith}
+use Rattle.std.proofs.Common.{get_or, refl, sym, ap, ◌∙◌, arith}
 use Rattle.std.specs.List.{list_all}
 use Rattle.std.proofs.lemmas.Bool.Decides.{nat_tests}
 use Rattle.std.specs.Option.{option_map}
-use Rattle.std.proofs.lemmas.List.{take_more, map-append, get_or-take, length-take-le}
+use Rattle.std.proofs.lemmas.List.{take_more, map_more, map-append, get_or-take, length-take-le}
 use denote.Bor.{now}
 use Rattle.dnssec_record.proofs.Texts.{text_at, shown_at, within_shown}
 use Rattle.std.proofs.lemmas.List.Sums.{AllPass-from_list_all}
-use Rattle.dnssec_record.specs.Script.{says, without_end}
+use Rattle.dnssec_run.specs.declared.call.Call.{Call}
+use Rattle.dnssec_record.specs.Script.{said, says, without_end}
 use Rattle.dnssec_record.specs.Statement.{statement_said}
-use Rattle.dnssec_record.specs.Reading.{all_said, says_some, SilentFirst}
+use Rattle.dnssec_record.specs.Reading.{says_some, SilentFirst}
 use Rattle.dnssec_record.specs.declared.statement.Statement.{Statement}
-use Rattle.dnssec_record.specs.declared.statement.Lists.{Lists}
 
 -- a line feed at the end is taken off, and no other byte
 pub without_end-last : (text : List ℕ) (b : ℕ)
@@ -47,32 +47,18 @@ unended script text b split other =
     split ∙ ap (λ t. if t then text else text ++ b ∷ []) (sym no)
     ∙ sym (without_end-last text b) ∙ ap without_end (sym split)
 
--- one statement more
-pub all_said-push : (ss : List Statement) (ls : List Lists) (s : Statement) (l : Lists)
-    → length ss ≡ length ls
-    → all_said (ss ++ s ∷ []) (ls ++ l ∷ []) ≡ all_said ss ls ++ Some (statement_said s l) ∷ []
-all_said-push [] [] s l e = refl
-all_said-push [] (k ∷ ls) s l e = absurd (omega arith)
-all_said-push (r ∷ ss) [] s l e = absurd (omega arith)
-all_said-push (r ∷ ss) (k ∷ ls) s l e =
-    ap (λ said. Some (statement_said r k) ∷ said) (all_said-push ss ls s l (omega arith))
-
 -- what a line says, where nothing was read
-pub silent : (found : Option (Statement × Lists)) (line : List ℕ)
-    → option_map (λ x. statement_said x.0 x.1) found ≡ says line → found ≡ None
-    → false ≡ says_some line
+pub silent : (found : Option Statement) (line : List ℕ)
+    → option_map statement_said found ≡ says line → found ≡ None → false ≡ says_some line
 silent found line said none =
-    ap (λ (o : Option (Statement × Lists)). is_some (option_map (λ x. statement_said x.0 x.1) o))
-    (sym none)
+    ap (λ (o : Option Statement). is_some (option_map statement_said o)) (sym none)
     ∙ ap is_some said
 
 -- what a line says, where a statement was read
-pub spoken : (found : Option (Statement × Lists)) (line : List ℕ) (s : Statement) (l : Lists)
-    → option_map (λ x. statement_said x.0 x.1) found ≡ says line → found ≡ Some (s, l)
-    → Some (statement_said s l) ≡ says line
-spoken found line s l said some =
-    ap (λ (o : Option (Statement × Lists)). option_map (λ x. statement_said x.0 x.1) o) (sym some)
-    ∙ said
+pub spoken : (found : Option Statement) (line : List ℕ) (s : Statement)
+    → option_map statement_said found ≡ says line → found ≡ Some s
+    → Some (statement_said s) ≡ says line
+spoken found line s said some = ap (option_map statement_said) (sym some) ∙ said
 
 -- the first line that says nothing
 pub first_silent : (xs : List (Bor (List ℕ))) (i : ℕ) → i < length xs
@@ -91,29 +77,39 @@ first_silent xs i within spoke silent = record {
 -- what the lines say, with one more
 pub says_more : (xs : List (Bor (List ℕ))) (i : ℕ) → i < length xs
     → map says (take (i + 1) (map now xs)) ≡ map says (take i (map now xs))
-        ++ says (text_at xs i) ∷ []
+    ++ says (text_at xs i) ∷ []
 says_more xs i within =
     ap (map says) (take_more (map now xs) i [] (within_shown xs i within))
     ∙ map-append says (take i (map now xs)) _
     ∙ ap (λ t. map says (take i (map now xs)) ++ says t ∷ []) (shown_at xs i within)
 
 -- what was kept, with one statement more
-pub kept_statement : (xs : List (Bor (List ℕ))) (i : ℕ) (ss ss' : List Statement)
-    (ls ls' : List Lists)
-    (s : Statement) (l : Lists)
-    → i < length xs → length ss ≡ i → length ls ≡ i
-    → all_said ss ls ≡ map says (take i (map now xs))
-    → ss' ≡ ss ++ s ∷ [] → ls' ≡ ls ++ l ∷ []
-    → Some (statement_said s l) ≡ says (text_at xs i)
-    → all_said ss' ls' ≡ map says (take (i + 1) (map now xs))
-kept_statement xs i ss ss' ls ls' s l within count counted kept grown grown' said =
-    ap (λ t. all_said t ls') grown ∙ ap (all_said (ss ++ s ∷ [])) grown'
-    ∙ all_said-push ss ls s l (count ∙ sym counted)
-    ∙ ap (λ t. t ++ Some (statement_said s l) ∷ []) kept
+pub kept_statement : (xs : List (Bor (List ℕ))) (i : ℕ) (ss grown : List Statement)
+    (s : Statement)
+    → i < length xs → map Some (map statement_said ss) ≡ map says (take i (map now xs))
+    → grown ≡ ss ++ s ∷ [] → Some (statement_said s) ≡ says (text_at xs i)
+    → map Some (map statement_said grown) ≡ map says (take (i + 1) (map now xs))
+kept_statement xs i ss grown s within kept grows said =
+    ap (λ t. map Some (map statement_said t)) grows
+    ∙ ap (map Some) (map-append statement_said ss (s ∷ []))
+    ∙ map-append Some (map statement_said ss) (statement_said s ∷ [])
+    ∙ ap (λ t. t ++ Some (statement_said s) ∷ []) kept
     ∙ ap (λ v. map says (take i (map now xs)) ++ v ∷ []) said
     ∙ sym (says_more xs i within)
 
--- without lists nothing is said
-pub all_said-nil : (ss : List Statement) → all_said ss [] ≡ []
-all_said-nil [] = refl
-all_said-nil (s ∷ ss) = refl
+-- what the statements say, with one more, whose call was made
+pub one_said : (ss : List Statement) (s : Statement) (i : ℕ) (call : Call) → i < length ss
+    → s ≡ get_or ss i s → said call ≡ statement_said s
+    → map statement_said (take (i + 1) ss) ≡ map statement_said (take i ss) ++ said call ∷ []
+one_said ss s i call within is same =
+    map_more statement_said ss i s within
+    ∙ ap (λ v. map statement_said (take i ss) ++ v ∷ []) (sym (same ∙ ap statement_said is))
+
+-- one call more
+pub made_more : (calls grown : List Call) (call : Call) (before now : List Statement)
+    → map said calls ≡ map statement_said before → grown ≡ calls ++ call ∷ []
+    → map statement_said now ≡ map statement_said before ++ said call ∷ []
+    → map said grown ≡ map statement_said now
+made_more calls grown call before now made grows one =
+    ap (map said) grows ∙ map-append said calls (call ∷ [])
+    ∙ ap (λ t. t ++ said call ∷ []) made ∙ sym one

@@ -1,4 +1,4 @@
--- A run whose entries are answered one by one.
+-- A run whose entries are answered one by one, as its statements are read.
 use Rattle.std.proofs.Common.{◌≡◌, ℕ, ◌-◌, List, [], ◌∷◌, ◌++◌, length, map, Option, None, Some}
 use Rattle.std.proofs.Common.{refl, sym, ◌∙◌, ap, subst, arith, append_assoc, length-append, Bool}
 use Rattle.std.proofs.Common.{true, false}
@@ -24,12 +24,18 @@ use Rattle.dnssec_judge.specs.Inner.Window.{GoesOnWith, set_at, set_in}
 use Rattle.dnssec_record.specs.Answer.{Answers}
 use Rattle.dnssec_record.specs.Output.{answers, chain_line, published_text, reply_text, set_line}
 use Rattle.dnssec_record.specs.Output.{set_text, sets_text}
-use Rattle.dnssec_record.specs.Script.{IsScript}
+use Rattle.dnssec_record.proofs.Reading.{made_more}
+use Rattle.dnssec_record.specs.Reading.{IsOfStatements}
+use Rattle.dnssec_record.specs.Script.{said}
+use Rattle.dnssec_record.specs.Statement.{statement_said}
+use Rattle.dnssec_record.specs.declared.statement.Statement.{Statement}
 
--- the calls so far have these answers; what is kept of their entries is what the recorder and the
--- judge know
-pub record HasAnswered (name : List ℕ) (calls : List Call) (text : List ℕ) (r : Recorder)
+-- the calls of the statements so far have these answers; what is kept of their entries is what the
+-- recorder and the judge know
+pub record HasAnswered (name : List ℕ) (statements : List Statement) (text : List ℕ) (r : Recorder)
     (j : Judge) : Type 0 where
+  pub calls : List Call
+  pub are_calls : map said calls ≡ map statement_said statements
   pub entries : List Entry
   pub records : Records name calls entries r
   pub knows : Knows entries j
@@ -51,11 +57,13 @@ empty_sets sets ds dnskey signers zone =
     λ i. codes "ds=" ++ set_text (a i) ++ codes " dnskey=" ++ set_text (b i)
     ++ codes " signers=" ++ set_text (c i) ++ codes " zone=" ++ set_text (d i) ++ codes "\n"
 
--- no call
+-- no statement
 pub none_answered : (name : List ℕ) (text : List ℕ) (r : Recorder) (j : Judge)
     → Records name [] [] r → Knows [] j → text ≡ [] → HasAnswered name [] text r j
 unfolding position_at
 none_answered name text r j records knows empty = record {
+  calls = [];
+  are_calls = refl;
   entries = [];
   records = records;
   knows = knows;
@@ -113,9 +121,10 @@ next_comes name calls entries r s outcome e news b so mark moment sets may kept 
         ∙ last_held name calls entries r so kind
 
 -- one more call
-pub one_more : (name : List ℕ) (calls : List Call) (text after : List ℕ) (r s : Recorder)
-    (j k : Judge) (call : Call) (outcome : Outcome) (news : Option Published)
-    → HasAnswered name calls text r j
+pub one_more : (name : List ℕ) (past now : List Statement) (text after : List ℕ)
+    (r s : Recorder) (j k : Judge) (call : Call) (outcome : Outcome) (news : Option Published)
+    → HasAnswered name past text r j
+    → map statement_said now ≡ map statement_said past ++ said call ∷ []
     → ((name : List ℕ) (calls : List Call) (entries : List Entry) (e : Entry)
     → TellsOutcome e outcome → HasSameKeys e.published s.published → Records name calls entries r
     → Records name (calls ++ call ∷ []) (entries ++ e ∷ []) s)
@@ -124,8 +133,8 @@ pub one_more : (name : List ℕ) (calls : List Call) (text after : List ℕ) (r 
     → ((entries : List Entry) (e : Entry) → ComesNext entries e outcome.mark outcome.moment news
     → Knows entries j → Knows (entries ++ e ∷ []) k)
     → after ≡ text ++ reply_text outcome.reply ++ codes "\n"
-    → HasAnswered name (calls ++ call ∷ []) after s k
-one_more name calls text after r s j k call outcome news so made kept handed judged said =
+    → HasAnswered name now after s k
+one_more name past now text after r s j k call outcome news so one made kept handed judged wrote =
     let e : Entry = record {
       reply = outcome.reply;
       moment = outcome.moment;
@@ -136,39 +145,42 @@ one_more name calls text after r s j k call outcome news so made kept handed jud
     let more : answers so.entries ++ line e ≡ answers (so.entries ++ e ∷ []) =
     flat_map_more line [] so.entries e in
     let text_is : after ≡ answers so.entries ++ line e =
-    said ∙ append_assoc text (reply_text e.reply) (codes "\n")
+    wrote ∙ append_assoc text (reply_text e.reply) (codes "\n")
     ∙ ap (λ t. t ++ line e) so.text_is in
     record {
+      calls = so.calls ++ call ∷ [];
+      are_calls = made_more so.calls _ call past now so.are_calls refl one;
       entries = so.entries ++ e ∷ [];
-      records = made name calls so.entries e
+      records = made name so.calls so.entries e
           (record { reply = refl; mark = refl; moment = refl })
           (record { ds = refl; dnskey = refl; dnskey_signers = refl; zone_signers = refl })
           so.records;
       knows = judged so.entries e
-          (next_comes name calls so.entries r s outcome e news outcome.may_publish so.records refl
+          (next_comes name so.calls so.entries r s outcome e news outcome.may_publish so.records
+              refl
           refl refl refl kept handed) so.knows;
       text_is = text_is ∙ more;
       sets_are = ap sets_text (last_of so.entries e);
     }
 
--- all calls of a script, with the sets and the verdict behind them
-pub all_answered : (script name : List ℕ) (calls : List Call) (text sets whole : List ℕ)
-    (r : Recorder) (j : Judge) (verdict : Option Broken)
-    → IsScript script name calls → HasAnswered name calls text r j
+-- all statements of a script, with the sets and the verdict behind their answers
+pub all_answered : (script name : List ℕ) (statements : List Statement)
+    (text sets whole : List ℕ) (r : Recorder) (j : Judge) (verdict : Option Broken)
+    → IsOfStatements script name statements → HasAnswered name statements text r j
     → ((entries : List Entry) → Knows entries j → IsVerdict entries verdict)
     → sets ≡ text ++ published_text r.published → whole ≡ sets ++ chain_line verdict
     → Answers script whole
-all_answered script name calls text sets whole r j verdict is so judged shown said =
+all_answered script name statements text sets whole r j verdict is so judged shown wrote =
     let front : sets ≡ answers so.entries ++ set_line so.entries =
     shown ∙ ap (λ t. t ++ published_text r.published) so.text_is
     ∙ ap (λ l. answers so.entries ++ l) so.sets_are in
     record {
       name = name;
-      calls = calls;
+      calls = so.calls;
       entries = so.entries;
       verdict = verdict;
-      is_script = is;
+      is_script = is so.calls so.are_calls;
       is_run = so.records.run;
       is_verdict = judged so.entries so.knows;
-      is_output = said ∙ ap (λ t. t ++ chain_line verdict) front;
+      is_output = wrote ∙ ap (λ t. t ++ chain_line verdict) front;
     }

@@ -26,7 +26,7 @@ pub fails_at : (p : List ℕ → Bool) (xs : List (Bor (List ℕ))) (i : ℕ) �
     → false ≡ p (text_at xs i) → list_all p (map now xs) ≡ false
 fails_at p xs i within fails =
     list_all_at p (map now xs) i [] (within_shown xs i within)
-        (ap p (shown_at xs i within) ∙ sym fails)
+    (ap p (shown_at xs i within) ∙ sym fails)
 
 -- one text more passes
 pub passes_more : (p : List ℕ → Bool) (xs : List (Bor (List ℕ))) (i : ℕ) → i < length xs

@@ -10,9 +10,9 @@ use Rattle.dnssec_judge.specs.declared.verdict.Broken.{Broken}
 use Rattle.dnssec_judge.specs.Verdict.{IsVerdict}
 use Rattle.dnssec_record.specs.Output.{output}
 use Rattle.dnssec_record.specs.Script.{IsScript, IsFirstMalformed}
-use Rattle.dnssec_record.specs.declared.script.ScriptFault.{ScriptFault}
-use Rattle.dnssec_record.specs.declared.script.ScriptFault.TheVariants.{Malformed, Device}
-use Rattle.dnssec_record.specs.declared.script.ScriptFault.TheVariants.{OutOfMemory}
+use Rattle.dnssec_record.specs.declared.fault.ScriptFault.{ScriptFault}
+use Rattle.dnssec_record.specs.declared.fault.ScriptFault.TheVariants.{Malformed, Device}
+use Rattle.dnssec_record.specs.declared.fault.ScriptFault.TheVariants.{OutOfMemory}
 
 -- a run of the calls of this script leaves this key set and this record
 pub record IsRunOf (script : List ℕ) (set : KeySetParts) (entries : List Entry) : Type 0 where

@@ -1,8 +1,8 @@
 -- The faults of a script: their statuses and texts.
 use Rattle.std.specs.Prelude.{ℕ, List, ◌++◌, codes, decimal}
-use Rattle.dnssec_record.specs.declared.script.ScriptFault.{ScriptFault}
-use Rattle.dnssec_record.specs.declared.script.ScriptFault.TheVariants.{Malformed, Device}
-use Rattle.dnssec_record.specs.declared.script.ScriptFault.TheVariants.{OutOfMemory}
+use Rattle.dnssec_record.specs.declared.fault.ScriptFault.{ScriptFault}
+use Rattle.dnssec_record.specs.declared.fault.ScriptFault.TheVariants.{Malformed, Device}
+use Rattle.dnssec_record.specs.declared.fault.ScriptFault.TheVariants.{OutOfMemory}
 
 -- the status that a program ends with
 abbrev pub fault_status : ScriptFault → ℕ

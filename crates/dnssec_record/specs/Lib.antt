@@ -1,7 +1,6 @@
 pub mod Answer
 pub mod Device
 pub mod Fault
-pub mod NewKey
 pub mod Output
 pub mod Reading
 pub mod Script

@@ -1,23 +1,20 @@
 -- What the reader keeps of lines that make calls.
-use Rattle.std.specs.Prelude.{◌≡◌, ℕ, ◌+◌, ◌<◌, Bool, true, false, List, [], ◌∷◌, ◌++◌, length}
-use Rattle.std.specs.Prelude.{slice_index_or}
-use Rattle.std.specs.Prelude.{Option, Some, is_some}
+use Rattle.std.specs.Prelude.{◌≡◌, ℕ, ◌+◌, ◌<◌, Bool, true, false, List, [], ◌++◌, length, map}
+use Rattle.std.specs.Prelude.{slice_index_or, Option, is_some}
 use Rattle.std.specs.Io.KnownBytes.{Appends}
-use Rattle.dnssec_record.specs.Script.{Value, says}
+use Rattle.dnssec_run.specs.declared.call.Call.{Call}
+use Rattle.dnssec_record.specs.Script.{IsScript, said, says}
 use Rattle.dnssec_record.specs.Statement.{statement_said}
-use Rattle.dnssec_record.specs.declared.fields.Word.{Word}
 use Rattle.dnssec_record.specs.declared.statement.Statement.{Statement}
-use Rattle.dnssec_record.specs.declared.statement.Lists.{Lists}
-use Rattle.dnssec_record.specs.declared.script.ScriptFault.{ScriptFault}
-use Rattle.dnssec_record.specs.declared.script.ScriptFault.TheVariants.{Malformed, Device}
-use Rattle.dnssec_record.specs.declared.script.ScriptFault.TheVariants.{OutOfMemory}
+use Rattle.dnssec_record.specs.declared.fault.ScriptFault.{ScriptFault}
+use Rattle.dnssec_record.specs.declared.fault.ScriptFault.TheVariants.{Malformed, Device}
+use Rattle.dnssec_record.specs.declared.fault.ScriptFault.TheVariants.{OutOfMemory}
 
--- what statements with their lists say, one after another
-abbrev pub all_said : List Statement → List Lists → List (Option (Word × List Value))
-all_said [] lists = []
-all_said (statement ∷ statements) [] = []
-all_said (statement ∷ statements) (own ∷ lists) =
-    Some (statement_said statement own) ∷ all_said statements lists
+-- the script is of this zone, and of whatever calls say what these statements say
+abbrev pub IsOfStatements : List ℕ → List ℕ → List Statement → Type 0
+IsOfStatements script name statements =
+    (calls : List Call) → map said calls ≡ map statement_said statements →
+    IsScript script name calls
 
 -- the line says something
 abbrev pub says_some : List ℕ → Bool

@@ -10,6 +10,7 @@ use Rattle.std.specs.List.{slice_split, list_all}
 use Rattle.std.specs.Str.{bytes_eq}
 use Rattle.dnssec_base.specs.AlgorithmNames.{algorithm_named}
 use Rattle.dnssec_base.specs.NameText as names
+use Rattle.dnssec_key.specs.declared.roll.Half.TheVariants.{First, Second}
 use Rattle.dnssec_key.specs.declared.roll.RollType.{RollType}
 use Rattle.dnssec_key.specs.declared.roll.RollType.TheVariants.{
   KskRoll,
@@ -23,8 +24,13 @@ use Rattle.dnssec_key.specs.Key.{is_available}
 use Rattle.dnssec_key.specs.Texts.{roll_name}
 use Rattle.dnssec_run.specs.declared.call.Call.{Call}
 use Rattle.dnssec_run.specs.declared.call.Call.TheVariants as call
-use Rattle.dnssec_record.specs.declared.fields.Word.{Word}
-use Rattle.dnssec_record.specs.declared.fields.Word.TheVariants as word
+use Rattle.dnssec_record.specs.declared.words.Word.{Word}
+use Rattle.dnssec_record.specs.declared.words.Word.TheVariants as word
+use Rattle.dnssec_record.specs.declared.words.AddWord.TheVariants.{Ksk, Zsk, Csk}
+use Rattle.dnssec_record.specs.declared.words.FlagWord.TheVariants.{Decoupled, Signer, AtParent}
+use Rattle.dnssec_record.specs.declared.words.StampWord.TheVariants as stamp
+use Rattle.dnssec_record.specs.declared.words.KeyWord.TheVariants.{SetStale, Delete}
+use Rattle.dnssec_record.specs.declared.words.EndWord.TheVariants.{Done, Abort}
 
 -- ---- lines and fields
 
@@ -143,57 +149,51 @@ as_time text =
 
 -- ---- what a line says
 
--- a word, and what its fields have to be
-pub record Row : Type 0 where
-  pub name : List ℕ
-  pub fields : List Form
-
--- what the fields of an add have to be
-abbrev pub key_forms : List Form
-key_forms = as_reference ∷ as_private ∷ as_algorithm ∷ as_tag ∷ as_time ∷ as_yes_no ∷ []
-
--- the same of an add of another signer's key
-abbrev pub public_key_forms : List Form
-public_key_forms = as_reference ∷ as_algorithm ∷ as_tag ∷ as_time ∷ as_yes_no ∷ []
-
--- a word that takes such fields
-abbrev pub takes : List ℕ → List Form → Row
-takes name forms = record { name = name; fields = forms }
-
--- the table of the words
-abbrev pub row : Word → Row
-row word.AddKsk = takes (codes "add-ksk") key_forms
-row word.AddZsk = takes (codes "add-zsk") key_forms
-row word.AddCsk = takes (codes "add-csk") key_forms
-row word.AddPublic = takes (codes "add-public") public_key_forms
-row word.SetDecoupled = takes (codes "set-decoupled") (as_reference ∷ as_yes_no ∷ [])
-row word.SetPresent = takes (codes "set-present") (as_reference ∷ as_yes_no ∷ as_time ∷ [])
-row word.SetSigner = takes (codes "set-signer") (as_reference ∷ as_yes_no ∷ [])
-row word.SetAtParent = takes (codes "set-at-parent") (as_reference ∷ as_yes_no ∷ [])
-row word.SetStale = takes (codes "set-stale") (as_reference ∷ [])
-row word.SetVisible = takes (codes "set-visible") (as_reference ∷ as_time ∷ [])
-row word.SetDsVisible = takes (codes "set-ds-visible") (as_reference ∷ as_time ∷ [])
-row word.SetRrsigVisible = takes (codes "set-rrsig-visible") (as_reference ∷ as_time ∷ [])
-row word.Delete = takes (codes "delete") (as_reference ∷ [])
-row word.Start = takes (codes "start") (as_roll ∷ as_list ∷ as_list ∷ as_time ∷ [])
-row word.Report1 = takes (codes "report1") (as_roll ∷ as_ttl ∷ as_time ∷ [])
-row word.Wait1 = takes (codes "wait1") (as_roll ∷ as_time ∷ [])
-row word.Report2 = takes (codes "report2") (as_roll ∷ as_ttl ∷ as_time ∷ [])
-row word.Wait2 = takes (codes "wait2") (as_roll ∷ as_time ∷ [])
-row word.Done = takes (codes "done") (as_roll ∷ [])
-row word.Abort = takes (codes "abort") (as_roll ∷ [])
-
--- all words
-abbrev pub words : List Word
+-- the words and their names
+abbrev pub words : List (List ℕ × Word)
 words =
-    word.AddKsk ∷ word.AddZsk ∷ word.AddCsk ∷ word.AddPublic ∷ word.SetDecoupled ∷ word.SetPresent
-    ∷ word.SetSigner ∷ word.SetAtParent ∷ word.SetStale ∷ word.SetVisible ∷ word.SetDsVisible
-    ∷ word.SetRrsigVisible ∷ word.Delete ∷ word.Start ∷ word.Report1 ∷ word.Report2 ∷ word.Wait1
-    ∷ word.Wait2 ∷ word.Done ∷ word.Abort ∷ []
+    (codes "add-ksk", word.Add Ksk)
+    ∷ (codes "add-zsk", word.Add Zsk)
+    ∷ (codes "add-csk", word.Add Csk)
+    ∷ (codes "add-public", word.AddPublic)
+    ∷ (codes "set-decoupled", word.SetFlag Decoupled)
+    ∷ (codes "set-present", word.SetPresent)
+    ∷ (codes "set-signer", word.SetFlag Signer)
+    ∷ (codes "set-at-parent", word.SetFlag AtParent)
+    ∷ (codes "set-stale", word.OfKey SetStale)
+    ∷ (codes "set-visible", word.SetStamp stamp.Visible)
+    ∷ (codes "set-ds-visible", word.SetStamp stamp.DsVisible)
+    ∷ (codes "set-rrsig-visible", word.SetStamp stamp.RrsigVisible)
+    ∷ (codes "delete", word.OfKey Delete)
+    ∷ (codes "start", word.Start)
+    ∷ (codes "report1", word.Report First)
+    ∷ (codes "wait1", word.Wait First)
+    ∷ (codes "report2", word.Report Second)
+    ∷ (codes "wait2", word.Wait Second)
+    ∷ (codes "done", word.End Done)
+    ∷ (codes "abort", word.End Abort)
+    ∷ []
 
 -- a word, by its name
 unfoldable pub word_named : List ℕ → Option Word
-word_named name = find (λ w. bytes_eq (row w).name name) words
+word_named name = option_map (λ row. row.1) (find (λ row. bytes_eq row.0 name) words)
+
+-- what an add says behind the references of its key
+abbrev pub trait_forms : List Form
+trait_forms = as_algorithm ∷ as_tag ∷ as_time ∷ as_yes_no ∷ []
+
+-- what the fields behind a word have to be
+abbrev pub forms_behind : Word → List Form
+forms_behind (word.Add _) = as_reference ∷ as_private ∷ trait_forms
+forms_behind word.AddPublic = as_reference ∷ trait_forms
+forms_behind (word.SetFlag _) = as_reference ∷ as_yes_no ∷ []
+forms_behind word.SetPresent = as_reference ∷ as_yes_no ∷ as_time ∷ []
+forms_behind (word.SetStamp _) = as_reference ∷ as_time ∷ []
+forms_behind (word.OfKey _) = as_reference ∷ []
+forms_behind word.Start = as_roll ∷ as_list ∷ as_list ∷ as_time ∷ []
+forms_behind (word.Report _) = as_roll ∷ as_ttl ∷ as_time ∷ []
+forms_behind (word.Wait _) = as_roll ∷ as_time ∷ []
+forms_behind (word.End _) = as_roll ∷ []
 
 -- the first field, and those after it
 abbrev pub first_field : List (List ℕ) → Option (List ℕ × List (List ℕ))
@@ -220,7 +220,7 @@ word_at (name ∷ fields) = option_map (λ w. (w, fields)) (word_named name)
 
 -- what fields say behind a word
 abbrev pub says_behind : Word → List (List ℕ) → Option (Word × List Value)
-says_behind w fields = option_map (λ values. (w, values)) (values_of (row w).fields fields)
+says_behind w fields = option_map (λ values. (w, values)) (values_of (forms_behind w) fields)
 
 -- what a line says: its word, and what each field says
 unfoldable pub says : List ℕ → Option (Word × List Value)
@@ -228,43 +228,56 @@ says line = option_and_then (λ x. says_behind x.0 x.1) (word_at (fields_of line
 
 -- ---- calls
 
--- what an add says of its key
+-- what an add says of its key behind the references
+abbrev pub trait_values : ℕ → ℕ → ℕ → Bool → List Value
+trait_values algorithm tag created available =
+    Number algorithm ∷ Number tag ∷ Moment created ∷ Flag available ∷ []
+
+-- the same with the references
 abbrev pub key_values : List ℕ → Option (List ℕ) → ℕ → ℕ → ℕ → Bool → List Value
 key_values pubref privref algorithm tag created available =
-    Reference pubref ∷ Private privref ∷ Number algorithm ∷ Number tag ∷ Moment created
-    ∷ Flag available ∷ []
+    Reference pubref ∷ Private privref ∷ trait_values algorithm tag created available
 
 -- a call in the words of a script
 abbrev pub said : Call → Word × List Value
-said (call.AddKeyKsk p q a t c y) =
-    (word.AddKsk, key_values (string_bytes p) (option_map string_bytes q) a t c (is_available y))
-said (call.AddKeyZsk p q a t c y) =
-    (word.AddZsk, key_values (string_bytes p) (option_map string_bytes q) a t c (is_available y))
-said (call.AddKeyCsk p q a t c y) =
-    (word.AddCsk, key_values (string_bytes p) (option_map string_bytes q) a t c (is_available y))
-said (call.AddPublicKey p a t c y) = (
-  word.AddPublic,
-  Reference (string_bytes p) ∷ Number a ∷ Number t ∷ Moment c ∷ Flag y ∷ [],
+said (call.AddKeyKsk p q a t c y) = (
+  word.Add Ksk,
+  key_values (string_bytes p) (option_map string_bytes q) a t c (is_available y),
 )
-said (call.SetDecoupled p y) = (word.SetDecoupled, Reference p.now ∷ Flag y ∷ [])
+said (call.AddKeyZsk p q a t c y) = (
+  word.Add Zsk,
+  key_values (string_bytes p) (option_map string_bytes q) a t c (is_available y),
+)
+said (call.AddKeyCsk p q a t c y) = (
+  word.Add Csk,
+  key_values (string_bytes p) (option_map string_bytes q) a t c (is_available y),
+)
+said (call.AddPublicKey p a t c y) =
+    (word.AddPublic, Reference (string_bytes p) ∷ trait_values a t c y)
+said (call.SetDecoupled p y) = (word.SetFlag Decoupled, Reference p.now ∷ Flag y ∷ [])
 said (call.SetPresent p y t) = (word.SetPresent, Reference p.now ∷ Flag y ∷ Moment t ∷ [])
-said (call.SetSigner p y) = (word.SetSigner, Reference p.now ∷ Flag y ∷ [])
-said (call.SetAtParent p y) = (word.SetAtParent, Reference p.now ∷ Flag y ∷ [])
-said (call.SetStale p) = (word.SetStale, Reference p.now ∷ [])
-said (call.SetVisible p t) = (word.SetVisible, Reference p.now ∷ Moment t ∷ [])
-said (call.SetDsVisible p t) = (word.SetDsVisible, Reference p.now ∷ Moment t ∷ [])
-said (call.SetRrsigVisible p t) = (word.SetRrsigVisible, Reference p.now ∷ Moment t ∷ [])
-said (call.DeleteKey p) = (word.Delete, Reference p.now ∷ [])
+said (call.SetSigner p y) = (word.SetFlag Signer, Reference p.now ∷ Flag y ∷ [])
+said (call.SetAtParent p y) = (word.SetFlag AtParent, Reference p.now ∷ Flag y ∷ [])
+said (call.SetStale p) = (word.OfKey SetStale, Reference p.now ∷ [])
+said (call.SetVisible p t) =
+    (word.SetStamp stamp.Visible, Reference p.now ∷ Moment t ∷ [])
+said (call.SetDsVisible p t) =
+    (word.SetStamp stamp.DsVisible, Reference p.now ∷ Moment t ∷ [])
+said (call.SetRrsigVisible p t) =
+    (word.SetStamp stamp.RrsigVisible, Reference p.now ∷ Moment t ∷ [])
+said (call.DeleteKey p) = (word.OfKey Delete, Reference p.now ∷ [])
 said (call.StartRoll r old new t) = (
   word.Start,
   Roll r ∷ References (map now old.now) ∷ References (map now new.now) ∷ Moment t ∷ [],
 )
-said (call.Propagation1Complete r ttl t) = (word.Report1, Roll r ∷ Number ttl ∷ Moment t ∷ [])
-said (call.CacheExpired1 r t) = (word.Wait1, Roll r ∷ Moment t ∷ [])
-said (call.Propagation2Complete r ttl t) = (word.Report2, Roll r ∷ Number ttl ∷ Moment t ∷ [])
-said (call.CacheExpired2 r t) = (word.Wait2, Roll r ∷ Moment t ∷ [])
-said (call.RollDone r) = (word.Done, Roll r ∷ [])
-said (call.AbortRoll r) = (word.Abort, Roll r ∷ [])
+said (call.Propagation1Complete r ttl t) =
+    (word.Report First, Roll r ∷ Number ttl ∷ Moment t ∷ [])
+said (call.CacheExpired1 r t) = (word.Wait First, Roll r ∷ Moment t ∷ [])
+said (call.Propagation2Complete r ttl t) =
+    (word.Report Second, Roll r ∷ Number ttl ∷ Moment t ∷ [])
+said (call.CacheExpired2 r t) = (word.Wait Second, Roll r ∷ Moment t ∷ [])
+said (call.RollDone r) = (word.End Done, Roll r ∷ [])
+said (call.AbortRoll r) = (word.End Abort, Roll r ∷ [])
 
 -- the line makes this call
 abbrev pub Spells : List ℕ → Call → Type 0

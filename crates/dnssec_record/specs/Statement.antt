@@ -1,27 +1,34 @@
--- What a line that was read says: a call, or a start beside its lists.
-use Rattle.std.specs.Prelude.{Bool, true, false, List, [], ◌∷◌, map}
+-- What a statement of the reader says.
+use Rattle.std.specs.Prelude.{List, [], ◌∷◌, map}
 use denote.Bor.{now}
-use Rattle.dnssec_record.specs.Script.{Value, Roll, References, Moment, said}
-use Rattle.dnssec_record.specs.declared.fields.Word.{Word}
-use Rattle.dnssec_record.specs.declared.fields.Word.TheVariants as word
+use Rattle.std.specs.Option.{option_map}
+use Rattle.dnssec_record.specs.Script.{Value, Reference, Private, References, Flag, Roll, Number}
+use Rattle.dnssec_record.specs.Script.{Moment, trait_values}
+use Rattle.dnssec_record.specs.declared.words.KeyTraits.{KeyTraits}
+use Rattle.dnssec_record.specs.declared.words.Word.{Word}
+use Rattle.dnssec_record.specs.declared.words.Word.TheVariants as word
 use Rattle.dnssec_record.specs.declared.statement.Statement.{Statement}
-use Rattle.dnssec_record.specs.declared.statement.Statement.TheVariants.{Call, Start}
-use Rattle.dnssec_record.specs.declared.statement.Lists.{Lists}
+use Rattle.dnssec_record.specs.declared.statement.Statement.TheVariants as statement
 
--- the words of a statement with its lists
-abbrev pub statement_said : Statement → Lists → Word × List Value
-statement_said (Call call) lists = said call
-statement_said (Start roll time) lists = (
+-- what an add says of these traits of its key
+abbrev pub traits_said : KeyTraits → List Value
+traits_said k = trait_values k.algorithm k.key_tag k.creation_ts k.available
+
+-- the word of a statement, and what each field behind it says
+abbrev pub statement_said : Statement → Word × List Value
+statement_said (statement.Add w p q k) =
+    (word.Add w, Reference p.now ∷ Private (option_map now q) ∷ traits_said k)
+statement_said (statement.AddPublic p k) = (word.AddPublic, Reference p.now ∷ traits_said k)
+statement_said (statement.SetFlag w p y) = (word.SetFlag w, Reference p.now ∷ Flag y ∷ [])
+statement_said (statement.SetPresent p y t) =
+    (word.SetPresent, Reference p.now ∷ Flag y ∷ Moment t ∷ [])
+statement_said (statement.SetStamp w p t) = (word.SetStamp w, Reference p.now ∷ Moment t ∷ [])
+statement_said (statement.OfKey w p) = (word.OfKey w, Reference p.now ∷ [])
+statement_said (statement.Start r old new t) = (
   word.Start,
-  Roll roll ∷ References (map now lists.old.items) ∷ References (map now lists.new.items)
-      ∷ Moment time ∷ [],
+  Roll r ∷ References (map now old.items) ∷ References (map now new.items) ∷ Moment t ∷ [],
 )
-
--- the calls that borrow all their texts, and have no lists
-abbrev pub is_borrowing : Word → Bool
-is_borrowing word.AddKsk = false
-is_borrowing word.AddZsk = false
-is_borrowing word.AddCsk = false
-is_borrowing word.AddPublic = false
-is_borrowing word.Start = false
-is_borrowing _ = true
+statement_said (statement.Report half r ttl t) =
+    (word.Report half, Roll r ∷ Number ttl ∷ Moment t ∷ [])
+statement_said (statement.Wait half r t) = (word.Wait half, Roll r ∷ Moment t ∷ [])
+statement_said (statement.End w r) = (word.End w, Roll r ∷ [])

@@ -4,31 +4,33 @@ ghost use Rattle.std.specs.List.{flat_map};
 ghost use Rattle.dnssec_record.specs.Answer.{Answers};
 ghost use Rattle.dnssec_record.specs.Output.{action_name, actions_text, broken_text, chain_line};
 ghost use Rattle.dnssec_record.specs.Output.{published_text, reply_text, set_text};
-ghost use Rattle.dnssec_record.specs.Script.{IsScript};
+ghost use Rattle.dnssec_record.specs.Reading.{IsOfStatements};
 
+use crate::statement::Statement;
 use dnssec_base::Name;
 use dnssec_judge::{Broken, Judge};
 use dnssec_keyset::Action;
-use dnssec_run::{Call, Published, PublishedKey, Recorder, Reply};
+use dnssec_run::{Published, PublishedKey, Recorder, Reply};
 use std::alloc::{AllocError, Global};
 
-/// Makes the calls in turn on a new key set for the zone of this name, and tells what each is
-/// answered, then the sets that are published, and the verdict on the record. Of the record there
-/// is what a recorder and a judge keep.
+/// Makes the calls of the statements in turn on a new key set for the zone of this name, and tells
+/// what each is answered, then the sets that are published, and the verdict on the record. Of the
+/// record there is what a recorder and a judge keep, and of the calls the one whose turn it is.
 pub(crate) fn answer(
     alloc: Global,
     name: Name<Vec<u8>>,
-    calls: Vec<Call<'_>>,
+    statements: &[Statement<'_>],
 ) -> Result<String, AllocError>
     ensures { IfOk result (λ text. (script : List ℕ) →
-        IsScript script name calls.entry.items → Answers script (string_bytes text)) }
+        IsOfStatements script name statements.now → Answers script (string_bytes text)) }
 {
     let mut text = String::new(alloc);
     let mut recorder = Recorder::new(alloc, name);
     let Ok(mut judge) = Judge::new(alloc) else {
         return Err(AllocError);
     };
-    for call in calls {
+    for statement in statements {
+        let call = statement.call(alloc)?;
         let Ok(outcome) = recorder.advance(alloc, call) else {
             return Err(AllocError);
         };

@@ -12,105 +12,15 @@ ghost use Rattle.dnssec_record.specs.Script.{Number, Moment};
 ghost use Rattle.dnssec_record.specs.Script.{is_reference_byte, is_reference, as_reference};
 ghost use Rattle.dnssec_record.specs.Script.{as_private, as_list, as_yes_no, as_roll, as_number};
 ghost use Rattle.dnssec_record.specs.Script.{as_algorithm, as_tag, as_ttl, as_time, is_digit};
-ghost use Rattle.dnssec_record.specs.Script.{is_number, number_of, roll_named, row, word_named};
+ghost use Rattle.dnssec_record.specs.Script.{is_number, number_of, roll_named};
 ghost use Rattle.dnssec_record.specs.Script.{value_at, values_of, first_field, fields_of, word_at};
 
+use crate::words::Word;
 use dnssec_base::SecurityAlgorithm;
 use dnssec_keyset::{RollType, UnixTime};
 use std::alloc::{AllocError, Global};
 use std::marker::Model;
 use std::time::Duration;
-
-/// The words of a script.
-#[derive(Clone, Copy, Debug, PartialEq)]
-pub(crate) enum Word {
-    AddKsk,
-    AddZsk,
-    AddCsk,
-    AddPublic,
-    SetDecoupled,
-    SetPresent,
-    SetSigner,
-    SetAtParent,
-    SetStale,
-    SetVisible,
-    SetDsVisible,
-    SetRrsigVisible,
-    Delete,
-    Start,
-    Report1,
-    Report2,
-    Wait1,
-    Wait2,
-    Done,
-    Abort,
-}
-
-const WORDS: [Word; 20] = [
-    Word::AddKsk,
-    Word::AddZsk,
-    Word::AddCsk,
-    Word::AddPublic,
-    Word::SetDecoupled,
-    Word::SetPresent,
-    Word::SetSigner,
-    Word::SetAtParent,
-    Word::SetStale,
-    Word::SetVisible,
-    Word::SetDsVisible,
-    Word::SetRrsigVisible,
-    Word::Delete,
-    Word::Start,
-    Word::Report1,
-    Word::Report2,
-    Word::Wait1,
-    Word::Wait2,
-    Word::Done,
-    Word::Abort,
-];
-
-impl Word {
-    fn name(self) -> &'static str
-        ensures { result.now ≡ (row self).name }
-    {
-        match self {
-            Word::AddKsk => "add-ksk",
-            Word::AddZsk => "add-zsk",
-            Word::AddCsk => "add-csk",
-            Word::AddPublic => "add-public",
-            Word::SetDecoupled => "set-decoupled",
-            Word::SetPresent => "set-present",
-            Word::SetSigner => "set-signer",
-            Word::SetAtParent => "set-at-parent",
-            Word::SetStale => "set-stale",
-            Word::SetVisible => "set-visible",
-            Word::SetDsVisible => "set-ds-visible",
-            Word::SetRrsigVisible => "set-rrsig-visible",
-            Word::Delete => "delete",
-            Word::Start => "start",
-            Word::Report1 => "report1",
-            Word::Report2 => "report2",
-            Word::Wait1 => "wait1",
-            Word::Wait2 => "wait2",
-            Word::Done => "done",
-            Word::Abort => "abort",
-        }
-    }
-
-    fn has_name(self, name: &[u8]) -> bool
-        ensures { result ≡ bytes_eq (row self).name name.now }
-    {
-        self.name().as_bytes() == name
-    }
-
-    /// The word with this name.
-    #[tactic(auto, unfolding(crate::specs::Script::word_named))]
-    pub(crate) fn named(name: &[u8]) -> Option<Word>
-        ensures { result ≡ word_named name.now }
-    {
-        WORDS.iter().copied().find(|word| word.has_name(name))
-    }
-}
 
 /// The roll with this name.
 fn roll_named(name: &[u8]) -> Option<RollType>
@@ -192,11 +102,7 @@ fn number(most: u64, text: &[u8]) -> Option<u64>
         .filter(|number| *number <= most)
 }
 
-#[tactic(
-    auto,
-    unfolding(crate::specs::Script::as_reference),
-    using(crate::proofs::References::reference_utf8)
-)]
+#[tactic(auto, unfolding(crate::specs::Script::as_reference))]
 fn reference(text: &[u8]) -> Option<&str>
     ensures read { option_map (λ q. Reference q.now) result ≡ as_reference text.now }
     ensures is { is_some result ≡ is_reference text.now }
@@ -205,11 +111,8 @@ fn reference(text: &[u8]) -> Option<&str>
     if !is_reference(text) {
         return None;
     }
-    match str::from_utf8(text) {
-        Ok(reference) => Some(reference),
-        // Its bytes are ASCII.
-        Err(_) => unreachable!(),
-    }
+    // All of them are ASCII.
+    str::from_utf8(text).ok()
 }
 
 #[tactic(auto, unfolding(crate::specs::Script::as_private, crate::specs::Script::as_reference))]

@@ -4,10 +4,12 @@
 
 mod answers;
 mod device;
+mod fault;
 mod fields;
 mod lines;
 mod script;
 mod statement;
+mod words;
 
 pub use device::{DeviceFault, Sink, Source, Std};
 pub use dnssec_judge::{
@@ -16,4 +18,5 @@ pub use dnssec_judge::{
 pub use dnssec_run::{
     Call, Entry, Mark, Outcome, Published, PublishedKey, Recorder, Reply, Run, run, starts_suffice,
 };
-pub use script::{ScriptFault, record_script, run_script};
+pub use fault::ScriptFault;
+pub use script::{record_script, run_script};

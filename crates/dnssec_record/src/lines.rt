@@ -2,18 +2,15 @@
 ghost use Rattle.std.specs.Prelude.{◌≡◌, ℕ, List, map, IfOk, IfErr, IfSome, IfNone, Some};
 ghost use denote.Bor.{now};
 ghost use Rattle.dnssec_base.specs.NameText as names;
-ghost use Rattle.dnssec_run.specs.declared.call.Call.{Call};
 ghost use Rattle.dnssec_record.specs.Answer.{AnswerFault};
-ghost use Rattle.dnssec_record.specs.Script.{IsScript, IsZoneLine, lines_of, said, says};
-ghost use Rattle.dnssec_record.specs.Script.{without_end};
+ghost use Rattle.dnssec_record.specs.Script.{IsZoneLine, lines_of, says, without_end};
 ghost use Rattle.dnssec_record.specs.Statement.{statement_said};
-ghost use Rattle.dnssec_record.specs.Reading.{CallsFault, all_said};
+ghost use Rattle.dnssec_record.specs.Reading.{CallsFault, IsOfStatements};
 
+use crate::fault::ScriptFault;
 use crate::fields::parts;
-use crate::script::ScriptFault;
-use crate::statement::{Lists, Statement, read_line};
+use crate::statement::{Statement, read_line};
 use dnssec_base::{Name, NameError};
-use dnssec_run::Call;
 use std::alloc::{AllocError, Global};
 
 /// The lines of a script.
@@ -61,15 +58,13 @@ fn zone_name(alloc: Global, text: &[u8]) -> Result<Option<Name<Vec<u8>>>, AllocE
     }
 }
 
-/// What the lines of a script say: the name of its zone, and its calls.
+/// What the lines of a script say: the name of its zone, and a statement for each further line.
 pub(crate) fn read_script<'a>(
     alloc: Global,
     lines: &'a [&'a [u8]],
-) -> Result<(Name<Vec<u8>>, Vec<Statement<'a>>, Vec<Lists<'a>>), ScriptFault>
+) -> Result<(Name<Vec<u8>>, Vec<Statement<'a>>), ScriptFault>
     ensures ok { (script : List ℕ) → map now lines.now ≡ lines_of script →
-        IfOk result (λ read. (calls : List Call) →
-        map (λ c. Some (said c)) calls ≡ all_said read.1.items read.2.items →
-        IsScript script read.0 calls) }
+        IfOk result (λ read. IsOfStatements script read.0 read.1.items) }
     ensures err { (script : List ℕ) → map now lines.now ≡ lines_of script →
         IfErr result (AnswerFault script) }
 {
@@ -79,63 +74,25 @@ pub(crate) fn read_script<'a>(
     let Some(name) = zone(alloc, first)? else {
         return Err(ScriptFault::Malformed(1));
     };
-    let (statements, lists) = read_calls(alloc, rest)?;
-    Ok((name, statements, lists))
+    let statements = read_statements(alloc, rest)?;
+    Ok((name, statements))
 }
 
-/// The calls that the lines make.
-fn read_calls<'a>(
+/// What each of the lines says, which stand from line 2 on.
+fn read_statements<'a>(
     alloc: Global,
     lines: &'a [&'a [u8]],
-) -> Result<(Vec<Statement<'a>>, Vec<Lists<'a>>), ScriptFault>
-    ensures ok { IfOk result (λ read.
-        all_said read.0.items read.1.items ≡ map says (map now lines.now)) }
+) -> Result<Vec<Statement<'a>>, ScriptFault>
+    ensures ok { IfOk result (λ statements.
+        map Some (map statement_said statements.items) ≡ map says (map now lines.now)) }
     ensures err { IfErr result (CallsFault (map now lines.now)) }
 {
     let mut statements = Vec::new(alloc);
-    let mut lists = Vec::new(alloc);
     for (index, line) in lines.iter().enumerate() {
         match read_line(alloc, line)? {
-            Some((statement, own)) => {
-                statements.push(statement)?;
-                lists.push(own)?;
-            }
+            Some(statement) => statements.push(statement)?,
             None => return Err(ScriptFault::Malformed(index + 2)),
         }
     }
-    Ok((statements, lists))
-}
-
-/// The calls, each with its lists.
-pub(crate) fn with_lists<'a, 's: 'a>(
-    alloc: Global,
-    statements: Vec<Statement<'s>>,
-    lists: &'a [Lists<'s>],
-) -> Result<Vec<Call<'a>>, AllocError>
-    ensures { IfOk result (λ calls. map (λ c. Some (said c)) calls.items
-        ≡ all_said statements.entry.items lists.now) }
-{
-    let mut calls = Vec::new(alloc);
-    let mut statements = statements.into_iter();
-    for own in lists {
-        if let Some(statement) = statements.next() {
-            calls.push(with_own(statement, own))?;
-        }
-    }
-    Ok(calls)
-}
-
-/// The call of a statement with its lists.
-fn with_own<'a, 's: 'a>(statement: Statement<'s>, lists: &'a Lists<'s>) -> Call<'a>
-    ensures { said result ≡ statement_said statement.entry lists.now }
-{
-    match statement {
-        Statement::Call(call) => call,
-        Statement::Start { rolltype, now } => Call::StartRoll {
-            rolltype,
-            old: &lists.old,
-            new: &lists.new,
-            now,
-        },
-    }
+    Ok(statements)
 }

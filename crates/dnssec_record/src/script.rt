@@ -5,18 +5,18 @@ ghost use Rattle.std.specs.Io.KnownBytes.{Appends, IsAtEnd, Keeps};
 ghost use Rattle.dnssec_record.specs.Answer.{Answers, AnswerFault, EndsSafe, IsRunOf};
 ghost use Rattle.dnssec_record.specs.Answer.{IsSafeAnswer, TakesAnswer, TakesAtMost};
 ghost use Rattle.dnssec_record.specs.Device.{Counts};
-ghost use Rattle.dnssec_record.specs.Fault.{fault_status, fault_text};
 ghost use Rattle.dnssec_record.specs.Reading.{ReadFault, TakesFront};
 ghost use Rattle.dnssec_record.specs.Script.{IsFirstMalformed, IsScript};
 ghost use Rattle.dnssec_run.specs.declared.call.Call.{Call};
-ghost use Rattle.dnssec_record.specs.declared.script.ScriptFault.TheVariants.{Device, OutOfMemory};
+ghost use Rattle.dnssec_record.specs.declared.fault.ScriptFault.TheVariants.{Device, OutOfMemory};
 
 use crate::answers::answer;
 use crate::device::{DeviceFault, Sink, Source};
-use crate::lines::{lines, read_script, with_lists};
+use crate::fault::ScriptFault;
+use crate::lines::{lines, read_script};
+use crate::statement::calls_of;
 use dnssec_run::{Run, run};
-use std::alloc::{AllocError, AllocFailed, Global};
-use std::fmt;
+use std::alloc::Global;
 
 /// How many bytes are asked of the input at once.
 const PIECE: usize = 4096;
@@ -122,9 +122,8 @@ fn answer_to(alloc: Global, script: &[u8]) -> Result<String, ScriptFault>
     ensures err { IfErr result (AnswerFault script.now) }
 {
     let lines = lines(alloc, script)?;
-    let (name, statements, lists) = read_script(alloc, &lines)?;
-    let calls = with_lists(alloc, statements, &lists)?;
-    let text = answer(alloc, name, calls)?;
+    let (name, statements) = read_script(alloc, &lines)?;
+    let text = answer(alloc, name, &statements)?;
     Ok(text)
 }
 
@@ -148,8 +147,8 @@ pub fn record_script(alloc: Global, script: &[u8]) -> Result<Run, ScriptFault>
     ensures err { IfErr result (AnswerFault script.now) }
 {
     let lines = lines(alloc, script)?;
-    let (name, statements, lists) = read_script(alloc, &lines)?;
-    let calls = with_lists(alloc, statements, &lists)?;
+    let (name, statements) = read_script(alloc, &lines)?;
+    let calls = calls_of(alloc, &statements)?;
     let Ok(run) = run(alloc, name, calls) else {
         return Err(ScriptFault::OutOfMemory);
     };
@@ -169,69 +168,4 @@ fn write_all<W: Sink>(output: &mut W, bytes: &[u8]) -> Result<(), DeviceFault>
         rest = &rest[count..];
     }
     Ok(())
-}
-
-/// Why a script was not answered to its end.
-#[derive(Debug, Drop, PartialEq)]
-pub enum ScriptFault {
-    /// The line of this number, counted from 1, is the first that doesn't have the form of a
-    /// script's line. Nothing was run, and nothing was written.
-    Malformed(usize),
-    /// The input or the output failed. What was written is a beginning of the answers.
-    Device,
-    /// Memory has run out. Nothing was written.
-    OutOfMemory,
-}
-
-impl ScriptFault {
-    /// The status that a program ends with after this fault: 1 for a malformed script, 2 for a
-    /// device, 3 for memory.
-    pub fn status(&self) -> u8
-        ensures { result ≡ fault_status self.now }
-    {
-        match self {
-            ScriptFault::Malformed(_) => 1,
-            ScriptFault::Device => 2,
-            ScriptFault::OutOfMemory => 3,
-        }
-    }
-}
-
-impl fmt::Display for ScriptFault {
-    ghost output = { λ fault. Some (fault_text fault) };
-
-    /// Writes what a program tells its user, as `line 3: malformed`.
-    fn fmt<W: fmt::Write>(&self, f: &mut fmt::Formatter<W>) -> fmt::Result {
-        match self {
-            ScriptFault::Malformed(number) => write!(f, "line {number}: malformed"),
-            ScriptFault::Device => f.write_str("input or output fault"),
-            ScriptFault::OutOfMemory => f.write_str("out of memory"),
-        }
-    }
-}
-
-impl std::error::Error for ScriptFault {}
-
-impl From<DeviceFault> for ScriptFault {
-    ghost from_gives = { λ _ fault. fault ≡ Device };
-
-    fn from(_: DeviceFault) -> Self {
-        ScriptFault::Device
-    }
-}
-
-impl From<AllocError> for ScriptFault {
-    ghost from_gives = { λ _ fault. fault ≡ OutOfMemory };
-
-    fn from(_: AllocError) -> Self {
-        ScriptFault::OutOfMemory
-    }
-}
-
-impl<T: Drop> From<AllocFailed<T>> for ScriptFault {
-    ghost from_gives = { λ _ fault. fault ≡ OutOfMemory };
-
-    fn from(_: AllocFailed<T>) -> Self {
-        ScriptFault::OutOfMemory
-    }
 }

@@ -1,5 +1,5 @@
 -- The lines of a script make its calls, and else one is the first malformed one.
-use Rattle.std.proofs.Common.{refl, sym, ◌∙◌, subst}
+use Rattle.std.proofs.Common.{Some, map, refl, sym, ap, ◌∙◌, subst}
 use Rattle.dnssec_record.specs.Script.{AreScript, IsFirstOf, IsZoneLine}
 use Rattle.dnssec_record.proofs.Judging.{lines_split, if_some, if_none, not_empty, zone_first}
 use Rattle.dnssec_record.proofs.Judging.{calls_fault, spell_each}
@@ -28,10 +28,10 @@ returns-in_err-statements-clause-err c script read =
     c.in_err-statements.ensures.err)
 
 pub returns-clause-ok : goal.returns-clause-ok
-returns-clause-ok c script read calls said =
+returns-clause-ok c script read calls same =
     let split = lines_split script _ _ _ _ read refl c.in-Some.ensures.cases.0 in
     let name = c.in-Some-2.name in
     let named = if_some (IsZoneLine c.in-Some.first.now.now) _ name
     c.in_ok-name.ensures.found c.in-Some-2.is in
     subst (λ lines. AreScript lines name calls) (sym split)
-    (named, spell_each _ _ (said ∙ c.in_ok-statements.ensures.ok))
+    (named, spell_each _ _ (ap (map Some) same ∙ c.in_ok-statements.ensures.ok))

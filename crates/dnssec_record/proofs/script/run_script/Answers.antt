@@ -23,7 +23,7 @@ returns-in_err-write_all-clause-begun g c =
     let same = c.as_bytes.ensures.value ∙ c.as_str.ensures.value in
     let begun = begins _ _ _ _ _ c.in_ok-text.ensures.ok same c.in_err-write_all.ensures.err in
     rw p.1 (inr (of_input _ _ c.deref.result.now _ c.in_ok-script.ensures.whole
-        c.deref.ensures.value begun))
+    c.deref.ensures.value begun))
 
 pub returns-clause-safe : goal.returns-clause-safe
 returns-clause-safe g c = stays-safe _ _ _

@@ -1,0 +1,73 @@
+//! Why a script was not answered.
+ghost use Rattle.std.specs.Prelude.{◌≡◌, Some};
+ghost use Rattle.dnssec_record.specs.Fault.{fault_status, fault_text};
+ghost use Rattle.dnssec_record.specs.declared.fault.ScriptFault.TheVariants.{Device, OutOfMemory};
+
+use crate::device::DeviceFault;
+use std::alloc::{AllocError, AllocFailed};
+use std::fmt;
+
+/// Why a script was not answered to its end.
+#[derive(Debug, Drop, PartialEq)]
+pub enum ScriptFault {
+    /// The line of this number, counted from 1, is the first that doesn't have the form of a
+    /// script's line. Nothing was run, and nothing was written.
+    Malformed(usize),
+    /// The input or the output failed. What was written is a beginning of the answers.
+    Device,
+    /// Memory has run out. Nothing was written.
+    OutOfMemory,
+}
+
+impl ScriptFault {
+    /// The status that a program ends with after this fault: 1 for a malformed script, 2 for a
+    /// device, 3 for memory.
+    pub fn status(&self) -> u8
+        ensures { result ≡ fault_status self.now }
+    {
+        match self {
+            ScriptFault::Malformed(_) => 1,
+            ScriptFault::Device => 2,
+            ScriptFault::OutOfMemory => 3,
+        }
+    }
+}
+
+impl fmt::Display for ScriptFault {
+    ghost output = { λ fault. Some (fault_text fault) };
+
+    /// Writes what a program tells its user, as `line 3: malformed`.
+    fn fmt<W: fmt::Write>(&self, f: &mut fmt::Formatter<W>) -> fmt::Result {
+        match self {
+            ScriptFault::Malformed(number) => write!(f, "line {number}: malformed"),
+            ScriptFault::Device => f.write_str("input or output fault"),
+            ScriptFault::OutOfMemory => f.write_str("out of memory"),
+        }
+    }
+}
+
+impl std::error::Error for ScriptFault {}
+
+impl From<DeviceFault> for ScriptFault {
+    ghost from_gives = { λ _ fault. fault ≡ Device };
+
+    fn from(_: DeviceFault) -> Self {
+        ScriptFault::Device
+    }
+}
+
+impl From<AllocError> for ScriptFault {
+    ghost from_gives = { λ _ fault. fault ≡ OutOfMemory };
+
+    fn from(_: AllocError) -> Self {
+        ScriptFault::OutOfMemory
+    }
+}
+
+impl<T: Drop> From<AllocFailed<T>> for ScriptFault {
+    ghost from_gives = { λ _ fault. fault ≡ OutOfMemory };
+
+    fn from(_: AllocFailed<T>) -> Self {
+        ScriptFault::OutOfMemory
+    }
+}
