@@ -61,8 +61,8 @@ pub(crate) fn later(time: UnixTime, moment: Option<UnixTime>) -> UnixTime
     }
 }
 
-/// Whether a list has the key. It is looked for at its place first: the lists of a run are in order,
-/// but a record of another origin may have others.
+/// Whether a list has the key. It is looked for at its place first: the lists of a run are in
+/// order, but a record of another origin may have others.
 fn is_in(keys: &[PublishedKey], key: &PublishedKey) -> bool
     ensures { result ≡ is_in (map id_of keys.now) (id_of key.now) }
 {

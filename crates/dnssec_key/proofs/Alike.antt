@@ -68,14 +68,20 @@ apart k l d = (λ h. absurd (false≢true h), λ e. absurd (d (ap kind e)))
 
 -- two keys' kinds are one exactly where the kind and all states are
 pub alike_kinds : (k l : KeyType) → Decides (of_kinds.ghosts.eq k l) (k ≡ l)
-alike_kinds (Ksk s) (Ksk u) = (λ h. ap Ksk ((alike_states s u).0 h), λ e. (alike_states s u).1
-    (ap first e))
+alike_kinds (Ksk s) (Ksk u) = (
+  λ h. ap Ksk ((alike_states s u).0 h),
+  λ e. (alike_states s u).1
+      (ap first e),
+)
 alike_kinds (Ksk s) (Zsk u) = apart _ _ (λ e. omega arith)
 alike_kinds (Ksk s) (Csk u v) = apart _ _ (λ e. omega arith)
 alike_kinds (Ksk s) (Include u) = apart _ _ (λ e. omega arith)
 alike_kinds (Zsk s) (Ksk u) = apart _ _ (λ e. omega arith)
-alike_kinds (Zsk s) (Zsk u) = (λ h. ap Zsk ((alike_states s u).0 h), λ e. (alike_states s u).1
-    (ap first e))
+alike_kinds (Zsk s) (Zsk u) = (
+  λ h. ap Zsk ((alike_states s u).0 h),
+  λ e. (alike_states s u).1
+      (ap first e),
+)
 alike_kinds (Zsk s) (Csk u v) = apart _ _ (λ e. omega arith)
 alike_kinds (Zsk s) (Include u) = apart _ _ (λ e. omega arith)
 alike_kinds (Csk s t) (Ksk u) = apart _ _ (λ e. omega arith)

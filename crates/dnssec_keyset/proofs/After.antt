@@ -26,26 +26,26 @@ use Rattle.dnssec_keyset.proofs.Quantified.{same_key}
 module _ (f : List ℕ → KeyParts → KeyParts) where
   find-by : (es : List (List ℕ × KeyParts)) (q : List ℕ)
       → find (slice_cmp nat_cmp) q (map (λ (e : List ℕ × KeyParts). (e.0, f e.0 e.1)) es)
-          ≡ option_map (f q) (find (slice_cmp nat_cmp) q es)
+      ≡ option_map (f q) (find (slice_cmp nat_cmp) q es)
   find-by [] q = refl
   find-by (e ∷ es) q = at (is_eq (slice_cmp nat_cmp q e.0)) refl (find-by es q)
     where
       at : (b : Bool) → is_eq (slice_cmp nat_cmp q e.0) ≡ b
           → find (slice_cmp nat_cmp) q (map (λ (e : List ℕ × KeyParts). (e.0, f e.0 e.1)) es)
-              ≡ option_map (f q) (find (slice_cmp nat_cmp) q es)
+          ≡ option_map (f q) (find (slice_cmp nat_cmp) q es)
           → cond (is_eq (slice_cmp nat_cmp q e.0)) (Some (f e.0 e.1))
-              (find (slice_cmp nat_cmp) q (map (λ (e : List ℕ × KeyParts). (e.0, f e.0 e.1)) es))
+          (find (slice_cmp nat_cmp) q (map (λ (e : List ℕ × KeyParts). (e.0, f e.0 e.1)) es))
           ≡ option_map (f q) (cond (is_eq (slice_cmp nat_cmp q e.0)) (Some e.1)
-              (find (slice_cmp nat_cmp) q es))
+          (find (slice_cmp nat_cmp) q es))
       at true tied rest = ap (λ b. cond b (Some (f e.0 e.1))
           (find (slice_cmp nat_cmp) q (map (λ (e : List ℕ × KeyParts). (e.0, f e.0 e.1)) es))) tied
           ∙ ap (λ x. Some (f x e.1)) (sym (same_key q e.0 tied))
-              ∙ sym (ap (λ b. option_map (f q) (cond b (Some e.1) (find (slice_cmp nat_cmp) q es)))
-              tied)
+          ∙ sym (ap (λ b. option_map (f q) (cond b (Some e.1) (find (slice_cmp nat_cmp) q es)))
+          tied)
       at false apart rest = ap (λ b. cond b (Some (f e.0 e.1))
           (find (slice_cmp nat_cmp) q (map (λ (e : List ℕ × KeyParts). (e.0, f e.0 e.1)) es))) apart
           ∙ rest ∙ sym (ap (λ b. option_map (f q)
-              (cond b (Some e.1) (find (slice_cmp nat_cmp) q es))) apart)
+          (cond b (Some e.1) (find (slice_cmp nat_cmp) q es))) apart)
 
   -- a look-up after every key went by f
   pub get-keys_by : (keys : Keys) (q : List ℕ) → get (keys_by f keys) q
@@ -123,8 +123,13 @@ module _ (old : KeySetParts) where
     keys = λ q. get-insert nat_list_cmp_total old.keys r key q
         ∙ sym (ap (λ b. cond b (Some key) (get old.keys q)) (tied r q));
   }
-  after-changes (Set r setting) = record { name = refl; rolls = refl; lists = refl; keys =
-      get-keys_by (λ p k. if bytes_eq r p then set_by setting k else k) old.keys }
+  after-changes (Set r setting) = record {
+    name = refl;
+    rolls = refl;
+    lists = refl;
+    keys =
+        get-keys_by (λ p k. if bytes_eq r p then set_by setting k else k) old.keys;
+  }
   after-changes (DeleteKey r) = record {
     name = refl;
     rolls = refl;
@@ -140,8 +145,13 @@ module _ (old : KeySetParts) where
       record { name = refl; rolls = refl; lists = refl; keys = get-keys_by _ old.keys }
   after-changes (AbortRoll roll) =
       record { name = refl; rolls = refl; lists = refl; keys = get-keys_by _ old.keys }
-  after-changes (RollDone roll) = record { name = refl; rolls = refl; lists = refl; keys =
-      λ q. same (get old.keys q) }
+  after-changes (RollDone roll) = record {
+    name = refl;
+    rolls = refl;
+    lists = refl;
+    keys =
+        λ q. same (get old.keys q);
+  }
     where
       same : (o : Option KeyParts) → o ≡ option_map (λ k. k) o
       same None = refl

@@ -14,7 +14,7 @@ module _ (old new : KeySetParts) (call : Call) where
   pub done_exactly : (refusal : Option Error) (r : Result (Unit {0}) Error) → Done
       ≡ accepted_reply call → AnswersExactly refusal r
       → OnOk r (Changes old call new) → OnErr r (new ≡ old)
-          → StepBy (barred_by refusal) old call (reply_done r) new
+      → StepBy (barred_by refusal) old call (reply_done r) new
   done_exactly None (Ok u) is a ok err = inl (is, ok)
   done_exactly None (Err e) is a ok err = cc
   done_exactly (Some x) (Ok u) is a ok err = cc
@@ -23,7 +23,7 @@ module _ (old new : KeySetParts) (call : Call) where
   pub done_or_memory : (refusal : Option Error) (r : Result (Unit {0}) Error) → Done
       ≡ accepted_reply call → TakesMemory call → Answers refusal r
       → OnOk r (Changes old call new) → OnErr r (new ≡ old)
-          → StepBy (barred_by refusal) old call (reply_done r) new
+      → StepBy (barred_by refusal) old call (reply_done r) new
   done_or_memory None (Ok u) is memory a ok err = inl (is, ok)
   done_or_memory None (Err e) is memory a ok err =
       elim a [ inl h ↦ cc | inr h ↦ inr (memory, cc, err) ]
@@ -34,7 +34,7 @@ module _ (old new : KeySetParts) (call : Call) where
     pub list_exactly : (refusal : Option Error) (r : Result (Vec Action Global) Error)
         → AnswersExactly refusal r → IfOk r (λ v. v.items ≡ wanted)
         → OnOk r (Changes old call new) → OnErr r (new ≡ old)
-            → StepBy (barred_by refusal) old call (reply_list r) new
+        → StepBy (barred_by refusal) old call (reply_list r) new
     list_exactly None (Ok v) a items ok err = inl (ap Actions items ∙ is, ok)
     list_exactly None (Err e) a items ok err = cc
     list_exactly (Some x) (Ok v) a items ok err = cc
@@ -43,7 +43,7 @@ module _ (old new : KeySetParts) (call : Call) where
     pub list_or_memory : (refusal : Option Error) (r : Result (Vec Action Global) Error)
         → TakesMemory call → Answers refusal r → IfOk r (λ v. v.items ≡ wanted)
         → OnOk r (Changes old call new) → OnErr r (new ≡ old)
-            → StepBy (barred_by refusal) old call (reply_list r) new
+        → StepBy (barred_by refusal) old call (reply_list r) new
     list_or_memory None (Ok v) memory a items ok err = inl (ap Actions items ∙ is, ok)
     list_or_memory None (Err e) memory a items ok err =
         elim a [ inl h ↦ cc | inr h ↦ inr (memory, cc, err) ]
@@ -53,7 +53,7 @@ module _ (old new : KeySetParts) (call : Call) where
   pub list_waited : (wanted : List Action) → Actions wanted ≡ accepted_reply call
       → (wanted ≢ [] → TakesMemory call)
       → (v : Verdict) (r : Result (Vec Action Global) Error) → AnswersWait v old.keys wanted r
-          → IfOk r (λ v. v.items ≡ wanted)
+      → IfOk r (λ v. v.items ≡ wanted)
       → OnOk r (Changes old call new) → OnErr r (new ≡ old) → StepBy v old call (reply_list r) new
   list_waited wanted is memory (Barred x) (Ok v) a items ok err = cc
   list_waited wanted is memory (Barred x) (Err e) a items ok err = (cc, err)

@@ -76,7 +76,7 @@ module _ (old new : KeySetParts) (apart : TagsApart old.keys) where
       let b = mapped _ (f q) k (sym (keys q) ∙ e) in
       let c = mapped _ (f r) l (sym (keys r) ∙ d) in
       apart q r b.0 c.0 b.1 c.1 (sym (keeps q b.0) ∙ ap (λ (x : KeyParts). x.key_tag) b.2 ∙ same
-          ∙ sym (ap (λ (x : KeyParts). x.key_tag) c.2) ∙ keeps r c.0)
+      ∙ sym (ap (λ (x : KeyParts). x.key_tag) c.2) ∙ keeps r c.0)
 
   -- a key put where its tag is no other key's
   apart-puts : (r : List ℕ) (o : Option KeyParts) (kept : Lists)
@@ -96,8 +96,11 @@ module _ (old new : KeySetParts) (apart : TagsApart old.keys) where
       there : (q : List ℕ) (k : KeyParts) → get new.keys q ≡ Some k → ((r ≡ q) × (o ≡ Some k))
           ⊎ (get old.keys q ≡ Some k)
       there q k e = elim (cases_Bool (bytes_eq r q)) [
-        | inl h ↦ inl ((bytes_decides r q).0 h, sym
-            (ap (λ (b : Bool). if b then o else get old.keys q) h) ∙ sym (puts.keys q) ∙ e)
+        | inl h ↦ inl (
+          (bytes_decides r q).0 h,
+          sym
+              (ap (λ (b : Bool). if b then o else get old.keys q) h) ∙ sym (puts.keys q) ∙ e,
+        )
         | inr h ↦ inr (sym (ap (λ (b : Bool). if b then o else get old.keys q) h)
             ∙ sym (puts.keys q) ∙ e)
       ]
@@ -141,10 +144,10 @@ apart-changes : (old new : KeySetParts) → TagsApart old.keys → (call : Call)
 apart-changes old new apart (AddKey r key) clear puts =
     apart-puts old new apart r (Some key) old.lists (λ x k q e g same.
     let free : nat_eq k.key_tag key.key_tag ≡ false =
-        some_key-none (λ (y : KeyParts). nat_eq y.key_tag key.key_tag) old.keys q k
-        (no_tag old.keys r key.key_tag (no_cause _ clear)) g in
+    some_key-none (λ (y : KeyParts). nat_eq y.key_tag key.key_tag) old.keys q k
+    (no_tag old.keys r key.key_tag (no_cause _ clear)) g in
     let is : key.key_tag ≡ x.key_tag =
-        ap (λ (o : Option KeyParts). unwrap_or (option_map (λ (y : KeyParts). y.key_tag) o) 0) e in
+    ap (λ (o : Option KeyParts). unwrap_or (option_map (λ (y : KeyParts). y.key_tag) o) 0) e in
     absurd (grind (arith, nat_tests))) puts
 apart-changes old new apart (Set r setting) clear h =
     apart-moves old new apart _ (λ q k. set-tag setting (bytes_eq r q) k) h.keys
@@ -325,14 +328,14 @@ together-changes old new all (DeleteKey r) clear h = subst RollsTogether (sym h.
 together-changes old new all (StartRoll roll olds news now) clear h =
     subst RollsTogether (sym h.rolls)
     (together-more old.rolls _ all roll
-        (no_conflict roll old.rolls (no_first _ _ (no_cause _ clear)))
-        (there-put old.rolls roll Propagation1))
+    (no_conflict roll old.rolls (no_first _ _ (no_cause _ clear)))
+    (there-put old.rolls roll Propagation1))
 together-changes old new all (Report roll half ttl now) clear h = subst RollsTogether (sym h.rolls)
     (together-fewer old.rolls _ all (there-moves old.rolls roll _
-        (reported-there half (phase_of old.rolls roll) (no_cause _ clear))))
+    (reported-there half (phase_of old.rolls roll) (no_cause _ clear))))
 together-changes old new all (Wait roll half now) clear h = subst RollsTogether (sym h.rolls)
     (together-fewer old.rolls _ all (there-moves old.rolls roll _
-        (waited-there roll half (phase_of old.rolls roll) now old.keys clear)))
+    (waited-there roll half (phase_of old.rolls roll) now old.keys clear)))
 together-changes old new all (RollDone roll) clear h =
     subst RollsTogether (sym h.rolls) (together-fewer old.rolls _ all (there-ends old.rolls roll))
 together-changes old new all (AbortRoll roll) clear h =

@@ -48,7 +48,7 @@ module _ (p : List ℕ → Bool) (rs : List (Bor (List ℕ))) (i : ℕ) (d : Bor
   kept-passes a n passes before now =
       now ∙ ap (λ qs. qs ++ (get_or rs i d).now ∷ []) before
       ∙ sym (kept-more ∙ ap (λ b. filter p (texts (take i rs))
-          ++ cond b ((get_or rs i d).now ∷ []) [])
+      ++ cond b ((get_or rs i d).now ∷ []) [])
       passes)
 
   pub kept-fails : (a : List (List ℕ)) → p (get_or rs i d).now ≡ false

@@ -36,9 +36,15 @@ lookup-same_roll a (e ∷ es) = λ i. cond (sym (same_roll-eq a e.0) i) (Some e.
 
 -- rolls with the same phases are equal
 pub same_rolls : (a b : Rolls) → ((q : RollType) → phase_of a q ≡ phase_of b q) → a ≡ b
-same_rolls a b h = λ i. record { ksk_roll = h KskRoll i; ksk_double_ds_roll = h KskDoubleDsRoll i;
-    zsk_roll = h ZskRoll i; zsk_double_signature_roll = h ZskDoubleSignatureRoll i; csk_roll =
-    h CskRoll i; algorithm_roll = h AlgorithmRoll i }
+same_rolls a b h = λ i. record {
+  ksk_roll = h KskRoll i;
+  ksk_double_ds_roll = h KskDoubleDsRoll i;
+  zsk_roll = h ZskRoll i;
+  zsk_double_signature_roll = h ZskDoubleSignatureRoll i;
+  csk_roll =
+      h CskRoll i;
+  algorithm_roll = h AlgorithmRoll i;
+}
 
 pub phase_of-with_phase : (r : Rolls) (roll : RollType) (phase : Option RollState) (q : RollType)
     → phase_of (with_phase r roll phase) q ≡ (if same_roll roll q then phase else phase_of r q)
@@ -101,8 +107,8 @@ module _ {S : Type 0} where
   pub rolls_shown-updates : (m n : HashMap RollType RollState S) (roll : RollType)
       (phase : Option RollState)
       → ((q : RollType) → get eq-value.it n q
-          ≡ cond (eq-value.it roll q) phase (get eq-value.it m q)) → rolls_in_map n
-          ≡ with_phase (rolls_in_map m) roll phase
+      ≡ cond (eq-value.it roll q) phase (get eq-value.it m q)) → rolls_in_map n
+      ≡ with_phase (rolls_in_map m) roll phase
   rolls_shown-updates m n roll phase h =
       same_rolls _ _ (λ q. phase_of-shown n q ∙ h q
       ∙ (λ i. cond (same_roll-eq roll q i) phase (sym (phase_of-shown m q) i))

@@ -58,14 +58,23 @@ module _ (p : KeyParts → Bool) where
       × (find (slice_cmp nat_cmp) q es ≡ Some k) × (p k ≡ true)
   key_found [] s h = cc
   key_found (e ∷ es) s h = elim (cases_Bool (p e.1)) [
-    | inl passes ↦ (e.0, e.1, ap (λ c. cond c (Some e.1) (find (slice_cmp nat_cmp) e.0 es))
-        (itself e.0), passes)
+    | inl passes ↦ (
+      e.0,
+      e.1,
+      ap (λ c. cond c (Some e.1) (find (slice_cmp nat_cmp) e.0 es))
+          (itself e.0),
+      passes,
+    )
     | inr fails ↦
         let rest = key_found es (second _ _ s)
-            (sym (ap (λ b. b || list_any p (map (λ (x : List ℕ × KeyParts). x.1) es)) fails) ∙ h) in
-        (rest.0, rest.1, ap (λ c. cond c (Some e.1) (find (slice_cmp nat_cmp) rest.0 es))
-            (apart e.0 rest.0 (below_found e.0 rest.0 rest.1 es (first _ _ s) rest.2))
-            ∙ rest.2, rest.3)
+        (sym (ap (λ b. b || list_any p (map (λ (x : List ℕ × KeyParts). x.1) es)) fails) ∙ h) in (
+          rest.0,
+          rest.1,
+          ap (λ c. cond c (Some e.1) (find (slice_cmp nat_cmp) rest.0 es))
+              (apart e.0 rest.0 (below_found e.0 rest.0 rest.1 es (first _ _ s) rest.2))
+              ∙ rest.2,
+          rest.3,
+        )
   ]
 
   no_entry : (es : List (List ℕ × KeyParts)) (q : List ℕ) (k : KeyParts)
@@ -75,7 +84,7 @@ module _ (p : KeyParts → Bool) where
   no_entry (e ∷ es) q k h f = elim (cases_Bool (is_eq (slice_cmp nat_cmp q e.0))) [
     | inl tied ↦
         let one : Some e.1 ≡ Some k = sym
-            (ap (λ c. cond c (Some e.1) (find (slice_cmp nat_cmp) q es)) tied) ∙ f in
+        (ap (λ c. cond c (Some e.1) (find (slice_cmp nat_cmp) q es)) tied) ∙ f in
         let same : e.1 ≡ k = cc in
         sym (ap p same) ∙ (or_parts _ _ h).0
     | inr other ↦ no_entry es q k (or_parts _ _ h).1
@@ -101,14 +110,23 @@ module _ (p : List ℕ → KeyParts → Bool) where
       → (q : List ℕ) × (k : KeyParts) × (find (slice_cmp nat_cmp) q es ≡ Some k) × (p q k ≡ true)
   one_entry [] s h = cc
   one_entry (e ∷ es) s h = elim (cases_Bool (p e.0 e.1)) [
-    | inl passes ↦ (e.0, e.1, ap (λ c. cond c (Some e.1) (find (slice_cmp nat_cmp) e.0 es))
-        (itself e.0), passes)
+    | inl passes ↦ (
+      e.0,
+      e.1,
+      ap (λ c. cond c (Some e.1) (find (slice_cmp nat_cmp) e.0 es))
+          (itself e.0),
+      passes,
+    )
     | inr fails ↦
         let rest = one_entry es (second _ _ s)
-            (sym (ap (λ b. b || list_any (λ (x : List ℕ × KeyParts). p x.0 x.1) es) fails) ∙ h) in
-        (rest.0, rest.1, ap (λ c. cond c (Some e.1) (find (slice_cmp nat_cmp) rest.0 es))
-            (apart e.0 rest.0 (below_found e.0 rest.0 rest.1 es (first _ _ s) rest.2))
-            ∙ rest.2, rest.3)
+        (sym (ap (λ b. b || list_any (λ (x : List ℕ × KeyParts). p x.0 x.1) es) fails) ∙ h) in (
+          rest.0,
+          rest.1,
+          ap (λ c. cond c (Some e.1) (find (slice_cmp nat_cmp) rest.0 es))
+              (apart e.0 rest.0 (below_found e.0 rest.0 rest.1 es (first _ _ s) rest.2))
+              ∙ rest.2,
+          rest.3,
+        )
   ]
 
   none_entry : (es : List (List ℕ × KeyParts)) (q : List ℕ) (k : KeyParts)
@@ -118,7 +136,7 @@ module _ (p : List ℕ → KeyParts → Bool) where
   none_entry (e ∷ es) q k h f = elim (cases_Bool (is_eq (slice_cmp nat_cmp q e.0))) [
     | inl tied ↦
         let one : Some e.1 ≡ Some k = sym
-            (ap (λ c. cond c (Some e.1) (find (slice_cmp nat_cmp) q es)) tied) ∙ f in
+        (ap (λ c. cond c (Some e.1) (find (slice_cmp nat_cmp) q es)) tied) ∙ f in
         let same : e.1 ≡ k = cc in
         sym (λ i. p (sym (same_key q e.0 tied) i) (same i)) ∙ (or_parts _ _ h).0
     | inr other ↦ none_entry es q k (or_parts _ _ h).1

@@ -30,8 +30,13 @@ use Rattle.dnssec_keyset.proofs.Tests.{same_kind-is}
 
 -- no stamp is written
 pub unstamped : Stamped
-unstamped = record { published = false; visible = false; ds_visible = false; rrsig_visible = false;
-    withdrawn = false }
+unstamped = record {
+  published = false;
+  visible = false;
+  ds_visible = false;
+  rrsig_visible = false;
+  withdrawn = false;
+}
 
 -- ---- the table at the keys that a roll doesn't change
 
@@ -43,7 +48,7 @@ bare-is : (w : Stamping) (k : KeyType) → bare w k ≡ true → stamps_on w k �
 unfolding bare unstamped
 bare-is w k e =
     let x = four (not (w.published k)) (not (w.visible k)) (not (w.ds_visible k))
-        (not (w.rrsig_visible k) && not (w.withdrawn k)) e in
+    (not (w.rrsig_visible k) && not (w.withdrawn k)) e in
     let y = and_parts (not (w.rrsig_visible k)) (not (w.withdrawn k)) x.3 in
     λ i. record {
       published = not-true (w.published k) x.0 i;
@@ -80,7 +85,7 @@ half-others : (roll : RollType) (half : Half) (t : KeyType) → lists_kind (side
 unfolding half_table
 half-others roll half t e =
     let x = four _ _ _ _
-        (or_second _ _ (each_in_roll-at (half_table half) (half_all half) roll t) e) in
+    (or_second _ _ (each_in_roll-at (half_table half) (half_all half) roll t) e) in
     record {
       report = bare-is _ t x.0;
       stamps = bare-is _ t x.1;
@@ -100,15 +105,20 @@ pub after_report-others : (roll : RollType) (half : Half) (now : ℕ) (k : KeyPa
     → lists_kind (side_of roll) k.keytype ≡ false → after_report roll half now k ≡ k
 unfolding unstamped
 after_report-others roll half now k e =
-    λ i. record k { timestamps = with_stamps ((half-others roll half k.keytype e).report i) now
-    k.timestamps }
+    λ i. record k {
+      timestamps = with_stamps ((half-others roll half k.keytype e).report i) now
+          k.timestamps;
+    }
 
 pub after_wait-others : (roll : RollType) (half : Half) (now : ℕ) (k : KeyParts)
     → lists_kind (side_of roll) k.keytype ≡ false → after_wait roll half now k ≡ k
 unfolding unstamped
 after_wait-others roll half now k e =
-    λ i. record k { keytype = moves-others roll half k.keytype e i; timestamps =
-    with_stamps ((half-others roll half k.keytype e).stamps i) now k.timestamps }
+    λ i. record k {
+      keytype = moves-others roll half k.keytype e i;
+      timestamps =
+          with_stamps ((half-others roll half k.keytype e).stamps i) now k.timestamps;
+    }
 
 back_table : RollType → KeyType → Bool
 back_table r k = lists_kind (side_of r) k
@@ -163,9 +173,12 @@ module _ (roll : RollType) (at : List ℕ → Option KeyParts) where
       × (new_entry_fault roll (at q) taken ≡ None)
   new-listed olds earlier [] q none e = cc
   new-listed olds earlier (x ∷ xs) q none e = elim (listed_cases q x xs e) [
-    | inl same ↦ (is_listed olds x || is_listed earlier x, ap
-        (λ r. new_entry_fault roll (at r) (is_listed olds x || is_listed earlier x)) same
-        ∙ no_first _ _ none)
+    | inl same ↦ (
+      is_listed olds x || is_listed earlier x,
+      ap
+          (λ r. new_entry_fault roll (at r) (is_listed olds x || is_listed earlier x)) same
+          ∙ no_first _ _ none,
+    )
     | inr later ↦ new-listed olds (earlier ++ x ∷ []) xs q (no_rest _ _ none) later
   ]
 
@@ -173,26 +186,26 @@ pub old-kind : (roll : RollType) (o : Option KeyParts) (k : KeyParts) → o ≡ 
     → lists_kind (side_of roll) k.keytype ≡ false → old_entry_fault roll o ≡ None → ⊥
 old-kind roll o k is other none =
     let wrong : Some WrongKeyType ≡ None =
-        sym (ap (λ (b : Bool). if b then None else Some WrongKeyType) other)
-        ∙ sym (ap (old_entry_fault roll) is) ∙ none in cc
+    sym (ap (λ (b : Bool). if b then None else Some WrongKeyType) other)
+    ∙ sym (ap (old_entry_fault roll) is) ∙ none in cc
 
 new-kind : (roll : RollType) (o : Option KeyParts) (k : KeyParts) (taken : Bool) → o ≡ Some k
     → lists_kind (side_of roll) k.keytype ≡ false → new_entry_fault roll o taken ≡ None → ⊥
 new-kind roll o k taken is other none =
     let wrong : Some WrongKeyType ≡ None =
     sym (ap (λ (b : Bool). if b then
-        (if all_states is_fresh k.keytype && not taken then None else Some WrongKeyState) else Some
-        WrongKeyType) other)
+    (if all_states is_fresh k.keytype && not taken then None else Some WrongKeyState) else Some
+    WrongKeyType) other)
     ∙ sym (ap (λ x. new_entry_fault roll x taken) is) ∙ none in cc
 
 -- what an accepted start lists
 pub record StartsClear (roll : RollType) (set : KeySetParts) (olds news : List (List ℕ)) : Type 0
-    where
-  pub conflict_is : conflict roll set.rolls ≡ None
-  pub olds_are : old_fault roll (get set.keys) olds ≡ None
-  pub news_are : new_fault roll (get set.keys) olds [] news ≡ None
-  pub algorithms_are : algorithm_fault roll (get set.keys) olds news ≡ None
-  pub suitable : suitability_fault roll set.keys olds news ≡ None
+  where
+    pub conflict_is : conflict roll set.rolls ≡ None
+    pub olds_are : old_fault roll (get set.keys) olds ≡ None
+    pub news_are : new_fault roll (get set.keys) olds [] news ≡ None
+    pub algorithms_are : algorithm_fault roll (get set.keys) olds news ≡ None
+    pub suitable : suitability_fault roll set.keys olds news ≡ None
 
 pub starts-clear : (roll : RollType) (set : KeySetParts) (olds news : List (List ℕ))
     → start_refusal roll set olds news ≡ None → StartsClear roll set olds news
@@ -201,8 +214,14 @@ starts-clear roll set olds news e =
     let rest2 = no_rest _ _ rest1 in
     let rest3 = no_rest _ _ rest2 in
     let rest4 = no_rest _ _ rest3 in
-    record { conflict_is = no_first _ _ e; olds_are = no_first _ _ rest1; news_are =
-        no_first _ _ rest2; algorithms_are = no_first _ _ rest3; suitable = no_first _ _ rest4 }
+    record {
+      conflict_is = no_first _ _ e;
+      olds_are = no_first _ _ rest1;
+      news_are =
+          no_first _ _ rest2;
+      algorithms_are = no_first _ _ rest3;
+      suitable = no_first _ _ rest4;
+    }
 
 module _ (roll : RollType) (set : KeySetParts) (olds news : List (List ℕ))
     (clear : StartsClear roll set olds news) (q : List ℕ) (k : KeyParts)
@@ -230,25 +249,25 @@ module _ (roll : RollType) (set : KeySetParts) (olds news : List (List ℕ))
 leaves : (old new : KeySetParts) (call : Call) (roll : RollType) (q : List ℕ) (k : KeyParts)
     → roll_of call ≡ Some roll → verdict old call ≡ Clear → Changes old call new
     → get old.keys q ≡ Some k → lists_kind (side_of roll) k.keytype ≡ false → get new.keys q
-        ≡ Some k
+    ≡ Some k
 leaves old new (AddKey r key) roll q k on clear h is other = cc
 leaves old new (Set r setting) roll q k on clear h is other = cc
 leaves old new (DeleteKey r) roll q k on clear h is other = cc
 leaves old new (StartRoll r olds news now) roll q k on clear h is other =
     let same : r ≡ roll = same_Some _ _ on in
     let kind : lists_kind (side_of r) k.keytype ≡ false =
-        ap (λ x. lists_kind (side_of x) k.keytype) same ∙ other in
+    ap (λ x. lists_kind (side_of x) k.keytype) same ∙ other in
     h.keys q ∙ ap (option_map _) is ∙ ap Some
-        (after_start-others r old olds news (starts-clear r old olds news (no_cause _ clear)) q k is
-        kind now)
+    (after_start-others r old olds news (starts-clear r old olds news (no_cause _ clear)) q k is
+    kind now)
 leaves old new (Report r half ttl now) roll q k on clear h is other =
     let same : r ≡ roll = same_Some _ _ on in
     h.keys q ∙ ap (option_map _) is ∙ ap Some
-        (after_report-others r half now k (ap (λ x. lists_kind (side_of x) k.keytype) same ∙ other))
+    (after_report-others r half now k (ap (λ x. lists_kind (side_of x) k.keytype) same ∙ other))
 leaves old new (Wait r half now) roll q k on clear h is other =
     let same : r ≡ roll = same_Some _ _ on in
     h.keys q ∙ ap (option_map _) is ∙ ap Some
-        (after_wait-others r half now k (ap (λ x. lists_kind (side_of x) k.keytype) same ∙ other))
+    (after_wait-others r half now k (ap (λ x. lists_kind (side_of x) k.keytype) same ∙ other))
 leaves old new (RollDone r) roll q k on clear h is other = h.keys q ∙ ap (option_map _) is
 leaves old new (AbortRoll r) roll q k on clear h is other =
     let kind : lists_kind (side_of r) k.keytype ≡ false =

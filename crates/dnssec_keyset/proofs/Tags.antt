@@ -265,7 +265,7 @@ listed-put keys differ tags more r x found put listed old q k at =
           ∙ sym (or-true (listed q)) ∙ ap (λ b. listed q || b) (sym same)
       | inr differs ↦
           let no : nat_eq x.key_tag k.key_tag ≡ false =
-              elim (cases_Bool (nat_eq x.key_tag k.key_tag)) [
+          elim (cases_Bool (nat_eq x.key_tag k.key_tag)) [
             | inl e ↦
                 let tag : x.key_tag ≡ k.key_tag = grind (arith, nat_tests) in
                 let yes : bytes_eq r q ≡ true =

@@ -32,9 +32,9 @@ module _ {X : Type 0} where
   put_permutes k v [] none = IsPermutation-refl _
   put_permutes k v (e ∷ es) none =
       elim (slice_cmp nat_cmp k e.0) as
-          (λ o. cond (is_eq o) (Some e.1) (find (slice_cmp nat_cmp) k es) ≡ None
-          → IsPermutation ((k, v) ∷ e ∷ es)
-          (by_order o ((k, v) ∷ e ∷ es) ((e.0, v) ∷ es) (e ∷ put (slice_cmp nat_cmp) k v es))) [
+      (λ o. cond (is_eq o) (Some e.1) (find (slice_cmp nat_cmp) k es) ≡ None
+      → IsPermutation ((k, v) ∷ e ∷ es)
+      (by_order o ((k, v) ∷ e ∷ es) ((e.0, v) ∷ es) (e ∷ put (slice_cmp nat_cmp) k v es))) [
         | Less ↦ λ h. IsPermutation-refl _
         | Equal ↦ λ h. cc
         | Greater ↦ λ h. IsPermutation-trans _ _ _ (IsPermutation-middle ((k, v) ∷ []) e es)
@@ -61,20 +61,22 @@ module _ {X : Type 0} where
       let m : FinMap (slice_cmp nat_cmp) X = from_entries {R = slice_cmp nat_cmp} es in
       let rest : IsPermutation es (entries m) = entries_permute es apart.1 in
       let none : find (slice_cmp nat_cmp) e.0 (entries m) ≡ None = sym (get-entries m e.0)
-          ∙ get-from_entries nat_list_cmp_total es e.0 ∙ apart.0 in
+      ∙ get-from_entries nat_list_cmp_total es e.0 ∙ apart.0 in
       subst (IsPermutation (e ∷ es)) (sym (entries-insert nat_list_cmp_total m e.0 e.1))
-          (IsPermutation-trans _ _ _ (IsPermutation-cons e _ _ rest)
-          (put_permutes e.0 e.1 (entries m) none))
+      (IsPermutation-trans _ _ _ (IsPermutation-cons e _ _ rest)
+      (put_permutes e.0 e.1 (entries m) none))
 
 module _ {Y : Type 0} where
   pub apart_by_bytes : (es : List (String Y × KeyParts)) → IsDistinct string_eq (keys_of es)
       → AreApart (map (λ e. (string_bytes e.0, e.1)) es)
   unfolding AreApart IsDistinct
   apart_by_bytes [] distinct = tt
-  apart_by_bytes (e ∷ es) distinct =
-      (find_by_bytes es (string_bytes e.0)
-      ∙ lookup-none (is_text (string_bytes e.0)) es (none_passes e.0 es distinct.0), apart_by_bytes
-      es distinct.1)
+  apart_by_bytes (e ∷ es) distinct = (
+    find_by_bytes es (string_bytes e.0)
+        ∙ lookup-none (is_text (string_bytes e.0)) es (none_passes e.0 es distinct.0),
+    apart_by_bytes
+        es distinct.1,
+  )
     where
       none_passes : (k : String Y) (es : List (String Y × KeyParts))
           → AllByRecursion (λ y. string_eq k y ≡ false) (keys_of es)

@@ -20,11 +20,11 @@ IsEarlyBy n keys _ = ⊥
 -- a wait of ttl seconds is over from `end` on. Before, it is told what is left until then, but no
 -- more than the TTL: so it is told where the moment lies before the event that is waited on
 pub record IsOverFrom (roll : RollType) (half : Half) (ttl : ℕ) (keys : Keys) (end : ℕ) : Type 0
-    where
-  pub early : (now : ℕ) → now < end →
-      IsEarlyBy (min (ttl * 1_000_000_000) (end - now)) keys
-      (wait_in_phase roll half (Some ttl) now keys)
-  pub over : (now : ℕ) → end ≤ now → wait_in_phase roll half (Some ttl) now keys ≡ Clear
+  where
+    pub early : (now : ℕ) → now < end →
+        IsEarlyBy (min (ttl * 1_000_000_000) (end - now)) keys
+        (wait_in_phase roll half (Some ttl) now keys)
+    pub over : (now : ℕ) → end ≤ now → wait_in_phase roll half (Some ttl) now keys ≡ Clear
 
 -- a checked key lacks its stamp, and each wait is refused for it
 abbrev pub LacksStamp : RollType → Half → ℕ → Keys → Type 0

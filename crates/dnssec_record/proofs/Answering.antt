@@ -1,7 +1,7 @@
 -- What is known of the input carries over to the answer to it.
 use Rattle.std.proofs.Common.{◌≡◌, ◌≢◌, ℕ, List, Option, Some, None, IfSome, sym, ◌∙◌, subst}
-use Rattle.dnssec_record.specs.Answer.{Answers, AnswerFault, TakesBeginning}
-use Rattle.dnssec_record.specs.Reading.{TakesFront}
+use Rattle.dnssec_record.specs.Answer.{IsAnswerOf, AnswerFault, TakesBeginning}
+use Rattle.dnssec_record.specs.Inner.Reading.{TakesFront}
 use Rattle.dnssec_record.specs.Script.{IsScript, lines_of}
 use Rattle.dnssec_run.specs.declared.call.Call.{Call}
 use Rattle.dnssec_record.specs.declared.fault.ScriptFault.{ScriptFault}
@@ -26,10 +26,11 @@ never_fault script OutOfMemory first name calls is n same = cc
 
 -- a front of an answer is a beginning of it
 pub begins : (script : List ℕ) (old new : Option (List ℕ)) (bytes text : List ℕ)
-    → Answers script text → bytes ≡ text → TakesFront old new bytes → TakesBeginning script old new
+    → IsAnswerOf script text → bytes ≡ text → TakesFront old new bytes
+    → TakesBeginning script old new
 begins script old new bytes text answers same taken = (
   taken.0,
   taken.1,
-  subst (Answers script) (sym same ∙ taken.2) answers,
+  subst (IsAnswerOf script) (sym same ∙ taken.2) answers,
   taken.3,
 )

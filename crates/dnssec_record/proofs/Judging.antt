@@ -7,10 +7,10 @@ use Rattle.std.proofs.lemmas.List.{length-map}
 use Rattle.std.proofs.lemmas.Bool.{false≢true}
 use Rattle.std.proofs.lemmas.Bool.Decides.{nat_tests}
 use Rattle.std.proofs.lemmas.List.Splits.{length-slice_split}
-use Rattle.dnssec_record.specs.Script.{says, said, IsZoneLine, SpellEach, AreScript, HasForm}
+use Rattle.dnssec_record.specs.Script.{says, call_says, IsZoneLine, AreLinesOf, AreScript, HasForm}
 use Rattle.dnssec_record.specs.Script.{line_of, lines_of, without_end, IsFirstOf}
 use Rattle.dnssec_record.specs.Answer.{AnswerFault}
-use Rattle.dnssec_record.specs.Reading.{CallsFault, SilentFirst}
+use Rattle.dnssec_record.specs.Inner.Reading.{CallsFault, SilentFirst}
 use Rattle.dnssec_record.specs.declared.fault.ScriptFault.{ScriptFault}
 use Rattle.dnssec_record.specs.declared.fault.ScriptFault.TheVariants.{Malformed, Device}
 use Rattle.dnssec_record.specs.declared.fault.ScriptFault.TheVariants.{OutOfMemory}
@@ -25,7 +25,7 @@ is_some_from : {T : Type 0} (o : Option T) (x : T) → o ≡ Some x → IsSome o
 is_some_from o x e = ap is_some e
 
 -- what makes a call says something
-pub each_says : (lines : List (List ℕ)) (calls : List Call) → SpellEach lines calls
+pub each_says : (lines : List (List ℕ)) (calls : List Call) → AreLinesOf lines calls
     → (i : ℕ) → i < length lines → IsSome (says (get_or lines i []))
 each_says [] [] each i within = absurd (omega arith)
 each_says [] (call ∷ calls) each i within = absurd each
@@ -113,7 +113,7 @@ calls_fault script zone lines name OutOfMemory split named first = tt
 
 -- calls that say what the lines say are the lines' calls
 pub spell_each : (lines : List (List ℕ)) (calls : List Call)
-    → map Some (map said calls) ≡ map says lines → SpellEach lines calls
+    → map Some (map call_says calls) ≡ map says lines → AreLinesOf lines calls
 spell_each [] [] same = tt
 spell_each [] (call ∷ calls) same = cc
 spell_each (line ∷ lines) [] same = cc

@@ -10,9 +10,9 @@ use denote.Bor.{now}
 use Rattle.dnssec_record.proofs.Texts.{text_at, shown_at, within_shown}
 use Rattle.std.proofs.lemmas.List.Sums.{AllPass-from_list_all}
 use Rattle.dnssec_run.specs.declared.call.Call.{Call}
-use Rattle.dnssec_record.specs.Script.{said, says, without_end}
-use Rattle.dnssec_record.specs.Statement.{statement_said}
-use Rattle.dnssec_record.specs.Reading.{says_some, SilentFirst}
+use Rattle.dnssec_record.specs.Script.{call_says, says, without_end}
+use Rattle.dnssec_record.specs.Inner.Statement.{statement_says}
+use Rattle.dnssec_record.specs.Inner.Reading.{says_some, SilentFirst}
 use Rattle.dnssec_record.specs.declared.statement.Statement.{Statement}
 
 -- a line feed at the end is taken off, and no other byte
@@ -49,16 +49,16 @@ unended script text b split other =
 
 -- what a line says, where nothing was read
 pub silent : (found : Option Statement) (line : List ℕ)
-    → option_map statement_said found ≡ says line → found ≡ None → false ≡ says_some line
-silent found line said none =
-    ap (λ (o : Option Statement). is_some (option_map statement_said o)) (sym none)
-    ∙ ap is_some said
+    → option_map statement_says found ≡ says line → found ≡ None → false ≡ says_some line
+silent found line call_says none =
+    ap (λ (o : Option Statement). is_some (option_map statement_says o)) (sym none)
+    ∙ ap is_some call_says
 
 -- what a line says, where a statement was read
 pub spoken : (found : Option Statement) (line : List ℕ) (s : Statement)
-    → option_map statement_said found ≡ says line → found ≡ Some s
-    → Some (statement_said s) ≡ says line
-spoken found line s said some = ap (option_map statement_said) (sym some) ∙ said
+    → option_map statement_says found ≡ says line → found ≡ Some s
+    → Some (statement_says s) ≡ says line
+spoken found line s call_says some = ap (option_map statement_says) (sym some) ∙ call_says
 
 -- the first line that says nothing
 pub first_silent : (xs : List (Bor (List ℕ))) (i : ℕ) → i < length xs
@@ -86,30 +86,30 @@ says_more xs i within =
 -- what was kept, with one statement more
 pub kept_statement : (xs : List (Bor (List ℕ))) (i : ℕ) (ss grown : List Statement)
     (s : Statement)
-    → i < length xs → map Some (map statement_said ss) ≡ map says (take i (map now xs))
-    → grown ≡ ss ++ s ∷ [] → Some (statement_said s) ≡ says (text_at xs i)
-    → map Some (map statement_said grown) ≡ map says (take (i + 1) (map now xs))
-kept_statement xs i ss grown s within kept grows said =
-    ap (λ t. map Some (map statement_said t)) grows
-    ∙ ap (map Some) (map-append statement_said ss (s ∷ []))
-    ∙ map-append Some (map statement_said ss) (statement_said s ∷ [])
-    ∙ ap (λ t. t ++ Some (statement_said s) ∷ []) kept
-    ∙ ap (λ v. map says (take i (map now xs)) ++ v ∷ []) said
+    → i < length xs → map Some (map statement_says ss) ≡ map says (take i (map now xs))
+    → grown ≡ ss ++ s ∷ [] → Some (statement_says s) ≡ says (text_at xs i)
+    → map Some (map statement_says grown) ≡ map says (take (i + 1) (map now xs))
+kept_statement xs i ss grown s within kept grows call_says =
+    ap (λ t. map Some (map statement_says t)) grows
+    ∙ ap (map Some) (map-append statement_says ss (s ∷ []))
+    ∙ map-append Some (map statement_says ss) (statement_says s ∷ [])
+    ∙ ap (λ t. t ++ Some (statement_says s) ∷ []) kept
+    ∙ ap (λ v. map says (take i (map now xs)) ++ v ∷ []) call_says
     ∙ sym (says_more xs i within)
 
 -- what the statements say, with one more, whose call was made
 pub one_said : (ss : List Statement) (s : Statement) (i : ℕ) (call : Call) → i < length ss
-    → s ≡ get_or ss i s → said call ≡ statement_said s
-    → map statement_said (take (i + 1) ss) ≡ map statement_said (take i ss) ++ said call ∷ []
+    → s ≡ get_or ss i s → call_says call ≡ statement_says s
+    → map statement_says (take (i + 1) ss) ≡ map statement_says (take i ss) ++ call_says call ∷ []
 one_said ss s i call within is same =
-    map_more statement_said ss i s within
-    ∙ ap (λ v. map statement_said (take i ss) ++ v ∷ []) (sym (same ∙ ap statement_said is))
+    map_more statement_says ss i s within
+    ∙ ap (λ v. map statement_says (take i ss) ++ v ∷ []) (sym (same ∙ ap statement_says is))
 
 -- one call more
 pub made_more : (calls grown : List Call) (call : Call) (before now : List Statement)
-    → map said calls ≡ map statement_said before → grown ≡ calls ++ call ∷ []
-    → map statement_said now ≡ map statement_said before ++ said call ∷ []
-    → map said grown ≡ map statement_said now
+    → map call_says calls ≡ map statement_says before → grown ≡ calls ++ call ∷ []
+    → map statement_says now ≡ map statement_says before ++ call_says call ∷ []
+    → map call_says grown ≡ map statement_says now
 made_more calls grown call before now made grows one =
-    ap (map said) grows ∙ map-append said calls (call ∷ [])
-    ∙ ap (λ t. t ++ said call ∷ []) made ∙ sym one
+    ap (map call_says) grows ∙ map-append call_says calls (call ∷ [])
+    ∙ ap (λ t. t ++ call_says call ∷ []) made ∙ sym one

@@ -12,7 +12,8 @@ use Rattle.dnssec_key.specs.declared.roll.RollType.TheVariants.{KskRoll, KskDoub
 use Rattle.dnssec_key.specs.declared.roll.RollType.TheVariants.{ZskRoll}
 use Rattle.dnssec_key.specs.declared.roll.RollType.TheVariants.{ZskDoubleSignatureRoll, CskRoll}
 use Rattle.dnssec_key.specs.declared.roll.RollType.TheVariants.{AlgorithmRoll}
-use Rattle.dnssec_record.specs.Script.{roll_named, rolls}
+use Rattle.dnssec_keyset.specs.Start.{all_rolls}
+use Rattle.dnssec_record.specs.Script.{roll_named}
 use Rattle.dnssec_record.proofs.Zone.{ascii_utf8}
 
 name_found : (roll : RollType) → roll_named (roll_name roll) ≡ Some roll
@@ -46,7 +47,7 @@ unnamed text roll true other e = absurd (other (sym ((bytes_decides (roll_name r
 no_name_found : (text : List ℕ) → ((roll : RollType) → text ≢ roll_name roll)
     → roll_named text ≡ None
 unfolding roll_named
-no_name_found text other = none_passes (λ r. bytes_eq (roll_name r) text) rolls
+no_name_found text other = none_passes (λ r. bytes_eq (roll_name r) text) all_rolls
     (λ r. unnamed text r (bytes_eq (roll_name r) text) (other r) refl)
 
 -- what the key set reads is the roll of that name

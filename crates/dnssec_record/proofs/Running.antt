@@ -21,13 +21,13 @@ use Rattle.dnssec_judge.specs.declared.verdict.Broken.{Broken}
 use Rattle.dnssec_judge.specs.Judge.{ComesNext, Knows}
 use Rattle.dnssec_judge.specs.Verdict.{IsVerdict}
 use Rattle.dnssec_judge.specs.Inner.Window.{GoesOnWith, set_at, set_in}
-use Rattle.dnssec_record.specs.Answer.{Answers}
+use Rattle.dnssec_record.specs.Answer.{IsAnswerOf}
 use Rattle.dnssec_record.specs.Output.{answers, chain_line, published_text, reply_text, set_line}
 use Rattle.dnssec_record.specs.Output.{set_text, sets_text}
 use Rattle.dnssec_record.proofs.Reading.{made_more}
-use Rattle.dnssec_record.specs.Reading.{IsOfStatements}
-use Rattle.dnssec_record.specs.Script.{said}
-use Rattle.dnssec_record.specs.Statement.{statement_said}
+use Rattle.dnssec_record.specs.Inner.Reading.{IsOfStatements}
+use Rattle.dnssec_record.specs.Script.{call_says}
+use Rattle.dnssec_record.specs.Inner.Statement.{statement_says}
 use Rattle.dnssec_record.specs.declared.statement.Statement.{Statement}
 
 -- the calls of the statements so far have these answers; what is kept of their entries is what the
@@ -35,7 +35,7 @@ use Rattle.dnssec_record.specs.declared.statement.Statement.{Statement}
 pub record HasAnswered (name : List ℕ) (statements : List Statement) (text : List ℕ) (r : Recorder)
     (j : Judge) : Type 0 where
   pub calls : List Call
-  pub are_calls : map said calls ≡ map statement_said statements
+  pub are_calls : map call_says calls ≡ map statement_says statements
   pub entries : List Entry
   pub records : Records name calls entries r
   pub knows : Knows entries j
@@ -109,7 +109,7 @@ next_comes name calls entries r s outcome e news b so mark moment sets may kept 
   has_moment = moment;
   publishes = λ kind. subst (λ news. GoesOnWith (option_map (set_in kind) news)
       (set_at kind (position_at entries (length entries))) (set_at kind (position_of e)))
-          (sym handed)
+      (sym handed)
       (by b kept kind);
 }
   where
@@ -124,7 +124,7 @@ next_comes name calls entries r s outcome e news b so mark moment sets may kept 
 pub one_more : (name : List ℕ) (past now : List Statement) (text after : List ℕ)
     (r s : Recorder) (j k : Judge) (call : Call) (outcome : Outcome) (news : Option Published)
     → HasAnswered name past text r j
-    → map statement_said now ≡ map statement_said past ++ said call ∷ []
+    → map statement_says now ≡ map statement_says past ++ call_says call ∷ []
     → ((name : List ℕ) (calls : List Call) (entries : List Entry) (e : Entry)
     → TellsOutcome e outcome → HasSameKeys e.published s.published → Records name calls entries r
     → Records name (calls ++ call ∷ []) (entries ++ e ∷ []) s)
@@ -157,7 +157,7 @@ one_more name past now text after r s j k call outcome news so one made kept han
           so.records;
       knows = judged so.entries e
           (next_comes name so.calls so.entries r s outcome e news outcome.may_publish so.records
-              refl
+          refl
           refl refl refl kept handed) so.knows;
       text_is = text_is ∙ more;
       sets_are = ap sets_text (last_of so.entries e);
@@ -169,7 +169,7 @@ pub all_answered : (script name : List ℕ) (statements : List Statement)
     → IsOfStatements script name statements → HasAnswered name statements text r j
     → ((entries : List Entry) → Knows entries j → IsVerdict entries verdict)
     → sets ≡ text ++ published_text r.published → whole ≡ sets ++ chain_line verdict
-    → Answers script whole
+    → IsAnswerOf script whole
 all_answered script name statements text sets whole r j verdict is so judged shown wrote =
     let front : sets ≡ answers so.entries ++ set_line so.entries =
     shown ∙ ap (λ t. t ++ published_text r.published) so.text_is

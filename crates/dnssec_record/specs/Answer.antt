@@ -23,7 +23,7 @@ pub record IsRunOf (script : List ℕ) (set : KeySetParts) (entries : List Entry
   pub is_set : set ≡ (world_at name calls entries (length entries)).set
 
 -- the text is the output of a run of the calls of this script, with the verdict on its record
-pub record Answers (script text : List ℕ) : Type 0 where
+pub record IsAnswerOf (script text : List ℕ) : Type 0 where
   pub name : List ℕ
   pub calls : List Call
   pub entries : List Entry
@@ -35,24 +35,24 @@ pub record Answers (script text : List ℕ) : Type 0 where
 
 -- a device took, after what it had taken before, a text that answers the script
 abbrev pub TakesAnswer : List ℕ → Option (List ℕ) → Option (List ℕ) → Type 0
-TakesAnswer script old new = (text : List ℕ) × Answers script text × Appends old new text
+TakesAnswer script old new = (text : List ℕ) × IsAnswerOf script text × Appends old new text
 
 -- of whatever run a text is the output that a device took: if its list is plain, it stays safe
 abbrev pub IsSafeAnswer : List ℕ → Option (List ℕ) → Option (List ℕ) → Type 0
 IsSafeAnswer script old new =
-    (text : List ℕ) (a : Answers script text) → Appends old new text →
+    (text : List ℕ) (a : IsAnswerOf script text) → Appends old new text →
     StaysSafe a.name a.calls a.entries
 
 -- and if its list is plain, the last line that was taken says so
 abbrev pub EndsSafe : List ℕ → Option (List ℕ) → Option (List ℕ) → Type 0
 EndsSafe script old new =
-    (text : List ℕ) (a : Answers script text) → Appends old new text →
+    (text : List ℕ) (a : IsAnswerOf script text) → Appends old new text →
     IsPlain a.name a.calls a.entries → (front : List ℕ) × (text ≡ front ++ codes "\nchain safe\n")
 
 -- a device took a beginning of such a text
 abbrev pub TakesBeginning : List ℕ → Option (List ℕ) → Option (List ℕ) → Type 0
 TakesBeginning script old new =
-    (text : List ℕ) × (rest : List ℕ) × Answers script (text ++ rest) × Appends old new text
+    (text : List ℕ) × (rest : List ℕ) × IsAnswerOf script (text ++ rest) × Appends old new text
 
 -- it took nothing, or, where the script is known, a beginning of an answer to it
 abbrev pub TakesAtMost : Option (List ℕ) → Option (List ℕ) → Option (List ℕ) → Type 0

@@ -11,7 +11,7 @@ fault_status Device = 2
 fault_status OutOfMemory = 3
 
 -- each fault's message
-abbrev pub fault_text : ScriptFault → List ℕ
-fault_text (Malformed n) = codes "line " ++ decimal n ++ codes ": malformed"
-fault_text Device = codes "input or output fault"
-fault_text OutOfMemory = codes "out of memory"
+abbrev pub script_fault_text : ScriptFault → List ℕ
+script_fault_text (Malformed n) = codes "line " ++ decimal n ++ codes ": malformed"
+script_fault_text Device = codes "input or output fault"
+script_fault_text OutOfMemory = codes "out of memory"

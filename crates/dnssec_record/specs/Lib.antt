@@ -1,8 +1,7 @@
 pub mod Answer
 pub mod Device
 pub mod Fault
+pub mod Inner
 pub mod Output
-pub mod Reading
 pub mod Script
-pub mod Statement
 pub mod Std

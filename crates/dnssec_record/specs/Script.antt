@@ -12,16 +12,9 @@ use Rattle.dnssec_base.specs.AlgorithmNames.{algorithm_named}
 use Rattle.dnssec_base.specs.NameText as names
 use Rattle.dnssec_key.specs.declared.roll.Half.TheVariants.{First, Second}
 use Rattle.dnssec_key.specs.declared.roll.RollType.{RollType}
-use Rattle.dnssec_key.specs.declared.roll.RollType.TheVariants.{
-  KskRoll,
-  KskDoubleDsRoll,
-  ZskRoll,
-  ZskDoubleSignatureRoll,
-  CskRoll,
-  AlgorithmRoll,
-}
 use Rattle.dnssec_key.specs.Key.{is_available}
 use Rattle.dnssec_key.specs.Texts.{roll_name}
+use Rattle.dnssec_keyset.specs.Start.{all_rolls}
 use Rattle.dnssec_run.specs.declared.call.Call.{Call}
 use Rattle.dnssec_run.specs.declared.call.Call.TheVariants as call
 use Rattle.dnssec_record.specs.declared.words.Word.{Word}
@@ -96,14 +89,9 @@ as_yes_no text =
     if bytes_eq text (codes "yes") then Some (Flag true)
     else (if bytes_eq text (codes "no") then Some (Flag false) else None)
 
--- the rolls
-abbrev pub rolls : List RollType
-rolls =
-    KskRoll ∷ KskDoubleDsRoll ∷ ZskRoll ∷ ZskDoubleSignatureRoll ∷ CskRoll ∷ AlgorithmRoll ∷ []
-
 -- a roll, by its name
 unfoldable pub roll_named : List ℕ → Option RollType
-roll_named name = find (λ r. bytes_eq (roll_name r) name) rolls
+roll_named name = find (λ r. bytes_eq (roll_name r) name) all_rolls
 
 -- the name of a roll
 unfoldable pub as_roll : Form
@@ -239,49 +227,49 @@ key_values pubref privref algorithm tag created available =
     Reference pubref ∷ Private privref ∷ trait_values algorithm tag created available
 
 -- a call in the words of a script
-abbrev pub said : Call → Word × List Value
-said (call.AddKeyKsk p q a t c y) = (
+abbrev pub call_says : Call → Word × List Value
+call_says (call.AddKeyKsk p q a t c y) = (
   word.Add Ksk,
   key_values (string_bytes p) (option_map string_bytes q) a t c (is_available y),
 )
-said (call.AddKeyZsk p q a t c y) = (
+call_says (call.AddKeyZsk p q a t c y) = (
   word.Add Zsk,
   key_values (string_bytes p) (option_map string_bytes q) a t c (is_available y),
 )
-said (call.AddKeyCsk p q a t c y) = (
+call_says (call.AddKeyCsk p q a t c y) = (
   word.Add Csk,
   key_values (string_bytes p) (option_map string_bytes q) a t c (is_available y),
 )
-said (call.AddPublicKey p a t c y) =
+call_says (call.AddPublicKey p a t c y) =
     (word.AddPublic, Reference (string_bytes p) ∷ trait_values a t c y)
-said (call.SetDecoupled p y) = (word.SetFlag Decoupled, Reference p.now ∷ Flag y ∷ [])
-said (call.SetPresent p y t) = (word.SetPresent, Reference p.now ∷ Flag y ∷ Moment t ∷ [])
-said (call.SetSigner p y) = (word.SetFlag Signer, Reference p.now ∷ Flag y ∷ [])
-said (call.SetAtParent p y) = (word.SetFlag AtParent, Reference p.now ∷ Flag y ∷ [])
-said (call.SetStale p) = (word.OfKey SetStale, Reference p.now ∷ [])
-said (call.SetVisible p t) =
+call_says (call.SetDecoupled p y) = (word.SetFlag Decoupled, Reference p.now ∷ Flag y ∷ [])
+call_says (call.SetPresent p y t) = (word.SetPresent, Reference p.now ∷ Flag y ∷ Moment t ∷ [])
+call_says (call.SetSigner p y) = (word.SetFlag Signer, Reference p.now ∷ Flag y ∷ [])
+call_says (call.SetAtParent p y) = (word.SetFlag AtParent, Reference p.now ∷ Flag y ∷ [])
+call_says (call.SetStale p) = (word.OfKey SetStale, Reference p.now ∷ [])
+call_says (call.SetVisible p t) =
     (word.SetStamp stamp.Visible, Reference p.now ∷ Moment t ∷ [])
-said (call.SetDsVisible p t) =
+call_says (call.SetDsVisible p t) =
     (word.SetStamp stamp.DsVisible, Reference p.now ∷ Moment t ∷ [])
-said (call.SetRrsigVisible p t) =
+call_says (call.SetRrsigVisible p t) =
     (word.SetStamp stamp.RrsigVisible, Reference p.now ∷ Moment t ∷ [])
-said (call.DeleteKey p) = (word.OfKey Delete, Reference p.now ∷ [])
-said (call.StartRoll r old new t) = (
+call_says (call.DeleteKey p) = (word.OfKey Delete, Reference p.now ∷ [])
+call_says (call.StartRoll r old new t) = (
   word.Start,
   Roll r ∷ References (map now old.now) ∷ References (map now new.now) ∷ Moment t ∷ [],
 )
-said (call.Propagation1Complete r ttl t) =
+call_says (call.Propagation1Complete r ttl t) =
     (word.Report First, Roll r ∷ Number ttl ∷ Moment t ∷ [])
-said (call.CacheExpired1 r t) = (word.Wait First, Roll r ∷ Moment t ∷ [])
-said (call.Propagation2Complete r ttl t) =
+call_says (call.CacheExpired1 r t) = (word.Wait First, Roll r ∷ Moment t ∷ [])
+call_says (call.Propagation2Complete r ttl t) =
     (word.Report Second, Roll r ∷ Number ttl ∷ Moment t ∷ [])
-said (call.CacheExpired2 r t) = (word.Wait Second, Roll r ∷ Moment t ∷ [])
-said (call.RollDone r) = (word.End Done, Roll r ∷ [])
-said (call.AbortRoll r) = (word.End Abort, Roll r ∷ [])
+call_says (call.CacheExpired2 r t) = (word.Wait Second, Roll r ∷ Moment t ∷ [])
+call_says (call.RollDone r) = (word.End Done, Roll r ∷ [])
+call_says (call.AbortRoll r) = (word.End Abort, Roll r ∷ [])
 
 -- the line makes this call
-abbrev pub Spells : List ℕ → Call → Type 0
-Spells line call = says line ≡ Some (said call)
+abbrev pub IsLineOf : List ℕ → Call → Type 0
+IsLineOf line call = says line ≡ Some (call_says call)
 
 -- ---- scripts
 
@@ -290,15 +278,15 @@ abbrev pub IsZoneLine : List ℕ → List ℕ → Type 0
 IsZoneLine line name = (text : List ℕ) × (line ≡ codes "zone " ++ text) × names.Spells text name
 
 -- each line makes its call
-abbrev pub SpellEach : List (List ℕ) → List Call → Type 0
-SpellEach [] [] = Unit {0}
-SpellEach (line ∷ lines) (call ∷ calls) = Spells line call × SpellEach lines calls
-SpellEach _ _ = ⊥
+abbrev pub AreLinesOf : List (List ℕ) → List Call → Type 0
+AreLinesOf [] [] = Unit {0}
+AreLinesOf (line ∷ lines) (call ∷ calls) = IsLineOf line call × AreLinesOf lines calls
+AreLinesOf _ _ = ⊥
 
 -- the first line names the zone, and each further line makes its call
 abbrev pub AreScript : List (List ℕ) → List ℕ → List Call → Type 0
 AreScript [] name calls = ⊥
-AreScript (zone ∷ lines) name calls = IsZoneLine zone name × SpellEach lines calls
+AreScript (zone ∷ lines) name calls = IsZoneLine zone name × AreLinesOf lines calls
 
 -- the bytes are a script of this zone and these calls
 abbrev pub IsScript : List ℕ → List ℕ → List Call → Type 0

@@ -1,10 +1,10 @@
 //! The answers to a script, as text.
 ghost use Rattle.std.specs.Prelude.{◌≡◌, ◌++◌, ℕ, List, IfOk, OnOk, codes, decimal, string_bytes};
 ghost use Rattle.std.specs.List.{flat_map};
-ghost use Rattle.dnssec_record.specs.Answer.{Answers};
+ghost use Rattle.dnssec_record.specs.Answer.{IsAnswerOf};
 ghost use Rattle.dnssec_record.specs.Output.{action_name, actions_text, broken_text, chain_line};
 ghost use Rattle.dnssec_record.specs.Output.{published_text, reply_text, set_text};
-ghost use Rattle.dnssec_record.specs.Reading.{IsOfStatements};
+ghost use Rattle.dnssec_record.specs.Inner.Reading.{IsOfStatements};
 
 use crate::statement::Statement;
 use dnssec_base::Name;
@@ -22,7 +22,7 @@ pub(crate) fn answer(
     statements: &[Statement<'_>],
 ) -> Result<String, AllocError>
     ensures { IfOk result (λ text. (script : List ℕ) →
-        IsOfStatements script name statements.now → Answers script (string_bytes text)) }
+        IsOfStatements script name statements.now → IsAnswerOf script (string_bytes text)) }
 {
     let mut text = String::new(alloc);
     let mut recorder = Recorder::new(alloc, name);

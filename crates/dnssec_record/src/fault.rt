@@ -1,6 +1,6 @@
 //! Why a script was not answered.
 ghost use Rattle.std.specs.Prelude.{◌≡◌, Some};
-ghost use Rattle.dnssec_record.specs.Fault.{fault_status, fault_text};
+ghost use Rattle.dnssec_record.specs.Fault.{fault_status, script_fault_text};
 ghost use Rattle.dnssec_record.specs.declared.fault.ScriptFault.TheVariants.{Device, OutOfMemory};
 
 use crate::device::DeviceFault;
@@ -34,7 +34,7 @@ impl ScriptFault {
 }
 
 impl fmt::Display for ScriptFault {
-    ghost output = { λ fault. Some (fault_text fault) };
+    ghost output = { λ fault. Some (script_fault_text fault) };
 
     /// Writes what a program tells its user, as `line 3: malformed`.
     fn fmt<W: fmt::Write>(&self, f: &mut fmt::Formatter<W>) -> fmt::Result {

@@ -4,8 +4,8 @@ ghost use denote.Bor.{now};
 ghost use Rattle.dnssec_base.specs.NameText as names;
 ghost use Rattle.dnssec_record.specs.Answer.{AnswerFault};
 ghost use Rattle.dnssec_record.specs.Script.{IsZoneLine, lines_of, says, without_end};
-ghost use Rattle.dnssec_record.specs.Statement.{statement_said};
-ghost use Rattle.dnssec_record.specs.Reading.{CallsFault, IsOfStatements};
+ghost use Rattle.dnssec_record.specs.Inner.Statement.{statement_says};
+ghost use Rattle.dnssec_record.specs.Inner.Reading.{CallsFault, IsOfStatements};
 
 use crate::fault::ScriptFault;
 use crate::fields::parts;
@@ -84,7 +84,7 @@ fn read_statements<'a>(
     lines: &'a [&'a [u8]],
 ) -> Result<Vec<Statement<'a>>, ScriptFault>
     ensures ok { IfOk result (λ statements.
-        map Some (map statement_said statements.items) ≡ map says (map now lines.now)) }
+        map Some (map statement_says statements.items) ≡ map says (map now lines.now)) }
     ensures err { IfErr result (CallsFault (map now lines.now)) }
 {
     let mut statements = Vec::new(alloc);

@@ -2,10 +2,10 @@
 ghost use Rattle.std.specs.Prelude.{◌≡◌, ◌≢◌, ◌⊎◌, ◌↔◌, ℕ, ◌<◌, List, Some, IfOk, IfErr, IfSome};
 ghost use Rattle.std.specs.Prelude.{OnOk, OnErr, Err, string_bytes};
 ghost use Rattle.std.specs.Io.KnownBytes.{Appends, IsAtEnd, Keeps};
-ghost use Rattle.dnssec_record.specs.Answer.{Answers, AnswerFault, EndsSafe, IsRunOf};
+ghost use Rattle.dnssec_record.specs.Answer.{IsAnswerOf, AnswerFault, EndsSafe, IsRunOf};
 ghost use Rattle.dnssec_record.specs.Answer.{IsSafeAnswer, TakesAnswer, TakesAtMost};
 ghost use Rattle.dnssec_record.specs.Device.{Counts};
-ghost use Rattle.dnssec_record.specs.Reading.{ReadFault, TakesFront};
+ghost use Rattle.dnssec_record.specs.Inner.Reading.{ReadFault, TakesFront};
 ghost use Rattle.dnssec_record.specs.Script.{IsFirstMalformed, IsScript};
 ghost use Rattle.dnssec_run.specs.declared.call.Call.{Call};
 ghost use Rattle.dnssec_record.specs.declared.fault.ScriptFault.TheVariants.{Device, OutOfMemory};
@@ -118,7 +118,7 @@ fn read_to_end<R: Source>(alloc: Global, input: &mut R) -> Result<Vec<u8>, Scrip
 
 /// The answers to a script.
 fn answer_to(alloc: Global, script: &[u8]) -> Result<String, ScriptFault>
-    ensures ok { IfOk result (λ text. Answers script.now (string_bytes text)) }
+    ensures ok { IfOk result (λ text. IsAnswerOf script.now (string_bytes text)) }
     ensures err { IfErr result (AnswerFault script.now) }
 {
     let lines = lines(alloc, script)?;

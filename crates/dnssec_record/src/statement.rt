@@ -1,9 +1,9 @@
 //! What a line of a script says, and the call that it makes.
 ghost use Rattle.std.specs.Prelude.{◌≡◌, List, [], ◌∷◌, map, IfOk, Option, Some};
 ghost use Rattle.std.specs.Option.{option_map};
-ghost use Rattle.dnssec_record.specs.Script.{said, says, says_behind, values_of, trait_forms};
+ghost use Rattle.dnssec_record.specs.Script.{call_says, says, says_behind, values_of, trait_forms};
 ghost use Rattle.dnssec_record.specs.Script.{Moment, as_time};
-ghost use Rattle.dnssec_record.specs.Statement.{statement_said, traits_said};
+ghost use Rattle.dnssec_record.specs.Inner.Statement.{statement_says, traits_say};
 
 use crate::fields::Fields;
 use crate::words::{
@@ -40,7 +40,7 @@ pub(crate) enum Statement<'a> {
 impl<'a> Statement<'a> {
     /// The call that the line makes. An add gets texts of its own.
     pub(crate) fn call<'s>(&'s self, alloc: Global) -> Result<Call<'s>, AllocError>
-        ensures { IfOk result (λ call. said call ≡ statement_said self.now) }
+        ensures { IfOk result (λ call. call_says call ≡ statement_says self.now) }
     {
         match self {
             Statement::Add(word, pubref, privref, key) => word.call(alloc, pubref, *privref, key),
@@ -78,7 +78,7 @@ pub(crate) fn calls_of<'a, 's: 'a>(
     alloc: Global,
     statements: &'a [Statement<'s>],
 ) -> Result<Vec<Call<'a>>, AllocError>
-    ensures { IfOk result (λ calls. map said calls.items ≡ map statement_said statements.now) }
+    ensures { IfOk result (λ calls. map call_says calls.items ≡ map statement_says statements.now) }
 {
     let mut calls = Vec::new(alloc);
     for statement in statements {
@@ -93,7 +93,7 @@ pub(crate) fn read_line<'a>(
     alloc: Global,
     line: &'a [u8],
 ) -> Result<Option<Statement<'a>>, AllocError>
-    ensures { IfOk result (λ found. option_map statement_said found ≡ says line.now) }
+    ensures { IfOk result (λ found. option_map statement_says found ≡ says line.now) }
 {
     match Fields::of(line).word() {
         None => Ok(None),
@@ -108,7 +108,7 @@ fn behind<'a>(
     fields: Fields<'a>,
 ) -> Result<Option<Statement<'a>>, AllocError>
     ensures { IfOk result (λ found.
-        option_map statement_said found ≡ says_behind word fields.entry) }
+        option_map statement_says found ≡ says_behind word fields.entry) }
 {
     match word {
         Word::Add(word) => Ok(add(word, fields)),
@@ -125,7 +125,7 @@ fn behind<'a>(
 }
 
 fn add<'a>(word: AddWord, fields: Fields<'a>) -> Option<Statement<'a>>
-    ensures { option_map statement_said result ≡ says_behind (Word.Add word) fields.entry }
+    ensures { option_map statement_says result ≡ says_behind (Word.Add word) fields.entry }
 {
     let (pubref, fields) = fields.reference()?;
     let (privref, fields) = fields.private()?;
@@ -134,7 +134,7 @@ fn add<'a>(word: AddWord, fields: Fields<'a>) -> Option<Statement<'a>>
 }
 
 fn add_public<'a>(fields: Fields<'a>) -> Option<Statement<'a>>
-    ensures { option_map statement_said result ≡ says_behind Word.AddPublic fields.entry }
+    ensures { option_map statement_says result ≡ says_behind Word.AddPublic fields.entry }
 {
     let (pubref, fields) = fields.reference()?;
     let key = key_traits(fields)?;
@@ -142,7 +142,7 @@ fn add_public<'a>(fields: Fields<'a>) -> Option<Statement<'a>>
 }
 
 fn key_traits(fields: Fields<'_>) -> Option<KeyTraits>
-    ensures { option_map traits_said result ≡ values_of trait_forms fields.entry }
+    ensures { option_map traits_say result ≡ values_of trait_forms fields.entry }
 {
     let (algorithm, fields) = fields.algorithm()?;
     let (key_tag, fields) = fields.tag()?;
@@ -158,7 +158,7 @@ fn key_traits(fields: Fields<'_>) -> Option<KeyTraits>
 }
 
 fn set_flag<'a>(word: FlagWord, fields: Fields<'a>) -> Option<Statement<'a>>
-    ensures { option_map statement_said result ≡ says_behind (Word.SetFlag word) fields.entry }
+    ensures { option_map statement_says result ≡ says_behind (Word.SetFlag word) fields.entry }
 {
     let (pubref, fields) = fields.reference()?;
     let (value, fields) = fields.yes_no()?;
@@ -167,7 +167,7 @@ fn set_flag<'a>(word: FlagWord, fields: Fields<'a>) -> Option<Statement<'a>>
 }
 
 fn set_present<'a>(fields: Fields<'a>) -> Option<Statement<'a>>
-    ensures { option_map statement_said result ≡ says_behind Word.SetPresent fields.entry }
+    ensures { option_map statement_says result ≡ says_behind Word.SetPresent fields.entry }
 {
     let (pubref, fields) = fields.reference()?;
     let (value, fields) = fields.yes_no()?;
@@ -176,7 +176,7 @@ fn set_present<'a>(fields: Fields<'a>) -> Option<Statement<'a>>
 }
 
 fn set_stamp<'a>(word: StampWord, fields: Fields<'a>) -> Option<Statement<'a>>
-    ensures { option_map statement_said result ≡ says_behind (Word.SetStamp word) fields.entry }
+    ensures { option_map statement_says result ≡ says_behind (Word.SetStamp word) fields.entry }
 {
     let (pubref, fields) = fields.reference()?;
     let time = time(fields)?;
@@ -184,7 +184,7 @@ fn set_stamp<'a>(word: StampWord, fields: Fields<'a>) -> Option<Statement<'a>>
 }
 
 fn of_key<'a>(word: KeyWord, fields: Fields<'a>) -> Option<Statement<'a>>
-    ensures { option_map statement_said result ≡ says_behind (Word.OfKey word) fields.entry }
+    ensures { option_map statement_says result ≡ says_behind (Word.OfKey word) fields.entry }
 {
     let (pubref, fields) = fields.reference()?;
     fields.end()?;
@@ -193,7 +193,7 @@ fn of_key<'a>(word: KeyWord, fields: Fields<'a>) -> Option<Statement<'a>>
 
 fn start<'a>(alloc: Global, fields: Fields<'a>) -> Result<Option<Statement<'a>>, AllocError>
     ensures { IfOk result (λ found.
-        option_map statement_said found ≡ says_behind Word.Start fields.entry) }
+        option_map statement_says found ≡ says_behind Word.Start fields.entry) }
 {
     let Some((rolltype, fields)) = fields.roll() else {
         return Ok(None);
@@ -216,7 +216,7 @@ fn start<'a>(alloc: Global, fields: Fields<'a>) -> Result<Option<Statement<'a>>,
 }
 
 fn report<'a>(half: Half, fields: Fields<'a>) -> Option<Statement<'a>>
-    ensures { option_map statement_said result ≡ says_behind (Word.Report half) fields.entry }
+    ensures { option_map statement_says result ≡ says_behind (Word.Report half) fields.entry }
 {
     let (rolltype, fields) = fields.roll()?;
     let (ttl, fields) = fields.ttl()?;
@@ -225,7 +225,7 @@ fn report<'a>(half: Half, fields: Fields<'a>) -> Option<Statement<'a>>
 }
 
 fn wait<'a>(half: Half, fields: Fields<'a>) -> Option<Statement<'a>>
-    ensures { option_map statement_said result ≡ says_behind (Word.Wait half) fields.entry }
+    ensures { option_map statement_says result ≡ says_behind (Word.Wait half) fields.entry }
 {
     let (rolltype, fields) = fields.roll()?;
     let now = time(fields)?;
@@ -233,7 +233,7 @@ fn wait<'a>(half: Half, fields: Fields<'a>) -> Option<Statement<'a>>
 }
 
 fn end<'a>(word: EndWord, fields: Fields<'a>) -> Option<Statement<'a>>
-    ensures { option_map statement_said result ≡ says_behind (Word.End word) fields.entry }
+    ensures { option_map statement_says result ≡ says_behind (Word.End word) fields.entry }
 {
     let (rolltype, fields) = fields.roll()?;
     fields.end()?;

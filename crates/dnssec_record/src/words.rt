@@ -8,8 +8,8 @@ ghost use Rattle.std.specs.Option.{option_map};
 ghost use Rattle.std.specs.Str.{bytes_eq};
 ghost use Rattle.dnssec_record.specs.Script.{Reference, Private, Flag, Roll, Number, Moment};
 ghost use Rattle.dnssec_key.specs.Key.{is_available};
-ghost use Rattle.dnssec_record.specs.Script.{said, word_named};
-ghost use Rattle.dnssec_record.specs.Statement.{traits_said};
+ghost use Rattle.dnssec_record.specs.Script.{call_says, word_named};
+ghost use Rattle.dnssec_record.specs.Inner.Statement.{traits_say};
 
 use dnssec_base::SecurityAlgorithm;
 use dnssec_key::Half;
@@ -122,9 +122,9 @@ impl AddWord {
         privref: Option<&str>,
         key: &KeyTraits,
     ) -> Result<Call<'a>, AllocError>
-        ensures { IfOk result (λ call. said call ≡ (
+        ensures { IfOk result (λ call. call_says call ≡ (
           Word.Add self,
-          Reference pubref.now ∷ Private (option_map now privref.entry) ∷ traits_said key.now,
+          Reference pubref.now ∷ Private (option_map now privref.entry) ∷ traits_say key.now,
         )) }
     {
         let pubref = String::from_str(alloc, pubref)?;
@@ -134,10 +134,10 @@ impl AddWord {
 
     /// The same, with texts that the call may keep.
     fn with_texts<'a>(self, pubref: String, privref: Option<String>, key: &KeyTraits) -> Call<'a>
-        ensures { said result ≡ (
+        ensures { call_says result ≡ (
           Word.Add self,
           Reference (string_bytes pubref)
-              ∷ Private (option_map string_bytes privref) ∷ traits_said key.now,
+              ∷ Private (option_map string_bytes privref) ∷ traits_say key.now,
         ) }
     {
         let available = availability(key.available);
@@ -177,7 +177,7 @@ pub(crate) fn public_add<'a>(
     key: &KeyTraits,
 ) -> Result<Call<'a>, AllocError>
     ensures { IfOk result (λ call.
-        said call ≡ (Word.AddPublic, Reference pubref.now ∷ traits_said key.now)) }
+        call_says call ≡ (Word.AddPublic, Reference pubref.now ∷ traits_say key.now)) }
 {
     Ok(Call::AddPublicKey {
         pubref: String::from_str(alloc, pubref)?,
@@ -210,7 +210,7 @@ fn availability(may_come_in: bool) -> Available
 impl FlagWord {
     /// The call that sets this flag.
     pub(crate) fn call<'a>(self, pubref: &'a str, value: bool) -> Call<'a>
-        ensures { said result ≡ (Word.SetFlag self, Reference pubref.now ∷ Flag value ∷ []) }
+        ensures { call_says result ≡ (Word.SetFlag self, Reference pubref.now ∷ Flag value ∷ []) }
     {
         match self {
             FlagWord::Decoupled => Call::SetDecoupled { pubref, value },
@@ -223,7 +223,7 @@ impl FlagWord {
 impl StampWord {
     /// The call that sets this stamp.
     pub(crate) fn call<'a>(self, pubref: &'a str, time: UnixTime) -> Call<'a>
-        ensures { said result ≡ (Word.SetStamp self, Reference pubref.now ∷ Moment time ∷ []) }
+        ensures { call_says result ≡ (Word.SetStamp self, Reference pubref.now ∷ Moment time ∷ []) }
     {
         match self {
             StampWord::Visible => Call::SetVisible { pubref, time },
@@ -236,7 +236,7 @@ impl StampWord {
 impl KeyWord {
     /// The call of this word for a key.
     pub(crate) fn call<'a>(self, pubref: &'a str) -> Call<'a>
-        ensures { said result ≡ (Word.OfKey self, Reference pubref.now ∷ []) }
+        ensures { call_says result ≡ (Word.OfKey self, Reference pubref.now ∷ []) }
     {
         match self {
             KeyWord::SetStale => Call::SetStale { pubref },
@@ -247,7 +247,7 @@ impl KeyWord {
 
 /// The call that reports this half of a roll.
 pub(crate) fn report_call<'a>(half: Half, rolltype: RollType, ttl: u32, now: UnixTime) -> Call<'a>
-    ensures { said result ≡ (Word.Report half, Roll rolltype ∷ Number ttl ∷ Moment now ∷ []) }
+    ensures { call_says result ≡ (Word.Report half, Roll rolltype ∷ Number ttl ∷ Moment now ∷ []) }
 {
     match half {
         Half::First => Call::Propagation1Complete { rolltype, ttl, now },
@@ -257,7 +257,7 @@ pub(crate) fn report_call<'a>(half: Half, rolltype: RollType, ttl: u32, now: Uni
 
 /// The call that ends the wait of this half of a roll.
 pub(crate) fn wait_call<'a>(half: Half, rolltype: RollType, now: UnixTime) -> Call<'a>
-    ensures { said result ≡ (Word.Wait half, Roll rolltype ∷ Moment now ∷ []) }
+    ensures { call_says result ≡ (Word.Wait half, Roll rolltype ∷ Moment now ∷ []) }
 {
     match half {
         Half::First => Call::CacheExpired1 { rolltype, now },
@@ -268,7 +268,7 @@ pub(crate) fn wait_call<'a>(half: Half, rolltype: RollType, now: UnixTime) -> Ca
 impl EndWord {
     /// The call that ends a roll so.
     pub(crate) fn call<'a>(self, rolltype: RollType) -> Call<'a>
-        ensures { said result ≡ (Word.End self, Roll rolltype ∷ []) }
+        ensures { call_says result ≡ (Word.End self, Roll rolltype ∷ []) }
     {
         match self {
             EndWord::Done => Call::RollDone { rolltype },

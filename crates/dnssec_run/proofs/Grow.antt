@@ -26,56 +26,59 @@ module _ (name : List ℕ) where
   world_front cs ds es fs zero lc le = refl
   world_front cs ds es fs (suc n) lc le =
       λ i. world_behind (suc n) (world_front cs ds es fs n (omega arith) (omega arith) i)
-          (front cs ds n lc i) (front es fs n le i)
+      (front cs ds n lc i) (front es fs n le i)
 
   -- the world after one more call
   pub world_more : (cs : List Call) (es : List Entry) (c : Call) (e : Entry) → length es ≡ length cs
       → world_at name (cs ++ c ∷ []) (es ++ e ∷ []) (suc (length cs))
-          ≡ world_after (suc (length cs)) (world_at name cs es (length cs)) c e.reply
+      ≡ world_after (suc (length cs)) (world_at name cs es (length cs)) c e.reply
   unfolding world_at
   world_more cs es c e same =
       λ i. world_behind (suc (length cs))
-          (world_front cs (c ∷ []) es (e ∷ []) (length cs) (omega arith) (omega arith) i)
-          (at_end cs c i)
+      (world_front cs (c ∷ []) es (e ∷ []) (length cs) (omega arith) (omega arith) i)
+      (at_end cs c i)
       ((subst (λ n. slice_get (es ++ e ∷ []) n ≡ Some e) same (at_end es e)) i)
 
   pub run_none : IsRun name [] []
-  run_none = record { count = refl; each =
-      λ n c e ci ei. absurd (let h = slice_get_within {A = Call} [] n c ci in omega arith) }
+  run_none = record {
+    count = refl;
+    each =
+        λ n c e ci ei. absurd (let h = slice_get_within {A = Call} [] n c ci in omega arith);
+  }
 
   pub run_more : (cs : List Call) (es : List Entry) (c : Call) (e : Entry) (after : World)
       → IsRun name cs es
       → after ≡ world_after (suc (length cs)) (world_at name cs es (length cs)) c e.reply
-          → IsEntry (world_at name cs es (length cs)) after c e
-          → IsRun name (cs ++ c ∷ []) (es ++ e ∷ [])
+      → IsEntry (world_at name cs es (length cs)) after c e
+      → IsRun name (cs ++ c ∷ []) (es ++ e ∷ [])
   run_more cs es c e after run next ok = record {
     count = simp length-append (omega (arith, run.count));
     each = λ n d f di fi. elim (cases_lt n (length cs)) [
       | inl lt ↦
           let d' : slice_get cs n ≡ Some d = sym (front cs (c ∷ []) n lt) ∙ di in
           let f' : slice_get es n ≡ Some f = sym (front es (e ∷ []) n (omega (arith, run.count)))
-              ∙ fi in
+          ∙ fi in
           subst (λ w. IsEntry w (world_at name (cs ++ c ∷ []) (es ++ e ∷ []) (suc n)) d f)
-              (sym (world_front cs (c ∷ []) es (e ∷ []) n (omega arith) (omega (arith, run.count))))
+          (sym (world_front cs (c ∷ []) es (e ∷ []) n (omega arith) (omega (arith, run.count))))
           (subst (λ w. IsEntry (world_at name cs es n) w d f)
-              (sym (world_front cs (c ∷ []) es (e ∷ []) (suc n) lt (omega (arith, run.count))))
-              (run.each n d f d' f'))
+          (sym (world_front cs (c ∷ []) es (e ∷ []) (suc n) lt (omega (arith, run.count))))
+          (run.each n d f d' f'))
       | inr ge ↦
           let bound : n < length (cs ++ c ∷ []) = slice_get_within (cs ++ c ∷ []) n d di in
           let total : length (cs ++ c ∷ []) ≡ length cs + 1 = length-append cs (c ∷ []) in
           let last : n ≡ length cs = omega arith in
           let dc : c ≡ d = same_Some c d
-              (sym (at_end cs c) ∙ ap (slice_get (cs ++ c ∷ [])) (sym last) ∙ di) in
+          (sym (at_end cs c) ∙ ap (slice_get (cs ++ c ∷ [])) (sym last) ∙ di) in
           let fe : e ≡ f = same_Some e f
-              (sym (at_end es e) ∙ ap (slice_get (es ++ e ∷ [])) (run.count ∙ sym last) ∙ fi) in
+          (sym (at_end es e) ∙ ap (slice_get (es ++ e ∷ [])) (run.count ∙ sym last) ∙ fi) in
           let before : world_at name cs es (length cs)
-              ≡ world_at name (cs ++ c ∷ []) (es ++ e ∷ []) n =
-              sym (world_front cs (c ∷ []) es (e ∷ []) (length cs) (omega arith)
-              (omega (arith, run.count))) ∙ ap (world_at name (cs ++ c ∷ []) (es ++ e ∷ []))
-              (sym last) in
+          ≡ world_at name (cs ++ c ∷ []) (es ++ e ∷ []) n =
+          sym (world_front cs (c ∷ []) es (e ∷ []) (length cs) (omega arith)
+          (omega (arith, run.count))) ∙ ap (world_at name (cs ++ c ∷ []) (es ++ e ∷ []))
+          (sym last) in
           let then : after ≡ world_at name (cs ++ c ∷ []) (es ++ e ∷ []) (suc n) = next
-              ∙ sym (world_more cs es c e run.count)
-              ∙ ap (λ m. world_at name (cs ++ c ∷ []) (es ++ e ∷ []) (suc m)) (sym last) in
+          ∙ sym (world_more cs es c e run.count)
+          ∙ ap (λ m. world_at name (cs ++ c ∷ []) (es ++ e ∷ []) (suc m)) (sym last) in
           subst (λ w. IsEntry w (world_at name (cs ++ c ∷ []) (es ++ e ∷ []) (suc n)) d f) before
           (subst (λ w. IsEntry (world_at name cs es (length cs)) w d f) then
           (subst (λ d. IsEntry (world_at name cs es (length cs)) after d f) dc

@@ -15,29 +15,29 @@ use Rattle.dnssec_run.specs.Record.{call_of, reply_of, world_behind, world_at}
 
 module _ (P : KeySetParts → Type 0) (start : (name : List ℕ) → P (new_set name))
     (step : (old new : KeySetParts) (call : keyset.Call) (reply : keyset.Reply) → P old
-        → keyset.Step old call reply new → P new)
+    → keyset.Step old call reply new → P new)
     (name : List ℕ) (calls : List Call) (entries : List Entry) (run : IsRun name calls entries)
-        where
-  pub kept-at : (n : ℕ) → P (world_at name calls entries n).set
-  unfolding world_at
-  kept-at zero = start name
-  kept-at (suc n) = at (slice_get calls n) (slice_get entries n) refl refl (kept-at n)
-    where
-      next : Option Call → Option Entry → World
-      next c e = world_behind (suc n) (world_at name calls entries n) c e
+  where
+    pub kept-at : (n : ℕ) → P (world_at name calls entries n).set
+    unfolding world_at
+    kept-at zero = start name
+    kept-at (suc n) = at (slice_get calls n) (slice_get entries n) refl refl (kept-at n)
+      where
+        next : Option Call → Option Entry → World
+        next c e = world_behind (suc n) (world_at name calls entries n) c e
 
-      at : (oc : Option Call) (oe : Option Entry) → slice_get calls n ≡ oc → slice_get entries n
-          ≡ oe → P (world_at name calls entries n).set
-          → P (world_behind (suc n) (world_at name calls entries n) oc oe).set
-      at None oe ci ei before = before
-      at (Some c) None ci ei before = before
-      at (Some c) (Some e) ci ei before =
-          let then : world_at name calls entries (suc n)
-              ≡ world_behind (suc n) (world_at name calls entries n) (Some c) (Some e) =
-              λ i. world_behind (suc n) (world_at name calls entries n) (ci i) (ei i) in
-          step _ _ (call_of c) (reply_of e.reply) before
-              (subst (λ (w : World). keyset.Step (world_at name calls entries n).set (call_of c)
-              (reply_of e.reply) w.set) then (run.each n c e ci ei).step)
+        at : (oc : Option Call) (oe : Option Entry) → slice_get calls n ≡ oc → slice_get entries n
+            ≡ oe → P (world_at name calls entries n).set
+            → P (world_behind (suc n) (world_at name calls entries n) oc oe).set
+        at None oe ci ei before = before
+        at (Some c) None ci ei before = before
+        at (Some c) (Some e) ci ei before =
+            let then : world_at name calls entries (suc n)
+            ≡ world_behind (suc n) (world_at name calls entries n) (Some c) (Some e) =
+            λ i. world_behind (suc n) (world_at name calls entries n) (ci i) (ei i) in
+            step _ _ (call_of c) (reply_of e.reply) before
+            (subst (λ (w : World). keyset.Step (world_at name calls entries n).set (call_of c)
+            (reply_of e.reply) w.set) then (run.each n c e ci ei).step)
 
 -- tags stay apart and rolls together
 pub stays-sound : (name : List ℕ) (calls : List Call) (entries : List Entry)
@@ -63,4 +63,4 @@ pub neighbours-exchange : (name : List ℕ) (calls : List Call) (entries : List 
     → IsRun name calls entries → NeighboursMayBeExchanged name calls entries
 neighbours-exchange name calls entries run n first second e f at_first at_e at_second at_f apart =
     exchange _ _ _ (call_of first) (call_of second) (reply_of e.reply) (reply_of f.reply) apart
-        (run.each n first e at_first at_e).step (run.each (suc n) second f at_second at_f).step
+    (run.each n first e at_first at_e).step (run.each (suc n) second f at_second at_f).step

@@ -63,12 +63,12 @@ module _ (n : ℕ) (w : World) (at : List ℕ → Option ℕ)
         | inl here ↦
             ap (λ b. cond b (Some n) (at q)) here
             ∙ sym (ap (λ b. option_map (λ (k : KeyParts). cond b n (w.added q))
-                (cond b (Some key) (get w.set.keys q))) here)
+            (cond b (Some key) (get w.set.keys q))) here)
             ∙ ap (option_map (λ (k : KeyParts). with_added n (Some r) w.added q)) (sym after_is)
         | inr there ↦
             ap (λ b. cond b (Some n) (at q)) there ∙ agrees q
             ∙ sym (ap (λ b. option_map (λ (k : KeyParts). cond b n (w.added q))
-                (cond b (Some key) (get w.set.keys q))) there)
+            (cond b (Some key) (get w.set.keys q))) there)
             ∙ ap (option_map (λ (k : KeyParts). with_added n (Some r) w.added q)) (sym after_is)
       ]
   next (DeleteKey r) q =
@@ -77,12 +77,12 @@ module _ (n : ℕ) (w : World) (at : List ℕ → Option ℕ)
         | inl here ↦
             ap (λ b. cond b None (at q)) here
             ∙ sym (ap (λ b. option_map (λ (k : KeyParts). w.added q)
-                (cond b None (get w.set.keys q))) here)
+            (cond b None (get w.set.keys q))) here)
             ∙ ap (option_map (λ (k : KeyParts). w.added q)) (sym after_is)
         | inr there ↦
             ap (λ b. cond b None (at q)) there ∙ agrees q
             ∙ sym (ap (λ b. option_map (λ (k : KeyParts). w.added q)
-                (cond b None (get w.set.keys q))) there)
+            (cond b None (get w.set.keys q))) there)
             ∙ ap (option_map (λ (k : KeyParts). w.added q)) (sym after_is)
       ]
   next (Set r setting) q = moved _ _ q ((after-changes w.set (Set r setting)).keys q)
@@ -99,7 +99,7 @@ pub agrees-accepted : (n : ℕ) (w : World) (old new : KeySetParts) (at later : 
     (call : Call) (reply : Reply) → is_accepted reply ≡ true
     → Agrees old at w → new ≡ after_reply (reply_of reply) (call_of call) old
     → ((q : List ℕ) → later q ≡ positions_after n (reference_added (call_of call))
-        (reference_deleted (call_of call)) at q) → Agrees new later (world_after n w call reply)
+    (reference_deleted (call_of call)) at q) → Agrees new later (world_after n w call reply)
 unfolding Next
 agrees-accepted n w old new at later call Done ok agrees step notes = record {
   same = step ∙ ap (after (call_of call)) agrees.same;
@@ -115,7 +115,7 @@ agrees-accepted n w old new at later call (Refused cause) ok agrees step notes =
 pub agrees-refused : (n : ℕ) (w : World) (old new : KeySetParts) (at : List ℕ → Option ℕ)
     (call : Call) (reply : Reply) → is_accepted reply ≡ false
     → Agrees old at w → new ≡ after_reply (reply_of reply) (call_of call) old
-        → Agrees new at (world_after n w call reply)
+    → Agrees new at (world_after n w call reply)
 agrees-refused n w old new at call Done ok agrees step = cc
 agrees-refused n w old new at call (Actions actions) ok agrees step = cc
 agrees-refused n w old new at call (Refused cause) ok agrees step =

@@ -61,7 +61,7 @@ module _ (old new : KeySetParts) where
   -- only the end of its first wait takes an algorithm roll further
   moves-on : (c : keyset.Call) → keyset.verdict old c ≡ keyset.Clear → keyset.Changes old c new
       → early_end_of c ≢ Some AlgorithmRoll → IsEarly old → (first_wait_of c ≡ Some AlgorithmRoll)
-          ⊎ IsEarly new
+      ⊎ IsEarly new
   moves-on (keyset.AddKey q k) v m none e =
       inr (ap (λ x. is_early (phase_of x AlgorithmRoll)) m.rolls ∙ e)
   moves-on (keyset.Set q s) v m none e =
@@ -70,19 +70,19 @@ module _ (old new : KeySetParts) where
       inr (ap (λ x. is_early (phase_of x AlgorithmRoll)) m.rolls ∙ e)
   moves-on (keyset.StartRoll r olds news now) v m none e =
       elim (cases_Bool (same_roll r AlgorithmRoll)) [
-    | inl s ↦ inr (there r (Some Propagation1) m.rolls s refl)
-    | inr d ↦ inr (aside r (Some Propagation1) m.rolls d e)
-  ]
+        | inl s ↦ inr (there r (Some Propagation1) m.rolls s refl)
+        | inr d ↦ inr (aside r (Some Propagation1) m.rolls d e)
+      ]
   moves-on (keyset.Report r First ttl now) v m none e =
       elim (cases_Bool (same_roll r AlgorithmRoll)) [
-    | inl s ↦ inr (there r _ m.rolls s refl)
-    | inr d ↦ inr (aside r _ m.rolls d e)
-  ]
+        | inl s ↦ inr (there r _ m.rolls s refl)
+        | inr d ↦ inr (aside r _ m.rolls d e)
+      ]
   moves-on (keyset.Report r Second ttl now) v m none e =
       elim (cases_Bool (same_roll r AlgorithmRoll)) [
-    | inl s ↦ absurd (not_early r _ (spreads_second _ (no_cause _ v)) refl s e)
-    | inr d ↦ inr (aside r _ m.rolls d e)
-  ]
+        | inl s ↦ absurd (not_early r _ (spreads_second _ (no_cause _ v)) refl s e)
+        | inr d ↦ inr (aside r _ m.rolls d e)
+      ]
   moves-on (keyset.Wait r First now) v m none e = elim (cases_Bool (same_roll r AlgorithmRoll)) [
     | inl s ↦ inl (ap Some (same-is r AlgorithmRoll s))
     | inr d ↦ inr (aside r _ m.rolls d e)

@@ -5,7 +5,7 @@
 #![tactic(auto)]
 
 ghost use Rattle.std.specs.Prelude.{◌≡◌, ◌≢◌, ◌⊎◌, ℕ, ◌<◌, ◌≤◌, List, length, take, drop};
-ghost use Rattle.dnssec_record.specs.Answer.{Answers};
+ghost use Rattle.dnssec_record.specs.Answer.{IsAnswerOf};
 ghost use Rattle.dnssec_record.specs.Script.{IsFirstMalformed, IsScript};
 ghost use Rattle.dnssec_run.specs.declared.call.Call.{Call};
 ghost use Rattle.keyset_c.specs.Answered.{TextEndsSafe, IsAnswerOfLength, StaysSafeIfPlain};
@@ -46,7 +46,7 @@ pub struct Answered {
 pub extern "C" fn keyset_answer(alloc: Global, script: &[u8], out: &mut [u8]) -> Answered
     // Answered: the input is a script, and the front of `out` is the output of a run of its calls.
     // What stands behind that is as it was.
-    ensures answered { result.status ≡ 0 → Answers script.now (take result.length out.new) }
+    ensures answered { result.status ≡ 0 → IsAnswerOf script.now (take result.length out.new) }
     ensures fits { result.status ≡ 0 → result.length ≤ length out.new }
     ensures rest { result.status ≡ 0 → drop result.length out.new ≡ drop result.length out.old }
 

@@ -7,7 +7,7 @@
 #![tactic(auto)]
 
 ghost use Rattle.std.specs.Prelude.{IfOk, string_bytes};
-ghost use Rattle.dnssec_record.specs.Answer.{Answers};
+ghost use Rattle.dnssec_record.specs.Answer.{IsAnswerOf};
 
 use anyhow::Result;
 use dnssec_keyset::{Key, KeySet, KeyState, KeyType, UnixTime};
@@ -36,7 +36,7 @@ fn main(rt: HostRuntime) -> Result<()> {
 }
 
 fn answers_to(alloc: Global, script: &str) -> Result<String>
-    ensures { IfOk result (λ answers. Answers script.now (string_bytes answers)) }
+    ensures { IfOk result (λ answers. IsAnswerOf script.now (string_bytes answers)) }
 {
     let mut input = Std::new(script.as_bytes());
     let mut output = Std::new(Vec::new(alloc));

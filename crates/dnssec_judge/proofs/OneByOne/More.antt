@@ -95,7 +95,7 @@ module _ (es : List Entry) (e : Entry) where
   position-kept zero le = refl
   position-kept (suc q) le =
       ap (λ (o : Option Entry). option_map_or position_of o blank)
-          (front es (e ∷ []) q (omega arith))
+      (front es (e ∷ []) q (omega arith))
 
   pub position-new : position_at more (suc (length es)) ≡ position_of e
   unfolding position_at

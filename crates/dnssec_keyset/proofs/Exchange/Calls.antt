@@ -162,13 +162,13 @@ algorithm-after lists (Wait r half now) q k = refl
 algorithm-after lists (RollDone r) q k = refl
 algorithm-after lists (AbortRoll r) q k =
     algorithm-ended (is_listed (listed_by lists r).olds q) (is_listed (listed_by lists r).news q) r
-        k
+    k
 
 -- a key of another kind stays as it was
 pub stays-after : (set : KeySetParts) (call : Call) (roll : RollType) (q : List ℕ) (k : KeyParts)
     → roll_of call ≡ Some roll → verdict set call ≡ Clear
     → get set.keys q ≡ Some k → lists_kind (side_of roll) k.keytype ≡ false
-        → key_after set.lists call q k ≡ k
+    → key_after set.lists call q k ≡ k
 unfolding key_after
 stays-after set (AddKey r key) roll q k on clear is other = cc
 stays-after set (Set r setting) roll q k on clear is other = cc
@@ -185,4 +185,4 @@ stays-after set (Wait r half now) roll q k on clear is other =
 stays-after set (RollDone r) roll q k on clear is other = refl
 stays-after set (AbortRoll r) roll q k on clear is other =
     after_early_end-others r _ _ k (ap (λ x. lists_kind (side_of x) k.keytype) (same_Some _ _ on)
-        ∙ other)
+    ∙ other)

@@ -61,7 +61,7 @@ pub serves-others : (want : Want) (t : KeyType) → lists_kind (serving_side wan
 unfolding serves_table
 serves-others want t e =
     let x = and_parts _ _
-        (or_second _ _ (each_key-at (serves_table want) (serves_all want) t) e) in
+    (or_second _ _ (each_key-at (serves_table want) (serves_all want) t) e) in
     (not-true _ x.0, not-true _ x.1)
 
 module _ (b : RollType) where
@@ -82,10 +82,10 @@ module _ (b : RollType) where
     | inl own ↦ ap (λ x. new_entry_fault b (Some x) taken) (h.same own)
     | inr other ↦
         ap (λ (x : Bool). if x then (if all_states is_fresh k.keytype
-            && not taken then None else Some WrongKeyState) else Some WrongKeyType) other
+        && not taken then None else Some WrongKeyState) else Some WrongKeyType) other
         ∙ sym (ap (λ (x : Bool). if x then
-            (if all_states is_fresh l.keytype && not taken then None else Some WrongKeyState) else
-            Some WrongKeyType) (sym h.kind ∙ other))
+        (if all_states is_fresh l.keytype && not taken then None else Some WrongKeyState) else
+        Some WrongKeyType) (sym h.kind ∙ other))
   ]
 
   by-algorithm : (f : ℕ → Bool) (d : Bool) (o p : Option KeyParts) → Alike b o p
@@ -100,7 +100,7 @@ module _ (b : RollType) where
   by-kind : (f : KeyType → Bool) → ((t : KeyType) → lists_kind (side_of b) t ≡ false → f t ≡ false)
       → (o p : Option KeyParts) → Alike b o p
       → option_map_or (λ (k : KeyParts). f k.keytype) o false
-          ≡ option_map_or (λ (k : KeyParts). f k.keytype) p false
+      ≡ option_map_or (λ (k : KeyParts). f k.keytype) p false
   unfolding Alike
   by-kind f off None None h = refl
   by-kind f off None (Some l) h = absurd h
@@ -131,7 +131,7 @@ module _ (b : RollType) where
 
     within-entry : (others : List (List ℕ)) (o p : Option KeyParts) → Alike b o p
         → option_map_or (λ (k : KeyParts). has_algorithm (get s.keys) others k.algorithm) o true
-            ≡ option_map_or (λ (k : KeyParts). has_algorithm (get t.keys) others k.algorithm) p true
+        ≡ option_map_or (λ (k : KeyParts). has_algorithm (get t.keys) others k.algorithm) p true
     within-entry others o p h = by-algorithm (has_algorithm (get s.keys) others) true o p h ∙ at p
       where
         at : (x : Option KeyParts) → option_map_or
@@ -162,27 +162,27 @@ module _ (b : RollType) where
 -- pass
 module _ (b : RollType) (p : List ℕ → KeyParts → Bool)
     (own : (q : List ℕ) (k : KeyParts) → p q k ≡ true → lists_kind (side_of b) k.keytype ≡ true)
-    where
-  entry-goes : (s t : KeySetParts) → SameFor b s t → some_entry p s.keys ≡ true
-      → some_entry p t.keys ≡ true
-  entry-goes s t same e =
-      let one = some_entry-found p s.keys e in
-      elim (cases_Bool (some_entry p t.keys)) [
-        | inl is ↦ is
-        | inr none ↦ absurd (let no = sym
-            (some_entry-none p t.keys one.0 one.1 none
-            (alike-found b _ _ one.1 (same.keys one.0) one.2 (own one.0 one.1 one.3))) ∙ one.3 in
-            cc)
-      ]
+  where
+    entry-goes : (s t : KeySetParts) → SameFor b s t → some_entry p s.keys ≡ true
+        → some_entry p t.keys ≡ true
+    entry-goes s t same e =
+        let one = some_entry-found p s.keys e in
+        elim (cases_Bool (some_entry p t.keys)) [
+          | inl is ↦ is
+          | inr none ↦ absurd (let no = sym
+              (some_entry-none p t.keys one.0 one.1 none
+              (alike-found b _ _ one.1 (same.keys one.0) one.2 (own one.0 one.1 one.3))) ∙ one.3 in
+              cc)
+        ]
 
-  pub entry-same : (s t : KeySetParts) → SameFor b s t → some_entry p s.keys ≡ some_entry p t.keys
-  entry-same s t same = elim (cases_Bool (some_entry p s.keys)) [
-    | inl is ↦ is ∙ sym (entry-goes s t same is)
-    | inr none ↦ elim (cases_Bool (some_entry p t.keys)) [
-      | inl is ↦ absurd (let no = sym none ∙ entry-goes t s (same-sym b s t same) is in cc)
-      | inr none2 ↦ none ∙ sym none2
+    pub entry-same : (s t : KeySetParts) → SameFor b s t → some_entry p s.keys ≡ some_entry p t.keys
+    entry-same s t same = elim (cases_Bool (some_entry p s.keys)) [
+      | inl is ↦ is ∙ sym (entry-goes s t same is)
+      | inr none ↦ elim (cases_Bool (some_entry p t.keys)) [
+        | inl is ↦ absurd (let no = sym none ∙ entry-goes t s (same-sym b s t same) is in cc)
+        | inr none2 ↦ none ∙ sym none2
+      ]
     ]
-  ]
 
 module _ (b : RollType) (p : KeyParts → Bool)
     (own : (k : KeyParts) → p k ≡ true → lists_kind (side_of b) k.keytype ≡ true) where

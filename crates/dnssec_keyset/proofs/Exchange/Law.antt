@@ -63,12 +63,12 @@ answered s new call reply memory step = at (verdict s call) refl step
       elsewhere = λ b t on same.
           let by = early-by call b s left on is in
           let longest : IsLongest left t.keys (as_nanos h.0.0) =
-              subst (λ f. IsLongest f t.keys (as_nanos h.0.0)) (sym by.is)
+          subst (λ f. IsLongest f t.keys (as_nanos h.0.0)) (sym by.is)
           (longest-same b by.half by.ttl by.now (as_nanos h.0.0) s t same
-              (ap (λ f. is_early f s.keys) (sym by.is) ∙ by.early)
-              (subst (λ f. IsLongest f s.keys (as_nanos h.0.0)) by.is h.0.2)) in
+          (ap (λ f. is_early f s.keys) (sym by.is) ∙ by.early)
+          (subst (λ f. IsLongest f s.keys (as_nanos h.0.0)) by.is h.0.2)) in
           subst (λ v. StepBy v t call reply t) (sym (sym (verdict-same b s t call on same) ∙ is))
-              ((h.0.0, h.0.1, longest), refl);
+          ((h.0.0, h.0.1, longest), refl);
     })
     at Clear is h = elim h [
       | inl ok ↦ inr (record { clear = is; reply_is = ok.0; changes = ok.1 })
@@ -95,8 +95,8 @@ phases-swap a b rolls p r apart = same_rolls _ _ (λ q.
     phase_of-with_phase (with_phase rolls a p) b r q
     ∙ ap (λ o. if same_roll b q then r else o) (phase_of-with_phase rolls a p q)
     ∙ swapped_choices (same_roll b q) (same_roll a q) r p (phase_of rolls q)
-        (λ x y. let no : true ≡ false = sym y ∙ ap (same_roll a) (sym (same-is b q x)) ∙ apart in
-        cc)
+    (λ x y. let no : true ≡ false = sym y ∙ ap (same_roll a) (sym (same-is b q x)) ∙ apart in
+    cc)
     ∙ sym (ap (λ o. if same_roll a q then p else o) (phase_of-with_phase rolls b r q))
     ∙ sym (phase_of-with_phase (with_phase rolls b r) a p q))
 
@@ -113,7 +113,7 @@ lists-swap a b l x y apart = same_lists _ _ (λ q.
 -- what a start keeps is told by the keys that the roll sees
 kept-same : (b : RollType) (o p : Option KeyParts) → Alike b o p
     → old_entry_fault b o ≡ None → option_map_or (λ (k : KeyParts). all_states is_kept k.keytype) o
-        false
+    false
     ≡ option_map_or (λ (k : KeyParts). all_states is_kept k.keytype) p false
 unfolding Alike
 kept-same b None None h own = refl
@@ -146,8 +146,11 @@ module _ (b : RollType) (s t : KeySetParts) (same : SameFor b s t) where
       let none : start_refusal r s olds news ≡ None = no_cause _ clear in
       let here : start_refusal b s olds news ≡ None =
       ap (λ x. start_refusal x s olds news) (sym (same_Some _ _ on)) ∙ none in
-      λ i. record { olds = olds-same olds (starts-clear b s olds news here).olds_are i; news =
-          news }
+      λ i. record {
+        olds = olds-same olds (starts-clear b s olds news here).olds_are i;
+        news =
+            news;
+      }
   listed-alike (Report r First ttl now) on clear = refl
   listed-alike (Report r Second ttl now) on clear = listed-at r on
   listed-alike (Wait r half now) on clear = listed-at r on
@@ -174,7 +177,7 @@ module _ (a b : RollType) (apart : together a b ≡ true) (s s1 s2 m : KeySetPar
     (first_clear : verdict s first ≡ Clear) (second_clear : verdict s1 second ≡ Clear)
     (first_changes : Changes s first s1) (second_changes : Changes s1 second s2)
     (between_clear : verdict s second ≡ Clear) (between_changes : Changes s second m)
-        (later_clear : verdict m first ≡ Clear)
+    (later_clear : verdict m first ≡ Clear)
     (seen : SameFor b s s1) (later : SameFor a s m) where
   m1 : MovesBy s first a s1
   m1 = moves-on s s1 first a first_on first_changes
@@ -210,7 +213,7 @@ module _ (a b : RollType) (apart : together a b ≡ true) (s s1 s2 m : KeySetPar
         let off : lists_kind (side_of a) k.keytype ≡ false =
         apart-kinds (side_of a) (side_of b) k.keytype apart own in
         let first_stays : key_first q k ≡ k = stays-after s first a q k first_on first_clear is off
-            in
+        in
         let there : get m.keys q ≡ Some (key_second q k) =
         mm.keys q ∙ ap (option_map (key_second q)) is in
         let off2 : lists_kind (side_of a) (key_second q k).keytype ≡ false =
@@ -240,7 +243,7 @@ module _ (a b : RollType) (apart : together a b ≡ true) (s s1 s2 m : KeySetPar
 
   m-keys : (q : List ℕ)
       → option_map (key_first q) (get m.keys q)
-          ≡ option_map (key_after m.lists first q) (get m.keys q)
+      ≡ option_map (key_after m.lists first q) (get m.keys q)
   unfolding key_first
   m-keys q = at (get m.keys q)
     where
@@ -255,7 +258,7 @@ module _ (a b : RollType) (apart : together a b ≡ true) (s s1 s2 m : KeySetPar
       ∙ ap (with_listed (with_listed s.lists a (listed_after s first)) b)
       (sym (listed-alike b s s1 seen second second_on between_clear))
       ∙ lists-swap a b s.lists (listed_after s first) (listed_after s second)
-          (apart-rolls a b apart)
+      (apart-rolls a b apart)
       ∙ ap (with_listed (with_listed s.lists b (listed_after s second)) a)
       (listed-alike a s m later first first_on first_clear)
       ∙ sym (ap (λ l. with_listed l a (listed_after m first)) mm.lists)
@@ -281,8 +284,13 @@ alike-itself b None = tt
 alike-itself b (Some k) = record { kind = refl; same = λ e. refl; algorithm = refl }
 
 same-itself : (b : RollType) (s : KeySetParts) → SameFor b s s
-same-itself b s = record { phase = refl; listed = refl; conflicts = refl; keys =
-    λ q. alike-itself b (get s.keys q) }
+same-itself b s = record {
+  phase = refl;
+  listed = refl;
+  conflicts = refl;
+  keys =
+      λ q. alike-itself b (get s.keys q);
+}
 
 apart-back : (a b : RollType) → together a b ≡ true → together b a ≡ true
 apart-back a b e = apart-side a b e
@@ -292,43 +300,51 @@ pub exchange : (s s1 s2 : KeySetParts) (first second : Call) (r1 r2 : Reply)
     → MayBeExchanged s s2 first second r1 r2
 exchange s s1 s2 first second r1 r2 calls step1 step2 =
     elim (answered s s1 first r1 calls.memory_first step1) [
-  | inl no1 ↦
-      let second_here : Step s second r2 s2 = subst (λ x. Step x second r2 s2) no1.stays step2 in
-      let same : SameFor a s s2 = elim (answered s s2 second r2 calls.memory_second second_here) [
-        | inl no2 ↦ subst (SameFor a s) (sym no2.stays) (same-itself a s)
-        | inr ok2 ↦ same-after b a (apart-back a b calls.apart) s s2 second calls.second_is
-            ok2.clear ok2.changes
-      ] in
-      record { between = s2; second_step = second_here; first_step =
-          no1.elsewhere a s2 calls.first_is same }
-  | inr ok1 ↦
-      let seen : SameFor b s s1 = same-after a b calls.apart s s1 first calls.first_is ok1.clear
+      | inl no1 ↦
+          let second_here : Step s second r2 s2 =
+          subst (λ x. Step x second r2 s2) no1.stays step2 in
+          let same : SameFor a s s2 =
+          elim (answered s s2 second r2 calls.memory_second second_here) [
+            | inl no2 ↦ subst (SameFor a s) (sym no2.stays) (same-itself a s)
+            | inr ok2 ↦ same-after b a (apart-back a b calls.apart) s s2 second calls.second_is
+                ok2.clear ok2.changes
+          ] in
+          record {
+            between = s2;
+            second_step = second_here;
+            first_step =
+                no1.elsewhere a s2 calls.first_is same;
+          }
+      | inr ok1 ↦
+          let seen : SameFor b s s1 = same-after a b calls.apart s s1 first calls.first_is ok1.clear
           ok1.changes in
-      elim (answered s1 s2 second r2 calls.memory_second step2) [
-        | inl no2 ↦ record {
-          between = s;
-          second_step = no2.elsewhere b s calls.second_is (same-sym b s s1 seen);
-          first_step = subst (Step s first r1) (sym no2.stays) step1;
-        }
-        | inr ok2 ↦
-            let m = after second s in
-            let between_clear : verdict s second ≡ Clear =
+          elim (answered s1 s2 second r2 calls.memory_second step2) [
+            | inl no2 ↦ record {
+              between = s;
+              second_step = no2.elsewhere b s calls.second_is (same-sym b s s1 seen);
+              first_step = subst (Step s first r1) (sym no2.stays) step1;
+            }
+            | inr ok2 ↦
+                let m = after second s in
+                let between_clear : verdict s second ≡ Clear =
                 verdict-same b s s1 second calls.second_is seen ∙ ok2.clear in
-            let between_changes : Changes s second m = after-changes s second in
-            let later : SameFor a s m = same-after b a (apart-back a b calls.apart) s m second
+                let between_changes : Changes s second m = after-changes s second in
+                let later : SameFor a s m = same-after b a (apart-back a b calls.apart) s m second
                 calls.second_is between_clear between_changes in
-            let later_clear : verdict m first ≡ Clear =
+                let later_clear : verdict m first ≡ Clear =
                 sym (verdict-same a s m first calls.first_is later) ∙ ok1.clear in
-            record {
-              between = m;
-              second_step = accepted-step s m second r2 between_clear ok2.reply_is between_changes;
-              first_step = accepted-step m s2 first r1 later_clear ok1.reply_is
-                  (exchanged a b calls.apart s s1 s2 m first second calls.first_is calls.second_is
+                record {
+                  between = m;
+                  second_step =
+                      accepted-step s m second r2 between_clear ok2.reply_is between_changes;
+                  first_step = accepted-step m s2 first r1 later_clear ok1.reply_is
+                      (exchanged a b calls.apart s s1 s2 m first second calls.first_is
+                      calls.second_is
                       ok1.clear ok2.clear ok1.changes ok2.changes between_clear between_changes
                       later_clear seen later);
-            }
-      ]
-]
+                }
+          ]
+    ]
   where
     a : RollType
     a = calls.roll_first

@@ -52,8 +52,12 @@ alike-sym b (Some k) (Some l) h =
     record { kind = sym h.kind; same = λ e. sym (h.same (h.kind ∙ e)); algorithm = sym h.algorithm }
 
 pub same-sym : (b : RollType) (s t : KeySetParts) → SameFor b s t → SameFor b t s
-same-sym b s t h = record { phase = sym h.phase; listed = sym h.listed; conflicts = sym h.conflicts;
-    keys = λ q. alike-sym b _ _ (h.keys q) }
+same-sym b s t h = record {
+  phase = sym h.phase;
+  listed = sym h.listed;
+  conflicts = sym h.conflicts;
+  keys = λ q. alike-sym b _ _ (h.keys q);
+}
 
 -- a key of the roll's own kind is the same key
 pub alike-found : (b : RollType) (o p : Option KeyParts) (k : KeyParts) → Alike b o p → o ≡ Some k
@@ -70,7 +74,7 @@ module _ (a b : RollType) (apart : together a b ≡ true) where
   alike-mapped : (o : Option KeyParts) (f : KeyParts → KeyParts)
       → ((k : KeyParts) → lists_kind (side_of b) (f k).keytype ≡ lists_kind (side_of b) k.keytype)
       → ((k : KeyParts) → o ≡ Some k → lists_kind (side_of a) k.keytype ≡ false → f k ≡ k)
-          → ((k : KeyParts) → (f k).algorithm ≡ k.algorithm) → Alike b o (option_map f o)
+      → ((k : KeyParts) → (f k).algorithm ≡ k.algorithm) → Alike b o (option_map f o)
   unfolding Alike
   alike-mapped None f kinds stays algorithms = tt
   alike-mapped (Some k) f kinds stays algorithms = record {
@@ -114,9 +118,9 @@ module _ (a b : RollType) (apart : together a b ≡ true) where
     conflicts-kept : has_conflict b rolls ≡ has_conflict b (with_phase rolls a phase)
     conflicts-kept = λ i.
         one-conflict KskRoll i || (one-conflict KskDoubleDsRoll i
-            || (one-conflict ZskRoll i ||
-            (one-conflict ZskDoubleSignatureRoll i
-            || (one-conflict CskRoll i || (one-conflict AlgorithmRoll i || false)))))
+        || (one-conflict ZskRoll i ||
+        (one-conflict ZskDoubleSignatureRoll i
+        || (one-conflict CskRoll i || (one-conflict AlgorithmRoll i || false)))))
 
   pub same-after : (s t : KeySetParts) (call : Call) → roll_of call ≡ Some a → verdict s call
       ≡ Clear

@@ -50,8 +50,8 @@ module _ (s t : KeySetParts) (olds news : List (List ℕ)) where
   met b same want off = λ i.
       listed-same b s t same (serves_as_new want) (λ x e. (off x e).0) news i
       || entry-same b (λ q k. serves_as_kept want k.keytype && not (is_listed olds q))
-          (λ q k e. own_kind b (serves_as_kept want) (λ x e. (off x e).1) k.keytype
-          (and_parts _ _ e).0) s t same i
+      (λ q k e. own_kind b (serves_as_kept want) (λ x e. (off x e).1) k.keytype
+      (and_parts _ _ e).0) s t same i
 
   suits : (b : RollType) → SameFor b s t → list_all (is_met s.keys olds news) (wants b)
       ≡ list_all (is_met t.keys olds news) (wants b)
@@ -106,9 +106,9 @@ wait-same : (b : RollType) (half : Half) (o : Option ℕ) (now : ℕ) (s t : Key
 wait-same b half None now s t same = refl
 wait-same b half (Some ttl) now s t same = λ i.
     if key-same b (λ k. not (is_some (time_left b half ttl now k))) (lacks-own b half ttl now) s t
-        same i then Barred WrongKeyState
+    same i then Barred WrongKeyState
     else (if key-same b (λ k. nat_lt 0 (unwrap_or (time_left b half ttl now k) 0))
-        (early-own b half ttl now) s t same i then Early (time_left b half ttl now) else Clear)
+    (early-own b half ttl now) s t same i then Early (time_left b half ttl now) else Clear)
 
 pub verdict-same : (b : RollType) (s t : KeySetParts) (call : Call) → roll_of call ≡ Some b
     → SameFor b s t → verdict s call ≡ verdict t call
@@ -125,7 +125,7 @@ verdict-same b s t (Report r half ttl now) on same =
 verdict-same b s t (Wait r half now) on same =
     let here : SameFor r s t = subst (λ x. SameFor x s t) (sym (same_Some _ _ on)) same in
     ap (λ o. wait_in_phase r half (ttl_in half o) now s.keys) here.phase
-        ∙ wait-same r half (ttl_in half (phase_of t.rolls r)) now s t here
+    ∙ wait-same r half (ttl_in half (phase_of t.rolls r)) now s t here
 verdict-same b s t (AbortRoll r) on same =
     ap (λ o. barred_by (early_end_refusal o))
     (ap (phase_of s.rolls) (same_Some _ _ on) ∙ same.phase
@@ -152,8 +152,13 @@ longest-same b half ttl now n s t same early longest =
         | inr other ↦ subst (λ o. unwrap_or o 0 ≤ n) (sym (left-others b half ttl now l other))
             (omega arith)
       ];
-      attained = (most.0, most.1, alike-found b _ _ most.1 (same.keys most.0) most.2
-          (owner most.1 more most.3), most.3);
+      attained = (
+        most.0,
+        most.1,
+        alike-found b _ _ most.1 (same.keys most.0) most.2
+            (owner most.1 more most.3),
+        most.3,
+      );
     }
   where
     positive : (x n : ℕ) → nat_lt 0 x ≡ true → x ≤ n → 0 < n
@@ -170,12 +175,12 @@ longest-same b half ttl now n s t same early longest =
 -- what an early call is told
 pub record EarlyBy (call : Call) (b : RollType) (s : KeySetParts) (left : KeyParts → Option ℕ) :
     Type 0
-    where
-  pub half : Half
-  pub ttl : ℕ
-  pub now : ℕ
-  pub is : left ≡ time_left b half ttl now
-  pub early : is_early left s.keys ≡ true
+  where
+    pub half : Half
+    pub ttl : ℕ
+    pub now : ℕ
+    pub is : left ≡ time_left b half ttl now
+    pub early : is_early left s.keys ≡ true
 
 not_early : (o : Option Error) (left : KeyParts → Option ℕ) → barred_by o ≡ Early left → ⊥
 not_early None left e = cc
@@ -195,28 +200,35 @@ early-wait : (call : Call) (b : RollType) (half : Half) (o : Option ℕ) (now : 
 early-wait call b half None now s left e = cc
 early-wait call b half (Some ttl) now s left e =
     elim (cases_Bool (lacks_stamp (time_left b half ttl now) s.keys)) [
-  | inl lacks ↦ absurd (let no = sym
-      (ap (λ (x : Bool). if x then Barred WrongKeyState else
-      (if is_early (time_left b half ttl now) s.keys then Early (time_left b half ttl now) else
-      Clear)) lacks) ∙ e in cc)
-  | inr has ↦
-      let rest : (if is_early (time_left b half ttl now) s.keys then Early
+      | inl lacks ↦ absurd (let no = sym
+          (ap (λ (x : Bool). if x then Barred WrongKeyState else
+          (if is_early (time_left b half ttl now) s.keys then Early (time_left b half ttl now) else
+          Clear)) lacks) ∙ e in cc)
+      | inr has ↦
+          let rest : (if is_early (time_left b half ttl now) s.keys then Early
           (time_left b half ttl now) else Clear) ≡ Early left =
           sym (ap (λ (x : Bool). if x then Barred WrongKeyState else
           (if is_early (time_left b half ttl now) s.keys then Early (time_left b half ttl now) else
           Clear)) has) ∙ e in
-      elim (cases_Bool (is_early (time_left b half ttl now) s.keys)) [
-        | inl early ↦
-            let is : left ≡ time_left b half ttl now =
+          elim (cases_Bool (is_early (time_left b half ttl now) s.keys)) [
+            | inl early ↦
+                let is : left ≡ time_left b half ttl now =
                 same_left _ _ (sym (ap (λ (x : Bool). if x then Early (time_left b half ttl now)
                 else Clear) early) ∙ rest) in
-            record { half = half; ttl = ttl; now = now; is = is; early =
-                ap (λ f. is_early f s.keys) is ∙ early }
-        | inr late ↦ absurd (let no = sym
-            (ap (λ (x : Bool). if x then Early (time_left b half ttl now) else Clear) late) ∙ rest
-            in cc)
-      ]
-]
+                record {
+                  half = half;
+                  ttl = ttl;
+                  now = now;
+                  is = is;
+                  early =
+                      ap (λ f. is_early f s.keys) is ∙ early;
+                }
+            | inr late ↦ absurd (let no = sym
+                (ap (λ (x : Bool). if x then Early (time_left b half ttl now) else Clear) late)
+                ∙ rest
+                in cc)
+          ]
+    ]
 
 pub early-by : (call : Call) (b : RollType) (s : KeySetParts) (left : KeyParts → Option ℕ)
     → roll_of call ≡ Some b → verdict s call ≡ Early left → EarlyBy call b s left

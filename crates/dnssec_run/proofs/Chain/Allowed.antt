@@ -89,7 +89,7 @@ module _ (r : RollType) (at : List ℕ → Option KeyParts) where
 
   new_kind : (o : Option KeyParts) (taken : Bool) → new_entry_fault r o taken ≡ None
       → (k : KeyParts) × (o ≡ Some k) × (may_list r k.keytype ≡ true)
-          × (all_states is_fresh k.keytype ≡ true) × (taken ≡ false)
+      × (all_states is_fresh k.keytype ≡ true) × (taken ≡ false)
   new_kind None taken e = absurd (none-some _ (sym e))
   new_kind (Some k) taken e = by (may_list r k.keytype) refl (all_states is_fresh k.keytype) refl
       taken refl
@@ -97,7 +97,7 @@ module _ (r : RollType) (at : List ℕ → Option KeyParts) where
       by : (b : Bool) → may_list r k.keytype ≡ b → (c : Bool) → all_states is_fresh k.keytype ≡ c
           → (d : Bool) → taken ≡ d
           → (j : KeyParts) × (Some k ≡ Some j) × (may_list r j.keytype ≡ true)
-              × (all_states is_fresh j.keytype ≡ true) × (taken ≡ false)
+          × (all_states is_fresh j.keytype ≡ true) × (taken ≡ false)
       by true t true u false v = (k, refl, t, u, v)
       by false t c u d v = absurd (none-some _
           (sym (sym (ap (λ b. if b then (if all_states is_fresh k.keytype
@@ -118,7 +118,7 @@ module _ (r : RollType) (at : List ℕ → Option KeyParts) where
   new_all : (olds earlier news : List (List ℕ)) → new_fault r at olds earlier news ≡ None
       → (q : List ℕ) → listed news q ≡ true
       → (k : KeyParts) × (at q ≡ Some k) × (may_list r k.keytype ≡ true)
-          × (all_states is_fresh k.keytype ≡ true) × (listed olds q ≡ false)
+      × (all_states is_fresh k.keytype ≡ true) × (listed olds q ≡ false)
   new_all olds earlier [] e q l = absurd (true≢false (sym l))
   new_all olds earlier (x ∷ xs) e q l =
       by (new_all olds (earlier ++ x ∷ []) xs (no_rest _ _ e) q) (bytes_eq q x) refl
@@ -127,7 +127,7 @@ module _ (r : RollType) (at : List ℕ → Option KeyParts) where
           × (all_states is_fresh k.keytype ≡ true) × (listed olds q ≡ false)) → (b : Bool)
           → bytes_eq q x ≡ b
           → (k : KeyParts) × (at q ≡ Some k) × (may_list r k.keytype ≡ true)
-              × (all_states is_fresh k.keytype ≡ true) × (listed olds q ≡ false)
+          × (all_states is_fresh k.keytype ≡ true) × (listed olds q ≡ false)
       by rest true t = let same = (bytes_decides q x).0 t in let h =
           new_kind (at x) (listed olds x || listed earlier x) (no_first _ _ e) in
           (h.0, ap at same ∙ h.1, h.2, h.3, ap (listed olds) same ∙ (or_parts _ _ h.4).0)
@@ -160,13 +160,13 @@ listed_key p at (x ∷ xs) e = by (listed_key p at xs) (at x) refl
     later : (some_listed p at xs ≡ true → (q : List ℕ) × (k : KeyParts) × (at q ≡ Some k)
         × (listed xs q ≡ true) × (p k.keytype ≡ true)) → some_listed p at xs ≡ true
         → (q : List ℕ) × (k : KeyParts) × (at q ≡ Some k) × (listed (x ∷ xs) q ≡ true)
-            × (p k.keytype ≡ true)
+        × (p k.keytype ≡ true)
     later rest f = let h = rest f in (h.0, h.1, h.2, or_right (bytes_eq h.0 x) _ h.3, h.4)
 
     by : (some_listed p at xs ≡ true → (q : List ℕ) × (k : KeyParts) × (at q ≡ Some k)
         × (listed xs q ≡ true) × (p k.keytype ≡ true)) → (o : Option KeyParts) → at x ≡ o
         → (q : List ℕ) × (k : KeyParts) × (at q ≡ Some k) × (listed (x ∷ xs) q ≡ true)
-            × (p k.keytype ≡ true)
+        × (p k.keytype ≡ true)
     by rest None a = later rest (sym
         (ap (λ o. option_map_or (λ (k : KeyParts). p k.keytype) o false || some_listed p at xs) a)
         ∙ e)
@@ -182,18 +182,18 @@ listed_key p at (x ∷ xs) e = by (listed_key p at xs) (at x) refl
 serving_key : (w : RealWorld) (olds news : List (List ℕ)) (new kept : KeyType → Bool)
     → (some_listed new (get w.set.keys) news || some_kept kept w.set.keys olds) ≡ true
     → (q : List ℕ) × (k : KeyParts) × (get w.set.keys q ≡ Some k)
-        × (((listed news q ≡ true) × (new k.keytype ≡ true))
-        ⊎ ((listed olds q ≡ false) × (kept k.keytype ≡ true)))
+    × (((listed news q ≡ true) × (new k.keytype ≡ true))
+    ⊎ ((listed olds q ≡ false) × (kept k.keytype ≡ true)))
 serving_key w olds news new kept e = by (some_listed new (get w.set.keys) news) refl
   where
     by : (b : Bool) → some_listed new (get w.set.keys) news ≡ b
         → (q : List ℕ) × (k : KeyParts) × (get w.set.keys q ≡ Some k)
-            × (((listed news q ≡ true) × (new k.keytype ≡ true))
-            ⊎ ((listed olds q ≡ false) × (kept k.keytype ≡ true)))
+        × (((listed news q ≡ true) × (new k.keytype ≡ true))
+        ⊎ ((listed olds q ≡ false) × (kept k.keytype ≡ true)))
     by true t = let h = listed_key new (get w.set.keys) news t in (h.0, h.1, h.2, inl (h.3, h.4))
     by false t =
         let h = some_entry-found (λ q k. kept k.keytype && not (listed olds q)) w.set.keys
-            (sym (ap (λ b. b || some_kept kept w.set.keys olds) t) ∙ e) in
+        (sym (ap (λ b. b || some_kept kept w.set.keys olds) t) ∙ e) in
         let x = and_parts _ _ h.3 in
         (h.0, h.1, h.2, inr (not-true _ x.1, x.0))
 
@@ -224,7 +224,7 @@ pub can_start : (w : RealWorld) (r : RollType) (olds news : List (List ℕ))
     → start_refusal r w.set olds news ≡ None → CanStart r (seen w) olds news
 can_start w r olds news e =
     let none = no_causes (conflict r w.set.rolls) (old_fault r (get w.set.keys) olds)
-        (new_fault r (get w.set.keys) olds [] news)
+    (new_fault r (get w.set.keys) olds [] news)
     (algorithm_fault r (get w.set.keys) olds news) (suitability_fault r w.set.keys olds news) e in
     record {
       alone = none_beside r w.set.rolls none.0;
@@ -261,13 +261,13 @@ over r second ttl now w f q k at check =
     let left = time_left r (half second) ttl now in
     let h = clear_wait (lacks_stamp left w.set.keys) (is_early left w.set.keys) left f in
     let is : left k ≡ option_map (left_since ttl now) (stamp_read r (half second) k) =
-        ap (λ b. if b then option_map (left_since ttl now) (stamp_read r (half second) k) else Some
-        0) check in
+    ap (λ b. if b then option_map (left_since ttl now) (stamp_read r (half second) k) else Some
+    0) check in
     let o = over_key (stamp_read r (half second) k) ttl now
     (sym (ap (λ o. not (is_some o)) is)
-        ∙ some_key-none (λ k. not (is_some (left k))) w.set.keys q k h.0 at)
+    ∙ some_key-none (λ k. not (is_some (left k))) w.set.keys q k h.0 at)
     (sym (ap (λ o. nat_lt 0 (unwrap_or o 0)) is)
-        ∙ some_key-none (λ k. nat_lt 0 (unwrap_or (left k) 0)) w.set.keys q k h.1 at) in
+    ∙ some_key-none (λ k. nat_lt 0 (unwrap_or (left k) 0)) w.set.keys q k h.1 at) in
     (o.0, sym (reads-stamp r second k.timestamps) ∙ o.1, o.2)
 
 pub waits_in_phase : (r : RollType) (second : Bool) (now : ℕ) (w : RealWorld)
@@ -278,7 +278,7 @@ waits_in_phase r second now w e = by second (phase_of w.set.rolls r) refl e
     by : (second : Bool) (o : Option RollState) → phase_of w.set.rolls r ≡ o
         → wait_in_phase r (half second) (ttl_in (half second) o) now w.set.keys ≡ Clear
         → (ttl : ℕ) × (phase_of w.set.rolls r ≡ Some (waiting second ttl))
-            × IsOver r second (seen w) ttl now
+        × IsOver r second (seen w) ttl now
     by false (Some (CacheExpire1 ttl)) p f = (ttl, p, over r false ttl now w f)
     by true (Some (CacheExpire2 ttl)) p f = (ttl, p, over r true ttl now w f)
     by false None p f = absurd (cc)

@@ -114,24 +114,27 @@ module _ (tale : Tale) (n : ℕ) (here : suc n ≤ length tale.es) where
           at_same : (b : Bool) → same_roll r q ≡ b → (x' : RollState)
               × ((world_at tale n).roll q ≡ Some x')
           at_same true t = (o, ap (world_at tale n).roll (sym (same-is r q t)) ∙ was)
-          at_same false t = (x, sym (put-other (world_at tale n).roll r (Some p) q t)
-              ∙ sym (rolls q) ∙ e)
+          at_same false t = (
+            x,
+            sym (put-other (world_at tale n).roll r (Some p) q t)
+                ∙ sym (rolls q) ∙ e,
+          )
 
   -- the phases after one roll moved on
   pub phases-on : (r : RollType) (p : RollState)
       → ((q : RollType) → (world_at tale (suc n)).roll q
       ≡ put_roll (world_at tale n).roll r (Some p) q) → PhaseOf tale r p (suc n)
       → ((q : RollType) (x : RollState) → (world_at tale n).roll q ≡ Some x → same_roll r q ≡ false
-          → Aside tale n q) → Phases tale n → Phases tale (suc n)
+      → Aside tale n q) → Phases tale n → Phases tale (suc n)
   phases-on r p rolls this aside h q x e = at_same (same_roll r q) refl
     where
       at_same : (b : Bool) → same_roll r q ≡ b → PhaseOf tale q x (suc n)
       at_same true t = let eq = same-is r q t in
           let state : p ≡ x = same_Some p x
-              (sym (put-same (world_at tale n).roll r (Some p)) ∙ sym (rolls r)
-              ∙ ap (world_at tale (suc n)).roll eq ∙ e) in
+          (sym (put-same (world_at tale n).roll r (Some p)) ∙ sym (rolls r)
+          ∙ ap (world_at tale (suc n)).roll eq ∙ e) in
           subst (λ q. PhaseOf tale q x (suc n)) eq
-              (subst (λ x. PhaseOf tale r x (suc n)) state this)
+          (subst (λ x. PhaseOf tale r x (suc n)) state this)
       at_same false t = let was : (world_at tale n).roll q ≡ Some x =
           sym (put-other (world_at tale n).roll r (Some p) q t) ∙ sym (rolls q) ∙ e in
           phase-aside tale n q x (aside q x was t) (h q x was)
@@ -146,8 +149,8 @@ module _ (tale : Tale) (n : ℕ) (here : suc n ≤ length tale.es) where
       → ((sd : SideOf) → KeepsLists tale sd n) → Inv tale n → Inv tale (suc n)
   calm v e k mark none lists h =
       let dead = no_ds-next tale n here
-          (λ id f. k.fore in_ds (λ t x. (test-seen Keys Ds t x).1) id
-          (sym (ap (λ w. if_some in_ds (found w id)) e) ∙ f)) in
+      (λ id f. k.fore in_ds (λ t x. (test-seen Keys Ds t x).1) id
+      (sym (ap (λ w. if_some in_ds (found w id)) e) ∙ f)) in
       let gk = gentle_kept tale n v e k mark dead lists Keys h.ks h.keys.rolls h.keys.flags in
       let gz = gentle_kept tale n v e k mark dead lists Zone h.zs h.zone.rolls h.zone.flags in
       let same = λ (q : RollType). ap (λ w. w.roll q) e ∙ k.rolls q in
@@ -160,8 +163,11 @@ module _ (tale : Tale) (n : ℕ) (here : suc n ≤ length tale.es) where
         phases = λ r p f. phase-aside tale n r p (aside-kept tale n v e k mark r)
             (h.phases r p (sym (same r) ∙ f));
         life = elim (h.life) [
-          | inl a ↦ inl (alive-gentle tale n here Keys h.ks gk a.0, alive-gentle tale n here Zone
-              h.zs gz a.1)
+          | inl a ↦ inl (
+            alive-gentle tale n here Keys h.ks gk a.0,
+            alive-gentle tale n here Zone
+                h.zs gz a.1,
+          )
           | inr d ↦ inr (dead d.0, (unpassed-next none d.1.0, d.1.1))
         ];
       }
@@ -171,15 +177,15 @@ module _ (tale : Tale) (n : ℕ) (here : suc n ≤ length tale.es) where
       → Mapped tale n (λ q. report_key r second now) r (Some (waiting second ttl))
       → (world_at tale n).roll r ≡ Some (spreading second)
       → (position_at tale.es (suc n)).mark ≡ Report r second ttl
-          → (position_at tale.es (suc n)).moment ≡ Some now → (PassesAt tale n → ⊥)
-          → ((sd : SideOf) → KeepsLists tale sd n) → Inv tale n → Inv tale (suc n)
+      → (position_at tale.es (suc n)).moment ≡ Some now → (PassesAt tale n → ⊥)
+      → ((sd : SideOf) → KeepsLists tale sd n) → Inv tale n → Inv tale (suc n)
   report r second ttl now m phase mark moment none lists h =
       let dead = ds_less (λ q. report_key r second now) r (Some (waiting second ttl)) m
-          (λ q k. refl) in
+      (λ q k. refl) in
       let gk = gentle-report tale n Keys h.ks h.keys.rolls h.keys.flags dead (lists Keys) r second
-          ttl now m phase mark in
+      ttl now m phase mark in
       let gz = gentle-report tale n Zone h.zs h.zone.rolls h.zone.flags dead (lists Zone) r second
-          ttl now m phase mark in
+      ttl now m phase mark in
       record {
         ks = h.ks;
         zs = h.zs;
@@ -190,10 +196,13 @@ module _ (tale : Tale) (n : ℕ) (here : suc n ≤ length tale.es) where
             (this second phase (told-report tale n r second ttl now m mark moment)
             (reads-report tale n r second ttl now m))
             (λ q x e d. aside-report tale n r second ttl now q m
-                (h.pairs r q (spreading second) x phase e d) (ap (is_step q) mark)) h.phases;
+            (h.pairs r q (spreading second) x phase e d) (ap (is_step q) mark)) h.phases;
         life = elim (h.life) [
-          | inl a ↦ inl (alive-gentle tale n here Keys h.ks gk a.0, alive-gentle tale n here Zone
-              h.zs gz a.1)
+          | inl a ↦ inl (
+            alive-gentle tale n here Keys h.ks gk a.0,
+            alive-gentle tale n here Zone
+                h.zs gz a.1,
+          )
           | inr d ↦ inr (dead d.0, (unpassed-next none d.1.0, d.1.1))
         ];
       }
@@ -223,15 +232,15 @@ module _ (tale : Tale) (n : ℕ) (here : suc n ≤ length tale.es) where
       ≡ (world_at tale n).key q) → ((id : Id) → found (world_at tale (suc n)) id
       ≡ found (world_at tale n) id)
       → ((q : RollType) → (world_at tale (suc n)).roll q ≡ put_roll (world_at tale n).roll r None q)
-          → (world_at tale n).roll r ≡ Some Done
+      → (world_at tale n).roll r ≡ Some Done
       → (position_at tale.es (suc n)).mark ≡ Other → (PassesAt tale n → ⊥)
-          → ((sd : SideOf) → KeepsLists tale sd n) → Inv tale n → Inv tale (suc n)
+      → ((sd : SideOf) → KeepsLists tale sd n) → Inv tale n → Inv tale (suc n)
   done r keys same rolls phase mark none lists h =
       let dead = no_ds-next tale n here (λ id e. sym (ap (if_some in_ds) (same id)) ∙ e) in
       let gk = gentle-done tale n Keys h.ks h.keys.rolls h.keys.flags dead (lists Keys) r same rolls
-          phase mark in
+      phase mark in
       let gz = gentle-done tale n Zone h.zs h.zone.rolls h.zone.flags dead (lists Zone) r same rolls
-          phase mark in
+      phase mark in
       record {
         ks = h.ks;
         zs = h.zs;
@@ -240,12 +249,19 @@ module _ (tale : Tale) (n : ℕ) (here : suc n ≤ length tale.es) where
         pairs = λ a b x y ax by d. h.pairs a b x y (was-rolling r rolls a x ax).1
             (was-rolling r rolls b y by).1 d;
         phases = λ q x e. phase-aside tale n q x
-            (record { back = λ second id f. ap (if_some _) (same id) ∙ f; keys =
-            λ t j f l b. (j, sym (keys t) ∙ f, refl, λ s. refl); no_step = ap (is_step q) mark })
+            (record {
+              back = λ second id f. ap (if_some _) (same id) ∙ f;
+              keys =
+                  λ t j f l b. (j, sym (keys t) ∙ f, refl, λ s. refl);
+              no_step = ap (is_step q) mark;
+            })
             (h.phases q x (was-rolling r rolls q x e).1);
         life = elim (h.life) [
-          | inl a ↦ inl (alive-gentle tale n here Keys h.ks gk a.0, alive-gentle tale n here Zone
-              h.zs gz a.1)
+          | inl a ↦ inl (
+            alive-gentle tale n here Keys h.ks gk a.0,
+            alive-gentle tale n here Zone
+                h.zs gz a.1,
+          )
           | inr d ↦ inr (dead d.0, (unpassed-next none d.1.0, d.1.1))
         ];
       }

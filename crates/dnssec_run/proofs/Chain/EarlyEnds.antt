@@ -59,7 +59,7 @@ pub back-fits : (sd : SideOf) (r : RollType) (o i : Bool) (k : KeyType) → affe
 unfolding back_table
 back-fits sd r o i k own may fit both_in =
     let x = and_parts _ _ (mp _ _ (each_listed-at (back_table sd) (back_all sd) r o i k)
-        (and-both _ _ own (and-both _ _ (and-both _ _ may fit) both_in))) in
+    (and-both _ _ own (and-both _ _ (and-both _ _ may fit) both_in))) in
     (x.0, mp _ _ x.1)
 
 set_table : SideOf → SetKind → RollType → Bool → Bool → KeyType → Bool

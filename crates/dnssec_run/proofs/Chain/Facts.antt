@@ -53,9 +53,16 @@ wait1_facts sd r k own fit =
     let e = mp _ _ (each_in_roll-at (wait1_table sd) (wait1_all sd) r k) (and-both _ _ own fit) in
     let x = and_parts _ _ e in
     let a = four _ _ _ _ x.0 in
-    record { fit = wait1-fits sd r k own fit; first = mp _ _ a.0; keep =
-        λ w h. mp _ _ a.1 (and-both _ _ w h); second = λ w. mp _ _ (or_second _ _ a.2 w); inner =
-        λ w h. mp _ _ a.3 (and-both _ _ w h); some = mp _ _ x.1 }
+    record {
+      fit = wait1-fits sd r k own fit;
+      first = mp _ _ a.0;
+      keep =
+          λ w h. mp _ _ a.1 (and-both _ _ w h);
+      second = λ w. mp _ _ (or_second _ _ a.2 w);
+      inner =
+          λ w h. mp _ _ a.3 (and-both _ _ w h);
+      some = mp _ _ x.1;
+    }
 
 -- the second wait
 wait2_table : SideOf → RollType → KeyType → Bool
@@ -80,10 +87,15 @@ pub wait2_facts : (sd : SideOf) (r : RollType) (k : KeyType) → affects sd r �
 unfolding wait2_table column
 wait2_facts sd r k own fit =
     let x = and_parts _ _ (mp _ _ (each_in_roll-at (wait2_table sd) (wait2_all sd) r k)
-        (and-both _ _ own fit)) in
+    (and-both _ _ own fit)) in
     let y = and_parts _ _ x.0 in
-    record { fit = wait2-fits sd r k own fit; first = mp _ _ y.0; second = mp _ _ y.1; used =
-        mp _ _ x.1 }
+    record {
+      fit = wait2-fits sd r k own fit;
+      first = mp _ _ y.0;
+      second = mp _ _ y.1;
+      used =
+          mp _ _ x.1;
+    }
 
 -- ---- a key that a roll may not list is left alone by its calls
 

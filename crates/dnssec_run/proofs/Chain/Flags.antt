@@ -81,9 +81,9 @@ start_table sd r o i k = (affects sd r && (may_start r o i k && fits sd Quiet k)
     ((second_test sd r k ⇒ first_test sd r k)
     && (in_use sd k ⇒ in_use sd (started r o i k))
     && ((switches sd r && second_test sd r (started r o i k)) ⇒
-        (second_test sd r k && first_test sd r (started r o i k)))
+    (second_test sd r k && first_test sd r (started r o i k)))
     && (((i && serves_new sd r k) || (not o && serves_kept sd r k)) ⇒ remains sd r
-        (started r o i k)))
+    (started r o i k)))
 
 start_all : (sd : SideOf) (a b : Bool) → each_listed a b (start_table sd) ≡ true
 unfolding start_table column
@@ -109,5 +109,10 @@ unfolding start_table column
 start_facts sd r o i k own may fit =
     let e = mp _ _ (start_holds sd r o i k) (and-both _ _ own (and-both _ _ may fit)) in
     let a = four _ _ _ _ e in
-    record { fit = start-fits sd r o i k own may fit; inner = mp _ _ a.0; used = mp _ _ a.1;
-        second = λ w h. and_parts _ _ (mp _ _ a.2 (and-both _ _ w h)); some = mp _ _ a.3 }
+    record {
+      fit = start-fits sd r o i k own may fit;
+      inner = mp _ _ a.0;
+      used = mp _ _ a.1;
+      second = λ w h. and_parts _ _ (mp _ _ a.2 (and-both _ _ w h));
+      some = mp _ _ a.3;
+    }

@@ -88,15 +88,15 @@ done_on (Late q) r e = absurd (true≢false (sym e))
 
 module _ (tale : Tale) (n : ℕ) (sd : SideOf) (st : Stage)
     (was_rolls : (q : RollType) → affects sd q ≡ true → stage_fits st q ((world_at tale n).roll q)
-        ≡ true)
+    ≡ true)
     (was_flags : (id : Id) → all_ok (fits sd st) (found (world_at tale n) id) ≡ true)
     (dead : NoDs tale.es n → NoDs tale.es (suc n)) (lists : KeepsLists tale sd n) where
   gentle_map : (f : List ℕ → Key → Key) (r : RollType) (o : Option RollState) → Mapped tale n f r o
       → ((id : Id) (k : Key) → found (world_at tale n) id ≡ Some k
-          → LeavesTo sd k (f id.0 k).keytype)
+      → LeavesTo sd k (f id.0 k).keytype)
       → ((q : RollType) → affects sd q ≡ true → same_roll r q ≡ true → stage_fits st q o ≡ true)
       → ((q : RollType) → affects sd q ≡ true → is_step q (position_at tale.es (suc n)).mark
-          ≡ false) → Gentle tale sd st n
+      ≡ false) → Gentle tale sd st n
   gentle_map f r o m leaves put no_step = record {
     rolls = λ q own. ap (stage_fits st q) (m.rolls q)
         ∙ put-fits st (world_at tale n).roll r o q (put q own) (λ e. was_rolls q own);
@@ -119,54 +119,64 @@ module _ (tale : Tale) (n : ℕ) (sd : SideOf) (st : Stage)
   pub gentle-start : (r : RollType) (now : ℕ) (old new : List (List ℕ)) → affects sd r ≡ false
       → Mapped tale n (start_key r now old new) r (Some Propagation1)
       → ((id : Id) → all_ok (may_start r (is_listed id.0 old) (is_listed id.0 new))
-          (found (world_at tale n) id) ≡ true) → (position_at tale.es (suc n)).mark ≡ Step r
-          → Gentle tale sd st n
+      (found (world_at tale n) id) ≡ true) → (position_at tale.es (suc n)).mark ≡ Step r
+      → Gentle tale sd st n
   gentle-start r now old new other m may mark =
       gentle_map (start_key r now old new) r (Some Propagation1) m
-      (λ id k e. (λ role. untouched_start r _ _ k.keytype
-          (sym (ap (all_ok (may_start r (is_listed id.0 old) (is_listed id.0 new))) e) ∙ may id)
-          (apart sd r k.keytype other role), role_start sd r (is_listed id.0 old)
-          (is_listed id.0 new) k.keytype))
+      (λ id k e. (
+        λ role. untouched_start r _ _ k.keytype
+            (sym (ap (all_ok (may_start r (is_listed id.0 old) (is_listed id.0 new))) e) ∙ may id)
+            (apart sd r k.keytype other role),
+        role_start sd r (is_listed id.0 old)
+            (is_listed id.0 new) k.keytype,
+      ))
       (λ q own e. absurd (true≢false (sym e ∙ distinct sd r q other own))) (not_this r other mark)
 
   pub gentle-wait1 : (r : RollType) (now : ℕ) → affects sd r ≡ false
       → Mapped tale n (λ q. wait1_key r now) r (Some Propagation2)
       → (position_at tale.es (suc n)).mark ≡ Step r → Gentle tale sd st n
   gentle-wait1 r now other m mark = gentle_map (λ q. wait1_key r now) r (Some Propagation2) m
-      (λ id k e. (λ role. untouched_wait1 r k.keytype (apart sd r k.keytype other role),
-          role_waited1 sd r k.keytype))
+      (λ id k e. (
+        λ role. untouched_wait1 r k.keytype (apart sd r k.keytype other role),
+        role_waited1 sd r k.keytype,
+      ))
       (λ q own e. absurd (true≢false (sym e ∙ distinct sd r q other own))) (not_this r other mark)
 
   pub gentle-wait2 : (r : RollType) (now : ℕ) → affects sd r ≡ false
       → Mapped tale n (λ q. wait2_key r now) r (Some Done) → (position_at tale.es (suc n)).mark
       ≡ Other → Gentle tale sd st n
   gentle-wait2 r now other m mark = gentle_map (λ q. wait2_key r now) r (Some Done) m
-      (λ id k e. (λ role. untouched_wait2 r k.keytype (apart sd r k.keytype other role),
-          role_waited2 sd r k.keytype))
+      (λ id k e. (
+        λ role. untouched_wait2 r k.keytype (apart sd r k.keytype other role),
+        role_waited2 sd r k.keytype,
+      ))
       (λ q own e. absurd (true≢false (sym e ∙ distinct sd r q other own)))
-          (λ q own. ap (is_step q) mark)
+      (λ q own. ap (is_step q) mark)
 
   pub gentle-early-end : (r : RollType) → affects sd r ≡ false
       → Mapped tale n (early_end_key tale r n) r None → (position_at tale.es (suc n)).mark ≡ Other
       → Gentle tale sd st n
   gentle-early-end r other m mark = gentle_map (early_end_key tale r n) r None m
-      (λ id k e. (λ role. untouched-ended r _ _ k (apart sd r k.keytype other role), role-ended sd r
-          _ _ k.keytype))
+      (λ id k e. (
+        λ role. untouched-ended r _ _ k (apart sd r k.keytype other role),
+        role-ended sd r
+            _ _ k.keytype,
+      ))
       (λ q own e. absurd (true≢false (sym e ∙ distinct sd r q other own)))
-          (λ q own. ap (is_step q) mark)
+      (λ q own. ap (is_step q) mark)
 
   -- a report changes no flags
   pub gentle-report : (r : RollType) (second : Bool) (ttl now : ℕ)
       → Mapped tale n (λ q. report_key r second now) r (Some (waiting second ttl))
       → (world_at tale n).roll r ≡ Some (spreading second) → (position_at tale.es (suc n)).mark
-          ≡ Report r second ttl → Gentle tale sd st n
+      ≡ Report r second ttl → Gentle tale sd st n
   gentle-report r second ttl now m phase mark =
       gentle_map (λ q. report_key r second now) r (Some (waiting second ttl)) m
       (λ id k e. (λ role. refl, refl))
       (λ q own e. let same = same-is r q e in
-          subst (λ q. stage_fits st q (Some (waiting second ttl)) ≡ true) same
+      subst (λ q. stage_fits st q (Some (waiting second ttl)) ≡ true) same
       (phase_on st r second ttl (sym (ap (stage_fits st r) phase)
-          ∙ was_rolls r (subst (λ q. affects sd q ≡ true) (sym same) own))))
+      ∙ was_rolls r (subst (λ q. affects sd q ≡ true) (sym same) own))))
       (λ q own. ap (is_step q) mark)
 
   -- the end of a roll
@@ -174,13 +184,13 @@ module _ (tale : Tale) (n : ℕ) (sd : SideOf) (st : Stage)
       → ((id : Id) → found (world_at tale (suc n)) id ≡ found (world_at tale n) id)
       → ((q : RollType) → (world_at tale (suc n)).roll q ≡ put_roll (world_at tale n).roll r None q)
       → (world_at tale n).roll r ≡ Some Done → (position_at tale.es (suc n)).mark ≡ Other
-          → Gentle tale sd st n
+      → Gentle tale sd st n
   gentle-done r same rolls phase mark = record {
     rolls = λ q own. ap (stage_fits st q) (rolls q) ∙ put-fits st (world_at tale n).roll r None q
         (λ e. let eq = same-is r q e in
-            subst (λ q. stage_fits st q None ≡ true) eq
-            (done_on st r (sym (ap (stage_fits st r) phase)
-            ∙ was_rolls r (subst (λ q. affects sd q ≡ true) (sym eq) own)))) (λ e. was_rolls q own);
+        subst (λ q. stage_fits st q None ≡ true) eq
+        (done_on st r (sym (ap (stage_fits st r) phase)
+        ∙ was_rolls r (subst (λ q. affects sd q ≡ true) (sym eq) own)))) (λ e. was_rolls q own);
     fore = λ p seen id e. sym (ap (if_some p) (same id)) ∙ e;
     back = λ p seen id e. ap (if_some p) (same id) ∙ e;
     flags = λ id. ap (all_ok (fits sd st)) (same id) ∙ was_flags id;
@@ -207,8 +217,14 @@ pub record Kept (w v : World) : Type 0 where
       → (id : Id) → all_ok (fits sd st) (found v id) ≡ true
 
 pub kept_same : (w : World) → Kept w w
-kept_same w = record { rolls = λ q. refl; keys = λ q j e u. (j, e, refl, λ s. refl); fore =
-    λ p u id e. e; back = λ p u id e. e; flags = λ sd st h. h }
+kept_same w = record {
+  rolls = λ q. refl;
+  keys = λ q j e u. (j, e, refl, λ s. refl);
+  fore =
+      λ p u id e. e;
+  back = λ p u id e. e;
+  flags = λ sd st h. h;
+}
 
 abbrev pub with_key : World → List ℕ → ℕ → Key → World
 with_key w r n k = record w { key = put w.key r (Some k); added = put w.added r n }
@@ -216,15 +232,15 @@ with_key w r n k = record w { key = put w.key r (Some k); added = put w.added r 
 found_added : (b c d : Bool) (o : Option Key) (k : Key) → (b ≡ true → o ≡ None) → is_idle k.keytype
     ≡ true
     → (p : KeyType → Bool) → Busy p → if_some p
-        (if (if b then c else d) then (if b then Some k else o) else None) ≡ true
-        → if_some p (if d then o else None) ≡ true
+    (if (if b then c else d) then (if b then Some k else o) else None) ≡ true
+    → if_some p (if d then o else None) ≡ true
 found_added true true d o k gone idle p busy e = absurd (true≢false (sym idle ∙ busy k.keytype e))
 found_added true false d o k gone idle p busy e = absurd (true≢false (sym e))
 found_added false c d o k gone idle p busy e = e
 
 still_found : (b c d : Bool) (o : Option Key) (k : Key) → (b ≡ true → o ≡ None)
     → (p : KeyType → Bool) → if_some p (if d then o else None) ≡ true
-        → if_some p (if (if b then c else d) then (if b then Some k else o) else None) ≡ true
+    → if_some p (if (if b then c else d) then (if b then Some k else o) else None) ≡ true
 still_found true c true o k gone p e = absurd (true≢false (sym e ∙ ap (if_some p) (gone refl)))
 still_found true c false o k gone p e = absurd (true≢false (sym e))
 still_found false c d o k gone p e = e
@@ -255,17 +271,17 @@ kept_added w r n k gone idle = record {
   fore = λ p busy id e. found_added (bytes_eq r id.0) (n == id.1) (w.added id.0 == id.1)
       (w.key id.0) k (none_at id.0) idle p busy
       (sym (ap (λ t. if_some p (if t then (if bytes_eq r id.0 then Some k else w.key id.0) else
-          None)) (tag_added (bytes_eq r id.0) (w.added id.0) n id.1)) ∙ e);
+      None)) (tag_added (bytes_eq r id.0) (w.added id.0) n id.1)) ∙ e);
   back = λ p busy id e. ap (λ t. if_some p
       (if t then (if bytes_eq r id.0 then Some k else w.key id.0) else None))
       (tag_added (bytes_eq r id.0) (w.added id.0) n id.1)
       ∙ still_found (bytes_eq r id.0) (n == id.1) (w.added id.0 == id.1) (w.key id.0) k
-          (none_at id.0) p e;
+      (none_at id.0) p e;
   flags = λ sd st h id. ap (λ t. all_ok (fits sd st)
       (if t then (if bytes_eq r id.0 then Some k else w.key id.0) else None))
       (tag_added (bytes_eq r id.0) (w.added id.0) n id.1)
       ∙ fits_added (bytes_eq r id.0) (n == id.1) (w.added id.0 == id.1) (w.key id.0) k idle sd st
-          (h id);
+      (h id);
 }
   where
     none_at : (q : List ℕ) → bytes_eq r q ≡ true → w.key q ≡ None
@@ -382,9 +398,9 @@ pub gentle_kept : (tale : Tale) (n : ℕ) (v : World) → world_at tale (suc n) 
     → Kept (world_at tale n) v → (position_at tale.es (suc n)).mark ≡ Other
     → (NoDs tale.es n → NoDs tale.es (suc n))
     → ((sd : SideOf) → KeepsLists tale sd n) → (sd : SideOf) (st : Stage)
-        → ((q : RollType) → affects sd q ≡ true → stage_fits st q ((world_at tale n).roll q) ≡ true)
-        → ((id : Id) → all_ok (fits sd st) (found (world_at tale n) id) ≡ true)
-        → Gentle tale sd st n
+    → ((q : RollType) → affects sd q ≡ true → stage_fits st q ((world_at tale n).roll q) ≡ true)
+    → ((id : Id) → all_ok (fits sd st) (found (world_at tale n) id) ≡ true)
+    → Gentle tale sd st n
 gentle_kept tale n v e k mark dead lists sd st rolls flags = record {
   rolls = λ q own. ap (λ w. stage_fits st q (w.roll q)) e ∙ ap (stage_fits st q) (k.rolls q)
       ∙ rolls q own;

@@ -147,8 +147,12 @@ module _ (tale : Tale) (n : ℕ) where
   side_rest Zone r h Ds = λ q le un id e. tt
 
   alive_side : (sd : SideOf) (r : RollType) → Alive tale sd n → AliveSide (side tale sd r) n
-  alive_side sd r a = (a.0, used_first sd r (found (world_at tale n) a.0) a.1, used_second sd r
-      (found (world_at tale n) a.0) a.1)
+  alive_side sd r a = (
+    a.0,
+    used_first sd r (found (world_at tale n) a.0) a.1,
+    used_second sd r
+        (found (world_at tale n) a.0) a.1,
+  )
 
   early_common : (sd : SideOf) (r : RollType) (b : ℕ) (w : Bool) → (NoDs tale.es n → ⊥)
       → Alive tale sd n → EarlyOf tale sd r n b w → HasCommon tale.es sd n
@@ -202,27 +206,27 @@ module _ (tale : Tale) (n : ℕ) (here : suc n ≤ length tale.es) where
       → if_some (test_of sd kind) (found (world_at tale (suc n)) id) ≡ true
       → Serving sd tale.es kind q id) n
       (λ q le un id p. h kind q le (λ r. un (retired_stays tale.es kind q n r)) id (less kind id p))
-          (λ _. shows tale sd kind (suc n) here)
+      (λ _. shows tale sd kind (suc n) here)
 
   module _ (sd : SideOf) where
     early_gentle : (r : RollType) (b : ℕ) (w : Bool) → switches sd r ≡ w → affects sd r ≡ true
         → Gentle tale sd (Early r) n → EarlyOf tale sd r n b w → EarlyOf tale sd r (suc n) b w
     early_gentle r b true sw own g h = early-stays (side tale sd r) n here b
         (g.fore (first_test sd r) (test-seen sd (first_kind sd r)))
-            (g.fore (second_test sd r) (test-seen sd (second_kind sd r)))
+        (g.fore (second_test sd r) (test-seen sd (second_kind sd r)))
         (λ id. early_inner sd r (found (world_at tale (suc n)) id) own sw (g.flags id)) h
     early_gentle r b false sw own g h = broad-stays (side tale sd r) n here b g.dead
         (g.back (first_test sd r) (test-seen sd (first_kind sd r)))
-            (g.back (second_test sd r) (test-seen sd (second_kind sd r)))
+        (g.back (second_test sd r) (test-seen sd (second_kind sd r)))
         (g.fore (first_test sd r) (test-seen sd (first_kind sd r)))
-            (g.fore (second_test sd r) (test-seen sd (second_kind sd r))) h
+        (g.fore (second_test sd r) (test-seen sd (second_kind sd r))) h
 
     late_gentle : (r : RollType) (b : ℕ) (w : Bool) → b ≤ n → Gentle tale sd (Late r) n
         → LateOf tale sd r n b w → LateOf tale sd r (suc n) b w
     late_gentle r b true le g h = late-stays (side tale sd r) n here b le g.dead
         (g.back (first_test sd r) (test-seen sd (first_kind sd r)))
         (g.fore (first_test sd r) (test-seen sd (first_kind sd r)))
-            (g.fore (second_test sd r) (test-seen sd (second_kind sd r))) h
+        (g.fore (second_test sd r) (test-seen sd (second_kind sd r))) h
     late_gentle r b false le g h = rest-next sd
         (λ kind. g.fore (test_of sd kind) (test-seen sd kind)) h
 
@@ -234,11 +238,18 @@ module _ (tale : Tale) (n : ℕ) (here : suc n ≤ length tale.es) where
         → Holds tale sd st (suc n)
     holds_gentle Quiet own g h = rest-next sd (λ kind. g.fore (test_of sd kind) (test-seen sd kind))
         h
-    holds_gentle (Early r) own g h =
-        (h.0, based_gentle r h.0 (g.no_step r own) h.1, early_gentle r h.0 (switches sd r) refl own
-        g h.2)
-    holds_gentle (Late r) own g h = (h.0, based_gentle r h.0 (g.no_step r own) h.1, late_gentle r
-        h.0 (switches sd r) h.1.0 g h.2)
+    holds_gentle (Early r) own g h = (
+      h.0,
+      based_gentle r h.0 (g.no_step r own) h.1,
+      early_gentle r h.0 (switches sd r) refl own
+          g h.2,
+    )
+    holds_gentle (Late r) own g h = (
+      h.0,
+      based_gentle r h.0 (g.no_step r own) h.1,
+      late_gentle r
+          h.0 (switches sd r) h.1.0 g h.2,
+    )
 
     left_gentle : (st : Stage) → Gentle tale sd st n → Left tale sd st n → Left tale sd st (suc n)
     left_gentle Quiet g h = tt
@@ -253,9 +264,16 @@ module _ (tale : Tale) (n : ℕ) (here : suc n ≤ length tale.es) where
     back_gentle (Late r) own g h = tt
 
     pub at-gentle : (st : Stage) → Gentle tale sd st n → At tale sd st n → At tale sd st (suc n)
-    at-gentle st g h = record { own = h.own; rolls = g.rolls; flags = g.flags; holds =
-        holds_gentle st h.own g h.holds; left = left_gentle st g h.left; back =
-        back_gentle st h.own g h.back }
+    at-gentle st g h = record {
+      own = h.own;
+      rolls = g.rolls;
+      flags = g.flags;
+      holds =
+          holds_gentle st h.own g h.holds;
+      left = left_gentle st g h.left;
+      back =
+          back_gentle st h.own g h.back;
+    }
 
     pub alive-gentle : (st : Stage) → Gentle tale sd st n → Alive tale sd n → Alive tale sd (suc n)
     alive-gentle st g a = (a.0, g.back (in_use sd) (use-seen sd) a.0 a.1)

@@ -90,7 +90,7 @@ module _ (tale : Tale) (n : ℕ) where
       → ((q : RollType) → (world_at tale (suc n)).roll q ≡ (world_at tale n).roll q)
       → (real tale (suc n)).set.lists ≡ without x (real tale n).set.lists → (sd : SideOf)
       → ((id : Id) (k : Key) → found (world_at tale (suc n)) id ≡ Some k → bytes_eq x id.0 ≡ true
-          → has_role sd k.keytype ≡ true → ⊥)
+      → has_role sd k.keytype ≡ true → ⊥)
       → KeepsLists tale sd n
   keeps-without x rolls lists sd gone = record {
     phase = λ r own e. sym (rolls r) ∙ e;
@@ -99,18 +99,18 @@ module _ (tale : Tale) (n : ℕ) where
     where
       by : (r : RollType) (id : Id) (b : Bool) → bytes_eq x id.0 ≡ b → (bytes_eq x id.0 ≡ true → ⊥)
           → (is_listed id.0 (listed_at tale r (suc n)).olds
-              ≡ is_listed id.0 (listed_at tale r n).olds)
+          ≡ is_listed id.0 (listed_at tale r n).olds)
           × (is_listed id.0 (listed_at tale r (suc n)).news
-              ≡ is_listed id.0 (listed_at tale r n).news)
+          ≡ is_listed id.0 (listed_at tale r n).news)
       by r id true t none = absurd (none t)
       by r id false t none = (
         ap (λ l. is_listed id.0 (listed_by l r).olds) lists
             ∙ ap (λ (l : Listed). is_listed id.0 l.olds)
-                (listed_by-without x (real tale n).set.lists r)
+            (listed_by-without x (real tale n).set.lists r)
             ∙ is_listed-others x (listed_at tale r n).olds id.0 t,
         ap (λ l. is_listed id.0 (listed_by l r).news) lists
             ∙ ap (λ (l : Listed). is_listed id.0 l.news)
-                (listed_by-without x (real tale n).set.lists r)
+            (listed_by-without x (real tale n).set.lists r)
             ∙ is_listed-others x (listed_at tale r n).news id.0 t,
       )
 

@@ -49,11 +49,14 @@ may_at r w old new can id = by (found w id) refl
         let key : w.key id.0 ≡ Some k = (found_key w id k e).0 in
         may_by r (is_listed id.0 old) (is_listed id.0 new) k.keytype
         (λ t. let x = can.old_is id.0 t in
-            subst (λ k. may_list r k.keytype ≡ true) (same_Some x.0 k (sym x.1 ∙ key)) x.2)
+        subst (λ k. may_list r k.keytype ≡ true) (same_Some x.0 k (sym x.1 ∙ key)) x.2)
         (λ t. let x = can.new_is id.0 t in
-        let same : x.0 ≡ k = same_Some x.0 k (sym x.1 ∙ key) in
-        (subst (λ k. may_list r k.keytype ≡ true) same x.2, subst (λ k. is_blank k.keytype ≡ true)
-            same x.3, x.4))
+        let same : x.0 ≡ k = same_Some x.0 k (sym x.1 ∙ key) in (
+          subst (λ k. may_list r k.keytype ≡ true) same x.2,
+          subst (λ k. is_blank k.keytype ≡ true)
+              same x.3,
+          x.4,
+        ))
 
 pub suits : (o i : Bool) (a b : Bool) → ((i ≡ true) × (a ≡ true)) ⊎ ((o ≡ false) × (b ≡ true))
     → ((i && a) || (not o && b)) ≡ true
@@ -64,7 +67,7 @@ module _ (sd : SideOf) (r : RollType) (own : affects sd r ≡ true) (now : ℕ) 
   pub start-fit : (old new : List (List ℕ)) (q : List ℕ) (o : Option Key)
       → all_ok (may_start r (is_listed q old) (is_listed q new)) o ≡ true
       → all_ok (fits sd Quiet) o ≡ true
-          → all_ok (fits sd (Early r)) (option_map (start_key r now old new q) o) ≡ true
+      → all_ok (fits sd (Early r)) (option_map (start_key r now old new q) o) ≡ true
   start-fit old new q None may h = refl
   start-fit old new q (Some k) may h =
       (start_facts sd r (is_listed q old) (is_listed q new) k.keytype own may h).fit
@@ -72,7 +75,7 @@ module _ (sd : SideOf) (r : RollType) (own : affects sd r ≡ true) (now : ℕ) 
   pub start-inner : (old new : List (List ℕ)) (q : List ℕ) (o : Option Key)
       → all_ok (may_start r (is_listed q old) (is_listed q new)) o ≡ true
       → all_ok (fits sd Quiet) o ≡ true → if_some (second_test sd r) o ≡ true
-          → if_some (first_test sd r) o ≡ true
+      → if_some (first_test sd r) o ≡ true
   start-inner old new q None may h e = absurd (true≢false (sym e))
   start-inner old new q (Some k) may h e =
       (start_facts sd r (is_listed q old) (is_listed q new) k.keytype own may h).inner e
@@ -80,9 +83,9 @@ module _ (sd : SideOf) (r : RollType) (own : affects sd r ≡ true) (now : ℕ) 
   pub start-second : (old new : List (List ℕ)) (q : List ℕ) (o : Option Key)
       → all_ok (may_start r (is_listed q old) (is_listed q new)) o ≡ true
       → all_ok (fits sd Quiet) o ≡ true → switches sd r ≡ true
-          → if_some (second_test sd r) (option_map (start_key r now old new q) o) ≡ true
+      → if_some (second_test sd r) (option_map (start_key r now old new q) o) ≡ true
       → (if_some (second_test sd r) o ≡ true)
-          × (if_some (first_test sd r) (option_map (start_key r now old new q) o) ≡ true)
+      × (if_some (first_test sd r) (option_map (start_key r now old new q) o) ≡ true)
   start-second old new q None may h w e = absurd (true≢false (sym e))
   start-second old new q (Some k) may h w e =
       (start_facts sd r (is_listed q old) (is_listed q new) k.keytype own may h).second w e
@@ -90,7 +93,7 @@ module _ (sd : SideOf) (r : RollType) (own : affects sd r ≡ true) (now : ℕ) 
   pub start-used : (old new : List (List ℕ)) (q : List ℕ) (o : Option Key)
       → all_ok (may_start r (is_listed q old) (is_listed q new)) o ≡ true
       → all_ok (fits sd Quiet) o ≡ true → if_some (in_use sd) o ≡ true
-          → if_some (in_use sd) (option_map (start_key r now old new q) o) ≡ true
+      → if_some (in_use sd) (option_map (start_key r now old new q) o) ≡ true
   start-used old new q None may h e = absurd (true≢false (sym e))
   start-used old new q (Some k) may h e =
       (start_facts sd r (is_listed q old) (is_listed q new) k.keytype own may h).used e

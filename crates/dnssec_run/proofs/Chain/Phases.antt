@@ -64,22 +64,22 @@ pub gone : (tale : Tale) (n : ℕ) (r : RollType) (second : Bool) (ttl now : ℕ
     ≡ true → Reads tale r second n → Told tale r second n ttl
     → IsOver r second (world_at tale n) ttl now → (position_at tale.es (suc n)).moment ≡ Some now
     → (kind : SetKind) → retires r second kind ≡ true → (b : ℕ) → base_below tale.es r (suc n)
-        ≡ Some b → (q : ℕ) → q < b → IsGone tale.es kind q (suc n)
+    ≡ Some b → (q : ℕ) → q < b → IsGone tale.es kind q (suc n)
 gone tale n r second ttl now on reads told over moment kind goes b base q lt =
     let k = some_key (stays r second) (found (world_at tale n) reads.0) reads.1 in
     let key : (world_at tale n).key reads.0.0 ≡ Some k.0 =
-        (found_key (world_at tale n) reads.0 k.0 k.1).0 in
+    (found_key (world_at tale n) reads.0 k.0 k.1).0 in
     let f = stays_facts r second k.0.keytype k.2 in
     let o = over reads.0.0 k.0 key (f.check on) in
     let same : o.0 ≡ told.moment = same_Some _ _
-        (sym o.1 ∙ told.stamps reads.0.0 k.0 key (f.write on) f.busy) in
+    (sym o.1 ∙ told.stamps reads.0.0 k.0 key (f.write on) f.busy) in
     let at_report : told.moment ≤ time_at tale.es told.at =
-        time_now tale.es told.at told.moment told.moment_is in
+    time_now tale.es told.at told.moment told.moment_is in
     let later : time_at tale.es told.at ≤ time_at tale.es (suc n) =
-        time_mono tale.es told.at (suc n) (omega (arith, told.within)) in
+    time_mono tale.es told.at (suc n) (omega (arith, told.within)) in
     let at_now : now ≤ time_at tale.es (suc n) = time_now tale.es (suc n) now moment in
     let spent : ttl * 1_000_000_000 ≤ now - told.moment =
-        subst (λ m. ttl * 1_000_000_000 ≤ now - m) same o.2 in
+    subst (λ m. ttl * 1_000_000_000 ≤ now - m) same o.2 in
     record {
       at = told.at;
       roll = r;
@@ -153,7 +153,7 @@ pub record Aside (tale : Tale) (n : ℕ) (q : RollType) : Type 0 where
   pub keys : (x : List ℕ) (j : Key) → (world_at tale (suc n)).key x ≡ Some j → may_list q j.keytype
       ≡ true → is_idle j.keytype ≡ false
       → (k : Key) × ((world_at tale n).key x ≡ Some k) × (k.keytype ≡ j.keytype)
-          × ((s : Stamp) → stamp_of s k ≡ stamp_of s j)
+      × ((s : Stamp) → stamp_of s k ≡ stamp_of s j)
   pub no_step : is_step q (position_at tale.es (suc n)).mark ≡ false
 
 module _ (tale : Tale) (n : ℕ) where
@@ -169,7 +169,7 @@ module _ (tale : Tale) (n : ℕ) where
     stamps = λ x j e w b.
         let k = a.keys x j e (written-touches (read q second) q second j.keytype w) b in
         sym (k.3 (read q second)) ∙ t.stamps x k.0 k.1
-            (ap (written (read q second) q second) k.2 ∙ w) (ap is_idle k.2 ∙ b);
+        (ap (written (read q second) q second) k.2 ∙ w) (ap is_idle k.2 ∙ b);
   }
 
   pub phase-aside : (q : RollType) (p : RollState) → Aside tale n q → PhaseOf tale q p n
@@ -196,9 +196,9 @@ module _ (tale : Tale) (n : ℕ) where
   aside-mapped : (f : List ℕ → Key → Key) (r : RollType) (o : Option RollState) (q : RollType)
       → Mapped tale n f r o
       → ((x : List ℕ) (k : Key) → (world_at tale n).key x ≡ Some k → may_list q (f x k).keytype
-          ≡ may_list q k.keytype)
+      ≡ may_list q k.keytype)
       → ((x : List ℕ) (k : Key) → (world_at tale n).key x ≡ Some k → may_list q k.keytype ≡ true
-          → ((f x k).keytype ≡ k.keytype) × ((s : Stamp) → stamp_of s k ≡ stamp_of s (f x k)))
+      → ((f x k).keytype ≡ k.keytype) × ((s : Stamp) → stamp_of s k ≡ stamp_of s (f x k)))
       → is_step q (position_at tale.es (suc n)).mark ≡ false → Aside tale n q
   aside-mapped f r o q m kinds same no_step = record {
     back = λ second id e.
@@ -206,7 +206,7 @@ module _ (tale : Tale) (n : ℕ) where
         let key = (found_key (world_at tale n) id k.0 k.1).0 in
         let t = (same id.0 k.0 key (stays_facts q second k.0.keytype k.2).touched).0 in
         ap (if_some (stays q second)) (m.founds id ∙ ap (option_map (f id.0)) k.1)
-            ∙ ap (stays q second) t ∙ k.2;
+        ∙ ap (stays q second) t ∙ k.2;
     keys = λ x j e l b. by x ((world_at tale n).key x) refl j (sym (m.keys x) ∙ e) l;
     no_step = no_step;
   }
@@ -214,7 +214,7 @@ module _ (tale : Tale) (n : ℕ) where
       by : (x : List ℕ) (o : Option Key) → (world_at tale n).key x ≡ o → (j : Key)
           → option_map (f x) ((world_at tale n).key x) ≡ Some j → may_list q j.keytype ≡ true
           → (k : Key) × ((world_at tale n).key x ≡ Some k) × (k.keytype ≡ j.keytype)
-              × ((s : Stamp) → stamp_of s k ≡ stamp_of s j)
+          × ((s : Stamp) → stamp_of s k ≡ stamp_of s j)
       by x None e j g l = absurd (none-some j (sym (ap (option_map (f x)) e) ∙ g))
       by x (Some k) e j g l =
           let image : f x k ≡ j = same_Some _ _ (sym (ap (option_map (f x)) e) ∙ g) in
@@ -231,8 +231,8 @@ module _ (tale : Tale) (n : ℕ) where
       (λ x k e l. (
         untouched_start r (is_listed x old) (is_listed x new) k.keytype
             (let id : Id = (x, (world_at tale n).added x) in
-                subst (λ o. all_ok (may_start r (is_listed x old) (is_listed x new)) o ≡ true)
-                (found_now (world_at tale n) x ∙ e) (may_at r (world_at tale n) old new can id))
+            subst (λ o. all_ok (may_start r (is_listed x old) (is_listed x new)) o ≡ true)
+            (found_now (world_at tale n) x ∙ e) (may_at r (world_at tale n) old new can id))
             (other r q k.keytype both_in l),
         stamps_start x k,
       )) no_step
@@ -245,8 +245,8 @@ module _ (tale : Tale) (n : ℕ) where
       → tolerates r q ≡ true → is_step q (position_at tale.es (suc n)).mark ≡ false → Aside tale n q
   aside-early-end r q m both_in no_step = aside-mapped (early_end_key tale r n) r None q m
       (λ x k e. list-ended q r _ _ k.keytype)
-          (λ x k e l. (untouched-ended r _ _ k (other r q k.keytype both_in l), stamps_same x k))
-          no_step
+      (λ x k e l. (untouched-ended r _ _ k (other r q k.keytype both_in l), stamps_same x k))
+      no_step
     where
       stamps_same : (x : List ℕ) (k : Key) (s : Stamp) → stamp_of s k
           ≡ stamp_of s (early_end_key tale r n x k)
@@ -260,8 +260,8 @@ module _ (tale : Tale) (n : ℕ) where
   aside-wait1 now r q m both_in no_step =
       aside-mapped (λ q. wait1_key r now) r (Some Propagation2) q m
       (λ x k e. list_waited1 q r k.keytype)
-          (λ x k e l. (untouched_wait1 r k.keytype (other r q k.keytype both_in l), stamps_same k))
-          no_step
+      (λ x k e l. (untouched_wait1 r k.keytype (other r q k.keytype both_in l), stamps_same k))
+      no_step
     where
       stamps_same : (k : Key) (s : Stamp) → stamp_of s k ≡ stamp_of s (wait1_key r now k)
       stamps_same k = wait_stamps r false now k
@@ -270,8 +270,8 @@ module _ (tale : Tale) (n : ℕ) where
       → tolerates r q ≡ true → is_step q (position_at tale.es (suc n)).mark ≡ false → Aside tale n q
   aside-wait2 now r q m both_in no_step = aside-mapped (λ q. wait2_key r now) r (Some Done) q m
       (λ x k e. list_waited2 q r k.keytype)
-          (λ x k e l. (untouched_wait2 r k.keytype (other r q k.keytype both_in l), stamps_same k))
-          no_step
+      (λ x k e l. (untouched_wait2 r k.keytype (other r q k.keytype both_in l), stamps_same k))
+      no_step
     where
       stamps_same : (k : Key) (s : Stamp) → stamp_of s k ≡ stamp_of s (wait2_key r now k)
       stamps_same k = wait_stamps r true now k
@@ -309,30 +309,33 @@ module _ (tale : Tale) (n : ℕ) where
       → Mapped tale n (start_key r now old new) r (Some Propagation1)
       → CanStart r (world_at tale n) old new
       → ((id : Id) → all_ok (fits (timer r) Quiet) (found (world_at tale n) id) ≡ true)
-          → Reads tale r false (suc n)
+      → Reads tale r false (suc n)
   reads-start r now old new m can flags =
       let s = can.suitable (timer r) (timer-affects r) in
       let id : Id = (s.0, (world_at tale n).added s.0) in
       let at_key : found (world_at tale n) id ≡ Some s.1 = found_now (world_at tale n) s.0 ∙ s.2 in
       let may_key : may_start r (is_listed s.0 old) (is_listed s.0 new) s.1.keytype ≡ true =
-          subst (λ o. all_ok (may_start r (is_listed s.0 old) (is_listed s.0 new)) o ≡ true) at_key
-          (may_at r (world_at tale n) old new can id) in
+      subst (λ o. all_ok (may_start r (is_listed s.0 old) (is_listed s.0 new)) o ≡ true) at_key
+      (may_at r (world_at tale n) old new can id) in
       let fit_key : fits (timer r) Quiet s.1.keytype ≡ true =
-          subst (λ o. all_ok (fits (timer r) Quiet) o ≡ true) at_key (flags id) in (
+      subst (λ o. all_ok (fits (timer r) Quiet) o ≡ true) at_key (flags id) in (
         id,
         ap (if_some (stays r false)) (m.founds id
             ∙ ap (option_map (start_key r now old new s.0)) at_key)
             ∙ stays_start r (is_listed s.0 old) (is_listed s.0 new) s.1.keytype may_key fit_key
-                (suits (is_listed s.0 old) (is_listed s.0 new) (serves_new (timer r) r s.1.keytype)
-                (serves_kept (timer r) r s.1.keytype) s.3),
+            (suits (is_listed s.0 old) (is_listed s.0 new) (serves_new (timer r) r s.1.keytype)
+            (serves_kept (timer r) r s.1.keytype) s.3),
       )
 
   pub reads-wait1 : (r : RollType) (now : ℕ)
       → Mapped tale n (λ q. wait1_key r now) r (Some Propagation2)
       → ((id : Id) → all_ok (fits (timer r) (Early r)) (found (world_at tale n) id) ≡ true)
       → Reads tale r false n → Reads tale r true (suc n)
-  reads-wait1 r now m flags h = (h.0, ap (if_some (stays r true)) (m.founds h.0)
-      ∙ by (found (world_at tale n) h.0) (flags h.0) h.1)
+  reads-wait1 r now m flags h = (
+    h.0,
+    ap (if_some (stays r true)) (m.founds h.0)
+        ∙ by (found (world_at tale n) h.0) (flags h.0) h.1,
+  )
     where
       by : (o : Option Key) → all_ok (fits (timer r) (Early r)) o ≡ true → if_some (stays r false) o
           ≡ true → if_some (stays r true) (option_map (wait1_key r now) o) ≡ true
@@ -368,10 +371,10 @@ module _ (tale : Tale) (n : ℕ) where
           (sym (ap (option_map (report_key r second now)) e) ∙ g))
       by x (Some k) e j g w =
           let image : report_key r second now k ≡ j =
-              same_Some _ _ (sym (ap (option_map (report_key r second now)) e) ∙ g) in
+          same_Some _ _ (sym (ap (option_map (report_key r second now)) e) ∙ g) in
           ap (stamp_of (read r second)) (sym image)
-              ∙ report_stamp (read r second) r second now k
-              (ap (λ j. written (read r second) r second j.keytype) image ∙ w)
+          ∙ report_stamp (read r second) r second now k
+          (ap (λ j. written (read r second) r second j.keytype) image ∙ w)
 
   pub reads-report : (r : RollType) (second : Bool) (ttl now : ℕ)
       → Mapped tale n (λ q. report_key r second now) r (Some (waiting second ttl))

@@ -162,8 +162,8 @@ shows tale Zone Dnskey zero le id e = absurd (none_at_start tale (test_of Zone D
 shows tale Zone Dnskey (suc i) le id e =
     let p = place_at tale i (omega arith) in
     subst (λ q. Contains q.dnskey id) (sym p.position_is)
-        ((p.dnskey id).1 (some_weaker (in_keys Zone) in_dnskey zone_key
-        (found (world_at tale (suc i)) id) e))
+    ((p.dnskey id).1 (some_weaker (in_keys Zone) in_dnskey zone_key
+    (found (world_at tale (suc i)) id) e))
 shows tale Zone ZoneSigners zero le id e =
     absurd (none_at_start tale (test_of Zone ZoneSigners) id e)
 shows tale Zone ZoneSigners (suc i) le id e =
@@ -176,11 +176,11 @@ NoDs es n = (q : ℕ) → q ≤ n → (position_at es q).ds ≡ []
 
 pub no_ds-next : (tale : Tale) (n : ℕ) → suc n ≤ length tale.es
     → ((id : Id) → if_some in_ds (found (world_at tale (suc n)) id) ≡ true
-        → if_some in_ds (found (world_at tale n) id) ≡ true) → NoDs tale.es n → NoDs tale.es (suc n)
+    → if_some in_ds (found (world_at tale n) id) ≡ true) → NoDs tale.es n → NoDs tale.es (suc n)
 no_ds-next tale n here less h = upto (λ q. (position_at tale.es q).ds ≡ []) n h
     (nothing_in _ (λ id c.
     let before : Contains (position_at tale.es n).ds id =
-        shows_ds tale n (omega arith) id (less id (ds_shown tale n here id c)) in
+    shows_ds tale n (omega arith) id (less id (ds_shown tale n here id c)) in
     not_in_empty id (subst (λ l. Contains l id) (h n (omega arith)) before)))
 
 -- a roll's side of the chain

@@ -38,7 +38,7 @@ pub record LeadsBack (tale : Tale) (sd : SideOf) (r : RollType) (n : ℕ) : Type
       (found (world_at tale n) id) ≡ true
   pub rest : (kind : SetKind) (q : ℕ) → q ≤ n → (IsGone tale.es kind q n → ⊥) → (id : Id)
       → if_some (λ k. test_of sd kind (kind_back tale r n id.0 k)) (found (world_at tale n) id)
-          ≡ true → Serving sd tale.es kind q id
+      ≡ true → Serving sd tale.es kind q id
   pub used : NoDs tale.es n ⊎ ((id : Id)
       × (if_some (λ k. in_use sd (kind_back tale r n id.0 k)) (found (world_at tale n) id) ≡ true))
 
@@ -56,8 +56,8 @@ pub record KeepsLists (tale : Tale) (sd : SideOf) (n : ℕ) : Type 0 where
       ≡ Some Propagation1 → (id : Id) (k : Key) → found (world_at tale (suc n)) id ≡ Some k
       → has_role sd k.keytype ≡ true
       → (is_listed id.0 (listed_at tale r (suc n)).olds ≡ is_listed id.0 (listed_at tale r n).olds)
-          × (is_listed id.0 (listed_at tale r (suc n)).news
-          ≡ is_listed id.0 (listed_at tale r n).news)
+      × (is_listed id.0 (listed_at tale r (suc n)).news
+      ≡ is_listed id.0 (listed_at tale r n).news)
 
 -- a key that the side sees, and that an early end would leave in no order
 misfits : SideOf → (KeyType → KeyType) → KeyType → Bool
@@ -67,7 +67,7 @@ misfits-seen : (sd : SideOf) (f : KeyType → KeyType) → Seen sd (misfits sd f
 unfolding misfits
 misfits-seen sd f k e =
     let x = and_parts (has_role sd k) (not (is_idle k))
-        (and_parts (has_role sd k && not (is_idle k)) _ e).0 in
+    (and_parts (has_role sd k && not (is_idle k)) _ e).0 in
     (x.0, not-true _ x.1)
 
 misfits-not : (sd : SideOf) (f : KeyType → KeyType) (o : Option Key)
@@ -85,13 +85,13 @@ misfits-by sd f k seen bad = and-both _ _ seen (ap not bad)
 
 module _ (tale : Tale) (n : ℕ) (here : suc n ≤ length tale.es) (sd : SideOf)
     (fore : (p : KeyType → Bool) → Seen sd p → (id : Id)
-        → if_some p (found (world_at tale (suc n)) id) ≡ true
-        → if_some p (found (world_at tale n) id) ≡ true)
+    → if_some p (found (world_at tale (suc n)) id) ≡ true
+    → if_some p (found (world_at tale n) id) ≡ true)
     (back : (p : KeyType → Bool) → Seen sd p → (id : Id) → if_some p (found (world_at tale n) id)
-        ≡ true → if_some p (found (world_at tale (suc n)) id) ≡ true)
+    ≡ true → if_some p (found (world_at tale (suc n)) id) ≡ true)
     (dead : NoDs tale.es n → NoDs tale.es (suc n)) (lists : KeepsLists tale sd n)
     (r : RollType) (own : affects sd r ≡ true)
-        (phase : (world_at tale (suc n)).roll r ≡ Some Propagation1) where
+    (phase : (world_at tale (suc n)).roll r ≡ Some Propagation1) where
   same_kind : (id : Id) (k : Key) → found (world_at tale (suc n)) id ≡ Some k
       → has_role sd k.keytype ≡ true → kind_back tale r (suc n) id.0 k.keytype
       ≡ kind_back tale r n id.0 k.keytype
@@ -100,26 +100,26 @@ module _ (tale : Tale) (n : ℕ) (here : suc n ≤ length tale.es) (sd : SideOf)
 
   was : (p : KeyType → Bool) → ((o i : Bool) → Seen sd (λ k. p (ended r o i k))) → (id : Id)
       → if_some (λ k. p (kind_back tale r (suc n) id.0 k)) (found (world_at tale (suc n)) id) ≡ true
-          → if_some (λ k. p (kind_back tale r n id.0 k)) (found (world_at tale n) id) ≡ true
+      → if_some (λ k. p (kind_back tale r n id.0 k)) (found (world_at tale n) id) ≡ true
   was p seen id e =
       let k = some_key (λ k. p (kind_back tale r (suc n) id.0 k)) (found (world_at tale (suc n)) id)
-          e in
+      e in
       let role = (seen _ _ k.0.keytype k.2).0 in
       fore (λ k. p (kind_back tale r n id.0 k)) (seen _ _) id
       (ap (if_some (λ k. p (kind_back tale r n id.0 k))) k.1
-          ∙ ap p (sym (same_kind id k.0 k.1 role)) ∙ k.2)
+      ∙ ap p (sym (same_kind id k.0 k.1 role)) ∙ k.2)
 
   stays : (p : KeyType → Bool) → ((o i : Bool) → Seen sd (λ k. p (ended r o i k))) → (id : Id)
       → if_some (λ k. p (kind_back tale r n id.0 k)) (found (world_at tale n) id) ≡ true
-          → if_some (λ k. p (kind_back tale r (suc n) id.0 k)) (found (world_at tale (suc n)) id)
-          ≡ true
+      → if_some (λ k. p (kind_back tale r (suc n) id.0 k)) (found (world_at tale (suc n)) id)
+      ≡ true
   stays p seen id e =
       let now = back (λ k. p (kind_back tale r n id.0 k)) (seen _ _) id e in
       let k = some_key (λ k. p (kind_back tale r n id.0 k)) (found (world_at tale (suc n)) id) now
-          in
+      in
       let role = (seen _ _ k.0.keytype k.2).0 in
       ap (if_some (λ k. p (kind_back tale r (suc n) id.0 k))) k.1 ∙ ap p (same_kind id k.0 k.1 role)
-          ∙ k.2
+      ∙ k.2
 
   flags_next : LeadsBack tale sd r n → (id : Id)
       → all_ok (λ k. fits sd Quiet (kind_back tale r (suc n) id.0 k))
@@ -141,9 +141,9 @@ module _ (tale : Tale) (n : ℕ) (here : suc n ≤ length tale.es) (sd : SideOf)
           at_key true false f g = absurd
               (misfits-not sd (kind_back tale r n id.0) (found (world_at tale n) id) (h.flags id)
               (fore (misfits sd (kind_back tale r n id.0))
-                  (misfits-seen sd (kind_back tale r n id.0)) id
+              (misfits-seen sd (kind_back tale r n id.0)) id
               (ap (if_some (misfits sd (kind_back tale r n id.0))) e
-                  ∙ misfits-by sd (kind_back tale r n id.0) k.keytype f g)))
+              ∙ misfits-by sd (kind_back tale r n id.0) k.keytype f g)))
 
   pub leads-on : LeadsBack tale sd r n → LeadsBack tale sd r (suc n)
   leads-on h = record {
@@ -152,10 +152,13 @@ module _ (tale : Tale) (n : ℕ) (here : suc n ≤ length tale.es) (sd : SideOf)
         → if_some (λ k. test_of sd kind (kind_back tale r (suc n) id.0 k))
         (found (world_at tale (suc n)) id) ≡ true → Serving sd tale.es kind q id) n
         (λ q le un id e. h.rest kind q le (λ x. un (retired_stays tale.es kind q n x)) id
-            (was (test_of sd kind) (ended-seen sd kind r) id e))
+        (was (test_of sd kind) (ended-seen sd kind r) id e))
         (λ _ id e. shows tale sd kind (suc n) here id
-            (some_weaker (λ k. test_of sd kind (kind_back tale r (suc n) id.0 k)) (test_of sd kind)
-            (ended-less sd kind r _ _) (found (world_at tale (suc n)) id) e));
-    used = elim (h.used) [ inl d ↦ inl (dead d) | inr a ↦
-        inr (a.0, stays (in_use sd) (ended-used sd r) a.0 a.1) ];
+        (some_weaker (λ k. test_of sd kind (kind_back tale r (suc n) id.0 k)) (test_of sd kind)
+        (ended-less sd kind r _ _) (found (world_at tale (suc n)) id) e));
+    used = elim (h.used) [
+      | inl d ↦ inl (dead d)
+      | inr a ↦
+          inr (a.0, stays (in_use sd) (ended-used sd r) a.0 a.1)
+    ];
   }

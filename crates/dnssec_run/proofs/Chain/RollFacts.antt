@@ -34,8 +34,8 @@ still_ds r free o i k = alike-same _ _ (each_key-at (still_table r o i) (λ a b.
     both-at (λ i. each_key a b (still_table r o i))
     (both-at (λ o. both (λ i. each_key a b (still_table r o i)))
     (or_second (needs_algorithm_roll r) _ (each_roll-at
-        (λ r. needs_algorithm_roll r || both (λ o. both (λ i. each_key a b (still_table r o i))))
-        (still_all a b) r) free) o) i) k)
+    (λ r. needs_algorithm_roll r || both (λ o. both (λ i. each_key a b (still_table r o i))))
+    (still_all a b) r) free) o) i) k)
 
 waited_table : RollType → Bool → KeyType → Bool
 waited_table r second k = alike (in_ds (if second then waited2 r k else waited1 r k)) (in_ds k)

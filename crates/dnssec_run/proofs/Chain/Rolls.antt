@@ -136,8 +136,8 @@ others_late r q (Some Done) e d = absurd (true≢false (sym e))
 pub put-fits : (st : Stage) (f : RollType → Option RollState) (r : RollType) (o : Option RollState)
     (q : RollType)
     → (same_roll r q ≡ true → stage_fits st q o ≡ true)
-        → (same_roll r q ≡ false → stage_fits st q (f q) ≡ true)
-        → stage_fits st q (put_roll f r o q) ≡ true
+    → (same_roll r q ≡ false → stage_fits st q (f q) ≡ true)
+    → stage_fits st q (put_roll f r o q) ≡ true
 put-fits st f r o q here there = by (same_roll r q) refl
   where
     by : (b : Bool) → same_roll r q ≡ b → stage_fits st q (if b then o else f q) ≡ true

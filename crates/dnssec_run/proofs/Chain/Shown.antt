@@ -49,16 +49,26 @@ module _ (p : KeyType → Bool) (added : List ℕ → ℕ) where
   from_list (e ∷ es) s id c = by (from_list es (second _ _ s) id) (p e.1.keytype) refl c
     where
       later : Has es id → Has (e ∷ es) id
-      later h = (h.0, ap (λ c. cond c (Some e.1) (find (slice_cmp nat_cmp) id.0 es))
-          (not_below e.0 id.0 h.0 es (first _ _ s) h.1) ∙ h.1, h.2, h.3)
+      later h = (
+        h.0,
+        ap (λ c. cond c (Some e.1) (find (slice_cmp nat_cmp) id.0 es))
+            (not_below e.0 id.0 h.0 es (first _ _ s) h.1) ∙ h.1,
+        h.2,
+        h.3,
+      )
 
       by : (Contains (listed es) id → Has es id) → (b : Bool) → p e.1.keytype ≡ b
           → Contains (map (λ (e : List ℕ × KeyParts). (e.0, added e.0))
           (cond b (e ∷ filter (λ (e : List ℕ × KeyParts). p e.1.keytype) es)
           (filter (λ (e : List ℕ × KeyParts). p e.1.keytype) es))) id → Has (e ∷ es) id
       by rest true t (zero, lt, eq) =
-          subst (Has (e ∷ es)) eq (e.1, ap
-          (λ c. cond c (Some e.1) (find (slice_cmp nat_cmp) e.0 es)) (itself e.0), t, refl)
+          subst (Has (e ∷ es)) eq (
+            e.1,
+            ap
+                (λ c. cond c (Some e.1) (find (slice_cmp nat_cmp) e.0 es)) (itself e.0),
+            t,
+            refl,
+          )
       by rest true t (suc i, lt, eq) = later (rest (i, omega (arith, lt), eq))
       by rest false t c = later (rest c)
 
@@ -76,17 +86,22 @@ module _ (p : KeyType → Bool) (added : List ℕ → ℕ) where
       by : (Has es id → Contains (listed es) id) → (t : Bool) → is_eq (slice_cmp nat_cmp id.0 e.0)
           ≡ t → Contains (listed (e ∷ es)) id
       by rest false u = more (p e.1.keytype)
-          (rest (h.0, sym (ap (λ c. cond c (Some e.1) (find (slice_cmp nat_cmp) id.0 es)) u)
-          ∙ h.1, h.2, h.3))
+          (rest (
+            h.0,
+            sym (ap (λ c. cond c (Some e.1) (find (slice_cmp nat_cmp) id.0 es)) u)
+                ∙ h.1,
+            h.2,
+            h.3,
+          ))
       by rest true u =
           let one : e.1 ≡ h.0 = same_Some _ _
-              (sym (ap (λ c. cond c (Some e.1) (find (slice_cmp nat_cmp) id.0 es)) u) ∙ h.1) in
+          (sym (ap (λ c. cond c (Some e.1) (find (slice_cmp nat_cmp) id.0 es)) u) ∙ h.1) in
           let key : id.0 ≡ e.0 = same_key id.0 e.0 u in
           let passes : p e.1.keytype ≡ true = ap (λ k. p k.keytype) one ∙ h.2 in
           let same : (e.0, added e.0) ≡ id = λ i. (sym key i, (ap added (sym key) ∙ h.3) i) in
           subst (λ b. Contains (map (λ (e : List ℕ × KeyParts). (e.0, added e.0))
-              (cond b (e ∷ filter (λ (e : List ℕ × KeyParts). p e.1.keytype) es)
-              (filter (λ (e : List ℕ × KeyParts). p e.1.keytype) es))) id) (sym passes)
+          (cond b (e ∷ filter (λ (e : List ℕ × KeyParts). p e.1.keytype) es)
+          (filter (λ (e : List ℕ × KeyParts). p e.1.keytype) es))) id) (sym passes)
           (0, omega arith, same)
 
 -- a list that is keys_where has exactly the keys that are found and pass
@@ -98,7 +113,7 @@ shown-found p w id = (to_found, from_found)
     to_found c =
         let h = from_list p w.added (entries w.set.keys) (entries_sorted w.set.keys) id c in
         ap (λ b. if_some p (if b then get w.set.keys id.0 else None))
-            (eq-eqb (w.added id.0) id.1 h.3)
+        (eq-eqb (w.added id.0) id.1 h.3)
         ∙ ap (if_some p) (get-entries w.set.keys id.0 ∙ h.1) ∙ h.2
 
     from_found : if_some p (found (seen w) id) ≡ true → Contains (keys_where p w) id
@@ -106,7 +121,7 @@ shown-found p w id = (to_found, from_found)
       where
         by : (b : Bool) → (w.added id.0 == id.1) ≡ b
             → if_some p (if b then get w.set.keys id.0 else None) ≡ true
-                → Contains (keys_where p w) id
+            → Contains (keys_where p w) id
         by false t f = absurd (true≢false (sym f))
         by true t f = at_key (get w.set.keys id.0) refl f
           where

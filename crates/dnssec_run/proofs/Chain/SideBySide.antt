@@ -59,7 +59,7 @@ module _ (tale : Tale) (n : ℕ) (here : suc n ≤ length tale.es) where
       (can : CanStart r (world_at tale n) old new)
       (mark : (position_at tale.es (suc n)).mark ≡ Step r)
       (olds : (q : List ℕ) → is_listed q (listed_at tale r (suc n)).olds
-          ≡ (is_listed q old && is_kept_at (real tale n).set.keys q))
+      ≡ (is_listed q old && is_kept_at (real tale n).set.keys q))
       (news : (q : List ℕ) → is_listed q (listed_at tale r (suc n)).news ≡ is_listed q new)
       (lists : (sd : SideOf) → affects sd r ≡ false → KeepsLists tale sd n) where
     quiet_now : (sd : SideOf) (st : Stage) → affects sd r ≡ true → At tale sd st n
@@ -83,14 +83,27 @@ module _ (tale : Tale) (n : ℕ) (here : suc n ≤ length tale.es) where
       where
         by : (b : Bool) → affects sd r ≡ b → (moved : Moved tale sd r st (Early r) n)
             × (Alive tale sd n → Alive tale sd (suc n))
-        by true own = let q = quiet_now sd st own h in
-            ((Early r, at-start tale n here sd r own now old new m can mark olds news tied life q,
-                λ e. refl, λ e. absurd (true≢false (sym own ∙ e))), alive-start tale n here sd r own
-                now old new m can mark olds news tied q)
+        by true own = let q = quiet_now sd st own h in (
+          (
+            Early r,
+            at-start tale n here sd r own now old new m can mark olds news tied life q,
+            λ e. refl,
+            λ e. absurd (true≢false (sym own ∙ e)),
+          ),
+          alive-start tale n here sd r own
+              now old new m can mark olds news tied q,
+        )
         by false out = let g = gentle-start tale n sd st h.rolls h.flags dead (lists sd out) r now
-            old new out m (may_at r (world_at tale n) old new can) mark in
-            ((st, at-gentle tale n here sd st g h, λ e. absurd (true≢false (sym e ∙ out)), λ e.
-                refl), alive-gentle tale n here sd st g)
+            old new out m (may_at r (world_at tale n) old new can) mark in (
+              (
+                st,
+                at-gentle tale n here sd st g h,
+                λ e. absurd (true≢false (sym e ∙ out)),
+                λ e.
+                    refl,
+              ),
+              alive-gentle tale n here sd st g,
+            )
 
     start_pairs : Pairs tale n → Pairs tale (suc n)
     start_pairs h a b x y ax by d = at_a (same_roll r a) refl
@@ -111,7 +124,7 @@ module _ (tale : Tale) (n : ℕ) (here : suc n ≤ length tale.es) where
         at_a : (t : Bool) → same_roll r a ≡ t → tolerates a b ≡ true
         at_a true t = let eq = same-is r a t in
             subst (λ a. tolerates a b ≡ true) eq
-                (alone b y (was b y (ap (λ a. same_roll a b) eq ∙ d) by))
+            (alone b y (was b y (ap (λ a. same_roll a b) eq ∙ d) by))
         at_a false t = at_b (same_roll r b) refl
           where
             at_b : (u : Bool) → same_roll r b ≡ u → tolerates a b ≡ true
@@ -123,7 +136,7 @@ module _ (tale : Tale) (n : ℕ) (here : suc n ≤ length tale.es) where
     start_phases h = phases-on tale n here r Propagation1 m.rolls
         (reads-start tale n r now old new m can (timer_flags (timer r) (timer-affects r)))
         (λ q x e d. aside-start tale n r now old new q m can (alone q x e)
-            (step_other tale n here r q d mark)) h.phases
+        (step_other tale n here r q d mark)) h.phases
       where
         timer_flags : (sd : SideOf) → affects sd r ≡ true → (id : Id)
             → all_ok (fits sd Quiet) (found (world_at tale n) id) ≡ true
@@ -144,8 +157,8 @@ module _ (tale : Tale) (n : ℕ) (here : suc n ≤ length tale.es) where
         → h.ks ≡ Quiet → Inv tale (suc n)
     start_unborn free none d h quiet =
         let d' : NoDs tale.es (suc n) =
-            ds_less tale n here (start_key r now old new) r (Some Propagation1) m
-            (λ q k. still_ds r free (is_listed q old) (is_listed q new) k.keytype) d in
+        ds_less tale n here (start_key r now old new) r (Some Propagation1) m
+        (λ q k. still_ds r free (is_listed q old) (is_listed q new) k.keytype) d in
         let a = start_side (ties h) Keys h.ks h.keys (λ _. d') (inl d') in
         let b = start_side (ties h) Zone h.zs h.zone (λ _. d') (inl d') in
         record {
@@ -160,8 +173,11 @@ module _ (tale : Tale) (n : ℕ) (here : suc n ≤ length tale.es) where
             (
               none,
               elim (first_or r free) [
-                | inl first ↦ inr (a.0.2 (ap (affects Keys) first)
-                    ∙ ap Early first, b.0.2 (ap (affects Zone) first) ∙ ap Early first)
+                | inl first ↦ inr (
+                  a.0.2 (ap (affects Keys) first)
+                      ∙ ap Early first,
+                  b.0.2 (ap (affects Zone) first) ∙ ap Early first,
+                )
                 | inr out ↦ inl (a.0.3 out ∙ quiet)
               ],
             ),
@@ -173,11 +189,18 @@ module _ (tale : Tale) (n : ℕ) (here : suc n ≤ length tale.es) where
     start starts none h = elim (h.life) [
       | inl a ↦
           let dead = λ (d : NoDs tale.es n). absurd {A = NoDs tale.es (suc n)}
-              (born tale n here a.0 d) in
+          (born tale n here a.0 d) in
           let x = start_side (ties h) Keys h.ks h.keys dead (inr a.0) in
           let y = start_side (ties h) Zone h.zs h.zone dead (inr a.1) in
-          record { ks = x.0.0; zs = y.0.0; keys = x.0.1; zone = y.0.1; pairs = start_pairs h.pairs;
-              phases = start_phases h; life = inl (x.1 a.0, y.1 a.1) }
+          record {
+            ks = x.0.0;
+            zs = y.0.0;
+            keys = x.0.1;
+            zone = y.0.1;
+            pairs = start_pairs h.pairs;
+            phases = start_phases h;
+            life = inl (x.1 a.0, y.1 a.1);
+          }
       | inr d ↦ elim (d.1.1) [
         | inl u ↦ by_first (needs_algorithm_roll r) refl u d.1.0 d.0
         | inr u ↦ absurd (true≢false (sym
@@ -200,8 +223,8 @@ module _ (tale : Tale) (n : ℕ) (here : suc n ≤ length tale.es) where
       (m : Mapped tale n (λ q. wait1_key r now) r (Some Propagation2))
       (phase : (world_at tale n).roll r ≡ Some (CacheExpire1 ttl))
       (over : IsOver r false (world_at tale n) ttl now)
-          (mark : (position_at tale.es (suc n)).mark ≡ Step r)
-          (moment : (position_at tale.es (suc n)).moment ≡ Some now)
+      (mark : (position_at tale.es (suc n)).mark ≡ Step r)
+      (moment : (position_at tale.es (suc n)).moment ≡ Some now)
       (lists : (sd : SideOf) → KeepsLists tale sd n) where
     early_stage : (sd : SideOf) (st : Stage) → affects sd r ≡ true → At tale sd st n → st ≡ Early r
     early_stage sd st own h = stage_early st r (CacheExpire1 ttl) (same-same r)
@@ -211,7 +234,7 @@ module _ (tale : Tale) (n : ℕ) (here : suc n ≤ length tale.es) where
         → (affects sd r ≡ false → NoDs tale.es n → NoDs tale.es (suc n))
         → (affects sd r ≡ true → switches sd r ≡ true → LifeAt tale sd r n)
         → (moved : Moved tale sd r st (Late r) n) × (affects sd r ≡ true → Alive tale sd (suc n))
-            × (affects sd r ≡ false → Alive tale sd n → Alive tale sd (suc n))
+        × (affects sd r ≡ false → Alive tale sd n → Alive tale sd (suc n))
     wait1_side sd st phases h dead life = by (affects sd r) refl
       where
         by : (b : Bool) → affects sd r ≡ b → (moved : Moved tale sd r st (Late r) n)
@@ -221,18 +244,31 @@ module _ (tale : Tale) (n : ℕ) (here : suc n ≤ length tale.es) where
             let e = subst (λ s. At tale sd s n) (early_stage sd st own h) h in
             let p = phases r (CacheExpire1 ttl) phase in
             let g = gone tale n r false ttl now (timed_first r) p.0 p.1 over moment in (
-              (Late r, at-wait1 tale n here sd r own now m mark g (first-retires sd r own)
-                  (second-retires sd r own) (life own) e, λ e. refl, λ f. absurd
-                  (true≢false (sym own ∙ f))),
+              (
+                Late r,
+                at-wait1 tale n here sd r own now m mark g (first-retires sd r own)
+                    (second-retires sd r own) (life own) e,
+                λ e. refl,
+                λ f. absurd
+                    (true≢false (sym own ∙ f)),
+              ),
               λ f. alive-wait1 tale n here sd r own now m mark g (first-retires sd r own)
                   (second-retires sd r own) e,
               λ f. absurd (true≢false (sym own ∙ f)),
             )
         by false out = let g = gentle-wait1 tale n sd st h.rolls h.flags (dead out) (lists sd) r now
-            out m mark in
-            ((st, at-gentle tale n here sd st g h, λ e. absurd (true≢false (sym e ∙ out)), λ e.
-                refl), λ e. absurd (true≢false (sym e ∙ out)), λ e. alive-gentle tale n here sd st
-                g)
+            out m mark in (
+              (
+                st,
+                at-gentle tale n here sd st g h,
+                λ e. absurd (true≢false (sym e ∙ out)),
+                λ e.
+                    refl,
+              ),
+              λ e. absurd (true≢false (sym e ∙ out)),
+              λ e. alive-gentle tale n here sd st
+                  g,
+            )
 
     alive_next : (sd : SideOf) → (affects sd r ≡ true → Alive tale sd (suc n))
         → (affects sd r ≡ false → Alive tale sd n → Alive tale sd (suc n)) → Alive tale sd n
@@ -246,9 +282,9 @@ module _ (tale : Tale) (n : ℕ) (here : suc n ≤ length tale.es) where
     wait1_phases : Inv tale n → Phases tale (suc n)
     wait1_phases h = phases-on tale n here r Propagation2 m.rolls
         (reads-wait1 tale n r now m (timer_flags (timer r) (timer-affects r))
-            (h.phases r (CacheExpire1 ttl) phase).0)
+        (h.phases r (CacheExpire1 ttl) phase).0)
         (λ q x e d. aside-wait1 tale n now r q m (h.pairs r q (CacheExpire1 ttl) x phase e d)
-            (step_other tale n here r q d mark)) h.phases
+        (step_other tale n here r q d mark)) h.phases
       where
         timer_flags : (sd : SideOf) → affects sd r ≡ true → (id : Id)
             → all_ok (fits sd (Early r)) (found (world_at tale n) id) ≡ true
@@ -264,41 +300,65 @@ module _ (tale : Tale) (n : ℕ) (here : suc n ≤ length tale.es) where
     wait1_first : r ≡ AlgorithmRoll → NoDs tale.es n → Inv tale n → Inv tale (suc n)
     wait1_first first d h =
         let x = wait1_side Keys h.ks h.phases h.keys
-            (λ out. absurd (true≢false (sym (ap (affects Keys) first) ∙ out)))
-            (λ own w. inr (inl (subst (λ r. (id : Id) (q : ℕ) → q ≤ n
-            → Serving Keys tale.es (second_kind Keys r) q id) (sym first)
-            (λ id q le. inl (d q le))))) in
+        (λ out. absurd (true≢false (sym (ap (affects Keys) first) ∙ out)))
+        (λ own w. inr (inl (subst (λ r. (id : Id) (q : ℕ) → q ≤ n
+        → Serving Keys tale.es (second_kind Keys r) q id) (sym first)
+        (λ id q le. inl (d q le))))) in
         let y = wait1_side Zone h.zs h.phases h.zone
-            (λ out. absurd (true≢false (sym (ap (affects Zone) first) ∙ out)))
-            (λ own w. absurd (true≢false (sym w ∙ ap (switches Zone) first))) in
-        record { ks = x.0.0; zs = y.0.0; keys = x.0.1; zone = y.0.1; pairs = wait1_pairs h.pairs;
-            phases = wait1_phases h; life =
-            inl (x.1 (ap (affects Keys) first), y.1 (ap (affects Zone) first)) }
+        (λ out. absurd (true≢false (sym (ap (affects Zone) first) ∙ out)))
+        (λ own w. absurd (true≢false (sym w ∙ ap (switches Zone) first))) in
+        record {
+          ks = x.0.0;
+          zs = y.0.0;
+          keys = x.0.1;
+          zone = y.0.1;
+          pairs = wait1_pairs h.pairs;
+          phases = wait1_phases h;
+          life =
+              inl (x.1 (ap (affects Keys) first), y.1 (ap (affects Zone) first));
+        }
 
     -- a zone roll before any DS
     wait1_unborn : affects Keys r ≡ false → NoDs tale.es n → (h : Inv tale n) → h.ks ≡ Quiet
         → Unpassed tale (suc n) → Inv tale (suc n)
     wait1_unborn out d h quiet none =
         let d' : NoDs tale.es (suc n) =
-            ds_less tale n here (λ q. wait1_key r now) r (Some Propagation2) m
-            (λ q k. waited1_ds r out k.keytype) d in
+        ds_less tale n here (λ q. wait1_key r now) r (Some Propagation2) m
+        (λ q k. waited1_ds r out k.keytype) d in
         let x = wait1_side Keys h.ks h.phases h.keys (λ _ _. d') (λ own w. inr (inr d')) in
         let y = wait1_side Zone h.zs h.phases h.zone (λ _ _. d') (λ own w. inr (inr d')) in
-        record { ks = x.0.0; zs = y.0.0; keys = x.0.1; zone = y.0.1; pairs = wait1_pairs h.pairs;
-            phases = wait1_phases h; life = inr (d', (none, inl (x.0.3 out ∙ quiet))) }
+        record {
+          ks = x.0.0;
+          zs = y.0.0;
+          keys = x.0.1;
+          zone = y.0.1;
+          pairs = wait1_pairs h.pairs;
+          phases = wait1_phases h;
+          life = inr (d', (none, inl (x.0.3 out ∙ quiet)));
+        }
 
     pub wait1 : (PassesAt tale n → r ≡ AlgorithmRoll) → Inv tale n → Inv tale (suc n)
     wait1 only h = elim (h.life) [
       | inl a ↦
           let dead = λ (d : NoDs tale.es n). absurd {A = NoDs tale.es (suc n)}
-              (born tale n here a.0 d) in
+          (born tale n here a.0 d) in
           let x = wait1_side Keys h.ks h.phases h.keys (λ _. dead) (λ own w. inl a.0) in
           let y = wait1_side Zone h.zs h.phases h.zone (λ _. dead) (λ own w. inl a.1) in
-          record { ks = x.0.0; zs = y.0.0; keys = x.0.1; zone = y.0.1; pairs = wait1_pairs h.pairs;
-              phases = wait1_phases h; life =
-              inl (alive_next Keys x.1 x.2 a.0, alive_next Zone y.1 y.2 a.1) }
-      | inr d ↦ elim (d.1.1) [ inl u ↦ unborn (affects Keys r) refl d.0 d.1.0 u | inr u ↦
-          first (affects Keys r) refl d.0 u ]
+          record {
+            ks = x.0.0;
+            zs = y.0.0;
+            keys = x.0.1;
+            zone = y.0.1;
+            pairs = wait1_pairs h.pairs;
+            phases = wait1_phases h;
+            life =
+                inl (alive_next Keys x.1 x.2 a.0, alive_next Zone y.1 y.2 a.1);
+          }
+      | inr d ↦ elim (d.1.1) [
+        | inl u ↦ unborn (affects Keys r) refl d.0 d.1.0 u
+        | inr u ↦
+            first (affects Keys r) refl d.0 u
+      ]
     ]
       where
         unborn : (b : Bool) → affects Keys r ≡ b → NoDs tale.es n → Unpassed tale n → h.ks ≡ Quiet
@@ -307,7 +367,7 @@ module _ (tale : Tale) (n : ℕ) (here : suc n ≤ length tale.es) where
             absurd (quiet-early r (sym quiet ∙ early_stage Keys h.ks own h.keys))
         unborn false out d none quiet = wait1_unborn out d h quiet
             (unpassed-next tale n here (λ s. true≢false (sym (ap (affects Keys) (only s)) ∙ out))
-                none)
+            none)
 
         first : (b : Bool) → affects Keys r ≡ b → NoDs tale.es n → (h.ks ≡ Early AlgorithmRoll)
             × (h.zs ≡ Early AlgorithmRoll) → Inv tale (suc n)
@@ -321,8 +381,8 @@ module _ (tale : Tale) (n : ℕ) (here : suc n ≤ length tale.es) where
   module _ (r : RollType) (ttl now : ℕ) (m : Mapped tale n (λ q. wait2_key r now) r (Some Done))
       (phase : (world_at tale n).roll r ≡ Some (CacheExpire2 ttl))
       (over : IsOver r true (world_at tale n) ttl now)
-          (mark : (position_at tale.es (suc n)).mark ≡ Other)
-          (moment : (position_at tale.es (suc n)).moment ≡ Some now)
+      (mark : (position_at tale.es (suc n)).mark ≡ Other)
+      (moment : (position_at tale.es (suc n)).moment ≡ Some now)
       (lists : (sd : SideOf) → KeepsLists tale sd n) where
     late_stage : (sd : SideOf) (st : Stage) → affects sd r ≡ true → At tale sd st n → st ≡ Late r
     late_stage sd st own h = stage_late st r (CacheExpire2 ttl) (same-same r)
@@ -339,19 +399,32 @@ module _ (tale : Tale) (n : ℕ) (here : suc n ≤ length tale.es) where
             let e = subst (λ s. At tale sd s n) (late_stage sd st own h) h in
             let p = phases r (CacheExpire2 ttl) phase in
             let g = λ (kind : SetKind) (w : switches sd r ≡ true). gone tale n r true ttl now
-                (switch_timed sd r own w) p.0 p.1 over moment kind in
-            ((Quiet, at-wait2 tale n here sd r own now m g (second-retires sd r own) e, λ e. refl,
-                λ f. absurd (true≢false (sym own ∙ f))), λ a. alive-wait2 tale n here sd r own now m
-                g (second-retires sd r own) e)
+            (switch_timed sd r own w) p.0 p.1 over moment kind in (
+              (
+                Quiet,
+                at-wait2 tale n here sd r own now m g (second-retires sd r own) e,
+                λ e. refl,
+                λ f. absurd (true≢false (sym own ∙ f)),
+              ),
+              λ a. alive-wait2 tale n here sd r own now m
+                  g (second-retires sd r own) e,
+            )
         by false out = let g = gentle-wait2 tale n sd st h.rolls h.flags dead (lists sd) r now out m
-            mark in
-            ((st, at-gentle tale n here sd st g h, λ e. absurd (true≢false (sym e ∙ out)), λ e.
-                refl), alive-gentle tale n here sd st g)
+            mark in (
+              (
+                st,
+                at-gentle tale n here sd st g h,
+                λ e. absurd (true≢false (sym e ∙ out)),
+                λ e.
+                    refl,
+              ),
+              alive-gentle tale n here sd st g,
+            )
 
     wait2_phases : Inv tale n → Phases tale (suc n)
     wait2_phases h = phases-on tale n here r Done m.rolls tt
         (λ q x e d. aside-wait2 tale n now r q m (h.pairs r q (CacheExpire2 ttl) x phase e d)
-            (ap (is_step q) mark)) h.phases
+        (ap (is_step q) mark)) h.phases
 
     wait2_pairs : Pairs tale n → Pairs tale (suc n)
     wait2_pairs = pairs-on tale n here r (CacheExpire2 ttl) Done phase m.rolls
@@ -360,24 +433,41 @@ module _ (tale : Tale) (n : ℕ) (here : suc n ≤ length tale.es) where
         → Unpassed tale (suc n) → Inv tale (suc n)
     wait2_unborn out d h quiet none =
         let d' : NoDs tale.es (suc n) =
-            ds_less tale n here (λ q. wait2_key r now) r (Some Done) m
-            (λ q k. waited2_ds r out k.keytype) d in
+        ds_less tale n here (λ q. wait2_key r now) r (Some Done) m
+        (λ q k. waited2_ds r out k.keytype) d in
         let x = wait2_side Keys h.ks h.phases h.keys (λ _. d') in
         let y = wait2_side Zone h.zs h.phases h.zone (λ _. d') in
-        record { ks = x.0.0; zs = y.0.0; keys = x.0.1; zone = y.0.1; pairs = wait2_pairs h.pairs;
-            phases = wait2_phases h; life = inr (d', (none, inl (x.0.3 out ∙ quiet))) }
+        record {
+          ks = x.0.0;
+          zs = y.0.0;
+          keys = x.0.1;
+          zone = y.0.1;
+          pairs = wait2_pairs h.pairs;
+          phases = wait2_phases h;
+          life = inr (d', (none, inl (x.0.3 out ∙ quiet)));
+        }
 
     pub wait2 : (PassesAt tale n → ⊥) → Inv tale n → Inv tale (suc n)
     wait2 none h = elim (h.life) [
       | inl a ↦
           let dead = λ (d : NoDs tale.es n). absurd {A = NoDs tale.es (suc n)}
-              (born tale n here a.0 d) in
+          (born tale n here a.0 d) in
           let x = wait2_side Keys h.ks h.phases h.keys dead in
           let y = wait2_side Zone h.zs h.phases h.zone dead in
-          record { ks = x.0.0; zs = y.0.0; keys = x.0.1; zone = y.0.1; pairs = wait2_pairs h.pairs;
-              phases = wait2_phases h; life = inl (x.1 a.0, y.1 a.1) }
-      | inr d ↦ elim (d.1.1) [ inl u ↦ unborn (affects Keys r) refl d.0 d.1.0 u | inr u ↦
-          absurd (first (affects Keys r) refl u) ]
+          record {
+            ks = x.0.0;
+            zs = y.0.0;
+            keys = x.0.1;
+            zone = y.0.1;
+            pairs = wait2_pairs h.pairs;
+            phases = wait2_phases h;
+            life = inl (x.1 a.0, y.1 a.1);
+          }
+      | inr d ↦ elim (d.1.1) [
+        | inl u ↦ unborn (affects Keys r) refl d.0 d.1.0 u
+        | inr u ↦
+            absurd (first (affects Keys r) refl u)
+      ]
     ]
       where
         unborn : (b : Bool) → affects Keys r ≡ b → NoDs tale.es n → Unpassed tale n → h.ks ≡ Quiet
@@ -405,21 +495,33 @@ module _ (tale : Tale) (n : ℕ) (here : suc n ≤ length tale.es) where
     end_side : (sd : SideOf) (st : Stage) → At tale sd st n
         → (NoDs tale.es n → NoDs tale.es (suc n))
         → (moved : Moved tale sd r st Quiet n)
-            × ((NoDs tale.es n → ⊥) → Alive tale sd n → Alive tale sd (suc n))
+        × ((NoDs tale.es n → ⊥) → Alive tale sd n → Alive tale sd (suc n))
     end_side sd st h dead = by (affects sd r) refl
       where
         by : (b : Bool) → affects sd r ≡ b → (moved : Moved tale sd r st Quiet n)
             × ((NoDs tale.es n → ⊥) → Alive tale sd n → Alive tale sd (suc n))
         by true own =
             let e = subst (λ s. At tale sd s n) (spread_stage sd st own h) h in (
-              (Quiet, at-early-end tale n here sd r own m (e.back phase) e, λ f. refl, λ f. absurd
-                  (true≢false (sym own ∙ f))),
+              (
+                Quiet,
+                at-early-end tale n here sd r own m (e.back phase) e,
+                λ f. refl,
+                λ f. absurd
+                    (true≢false (sym own ∙ f)),
+              ),
               λ born a. alive-early-end tale n here sd r own m (e.back phase) born,
             )
         by false out = let g = gentle-early-end tale n sd st h.rolls h.flags dead (lists sd) r out m
-            mark in
-            ((st, at-gentle tale n here sd st g h, λ e. absurd (true≢false (sym e ∙ out)), λ e.
-                refl), λ born. alive-gentle tale n here sd st g)
+            mark in (
+              (
+                st,
+                at-gentle tale n here sd st g h,
+                λ e. absurd (true≢false (sym e ∙ out)),
+                λ e.
+                    refl,
+              ),
+              λ born. alive-gentle tale n here sd st g,
+            )
 
     end_dead : NoDs tale.es n → NoDs tale.es (suc n)
     end_dead = no_ds-next tale n here (λ id e. by id (found (world_at tale n) id) refl e)
@@ -448,24 +550,30 @@ module _ (tale : Tale) (n : ℕ) (here : suc n ≤ length tale.es) where
               (was-rolling tale n here r m.rolls b t bt).1 d;
           phases = λ q s e. let was = was-rolling tale n here r m.rolls q s e in
               phase-aside tale n q s (aside-early-end tale n r q m
-                  (h.pairs r q Propagation1 s phase was.1 was.0) (ap (is_step q) mark))
-                  (h.phases q s was.1);
+              (h.pairs r q Propagation1 s phase was.1 was.0) (ap (is_step q) mark))
+              (h.phases q s was.1);
           life = elim (h.life) [
             | inl a ↦ let born = born tale n here a.0 in inl (x.1 born a.0, y.1 born a.1)
-            | inr d ↦ inr (end_dead d.0, (unpassed-next tale n here none d.1.0, inl
-                (rests (affects Keys r) refl x.0.2 x.0.3 d.1.1)))
+            | inr d ↦ inr (
+              end_dead d.0,
+              (
+                unpassed-next tale n here none d.1.0,
+                inl
+                    (rests (affects Keys r) refl x.0.2 x.0.3 d.1.1),
+              ),
+            )
           ];
         }
       where
         rests : {st : Stage} (b : Bool) → affects Keys r ≡ b → (affects Keys r ≡ true → st ≡ Quiet)
             → (affects Keys r ≡ false → st ≡ h.ks)
             → (h.ks ≡ Quiet) ⊎ ((h.ks ≡ Early AlgorithmRoll) × (h.zs ≡ Early AlgorithmRoll)) → st
-                ≡ Quiet
+            ≡ Quiet
         rests true own quiet stays u = quiet own
         rests false out quiet stays (inl u) = stays out ∙ u
         rests false out quiet stays (inr u) =
             let e = early-same AlgorithmRoll r
-                (sym u.1 ∙ spread_stage Zone h.zs (some_side r out) h.zone) in
+            (sym u.1 ∙ spread_stage Zone h.zs (some_side r out) h.zone) in
             absurd (true≢false (ap (affects Keys) e ∙ out))
 
 pub safe_of : (tale : Tale) (n : ℕ) → n ≤ length tale.es → Inv tale n → IsSafe tale.es n
@@ -474,8 +582,11 @@ safe_of tale n le h p q z up uq uz = elim (h.life) [
       let none = alive_not_dead a.0 in
       let k = at-common tale n Keys h.ks none a.0 h.keys p q up.0 up.1 uq.0 uq.1 in
       let w = at-common tale n Zone h.zs none a.1 h.zone q z uq.0 uq.1 uz.0 uz.1 in
-      elim (k.1) [ inl empty ↦ inl empty | inr there ↦
-          inr ((k.0, there, k.2.0, k.2.1), (w.0, w.1, w.2)) ]
+      elim (k.1) [
+        | inl empty ↦ inl empty
+        | inr there ↦
+            inr ((k.0, there, k.2.0, k.2.1), (w.0, w.1, w.2))
+      ]
   | inr d ↦ inl (d.0 p up.0)
 ]
   where

@@ -51,7 +51,7 @@ module _ (tale : Tale) (n : ℕ) (here : suc n ≤ length tale.es) (sd : SideOf)
       (can : CanStart r (world_at tale n) old new)
       (mark : (position_at tale.es (suc n)).mark ≡ Step r)
       (olds : (q : List ℕ) → is_listed q (listed_at tale r (suc n)).olds
-          ≡ (is_listed q old && is_kept_at (real tale n).set.keys q))
+      ≡ (is_listed q old && is_kept_at (real tale n).set.keys q))
       (news : (q : List ℕ) → is_listed q (listed_at tale r (suc n)).news ≡ is_listed q new)
       (ties : (id : Id) → all_ok is_tied (found (world_at tale n) id) ≡ true) where
     may : (id : Id) → all_ok (may_start r (is_listed id.0 old) (is_listed id.0 new))
@@ -62,24 +62,24 @@ module _ (tale : Tale) (n : ℕ) (here : suc n ≤ length tale.es) (sd : SideOf)
         → At tale sd Quiet n → EarlyOf tale sd r (suc n) (suc n) w
     started_sets true sw life h =
         let second : (id : Id) → if_some (second_test sd r) (found (world_at tale (suc n)) id)
-            ≡ true
+        ≡ true
         → (if_some (second_test sd r) (found (world_at tale n) id) ≡ true)
-            × (if_some (first_test sd r) (found (world_at tale (suc n)) id) ≡ true) =
+        × (if_some (first_test sd r) (found (world_at tale (suc n)) id) ≡ true) =
         λ id e. let x = start-second sd r own now old new id.0 (found (world_at tale n) id) (may id)
-            (h.flags id) sw (sym (ap (if_some (second_test sd r)) (m.founds id)) ∙ e) in
+        (h.flags id) sw (sym (ap (if_some (second_test sd r)) (m.founds id)) ∙ e) in
         (x.0, ap (if_some (first_test sd r)) (m.founds id) ∙ x.1) in
         rest-starts (side tale sd r) n here
         (λ id e. start-inner sd r own now old new id.0 (found (world_at tale n) id) (may id)
-            (h.flags id) (second id e).0)
+        (h.flags id) (second id e).0)
         (λ id e. (second id e).0) (λ id e. (second id e).1) (rest_side tale n sd r h.holds)
     started_sets false sw life h = rest-broadens (side tale sd r) n here
         (elim life [
           | inl d ↦ inl d
           | inr a ↦
               let used : if_some (in_use sd) (found (world_at tale (suc n)) a.0) ≡ true =
-                  ap (if_some (in_use sd)) (m.founds a.0)
-                  ∙ start-used sd r own now old new a.0.0 (found (world_at tale n) a.0) (may a.0)
-                  (h.flags a.0) a.1 in
+              ap (if_some (in_use sd)) (m.founds a.0)
+              ∙ start-used sd r own now old new a.0.0 (found (world_at tale n) a.0) (may a.0)
+              (h.flags a.0) a.1 in
               inr (
                 a.0,
                 used_first sd r (found (world_at tale n) a.0) a.1,
@@ -93,14 +93,14 @@ module _ (tale : Tale) (n : ℕ) (here : suc n ≤ length tale.es) (sd : SideOf)
     -- what an early end would make of a key now
     back_key : (p : KeyType → Bool) (id : Id) (k : Key) → found (world_at tale n) id ≡ Some k
         → p (kind_back tale r (suc n) id.0
-            (started r (is_listed id.0 old) (is_listed id.0 new) k.keytype))
-            ≡ p (there_and_back r (is_listed id.0 old) (is_listed id.0 new) k.keytype)
+        (started r (is_listed id.0 old) (is_listed id.0 new) k.keytype))
+        ≡ p (there_and_back r (is_listed id.0 old) (is_listed id.0 new) k.keytype)
     back_key p id k e =
         let key : (world_at tale n).key id.0 ≡ Some k = (found_key (world_at tale n) id k e).0 in
         let was = olds id.0 ∙ ap (λ o. is_listed id.0 old
-            && option_map_or (λ (k : Key). all_states is_kept k.keytype) o false) key in
+        && option_map_or (λ (k : Key). all_states is_kept k.keytype) o false) key in
         λ j. p (ended r (was j) (news id.0 j)
-            (started r (is_listed id.0 old) (is_listed id.0 new) k.keytype))
+        (started r (is_listed id.0 old) (is_listed id.0 new) k.keytype))
 
     may_be : (id : Id) (k : Key) → found (world_at tale n) id ≡ Some k
         → may_start r (is_listed id.0 old) (is_listed id.0 new) k.keytype ≡ true
@@ -109,9 +109,9 @@ module _ (tale : Tale) (n : ℕ) (here : suc n ≤ length tale.es) (sd : SideOf)
 
     back_facts : At tale sd Quiet n → (id : Id) (k : Key) → found (world_at tale n) id ≡ Some k
         → (fits sd Quiet (there_and_back r (is_listed id.0 old) (is_listed id.0 new) k.keytype)
-            ≡ true) × (in_use sd k.keytype ≡ true
-            → in_use sd (there_and_back r (is_listed id.0 old) (is_listed id.0 new) k.keytype)
-            ≡ true)
+        ≡ true) × (in_use sd k.keytype ≡ true
+        → in_use sd (there_and_back r (is_listed id.0 old) (is_listed id.0 new) k.keytype)
+        ≡ true)
     back_facts h id k e = back-fits sd r (is_listed id.0 old) (is_listed id.0 new) k.keytype own
         (may_be id k e)
         (sym (ap (all_ok (fits sd Quiet)) e) ∙ h.flags id) (sym (ap (all_ok is_tied) e) ∙ ties id)
@@ -129,8 +129,8 @@ module _ (tale : Tale) (n : ℕ) (here : suc n ≤ length tale.es) (sd : SideOf)
         by (Some k) f = back-set sd kind r (is_listed id.0 old) (is_listed id.0 new) k.keytype
             (may_be id k f)
             (sym (ap (if_some (λ k. test_of sd kind (kind_back tale r (suc n) id.0 k)))
-                (m.founds id ∙ ap (option_map (start_key r now old new id.0)) f)
-                ∙ back_key (test_of sd kind) id k f) ∙ e)
+            (m.founds id ∙ ap (option_map (start_key r now old new id.0)) f)
+            ∙ back_key (test_of sd kind) id k f) ∙ e)
 
     leads-start : (NoDs tale.es (suc n) ⊎ Alive tale sd n) → At tale sd Quiet n
         → LeadsBack tale sd r (suc n)
@@ -140,10 +140,10 @@ module _ (tale : Tale) (n : ℕ) (here : suc n ≤ length tale.es) (sd : SideOf)
           → if_some (λ k. test_of sd kind (kind_back tale r (suc n) id.0 k))
           (found (world_at tale (suc n)) id) ≡ true → Serving sd tale.es kind q id) n
           (λ q le un id e. h.holds kind q le (λ x. un (retired_stays tale.es kind q n x)) id
-              (back_set kind id e))
+          (back_set kind id e))
           (λ _ id e. shows tale sd kind (suc n) here id
-              (some_weaker (λ k. test_of sd kind (kind_back tale r (suc n) id.0 k))
-              (test_of sd kind) (ended-less sd kind r _ _) (found (world_at tale (suc n)) id) e));
+          (some_weaker (λ k. test_of sd kind (kind_back tale r (suc n) id.0 k))
+          (test_of sd kind) (ended-less sd kind r _ _) (found (world_at tale (suc n)) id) e));
       used = elim life [
         | inl d ↦ inl d
         | inr a ↦
@@ -172,14 +172,14 @@ module _ (tale : Tale) (n : ℕ) (here : suc n ≤ length tale.es) (sd : SideOf)
         let s = can.suitable sd own in
         let id : Id = (s.0, (world_at tale n).added s.0) in
         let at_key : found (world_at tale n) id ≡ Some s.1 = found_now (world_at tale n) s.0 ∙ s.2
-            in
+        in
         let may_key : may_start r (is_listed s.0 old) (is_listed s.0 new) s.1.keytype ≡ true =
-            subst (λ o. all_ok (may_start r (is_listed s.0 old) (is_listed s.0 new)) o ≡ true)
-            at_key (may id) in
+        subst (λ o. all_ok (may_start r (is_listed s.0 old) (is_listed s.0 new)) o ≡ true)
+        at_key (may id) in
         let fit_key : fits sd Quiet s.1.keytype ≡ true =
-            subst (λ o. all_ok (fits sd Quiet) o ≡ true) at_key (h.flags id) in
+        subst (λ o. all_ok (fits sd Quiet) o ≡ true) at_key (h.flags id) in
         let new_key : found (world_at tale (suc n)) id ≡ Some (start_key r now old new s.0 s.1) =
-            m.founds id ∙ ap (option_map (start_key r now old new s.0)) at_key in
+        m.founds id ∙ ap (option_map (start_key r now old new s.0)) at_key in
         record {
           own = own;
           rolls = λ q e. ap (stage_fits (Early r) q) (m.rolls q)
@@ -188,41 +188,56 @@ module _ (tale : Tale) (n : ℕ) (here : suc n ≤ length tale.es) (sd : SideOf)
           flags = λ id. ap (all_ok (fits sd (Early r))) (m.founds id)
               ∙ start-fit sd r own now old new id.0 (found (world_at tale n) id) (may id)
               (h.flags id);
-          holds = (suc n, (omega arith, base_here tale.es r (suc n)
-              (ap (is_step r) mark ∙ same-same r)), started_sets (switches sd r) refl life h);
+          holds = (
+            suc n,
+            (
+              omega arith,
+              base_here tale.es r (suc n)
+                  (ap (is_step r) mark ∙ same-same r),
+            ),
+            started_sets (switches sd r) refl life h,
+          );
           left = (
             id,
             ap (if_some (remains sd r)) new_key
                 ∙ (start_facts sd r (is_listed s.0 old) (is_listed s.0 new) s.1.keytype own may_key
                 fit_key).some
                 (suits (is_listed s.0 old) (is_listed s.0 new) (serves_new sd r s.1.keytype)
-                    (serves_kept sd r s.1.keytype) s.3),
+                (serves_kept sd r s.1.keytype) s.3),
           );
           back = λ phase. leads-start life h;
         }
 
     pub alive-start : At tale sd Quiet n → Alive tale sd n → Alive tale sd (suc n)
-    alive-start h a = (a.0, ap (if_some (in_use sd)) (m.founds a.0)
-        ∙ start-used sd r own now old new a.0.0 (found (world_at tale n) a.0) (may a.0)
-        (h.flags a.0) a.1)
+    alive-start h a = (
+      a.0,
+      ap (if_some (in_use sd)) (m.founds a.0)
+          ∙ start-used sd r own now old new a.0.0 (found (world_at tale n) a.0) (may a.0)
+          (h.flags a.0) a.1,
+    )
 
   -- the first wait
   module _ (now : ℕ) (m : Mapped tale n (λ q. wait1_key r now) r (Some Propagation2))
       (mark : (position_at tale.es (suc n)).mark ≡ Step r)
       (gone : (kind : SetKind) → retires r false kind ≡ true → (b : ℕ)
-          → base_below tale.es r (suc n) ≡ Some b → (q : ℕ) → q < b
-          → IsGone tale.es kind q (suc n))
+      → base_below tale.es r (suc n) ≡ Some b → (q : ℕ) → q < b
+      → IsGone tale.es kind q (suc n))
       (first-goes : retires r false (first_kind sd r) ≡ true)
-          (second-goes : retires r (switches sd r) (second_kind sd r) ≡ true) where
+      (second-goes : retires r (switches sd r) (second_kind sd r) ≡ true) where
     pub live-wait1 : At tale sd (Early r) n → (id : Id)
         × (if_some (live sd) (found (world_at tale (suc n)) id) ≡ true)
-    live-wait1 h = (h.left.0, ap (if_some (live sd)) (m.founds h.left.0)
-        ∙ w1-some sd r own now (found (world_at tale n) h.left.0) (h.flags h.left.0) h.left.1)
+    live-wait1 h = (
+      h.left.0,
+      ap (if_some (live sd)) (m.founds h.left.0)
+          ∙ w1-some sd r own now (found (world_at tale n) h.left.0) (h.flags h.left.0) h.left.1,
+    )
 
     pub alive-wait1 : At tale sd (Early r) n → Alive tale sd (suc n)
-    alive-wait1 h = let l = live-wait1 h in
-        (l.0, some_weaker (live sd) (in_use sd) (λ k e. (and_parts _ _ e).0)
-        (found (world_at tale (suc n)) l.0) l.1)
+    alive-wait1 h = let l = live-wait1 h in (
+      l.0,
+      some_weaker (live sd) (in_use sd) (λ k e. (and_parts _ _ e).0)
+          (found (world_at tale (suc n)) l.0) l.1,
+    )
 
     first_less : At tale sd (Early r) n → (id : Id)
         → if_some (first_test sd r) (found (world_at tale (suc n)) id) ≡ true
@@ -234,14 +249,22 @@ module _ (tale : Tale) (n : ℕ) (here : suc n ≤ length tale.es) (sd : SideOf)
         → LifeAt tale sd r n → NoDs tale.es (suc n) ⊎ Witness (side tale sd r) (suc n) (suc n)
     witness b sw h sets (inl a) =
         let first : if_some (first_test sd r) (found (world_at tale (suc n)) a.0) ≡ true =
-            ap (if_some (first_test sd r)) (m.founds a.0)
-            ∙ w1-keep sd r own now (found (world_at tale n) a.0) sw (h.flags a.0)
-            (used_first sd r (found (world_at tale n) a.0) a.1) in
-        inr (a.0, first, λ q lt un. sets.ys q (omega arith) (λ x. un ((side tale sd r).keepY q n x))
-            a.0 (used_second sd r (found (world_at tale n) a.0) a.1))
+        ap (if_some (first_test sd r)) (m.founds a.0)
+        ∙ w1-keep sd r own now (found (world_at tale n) a.0) sw (h.flags a.0)
+        (used_first sd r (found (world_at tale n) a.0) a.1) in
+        inr (
+          a.0,
+          first,
+          λ q lt un. sets.ys q (omega arith) (λ x. un ((side tale sd r).keepY q n x))
+              a.0 (used_second sd r (found (world_at tale n) a.0) a.1),
+        )
     witness b sw h sets (inr (inl all)) = let a = alive-wait1 h in
-        inr (a.0, used_first sd r (found (world_at tale (suc n)) a.0) a.1, λ q lt un. all a.0 q
-            (omega arith))
+        inr (
+          a.0,
+          used_first sd r (found (world_at tale (suc n)) a.0) a.1,
+          λ q lt un. all a.0 q
+              (omega arith),
+        )
     witness b sw h sets (inr (inr d)) = inl d
 
     wait1_sets : (w : Bool) → switches sd r ≡ w → (b : ℕ) → base_below tale.es r (suc n) ≡ Some b
@@ -255,7 +278,7 @@ module _ (tale : Tale) (n : ℕ) (here : suc n ≤ length tale.es) (sd : SideOf)
         side_rest tale (suc n) sd r (broad-rests (side tale sd r) n here b
         (gone (first_kind sd r) first-goes b base) (gone (second_kind sd r) goes b base)
         (first_less h) (λ id e. w1-second sd r own now (found (world_at tale n) id) sw (h.flags id)
-            (sym (ap (if_some (second_test sd r)) (m.founds id)) ∙ e)) sets)
+        (sym (ap (if_some (second_test sd r)) (m.founds id)) ∙ e)) sets)
 
     pub at-wait1 : (switches sd r ≡ true → LifeAt tale sd r n) → At tale sd (Early r) n
         → At tale sd (Late r) (suc n)
@@ -264,7 +287,7 @@ module _ (tale : Tale) (n : ℕ) (here : suc n ≤ length tale.es) (sd : SideOf)
       rolls = λ q e. ap (stage_fits (Late r) q) (m.rolls q)
           ∙ put-fits (Late r) (world_at tale n).roll r (Some Propagation2) q (λ e. e)
           (λ d. ap (stage_fits (Late r) q)
-              (others_early r q ((world_at tale n).roll q) (h.rolls q e) d) ∙ ap not d);
+          (others_early r q ((world_at tale n).roll q) (h.rolls q e) d) ∙ ap not d);
       flags = λ id. ap (all_ok (fits sd (Late r))) (m.founds id)
           ∙ w1-fit sd r own now (found (world_at tale n) id) (h.flags id);
       holds = (
@@ -279,8 +302,8 @@ module _ (tale : Tale) (n : ℕ) (here : suc n ≤ length tale.es) (sd : SideOf)
   -- the second wait
   module _ (now : ℕ) (m : Mapped tale n (λ q. wait2_key r now) r (Some Done))
       (gone : (kind : SetKind) → switches sd r ≡ true → retires r true kind ≡ true → (b : ℕ)
-          → base_below tale.es r (suc n) ≡ Some b → (q : ℕ) → q < b
-          → IsGone tale.es kind q (suc n))
+      → base_below tale.es r (suc n) ≡ Some b → (q : ℕ) → q < b
+      → IsGone tale.es kind q (suc n))
       (second-goes : retires r (switches sd r) (second_kind sd r) ≡ true) where
     first_less2 : At tale sd (Late r) n → (id : Id)
         → if_some (first_test sd r) (found (world_at tale (suc n)) id) ≡ true
@@ -310,7 +333,7 @@ module _ (tale : Tale) (n : ℕ) (here : suc n ≤ length tale.es) (sd : SideOf)
       rolls = λ q e. ap (stage_fits Quiet q) (m.rolls q)
           ∙ put-fits Quiet (world_at tale n).roll r (Some Done) q (λ e. refl)
           (λ d. ap (stage_fits Quiet q) (others_late r q ((world_at tale n).roll q) (h.rolls q e)
-              d));
+          d));
       flags = λ id. ap (all_ok (fits sd Quiet)) (m.founds id)
           ∙ w2-fit sd r own now (found (world_at tale n) id) (h.flags id);
       holds = wait2_sets (switches sd r) refl h.holds.0 h.holds.1.1 second-goes h h.holds.2;
@@ -319,20 +342,23 @@ module _ (tale : Tale) (n : ℕ) (here : suc n ≤ length tale.es) (sd : SideOf)
     }
 
     pub alive-wait2 : At tale sd (Late r) n → Alive tale sd (suc n)
-    alive-wait2 h = (h.left.0, ap (if_some (in_use sd)) (m.founds h.left.0)
-        ∙ w2-used sd r own now (found (world_at tale n) h.left.0) (h.flags h.left.0) h.left.1)
+    alive-wait2 h = (
+      h.left.0,
+      ap (if_some (in_use sd)) (m.founds h.left.0)
+          ∙ w2-used sd r own now (found (world_at tale n) h.left.0) (h.flags h.left.0) h.left.1,
+    )
 
   -- an early end
   module _ (m : Mapped tale n (early_end_key tale r n) r None) where
     by_kind : (p : KeyType → Bool) (id : Id) (o : Option Key)
         → if_some p (option_map (early_end_key tale r n id.0) o)
-            ≡ if_some (λ k. p (kind_back tale r n id.0 k)) o
+        ≡ if_some (λ k. p (kind_back tale r n id.0 k)) o
     by_kind p id None = refl
     by_kind p id (Some k) = refl
 
     all_by_kind : (p : KeyType → Bool) (id : Id) (o : Option Key)
         → all_ok p (option_map (early_end_key tale r n id.0) o)
-            ≡ all_ok (λ k. p (kind_back tale r n id.0 k)) o
+        ≡ all_ok (λ k. p (kind_back tale r n id.0 k)) o
     all_by_kind p id None = refl
     all_by_kind p id (Some k) = refl
 
@@ -346,14 +372,14 @@ module _ (tale : Tale) (n : ℕ) (here : suc n ≤ length tale.es) (sd : SideOf)
       rolls = λ q e. ap (stage_fits Quiet q) (m.rolls q)
           ∙ put-fits Quiet (world_at tale n).roll r None q (λ e. refl)
           (λ d. ap (stage_fits Quiet q) (others_early r q ((world_at tale n).roll q) (h.rolls q e)
-              d));
+          d));
       flags = λ id. ap (all_ok (fits sd Quiet)) (m.founds id)
           ∙ all_by_kind (fits sd Quiet) id (found (world_at tale n) id) ∙ b.flags id;
       holds = λ kind. upto (λ q. (IsGone tale.es kind q (suc n) → ⊥) → (id : Id)
           → if_some (test_of sd kind) (found (world_at tale (suc n)) id) ≡ true
           → Serving sd tale.es kind q id) n
           (λ q le un id e. b.rest kind q le (λ x. un (retired_stays tale.es kind q n x)) id
-              (sym (back_now (test_of sd kind) id) ∙ e))
+          (sym (back_now (test_of sd kind) id) ∙ e))
           (λ _. shows tale sd kind (suc n) here);
       left = tt;
       back = tt;

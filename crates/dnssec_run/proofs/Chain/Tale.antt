@@ -124,7 +124,7 @@ IsOver r second w ttl now = (q : List ℕ) (k : Key) → w.key q ≡ Some k → 
 abbrev pub HasSuitable : SideOf → RollType → World → List (List ℕ) → List (List ℕ) → Type 0
 HasSuitable sd r w old new = (q : List ℕ) × (k : Key) × (w.key q ≡ Some k)
     × (((is_listed q new ≡ true) × (serves_new sd r k.keytype ≡ true))
-        ⊎ ((is_listed q old ≡ false) × (serves_kept sd r k.keytype ≡ true)))
+    ⊎ ((is_listed q old ≡ false) × (serves_kept sd r k.keytype ≡ true)))
 
 pub record CanStart (r : RollType) (w : World) (old new : List (List ℕ)) : Type 0 where
   pub alone : (q : RollType) → tolerates r q ≡ false → w.roll q ≡ None

@@ -155,7 +155,7 @@ module _ (tale : Tale) (n : ℕ) (here : suc n ≤ length tale.es) where
   moved : (f g : List ℕ → Key → Key) (r : RollType) (o : Option RollState) {kept : Lists}
       → MovesOn before after r o kept f → ((q : List ℕ) (k : Key) → f q k ≡ g q k)
       → ((q : List ℕ) → (world_at tale (suc n)).added q ≡ (world_at tale n).added q)
-          → world_at tale (suc n) ≡ rolled (world_at tale n) g r o
+      → world_at tale (suc n) ≡ rolled (world_at tale n) g r o
   moved f g r o h same added = worlds (world_at tale (suc n)) (rolled (world_at tale n) g r o)
       (λ q. h.keys q ∙ map_by (f q) (g q) (same q) (get before.keys q)) added
       (λ q. ap (λ rolls. phase_of rolls q) h.rolls ∙ phase_with before.rolls r o q)
@@ -176,11 +176,11 @@ module _ (tale : Tale) (n : ℕ) (here : suc n ≤ length tale.es) where
       by (Decoupled value) plain h = keeps-same tale n (same_rolls h.rolls) h.lists
       by (Present value now) plain h = λ sd. keeps-without tale n x (same_rolls h.rolls) h.lists sd
           (λ id j f t role. true≢false (sym role
-              ∙ others-role sd j.keytype (present_others value now (get before.keys x) plain j
+          ∙ others-role sd j.keytype (present_others value now (get before.keys x) plain j
           (sym (h.keys id.0 ∙ (λ i. option_map
-              (λ k. if t i then set_by (Present value now) k else k)
-              (get before.keys (sym ((bytes_decides x id.0).0 t) i))))
-              ∙ (found_key (world_at tale (suc n)) id j f).0))))
+          (λ k. if t i then set_by (Present value now) k else k)
+          (get before.keys (sym ((bytes_decides x id.0).0 t) i))))
+          ∙ (found_key (world_at tale (suc n)) id j f).0))))
       by (Signer value) plain h = absurd (true≢false (sym plain))
       by (AtParent value) plain h = absurd (true≢false (sym plain))
       by Stale plain h = absurd (true≢false (sym plain))
@@ -191,134 +191,134 @@ module _ (tale : Tale) (n : ℕ) (here : suc n ≤ length tale.es) where
   accepted : (c : keyset.Call) → keyset.verdict before c ≡ keyset.Clear
       → keyset.Changes before c after → sets_nothing before c ≡ true → adds_blank c ≡ true
       → ((q : List ℕ) → (world_at tale (suc n)).added q
-          ≡ rec.with_added (suc n) (rec.reference_added c) (world_at tale n).added q)
+      ≡ rec.with_added (suc n) (rec.reference_added c) (world_at tale n).added q)
       → (position_at tale.es (suc n)).mark ≡ mark c → (position_at tale.es (suc n)).moment
-          ≡ moment c
+      ≡ moment c
       → (PassesAt tale n → first_wait_of c ≡ Some AlgorithmRoll)
-          → ((q : RollType) → start_of c ≡ Some q → DoesAt start_of tale.calls tale.es n q)
+      → ((q : RollType) → start_of c ≡ Some q → DoesAt start_of tale.calls tale.es n q)
       → Inv tale n → Inv tale (suc n)
   accepted (keyset.AddKey r k) v h plain blank added m t only some inv =
       let rolls = λ (q : RollType). ap (λ rolls. phase_of rolls q) h.rolls in
       calm tale n here (with_key (world_at tale n) r (suc n) k)
       (worlds (world_at tale (suc n)) (with_key (world_at tale n) r (suc n) k) h.keys added rolls)
       (kept_added (world_at tale n) r (suc n) k
-          (no_some _ (no_error _ _ _ (no_error _ _ _ (no_cause _ v)).1).0)
-          (blank-idle k.keytype blank)) m
+      (no_some _ (no_error _ _ _ (no_error _ _ _ (no_cause _ v)).1).0)
+      (blank-idle k.keytype blank)) m
       (λ s. none-some AlgorithmRoll (only s)) (keeps-same tale n rolls h.lists) inv
   accepted (keyset.Set r s) v h plain blank added m t only some inv =
       calm tale n here (with_keys (world_at tale n) (λ q k. if bytes_eq r q then set_by s k else k))
       (worlds (world_at tale (suc n))
-          (with_keys (world_at tale n) (λ q k. if bytes_eq r q then set_by s k else k)) h.keys added
-          (λ q. ap (λ rolls. phase_of rolls q) h.rolls))
+      (with_keys (world_at tale n) (λ q k. if bytes_eq r q then set_by s k else k)) h.keys added
+      (λ q. ap (λ rolls. phase_of rolls q) h.rolls))
       (kept_changed (world_at tale n) (λ q k. if bytes_eq r q then set_by s k else k)
-          (harmless before r s plain)) m
+      (harmless before r s plain)) m
       (λ s. none-some AlgorithmRoll (only s)) (set_lists r s plain h) inv
   accepted (keyset.DeleteKey r) v h plain blank added m t only some inv =
       let k = gone_key (get before.keys r) (no_cause _ v) in
       calm tale n here (without_key (world_at tale n) r)
       (worlds (world_at tale (suc n)) (without_key (world_at tale n) r) h.keys added
-          (λ q. ap (λ rolls. phase_of rolls q) h.rolls))
+      (λ q. ap (λ rolls. phase_of rolls q) h.rolls))
       (kept_deleted (world_at tale n) r k.0 k.1 (stale-idle k.0.keytype k.2)) m
-          (λ s. none-some AlgorithmRoll (only s))
+      (λ s. none-some AlgorithmRoll (only s))
       (λ sd. keeps-without tale n r (λ q. ap (λ rolls. phase_of rolls q) h.rolls) h.lists sd
       (λ id j f t role. none-some j (sym
-          (h.keys id.0 ∙ ap (λ b. if b then None else get before.keys id.0) t)
-          ∙ (found_key (world_at tale (suc n)) id j f).0))) inv
+      (h.keys id.0 ∙ ap (λ b. if b then None else get before.keys id.0) t)
+      ∙ (found_key (world_at tale (suc n)) id j f).0))) inv
   accepted (keyset.StartRoll r old new now) v h plain blank added m t only some inv =
       let on : Mapped tale n (start_key r now old new) r (Some Propagation1) =
       mapped tale n (start_key r now old new) r (Some Propagation1)
-          (moved _ (start_key r now old new) r (Some Propagation1) h
-          (λ q. start-parts r now (is_listed q old) (is_listed q new)) added) in
+      (moved _ (start_key r now old new) r (Some Propagation1) h
+      (λ q. start-parts r now (is_listed q old) (is_listed q new)) added) in
       start tale n here r now old new on (can_start (real tale n) r old new (no_cause _ v)) m
       (λ q. ap (λ l. is_listed q (listed_by l r).olds) h.lists
-          ∙ ap (λ (l : Listed). is_listed q l.olds)
-          (listed-same before.lists r (keyset.listed_at_start before.keys old new))
-          ∙ is_listed-filter (keyset.is_kept_at before.keys) old q)
+      ∙ ap (λ (l : Listed). is_listed q l.olds)
+      (listed-same before.lists r (keyset.listed_at_start before.keys old new))
+      ∙ is_listed-filter (keyset.is_kept_at before.keys) old q)
       (λ q. ap (λ l. is_listed q (listed_by l r).news) h.lists
-          ∙ ap (λ (l : Listed). is_listed q l.news)
-          (listed-same before.lists r (keyset.listed_at_start before.keys old new)))
+      ∙ ap (λ (l : Listed). is_listed q l.news)
+      (listed-same before.lists r (keyset.listed_at_start before.keys old new)))
       (λ sd out. keeps-start tale n r (Some Propagation1) on.rolls
-          (λ q d. ap (λ l. listed_by l q) h.lists
-          ∙ listed-other before.lists r (keyset.listed_at_start before.keys old new) q d) sd
-          (λ q own. distinct sd r q out own))
+      (λ q d. ap (λ l. listed_by l q) h.lists
+      ∙ listed-other before.lists r (keyset.listed_at_start before.keys old new) q d) sd
+      (λ q own. distinct sd r q out own))
       (some r refl) (λ s. none-some AlgorithmRoll (only s)) inv
   accepted (keyset.Report r First ttl now) v h plain blank added m t only some inv =
       let on : Mapped tale n (λ q. report_key r false now) r (Some (CacheExpire1 ttl)) =
-          mapped tale n (λ q. report_key r false now) r (Some (CacheExpire1 ttl))
-          (moved _ (λ q. report_key r false now) r (Some (CacheExpire1 ttl)) h (λ q k. refl) added)
-          in
+      mapped tale n (λ q. report_key r false now) r (Some (CacheExpire1 ttl))
+      (moved _ (λ q. report_key r false now) r (Some (CacheExpire1 ttl)) h (λ q k. refl) added)
+      in
       report tale n here r false ttl now on
       (spreads_first _ (no_cause _ v)) m t (λ s. none-some AlgorithmRoll (only s))
       (keeps-on tale n r (Some (CacheExpire1 ttl)) (λ e. cc) on.rolls
-          (λ q d. ap (λ l. listed_by l q) h.lists ∙ listed-other before.lists r nothing_listed q d))
-          inv
+      (λ q d. ap (λ l. listed_by l q) h.lists ∙ listed-other before.lists r nothing_listed q d))
+      inv
   accepted (keyset.Report r Second ttl now) v h plain blank added m t only some inv =
       let on : Mapped tale n (λ q. report_key r true now) r (Some (CacheExpire2 ttl)) =
-          mapped tale n (λ q. report_key r true now) r (Some (CacheExpire2 ttl))
-          (moved _ (λ q. report_key r true now) r (Some (CacheExpire2 ttl)) h (λ q k. refl) added)
-          in
+      mapped tale n (λ q. report_key r true now) r (Some (CacheExpire2 ttl))
+      (moved _ (λ q. report_key r true now) r (Some (CacheExpire2 ttl)) h (λ q k. refl) added)
+      in
       report tale n here r true ttl now on
       (spreads_second _ (no_cause _ v)) m t (λ s. none-some AlgorithmRoll (only s))
       (keeps-on tale n r (Some (CacheExpire2 ttl)) (λ e. cc) on.rolls
-          (λ q d. ap (λ l. listed_by l q) h.lists)) inv
+      (λ q d. ap (λ l. listed_by l q) h.lists)) inv
   accepted (keyset.Wait r First now) v h plain blank added m t only some inv =
       let w = waits_in_phase r false now (real tale n) v in
       let on : Mapped tale n (λ q. wait1_key r now) r (Some Propagation2) =
-          mapped tale n (λ q. wait1_key r now) r (Some Propagation2)
-          (moved _ (λ q. wait1_key r now) r (Some Propagation2) h (λ q k. refl) added) in
+      mapped tale n (λ q. wait1_key r now) r (Some Propagation2)
+      (moved _ (λ q. wait1_key r now) r (Some Propagation2) h (λ q k. refl) added) in
       wait1 tale n here r w.0 now on w.1 w.2 m t
       (keeps-on tale n r (Some Propagation2) (λ e. cc) on.rolls
-          (λ q d. ap (λ l. listed_by l q) h.lists)) (λ s. same_Some r AlgorithmRoll (only s)) inv
+      (λ q d. ap (λ l. listed_by l q) h.lists)) (λ s. same_Some r AlgorithmRoll (only s)) inv
   accepted (keyset.Wait r Second now) v h plain blank added m t only some inv =
       let w = waits_in_phase r true now (real tale n) v in
       let on : Mapped tale n (λ q. wait2_key r now) r (Some Done) =
-          mapped tale n (λ q. wait2_key r now) r (Some Done)
-          (moved _ (λ q. wait2_key r now) r (Some Done) h (λ q k. refl) added) in
+      mapped tale n (λ q. wait2_key r now) r (Some Done)
+      (moved _ (λ q. wait2_key r now) r (Some Done) h (λ q k. refl) added) in
       wait2 tale n here r w.0 now on w.1 w.2 m t
       (keeps-on tale n r (Some Done) (λ e. cc) on.rolls (λ q d. ap (λ l. listed_by l q) h.lists))
-          (λ s. none-some AlgorithmRoll (only s)) inv
+      (λ s. none-some AlgorithmRoll (only s)) inv
   accepted (keyset.AbortRoll r) v h plain blank added m t only some inv =
       let on : Mapped tale n (early_end_key tale r n) r None =
-          mapped tale n (early_end_key tale r n) r None
-          (moved _ (early_end_key tale r n) r None h (λ q. early-end-parts r _ _) added) in
+      mapped tale n (early_end_key tale r n) r None
+      (moved _ (early_end_key tale r n) r None h (λ q. early-end-parts r _ _) added) in
       end_early tale n here r on (ends_early _ (no_cause _ v)) m
       (keeps-on tale n r None (λ e. none-some Propagation1 e) on.rolls
-          (λ q d. ap (λ l. listed_by l q) h.lists ∙ listed-other before.lists r nothing_listed q d))
+      (λ q d. ap (λ l. listed_by l q) h.lists ∙ listed-other before.lists r nothing_listed q d))
       (λ s. none-some AlgorithmRoll (only s)) inv
   accepted (keyset.RollDone r) v h plain blank added m t only some inv =
       let keys = λ (q : List ℕ). h.keys q ∙ map_id (get before.keys q) in
       let rolls = λ (q : RollType). ap (λ rolls. phase_of rolls q) h.rolls
-          ∙ phase_with before.rolls r None q in
+      ∙ phase_with before.rolls r None q in
       done tale n here r keys (λ id. λ i. if added id.0 i == id.1 then keys id.0 i else None)
       rolls (finishes _ (no_cause _ v)) m (λ s. none-some AlgorithmRoll (only s))
       (keeps-on tale n r None (λ e. none-some Propagation1 e) rolls
-          (λ q d. ap (λ l. listed_by l q) h.lists)) inv
+      (λ q d. ap (λ l. listed_by l q) h.lists)) inv
 
   by_reply : (c : keyset.Call) (r : Reply) → keyset.Step before c (rec.reply_of r) after
       → sets_nothing before c ≡ true → adds_blank c ≡ true
       → ((q : List ℕ) → (world_at tale (suc n)).added q
-          ≡ (if rec.is_accepted r then rec.with_added (suc n) (rec.reference_added c)
-          (world_at tale n).added else (world_at tale n).added) q)
+      ≡ (if rec.is_accepted r then rec.with_added (suc n) (rec.reference_added c)
+      (world_at tale n).added else (world_at tale n).added) q)
       → (position_at tale.es (suc n)).mark ≡ (if rec.is_accepted r then mark c else Other)
-          → (position_at tale.es (suc n)).moment ≡ moment c
+      → (position_at tale.es (suc n)).moment ≡ moment c
       → (PassesAt tale n → (rec.is_accepted r ≡ true) × (first_wait_of c ≡ Some AlgorithmRoll))
-          → ((q : RollType) → rec.is_accepted r ≡ true → start_of c ≡ Some q
-          → DoesAt start_of tale.calls tale.es n q)
+      → ((q : RollType) → rec.is_accepted r ≡ true → start_of c ≡ Some q
+      → DoesAt start_of tale.calls tale.es n q)
       → Inv tale n → Inv tale (suc n)
   by_reply c (reply.Refused cause) step plain blank added m t only some inv =
       let same = refused_same (keyset.verdict before c) before after c cause step in
       calm tale n here (world_at tale n)
       (worlds (world_at tale (suc n)) (world_at tale n) (λ q. ap (λ s. get s.keys q) same) added
-          (λ q. ap (λ s. phase_of s.rolls q) same))
+      (λ q. ap (λ s. phase_of s.rolls q) same))
       (kept_same (world_at tale n)) m (λ s. true≢false (sym (only s).0))
       (keeps-same tale n (λ q. ap (λ s. phase_of s.rolls q) same)
-          (ap (λ (s : KeySetParts). s.lists) same)) inv
+      (ap (λ (s : KeySetParts). s.lists) same)) inv
   by_reply c reply.Done step plain blank added m t only some inv =
       let h = accepted_changes (keyset.verdict before c) before after c keyset.Done refl step in
       accepted c h.0 h.1 plain blank added m t (λ s. (only s).1) (λ q. some q refl) inv
   by_reply c (reply.Actions actions) step plain blank added m t only some inv =
       let h = accepted_changes (keyset.verdict before c) before after c
-          (keyset.Actions actions.items) refl step in
+      (keyset.Actions actions.items) refl step in
       accepted c h.0 h.1 plain blank added m t (λ s. (only s).1) (λ q. some q refl) inv
 
   mark_after : (c : Call) (r : Reply) → rec.mark_after c r
@@ -332,12 +332,18 @@ module _ (tale : Tale) (n : ℕ) (here : suc n ≤ length tale.es) where
       let p = place_at tale n here in
       let c = rec.call_of p.call in
       by_reply c p.entry.reply p.ok.step p.plain (plainly p.call).blank
-          (λ q. ap (λ f. f q) p.added_is)
+      (λ q. ap (λ f. f q) p.added_is)
       (ap (λ q. q.mark) p.position_is ∙ p.ok.mark ∙ mark_after p.call p.entry.reply)
       (ap (λ q. q.moment) p.position_is ∙ p.ok.moment ∙ (plainly p.call).moment_is)
       (same_call first_wait_of tale n p AlgorithmRoll)
-      (λ q a e. record { call = p.call; entry = p.entry; call_is = p.call_is; entry_is = p.entry_is;
-          accepted = a; roll_is = e }) inv
+      (λ q a e. record {
+        call = p.call;
+        entry = p.entry;
+        call_is = p.call_is;
+        entry_is = p.entry_is;
+        accepted = a;
+        roll_is = e;
+      }) inv
 
 -- ---- the whole run
 
@@ -366,8 +372,11 @@ first tale = record {
   zone = first_at tale Zone;
   pairs = λ r q o p e f d. absurd (none-some o (sym (no_phases r) ∙ e));
   phases = λ r p e. absurd (none-some p (sym (no_phases r) ∙ e));
-  life = inr ((λ q le. let e : zero ≡ q = omega arith in
-      subst (λ q. (position_at tale.es q).ds ≡ []) e refl), ((λ m lt s. omega arith), inl refl));
+  life = inr (
+    (λ q le. let e : zero ≡ q = omega arith in
+        subst (λ q. (position_at tale.es q).ds ≡ []) e refl),
+    ((λ m lt s. omega arith), inl refl),
+  );
 }
 
 always : (tale : Tale) (n : ℕ) → n ≤ length tale.es → Inv tale n
@@ -379,5 +388,5 @@ pub chain-holds : (name : List ℕ) (calls : List Call) (entries : List Entry)
     → rec.IsRun name calls entries → StaysSafe name calls entries
 chain-holds name calls entries run plain n le =
     let tale : Tale = record { name = name; calls = calls; es = entries; run = run; plain = plain }
-        in
+    in
     safe_of tale n le (always tale n le)

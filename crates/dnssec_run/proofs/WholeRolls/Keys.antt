@@ -37,7 +37,7 @@ phase_parts : (p : Phase → Bool) → each_phase p ≡ true → (p Idle ≡ tru
     × (each_roll (λ r. both (λ second. p (Expiring second r))) ≡ true)
 phase_parts p e =
     let x = and_parts (p Idle && each_roll (λ r. both (λ second. p (Spreading second r))))
-        (each_roll (λ r. both (λ second. p (Expiring second r)))) e in
+    (each_roll (λ r. both (λ second. p (Expiring second r)))) e in
     let y = and_parts (p Idle) (each_roll (λ r. both (λ second. p (Spreading second r)))) x.0 in
     (y.0, y.1, x.1)
 

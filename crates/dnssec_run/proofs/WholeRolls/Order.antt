@@ -241,13 +241,14 @@ module _ (sd : SideOf) (old new : KeySetParts) where
       ]
   changed_side (keyset.Report r First ttl now) plain leaves v m h =
       elim (cases_Bool (affects sd r)) [
-    | inl own ↦ own_side sd old new r Propagation1 (CacheExpire1 ttl)
-        (λ q. after_report r First now) own refl (spreads_first _ (no_cause _ v)) m
-        (λ q k. report_first sd r now k own) (λ q k. refl) (h sd)
-    | inr out ↦ other_side sd old new r (Some (CacheExpire1 ttl)) (λ q. after_report r First now)
-        out m (λ q. alike_put sd q old.lists r _ out) (λ q k e l. leaves r q k refl e l)
-        (λ q k. refl) (h sd)
-  ]
+        | inl own ↦ own_side sd old new r Propagation1 (CacheExpire1 ttl)
+            (λ q. after_report r First now) own refl (spreads_first _ (no_cause _ v)) m
+            (λ q k. report_first sd r now k own) (λ q k. refl) (h sd)
+        | inr out ↦ other_side sd old new r (Some (CacheExpire1 ttl))
+            (λ q. after_report r First now)
+            out m (λ q. alike_put sd q old.lists r _ out) (λ q k e l. leaves r q k refl e l)
+            (λ q k. refl) (h sd)
+      ]
   changed_side (keyset.Report r Second ttl now) plain leaves v m h =
       elim (cases_Bool (affects sd r)) [
         | inl own ↦ own_side sd old new r Propagation2 (CacheExpire2 ttl)

@@ -145,4 +145,3 @@ put_aside old new r o q e t = ap (λ x. phase_of x q) e ∙ phase_of-with_phase 
 -- a call that leaves a roll's phase
 abbrev pub roll_now : KeySetParts → RollType → Option RollState
 roll_now set r = phase_of set.rolls r
-

@@ -1,7 +1,7 @@
 -- Each turn takes one line more.
 use Rattle.std.proofs.Common.{ap, refl}
 use Rattle.std.specs.Option.{is_some}
-use Rattle.dnssec_record.specs.Reading.{says_some}
+use Rattle.dnssec_record.specs.Inner.Reading.{says_some}
 use Rattle.dnssec_record.proofs.Texts.{passes_more}
 use Rattle.dnssec_record.proofs.Reading.{silent, spoken, first_silent, kept_statement}
 use Rattle.dnssec_record.proofs.lines.read_statements.Goals as goal

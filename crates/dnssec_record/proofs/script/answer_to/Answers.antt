@@ -1,7 +1,7 @@
 -- The answer to a script is that to the statements of its lines.
 use Rattle.std.proofs.Common.{◌≡◌, sym, ap, ◌∙◌, map, subst}
 use denote.Bor.{now}
-use Rattle.dnssec_record.specs.Reading.{IsOfStatements}
+use Rattle.dnssec_record.specs.Inner.Reading.{IsOfStatements}
 use Rattle.dnssec_record.specs.Script.{lines_of}
 use Rattle.dnssec_record.proofs.script.answer_to.Goals as goal
 

@@ -4,7 +4,7 @@ use Rattle.std.specs.Prelude.{vec_len}
 use denote.Bor.{now}
 use Rattle.dnssec_run.specs.Record.{world_at}
 use Rattle.dnssec_record.specs.Script.{lines_of}
-use Rattle.dnssec_record.specs.Statement.{statement_said}
+use Rattle.dnssec_record.specs.Inner.Statement.{statement_says}
 use Rattle.dnssec_record.proofs.script.record_script.Goals as goal
 
 pub returns-clause-ok : goal.returns-clause-ok
@@ -15,7 +15,7 @@ returns-clause-ok c =
     let entries = c.in-Ok.run'.entries in
     let read : map now c.deref.result.now ≡ lines_of script =
     ap (map now) c.deref.ensures.value ∙ c.in_ok-lines.ensures in
-    let same = c.in_ok-calls.ensures ∙ ap (map statement_said) c.deref-2.ensures.value in
+    let same = c.in_ok-calls.ensures ∙ ap (map statement_says) c.deref-2.ensures.value in
     let count : vec_len entries ≡ length entries.items = omega (arith, entries.ok.0) in
     record {
       name = name;

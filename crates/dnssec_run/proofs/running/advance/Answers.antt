@@ -30,7 +30,7 @@ returns-clause-next c w agrees =
           (tree.get_by_text a.added.now) q) c.deleted-taken.ensures)
       | else-is_accepted b ↦
           subst (λ m. Agrees set (tree.get_by_text m) (world_after a.at w a.call r))
-              (sym b.added-is)
+          (sym b.added-is)
           (agrees-refused a.at w a.keyset.now set (tree.get_by_text a.added.now) a.call r
           (sym c.is_accepted.ensures ∙ b.if-is_accepted.false) agrees step)
     ]

@@ -20,12 +20,12 @@ pub returns-clause-ok : goal.returns-clause-ok
 returns-clause-ok c =
     let ran = c.in-Ok.ensures.ran in
     let P : String Global × KeyParts → Type 0 =
-        λ e. hash.get_by_text c.args.keys.now (string_bytes e.0) ≡ Some e.1 in
+    λ e. hash.get_by_text c.args.keys.now (string_bytes e.0) ≡ Some e.1 in
     let now : Bor (String Global) × Bor KeyParts → String Global × KeyParts =
-        λ e. (e.0.now, e.1.now) in
+    λ e. (e.0.now, e.1.now) in
     let split = rest_so_far now ran.0 c.iter.result ran.1.0 ran.1.1 in
     let all = front P now ran.0 ran.1.0
-        (subst (All P) (sym c.iter.ensures.rest ∙ split) c.iter.ensures.found) in
+    (subst (All P) (sym c.iter.ensures.rest ∙ split) c.iter.ensures.found) in
     All-permutation (λ e. P (now e)) c.in-Ok.entries.items c.sort_unstable_by.new.self.items
-        c.sort_unstable_by.ensures.permutation
-        (subst (All (λ e. P (now e))) (sym ran.2.0) all)
+    c.sort_unstable_by.ensures.permutation
+    (subst (All (λ e. P (now e))) (sym ran.2.0) all)

@@ -12,7 +12,7 @@ loop-self-preserved c =
       dues = c.loop-self.invariant.dues;
       spans = λ at n t b.
           subst (λ (xs : List Span). Tiles at n xs × Begins w.floor xs)
-              (sym c.remove-keys.ensures.items)
+          (sym c.remove-keys.ensures.items)
           (drop-first at n w.floor w.spans.items (sym c.ends_below.ensures ∙ c.loop-self-test.true)
           (c.loop-self.invariant.spans at n t b).0);
     }
@@ -24,7 +24,7 @@ loop-self-preserved-in-loop-self c =
       dues = c.loop-self.invariant.dues;
       spans = λ at n t b.
           subst (λ (xs : List Span). Tiles at n xs × Begins w.floor xs)
-              (sym c.remove-keys.ensures.items)
+          (sym c.remove-keys.ensures.items)
           (drop-first at n w.floor w.spans.items (sym c.ends_below.ensures ∙ c.loop-self-test.true)
           (c.loop-self.invariant.spans at n t b).0);
     }

@@ -16,7 +16,7 @@ pub loop-reference-preserved : goal.loop-reference-preserved
 loop-reference-preserved c = elim c.if-is_kept.branch [
   | then-is_kept+in_ok-push_copy w ↦
       kept-passes (is_kept_at c.args.self.now) c.args.references.now
-          c.loop-reference.reference-index
+      c.loop-reference.reference-index
       _ c.loop-reference-test.true _ _ (sym c.is_kept.ensures ∙ w.if-is_kept.true)
       c.loop-reference.invariant
       (ap (λ v. map string_bytes v.items) w.list-is ∙ w.in_ok-push_copy.ensures.ok)

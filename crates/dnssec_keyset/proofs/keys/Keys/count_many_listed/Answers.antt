@@ -39,6 +39,6 @@ loop-reference-preserved c =
       search rules,
       listed-same c.args.self.now _ _ _
           (λ q. listed_more referred c.args.old.now l.reference-index _ q
-              c.loop-reference-test.true)
+          c.loop-reference-test.true)
           (c.add_tag.ensures.listed _ l.invariant.3),
     )

@@ -8,4 +8,4 @@ pub loop-reference-preserved : goal.loop-reference-preserved
 loop-reference-preserved c = λ q. mark_more (new_at_start c.args.roll c.args.now)
     (marked_new-twice c.args.roll c.args.now) referred c.args.new.now
     c.loop-reference.reference-index _ q _ _ _ _ c.loop-reference-test.true refl
-        (c.loop-reference.invariant q) (c.change_at.ensures q)
+    (c.loop-reference.invariant q) (c.change_at.ensures q)

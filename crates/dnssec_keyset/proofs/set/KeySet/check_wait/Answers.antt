@@ -14,7 +14,7 @@ returns-then-now-end-clause-reply c =
     let now = c.as_nanos-now.ensures ∙ c.from.ensures in
     told-early _ a.rolltype
     (which a.half) c.in-Some.ttl a.self.now.keys c.in-Some-over_from.end _ phase
-        c.in-Some-over_from.ensures.over
+    c.in-Some-over_from.ensures.over
     a.now.now (omega (arith, now, c.if-now-end.true)) c.left_until.result
     (c.left_until.ensures ∙ left-now _ _ now)
 

@@ -3,8 +3,8 @@ use Rattle.std.specs.Prelude.{◌≡◌, ℕ, ◌+◌, ◌<◌, Bool, true, fals
 use Rattle.std.specs.Prelude.{slice_index_or, Option, is_some}
 use Rattle.std.specs.Io.KnownBytes.{Appends}
 use Rattle.dnssec_run.specs.declared.call.Call.{Call}
-use Rattle.dnssec_record.specs.Script.{IsScript, said, says}
-use Rattle.dnssec_record.specs.Statement.{statement_said}
+use Rattle.dnssec_record.specs.Script.{IsScript, call_says, says}
+use Rattle.dnssec_record.specs.Inner.Statement.{statement_says}
 use Rattle.dnssec_record.specs.declared.statement.Statement.{Statement}
 use Rattle.dnssec_record.specs.declared.fault.ScriptFault.{ScriptFault}
 use Rattle.dnssec_record.specs.declared.fault.ScriptFault.TheVariants.{Malformed, Device}
@@ -13,7 +13,7 @@ use Rattle.dnssec_record.specs.declared.fault.ScriptFault.TheVariants.{OutOfMemo
 -- the script is of this zone, and of whatever calls say what these statements say
 abbrev pub IsOfStatements : List ℕ → List ℕ → List Statement → Type 0
 IsOfStatements script name statements =
-    (calls : List Call) → map said calls ≡ map statement_said statements →
+    (calls : List Call) → map call_says calls ≡ map statement_says statements →
     IsScript script name calls
 
 -- the line says something

@@ -11,24 +11,24 @@ use Rattle.dnssec_record.specs.declared.statement.Statement.{Statement}
 use Rattle.dnssec_record.specs.declared.statement.Statement.TheVariants as statement
 
 -- what an add says of these traits of its key
-abbrev pub traits_said : KeyTraits → List Value
-traits_said k = trait_values k.algorithm k.key_tag k.creation_ts k.available
+abbrev pub traits_say : KeyTraits → List Value
+traits_say k = trait_values k.algorithm k.key_tag k.creation_ts k.available
 
 -- the word of a statement, and what each field behind it says
-abbrev pub statement_said : Statement → Word × List Value
-statement_said (statement.Add w p q k) =
-    (word.Add w, Reference p.now ∷ Private (option_map now q) ∷ traits_said k)
-statement_said (statement.AddPublic p k) = (word.AddPublic, Reference p.now ∷ traits_said k)
-statement_said (statement.SetFlag w p y) = (word.SetFlag w, Reference p.now ∷ Flag y ∷ [])
-statement_said (statement.SetPresent p y t) =
+abbrev pub statement_says : Statement → Word × List Value
+statement_says (statement.Add w p q k) =
+    (word.Add w, Reference p.now ∷ Private (option_map now q) ∷ traits_say k)
+statement_says (statement.AddPublic p k) = (word.AddPublic, Reference p.now ∷ traits_say k)
+statement_says (statement.SetFlag w p y) = (word.SetFlag w, Reference p.now ∷ Flag y ∷ [])
+statement_says (statement.SetPresent p y t) =
     (word.SetPresent, Reference p.now ∷ Flag y ∷ Moment t ∷ [])
-statement_said (statement.SetStamp w p t) = (word.SetStamp w, Reference p.now ∷ Moment t ∷ [])
-statement_said (statement.OfKey w p) = (word.OfKey w, Reference p.now ∷ [])
-statement_said (statement.Start r old new t) = (
+statement_says (statement.SetStamp w p t) = (word.SetStamp w, Reference p.now ∷ Moment t ∷ [])
+statement_says (statement.OfKey w p) = (word.OfKey w, Reference p.now ∷ [])
+statement_says (statement.Start r old new t) = (
   word.Start,
   Roll r ∷ References (map now old.items) ∷ References (map now new.items) ∷ Moment t ∷ [],
 )
-statement_said (statement.Report half r ttl t) =
+statement_says (statement.Report half r ttl t) =
     (word.Report half, Roll r ∷ Number ttl ∷ Moment t ∷ [])
-statement_said (statement.Wait half r t) = (word.Wait half, Roll r ∷ Moment t ∷ [])
-statement_said (statement.End w r) = (word.End w, Roll r ∷ [])
+statement_says (statement.Wait half r t) = (word.Wait half, Roll r ∷ Moment t ∷ [])
+statement_says (statement.End w r) = (word.End w, Roll r ∷ [])

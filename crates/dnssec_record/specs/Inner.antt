@@ -1,0 +1,3 @@
+-- What only the inside of the crate needs: no contract of a public call names it.
+pub mod Statement
+pub mod Reading
