@@ -24,6 +24,7 @@ pub mod Gentles
 pub mod Phases
 pub mod RollFacts
 pub mod BothSides
+pub mod FirstCalls
 pub mod SideBySide
 pub mod Allowed
 pub mod Trust

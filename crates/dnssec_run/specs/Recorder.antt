@@ -18,9 +18,9 @@ use Rattle.dnssec_run.specs.declared.record.Entry.{Entry}
 use Rattle.dnssec_run.specs.declared.record.Outcome.{Outcome}
 use Rattle.dnssec_run.specs.declared.record.Published.{Published}
 use Rattle.dnssec_run.specs.declared.running.Recorder.{Recorder}
-use Rattle.dnssec_run.specs.declared.running.Shown.{Shown}
-use Rattle.dnssec_run.specs.declared.running.Shown.TheVariants.{Ds, Dnskey, DnskeySigners}
-use Rattle.dnssec_run.specs.declared.running.Shown.TheVariants.{ZoneSigners}
+use Rattle.dnssec_run.specs.declared.sets.Shown.{Shown}
+use Rattle.dnssec_run.specs.declared.sets.Shown.TheVariants.{Ds, Dnskey, DnskeySigners}
+use Rattle.dnssec_run.specs.declared.sets.Shown.TheVariants.{ZoneSigners}
 use Rattle.dnssec_run.specs.Published.{Id, IsPublished, World, id_of, in_ds, in_dnskey}
 use Rattle.dnssec_run.specs.Published.{signs_dnskey, signs_zone}
 use Rattle.dnssec_run.specs.Record.{IsRun, call_of, mark_after, call_moment, reply_of, world_at}

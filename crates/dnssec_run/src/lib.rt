@@ -8,8 +8,10 @@ mod call;
 mod plain;
 mod record;
 mod running;
+mod sets;
 
 pub use call::Call;
 pub use plain::starts_suffice;
 pub use record::{Entry, Mark, Outcome, Published, PublishedKey, Reply, Run};
-pub use running::{Recorder, Shown, copy_keys, run};
+pub use running::{Recorder, run};
+pub use sets::{Shown, copy_keys};

@@ -56,7 +56,8 @@ use Rattle.dnssec_run.proofs.Chain.Invariant.{At}
 use Rattle.dnssec_run.proofs.Chain.Gentles.{kept_same, kept_added, kept_deleted, kept_changed}
 use Rattle.dnssec_run.proofs.Chain.Gentles.{distinct, with_key, without_key, with_keys}
 use Rattle.dnssec_run.proofs.Chain.BothSides.{Inv, mapped, calm, report, done, PassesAt}
-use Rattle.dnssec_run.proofs.Chain.SideBySide.{start, wait1, wait2, safe_of, end_early}
+use Rattle.dnssec_run.proofs.Chain.FirstCalls.{start, wait1}
+use Rattle.dnssec_run.proofs.Chain.SideBySide.{wait2, safe_of, end_early}
 use Rattle.dnssec_run.proofs.Chain.Allowed.{can_start, waits_in_phase}
 use Rattle.dnssec_keyset.proofs.Laws.{no_cause}
 use Rattle.dnssec_keyset.proofs.Phases.{no_phases}

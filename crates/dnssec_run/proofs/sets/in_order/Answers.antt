@@ -8,7 +8,7 @@ use Rattle.std.proofs.lemmas.List.Elements.{All-nil, All-cons, All-head, All-tai
 use Rattle.std.proofs.lemmas.List.Sorted.{All-permutation}
 use Rattle.std.proofs.lemmas.Map.Iter.{rest_so_far}
 use Rattle.dnssec_key.specs.Key.{KeyParts}
-use Rattle.dnssec_run.proofs.running.in_order.Goals as goal
+use Rattle.dnssec_run.proofs.sets.in_order.Goals as goal
 
 front : {A X : Type 0} (P : X → Type 0) (f : A → X) (xs : List A) (ys : List X)
     → All P (map f xs ++ ys) → All (λ a. P (f a)) xs

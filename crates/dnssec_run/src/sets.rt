@@ -1,0 +1,288 @@
+//! What is published of a key set, read in the order of its references.
+ghost use Rattle.std.specs.Prelude.{◌≡◌, ◌++◌, [], map, IfOk, IfErr, IfSome, OnOk, string_bytes};
+ghost use Rattle.std.specs.Prelude.{true, false};
+ghost use Rattle.std.specs.BTreeMap as tree;
+ghost use Rattle.std.specs.HashMap as hash;
+ghost use Rattle.std.specs.Option.{option_map};
+ghost use Rattle.dnssec_key.specs.declared.error.Error.TheVariants.{OutOfMemory};
+ghost use Rattle.dnssec_run.specs.Published.{IsPublished, World, id_of};
+ghost use Rattle.dnssec_run.specs.Recorder.{Agrees, AreFound, HasSameKeys, shown_once, shows};
+
+use crate::record::{Published, PublishedKey};
+use dnssec_keyset::{Error, Key, KeySet, KeyType};
+use std::alloc::Global;
+use std::collections::{BTreeMap, HashMap, VecDeque};
+use std::mem;
+
+/// The sets of an entry.
+#[derive(Clone, Copy, Debug, PartialEq, Eq)]
+pub enum Shown {
+    Ds,
+    Dnskey,
+    DnskeySigners,
+    ZoneSigners,
+}
+
+impl Shown {
+    /// Whether the set shows a key of this kind, in its state.
+    fn shows(self, keytype: KeyType) -> bool
+        ensures { result ≡ shows self keytype }
+    {
+        match (self, keytype) {
+            (Shown::Ds, KeyType::Ksk(state) | KeyType::Csk(state, _)) => state.at_parent(),
+            (
+                Shown::Dnskey,
+                KeyType::Ksk(state)
+                | KeyType::Zsk(state)
+                | KeyType::Csk(state, _)
+                | KeyType::Include(state),
+            ) => state.present(),
+            (Shown::DnskeySigners, KeyType::Ksk(state) | KeyType::Csk(state, _)) => state.signer(),
+            (Shown::ZoneSigners, KeyType::Zsk(state) | KeyType::Csk(_, state)) => state.signer(),
+            _ => false,
+        }
+    }
+}
+
+/// A key of a record, with a copy of its reference.
+fn published_key(reference: &String, added: usize) -> Result<PublishedKey, Error>
+    ensures ok { IfOk result (λ k. id_of k ≡ (string_bytes reference.now, added)) }
+    ensures err { IfErr result (λ e. e ≡ OutOfMemory) }
+{
+    match reference.clone() {
+        Ok(reference) => Ok(PublishedKey { reference, added }),
+        Err(_) => Err(Error::OutOfMemory),
+    }
+}
+
+/// Copies of keys of a record. `before` are copies that nothing needs any more: where both lists
+/// are in the order of their references, those of keys that stand in both are used again.
+///
+/// # Errors
+///
+/// `OutOfMemory` alone.
+pub fn copy_keys(
+    alloc: Global,
+    keys: &[PublishedKey],
+    before: Vec<PublishedKey>,
+) -> Result<Vec<PublishedKey>, Error>
+    ensures ok { IfOk result (λ copies. map id_of copies.items ≡ map id_of keys.now) }
+    ensures err { IfErr result (λ e. e ≡ OutOfMemory) }
+{
+    let mut before = VecDeque::from(before);
+    let Ok(mut copies) = Vec::with_capacity(alloc, keys.len()) else {
+        return Err(Error::OutOfMemory);
+    };
+    for key in keys {
+        let kept = find_next(&mut before, &key.reference, key.added);
+        let copy = kept_or_new(kept, &key.reference, key.added)?;
+        if copies.push(copy).is_err() {
+            return Err(Error::OutOfMemory);
+        }
+    }
+    Ok(copies)
+}
+
+/// A set while it is read anew.
+#[derive(Drop)]
+struct Renewal {
+    keys: Vec<PublishedKey>,
+    /// What was there before and wasn't met yet. A key that stays is taken from here, so that only
+    /// the references of new ones are copied.
+    before: VecDeque<PublishedKey>,
+}
+
+impl Renewal {
+    /// With room for the keys of before and one more.
+    fn new(alloc: Global, before: Vec<PublishedKey>) -> Result<Self, Error>
+        ensures ok { IfOk result (λ set. set.keys.items ≡ []) }
+        ensures err { IfErr result (λ e. e ≡ OutOfMemory) }
+    {
+        match Vec::with_capacity(alloc, before.len().saturating_add(1)) {
+            Ok(keys) => Ok(Renewal {
+                keys,
+                before: VecDeque::from(before),
+            }),
+            Err(_) => Err(Error::OutOfMemory),
+        }
+    }
+
+    /// Puts a key at the end of the set, where the set shows it. It is called four times for each
+    /// key, and mostly there is nothing to put.
+    #[inline(always)]
+    fn show(
+        &mut self,
+        shown: Shown,
+        key: Option<&Key>,
+        reference: &String,
+        added: usize,
+    ) -> Result<(), Error>
+        ensures ok { OnOk result (map id_of self.new.keys.items ≡ map id_of self.old.keys.items
+            ++ shown_once (shows shown) (option_map (λ k. k.now) key.entry)
+            (string_bytes reference.now, added)) }
+        ensures err { IfErr result (λ e. e ≡ OutOfMemory) }
+    {
+        let Some(key) = key else {
+            return Ok(());
+        };
+        if !shown.shows(key.keytype()) {
+            return Ok(());
+        }
+        let kept = find_next(&mut self.before, reference, added);
+        let key = kept_or_new(kept, reference, added)?;
+        match self.keys.push(key) {
+            Ok(()) => Ok(()),
+            Err(_) => Err(Error::OutOfMemory),
+        }
+    }
+}
+
+/// This key, where it is the first of these, but for keys that come before it: those are dropped.
+fn find_next(
+    keys: &mut VecDeque<PublishedKey>,
+    reference: &String,
+    added: usize,
+) -> Option<PublishedKey>
+    ensures { IfSome result (λ k. id_of k ≡ (string_bytes reference.now, added)) }
+{
+    match next_if(keys, reference, added) {
+        Some(key) => Some(key),
+        None => {
+            skip_to(keys, reference);
+            next_if(keys, reference, added)
+        }
+    }
+}
+
+/// The first of these keys, where it is this one.
+fn next_if(
+    keys: &mut VecDeque<PublishedKey>,
+    reference: &String,
+    added: usize,
+) -> Option<PublishedKey>
+    ensures { IfSome result (λ k. id_of k ≡ (string_bytes reference.now, added)) }
+{
+    match keys.front() {
+        Some(key) if key.added == added && key.reference == *reference => keys.pop_front(),
+        _ => None,
+    }
+}
+
+/// Drops the keys whose references come before this one.
+fn skip_to(keys: &mut VecDeque<PublishedKey>, reference: &String) {
+    while keys.front().is_some_and(|key| key.reference < *reference) {
+        keys.pop_front();
+    }
+}
+
+fn kept_or_new(
+    kept: Option<PublishedKey>,
+    reference: &String,
+    added: usize,
+) -> Result<PublishedKey, Error>
+    requires { IfSome kept (λ k. id_of k ≡ (string_bytes reference.now, added)) }
+    ensures ok { IfOk result (λ k. id_of k ≡ (string_bytes reference.now, added)) }
+    ensures err { IfErr result (λ e. e ≡ OutOfMemory) }
+{
+    match kept {
+        Some(key) => Ok(key),
+        None => published_key(reference, added),
+    }
+}
+
+/// The keys of a set with their references, in the order of these.
+fn in_order(alloc: Global, keys: &HashMap<String, Key>) -> Result<Vec<(&String, &Key)>, Error>
+    ensures ok { IfOk result (λ entries. AreFound (hash.get_by_text keys.now) entries.items) }
+    ensures err { IfErr result (λ e. e ≡ OutOfMemory) }
+{
+    let Ok(mut entries) = keys.iter().collect::<Vec<_>>(alloc) else {
+        return Err(Error::OutOfMemory);
+    };
+    entries.sort_unstable_by(|one, other| one.0.cmp(other.0));
+    Ok(entries)
+}
+
+/// The key at a reference: that of this entry, as they are in order. Else it is looked up.
+fn key_at<'a>(
+    keys: &'a HashMap<String, Key>,
+    entries: &[(&'a String, &'a Key)],
+    at: usize,
+    reference: &String,
+) -> Option<&'a Key>
+    requires { AreFound (hash.get_by_text keys.now) entries.now }
+    ensures { option_map (λ k. k.now) result
+        ≡ hash.get_by_text keys.now (string_bytes reference.now) }
+{
+    match entries.get(at) {
+        Some((found, key)) if **found == *reference => Some(*key),
+        _ => keys.get(reference.as_str()),
+    }
+}
+
+/// What is published of a key set, with the positions of its keys: one walk in the order of the
+/// references. What was published before is used again.
+fn published(
+    alloc: Global,
+    keyset: &KeySet,
+    added: &BTreeMap<String, usize>,
+    before: Published,
+) -> Result<Published, Error>
+    ensures ok { IfOk result (λ sets. (w : World) →
+        Agrees keyset.now (tree.get_by_text added.now) w → IsPublished sets w) }
+    ensures err { IfErr result (λ e. e ≡ OutOfMemory) }
+{
+    let keys = keyset.keys();
+    let mut ds = Renewal::new(alloc, before.ds)?;
+    let mut dnskey = Renewal::new(alloc, before.dnskey)?;
+    let mut dnskey_signers = Renewal::new(alloc, before.dnskey_signers)?;
+    let mut zone_signers = Renewal::new(alloc, before.zone_signers)?;
+    let entries = in_order(alloc, keys)?;
+    let mut at = 0;
+    for (reference, position) in added.iter() {
+        let key = key_at(keys, &entries, at, reference);
+        at = at.saturating_add(1);
+        ds.show(Shown::Ds, key, reference, *position)?;
+        dnskey.show(Shown::Dnskey, key, reference, *position)?;
+        dnskey_signers.show(Shown::DnskeySigners, key, reference, *position)?;
+        zone_signers.show(Shown::ZoneSigners, key, reference, *position)?;
+    }
+    Ok(Published {
+        ds: ds.keys,
+        dnskey: dnskey.keys,
+        dnskey_signers: dnskey_signers.keys,
+        zone_signers: zone_signers.keys,
+    })
+}
+
+/// Reads the sets anew, where the last call may have changed them.
+pub(crate) fn renew(
+    alloc: Global,
+    keyset: &KeySet,
+    added: &BTreeMap<String, usize>,
+    sets: &mut Published,
+    may_publish: bool,
+) -> Result<(), Error>
+    ensures kept { OnOk result (may_publish ≡ false → sets.new ≡ sets.old) }
+    ensures read { OnOk result (may_publish ≡ true → (w : World) →
+        Agrees keyset.now (tree.get_by_text added.now) w → IsPublished sets.new w) }
+    ensures err { IfErr result (λ e. e ≡ OutOfMemory) }
+{
+    if may_publish {
+        let before = mem::replace(sets, Published::none(alloc));
+        *sets = published(alloc, keyset, added, before)?;
+    }
+    Ok(())
+}
+
+/// A copy of what is published.
+pub(crate) fn copy_sets(alloc: Global, sets: &Published) -> Result<Published, Error>
+    ensures ok { IfOk result (λ copy. HasSameKeys copy sets.now) }
+    ensures err { IfErr result (λ e. e ≡ OutOfMemory) }
+{
+    Ok(Published {
+        ds: copy_keys(alloc, &sets.ds, Vec::new(alloc))?,
+        dnskey: copy_keys(alloc, &sets.dnskey, Vec::new(alloc))?,
+        dnskey_signers: copy_keys(alloc, &sets.dnskey_signers, Vec::new(alloc))?,
+        zone_signers: copy_keys(alloc, &sets.zone_signers, Vec::new(alloc))?,
+    })
+}
