@@ -136,7 +136,11 @@ impl KeySet {
     }
 
     /// Reports that what the first wait changed has reached all servers, at the moment `now`, as
-    /// `propagation1_complete` does for the start. It is refused in the same way.
+    /// `propagation1_complete` does for the start.
+    ///
+    /// # Errors
+    ///
+    /// That of `propagation1_complete`. Nothing is then changed.
     pub fn propagation2_complete(
         &mut self,
         rolltype: RollType,
@@ -153,9 +157,13 @@ impl KeySet {
         self.report(rolltype, Half::Second, ttl, now)
     }
 
-    /// Goes on to the end of a roll, once old data has left the caches at `now`. It answers and
-    /// is refused as `cache_expired1` is. Where no action is due, which is so for
+    /// Goes on to the end of a roll, once old data has left the caches at `now`, as
+    /// `cache_expired1` does to its second half. Where no action is due, which is so for
     /// `ZskDoubleSignatureRoll`, no memory is taken.
+    ///
+    /// # Errors
+    ///
+    /// Those of `cache_expired1`, in that order. Nothing is then changed.
     pub fn cache_expired2(
         &mut self,
         rolltype: RollType,
@@ -178,12 +186,12 @@ impl KeySet {
     ///
     /// `WrongStateForRollOperation` where the roll isn't in its last phase. Nothing is then
     /// changed.
-    #[tactic(auto, using(crate::proofs::Steps::steps))]
     ///
     /// ```rust
     /// set.roll_done(RollType::ZskRoll)?;
     /// set.delete_key("Z1")?;
     /// ```
+    #[tactic(auto, using(crate::proofs::Steps::steps))]
     pub fn roll_done(&mut self, rolltype: RollType) -> Result<Vec<Action>, Error>
         ensures reply { AnswersExactly (end_refusal (phase_of self.old.rolls rolltype)) result }
         ensures actions { IfOk result (λ actions. actions.items ≡ []) }

@@ -165,6 +165,10 @@ impl KeySet {
     }
 
     /// Adds a ZSK, as `add_key_ksk` adds a KSK.
+    ///
+    /// # Errors
+    ///
+    /// Those of `add_key_ksk`, in that order. Nothing is then changed.
     pub fn add_key_zsk(
         &mut self,
         pubref: String,
@@ -186,6 +190,10 @@ impl KeySet {
     }
 
     /// Adds a CSK, as `add_key_ksk` adds a KSK. Both its roles are new.
+    ///
+    /// # Errors
+    ///
+    /// Those of `add_key_ksk`, in that order. Nothing is then changed.
     pub fn add_key_csk(
         &mut self,
         pubref: String,
@@ -214,8 +222,11 @@ impl KeySet {
     }
 
     /// Adds a key of another signer, which may be published beside those of the set. It has no
-    /// private part. `available` is kept, but no roll takes such a key. Refused as `add_key_ksk`
-    /// is.
+    /// private part. `available` is kept, but no roll takes such a key.
+    ///
+    /// # Errors
+    ///
+    /// Those of `add_key_ksk`, in that order. Nothing is then changed.
     pub fn add_public_key(
         &mut self,
         pubref: String,

@@ -1,5 +1,5 @@
--- A second wait and an early end keep the invariant of both sides, so each position of a plain run is
--- safe.
+-- A second wait and an early end keep the invariant of both sides, so each position of a plain run
+-- is safe.
 use Rattle.std.proofs.Common.{◌≡◌, ℕ, suc, ◌≤◌, ◌⊎◌, inl, inr, Bool, true, false, refl, sym, ◌∙◌}
 use Rattle.std.proofs.Common.{ap, subst, arith, length, Option, None, Some}
 use Rattle.std.specs.Option.{option_map}
