@@ -17,7 +17,7 @@ use Rattle.dnssec_keyset.proofs.Flags.{is_stale}
 use Rattle.dnssec_key.specs.Key.{KeyParts}
 
 -- a refused call left the set as it was
-pub refused_same : (v : keyset.Verdict) (old new : KeySetParts) (c : keyset.Call) (cause : Error)
+pub refused_same : (v : keyset.Clearance) (old new : KeySetParts) (c : keyset.Call) (cause : Error)
     → keyset.StepBy v old c (keyset.Refused cause) new → new ≡ old
 refused_same (keyset.Barred e) old new c cause h = h.1
 refused_same (keyset.Early left) old new c cause h = h.1
@@ -38,8 +38,8 @@ abbrev pub is_refused : keyset.Reply → Bool
 is_refused (keyset.Refused cause) = true
 is_refused _ = false
 
--- an accepted call had a clear verdict, made its change, and answered what is due
-pub accepted_changes : (v : keyset.Verdict) (old new : KeySetParts) (c : keyset.Call)
+-- an accepted call had a clear clearance, made its change, and answered what is due
+pub accepted_changes : (v : keyset.Clearance) (old new : KeySetParts) (c : keyset.Call)
     (r : keyset.Reply) → is_refused r ≡ false → keyset.StepBy v old c r new → (v ≡ keyset.Clear)
     × keyset.Changes old c new × (r ≡ keyset.accepted_reply c)
 accepted_changes (keyset.Barred e) old new c r a h =

@@ -17,8 +17,8 @@ use Rattle.dnssec_keyset.specs.KeySet.{Keys, KeySetParts, Lists, PutsKey, MovesO
 use Rattle.dnssec_keyset.specs.KeySet.{without}
 use Rattle.dnssec_key.specs.Setters.{set_by}
 use Rattle.dnssec_keyset.specs.Step.{Call, AddKey, Set, DeleteKey, StartRoll, Report, Wait}
-use Rattle.dnssec_keyset.specs.Step.{RollDone, AbortRoll, Reply, Verdict, Barred, Early, Clear}
-use Rattle.dnssec_keyset.specs.Step.{Changes, Step, StepBy, verdict, accepted_reply, after}
+use Rattle.dnssec_keyset.specs.Step.{RollDone, AbortRoll, Reply, Clearance, Barred, Early, Clear}
+use Rattle.dnssec_keyset.specs.Step.{Changes, Step, StepBy, clearance, accepted_reply, after}
 use Rattle.dnssec_keyset.specs.Step.{after_reply, keys_by}
 use Rattle.dnssec_keyset.proofs.Shown.{same_keys}
 use Rattle.dnssec_keyset.proofs.Quantified.{same_key}
@@ -170,7 +170,7 @@ accepted_after (Wait roll half now) old = refl
 accepted_after (RollDone roll) old = refl
 accepted_after (AbortRoll roll) old = refl
 
-step_by-after : (v : Verdict) (old new : KeySetParts) (call : Call) (reply : Reply)
+step_by-after : (v : Clearance) (old new : KeySetParts) (call : Call) (reply : Reply)
     → StepBy v old call reply new → new ≡ after_reply reply call old
 step_by-after (Barred cause) old new call reply h = h.1 ∙ sym (ap (λ r. after_reply r call old) h.0)
 step_by-after (Early left) old new call reply h = h.1 ∙ sym (ap (λ r. after_reply r call old) h.0.1)
@@ -182,4 +182,4 @@ step_by-after Clear old new call reply h = elim h [
 
 pub step-after : (old new : KeySetParts) (call : Call) (reply : Reply) → Step old call reply new
     → new ≡ after_reply reply call old
-step-after old new call reply h = step_by-after (verdict old call) old new call reply h
+step-after old new call reply h = step_by-after (clearance old call) old new call reply h

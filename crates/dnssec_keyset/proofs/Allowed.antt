@@ -5,7 +5,7 @@ use Rattle.std.specs.Prelude.{◌≢◌, Option, Result, OnOk, OnErr, IfOk}
 use Rattle.dnssec_key.specs.declared.roll.Action.{Action}
 use Rattle.dnssec_key.specs.declared.error.Error.{Error}
 use Rattle.dnssec_keyset.specs.KeySet.{KeySetParts}
-use Rattle.dnssec_keyset.specs.Step.{Call, Done, Actions, Verdict, Barred, Early, Clear}
+use Rattle.dnssec_keyset.specs.Step.{Call, Done, Actions, Clearance, Barred, Early, Clear}
 use Rattle.dnssec_keyset.specs.Step.{AnswersExactly, Answers, AnswersWait, barred_by}
 use Rattle.dnssec_keyset.specs.Step.{accepted_reply, Changes, TakesMemory, StepBy, reply_done}
 use Rattle.dnssec_keyset.specs.Step.{reply_list}
@@ -52,7 +52,7 @@ module _ (old new : KeySetParts) (call : Call) where
 
   pub list_waited : (wanted : List Action) → Actions wanted ≡ accepted_reply call
       → (wanted ≢ [] → TakesMemory call)
-      → (v : Verdict) (r : Result (Vec Action Global) Error) → AnswersWait v old.keys wanted r
+      → (v : Clearance) (r : Result (Vec Action Global) Error) → AnswersWait v wanted r
       → IfOk r (λ v. v.items ≡ wanted)
       → OnOk r (Changes old call new) → OnErr r (new ≡ old) → StepBy v old call (reply_list r) new
   list_waited wanted is memory (Barred x) (Ok v) a items ok err = cc

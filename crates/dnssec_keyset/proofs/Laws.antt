@@ -33,9 +33,9 @@ use Rattle.dnssec_keyset.specs.Start.{all_rolls, are_apart, conflict, has_confli
 use Rattle.dnssec_keyset.specs.Start.{together}
 use Rattle.dnssec_keyset.specs.Wait.{ttl_in}
 use Rattle.dnssec_keyset.specs.Step.{Call, AddKey, Set, DeleteKey, StartRoll, Report, Wait}
-use Rattle.dnssec_keyset.specs.Step.{RollDone, AbortRoll, Reply, Verdict, Barred, Early, Clear}
+use Rattle.dnssec_keyset.specs.Step.{RollDone, AbortRoll, Reply, Clearance, Barred, Early, Clear}
 use Rattle.dnssec_keyset.specs.Step.{Changes, Step, StepBy, add_refusal, barred_by, has_tag}
-use Rattle.dnssec_keyset.specs.Step.{report_refusal, verdict, wait_in_phase}
+use Rattle.dnssec_keyset.specs.Step.{report_refusal, clearance, wait_in_phase}
 use Rattle.dnssec_keyset.specs.Laws.{TagsApart, RollsTogether, in_progress}
 use Rattle.dnssec_keyset.proofs.Phases.{phase_of-with_phase, no_phases}
 use Rattle.dnssec_keyset.proofs.Quantified.{some_key-none}
@@ -43,7 +43,7 @@ use Rattle.dnssec_keyset.proofs.Tags.{mapped}
 
 -- ---- a step changes nothing, or makes a change for which no cause stood
 
-moved_by : (v : Verdict) (old new : KeySetParts) (call : Call) (reply : Reply)
+moved_by : (v : Clearance) (old new : KeySetParts) (call : Call) (reply : Reply)
     → StepBy v old call reply new → (new ≡ old) ⊎ ((v ≡ Clear) × Changes old call new)
 moved_by (Barred cause) old new call reply h = inl h.1
 moved_by (Early left) old new call reply h = inl h.1
@@ -51,8 +51,8 @@ moved_by Clear old new call reply h =
     elim h [ inl ok ↦ inr (refl, ok.1) | inr memory ↦ inl memory.2 ]
 
 pub moved : (old new : KeySetParts) (call : Call) (reply : Reply) → Step old call reply new
-    → (new ≡ old) ⊎ ((verdict old call ≡ Clear) × Changes old call new)
-moved old new call reply h = moved_by (verdict old call) old new call reply h
+    → (new ≡ old) ⊎ ((clearance old call ≡ Clear) × Changes old call new)
+moved old new call reply h = moved_by (clearance old call) old new call reply h
 
 pub no_cause : (o : Option Error) → barred_by o ≡ Clear → o ≡ None
 no_cause None e = refl
@@ -139,7 +139,7 @@ no_tag keys r t e = elim (cases_Bool (has_tag t keys)) [
   | inr h ↦ h
 ]
 
-apart-changes : (old new : KeySetParts) → TagsApart old.keys → (call : Call) → verdict old call
+apart-changes : (old new : KeySetParts) → TagsApart old.keys → (call : Call) → clearance old call
     ≡ Clear → Changes old call new → TagsApart new.keys
 apart-changes old new apart (AddKey r key) clear puts =
     apart-puts old new apart r (Some key) old.lists (λ x k q e g same.
@@ -321,7 +321,7 @@ waited-there roll Second None now keys e = cc
 waited-there roll half (Some phase) now keys e = refl
 
 together-changes : (old new : KeySetParts) → RollsTogether old.rolls → (call : Call)
-    → verdict old call ≡ Clear → Changes old call new → RollsTogether new.rolls
+    → clearance old call ≡ Clear → Changes old call new → RollsTogether new.rolls
 together-changes old new all (AddKey r key) clear h = subst RollsTogether (sym h.rolls) all
 together-changes old new all (Set r setting) clear h = subst RollsTogether (sym h.rolls) all
 together-changes old new all (DeleteKey r) clear h = subst RollsTogether (sym h.rolls) all

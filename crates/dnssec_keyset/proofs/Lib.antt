@@ -12,7 +12,7 @@
 -- | `check_suitability`              | ruleset `starts`               | Starts                |
 -- | `search_and_drop`                | `filtered`                     | Retained              |
 -- | the phases of rolls              | ruleset `phases`               | Phases                |
--- | `check_wait`, `over_from`        | `told-over`, `walk-over`       | Waits, Steps          |
+-- | `check_wait`, `over_from`        | `told-over`, `walk-over`       | Waits, Longest, Steps |
 -- | `StaysSound`                     | `apart-step`, `together-step`  | Laws                  |
 -- | `KeepsSidesApart`                | `leaves-others`                | Sides, Laws, Tests    |
 -- | `NeighboursMayBeExchanged`       | `Law.exchange`                 | Exchange              |
@@ -34,6 +34,7 @@ pub mod Retained
 pub mod Starts
 pub mod Marks
 pub mod Entries
+pub mod Longest
 pub mod Waits
 pub mod Steps
 pub mod After

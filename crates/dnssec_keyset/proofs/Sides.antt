@@ -22,7 +22,7 @@ use Rattle.dnssec_keyset.specs.Start.{algorithm_fault, conflict, is_listed, list
 use Rattle.dnssec_keyset.specs.Start.{new_entry_fault, new_fault, old_entry_fault, old_fault}
 use Rattle.dnssec_keyset.specs.Start.{side_of, start_refusal, suitability_fault}
 use Rattle.dnssec_keyset.specs.Step.{Call, AddKey, Set, DeleteKey, StartRoll, Report, Wait}
-use Rattle.dnssec_keyset.specs.Step.{RollDone, AbortRoll, Reply, Clear, Changes, Step, verdict}
+use Rattle.dnssec_keyset.specs.Step.{RollDone, AbortRoll, Reply, Clear, Changes, Step, clearance}
 use Rattle.dnssec_keyset.specs.Laws.{LeavesOthers, roll_of}
 use Rattle.dnssec_keyset.proofs.Laws.{moved, no_cause, no_first, no_rest}
 use Rattle.dnssec_keyset.proofs.Tests.{each_in_roll, each_in_roll-at, four, or_second, same_kind}
@@ -247,7 +247,7 @@ module _ (roll : RollType) (set : KeySetParts) (olds news : List (List ℕ))
 -- ---- the law
 
 leaves : (old new : KeySetParts) (call : Call) (roll : RollType) (q : List ℕ) (k : KeyParts)
-    → roll_of call ≡ Some roll → verdict old call ≡ Clear → Changes old call new
+    → roll_of call ≡ Some roll → clearance old call ≡ Clear → Changes old call new
     → get old.keys q ≡ Some k → lists_kind (side_of roll) k.keytype ≡ false → get new.keys q
     ≡ Some k
 leaves old new (AddKey r key) roll q k on clear h is other = cc

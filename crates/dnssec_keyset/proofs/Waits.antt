@@ -3,13 +3,14 @@
 use Rattle.std.proofs.Common.{◌≡◌, ℕ, zero, suc, ◌<◌, ◌≤◌, Bool, true, false, not, List, [], ◌∷◌}
 use Rattle.std.proofs.Common.{Some, None, Ok, Err, refl, sym, ap, subst, ◌∙◌, inl, inr, max, min}
 use Rattle.std.proofs.Common.{arith}
-use Rattle.std.specs.Prelude.{Option, Result, IsOk, ◌⊎◌, ◌||◌, nat_eq, nat_lt, is_some, unwrap_or}
-use Rattle.std.specs.Prelude.{◌*◌, ◌+◌, ◌-◌, if◌then◌else◌}
+use Rattle.std.specs.Prelude.{Option, Result, IsOk, ◌⊎◌, ◌&&◌, nat_eq, nat_lt, is_some, is_none}
+use Rattle.std.specs.Prelude.{◌*◌, ◌+◌, ◌-◌, if◌then◌else◌, unwrap_or}
 use Rattle.std.specs.List.{list_any, fold}
 use Rattle.std.specs.Option.{option_map, option_map_or, option_and_then}
 use Rattle.std.specs.Duration.{as_nanos}
 use Rattle.std.specs.declared.time.Duration.{Duration}
 use Rattle.std.specs.String.{string_eq}
+use Rattle.std.specs.FinMap.{get}
 use Rattle.std.specs.HashMap.{IsUnique, values as hash_values}
 use Rattle.std.proofs.lemmas.Bool.Decides.{nat_tests}
 use Rattle.dnssec_key.specs.RollTable.{Half, First, Second, expiring}
@@ -26,18 +27,18 @@ use Rattle.dnssec_keyset.specs.contracts.set.KeySet.{the_view as set_view}
 use Rattle.dnssec_key.specs.Key.{KeyParts}
 use Rattle.dnssec_keyset.specs.KeySet.{Keys, KeySetParts, phase_of, some_key}
 use Rattle.dnssec_key.specs.RollTable.{half_of}
-use Rattle.dnssec_keyset.specs.Wait.{ttl_in, time_left, left_since, stamp_read}
-use Rattle.dnssec_keyset.specs.Inner.Over.{over_at}
-use Rattle.dnssec_keyset.specs.Wait.{lacks_stamp, is_early, IsLongest}
-use Rattle.dnssec_keyset.specs.Inner.Over.{over_since}
-use Rattle.dnssec_keyset.specs.Step.{Verdict, Barred, Early, Clear, AnswersWait, wait_in_phase}
-use Rattle.dnssec_keyset.specs.Step.{wait_verdict}
-use Rattle.dnssec_keyset.specs.WaitEnd.{IsEarlyBy, IsOverFrom, LacksStamp, HasNoWait}
+use Rattle.dnssec_keyset.specs.Wait.{ttl_in, lacks_stamp, time_left, longest_left, left_since}
+use Rattle.dnssec_keyset.specs.Wait.{stamp_read}
+use Rattle.dnssec_keyset.specs.Inner.Over.{over_at, over_since}
+use Rattle.dnssec_keyset.specs.Step.{Clearance, Barred, Early, Clear, AnswersWait, early_by}
+use Rattle.dnssec_keyset.specs.Step.{wait_in_phase, wait_clearance}
+use Rattle.dnssec_keyset.specs.WaitEnd.{IsOverFrom, LacksStamp, HasNoWait}
 use Rattle.dnssec_key.specs.declared.roll.RollState.{RollState}
 use Rattle.dnssec_key.specs.declared.roll.RollState.TheVariants.{Propagation1, CacheExpire1}
 use Rattle.dnssec_key.specs.declared.roll.RollState.TheVariants.{Propagation2, CacheExpire2, Done}
 use Rattle.dnssec_keyset.proofs.Walks.{some_key-view}
 use Rattle.dnssec_keyset.proofs.Quantified.{some_key-found, some_key-none}
+use Rattle.dnssec_keyset.proofs.Longest.{longest-most, longest-is, none-left, some-left}
 use Rattle.std.proofs.lemmas.Bool.{cases_Bool, or_from, or_right, or_left}
 
 -- ---- the walk over a list of keys
@@ -137,21 +138,6 @@ module _ (f : KeyParts → Option ℕ) where
 
 -- ---- from the moment on which a wait is over to what is left at any moment
 
-weaker : (p r : KeyParts → Bool) → ((k : KeyParts) → p k ≡ true → r k ≡ true)
-    → (ks : List KeyParts) → list_any p ks ≡ true → list_any r ks ≡ true
-weaker p r h [] e = cc
-weaker p r h (k ∷ ks) e = elim (cases_Bool (p k)) [
-  | inl passes ↦ or_left _ _ (h k passes)
-  | inr fails ↦ or_right _ _ (weaker p r h ks (sym (ap (λ b. b || list_any p ks) fails) ∙ e))
-]
-
-none_weaker : (p r : KeyParts → Bool) → ((k : KeyParts) → p k ≡ true → r k ≡ true)
-    → (ks : List KeyParts) → list_any r ks ≡ false → list_any p ks ≡ false
-none_weaker p r h ks none = elim (cases_Bool (list_any p ks)) [
-  | inl some ↦ absurd (let one = sym (weaker p r h ks some) ∙ none in cc)
-  | inr none ↦ none
-]
-
 -- what is left of a span of time at a moment, by the moment from which nothing is
 left_of : ℕ → ℕ → ℕ → ℕ
 left_of span now end = min span (end - now)
@@ -174,25 +160,15 @@ unchecked : (span now : ℕ) → 0 ≡ left_of span now 0
 unfolding left_of
 unchecked span now = omega arith
 
-module _ (roll : RollType) (half : Half) (ttl now : ℕ) where
-  left-over : (k : KeyParts) → time_left roll half ttl now k
-      ≡ option_map (left_of (ttl * 1_000_000_000) now) (over_at roll half ttl k)
-  left-over k = at ((half_of roll half).checks k.keytype) (stamp_read roll half k)
+module _ (roll : RollType) (half : Half) (ttl : ℕ) where
+  missing-same : (k : KeyParts) → lacks_stamp roll half k ≡ not (is_some (over_at roll half ttl k))
+  missing-same k = at ((half_of roll half).checks k.keytype) (stamp_read roll half k)
     where
-      at : (c : Bool) (s : Option ℕ) → (if c then option_map (left_since ttl now) s else Some 0)
-          ≡ option_map (left_of (ttl * 1_000_000_000) now)
-          (if c then option_map (over_since ttl) s else Some 0)
-      at false s = ap Some (unchecked (ttl * 1_000_000_000) now)
+      at : (c : Bool) (s : Option ℕ) → (c && is_none s)
+          ≡ not (is_some (if c then option_map (over_since ttl) s else Some 0))
+      at false s = refl
       at true None = refl
-      at true (Some s) = ap Some (left-since ttl now s)
-
-  missing-same : (k : KeyParts) →
-      is_some (time_left roll half ttl now k) ≡ is_some (over_at roll half ttl k)
-  missing-same k = ap is_some (left-over k) ∙ at (over_at roll half ttl k)
-    where
-      at : (o : Option ℕ) → is_some (option_map (left_of (ttl * 1_000_000_000) now) o) ≡ is_some o
-      at None = refl
-      at (Some n) = refl
+      at true (Some s) = refl
 
   -- where some key keeps a wait up, there is a TTL
   has-ttl : (k : KeyParts) (end : ℕ) → over_at roll half ttl k ≡ Some end → 0 < end → 0 < ttl
@@ -208,51 +184,31 @@ module _ (roll : RollType) (half : Half) (ttl now : ℕ) where
       at true None e more = cc
       at true (Some s) e more = let is : over_since ttl s ≡ end = cc in from ttl s is more
 
-  -- what is left for a key at a moment
-  is_early_for : KeyParts → Bool
-  is_early_for k = nat_lt 0 (unwrap_or (time_left roll half ttl now k) 0)
+  module _ (now : ℕ) where
+    -- what is left for a key at a moment
+    left-over : (k : KeyParts) → time_left roll half ttl now k
+        ≡ option_map_or (left_of (ttl * 1_000_000_000) now) (over_at roll half ttl k) 0
+    left-over k = at ((half_of roll half).checks k.keytype) (stamp_read roll half k)
+      where
+        at : (c : Bool) (s : Option ℕ) → (if c then option_map_or (left_since ttl now) s 0 else 0)
+            ≡ option_map_or (left_of (ttl * 1_000_000_000) now)
+            (if c then option_map (over_since ttl) s else Some 0) 0
+        at false s = unchecked (ttl * 1_000_000_000) now
+        at true None = refl
+        at true (Some s) = left-since ttl now s
 
-  left-early : (k : KeyParts) (end : ℕ) → now < end → over_at roll half ttl k ≡ Some end →
-      is_early_for k ≡ true
-  unfolding is_early_for left_of
-  left-early k end early e =
-      let more = has-ttl k end e (omega arith) in
-      ap (λ o. nat_lt 0 (unwrap_or o 0))
-      (left-over k ∙ ap (option_map (left_of (ttl * 1_000_000_000) now)) e)
-      ∙ positive ttl more
-    where
-      positive : (ttl : ℕ) → 0 < ttl → nat_lt 0 (left_of (ttl * 1_000_000_000) now end) ≡ true
-      positive ttl more =
-          let some : 0 < min (ttl * 1_000_000_000) (end - now) = omega arith in
-          grind (arith, nat_tests)
-
-  early-above : (k : KeyParts) (end : ℕ) → end ≤ now → is_early_for k ≡ true →
-      nat_lt end (unwrap_or (over_at roll half ttl k) 0) ≡ true
-  unfolding is_early_for left_of
-  early-above k end late h =
-      at (over_at roll half ttl k) (sym (ap (λ o. nat_lt 0 (unwrap_or o 0)) (left-over k)) ∙ h)
-    where
-      at : (o : Option ℕ) → nat_lt 0
-          (unwrap_or (option_map (left_of (ttl * 1_000_000_000) now) o) 0) ≡ true →
-          nat_lt end (unwrap_or o 0) ≡ true
-      at None h = cc
-      at (Some n) h =
-          let some : 0 < min (ttl * 1_000_000_000) (n - now) = grind (arith, nat_tests) in
-          let above : end < n = omega arith in
-          grind (arith, nat_tests)
-
-  left-bound : (k : KeyParts) (end : ℕ) → unwrap_or (over_at roll half ttl k) 0 ≤ end →
-      unwrap_or (time_left roll half ttl now k) 0 ≤ left_of (ttl * 1_000_000_000) now end
-  unfolding left_of
-  left-bound k end below =
-      subst (λ o. unwrap_or o 0 ≤ left_of (ttl * 1_000_000_000) now end) (sym (left-over k))
-      (at (over_at roll half ttl k) below)
-    where
-      at : (o : Option ℕ) → unwrap_or o 0 ≤ end →
-          unwrap_or (option_map (left_of (ttl * 1_000_000_000) now) o) 0 ≤ left_of
-          (ttl * 1_000_000_000) now end
-      at None h = omega arith
-      at (Some n) h = omega arith
+    left-bound : (k : KeyParts) (end : ℕ) → unwrap_or (over_at roll half ttl k) 0 ≤ end →
+        time_left roll half ttl now k ≤ left_of (ttl * 1_000_000_000) now end
+    unfolding left_of
+    left-bound k end below =
+        subst (λ n. n ≤ left_of (ttl * 1_000_000_000) now end) (sym (left-over k))
+        (at (over_at roll half ttl k) below)
+      where
+        at : (o : Option ℕ) → unwrap_or o 0 ≤ end →
+            option_map_or (left_of (ttl * 1_000_000_000) now) o 0 ≤ left_of
+            (ttl * 1_000_000_000) now end
+        at None h = omega arith
+        at (Some n) h = omega arith
 
 -- ---- the keys of a key set
 
@@ -268,84 +224,75 @@ module _ (roll : RollType) (half : Half) (ttl : ℕ) (i : Inside) (v : Keys)
   unfolding ks
   seen p = some_key-view p i v view unique
 
-  lacks : ℕ → Bool
-  lacks now = lacks_stamp (time_left roll half ttl now) v
+  lacks : some_key (lacks_stamp roll half) v ≡ list_any (is_missing over) ks
+  unfolding over is_missing
+  lacks = (λ j. some_key (λ k. missing-same roll half ttl k j) v) ∙ seen (is_missing over)
 
   -- a walk that finds a stamp missing
   pub walk-lacks : None
       ≡ fold (λ a k. option_and_then (λ x. option_map (λ y. max x y) (over_at roll half ttl k)) a)
       (Some 0) (hash_values i.map)
       → LacksStamp roll half ttl v
-  unfolding over ks further is_missing lacks
+  unfolding over ks further
   walk-lacks walk now =
-      let lacks_it : lacks now ≡ true = seen (λ k. not (is_some (time_left roll half ttl now k)))
-      ∙ weaker (is_missing over) (λ k. not (is_some (time_left roll half ttl now k)))
-      (λ k h. ap not (missing-same roll half ttl now k) ∙ h) ks
-      (walk-missing over ks 0 (sym walk)) in
-      rw lacks_it refl
+      ap (λ b. if b then Barred WrongKeyState else early_by (longest_left roll half ttl now v))
+      (lacks ∙ walk-missing over ks 0 (sym walk))
 
-  has : (now : ℕ) → list_any (is_missing over) ks ≡ false → lacks now ≡ false
-  unfolding over ks is_missing lacks
-  has now none = seen (λ k. not (is_some (time_left roll half ttl now k)))
-      ∙ none_weaker (λ k. not (is_some (time_left roll half ttl now k))) (is_missing over)
-      (λ k h. sym (ap not (missing-same roll half ttl now k)) ∙ h) ks none
+  told : (now : ℕ) → list_any (is_missing over) ks ≡ false →
+      wait_in_phase roll half (Some ttl) now v ≡ early_by (longest_left roll half ttl now v)
+  told now none =
+      ap (λ b. if b then Barred WrongKeyState else early_by (longest_left roll half ttl now v))
+      (lacks ∙ none)
 
   -- a walk that finds from when on the wait is over
   pub walk-over : (end : ℕ) →
       Some end ≡ fold (λ a k. option_and_then
       (λ x. option_map (λ y. max x y) (over_at roll half ttl k)) a) (Some 0) (hash_values i.map)
       → IsOverFrom roll half ttl v end
-  unfolding over ks further is_missing is_above is_early_for left_of lacks IsEarlyBy
-  walk-over end walk =
-      let ends = walk-found over ks 0 end (sym walk) in
-      let bound : some_key (is_above over end) v ≡ false = seen (is_above over end)
-      ∙ ends.bound in
-      record {
-        early = λ now less.
-            let just : list_any (is_just over end) ks
-            ≡ true = elim ends.attained [ inl h ↦ absurd (omega arith) | inr h ↦ h ] in
-            let one = some_key-found (is_just over end) v (seen (is_just over end) ∙ just) in
-            let is : over one.1 ≡ Some end = is_there over one.1 end one.3 in
-            let early : is_early (time_left roll half ttl now) v
-            ≡ true = seen (is_early_for roll half ttl now)
-            ∙ weaker (is_just over end) (is_early_for roll half ttl now)
-            (λ k h. left-early roll half ttl now k end less (is_there over k end h)) ks just in
-            let longest : IsLongest (time_left roll half ttl now) v
-            (min (ttl * 1_000_000_000) (end - now)) = record {
-              bound = λ q k at. left-bound roll half ttl now k end
-                  (not_above over k end (some_key-none (is_above over end) v q k bound at));
-              attained = (
-                one.0,
-                one.1,
-                one.2,
-                left-over roll half ttl now one.1
-                    ∙ ap (option_map (left_of (ttl * 1_000_000_000) now)) is,
-              );
-            } in
-            rw (has now ends.all, early) longest;
-        over = λ now late.
-            let clear : is_early (time_left roll half ttl now) v
-            ≡ false = seen (is_early_for roll half ttl now)
-            ∙ none_weaker (is_early_for roll half ttl now) (is_above over end)
-            (λ k h. early-above roll half ttl now k end late h) ks ends.bound in
-            rw (has now ends.all, clear) refl;
-      }
+  unfolding over ks further is_above left_of
+  walk-over end walk = record {
+    early = λ now less.
+        let just : list_any (is_just over end) ks
+        ≡ true = elim ends.attained [ inl h ↦ absurd (omega arith) | inr h ↦ h ] in
+        let one = some_key-found (is_just over end) v (seen (is_just over end) ∙ just) in
+        let is : over one.1 ≡ Some end = is_there over one.1 end one.3 in
+        let more : 0 < ttl = has-ttl roll half ttl one.1 end is (omega arith) in
+        let longest = longest-is (time_left roll half ttl now) v
+        (min (ttl * 1_000_000_000) (end - now)) (bound now) one.0 one.1 one.2
+        (left-over roll half ttl now one.1
+        ∙ ap (λ o. option_map_or (left_of (ttl * 1_000_000_000) now) o 0) is) in
+        told now ends.all ∙ ap early_by longest ∙ some-left _ (omega arith);
+    over = λ now late.
+        told now ends.all ∙ none-left _ (none now late
+        (longest-most (time_left roll half ttl now) v _ (bound now)));
+  }
+    where
+      ends : Ends over 0 end ks
+      ends = walk-found over ks 0 end (sym walk)
+
+      bound : (now : ℕ) (q : List ℕ) (k : KeyParts) → get v q ≡ Some k →
+          time_left roll half ttl now k ≤ left_of (ttl * 1_000_000_000) now end
+      bound now q k at = left-bound roll half ttl now k end (not_above over k end
+          (some_key-none (is_above over end) v q k (seen (is_above over end) ∙ ends.bound) at))
+
+      none : (now : ℕ) → end ≤ now → {n : ℕ} → n ≤ left_of (ttl * 1_000_000_000) now end → n ≤ 0
+      none now late h = omega arith
 
 -- ---- from the check to the call
 
-module _ (T U : Type 0) (keys : Keys) where
+module _ (T U : Type 0) where
   -- a check that refuses
-  pub wait-refused : (v : Verdict) (e : Error) (actions : List Action) →
-      AnswersWait {T = T} v keys [] (Err e) → AnswersWait {T = U} v keys actions (Err e)
+  pub wait-refused : (v : Clearance) (e : Error) (actions : List Action) →
+      AnswersWait {T = T} v [] (Err e) → AnswersWait {T = U} v actions (Err e)
   wait-refused (Barred x) e actions h = cc
   wait-refused (Early left) e actions h = let is = h.1 in (h.0, cc, h.2)
   wait-refused Clear e actions h = cc
 
   -- a check that passes, and a list of actions, or no memory for it
-  pub wait-passed : (v : Verdict) (x : T) (actions : List Action) (r : Result U Error) →
-      AnswersWait {T = T} v keys [] (Ok x)
+  pub wait-passed : (v : Clearance) (x : T) (actions : List Action) (r : Result U Error) →
+      AnswersWait {T = T} v [] (Ok x)
       → (actions ≡ [] → IsOk r) → IsOk r ⊎ (r ≡ Err OutOfMemory) →
-      AnswersWait {T = U} v keys actions r
+      AnswersWait {T = U} v actions r
   wait-passed (Barred e) x actions r h none some = cc
   wait-passed (Early left) x actions r h none some = let is = h.1 in cc
   wait-passed Clear x [] r h none some = none refl
@@ -363,27 +310,18 @@ module _ (T : Type 0) (roll : RollType) (half : Half) (ttl : ℕ) (keys : Keys) 
   -- a wait before the end
   pub told-early : (now : ℕ) → now < end → (d : Duration) →
       as_nanos d ≡ min (ttl * 1_000_000_000) (end - now)
-      → AnswersWait {T = T} (wait_in_phase roll half t now keys) keys [] (Err (Wait d))
-  unfolding IsEarlyBy
-  told-early now less d is =
-      subst (λ x. AnswersWait {T = T} (wait_in_phase roll half x now keys) keys [] (Err (Wait d)))
-      (sym phase) (at _ (over.early now less))
-    where
-      at : (v : Verdict) → IsEarlyBy (min (ttl * 1_000_000_000) (end - now)) keys v →
-          AnswersWait {T = T} v keys [] (Err (Wait d))
-      at (Early left) longest = (d, refl, subst (IsLongest left keys) (sym is) longest)
-      at (Barred cause) none = absurd none
-      at Clear none = absurd none
+      → AnswersWait {T = T} (wait_in_phase roll half t now keys) [] (Err (Wait d))
+  told-early now less d is = rw (phase, over.early now less) (d, refl, is)
 
   -- a wait at the end or later
   pub told-over : (now : ℕ) → end ≤ now → (x : T) →
-      AnswersWait {T = T} (wait_in_phase roll half t now keys) keys [] (Ok x)
+      AnswersWait {T = T} (wait_in_phase roll half t now keys) [] (Ok x)
   told-over now late x = rw (phase, over.over now late) refl
 
 -- a wait for a key that lacks its stamp
 pub told-missing : (T : Type 0) (roll : RollType) (half : Half) (ttl : ℕ) (keys : Keys)
     (t : Option ℕ) → t ≡ Some ttl → LacksStamp roll half ttl keys → (now : ℕ) →
-    AnswersWait {T = T} (wait_in_phase roll half t now keys) keys [] (Err WrongKeyState)
+    AnswersWait {T = T} (wait_in_phase roll half t now keys) [] (Err WrongKeyState)
 told-missing T roll half ttl keys t phase lacks now = rw (phase, lacks now) refl
 
 -- what is left, where the moment is told as a duration
@@ -400,7 +338,7 @@ no-wait roll set p is lacks half now = at (ttl_in half p) (ap (ttl_in half) is) 
   where
     at : (t : Option ℕ) → ttl_in half (phase_of set.rolls roll) ≡ t →
         ((ttl : ℕ) → t ≡ Some ttl → LacksStamp roll half ttl set.keys)
-        → (cause : Error) × (wait_verdict roll half now set ≡ Barred cause)
+        → (cause : Error) × (wait_clearance roll half now set ≡ Barred cause)
     at None e h = (WrongStateForRollOperation, ap (λ t. wait_in_phase roll half t now set.keys) e)
     at (Some ttl) e h = (
       WrongKeyState,

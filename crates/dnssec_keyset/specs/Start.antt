@@ -197,7 +197,7 @@ abbrev pub suitability_fault : RollType → Keys → List (List ℕ) → List (L
 suitability_fault roll keys olds news =
     if list_all (is_met keys olds news) (wants roll) then None else Some NoSuitableKeyPresent
 
--- ---- the verdict
+-- ---- the refusal
 
 -- the first cause that stands, if any
 abbrev pub first_of_causes : List (Option Error) → Option Error

@@ -33,9 +33,9 @@ use Rattle.dnssec_key.specs.RollTable.{after_early_end, after_wait, actions_of, 
 use Rattle.dnssec_key.specs.Setters.{Setting, is_flag_setting, kind_refusal, set_by}
 use Rattle.dnssec_keyset.specs.KeySet.{ChangesKey}
 use Rattle.dnssec_keyset.specs.Start.{start_refusal, is_listed}
-use Rattle.dnssec_keyset.specs.Wait.{ttl_in, lacks_stamp, is_early, time_left, IsLongest}
+use Rattle.dnssec_keyset.specs.Wait.{ttl_in, lacks_stamp, longest_left}
 
--- ---- verdicts
+-- ---- what a call is barred by, or cleared for
 
 -- some key has the tag, which no two may share here (RFC 4034, appendix B: two keys may)
 abbrev pub has_tag : ℕ → Keys → Bool
@@ -69,34 +69,37 @@ end_refusal (Some Finishing) = None
 end_refusal _ = Some WrongStateForRollOperation
 
 -- why a roll can't be ended early: only until its first report, as from then on caches may hold
--- what
--- its start changed
+-- what its start changed
 abbrev pub early_end_refusal : Option RollState → Option Error
 early_end_refusal (Some Propagation1) = None
 early_end_refusal _ = Some WrongStateForRollOperation
 
--- a cause, or too early (with the time left for a key), or neither
-pub data Verdict : Type 0 where
-  Barred : Error → Verdict
-  Early : (KeyParts → Option ℕ) → Verdict
-  Clear : Verdict
+-- a call is barred by a cause, or too early by so many nanoseconds, or clear: it may be made
+pub data Clearance : Type 0 where
+  Barred : Error → Clearance
+  Early : ℕ → Clearance
+  Clear : Clearance
 
 -- barred by the cause, or clear where there is none
-abbrev pub barred_by : Option Error → Verdict
+abbrev pub barred_by : Option Error → Clearance
 barred_by None = Clear
 barred_by (Some cause) = Barred cause
 
--- a wait with this TTL: a missing stamp first, then the time that is left
-abbrev pub wait_in_phase : RollType → Half → Option ℕ → ℕ → Keys → Verdict
+-- too early by what is left, or clear where nothing is
+abbrev pub early_by : ℕ → Clearance
+early_by left = if nat_eq left 0 then Clear else Early left
+
+-- a wait with this TTL: barred where some key lacks its stamp, else too early by what is left for
+-- the key that has the longest to go
+abbrev pub wait_in_phase : RollType → Half → Option ℕ → ℕ → Keys → Clearance
 wait_in_phase roll half None now keys = Barred WrongStateForRollOperation
 wait_in_phase roll half (Some ttl) now keys =
-    let left = time_left roll half ttl now in
-    if lacks_stamp left keys then Barred WrongKeyState
-    else (if is_early left keys then Early left else Clear)
+    if some_key (lacks_stamp roll half) keys then Barred WrongKeyState
+    else early_by (longest_left roll half ttl now keys)
 
--- what a wait is told in the phase that its roll is in
-abbrev pub wait_verdict : RollType → Half → ℕ → KeySetParts → Verdict
-wait_verdict roll half now set =
+-- what bars or clears a wait in the phase that its roll is in
+abbrev pub wait_clearance : RollType → Half → ℕ → KeySetParts → Clearance
+wait_clearance roll half now set =
     wait_in_phase roll half (ttl_in half (phase_of set.rolls roll)) now set.keys
 
 -- ---- what a call answers
@@ -111,16 +114,16 @@ abbrev pub Answers : {T : Type 0} → Option Error → Result T Error → Type 0
 Answers (Some cause) r = r ≡ Err cause
 Answers None r = IsOk r ⊎ (r ≡ Err OutOfMemory)
 
--- the answer is to wait for the longest of the times that are left
-abbrev pub IsToldToWait : {T : Type 0} → (KeyParts → Option ℕ) → Keys → Result T Error → Type 0
-IsToldToWait left keys r = (d : Duration) × (r ≡ Err (WaitFor d)) × IsLongest left keys (as_nanos d)
+-- the answer is to wait for so many nanoseconds
+abbrev pub IsToldToWait : {T : Type 0} → ℕ → Result T Error → Type 0
+IsToldToWait left r = (d : Duration) × (r ≡ Err (WaitFor d)) × (as_nanos d ≡ left)
 
--- a wait answers its verdict, and takes memory for a list of actions alone
-abbrev pub AnswersWait : {T : Type 0} → Verdict → Keys → List Action → Result T Error → Type 0
-AnswersWait (Barred cause) keys actions r = r ≡ Err cause
-AnswersWait (Early left) keys actions r = IsToldToWait left keys r
-AnswersWait Clear keys [] r = IsOk r
-AnswersWait Clear keys (action ∷ actions) r = IsOk r ⊎ (r ≡ Err OutOfMemory)
+-- a wait answers by its clearance, and takes memory for a list of actions alone
+abbrev pub AnswersWait : {T : Type 0} → Clearance → List Action → Result T Error → Type 0
+AnswersWait (Barred cause) actions r = r ≡ Err cause
+AnswersWait (Early left) actions r = IsToldToWait left r
+AnswersWait Clear [] r = IsOk r
+AnswersWait Clear (action ∷ actions) r = IsOk r ⊎ (r ≡ Err OutOfMemory)
 
 -- ---- the step
 
@@ -151,16 +154,16 @@ abbrev pub reply_list : Result (Vec Action Global) Error → Reply
 reply_list (Ok actions) = Actions actions.items
 reply_list (Err cause) = Refused cause
 
--- what each call is told
-abbrev pub verdict : KeySetParts → Call → Verdict
-verdict set (AddKey reference key) = barred_by (add_refusal set.keys reference key.key_tag)
-verdict set (Set reference setting) = barred_by (setting_refusal setting (get set.keys reference))
-verdict set (DeleteKey reference) = barred_by (deletion_refusal (get set.keys reference))
-verdict set (StartRoll roll olds news now) = barred_by (start_refusal roll set olds news)
-verdict set (Report roll half ttl now) = barred_by (report_refusal half (phase_of set.rolls roll))
-verdict set (Wait roll half now) = wait_verdict roll half now set
-verdict set (RollDone roll) = barred_by (end_refusal (phase_of set.rolls roll))
-verdict set (AbortRoll roll) = barred_by (early_end_refusal (phase_of set.rolls roll))
+-- what each call is barred by, or that it is clear
+abbrev pub clearance : KeySetParts → Call → Clearance
+clearance set (AddKey reference key) = barred_by (add_refusal set.keys reference key.key_tag)
+clearance set (Set reference setting) = barred_by (setting_refusal setting (get set.keys reference))
+clearance set (DeleteKey reference) = barred_by (deletion_refusal (get set.keys reference))
+clearance set (StartRoll roll olds news now) = barred_by (start_refusal roll set olds news)
+clearance set (Report roll half ttl now) = barred_by (report_refusal half (phase_of set.rolls roll))
+clearance set (Wait roll half now) = wait_clearance roll half now set
+clearance set (RollDone roll) = barred_by (end_refusal (phase_of set.rolls roll))
+clearance set (AbortRoll roll) = barred_by (early_end_refusal (phase_of set.rolls roll))
 
 -- what an accepted call answers: the actions due in the phase behind it
 abbrev pub accepted_reply : Call → Reply
@@ -228,19 +231,18 @@ TakesMemory (Wait roll half now) = actions_of roll (behind half) ≢ []
 TakesMemory (RollDone roll) = ⊥
 TakesMemory (AbortRoll roll) = Unit {0}
 
--- a call with this verdict may have the reply and leave new
-abbrev pub StepBy : Verdict → KeySetParts → Call → Reply → KeySetParts → Type 0
+-- a call with this clearance may have the reply and leave new
+abbrev pub StepBy : Clearance → KeySetParts → Call → Reply → KeySetParts → Type 0
 StepBy (Barred cause) old call reply new = (reply ≡ Refused cause) × (new ≡ old)
 StepBy (Early left) old call reply new =
-    ((d : Duration) × (reply ≡ Refused (WaitFor d)) × IsLongest left old.keys (as_nanos d)) ×
-    (new ≡ old)
+    ((d : Duration) × (reply ≡ Refused (WaitFor d)) × (as_nanos d ≡ left)) × (new ≡ old)
 StepBy Clear old call reply new =
     ((reply ≡ accepted_reply call) × Changes old call new)
     ⊎ (TakesMemory call × (reply ≡ Refused OutOfMemory) × (new ≡ old))
 
 -- from old, the call may have the reply and leave new
 abbrev pub Step : KeySetParts → Call → Reply → KeySetParts → Type 0
-Step old call reply new = StepBy (verdict old call) old call reply new
+Step old call reply new = StepBy (clearance old call) old call reply new
 
 -- ---- the set afterwards, as a function of the set before, the call and the reply
 

@@ -2,16 +2,17 @@
 -- data is gone from the caches once the reported TTL has passed since (RFC 6781, section 4.1: data
 -- of earlier versions of the zone lives on in caches; RFC 7583, section 3: the interval is a TTL
 -- from the event on).
-use Rattle.std.specs.Prelude.{◌≡◌, ℕ, ◌*◌, ◌-◌, ◌≤◌, Bool, not, Option, None, Some, is_some}
-use Rattle.std.specs.Prelude.{unwrap_or, if◌then◌else◌, nat_lt, List}
-use Rattle.std.specs.Option.{option_map}
-use Rattle.std.specs.FinMap.{get}
+use Rattle.std.specs.Prelude.{ℕ, ◌*◌, ◌-◌, max, Bool, ◌&&◌, Option, None, Some, is_none, map}
+use Rattle.std.specs.Prelude.{if◌then◌else◌}
+use Rattle.std.specs.List.{fold}
+use Rattle.std.specs.Option.{option_map_or}
+use Rattle.std.specs.FinMap.{values}
 use Rattle.dnssec_key.specs.declared.roll.RollType.{RollType}
 use Rattle.dnssec_key.specs.declared.roll.RollState.{RollState}
 use Rattle.dnssec_key.specs.declared.roll.RollState.TheVariants.{CacheExpire1}
 use Rattle.dnssec_key.specs.declared.roll.RollState.TheVariants.{CacheExpire2}
 use Rattle.dnssec_key.specs.Key.{KeyParts}
-use Rattle.dnssec_keyset.specs.KeySet.{Keys, some_key}
+use Rattle.dnssec_keyset.specs.KeySet.{Keys}
 use Rattle.dnssec_key.specs.RollTable.{Half, First, Second, half_of, stamp_at}
 
 -- the TTL that this half of a roll waits for, in that phase alone
@@ -28,22 +29,19 @@ stamp_read roll half k = stamp_at (half_of roll half).reads k.timestamps
 abbrev pub left_since : ℕ → ℕ → ℕ → ℕ
 left_since ttl now stamp = ttl * 1_000_000_000 - (now - stamp)
 
--- what is left for a key: nothing if unchecked, unknown without its stamp
-abbrev pub time_left : RollType → Half → ℕ → ℕ → KeyParts → Option ℕ
+-- the wait checks this key, and the key lacks the stamp that the wait reads
+abbrev pub lacks_stamp : RollType → Half → KeyParts → Bool
+lacks_stamp roll half k =
+    (half_of roll half).checks k.keytype && is_none (stamp_read roll half k)
+
+-- the nanoseconds left for a key: 0 for one that the wait doesn't check. (Also 0 for one that lacks
+-- its stamp, but that bars the wait before any time is asked for.)
+abbrev pub time_left : RollType → Half → ℕ → ℕ → KeyParts → ℕ
 time_left roll half ttl now k =
     if (half_of roll half).checks k.keytype
-    then option_map (left_since ttl now) (stamp_read roll half k)
-    else Some 0
+    then option_map_or (left_since ttl now) (stamp_read roll half k) 0
+    else 0
 
--- some checked key lacks the stamp
-abbrev pub lacks_stamp : (KeyParts → Option ℕ) → Keys → Bool
-lacks_stamp left keys = some_key (λ k. not (is_some (left k))) keys
-
--- some key has time left
-abbrev pub is_early : (KeyParts → Option ℕ) → Keys → Bool
-is_early left keys = some_key (λ k. nat_lt 0 (unwrap_or (left k) 0)) keys
-
--- no key has more time left, and one has so much
-pub record IsLongest (left : KeyParts → Option ℕ) (keys : Keys) (n : ℕ) : Type 0 where
-  pub bound : (q : List ℕ) (k : KeyParts) → get keys q ≡ Some k → unwrap_or (left k) 0 ≤ n
-  pub attained : (q : List ℕ) × (k : KeyParts) × (get keys q ≡ Some k) × (left k ≡ Some n)
+-- the longest that is left for a key of the set
+abbrev pub longest_left : RollType → Half → ℕ → ℕ → Keys → ℕ
+longest_left roll half ttl now keys = fold max 0 (map (time_left roll half ttl now) (values keys))

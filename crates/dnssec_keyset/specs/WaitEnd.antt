@@ -9,21 +9,15 @@ use Rattle.dnssec_keyset.specs.declared.wait.WaitEnd.{WaitEnd}
 use Rattle.dnssec_keyset.specs.declared.wait.WaitEnd.TheVariants.{At, PastTime}
 use Rattle.dnssec_keyset.specs.KeySet.{Keys, KeySetParts, phase_of}
 use Rattle.dnssec_key.specs.RollTable.{Half}
-use Rattle.dnssec_keyset.specs.Step.{Verdict, Barred, Early, Clear, wait_in_phase, wait_verdict}
-use Rattle.dnssec_keyset.specs.Wait.{IsLongest, ttl_in}
-
--- a verdict that tells to wait for so many nanoseconds
-unfoldable pub IsEarlyBy : ℕ → Keys → Verdict → Type 0
-IsEarlyBy n keys (Early left) = IsLongest left keys n
-IsEarlyBy n keys _ = ⊥
+use Rattle.dnssec_keyset.specs.Step.{Barred, Early, Clear, wait_in_phase, wait_clearance}
+use Rattle.dnssec_keyset.specs.Wait.{ttl_in}
 
 -- a wait of ttl seconds is over from `end` on. Before, it is told what is left until then, but no
 -- more than the TTL: so it is told where the moment lies before the event that is waited on
 pub record IsOverFrom (roll : RollType) (half : Half) (ttl : ℕ) (keys : Keys) (end : ℕ) : Type 0
   where
     pub early : (now : ℕ) → now < end →
-        IsEarlyBy (min (ttl * 1_000_000_000) (end - now)) keys
-        (wait_in_phase roll half (Some ttl) now keys)
+        wait_in_phase roll half (Some ttl) now keys ≡ Early (min (ttl * 1_000_000_000) (end - now))
     pub over : (now : ℕ) → end ≤ now → wait_in_phase roll half (Some ttl) now keys ≡ Clear
 
 -- a checked key lacks its stamp, and each wait is refused for it
@@ -40,7 +34,7 @@ EndsAt roll set end =
 -- each wait of a roll is refused for a cause, its phase or a missing stamp
 abbrev pub HasNoWait : RollType → KeySetParts → Type 0
 HasNoWait roll set =
-    (half : Half) (now : ℕ) → (cause : Error) × (wait_verdict roll half now set ≡ Barred cause)
+    (half : Half) (now : ℕ) → (cause : Error) × (wait_clearance roll half now set ≡ Barred cause)
 
 -- what is told of the end of a roll's wait. A moment is told in less than 2 ^ 64 seconds
 abbrev pub TellsEnd : RollType → KeySetParts → Option WaitEnd → Type 0

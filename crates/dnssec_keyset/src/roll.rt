@@ -8,7 +8,7 @@ ghost use Rattle.dnssec_keyset.specs.Start.{start_refusal, texts};
 ghost use Rattle.dnssec_keyset.specs.Step.{Answers, AnswersExactly, AnswersWait};
 ghost use Rattle.dnssec_keyset.specs.Step.{StartRoll, Report, Wait, RollDone, AbortRoll, Changes};
 ghost use Rattle.dnssec_keyset.specs.Step.{early_end_refusal, report_refusal, end_refusal};
-ghost use Rattle.dnssec_keyset.specs.Step.{wait_verdict};
+ghost use Rattle.dnssec_keyset.specs.Step.{wait_clearance};
 
 use crate::set::KeySet;
 use dnssec_key::{Action, Error, Half, RollState, RollType, UnixTime};
@@ -124,7 +124,7 @@ impl KeySet {
         rolltype: RollType,
         now: &UnixTime,
     ) -> Result<Vec<Action>, Error>
-        ensures reply { AnswersWait (wait_verdict rolltype First now.now self.old) self.old.keys
+        ensures reply { AnswersWait (wait_clearance rolltype First now.now self.old)
             (actions_of rolltype RollState.Propagation2) result }
         ensures actions { IfOk result (λ actions.
             actions.items ≡ actions_of rolltype RollState.Propagation2) }
@@ -169,7 +169,7 @@ impl KeySet {
         rolltype: RollType,
         now: &UnixTime,
     ) -> Result<Vec<Action>, Error>
-        ensures reply { AnswersWait (wait_verdict rolltype Second now.now self.old) self.old.keys
+        ensures reply { AnswersWait (wait_clearance rolltype Second now.now self.old)
             (actions_of rolltype RollState.Done) result }
         ensures actions { IfOk result (λ actions.
             actions.items ≡ actions_of rolltype RollState.Done) }
@@ -289,8 +289,8 @@ impl KeySet {
         half: Half,
         now: &UnixTime,
     ) -> Result<Vec<Action>, Error>
-        ensures reply { AnswersWait (wait_verdict rolltype (which half) now.now self.old)
-            self.old.keys (actions_of rolltype (behind (which half))) result }
+        ensures reply { AnswersWait (wait_clearance rolltype (which half) now.now self.old)
+            (actions_of rolltype (behind (which half))) result }
         ensures actions { IfOk result (λ actions.
             actions.items ≡ actions_of rolltype (behind (which half))) }
         ensures ok { OnOk result

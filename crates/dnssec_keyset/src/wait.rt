@@ -4,7 +4,7 @@ ghost use Rattle.std.specs.Prelude.{IfSome, IfNone};
 ghost use Rattle.std.specs.Duration.{as_nanos};
 ghost use Rattle.dnssec_key.specs.RollTable.{which};
 ghost use Rattle.dnssec_keyset.specs.KeySet.{phase_of};
-ghost use Rattle.dnssec_keyset.specs.Step.{AnswersWait, wait_verdict};
+ghost use Rattle.dnssec_keyset.specs.Step.{AnswersWait, wait_clearance};
 ghost use Rattle.dnssec_keyset.specs.WaitEnd.{EndsAt, HasNoWait, IsOverFrom, LacksStamp};
 ghost use Rattle.dnssec_keyset.specs.WaitEnd.{TellsEnd};
 
@@ -59,7 +59,7 @@ impl KeySet {
         now: &UnixTime,
     ) -> Result<(), Error>
         ensures reply { AnswersWait
-            (wait_verdict rolltype (which half) now.now self.now) self.now.keys [] result }
+            (wait_clearance rolltype (which half) now.now self.now) [] result }
         ensures there { OnOk result (IsSome (phase_of self.now.rolls rolltype)) }
     {
         let Some(ttl) = self.rolls.ttl_in(rolltype, half) else {

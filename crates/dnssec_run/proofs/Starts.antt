@@ -59,7 +59,7 @@ module _ (old new : KeySetParts) where
       ∙ ap is_early phase ∙ past)
 
   -- only the end of its first wait takes an algorithm roll further
-  moves-on : (c : keyset.Call) → keyset.verdict old c ≡ keyset.Clear → keyset.Changes old c new
+  moves-on : (c : keyset.Call) → keyset.clearance old c ≡ keyset.Clear → keyset.Changes old c new
       → early_end_of c ≢ Some AlgorithmRoll → IsEarly old → (first_wait_of c ≡ Some AlgorithmRoll)
       ⊎ IsEarly new
   moves-on (keyset.AddKey q k) v m none e =
@@ -116,7 +116,7 @@ module _ (old new : KeySetParts) where
   started (keyset.AbortRoll r) m s = absurd (none-some AlgorithmRoll s)
 
 -- where a roll is accepted to start, no algorithm roll is in progress
-alone : (set : KeySetParts) (c : keyset.Call) → keyset.verdict set c ≡ keyset.Clear
+alone : (set : KeySetParts) (c : keyset.Call) → keyset.clearance set c ≡ keyset.Clear
     → (roll : RollType) → start_of c ≡ Some roll → phase_of set.rolls AlgorithmRoll ≡ None
 alone set (keyset.AddKey q k) v roll s = absurd (none-some roll s)
 alone set (keyset.Set q x) v roll s = absurd (none-some roll s)
@@ -143,10 +143,10 @@ module _ (name : List ℕ) (calls : List Call) (entries : List Entry) (run : IsR
   -- what an accepted call found and did
   step_of : (does : keyset.Call → Option RollType) (n : ℕ) (roll : RollType)
       → (d : DoesAt does calls entries n roll)
-      → (keyset.verdict (set_at n) (call_of d.call) ≡ keyset.Clear)
+      → (keyset.clearance (set_at n) (call_of d.call) ≡ keyset.Clear)
       × keyset.Changes (set_at n) (call_of d.call) (set_at (suc n))
   step_of does n roll d =
-      let x = accepted_step (keyset.verdict (set_at n) (call_of d.call)) (set_at n)
+      let x = accepted_step (keyset.clearance (set_at n) (call_of d.call)) (set_at n)
       (set_at (suc n)) (call_of d.call) d.entry.reply d.accepted
       (run.each n d.call d.entry d.call_is d.entry_is).step
       in
@@ -162,10 +162,10 @@ module _ (name : List ℕ) (calls : List Call) (entries : List Entry) (run : IsR
 
       by : (b : Bool) → is_accepted e.reply ≡ b → Began (suc n)
       by false t = inr (ap (λ (x : KeySetParts). is_early (phase_of x.rolls AlgorithmRoll))
-          (refused_step (keyset.verdict (set_at n) (call_of c)) (set_at n) (set_at (suc n))
+          (refused_step (keyset.clearance (set_at n) (call_of c)) (set_at n) (set_at (suc n))
           (call_of c) e.reply t step) ∙ h)
       by true t =
-          let x = accepted_step (keyset.verdict (set_at n) (call_of c)) (set_at n)
+          let x = accepted_step (keyset.clearance (set_at n) (call_of c)) (set_at n)
           (set_at (suc n)) (call_of c) e.reply t step in
           elim (moves-on (set_at n) (set_at (suc n)) (call_of c) x.0 x.1
           (none n c AlgorithmRoll ci) h) [

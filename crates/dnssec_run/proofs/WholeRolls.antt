@@ -5,7 +5,7 @@
 -- | `stamps`   | `NeverMissesStamp`   | `never-misses`    | Keys, Phases, Ended, OrderedKeys,   |
 -- |            |                      |                   | Order, Positions                    |
 -- | `settled`  | `SettlesBetweenRolls`| `settles-between` | the same                            |
--- | `waits`    | `WaitsExactly`       | `waits-exactly`   | these; Armed, Verdicts, Reports,    |
+-- | `waits`    | `WaitsExactly`       | `waits-exactly`   | these; Armed, Clearances, Reports,  |
 -- |            |                      |                   | Moments, Steps, Waits               |
 -- | `goes_on`  | `GoesOn`             | `goes-on`         | Completion                          |
 -- | `finishes` | `RollsFinish`        | `rolls-finish`    | the first six; Listed, Going,       |
@@ -23,7 +23,7 @@ pub mod OrderedKeys
 pub mod Order
 pub mod Positions
 pub mod Armed
-pub mod Verdicts
+pub mod Clearances
 pub mod Reports
 pub mod Moments
 pub mod Steps

@@ -14,7 +14,8 @@ use Rattle.dnssec_keyset.specs.KeySet.{nothing_listed, with_listed, same_roll}
 use Rattle.dnssec_key.specs.RollTable.{First, Second, turns_old, after_start, after_report}
 use Rattle.dnssec_key.specs.RollTable.{after_wait, after_early_end, behind, expiring}
 use Rattle.dnssec_keyset.specs.Step.{Call, AddKey, Set, DeleteKey, StartRoll, Report, Wait}
-use Rattle.dnssec_keyset.specs.Step.{RollDone, AbortRoll, Clear, Changes, listed_at_start, verdict}
+use Rattle.dnssec_keyset.specs.Step.{RollDone, AbortRoll, Clear, Changes, clearance}
+use Rattle.dnssec_keyset.specs.Step.{listed_at_start}
 use Rattle.dnssec_keyset.specs.Laws.{roll_of}
 use Rattle.dnssec_keyset.proofs.Laws.{no_cause, same-is}
 use Rattle.dnssec_keyset.proofs.Phases.{same_lists, listed_by-with_listed}
@@ -166,7 +167,7 @@ algorithm-after lists (AbortRoll r) q k =
 
 -- a key of another kind stays as it was
 pub stays-after : (set : KeySetParts) (call : Call) (roll : RollType) (q : List ℕ) (k : KeyParts)
-    → roll_of call ≡ Some roll → verdict set call ≡ Clear
+    → roll_of call ≡ Some roll → clearance set call ≡ Clear
     → get set.keys q ≡ Some k → lists_kind (side_of roll) k.keytype ≡ false
     → key_after set.lists call q k ≡ k
 unfolding key_after

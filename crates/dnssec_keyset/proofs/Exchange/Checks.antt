@@ -1,8 +1,8 @@
 -- A start and a report are told the same where their roll sees the same.
 use Rattle.std.proofs.Common.{◌≡◌, ℕ, Bool, true, false, not, List, [], ◌∷◌, ◌++◌, Some, None, refl}
 use Rattle.std.proofs.Common.{inl, inr, sym, ap, ◌∙◌}
-use Rattle.std.specs.Prelude.{Option, ◌||◌, ◌&&◌, if◌then◌else◌, nat_eq}
-use Rattle.std.specs.Option.{option_map, option_map_or, option_or}
+use Rattle.std.specs.Prelude.{Option, ◌||◌, ◌&&◌, if◌then◌else◌, is_none, nat_eq}
+use Rattle.std.specs.Option.{option_map_or, option_or}
 use Rattle.std.specs.FinMap.{get}
 use Rattle.dnssec_key.specs.declared.kind.KeyType.{KeyType}
 use Rattle.dnssec_keyset.specs.Start.{PresentKsk, KskAtParent, PresentZsk, PresentKskRole}
@@ -18,7 +18,7 @@ use Rattle.dnssec_key.specs.State.{is_fresh}
 use Rattle.dnssec_key.specs.Key.{KeyParts, all_states}
 use Rattle.dnssec_keyset.specs.KeySet.{KeySetParts, some_entry, some_key}
 use Rattle.dnssec_key.specs.RollTable.{Half}
-use Rattle.dnssec_keyset.specs.Wait.{left_since, stamp_read, time_left}
+use Rattle.dnssec_keyset.specs.Wait.{lacks_stamp, left_since, stamp_read, time_left}
 use Rattle.dnssec_keyset.proofs.Quantified.{some_key-found, some_key-none, some_entry-found}
 use Rattle.dnssec_keyset.proofs.Quantified.{some_entry-none}
 use Rattle.dnssec_keyset.proofs.Sides.{checks-others}
@@ -30,10 +30,16 @@ use Rattle.dnssec_keyset.proofs.Tests.{each_key, each_key-at, or_second}
 
 -- a key of another kind has no time left
 pub left-others : (roll : RollType) (half : Half) (ttl now : ℕ) (k : KeyParts)
-    → lists_kind (side_of roll) k.keytype ≡ false → time_left roll half ttl now k ≡ Some 0
+    → lists_kind (side_of roll) k.keytype ≡ false → time_left roll half ttl now k ≡ 0
 left-others roll half ttl now k e =
-    ap (λ (x : Bool). if x then option_map (left_since ttl now) (stamp_read roll half k) else Some
-    0) (checks-others roll half k.keytype e)
+    ap (λ (x : Bool). if x then option_map_or (left_since ttl now) (stamp_read roll half k) 0
+    else 0) (checks-others roll half k.keytype e)
+
+-- nor does it lack its stamp
+pub stamp-others : (roll : RollType) (half : Half) (k : KeyParts)
+    → lists_kind (side_of roll) k.keytype ≡ false → lacks_stamp roll half k ≡ false
+stamp-others roll half k e =
+    ap (λ (x : Bool). x && is_none (stamp_read roll half k)) (checks-others roll half k.keytype e)
 
 -- the kinds of keys that serve
 abbrev pub serving_side : Want → Side

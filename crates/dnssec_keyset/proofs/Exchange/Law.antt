@@ -4,7 +4,6 @@ use Rattle.std.proofs.Common.{◌≡◌, ℕ, Bool, true, false, cond, List, [],
 use Rattle.std.proofs.Common.{inr, sym, ap, subst, ◌∙◌}
 use Rattle.std.specs.Prelude.{Option, ◌⊎◌, ◌≢◌, filter, if◌then◌else◌}
 use Rattle.std.specs.Option.{option_map, option_map_or}
-use Rattle.std.specs.Duration.{as_nanos}
 use Rattle.std.specs.FinMap.{get}
 use Rattle.std.proofs.lemmas.Option.{same_Some}
 use Rattle.dnssec_key.specs.declared.roll.RollType.{RollType}
@@ -17,11 +16,10 @@ use Rattle.dnssec_keyset.specs.KeySet.{phase_of, with_phase, same_roll}
 use Rattle.dnssec_key.specs.RollTable.{First, Second, after_early_end}
 use Rattle.dnssec_keyset.specs.Start.{is_listed, lists_kind, old_entry_fault, old_fault, side_of}
 use Rattle.dnssec_keyset.specs.Start.{start_refusal, together}
-use Rattle.dnssec_keyset.specs.Wait.{IsLongest, is_early}
 use Rattle.dnssec_keyset.specs.Step.{Call, AddKey, Set, DeleteKey, StartRoll, Report, Wait}
-use Rattle.dnssec_keyset.specs.Step.{RollDone, AbortRoll, Reply, Refused, Verdict, Barred, Early}
+use Rattle.dnssec_keyset.specs.Step.{RollDone, AbortRoll, Reply, Refused, Clearance, Barred, Early}
 use Rattle.dnssec_keyset.specs.Step.{Clear, Changes, Step, StepBy, accepted_reply, after}
-use Rattle.dnssec_keyset.specs.Step.{is_kept_at, verdict}
+use Rattle.dnssec_keyset.specs.Step.{is_kept_at, clearance}
 use Rattle.dnssec_keyset.specs.Laws.{AreApart, MayBeExchanged, roll_of}
 use Rattle.dnssec_keyset.proofs.After.{after-changes}
 use Rattle.dnssec_keyset.proofs.Laws.{no_cause, no_first, no_rest, same-is}
@@ -32,7 +30,7 @@ use Rattle.dnssec_keyset.proofs.Exchange.Kinds.{apart-kinds, apart-rolls}
 use Rattle.dnssec_keyset.proofs.Exchange.Calls.{MovesBy, key_after, kind-after, listed_after}
 use Rattle.dnssec_keyset.proofs.Exchange.Calls.{moves-back, moves-on, phase_after, stays-after}
 use Rattle.dnssec_keyset.proofs.Exchange.Seen.{Alike, SameFor, apart-side, same-after, same-sym}
-use Rattle.dnssec_keyset.proofs.Exchange.Told.{early-by, longest-same, verdict-same}
+use Rattle.dnssec_keyset.proofs.Exchange.Told.{clearance-same}
 use Rattle.std.proofs.lemmas.Bool.{cases_Bool}
 
 -- ---- a refused call is refused in the other set too
@@ -43,40 +41,33 @@ record IsRefused (s : KeySetParts) (call : Call) (reply : Reply) (new : KeySetPa
       → Step t call reply t
 
 record IsAccepted (s : KeySetParts) (call : Call) (reply : Reply) (new : KeySetParts) : Type 0 where
-  clear : verdict s call ≡ Clear
+  clear : clearance s call ≡ Clear
   reply_is : reply ≡ accepted_reply call
   changes : Changes s call new
 
 answered : (s new : KeySetParts) (call : Call) (reply : Reply) → reply ≢ Refused OutOfMemory
     → Step s call reply new → IsRefused s call reply new ⊎ IsAccepted s call reply new
-answered s new call reply memory step = at (verdict s call) refl step
+answered s new call reply memory step = at (clearance s call) refl step
   where
-    at : (v : Verdict) → verdict s call ≡ v → StepBy v s call reply new → IsRefused s call reply new
-        ⊎ IsAccepted s call reply new
+    at : (v : Clearance) → clearance s call ≡ v → StepBy v s call reply new
+        → IsRefused s call reply new ⊎ IsAccepted s call reply new
     at (Barred cause) is h = inl (record {
       stays = h.1;
       elsewhere = λ b t on same. subst (λ v. StepBy v t call reply t)
-          (sym (sym (verdict-same b s t call on same) ∙ is)) (h.0, refl);
+          (sym (sym (clearance-same b s t call on same) ∙ is)) (h.0, refl);
     })
     at (Early left) is h = inl (record {
       stays = h.1;
-      elsewhere = λ b t on same.
-          let by = early-by call b s left on is in
-          let longest : IsLongest left t.keys (as_nanos h.0.0) =
-          subst (λ f. IsLongest f t.keys (as_nanos h.0.0)) (sym by.is)
-          (longest-same b by.half by.ttl by.now (as_nanos h.0.0) s t same
-          (ap (λ f. is_early f s.keys) (sym by.is) ∙ by.early)
-          (subst (λ f. IsLongest f s.keys (as_nanos h.0.0)) by.is h.0.2)) in
-          subst (λ v. StepBy v t call reply t) (sym (sym (verdict-same b s t call on same) ∙ is))
-          ((h.0.0, h.0.1, longest), refl);
+      elsewhere = λ b t on same. subst (λ v. StepBy v t call reply t)
+          (sym (sym (clearance-same b s t call on same) ∙ is)) (h.0, refl);
     })
     at Clear is h = elim h [
       | inl ok ↦ inr (record { clear = is; reply_is = ok.0; changes = ok.1 })
       | inr none ↦ absurd (memory none.1)
     ]
 
-accepted-step : (s new : KeySetParts) (call : Call) (reply : Reply) → verdict s call ≡ Clear → reply
-    ≡ accepted_reply call → Changes s call new → Step s call reply new
+accepted-step : (s new : KeySetParts) (call : Call) (reply : Reply) → clearance s call ≡ Clear
+    → reply ≡ accepted_reply call → Changes s call new → Step s call reply new
 accepted-step s new call reply clear is changes =
     subst (λ v. StepBy v s call reply new) (sym clear) (inl (is, changes))
 
@@ -136,7 +127,7 @@ module _ (b : RollType) (s t : KeySetParts) (same : SameFor b s t) where
   listed-at r on = ap (listed_by s.lists) (same_Some _ _ on) ∙ same.listed
       ∙ sym (ap (listed_by t.lists) (same_Some _ _ on))
 
-  listed-alike : (call : Call) → roll_of call ≡ Some b → verdict s call ≡ Clear
+  listed-alike : (call : Call) → roll_of call ≡ Some b → clearance s call ≡ Clear
       → listed_after s call ≡ listed_after t call
   unfolding listed_after
   listed-alike (AddKey r key) on clear = cc
@@ -174,10 +165,10 @@ module _ (b : RollType) (s t : KeySetParts) (same : SameFor b s t) where
 module _ (a b : RollType) (apart : together a b ≡ true) (s s1 s2 m : KeySetParts)
     (first second : Call)
     (first_on : roll_of first ≡ Some a) (second_on : roll_of second ≡ Some b)
-    (first_clear : verdict s first ≡ Clear) (second_clear : verdict s1 second ≡ Clear)
+    (first_clear : clearance s first ≡ Clear) (second_clear : clearance s1 second ≡ Clear)
     (first_changes : Changes s first s1) (second_changes : Changes s1 second s2)
-    (between_clear : verdict s second ≡ Clear) (between_changes : Changes s second m)
-    (later_clear : verdict m first ≡ Clear)
+    (between_clear : clearance s second ≡ Clear) (between_changes : Changes s second m)
+    (later_clear : clearance m first ≡ Clear)
     (seen : SameFor b s s1) (later : SameFor a s m) where
   m1 : MovesBy s first a s1
   m1 = moves-on s s1 first a first_on first_changes
@@ -326,13 +317,13 @@ exchange s s1 s2 first second r1 r2 calls step1 step2 =
             }
             | inr ok2 ↦
                 let m = after second s in
-                let between_clear : verdict s second ≡ Clear =
-                verdict-same b s s1 second calls.second_is seen ∙ ok2.clear in
+                let between_clear : clearance s second ≡ Clear =
+                clearance-same b s s1 second calls.second_is seen ∙ ok2.clear in
                 let between_changes : Changes s second m = after-changes s second in
                 let later : SameFor a s m = same-after b a (apart-back a b calls.apart) s m second
                 calls.second_is between_clear between_changes in
-                let later_clear : verdict m first ≡ Clear =
-                sym (verdict-same a s m first calls.first_is later) ∙ ok1.clear in
+                let later_clear : clearance m first ≡ Clear =
+                sym (clearance-same a s m first calls.first_is later) ∙ ok1.clear in
                 record {
                   between = m;
                   second_step =

@@ -15,7 +15,7 @@ use Rattle.dnssec_key.specs.declared.roll.RollState.{RollState}
 use Rattle.dnssec_key.specs.Key.{KeyParts}
 use Rattle.dnssec_keyset.specs.KeySet.{KeySetParts, Rolls, listed_by, phase_of, with_phase}
 use Rattle.dnssec_keyset.specs.KeySet.{same_roll}
-use Rattle.dnssec_keyset.specs.Step.{Call, Clear, Changes, verdict}
+use Rattle.dnssec_keyset.specs.Step.{Call, Clear, Changes, clearance}
 use Rattle.dnssec_keyset.specs.Laws.{roll_of}
 use Rattle.dnssec_keyset.proofs.Laws.{same-is}
 use Rattle.dnssec_keyset.proofs.Phases.{phase_of-with_phase, listed_by-with_listed}
@@ -122,7 +122,7 @@ module _ (a b : RollType) (apart : together a b ≡ true) where
         (one-conflict ZskDoubleSignatureRoll i
         || (one-conflict CskRoll i || (one-conflict AlgorithmRoll i || false)))))
 
-  pub same-after : (s t : KeySetParts) (call : Call) → roll_of call ≡ Some a → verdict s call
+  pub same-after : (s t : KeySetParts) (call : Call) → roll_of call ≡ Some a → clearance s call
       ≡ Clear
       → Changes s call t → SameFor b s t
   same-after s t call on clear changes =

@@ -120,7 +120,7 @@ module _ (kind : SetKind) (old new : KeySetParts) where
   by_keys o keys agree q = subst (λ u. Agree kind u (get old.keys q)) (sym (keys q)) (agree q)
 
   agree-step : (c : keyset.Call) → sets_flag c ≡ false → adds_blank c ≡ true
-      → keyset.verdict old c ≡ keyset.Clear → keyset.Changes old c new
+      → keyset.clearance old c ≡ keyset.Clear → keyset.Changes old c new
       → list_any (updates kind) (due (keyset.accepted_reply c)) ≡ false
       → (q : List ℕ) → Agree kind (get new.keys q) (get old.keys q)
   agree-step (keyset.AddKey r k) calm fresh v m none =
@@ -173,7 +173,7 @@ module _ (kind : SetKind) (old new : KeySetParts) where
 
 -- a key that is there isn't added
 added-same : (n : ℕ) (c : keyset.Call) (f : List ℕ → ℕ) (set : KeySetParts)
-    → keyset.verdict set c ≡ keyset.Clear → (q : List ℕ) (k : KeyParts)
+    → keyset.clearance set c ≡ keyset.Clear → (q : List ℕ) (k : KeyParts)
     → get set.keys q ≡ Some k → with_added n (reference_added c) f q ≡ f q
 added-same n (keyset.AddKey r key) f set v q k there = by (bytes_eq r q) refl
   where
@@ -201,7 +201,8 @@ module _ (n : ℕ) (w v : World) (c : Call) (r : Reply)
 
   refused-stays : is_accepted r ≡ false → (kind : SetKind) → Stays kind
   refused-stays t kind =
-      let same = refused_step (keyset.verdict w.set (call_of c)) w.set v.set (call_of c) r t step in
+      let same = refused_step (keyset.clearance w.set (call_of c)) w.set v.set (call_of c) r
+      t step in
       record {
         keys = λ q. subst (λ (s : KeySetParts). Agree kind (get s.keys q) (get w.set.keys q))
             (sym same) (agree-same kind (get w.set.keys q));
@@ -213,7 +214,8 @@ module _ (n : ℕ) (w v : World) (c : Call) (r : Reply)
   accepted-stays : is_accepted r ≡ true → sets_flag (call_of c) ≡ false → (kind : SetKind)
       → list_any (updates kind) (asked_by r) ≡ false → Stays kind
   accepted-stays t calm kind none =
-      let ok = accepted_step (keyset.verdict w.set (call_of c)) w.set v.set (call_of c) r t step in
+      let ok = accepted_step (keyset.clearance w.set (call_of c)) w.set v.set (call_of c) r
+      t step in
       record {
         keys = agree-step kind w.set v.set (call_of c) calm (plainly c).blank ok.0 ok.1
             (ap (λ r. list_any (updates kind) (due r)) (sym ok.2)

@@ -96,7 +96,7 @@ module _ (entries : List Entry) (n : ℕ) (old new : KeySetParts) where
   other-roll : (q r : RollType) → same_roll q r ≡ false → same_roll r q ≡ false
   other-roll q r e = same-sym r q ∙ e
 
-  based-step : (c : keyset.Call) → keyset.verdict old c ≡ keyset.Clear → keyset.Changes old c new
+  based-step : (c : keyset.Call) → keyset.clearance old c ≡ keyset.Clear → keyset.Changes old c new
       → (position_at entries (suc n)).mark ≡ mark c
       → asked_at entries (suc n) ≡ due (keyset.accepted_reply c) → Before → After
   based-step (keyset.AddKey r k) v m mk asked h = calm m.rolls (λ r. ap (is_step r) mk) h
@@ -159,12 +159,12 @@ module _ (name : List ℕ) (calls : List Call) (entries : List Entry)
 
       by : (b : Bool) → is_accepted e.reply ≡ b → All (suc n)
       by false t =
-          let same = refused_step (keyset.verdict (set_at n) (call_of c)) (set_at n)
+          let same = refused_step (keyset.clearance (set_at n) (call_of c)) (set_at n)
           (set_at (suc n)) (call_of c) e.reply t step in
           calm entries n (set_at n) (set_at (suc n)) (ap (λ (s : KeySetParts). s.rolls) same)
           (λ r. ap (is_step r) (mark_is false t)) h
       by true t =
-          let ok = accepted_step (keyset.verdict (set_at n) (call_of c)) (set_at n)
+          let ok = accepted_step (keyset.clearance (set_at n) (call_of c)) (set_at n)
           (set_at (suc n)) (call_of c) e.reply t step in
           based-step entries n (set_at n) (set_at (suc n)) (call_of c) ok.0 ok.1 (mark_is true t)
           (ap (λ o. option_map_or (λ (x : Entry). asked_by x.reply) o []) ei ∙ due_by e.reply
@@ -212,7 +212,7 @@ module _ (name : List ℕ) (calls : List Call) (entries : List Entry)
 
   -- the report of a call
   reported : (n : ℕ) → n ≤ length entries → (c : keyset.Call)
-      → keyset.verdict (set_at n) c ≡ keyset.Clear → (roll : RollType) (second : Bool) (ttl : ℕ)
+      → keyset.clearance (set_at n) c ≡ keyset.Clear → (roll : RollType) (second : Bool) (ttl : ℕ)
       → mark c ≡ Report roll second ttl → Retires (suc n) roll second
   reported n le (keyset.Report r First t now) v roll second ttl e =
       subst (λ m. Retires (suc n) (roll_in m) (half_in m)) e
@@ -257,7 +257,7 @@ module _ (name : List ℕ) (calls : List Call) (entries : List Entry)
           by : (b : Bool) → is_accepted x.reply ≡ b → Retires (suc n) roll second
           by false t = let no : Other ≡ Report roll second ttl = mark_is false t in absurd (cc)
           by true t =
-              let ok = accepted_step (keyset.verdict (set_at n) (call_of c)) (set_at n)
+              let ok = accepted_step (keyset.clearance (set_at n) (call_of c)) (set_at n)
               (set_at (suc n)) (call_of c) x.reply t (run.each n c x ci xi).step in
               reported n le (call_of c) ok.0 roll second ttl (mark_is true t)
 

@@ -1,14 +1,14 @@
 -- What an accepted call tells of the keys before it.
 use Rattle.std.proofs.Common.{[], ◌≡◌, ℕ, ◌-◌, ◌*◌, ◌≤◌, ◌⊎◌, inl, inr, Bool, true, false, not}
 use Rattle.std.proofs.Common.{◌&&◌, ◌||◌, refl, sym, ◌∙◌, ap, arith, List, ◌∷◌, ◌++◌, Option, None}
-use Rattle.std.proofs.Common.{Some}
-use Rattle.std.specs.Prelude.{if◌then◌else◌, is_some, unwrap_or, nat_lt}
+use Rattle.std.proofs.Common.{Some, subst}
+use Rattle.std.specs.Prelude.{if◌then◌else◌, is_some, is_none}
 use Rattle.std.specs.List.{list_all}
-use Rattle.std.specs.Option.{option_map_or, option_map}
+use Rattle.std.specs.Option.{option_map_or}
 use Rattle.std.specs.Str.{bytes_eq}
 use Rattle.std.specs.Cmp.Lexicographic.{bytes_decides}
 use Rattle.std.specs.FinMap.{get}
-use Rattle.std.proofs.lemmas.Bool.{true≢false, and_parts, ltb-false, not-true, or_parts, or_right}
+use Rattle.std.proofs.lemmas.Bool.{true≢false, and_parts, not-true, or_parts, or_right}
 use Rattle.std.proofs.lemmas.Option.{none-some}
 use Rattle.dnssec_key.specs.declared.roll.RollType.{RollType}
 use Rattle.dnssec_key.specs.declared.roll.RollType.TheVariants.{KskRoll, KskDoubleDsRoll}
@@ -22,15 +22,16 @@ use Rattle.dnssec_key.specs.declared.kind.KeyType.{KeyType}
 use Rattle.dnssec_key.specs.declared.error.Error.{Error}
 use Rattle.dnssec_key.specs.State.{is_fresh}
 use Rattle.dnssec_key.specs.Key.{KeyParts, all_states}
-use Rattle.dnssec_keyset.specs.KeySet.{Rolls, phase_of}
+use Rattle.dnssec_keyset.specs.KeySet.{Rolls, phase_of, some_key}
 use Rattle.dnssec_keyset.specs.Start.{is_listed as listed, conflict, has_conflict, together}
 use Rattle.dnssec_keyset.specs.Start.{old_entry_fault, old_fault, new_entry_fault, new_fault}
 use Rattle.dnssec_keyset.specs.Start.{start_refusal, some_listed, some_kept, is_met, wants}
 use Rattle.dnssec_keyset.specs.Start.{algorithm_fault, suitability_fault, first_of_causes}
-use Rattle.dnssec_keyset.specs.Step.{Barred, Early, Clear, wait_in_phase, wait_verdict}
-use Rattle.dnssec_keyset.specs.Wait.{lacks_stamp, is_early, time_left, ttl_in, left_since}
+use Rattle.dnssec_keyset.specs.Step.{Barred, Clear, early_by, wait_in_phase, wait_clearance}
+use Rattle.dnssec_keyset.specs.Wait.{lacks_stamp, longest_left, time_left, ttl_in, left_since}
 use Rattle.dnssec_keyset.specs.Wait.{stamp_read}
 use Rattle.dnssec_keyset.proofs.Quantified.{some_key-none, some_entry-found}
+use Rattle.dnssec_keyset.proofs.Longest.{longest-bound, clear-left}
 use Rattle.dnssec_run.specs.Published.{World as RealWorld}
 use Rattle.dnssec_keyset.proofs.Flags.{SideOf, Keys, Zone, affects, is_blank, may_list}
 use Rattle.dnssec_run.proofs.Chain.Tables.{half, reads-stamp}
@@ -238,40 +239,35 @@ can_start w r olds news e =
 
 -- ---- a wait
 
-clear_wait : (a b : Bool) (left : KeyParts → Option ℕ)
-    → (if a then Barred Error.WrongKeyState else (if b then Early left else Clear)) ≡ Clear
-    → (a ≡ false) × (b ≡ false)
-clear_wait true b left e = absurd (cc)
-clear_wait false true left e = absurd (cc)
-clear_wait false false left e = (refl, refl)
+clear_wait : (a : Bool) (left : ℕ)
+    → (if a then Barred Error.WrongKeyState else early_by left) ≡ Clear → (a ≡ false) × (left ≤ 0)
+clear_wait true left e = absurd (cc)
+clear_wait false left e = (refl, clear-left left e)
 
-no_time : (a b : ℕ) → nat_lt 0 (a - b) ≡ false → a ≤ b
-no_time a b e = omega (arith, ltb-false 0 (a - b) e)
-
-over_key : (o : Option ℕ) (ttl now : ℕ) → not (is_some (option_map (left_since ttl now) o)) ≡ false
-    → nat_lt 0 (unwrap_or (option_map (left_since ttl now) o) 0) ≡ false
+over_key : (o : Option ℕ) (ttl now : ℕ) → is_none o ≡ false
+    → option_map_or (left_since ttl now) o 0 ≤ 0
     → (m : ℕ) × (o ≡ Some m) × (ttl * 1_000_000_000 ≤ now - m)
 over_key None ttl now a b = absurd (true≢false a)
-over_key (Some m) ttl now a b = (m, refl, no_time (ttl * 1_000_000_000) (now - m) b)
+over_key (Some m) ttl now a b = (m, refl, omega (arith, b))
 
 over : (r : RollType) (second : Bool) (ttl now : ℕ) (w : RealWorld)
     → wait_in_phase r (half second) (Some ttl) now w.set.keys ≡ Clear
     → IsOver r second (seen w) ttl now
 over r second ttl now w f q k at check =
-    let left = time_left r (half second) ttl now in
-    let h = clear_wait (lacks_stamp left w.set.keys) (is_early left w.set.keys) left f in
-    let is : left k ≡ option_map (left_since ttl now) (stamp_read r (half second) k) =
-    ap (λ b. if b then option_map (left_since ttl now) (stamp_read r (half second) k) else Some
-    0) check in
+    let h = clear_wait (some_key (lacks_stamp r (half second)) w.set.keys)
+    (longest_left r (half second) ttl now w.set.keys) f in
+    let bound = longest-bound (time_left r (half second) ttl now) w.set.keys q k at in
+    let none : time_left r (half second) ttl now k ≤ 0 = omega (arith, bound, h.1) in
     let o = over_key (stamp_read r (half second) k) ttl now
-    (sym (ap (λ o. not (is_some o)) is)
-    ∙ some_key-none (λ k. not (is_some (left k))) w.set.keys q k h.0 at)
-    (sym (ap (λ o. nat_lt 0 (unwrap_or o 0)) is)
-    ∙ some_key-none (λ k. nat_lt 0 (unwrap_or (left k) 0)) w.set.keys q k h.1 at) in
+    (sym (ap (λ b. b && is_none (stamp_read r (half second) k)) check)
+    ∙ some_key-none (lacks_stamp r (half second)) w.set.keys q k h.0 at)
+    (subst (λ n. n ≤ 0) (ap (λ b.
+    if b then option_map_or (left_since ttl now) (stamp_read r (half second) k) 0 else 0) check)
+    none) in
     (o.0, sym (reads-stamp r second k.timestamps) ∙ o.1, o.2)
 
 pub waits_in_phase : (r : RollType) (second : Bool) (now : ℕ) (w : RealWorld)
-    → wait_verdict r (half second) now w.set ≡ Clear
+    → wait_clearance r (half second) now w.set ≡ Clear
     → (ttl : ℕ) × ((seen w).roll r ≡ Some (waiting second ttl)) × IsOver r second (seen w) ttl now
 waits_in_phase r second now w e = by second (phase_of w.set.rolls r) refl e
   where

@@ -189,7 +189,7 @@ module _ (tale : Tale) (n : ℕ) (here : suc n ≤ length tale.es) where
       by (DsVisibleAt time) plain h = absurd (true≢false (sym plain))
       by (RrsigVisibleAt time) plain h = absurd (true≢false (sym plain))
 
-  accepted : (c : keyset.Call) → keyset.verdict before c ≡ keyset.Clear
+  accepted : (c : keyset.Call) → keyset.clearance before c ≡ keyset.Clear
       → keyset.Changes before c after → sets_nothing before c ≡ true → adds_blank c ≡ true
       → ((q : List ℕ) → (world_at tale (suc n)).added q
       ≡ rec.with_added (suc n) (rec.reference_added c) (world_at tale n).added q)
@@ -307,7 +307,7 @@ module _ (tale : Tale) (n : ℕ) (here : suc n ≤ length tale.es) where
       → DoesAt start_of tale.calls tale.es n q)
       → Inv tale n → Inv tale (suc n)
   by_reply c (reply.Refused cause) step plain blank added m t only some inv =
-      let same = refused_same (keyset.verdict before c) before after c cause step in
+      let same = refused_same (keyset.clearance before c) before after c cause step in
       calm tale n here (world_at tale n)
       (worlds (world_at tale (suc n)) (world_at tale n) (λ q. ap (λ s. get s.keys q) same) added
       (λ q. ap (λ s. phase_of s.rolls q) same))
@@ -315,10 +315,10 @@ module _ (tale : Tale) (n : ℕ) (here : suc n ≤ length tale.es) where
       (keeps-same tale n (λ q. ap (λ s. phase_of s.rolls q) same)
       (ap (λ (s : KeySetParts). s.lists) same)) inv
   by_reply c reply.Done step plain blank added m t only some inv =
-      let h = accepted_changes (keyset.verdict before c) before after c keyset.Done refl step in
+      let h = accepted_changes (keyset.clearance before c) before after c keyset.Done refl step in
       accepted c h.0 h.1 plain blank added m t (λ s. (only s).1) (λ q. some q refl) inv
   by_reply c (reply.Actions actions) step plain blank added m t only some inv =
-      let h = accepted_changes (keyset.verdict before c) before after c
+      let h = accepted_changes (keyset.clearance before c) before after c
       (keyset.Actions actions.items) refl step in
       accepted c h.0 h.1 plain blank added m t (λ s. (only s).1) (λ q. some q refl) inv
 

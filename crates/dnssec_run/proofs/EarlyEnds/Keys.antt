@@ -105,7 +105,7 @@ module _ (roll : RollType) (old new : KeySetParts) (all : RollsTogether old.roll
     left c r leaves on apart =
         (k, leaves r q k on there (other r roll k.keytype apart own), refl)
 
-    pub key-step : (c : keyset.Call) → keyset.verdict old c ≡ keyset.Clear
+    pub key-step : (c : keyset.Call) → keyset.clearance old c ≡ keyset.Clear
         → keyset.Changes old c new → LeavesOthers old c new → IsAside roll c
         → touches c q ≡ false → Remains
     key-step (keyset.AddKey r key) v m leaves aside none = by (bytes_eq r q) refl

@@ -179,8 +179,8 @@ module _ (name : List ℕ) (calls : List Call) (entries : List Entry)
 
           by : (b : Bool) → is_accepted e.reply ≡ b → AllTied after.set
           by true t = tied-step before.set after.set h (call_of c) (adds-tied c)
-              (accepted_step (keyset.verdict before.set (call_of c)) before.set after.set
+              (accepted_step (keyset.clearance before.set (call_of c)) before.set after.set
               (call_of c) e.reply t step).1
           by false t = subst AllTied
-              (sym (refused_step (keyset.verdict before.set (call_of c)) before.set after.set
+              (sym (refused_step (keyset.clearance before.set (call_of c)) before.set after.set
               (call_of c) e.reply t step)) h

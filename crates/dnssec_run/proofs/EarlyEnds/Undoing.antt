@@ -116,10 +116,10 @@ module _ (name : List ℕ) (calls : List Call) (entries : List Entry)
     abbrev first : Listed
     first = listed_at_start old.keys olds news
 
-    started_so : (keyset.verdict old (keyset.StartRoll roll olds news now) ≡ keyset.Clear)
+    started_so : (keyset.clearance old (keyset.StartRoll roll olds news now) ≡ keyset.Clear)
         × keyset.Changes old (keyset.StartRoll roll olds news now) (at (suc s)).set
     started_so =
-        let ok = accepted_step (keyset.verdict old (keyset.StartRoll roll olds news now)) old
+        let ok = accepted_step (keyset.clearance old (keyset.StartRoll roll olds news now)) old
         (at (suc s)).set (keyset.StartRoll roll olds news now) st.0.entry.reply st.1
         (step-made name calls entries run s (keyset.StartRoll roll olds news now) st.0) in
         (ok.0, ok.1)
@@ -223,7 +223,7 @@ module _ (name : List ℕ) (calls : List Call) (entries : List Entry)
           by : (b : Bool) → is_accepted e.reply ≡ b
               → Standing (at (suc n)).set (Untouched s q (suc n))
           by false t =
-              let same = refused_step (keyset.verdict (at n).set (call_of c)) (at n).set
+              let same = refused_step (keyset.clearance (at n).set (call_of c)) (at n).set
               (at (suc n)).set (call_of c) e.reply t step in
               subst (λ set. Standing set (Untouched s q (suc n))) (sym same)
               (standing-same (at n).set (Untouched s q n) (Untouched s q (suc n))
@@ -231,7 +231,7 @@ module _ (name : List ℕ) (calls : List Call) (entries : List Entry)
               (untouched-before s q n)
               (before (ap (λ (set : KeySetParts). phase_of set.rolls roll) (sym same) ∙ spreads)))
           by true t =
-              let ok = accepted_step (keyset.verdict (at n).set (call_of c)) (at n).set
+              let ok = accepted_step (keyset.clearance (at n).set (call_of c)) (at n).set
               (at (suc n)).set (call_of c) e.reply t step in
               let was = phase-before roll (at n).set (at (suc n)).set spreads (call_of c) ok.1
               (λ others more later is. no_start others more later (
@@ -305,10 +305,10 @@ module _ (name : List ℕ) (calls : List Call) (entries : List Entry)
       abbrev was_new : List ℕ → Bool
       was_new q = is_listed (listed_by here.lists roll).news q
 
-      ended_so : (keyset.verdict here (keyset.AbortRoll roll) ≡ keyset.Clear)
+      ended_so : (keyset.clearance here (keyset.AbortRoll roll) ≡ keyset.Clear)
           × keyset.Changes here (keyset.AbortRoll roll) new
       ended_so =
-          let ok = accepted_step (keyset.verdict here (keyset.AbortRoll roll)) here new
+          let ok = accepted_step (keyset.clearance here (keyset.AbortRoll roll)) here new
           (keyset.AbortRoll roll) end.0.entry.reply end.1
           (step-made name calls entries run n (keyset.AbortRoll roll) end.0) in
           (ok.0, ok.1)

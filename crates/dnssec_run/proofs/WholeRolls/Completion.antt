@@ -54,7 +54,7 @@ accepted_report o First e = ap (keyset.report_refusal First) e
 accepted_report o Second e = ap (keyset.report_refusal Second) e
 
 -- a call without a cause that takes no memory is accepted
-accepts : (v : keyset.Verdict) (old new : KeySetParts) (c : keyset.Call) (r : Reply)
+accepts : (v : keyset.Clearance) (old new : KeySetParts) (c : keyset.Call) (r : Reply)
     → v ≡ keyset.Clear → (keyset.TakesMemory c → ⊥) → keyset.StepBy v old c (reply_of r) new
     → is_accepted r ≡ true
 accepts v old new c r clear free step =
@@ -81,13 +81,13 @@ pub goes-on : (name : List ℕ) (calls : List Call) (entries : List Entry) → I
 goes-on name calls entries run = record {
   reports = λ n roll half ttl now report phase.
       let old = (world_at name calls entries n).set in
-      accepts (keyset.verdict old (keyset.Report roll half ttl now)) old
+      accepts (keyset.clearance old (keyset.Report roll half ttl now)) old
       (world_at name calls entries (suc n)).set (keyset.Report roll half ttl now) report.entry.reply
       (ap keyset.barred_by (accepted_report (phase_of old.rolls roll) half phase)) (λ t. t)
       (step-made name calls entries run n (keyset.Report roll half ttl now) report);
   ends = λ n roll end phase.
       let old = (world_at name calls entries n).set in
-      accepts (keyset.verdict old (keyset.RollDone roll)) old
+      accepts (keyset.clearance old (keyset.RollDone roll)) old
       (world_at name calls entries (suc n)).set (keyset.RollDone roll) end.entry.reply
       (ap (λ o. keyset.barred_by (keyset.end_refusal o)) phase) (λ t. t)
       (step-made name calls entries run n (keyset.RollDone roll) end);
@@ -175,7 +175,7 @@ module _ (name : List ℕ) (calls : List Call) (entries : List Entry) (run : IsR
         is : (at (suc n)).added q ≡ added_by (suc n) c e.reply (at n).added q
         is = ap (λ f. f q) (added-next name calls entries run n c e ci ei)
 
-        no_add : (d : keyset.Call) → keyset.verdict (at n).set d ≡ keyset.Clear
+        no_add : (d : keyset.Call) → keyset.clearance (at n).set d ≡ keyset.Clear
             → with_added (suc n) (reference_added d) (at n).added q ≡ (at n).added q
         no_add (keyset.AddKey r key) v = apart (bytes_eq r q) refl
           where
@@ -201,7 +201,7 @@ module _ (name : List ℕ) (calls : List Call) (entries : List Entry) (run : IsR
         by true t = is
             ∙ ap (λ b. (if b then with_added (suc n) (reference_added (call_of c)) (at n).added
             else (at n).added) q) t
-            ∙ no_add (call_of c) (accepted_step (keyset.verdict (at n).set (call_of c)) (at n).set
+            ∙ no_add (call_of c) (accepted_step (keyset.clearance (at n).set (call_of c)) (at n).set
             (at (suc n)).set (call_of c) e.reply t (run.each n c e ci ei).step).0
 
     lasting-next : (n : ℕ) (c : Call) (e : Entry) → n ≤ length entries → s < n
@@ -217,7 +217,7 @@ module _ (name : List ℕ) (calls : List Call) (entries : List Entry) (run : IsR
 
         by : (b : Bool) → is_accepted e.reply ≡ b → Lasting (suc n)
         by false t =
-            let same = refused_step (keyset.verdict (at n).set (call_of c)) (at n).set
+            let same = refused_step (keyset.clearance (at n).set (call_of c)) (at n).set
             (at (suc n)).set (call_of c) e.reply t step in
             record {
               phase = h.phase;
@@ -233,7 +233,7 @@ module _ (name : List ℕ) (calls : List Call) (entries : List Entry) (run : IsR
               );
             }
         by true t =
-            let ok = accepted_step (keyset.verdict (at n).set (call_of c)) (at n).set
+            let ok = accepted_step (keyset.clearance (at n).set (call_of c)) (at n).set
             (at (suc n)).set (call_of c) e.reply t step in
             let clean = nothing_set (at n).set c (plain n c ci) in
             let all = (stays-sound name calls entries run n within).rolls in
@@ -269,7 +269,7 @@ module _ (name : List ℕ) (calls : List Call) (entries : List Entry) (run : IsR
         let step : keyset.Step old (keyset.StartRoll roll olds news now)
         (reply_of st.0.entry.reply) new =
         step-made name calls entries run s (keyset.StartRoll roll olds news now) st.0 in
-        let ok = accepted_step (keyset.verdict old (keyset.StartRoll roll olds news now)) old new
+        let ok = accepted_step (keyset.clearance old (keyset.StartRoll roll olds news now)) old new
         (keyset.StartRoll roll olds news now) st.0.entry.reply st.1 step in
         let can = can_start (world_of old) roll olds news (no_cause _ ok.0) in
         let may = λ (q : List ℕ) (k : KeyParts) (e : get old.keys q ≡ Some k).
@@ -336,7 +336,7 @@ module _ (name : List ℕ) (calls : List Call) (entries : List Entry) (run : IsR
         let new = (at (suc n)).set in
         let step : keyset.Step old (keyset.RollDone roll) (reply_of ends.0.entry.reply) new =
         step-made name calls entries run n (keyset.RollDone roll) ends.0 in
-        let ok = accepted_step (keyset.verdict old (keyset.RollDone roll)) old new
+        let ok = accepted_step (keyset.clearance old (keyset.RollDone roll)) old new
         (keyset.RollDone roll) ends.0.entry.reply ends.1 step in
         let done = finishes _ (no_cause _ ok.0) in
         let h = lasting st n later within none in

@@ -77,7 +77,7 @@ module _ (roll : RollType) (old new : KeySetParts) where
           ]
 
       -- another roll that ends early runs beside this one
-      ends_beside : (p : RollType) → keyset.verdict old (keyset.AbortRoll p) ≡ keyset.Clear
+      ends_beside : (p : RollType) → keyset.clearance old (keyset.AbortRoll p) ≡ keyset.Clear
           → (end_of (keyset.AbortRoll p) ≡ Some roll → ⊥) → tolerates p roll ≡ true
       ends_beside p v not_end = elim (cases_Bool (same_roll p roll)) [
         | inl t ↦ absurd (not_end (ap Some (same-is p roll t)))
@@ -85,7 +85,8 @@ module _ (roll : RollType) (old new : KeySetParts) where
       ]
 
       -- an old key stays old
-      pub old-step : (c : keyset.Call) → is_calm old c ≡ true → keyset.verdict old c ≡ keyset.Clear
+      pub old-step : (c : keyset.Call) → is_calm old c ≡ true
+          → keyset.clearance old c ≡ keyset.Clear
           → keyset.Changes old c new → (end_of c ≡ Some roll → ⊥) → (q : List ℕ) → IsNoAdd c q
           → ((k : KeyParts) → get old.keys q ≡ Some k → oldly roll k.keytype ≡ true)
           → (j : KeyParts) → get new.keys q ≡ Some j → oldly roll j.keytype ≡ true
@@ -127,7 +128,8 @@ module _ (roll : RollType) (old new : KeySetParts) where
           ∙ o) q h j e
 
       -- a new key stays new
-      pub new-step : (c : keyset.Call) → is_calm old c ≡ true → keyset.verdict old c ≡ keyset.Clear
+      pub new-step : (c : keyset.Call) → is_calm old c ≡ true
+          → keyset.clearance old c ≡ keyset.Clear
           → keyset.Changes old c new → LeavesOthers old c new → (end_of c ≡ Some roll → ⊥)
           → (q : List ℕ) (k : KeyParts) → get old.keys q ≡ Some k → newly roll k.keytype ≡ true
           → Stays q

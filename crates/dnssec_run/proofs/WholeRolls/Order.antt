@@ -197,7 +197,7 @@ module _ (sd : SideOf) (old new : KeySetParts) where
       ∙ role-ended sd r o i k.keytype
 
   changed_side : (c : keyset.Call) → is_calm old c ≡ true → LeavesOthers old c new
-      → keyset.verdict old c ≡ keyset.Clear → keyset.Changes old c new
+      → keyset.clearance old c ≡ keyset.Clear → keyset.Changes old c new
       → ((s : SideOf) → Order s old) → Order sd new
   changed_side (keyset.AddKey r k) plain leaves v m h =
       puts_side r (Some k) m (λ q t. alike_same sd q old.lists) (h sd)

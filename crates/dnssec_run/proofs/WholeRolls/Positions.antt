@@ -1,8 +1,7 @@
 -- No wait misses a stamp, and roles settle between the rolls: for `stamps` and `settled`.
-use Rattle.std.proofs.Common.{◌≡◌, ℕ, zero, suc, inl, inr, Bool, true, false, not, refl, sym, ◌∙◌}
+use Rattle.std.proofs.Common.{◌≡◌, ℕ, zero, suc, inl, inr, Bool, true, false, refl, sym, ◌∙◌}
 use Rattle.std.proofs.Common.{ap, subst, List, Option, None, Some}
-use Rattle.std.specs.Prelude.{slice_get, is_some, if◌then◌else◌}
-use Rattle.std.specs.Option.{option_map}
+use Rattle.std.specs.Prelude.{◌&&◌, slice_get, is_some, is_none, if◌then◌else◌}
 use Rattle.std.specs.FinMap.{get}
 use Rattle.std.proofs.lemmas.Bool.{true≢false}
 use Rattle.dnssec_key.specs.declared.roll.RollType.{RollType}
@@ -12,13 +11,13 @@ use Rattle.dnssec_key.specs.declared.roll.RollState.TheVariants.{Propagation2, C
 use Rattle.dnssec_key.specs.declared.roll.RollState.TheVariants.{Done}
 use Rattle.dnssec_key.specs.declared.error.Error.TheVariants.{WrongKeyState}
 use Rattle.dnssec_key.specs.Key.{KeyParts}
-use Rattle.dnssec_keyset.specs.KeySet.{KeySetParts, phase_of}
+use Rattle.dnssec_keyset.specs.KeySet.{KeySetParts, phase_of, some_key}
 use Rattle.dnssec_keyset.specs.Laws.{in_progress}
 use Rattle.dnssec_key.specs.RollTable.{Half, First, Second}
-use Rattle.dnssec_keyset.specs.Wait.{ttl_in, lacks_stamp, is_early, time_left, left_since}
-use Rattle.dnssec_keyset.specs.Wait.{stamp_read}
+use Rattle.dnssec_keyset.specs.Wait.{ttl_in, lacks_stamp, longest_left, stamp_read}
 use Rattle.dnssec_keyset.specs.Step as keyset
 use Rattle.dnssec_keyset.proofs.Quantified.{some_key-found}
+use Rattle.dnssec_keyset.proofs.Longest.{left-unbarred}
 use Rattle.dnssec_run.specs.WholeRolls.{NeverMissesStamp, SettlesBetweenRolls}
 use Rattle.dnssec_run.specs.declared.call.Call.{Call}
 use Rattle.dnssec_run.specs.declared.call.Call.TheVariants as call
@@ -116,10 +115,9 @@ has_it Visible k = refl
 has_it DsVisible k = refl
 has_it RrsigVisible k = refl
 
-some_mapped : (f : ℕ → ℕ) (o : Option ℕ) → is_some o ≡ true → not (is_some (option_map f o)) ≡ true
-    → ⊥
-some_mapped f None e h = true≢false (sym e)
-some_mapped f (Some m) e h = true≢false (sym h)
+not_missing : (o : Option ℕ) → is_some o ≡ true → is_none o ≡ false
+not_missing None e = absurd (true≢false (sym e))
+not_missing (Some m) e = refl
 
 module _ (set : KeySetParts) (ks : Order Keys set) (zs : Order Zone set) (r : RollType)
     (second : Bool) (ttl now : ℕ) (phase : phase_of set.rolls r ≡ Some (waiting second ttl)) where
@@ -139,51 +137,34 @@ module _ (set : KeySetParts) (ks : Order Keys set) (zs : Order Zone set) (r : Ro
       (λ own. ap (λ ph. in_order Keys ph k) (sym (there Keys ks own)) ∙ ks.keys q k at)
       (λ own. ap (λ ph. in_order Zone ph k) (sym (there Zone zs own)) ∙ zs.keys q k at)
 
-  pub no_lack : lacks_stamp (time_left r (half second) ttl now) set.keys ≡ true → ⊥
+  pub no_lack : some_key (lacks_stamp r (half second)) set.keys ≡ true → ⊥
   no_lack e =
-      let f = some_key-found (λ k. not (is_some (time_left r (half second) ttl now k))) set.keys
-      e in
+      let f = some_key-found (lacks_stamp r (half second)) set.keys e in
       by f.0 f.1 f.2 (checked r second f.1.keytype) refl f.3
     where
       by : (q : List ℕ) (k : KeyParts) → get set.keys q ≡ Some k → (b : Bool)
-          → checked r second k.keytype ≡ b
-          → not (is_some (time_left r (half second) ttl now k)) ≡ true → ⊥
-      by q k at true t lack = some_mapped (left_since ttl now) (stamp_read r (half second) k)
-          (ap is_some (reads-stamp r second k.timestamps) ∙ read_there q k at t)
-          (sym (ap (λ b.
-          not (is_some (if b then option_map (left_since ttl now) (stamp_read r (half second) k)
-          else Some 0))) t) ∙ lack)
+          → checked r second k.keytype ≡ b → lacks_stamp r (half second) k ≡ true → ⊥
+      by q k at true t lack = true≢false (sym lack
+          ∙ ap (λ b. b && is_none (stamp_read r (half second) k)) t
+          ∙ not_missing (stamp_read r (half second) k)
+          (ap is_some (reads-stamp r second k.timestamps) ∙ read_there q k at t))
       by q k at false t lack = true≢false (sym lack
-          ∙ ap (λ b. not
-          (is_some (if b then option_map (left_since ttl now) (stamp_read r (half second) k)
-          else Some 0))) t)
+          ∙ ap (λ b. b && is_none (stamp_read r (half second) k)) t)
 
   not_barred : keyset.wait_in_phase r (half second) (Some ttl) now set.keys
       ≡ keyset.Barred WrongKeyState → ⊥
-  not_barred e = by (lacks_stamp (time_left r (half second) ttl now) set.keys) refl
-      (is_early (time_left r (half second) ttl now) set.keys) e
+  not_barred e = by (some_key (lacks_stamp r (half second)) set.keys) refl e
     where
-      by : (b : Bool) → lacks_stamp (time_left r (half second) ttl now) set.keys ≡ b → (c : Bool)
-          → (if lacks_stamp (time_left r (half second) ttl now) set.keys
-          then keyset.Barred WrongKeyState
-          else (if is_early (time_left r (half second) ttl now) set.keys
-          then keyset.Early (time_left r (half second) ttl now) else keyset.Clear))
+      by : (b : Bool) → some_key (lacks_stamp r (half second)) set.keys ≡ b
+          → (if b then keyset.Barred WrongKeyState
+          else keyset.early_by (longest_left r (half second) ttl now set.keys))
           ≡ keyset.Barred WrongKeyState → ⊥
-      by true t c e = no_lack t
-      by false t c e = at_early (is_early (time_left r (half second) ttl now) set.keys)
-          (sym (ap (λ b. if b then keyset.Barred WrongKeyState
-          else (if is_early (time_left r (half second) ttl now) set.keys
-          then keyset.Early (time_left r (half second) ttl now) else keyset.Clear)) t) ∙ e)
-        where
-          at_early : (c : Bool)
-              → (if c then keyset.Early (time_left r (half second) ttl now) else keyset.Clear)
-              ≡ keyset.Barred WrongKeyState → ⊥
-          at_early true e = cc
-          at_early false e = cc
+      by true t e = no_lack t
+      by false t e = left-unbarred (longest_left r (half second) ttl now set.keys) WrongKeyState e
 
 never_barred : (set : KeySetParts) → Order Keys set → Order Zone set
     → (r : RollType) (h : Half) (now : ℕ)
-    → keyset.wait_verdict r h now set ≡ keyset.Barred WrongKeyState → ⊥
+    → keyset.wait_clearance r h now set ≡ keyset.Barred WrongKeyState → ⊥
 never_barred set ks zs r First now e = by (phase_of set.rolls r) refl e
   where
     by : (o : Option RollState) → phase_of set.rolls r ≡ o
@@ -208,7 +189,7 @@ never_barred set ks zs r Second now e = by (phase_of set.rolls r) refl e
     by (Some Done) p f = cc
 
 -- the reply of a wait that isn't barred so
-told_else : (v : keyset.Verdict) (old new : KeySetParts) (r : RollType) (h : Half) (now : ℕ)
+told_else : (v : keyset.Clearance) (old new : KeySetParts) (r : RollType) (h : Half) (now : ℕ)
     (reply : keyset.Reply) → keyset.StepBy v old (keyset.Wait r h now) reply new
     → (v ≡ keyset.Barred WrongKeyState → ⊥) → reply ≡ keyset.Refused WrongKeyState → ⊥
 told_else (keyset.Barred cause) old new r h now reply step not_so e =
@@ -223,7 +204,7 @@ pub never-misses : (name : List ℕ) (calls : List Call) (entries : List Entry)
 never-misses name calls entries run plain n roll half now wait =
     let old = (world_at name calls entries n).set in
     let new = (world_at name calls entries (suc n)).set in
-    told_else (keyset.wait_verdict roll half now old) old new roll half now
+    told_else (keyset.wait_clearance roll half now old) old new roll half now
     (reply_of wait.entry.reply)
     (subst (λ c. keyset.Step old c (reply_of wait.entry.reply) new) wait.call_is
     (run.each n wait.made wait.entry wait.made_is wait.entry_is).step)

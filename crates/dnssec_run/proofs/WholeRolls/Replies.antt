@@ -17,7 +17,7 @@ use Rattle.dnssec_run.specs.declared.record.Mark.TheVariants.{Other}
 use Rattle.dnssec_run.proofs.Chain.Trust.{mark, plainly}
 
 -- a reply that accepts
-pub accepted_step : (v : keyset.Verdict) (old new : KeySetParts) (c : keyset.Call) (r : Reply)
+pub accepted_step : (v : keyset.Clearance) (old new : KeySetParts) (c : keyset.Call) (r : Reply)
     → is_accepted r ≡ true → keyset.StepBy v old c (reply_of r) new → (v ≡ keyset.Clear)
     × keyset.Changes old c new × (reply_of r ≡ keyset.accepted_reply c)
 accepted_step v old new c reply.Done a h = accepted_changes v old new c keyset.Done refl h
@@ -26,7 +26,7 @@ accepted_step v old new c (reply.Actions x) a h =
 accepted_step v old new c (reply.Refused x) a h = absurd (true≢false (sym a))
 
 -- a reply that refuses
-pub refused_step : (v : keyset.Verdict) (old new : KeySetParts) (c : keyset.Call) (r : Reply)
+pub refused_step : (v : keyset.Clearance) (old new : KeySetParts) (c : keyset.Call) (r : Reply)
     → is_accepted r ≡ false → keyset.StepBy v old c (reply_of r) new → new ≡ old
 refused_step v old new c reply.Done a h = absurd (true≢false a)
 refused_step v old new c (reply.Actions x) a h = absurd (true≢false a)

@@ -118,7 +118,7 @@ module _ (entries : List Entry) (n : ℕ) (old new : KeySetParts) (ks : Order Ke
         data-beside entries r y n old new (beside r y was t) (none r t) (h r y was)
   ]
 
-  pub data-step : (c : keyset.Call) → is_calm old c ≡ true → keyset.verdict old c ≡ keyset.Clear
+  pub data-step : (c : keyset.Call) → is_calm old c ≡ true → keyset.clearance old c ≡ keyset.Clear
       → keyset.Changes old c new → LeavesOthers old c new
       → (position_at entries (suc n)).mark ≡ mark c
       → (position_at entries (suc n)).moment ≡ moment c

@@ -45,7 +45,7 @@ use Rattle.dnssec_run.proofs.WholeRolls.Phases.{at_phase, roll_now}
 use Rattle.dnssec_run.proofs.WholeRolls.Positions.{in-order, no_lack, nothing_set, read_there}
 use Rattle.dnssec_run.proofs.WholeRolls.Replies.{At, at_position, marked, accepted_step}
 use Rattle.dnssec_run.proofs.WholeRolls.Replies.{refused_step}
-use Rattle.dnssec_run.proofs.WholeRolls.Verdicts.{answers}
+use Rattle.dnssec_run.proofs.WholeRolls.Clearances.{answers}
 use Rattle.dnssec_run.proofs.Chain.RollFacts.{timed_first}
 use Rattle.dnssec_keyset.proofs.Phases.{no_phases}
 
@@ -121,11 +121,12 @@ module _ (name : List ℕ) (calls : List Call) (entries : List Entry) (run : IsR
 
       by : (b : Bool) → rec.is_accepted e.reply ≡ b → Clock (suc n)
       by false t =
-          same-clock n (refused_step (keyset.verdict (set_at n) (call_of c)) (set_at n)
+          same-clock n (refused_step (keyset.clearance (set_at n) (call_of c)) (set_at n)
           (set_at (suc n)) (call_of c) e.reply t step)
           (λ r s. ap (is_report r s) (a.mark_is ∙ marked c e.reply false t)) h
       by true t =
-          let ok = accepted_step (keyset.verdict (set_at n) (call_of c)) (set_at n) (set_at (suc n))
+          let ok = accepted_step (keyset.clearance (set_at n) (call_of c)) (set_at n)
+          (set_at (suc n))
           (call_of c) e.reply t step in
           let clean = nothing_set (set_at n) c (plain n c ci) in
           let mo : (position_at entries (suc n)).moment ≡ moment (call_of c) = a.when

@@ -1,0 +1,105 @@
+-- What a wait is answered where its stamps are known: for the clause `waits`.
+use Rattle.std.proofs.Common.{◌≡◌, ℕ, zero, suc, ◌+◌, ◌-◌, ◌*◌, ◌≤◌, inl, inr, Bool, true}
+use Rattle.std.proofs.Common.{false, refl, sym, ◌∙◌, ap, subst, arith, List, Option, None, Some}
+use Rattle.std.specs.Prelude.{is_some, if◌then◌else◌}
+use Rattle.std.specs.Option.{option_map_or}
+use Rattle.std.specs.Duration.{as_nanos}
+use Rattle.std.specs.FinMap.{get}
+use Rattle.std.proofs.lemmas.Bool.{false_from_ne_true, true≢false}
+use Rattle.dnssec_key.specs.declared.roll.RollType.{RollType}
+use Rattle.dnssec_key.specs.declared.error.Error.TheVariants.{WrongKeyState}
+use Rattle.dnssec_key.specs.Key.{KeyParts}
+use Rattle.dnssec_run.specs.WholeRolls.{WaitsUntil}
+use Rattle.dnssec_keyset.specs.KeySet.{KeySetParts, some_key}
+use Rattle.dnssec_key.specs.RollTable.{Half}
+use Rattle.dnssec_keyset.specs.Wait.{lacks_stamp, longest_left, time_left, left_since, stamp_read}
+use Rattle.dnssec_keyset.specs.Step as keyset
+use Rattle.dnssec_keyset.proofs.Longest.{longest-is, none-left, some-left}
+use Rattle.dnssec_run.proofs.Chain.Tables.{half, read, reads-stamp, checked}
+use Rattle.dnssec_run.proofs.Chain.Tale.{stamp_of}
+use Rattle.dnssec_run.proofs.WholeRolls.Armed.{Armed}
+
+-- ---- what a wait is answered where its stamps are known
+
+-- the wait's clearance, from the latest stamp that it checks
+module _ (set : KeySetParts) (r : RollType) (second : Bool) (ttl now m : ℕ)
+    (armed : Armed r second m set) (le : m ≤ now)
+    (reads : checked r second armed.parts.keytype ≡ true)
+    (stamps : (q : List ℕ) (k : KeyParts) → get set.keys q ≡ Some k
+    → checked r second k.keytype ≡ true → is_some (stamp_of (read r second) k) ≡ true) where
+  abbrev left : KeyParts → ℕ
+  left = time_left r (half second) ttl now
+
+  left_checked : (k : KeyParts) (x : ℕ) → checked r second k.keytype ≡ true
+      → stamp_of (read r second) k ≡ Some x → left k ≡ ttl * 1_000_000_000 - (now - x)
+  left_checked k x c s =
+      ap (λ b. if b then option_map_or (left_since ttl now) (stamp_read r (half second) k) 0 else 0)
+      c
+      ∙ ap (λ o. option_map_or (left_since ttl now) o 0) (reads-stamp r second k.timestamps ∙ s)
+
+  left_unchecked : (k : KeyParts) → checked r second k.keytype ≡ false → left k ≡ 0
+  left_unchecked k c =
+      ap (λ b. if b then option_map_or (left_since ttl now) (stamp_read r (half second) k) 0 else 0)
+      c
+
+  some_stamp : (o : Option ℕ) → is_some o ≡ true → (x : ℕ) × (o ≡ Some x)
+  some_stamp None e = absurd (true≢false (sym e))
+  some_stamp (Some x) e = (x, refl)
+
+  -- no key has more left than the one with the report's stamp
+  at_most : (q : List ℕ) (k : KeyParts) → get set.keys q ≡ Some k
+      → left k ≤ ttl * 1_000_000_000 - (now - m)
+  at_most q k e = by (checked r second k.keytype) refl
+    where
+      by : (b : Bool) → checked r second k.keytype ≡ b → left k ≤ ttl * 1_000_000_000 - (now - m)
+      by true c =
+          let x = some_stamp (stamp_of (read r second) k) (stamps q k e c) in
+          let bound : x.0 ≤ m = armed.bound q k x.0 e c x.1 in
+          subst (λ d. d ≤ ttl * 1_000_000_000 - (now - m)) (sym (left_checked k x.0 c x.1))
+          (omega arith)
+      by false c =
+          subst (λ d. d ≤ ttl * 1_000_000_000 - (now - m)) (sym (left_unchecked k c)) (omega arith)
+
+  -- the longest that is left
+  longest : longest_left r (half second) ttl now set.keys ≡ ttl * 1_000_000_000 - (now - m)
+  longest = longest-is left set.keys (ttl * 1_000_000_000 - (now - m)) at_most armed.key armed.parts
+      armed.there (left_checked armed.parts m reads armed.has_it)
+
+  -- what the wait is answered
+  pub answers : (new : KeySetParts) (h : Half) (reply : keyset.Reply) → half second ≡ h
+      → (some_key (lacks_stamp r (half second)) set.keys ≡ true → ⊥)
+      → keyset.StepBy (keyset.wait_in_phase r (half second) (Some ttl) now set.keys) set
+      (keyset.Wait r h now) reply new
+      → WaitsUntil (m + ttl * 1_000_000_000) now reply
+      (keyset.accepted_reply (keyset.Wait r h now))
+  answers new h reply which_half whole step =
+      by (ttl * 1_000_000_000 - (now - m)) refl
+      (subst (λ v. keyset.StepBy v set (keyset.Wait r h now) reply new) clearance_is step)
+    where
+      clearance_is : keyset.wait_in_phase r (half second) (Some ttl) now set.keys
+          ≡ keyset.early_by (ttl * 1_000_000_000 - (now - m))
+      clearance_is =
+          ap (λ b. if b then keyset.Barred WrongKeyState
+          else keyset.early_by (longest_left r (half second) ttl now set.keys))
+          (false_from_ne_true (some_key (lacks_stamp r (half second)) set.keys) whole)
+          ∙ ap keyset.early_by longest
+
+      by : (left : ℕ) → left ≡ ttl * 1_000_000_000 - (now - m)
+          → keyset.StepBy (keyset.early_by left) set (keyset.Wait r h now) reply new
+          → WaitsUntil (m + ttl * 1_000_000_000) now reply
+          (keyset.accepted_reply (keyset.Wait r h now))
+      by zero is s =
+          let told = subst (λ v. keyset.StepBy v set (keyset.Wait r h now) reply new)
+          (none-left 0 (omega arith)) s in
+          record {
+            early = λ lt. absurd (omega arith);
+            over = λ ge. elim told [ inl ok ↦ inl ok.0 | inr memory ↦ inr memory.1 ];
+          }
+      by (suc n) is s =
+          let told = subst (λ v. keyset.StepBy v set (keyset.Wait r h now) reply new)
+          (some-left (suc n) (omega arith)) s in
+          let d : as_nanos told.0.0 ≡ suc n = told.0.2 in
+          record {
+            early = λ lt. (told.0.0, told.0.1, omega arith);
+            over = λ ge. absurd (omega arith);
+          }
