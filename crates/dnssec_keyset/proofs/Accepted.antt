@@ -38,7 +38,7 @@ abbrev pub is_refused : keyset.Reply → Bool
 is_refused (keyset.Refused cause) = true
 is_refused _ = false
 
--- an accepted call had a clear clearance, made its change, and answered what is due
+-- an accepted call was clear, made its change, and answered what is due
 pub accepted_changes : (v : keyset.Clearance) (old new : KeySetParts) (c : keyset.Call)
     (r : keyset.Reply) → is_refused r ≡ false → keyset.StepBy v old c r new → (v ≡ keyset.Clear)
     × keyset.Changes old c new × (r ≡ keyset.accepted_reply c)

@@ -1,5 +1,5 @@
--- The longest of the times that keys have left: no key of the set has more, and what no key has more
--- of is no less; and whether a wait is early by it. For the end of a wait, for the exchange of
+-- The longest of the times that keys have left: no key of the set has more, and a bound of all of
+-- them is no less; and whether a wait is early by it. For the end of a wait, for the exchange of
 -- calls, and for the laws of runs.
 use Rattle.std.proofs.Common.{◌≡◌, ℕ, ◌<◌, ◌≤◌, Bool, true, false, List, [], ◌∷◌, map}
 use Rattle.std.proofs.Common.{Some, refl, inl, inr, sym, ap, ◌∙◌, max, arith}
@@ -52,7 +52,7 @@ module _ (f : KeyParts → ℕ) where
       below : (n : ℕ) → nat_lt n (f k) ≡ false → f k ≤ n
       below n h = grind (arith, nat_tests)
 
-  -- what no key has more of is no less
+  -- a bound of all times is no less
   pub longest-most : (keys : Keys) (n : ℕ)
       → ((q : List ℕ) (k : KeyParts) → get keys q ≡ Some k → f k ≤ n)
       → fold max 0 (map f (values keys)) ≤ n
@@ -69,7 +69,7 @@ module _ (f : KeyParts → ℕ) where
         | inr not_one ↦ not_one
       ]
 
-  -- what no key has more of, and one has, is the longest
+  -- a bound that one key comes up to is the longest
   pub longest-is : (keys : Keys) (n : ℕ)
       → ((q : List ℕ) (k : KeyParts) → get keys q ≡ Some k → f k ≤ n)
       → (q : List ℕ) (k : KeyParts) → get keys q ≡ Some k → f k ≡ n

@@ -35,7 +35,7 @@ use Rattle.dnssec_keyset.specs.KeySet.{ChangesKey}
 use Rattle.dnssec_keyset.specs.Start.{start_refusal, is_listed}
 use Rattle.dnssec_keyset.specs.Wait.{ttl_in, lacks_stamp, longest_left}
 
--- ---- what a call is barred by, or cleared for
+-- ---- what bars a call, or clears it
 
 -- some key has the tag, which no two may share here (RFC 4034, appendix B: two keys may)
 abbrev pub has_tag : ℕ → Keys → Bool
@@ -74,7 +74,8 @@ abbrev pub early_end_refusal : Option RollState → Option Error
 early_end_refusal (Some Propagation1) = None
 early_end_refusal _ = Some WrongStateForRollOperation
 
--- a call is barred by a cause, or too early by so many nanoseconds, or clear: it may be made
+-- whether a call may be made: barred by a cause; too early by so many nanoseconds, a wait alone; or
+-- clear
 pub data Clearance : Type 0 where
   Barred : Error → Clearance
   Early : ℕ → Clearance
@@ -89,15 +90,15 @@ barred_by (Some cause) = Barred cause
 abbrev pub early_by : ℕ → Clearance
 early_by left = if nat_eq left 0 then Clear else Early left
 
--- a wait with this TTL: barred where some key lacks its stamp, else too early by what is left for
--- the key that has the longest to go
+-- a wait, by the TTL that it waits for: barred in a phase that has none, and where some key lacks
+-- its stamp; else too early by the longest that is left for a key
 abbrev pub wait_in_phase : RollType → Half → Option ℕ → ℕ → Keys → Clearance
 wait_in_phase roll half None now keys = Barred WrongStateForRollOperation
 wait_in_phase roll half (Some ttl) now keys =
     if some_key (lacks_stamp roll half) keys then Barred WrongKeyState
     else early_by (longest_left roll half ttl now keys)
 
--- what bars or clears a wait in the phase that its roll is in
+-- the same in the phase that its roll is in
 abbrev pub wait_clearance : RollType → Half → ℕ → KeySetParts → Clearance
 wait_clearance roll half now set =
     wait_in_phase roll half (ttl_in half (phase_of set.rolls roll)) now set.keys
@@ -154,7 +155,7 @@ abbrev pub reply_list : Result (Vec Action Global) Error → Reply
 reply_list (Ok actions) = Actions actions.items
 reply_list (Err cause) = Refused cause
 
--- what each call is barred by, or that it is clear
+-- what bars each call, or clears it
 abbrev pub clearance : KeySetParts → Call → Clearance
 clearance set (AddKey reference key) = barred_by (add_refusal set.keys reference key.key_tag)
 clearance set (Set reference setting) = barred_by (setting_refusal setting (get set.keys reference))

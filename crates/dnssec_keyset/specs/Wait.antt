@@ -25,7 +25,7 @@ ttl_in half _ = None
 abbrev pub stamp_read : RollType → Half → KeyParts → Option ℕ
 stamp_read roll half k = stamp_at (half_of roll half).reads k.timestamps
 
--- the nanoseconds left of a wait of ttl seconds since a stamp
+-- the nanoseconds left of a wait of ttl seconds since a stamp: all of them up to its moment
 abbrev pub left_since : ℕ → ℕ → ℕ → ℕ
 left_since ttl now stamp = ttl * 1_000_000_000 - (now - stamp)
 

@@ -13,7 +13,8 @@ use Rattle.dnssec_keyset.specs.Step.{Barred, Early, Clear, wait_in_phase, wait_c
 use Rattle.dnssec_keyset.specs.Wait.{ttl_in}
 
 -- a wait of ttl seconds is over from `end` on. Before, it is told what is left until then, but no
--- more than the TTL: so it is told where the moment lies before the event that is waited on
+-- more than the TTL: so it is told where the moment lies before the event that is waited on. (Of a
+-- TTL of 0 nothing is ever left, and `end` is 0.)
 pub record IsOverFrom (roll : RollType) (half : Half) (ttl : ℕ) (keys : Keys) (end : ℕ) : Type 0
   where
     pub early : (now : ℕ) → now < end →
