@@ -1,6 +1,7 @@
 //! What the setters do to a key of each kind.
 ghost use Rattle.std.specs.Prelude.{◌≡◌};
-ghost use Rattle.dnssec_key.specs.Setters.{setting_of, at_ksk_role, at_states, is_flag_setting};
+ghost use Rattle.dnssec_key.specs.RollTable.{at_roles, stays};
+ghost use Rattle.dnssec_key.specs.Setters.{setting_of, at_states, is_flag_setting};
 ghost use Rattle.dnssec_key.specs.Setters.{suits_kind, stale_by_hand, with_at_parent, with_present};
 ghost use Rattle.dnssec_key.specs.Setters.{with_signer};
 
@@ -102,7 +103,7 @@ impl KeyType {
     }
 
     pub(crate) fn with_at_parent(self, value: bool) -> KeyType
-        ensures { result ≡ at_ksk_role (with_at_parent value) self }
+        ensures { result ≡ at_roles (with_at_parent value) stays self }
     {
         match self {
             KeyType::Ksk(state) => KeyType::Ksk(state.with_at_parent(value)),

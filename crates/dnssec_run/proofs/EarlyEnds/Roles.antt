@@ -11,11 +11,10 @@ use Rattle.std.proofs.lemmas.Option.{same_Some, none-some}
 use Rattle.dnssec_key.specs.declared.kind.KeyType.{KeyType}
 use Rattle.dnssec_key.specs.declared.kind.KeyType.TheVariants.{Ksk, Zsk, Csk, Include}
 use Rattle.dnssec_key.specs.Key.{KeyParts}
-use Rattle.dnssec_key.specs.RollTable.{First, Second}
+use Rattle.dnssec_key.specs.RollTable.{First, Second, at_roles, stays}
 use Rattle.dnssec_key.specs.Setters.{Setting, Decoupled, Present, Signer, AtParent, Stale}
 use Rattle.dnssec_key.specs.Setters.{VisibleAt, DsVisibleAt, RrsigVisibleAt, set_by, with_at_parent}
-use Rattle.dnssec_key.specs.Setters.{at_ksk_role, at_states, stale_by_hand, with_present}
-use Rattle.dnssec_key.specs.Setters.{with_signer}
+use Rattle.dnssec_key.specs.Setters.{at_states, stale_by_hand, with_present, with_signer}
 use Rattle.dnssec_keyset.specs.KeySet.{KeySetParts, listed_by}
 use Rattle.dnssec_keyset.specs.Start.{is_listed}
 use Rattle.dnssec_keyset.specs.Step as keyset
@@ -50,7 +49,7 @@ tied-signer value (Csk s t) h = h
 tied-signer value (Include s) h = refl
 
 tied-at_parent : (value : Bool) (k : KeyType) → tied k ≡ true
-    → tied (at_ksk_role (with_at_parent value) k) ≡ true
+    → tied (at_roles (with_at_parent value) stays k) ≡ true
 tied-at_parent value (Ksk s) h = refl
 tied-at_parent value (Zsk s) h = refl
 tied-at_parent value (Csk s t) h = h
