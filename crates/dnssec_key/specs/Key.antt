@@ -48,12 +48,12 @@ first_state (Zsk s) = s
 first_state (Csk s t) = s
 first_state (Include s) = s
 
--- the same, but of no key of another signer
+-- the same, but none of another signer's key
 abbrev pub key_state : KeyType → Option Flags
 key_state (Include s) = None
 key_state k = Some (first_state k)
 
--- the same of the keys that can sign the zone: ZSKs and CSKs
+-- the same of the keys that can sign the zone, ZSKs and CSKs
 abbrev pub zone_key_state : KeyType → Option Flags
 zone_key_state (Zsk s) = Some s
 zone_key_state (Csk s t) = Some s
@@ -75,11 +75,11 @@ ksk_role p k = option_map_or p (ksk_role_state k) false
 abbrev pub zsk_role : (Flags → Bool) → KeyType → Bool
 zsk_role p k = option_map_or p (zsk_role_state k) false
 
--- not another signer's, and its state passes: of a CSK its KSK role's
+-- a key of this signer whose state passes: of a CSK that of its KSK role
 abbrev pub any_key : (Flags → Bool) → KeyType → Bool
 any_key p k = option_map_or p (key_state k) false
 
--- a ZSK or a CSK whose state passes: of a CSK its KSK role's
+-- a ZSK or a CSK whose state passes: of a CSK that of its KSK role
 abbrev pub zone_key : (Flags → Bool) → KeyType → Bool
 zone_key p k = option_map_or p (zone_key_state k) false
 

@@ -53,12 +53,6 @@ ds_comes_in s = record s { at_parent = true }
 abbrev pub ds_follows : Flags → Flags
 ds_follows s = if s.present then record s { at_parent = not s.old } else s
 
--- those that leave drop out, those with a DS that stay come in for them (RFC 6781, section 4.1.2)
-abbrev pub keys_change_places : Flags → Flags
-keys_change_places s =
-    if old_present s then record s { present = false; signer = false }
-    else (if kept_at_parent s then record s { present = true; signer = true } else s)
-
 -- published keys that stay sign the zone from now on, old ones don't (RFC 6781, section 4.1.1.1)
 abbrev pub signatures_follow : Flags → Flags
 signatures_follow s =
@@ -76,6 +70,16 @@ leaves_parent s = record s { at_parent = false }
 -- a key that signs no more drops out of the DNSKEY set (RFC 6781, section 4.1.1.1)
 abbrev pub leaves_silently : Flags → Flags
 leaves_silently s = record s { present = false }
+
+-- those that leave drop out, those with a DS that stay come in for them (RFC 6781, section 4.1.2)
+abbrev pub keys_change_places : Flags → Flags
+keys_change_places s =
+    if old_present s then leaves_dnskey s
+    else (if kept_at_parent s then comes_in_signing s else s)
+
+-- it is on its way out from now on
+abbrev pub turns_old : Flags → Flags
+turns_old s = record s { old = true }
 
 -- it is on its way out no more
 abbrev pub turns_back : Flags → Flags
@@ -98,13 +102,17 @@ at_roles f g (Zsk s) = Zsk (g s)
 at_roles f g (Csk s t) = Csk (f s) (g t)
 at_roles f g (Include s) = Include s
 
+-- f at each role, of whatever kind
+abbrev pub at_each_role : (Flags → Flags) → KeyType → KeyType
+at_each_role f = at_roles f f
+
 -- f at the role of a KSK, and of no CSK
 abbrev pub at_ksk : (Flags → Flags) → KeyType → KeyType
 at_ksk f = only (ksk is_any) (at_roles f stays)
 
--- g at the role of a ZSK, and of no CSK
+-- f at the role of a ZSK, and of no CSK
 abbrev pub at_zsk : (Flags → Flags) → KeyType → KeyType
-at_zsk g = only (zsk is_any) (at_roles stays g)
+at_zsk f = only (zsk is_any) (at_roles stays f)
 
 -- ---- the columns
 
@@ -273,7 +281,7 @@ csk_roll = record {
   writes = record writes_nothing { published = every_key };
   asks = UpdateDnskeyRrset ∷ ReportDnskeyPropagated ∷ [];
   goes = at_roles leaves_dnskey leaves_silently;
-  returns = at_roles turns_back turns_back;
+  returns = at_each_role turns_back;
   asks_early = UpdateDnskeyRrset ∷ WaitDnskeyPropagated ∷ [];
   first = record {
     report = record writes_nothing { visible = any_key kept_present };
@@ -302,11 +310,11 @@ csk_roll = record {
 -- algorithm roll, liberal: keys and signatures at once, then the DS (RFC 6781, section 4.1.4)
 abbrev pub algorithm_roll : Column
 algorithm_roll = record {
-  comes = at_roles comes_in_signing comes_in_signing;
+  comes = at_each_role comes_in_signing;
   writes = record writes_nothing { published = every_key };
   asks = UpdateDnskeyRrset ∷ UpdateRrsig ∷ ReportDnskeyPropagated ∷ ReportRrsigPropagated ∷ [];
-  goes = at_roles leaves_dnskey leaves_dnskey;
-  returns = at_roles turns_back turns_back;
+  goes = at_each_role leaves_dnskey;
+  returns = at_each_role turns_back;
   asks_early = UpdateDnskeyRrset ∷ UpdateRrsig ∷ WaitDnskeyPropagated ∷ WaitRrsigPropagated ∷ [];
   first = record {
     report = record writes_nothing {
@@ -323,7 +331,7 @@ algorithm_roll = record {
     report = record writes_nothing { ds_visible = ksk_role kept_present };
     checks = ksk_role kept_signing;
     reads = DsVisible;
-    moves = only (any_key old_present) (at_roles leaves_dnskey leaves_dnskey);
+    moves = only (any_key old_present) (at_each_role leaves_dnskey);
     writes = record writes_nothing { withdrawn = any_key old_present };
   };
   asks_last = RemoveCdsRrset ∷ UpdateDnskeyRrset ∷ UpdateRrsig ∷
@@ -372,13 +380,9 @@ key_by moves writes now k = record k {
   timestamps = stamps_after writes k.keytype now k.timestamps;
 }
 
--- it is on its way out from now on
-abbrev pub turns_old : Flags → Flags
-turns_old s = record s { old = true }
-
 -- a key that a start lists as old
 abbrev pub old_at_start : KeyParts → KeyParts
-old_at_start k = record k { keytype = at_roles turns_old turns_old k.keytype }
+old_at_start k = record k { keytype = at_each_role turns_old k.keytype }
 
 -- a key that a start lists as new
 abbrev pub new_at_start : RollType → ℕ → KeyParts → KeyParts
@@ -386,9 +390,9 @@ new_at_start roll = key_by (column roll).comes (column roll).writes
 
 -- a key after a start, by whether it is listed as old, and whether as new
 abbrev pub after_start : RollType → ℕ → Bool → Bool → KeyParts → KeyParts
-after_start roll now is_old is_new k =
-    let old = (if is_old then old_at_start k else k) in
-    if is_new then new_at_start roll now old else old
+after_start roll now as_old as_new k =
+    let marked = (if as_old then old_at_start k else k) in
+    if as_new then new_at_start roll now marked else marked
 
 -- an old key of a roll that is ended early: it is old no more, and no stamp changes
 abbrev pub old_at_early_end : RollType → KeyParts → KeyParts
@@ -400,9 +404,9 @@ new_at_early_end roll k = record k { keytype = (column roll).goes k.keytype }
 
 -- a key after an early end, by whether it is still listed as old, and whether as new
 abbrev pub after_early_end : RollType → Bool → Bool → KeyParts → KeyParts
-after_early_end roll was_old was_new k =
-    let old = (if was_old then old_at_early_end roll k else k) in
-    if was_new then new_at_early_end roll old else old
+after_early_end roll as_old as_new k =
+    let unmarked = (if as_old then old_at_early_end roll k else k) in
+    if as_new then new_at_early_end roll unmarked else unmarked
 
 -- a key after a report
 abbrev pub after_report : RollType → Half → ℕ → KeyParts → KeyParts

@@ -10,7 +10,7 @@ use Rattle.dnssec_key.specs.declared.error.Error.{Error}
 use Rattle.dnssec_key.specs.declared.error.Error.TheVariants.{WrongKeyType}
 use Rattle.dnssec_key.specs.State.{Flags, is_any}
 use Rattle.dnssec_key.specs.Key.{KeyParts, ksk_role, any_key}
-use Rattle.dnssec_key.specs.RollTable.{at_roles, stays}
+use Rattle.dnssec_key.specs.RollTable.{at_roles, at_each_role, stays}
 
 -- what a setter sets
 pub data Setting : Type 0 where
@@ -37,9 +37,9 @@ setting_of (code.RrsigVisibleAt time) = RrsigVisibleAt time
 -- ---- what a setter changes
 
 -- f at each state of the key, also at that of another signer's key
-abbrev pub at_states : (Flags → Flags) → KeyType → KeyType
-at_states f (Include s) = Include (f s)
-at_states f k = at_roles f f k
+abbrev pub at_each_state : (Flags → Flags) → KeyType → KeyType
+at_each_state f (Include s) = Include (f s)
+at_each_state f k = at_each_role f k
 
 -- it is in the DNSKEY set, or not
 abbrev pub with_present : Bool → Flags → Flags
@@ -60,19 +60,18 @@ stale_by_hand s = record s { old = true; signer = false; present = false; at_par
 -- a key put into the DNSKEY set was published then, unless it was before
 abbrev pub first_published : Bool → ℕ → Option ℕ → Option ℕ
 first_published true now None = Some now
-first_published true now (Some before) = Some before
-first_published false now before = before
+first_published value now before = before
 
 -- a key after a setter
 abbrev pub set_by : Setting → KeyParts → KeyParts
 set_by (Decoupled value) k = record k { decoupled = value }
 set_by (Present value now) k = record k {
-  keytype = at_states (with_present value) k.keytype;
+  keytype = at_each_state (with_present value) k.keytype;
   timestamps = record k.timestamps { published = first_published value now k.timestamps.published };
 }
-set_by (Signer value) k = record k { keytype = at_states (with_signer value) k.keytype }
+set_by (Signer value) k = record k { keytype = at_each_state (with_signer value) k.keytype }
 set_by (AtParent value) k = record k { keytype = at_roles (with_at_parent value) stays k.keytype }
-set_by Stale k = record k { keytype = at_states stale_by_hand k.keytype }
+set_by Stale k = record k { keytype = at_each_state stale_by_hand k.keytype }
 set_by (VisibleAt time) k = record k { timestamps = record k.timestamps { visible = Some time } }
 set_by (DsVisibleAt time) k =
     record k { timestamps = record k.timestamps { ds_visible = Some time } }

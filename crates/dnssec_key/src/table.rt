@@ -3,7 +3,7 @@
 
 ghost use Rattle.std.specs.Prelude.{◌≡◌};
 ghost use Rattle.dnssec_key.specs.declared.kind.KeyType.TheVariants.{Csk};
-ghost use Rattle.dnssec_key.specs.RollTable.{which, column, half_of, at_roles};
+ghost use Rattle.dnssec_key.specs.RollTable.{which, column, half_of, at_each_role};
 ghost use Rattle.dnssec_key.specs.RollTable.{turns_old, leaves_dnskey};
 ghost use Rattle.dnssec_key.specs.Inner.Stamped.{stamped_on};
 
@@ -31,7 +31,7 @@ fn leaving_csk(ksk: KeyState, zsk: KeyState) -> KeyType
 impl KeyType {
     /// A start lists the key as old.
     pub(crate) fn after_start_as_old(&self) -> KeyType
-        ensures { result ≡ at_roles turns_old turns_old self.now }
+        ensures { result ≡ at_each_role turns_old self.now }
     {
         match *self {
             KeyType::Ksk(state) => KeyType::Ksk(state.turns_old()),
