@@ -102,7 +102,7 @@ at_roles f g (Zsk s) = Zsk (g s)
 at_roles f g (Csk s t) = Csk (f s) (g t)
 at_roles f g (Include s) = Include s
 
--- f at each role, of whatever kind
+-- f at each role, KSK or ZSK
 abbrev pub at_each_role : (Flags → Flags) → KeyType → KeyType
 at_each_role f = at_roles f f
 

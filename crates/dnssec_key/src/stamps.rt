@@ -7,7 +7,7 @@ ghost use Rattle.dnssec_key.specs.Setters.{first_published};
 use crate::time::UnixTime;
 use std::marker::Model;
 
-/// The stamps that an event may write.
+/// A stamp that an event may write, by its name.
 #[derive(Clone, Copy, Debug, PartialEq, Eq)]
 pub enum Stamp {
     Published,
@@ -17,7 +17,7 @@ pub enum Stamp {
     Withdrawn,
 }
 
-/// Which stamps of a key an event writes.
+/// Which stamps an event writes on a key.
 #[derive(Clone, Copy, Debug, Default, PartialEq, Eq)]
 pub(crate) struct Stamped {
     pub(crate) published: bool,
@@ -106,7 +106,7 @@ impl KeyTimestamps {
         self.withdrawn
     }
 
-    /// The moment of one of the stamps that rolls write, if it was written.
+    /// The stamp of this name, if it was written.
     pub fn at(&self, stamp: Stamp) -> Option<UnixTime>
         ensures { result ≡ stamp_named stamp self.now }
     {

@@ -69,8 +69,7 @@ end_refusal (Some Finishing) = None
 end_refusal _ = Some WrongStateForRollOperation
 
 -- why a roll can't be ended early: only until its first report, as from then on caches may hold
--- what
--- its start changed
+-- what its start changed
 abbrev pub early_end_refusal : Option RollState → Option Error
 early_end_refusal (Some Propagation1) = None
 early_end_refusal _ = Some WrongStateForRollOperation

@@ -1,6 +1,5 @@
 -- A run as the chain's proof sees it: at each position the keys by reference, the positions of
--- their
--- adds, and the phases of the rolls.
+-- their adds, and the phases of the rolls.
 use Rattle.std.proofs.Common.{◌≡◌, ℕ, ◌-◌, ◌≤◌, ◌⊎◌, Bool, true, false, List, Option, None, Some}
 use Rattle.std.proofs.Common.{refl}
 use Rattle.std.specs.Prelude.{if◌then◌else◌, ◌==◌, ◌*◌}
