@@ -1,5 +1,5 @@
--- What a contract sees of a key, and which of its roles a sentence speaks of (RFC 6781, section
--- 3.1).
+-- What a contract sees of a key, and which of its roles a sentence speaks of: those of a KSK, of a
+-- ZSK, or both (RFC 6781, section 3.1).
 use Rattle.std.specs.Prelude.{ℕ, List, Bool, true, false, ◌&&◌, ◌||◌, Option, None, Some}
 use Rattle.std.specs.Option.{option_map_or}
 use Rattle.dnssec_key.specs.declared.kind.KeyType.{KeyType}
@@ -19,47 +19,45 @@ pub record KeyParts : Type 0 where
 
 -- ---- the roles of a key
 
--- the role of a KSK
+-- the role of a KSK, and of no CSK
 abbrev pub ksk_state : KeyType → Option Flags
 ksk_state (Ksk s) = Some s
-ksk_state (Zsk s) = None
-ksk_state (Csk s t) = None
-ksk_state (Include s) = None
+ksk_state _ = None
 
--- the role of a ZSK
+-- the role of a ZSK, and of no CSK
 abbrev pub zsk_state : KeyType → Option Flags
-zsk_state (Ksk s) = None
 zsk_state (Zsk s) = Some s
-zsk_state (Csk s t) = None
-zsk_state (Include s) = None
+zsk_state _ = None
 
 -- the KSK role of a KSK or a CSK
 abbrev pub ksk_role_state : KeyType → Option Flags
 ksk_role_state (Ksk s) = Some s
-ksk_role_state (Zsk s) = None
 ksk_role_state (Csk s t) = Some s
-ksk_role_state (Include s) = None
+ksk_role_state _ = None
 
 -- the ZSK role of a ZSK or a CSK
 abbrev pub zsk_role_state : KeyType → Option Flags
-zsk_role_state (Ksk s) = None
 zsk_role_state (Zsk s) = Some s
 zsk_role_state (Csk s t) = Some t
-zsk_role_state (Include s) = None
+zsk_role_state _ = None
 
--- the state that says whether it is published: of a CSK its KSK role's
+-- the only state of a key, or that of its KSK role
+abbrev pub first_state : KeyType → Flags
+first_state (Ksk s) = s
+first_state (Zsk s) = s
+first_state (Csk s t) = s
+first_state (Include s) = s
+
+-- the same, but none of another signer's key
 abbrev pub key_state : KeyType → Option Flags
-key_state (Ksk s) = Some s
-key_state (Zsk s) = Some s
-key_state (Csk s t) = Some s
 key_state (Include s) = None
+key_state k = Some (first_state k)
 
--- the same of the keys that can sign the zone
+-- the same of the keys that can sign the zone, ZSKs and CSKs
 abbrev pub zone_key_state : KeyType → Option Flags
-zone_key_state (Ksk s) = None
 zone_key_state (Zsk s) = Some s
 zone_key_state (Csk s t) = Some s
-zone_key_state (Include s) = None
+zone_key_state _ = None
 
 -- a KSK, and no CSK, whose state passes
 abbrev pub ksk : (Flags → Bool) → KeyType → Bool
@@ -77,11 +75,11 @@ ksk_role p k = option_map_or p (ksk_role_state k) false
 abbrev pub zsk_role : (Flags → Bool) → KeyType → Bool
 zsk_role p k = option_map_or p (zsk_role_state k) false
 
--- not another signer's, and its state passes: of a CSK its KSK role's
+-- a key of this signer whose state passes: of a CSK that of its KSK role
 abbrev pub any_key : (Flags → Bool) → KeyType → Bool
 any_key p k = option_map_or p (key_state k) false
 
--- a ZSK or a CSK whose state passes: of a CSK its KSK role's
+-- a ZSK or a CSK whose state passes: of a CSK that of its KSK role
 abbrev pub zone_key : (Flags → Bool) → KeyType → Bool
 zone_key p k = option_map_or p (zone_key_state k) false
 
@@ -103,13 +101,6 @@ all_states p (Ksk s) = p s
 all_states p (Zsk s) = p s
 all_states p (Csk s t) = p s && p t
 all_states p (Include s) = p s
-
--- the only state of a key, or that of its KSK role
-abbrev pub first_state : KeyType → Flags
-first_state (Ksk s) = s
-first_state (Zsk s) = s
-first_state (Csk s t) = s
-first_state (Include s) = s
 
 -- ---- a new key
 

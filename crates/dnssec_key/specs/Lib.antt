@@ -2,5 +2,6 @@ pub mod Moment
 pub mod State
 pub mod Key
 pub mod RollTable
+pub mod Inner
 pub mod Setters
 pub mod Texts

@@ -1,14 +1,12 @@
 -- The six rolls as columns of one table (RFC 6781, section 4.1; stamps: RFC 7583, section 3). A
--- column says what a start puts on a new key, and for each half of the roll which stamps its report
--- writes, which keys its wait checks and what the wait then does, with the actions due. Tests are
--- on
--- the flags before the call; what a column doesn't name stays.
+-- column says what a start does to a new key, and for each half of the roll which stamps its report
+-- writes, which keys its wait checks and what the wait then does; what an early end takes back; and
+-- the actions due. Tests are on the flags before the call; what a column doesn't name stays.
 use Rattle.std.specs.Prelude.{ℕ, Bool, true, false, not, ◌||◌, if◌then◌else◌, Option, None}
 use Rattle.std.specs.Prelude.{Some, List, [], ◌∷◌}
 use Rattle.dnssec_key.specs.declared.kind.KeyType.{KeyType}
 use Rattle.dnssec_key.specs.declared.kind.KeyType.TheVariants.{Ksk, Zsk, Csk, Include}
 use Rattle.dnssec_key.specs.declared.stamps.Stamp.{Stamp}
-use Rattle.dnssec_key.specs.declared.stamps.Stamped.{Stamped}
 use Rattle.dnssec_key.specs.declared.stamps.Stamp.TheVariants.{Visible, DsVisible, RrsigVisible}
 use Rattle.dnssec_key.specs.declared.stamps.Stamp.TheVariants.{Published, Withdrawn}
 use Rattle.dnssec_key.specs.declared.roll.Half.{Half as HalfOfCode}
@@ -31,8 +29,9 @@ use Rattle.dnssec_key.specs.declared.roll.Action.TheVariants.{ReportDsPropagated
 use Rattle.dnssec_key.specs.declared.roll.Action.TheVariants.{WaitDsPropagated}
 use Rattle.dnssec_key.specs.declared.roll.Action.TheVariants.{ReportRrsigPropagated}
 use Rattle.dnssec_key.specs.declared.roll.Action.TheVariants.{WaitRrsigPropagated}
-use Rattle.dnssec_key.specs.State.{Flags, Stamps, is_old, is_leaving, kept_present, kept_signing}
-use Rattle.dnssec_key.specs.State.{kept_at_parent, old_present, old_at_parent, old_silent}
+use Rattle.dnssec_key.specs.State.{Flags, Stamps, is_any, is_old, is_leaving, kept_present}
+use Rattle.dnssec_key.specs.State.{kept_signing, kept_at_parent, old_present, old_at_parent}
+use Rattle.dnssec_key.specs.State.{old_silent}
 use Rattle.dnssec_key.specs.Key.{KeyParts, ksk, zsk, ksk_role, zsk_role, any_key, zone_key}
 use Rattle.dnssec_key.specs.Key.{every_key, no_key, either}
 
@@ -54,12 +53,6 @@ ds_comes_in s = record s { at_parent = true }
 abbrev pub ds_follows : Flags → Flags
 ds_follows s = if s.present then record s { at_parent = not s.old } else s
 
--- those that leave drop out, those with a DS that stay come in for them (RFC 6781, section 4.1.2)
-abbrev pub keys_change_places : Flags → Flags
-keys_change_places s =
-    if old_present s then record s { present = false; signer = false }
-    else (if kept_at_parent s then record s { present = true; signer = true } else s)
-
 -- published keys that stay sign the zone from now on, old ones don't (RFC 6781, section 4.1.1.1)
 abbrev pub signatures_follow : Flags → Flags
 signatures_follow s =
@@ -78,65 +71,62 @@ leaves_parent s = record s { at_parent = false }
 abbrev pub leaves_silently : Flags → Flags
 leaves_silently s = record s { present = false }
 
+-- those that leave drop out, those with a DS that stay come in for them (RFC 6781, section 4.1.2)
+abbrev pub keys_change_places : Flags → Flags
+keys_change_places s =
+    if old_present s then leaves_dnskey s
+    else (if kept_at_parent s then comes_in_signing s else s)
+
+-- it is on its way out from now on
+abbrev pub turns_old : Flags → Flags
+turns_old s = record s { old = true }
+
 -- it is on its way out no more
 abbrev pub turns_back : Flags → Flags
 turns_back s = record s { old = false }
 
--- nothing happens to it
-abbrev pub stays : Flags → Flags
-stays s = s
+-- nothing happens to it: to a role, or to a key
+abbrev pub stays : {A : Type 0} → A → A
+stays x = x
 
--- it happens to those alone that pass
-abbrev pub only : (Flags → Bool) → (Flags → Flags) → Flags → Flags
-only p f s = if p s then f s else s
+-- it happens to those alone that pass: roles, or keys
+abbrev pub only : {A : Type 0} → (A → Bool) → (A → A) → A → A
+only p f x = if p x then f x else x
 
 -- ---- which roles it happens to
 
--- at the role of a KSK, and of no CSK
-abbrev pub at_ksk : (Flags → Flags) → KeyType → KeyType
-at_ksk f (Ksk s) = Ksk (f s)
-at_ksk f (Zsk s) = Zsk s
-at_ksk f (Csk s t) = Csk s t
-at_ksk f (Include s) = Include s
-
--- at the role of a ZSK, and of no CSK
-abbrev pub at_zsk : (Flags → Flags) → KeyType → KeyType
-at_zsk f (Ksk s) = Ksk s
-at_zsk f (Zsk s) = Zsk (f s)
-at_zsk f (Csk s t) = Csk s t
-at_zsk f (Include s) = Include s
-
--- f at each KSK role, g at each ZSK role
+-- f at each KSK role, g at each ZSK role; another signer's key stays
 abbrev pub at_roles : (Flags → Flags) → (Flags → Flags) → KeyType → KeyType
 at_roles f g (Ksk s) = Ksk (f s)
 at_roles f g (Zsk s) = Zsk (g s)
 at_roles f g (Csk s t) = Csk (f s) (g t)
 at_roles f g (Include s) = Include s
 
--- at all roles of a key whose only role, or KSK role, passes (RFC 6781, section 4.1.4)
-abbrev pub at_whole_keys : (Flags → Bool) → (Flags → Flags) → KeyType → KeyType
-at_whole_keys p f (Ksk s) = Ksk (only p f s)
-at_whole_keys p f (Zsk s) = Zsk (only p f s)
-at_whole_keys p f (Csk s t) = if p s then Csk (f s) (f t) else Csk s t
-at_whole_keys p f (Include s) = Include s
+-- f at each role, KSK or ZSK
+abbrev pub at_each_role : (Flags → Flags) → KeyType → KeyType
+at_each_role f = at_roles f f
 
--- at no role
-abbrev pub at_none : KeyType → KeyType
-at_none k = k
+-- f at the role of a KSK, and of no CSK
+abbrev pub at_ksk : (Flags → Flags) → KeyType → KeyType
+at_ksk f = only (ksk is_any) (at_roles f stays)
+
+-- f at the role of a ZSK, and of no CSK
+abbrev pub at_zsk : (Flags → Flags) → KeyType → KeyType
+at_zsk f = only (zsk is_any) (at_roles stays f)
 
 -- ---- the columns
 
--- on which keys each stamp is stamps_on
-pub record Stamping : Type 0 where
+-- which stamps an event writes: each on the keys that pass
+pub record Writes : Type 0 where
   pub published : KeyType → Bool
   pub visible : KeyType → Bool
   pub ds_visible : KeyType → Bool
   pub rrsig_visible : KeyType → Bool
   pub withdrawn : KeyType → Bool
 
--- no stamp but those that a column names
-abbrev pub no_stamp : Stamping
-no_stamp = record {
+-- no stamp, on no key
+abbrev pub writes_nothing : Writes
+writes_nothing = record {
   published = no_key;
   visible = no_key;
   ds_visible = no_key;
@@ -156,16 +146,16 @@ which code.Second = Second
 
 -- half of a roll: a change spreads, is reported, and its wait passes
 pub record HalfRoll : Type 0 where
-  pub report : Stamping  -- what the report stamps
+  pub report : Writes  -- the stamps that the report writes
   pub checks : KeyType → Bool  -- the keys that the wait checks
   pub reads : Stamp  -- the stamp that it reads of them
   pub moves : KeyType → KeyType  -- what happens once the wait is over
-  pub stamps : Stamping  -- and what is stamped then
+  pub writes : Writes  -- and the stamps that it writes then
 
 -- a roll: its start, its two halves, and the actions due
 pub record Column : Type 0 where
   pub comes : KeyType → KeyType  -- what a start puts on a new key
-  pub stamps : Stamping  -- and what it stamps
+  pub writes : Writes  -- and the stamps that it writes on it
   pub asks : List Action  -- the actions due after the start
   pub goes : KeyType → KeyType  -- what an early end takes from a new key
   pub returns : KeyType → KeyType  -- and from an old one
@@ -179,25 +169,25 @@ pub record Column : Type 0 where
 abbrev pub ksk_double_signature : Column
 ksk_double_signature = record {
   comes = at_ksk comes_in_signing;
-  stamps = record no_stamp { published = every_key };
+  writes = record writes_nothing { published = every_key };
   asks = UpdateDnskeyRrset ∷ ReportDnskeyPropagated ∷ [];
   goes = at_ksk leaves_dnskey;
   returns = at_ksk turns_back;
   asks_early = UpdateDnskeyRrset ∷ WaitDnskeyPropagated ∷ [];
   first = record {
-    report = record no_stamp { visible = ksk kept_present };
+    report = record writes_nothing { visible = ksk kept_present };
     checks = ksk (λ s. is_leaving s || kept_present s);
     reads = Visible;
     moves = at_ksk ds_follows;
-    stamps = no_stamp;
+    writes = writes_nothing;
   };
   asks_between = CreateCdsRrset ∷ UpdateDsRrset ∷ ReportDsPropagated ∷ [];
   second = record {
-    report = record no_stamp { ds_visible = ksk kept_at_parent };
+    report = record writes_nothing { ds_visible = ksk kept_at_parent };
     checks = ksk (λ s. is_leaving s || kept_at_parent s);
     reads = DsVisible;
     moves = at_ksk (only old_present leaves_dnskey);
-    stamps = record no_stamp { withdrawn = ksk old_present };
+    writes = record writes_nothing { withdrawn = ksk old_present };
   };
   asks_last = RemoveCdsRrset ∷ UpdateDnskeyRrset ∷ WaitDnskeyPropagated ∷ [];
 }
@@ -206,25 +196,25 @@ ksk_double_signature = record {
 abbrev pub ksk_double_ds : Column
 ksk_double_ds = record {
   comes = at_ksk ds_comes_in;
-  stamps = no_stamp;
+  writes = writes_nothing;
   asks = CreateCdsRrset ∷ UpdateDsRrset ∷ ReportDsPropagated ∷ [];
   goes = at_ksk leaves_parent;
   returns = at_ksk turns_back;
   asks_early = CreateCdsRrset ∷ UpdateDsRrset ∷ WaitDsPropagated ∷ [];
   first = record {
-    report = record no_stamp { ds_visible = ksk kept_at_parent };
+    report = record writes_nothing { ds_visible = ksk kept_at_parent };
     checks = ksk kept_at_parent;
     reads = DsVisible;
     moves = at_ksk keys_change_places;
-    stamps = record no_stamp { published = ksk kept_at_parent };
+    writes = record writes_nothing { published = ksk kept_at_parent };
   };
   asks_between = RemoveCdsRrset ∷ UpdateDnskeyRrset ∷ ReportDnskeyPropagated ∷ [];
   second = record {
-    report = record no_stamp { visible = ksk kept_present };
+    report = record writes_nothing { visible = ksk kept_present };
     checks = ksk kept_present;
     reads = Visible;
     moves = at_ksk (only old_at_parent leaves_parent);
-    stamps = record no_stamp { withdrawn = ksk old_at_parent };
+    writes = record writes_nothing { withdrawn = ksk old_at_parent };
   };
   asks_last = CreateCdsRrset ∷ UpdateDsRrset ∷ WaitDsPropagated ∷ [];
 }
@@ -233,25 +223,25 @@ ksk_double_ds = record {
 abbrev pub zsk_pre_publish : Column
 zsk_pre_publish = record {
   comes = at_zsk comes_in;
-  stamps = record no_stamp { published = every_key };
+  writes = record writes_nothing { published = every_key };
   asks = UpdateDnskeyRrset ∷ ReportDnskeyPropagated ∷ [];
   goes = at_zsk leaves_silently;
   returns = at_zsk turns_back;
   asks_early = UpdateDnskeyRrset ∷ WaitDnskeyPropagated ∷ [];
   first = record {
-    report = record no_stamp { visible = zsk kept_present };
+    report = record writes_nothing { visible = zsk kept_present };
     checks = zsk kept_present;
     reads = Visible;
     moves = at_zsk signatures_follow;
-    stamps = no_stamp;
+    writes = writes_nothing;
   };
   asks_between = UpdateRrsig ∷ ReportRrsigPropagated ∷ [];
   second = record {
-    report = record no_stamp { rrsig_visible = zsk kept_signing };
+    report = record writes_nothing { rrsig_visible = zsk kept_signing };
     checks = zsk kept_signing;
     reads = RrsigVisible;
     moves = at_zsk (only old_silent leaves_silently);
-    stamps = record no_stamp { withdrawn = zsk old_silent };
+    writes = record writes_nothing { withdrawn = zsk old_silent };
   };
   asks_last = UpdateDnskeyRrset ∷ WaitDnskeyPropagated ∷ [];
 }
@@ -260,26 +250,26 @@ zsk_pre_publish = record {
 abbrev pub zsk_double_signature : Column
 zsk_double_signature = record {
   comes = at_zsk comes_in_signing;
-  stamps = record no_stamp { published = every_key };
+  writes = record writes_nothing { published = every_key };
   asks = UpdateDnskeyRrset ∷ UpdateRrsig ∷ ReportDnskeyPropagated ∷ ReportRrsigPropagated ∷ [];
   goes = at_zsk leaves_dnskey;
   returns = at_zsk turns_back;
   asks_early = UpdateDnskeyRrset ∷ UpdateRrsig ∷ WaitDnskeyPropagated ∷ WaitRrsigPropagated ∷ [];
   first = record {
-    report = record no_stamp { visible = zsk kept_present; rrsig_visible = zsk kept_present };
+    report = record writes_nothing { visible = zsk kept_present; rrsig_visible = zsk kept_present };
     checks = zsk kept_present;
     reads = Visible;
     moves = at_zsk (only is_old leaves_dnskey);
-    stamps = record no_stamp { withdrawn = zsk is_old };
+    writes = record writes_nothing { withdrawn = zsk is_old };
   };
-  asks_between = UpdateDnskeyRrset ∷ UpdateRrsig ∷ ReportDnskeyPropagated ∷ ReportRrsigPropagated ∷
-      [];
+  asks_between =
+      UpdateDnskeyRrset ∷ UpdateRrsig ∷ ReportDnskeyPropagated ∷ ReportRrsigPropagated ∷ [];
   second = record {
-    report = no_stamp;
+    report = writes_nothing;
     checks = zsk kept_signing;
     reads = RrsigVisible;
-    moves = at_none;
-    stamps = no_stamp;
+    moves = stays;
+    writes = writes_nothing;
   };
   asks_last = [];
 }
@@ -288,29 +278,31 @@ zsk_double_signature = record {
 abbrev pub csk_roll : Column
 csk_roll = record {
   comes = at_roles comes_in_signing comes_in;
-  stamps = record no_stamp { published = every_key };
+  writes = record writes_nothing { published = every_key };
   asks = UpdateDnskeyRrset ∷ ReportDnskeyPropagated ∷ [];
   goes = at_roles leaves_dnskey leaves_silently;
-  returns = at_roles turns_back turns_back;
+  returns = at_each_role turns_back;
   asks_early = UpdateDnskeyRrset ∷ WaitDnskeyPropagated ∷ [];
   first = record {
-    report = record no_stamp { visible = any_key kept_present };
+    report = record writes_nothing { visible = any_key kept_present };
     checks = any_key kept_present;
     reads = Visible;
     moves = at_roles ds_follows signatures_follow;
-    stamps = no_stamp;
+    writes = writes_nothing;
   };
-  asks_between = CreateCdsRrset ∷ UpdateDsRrset ∷ UpdateRrsig ∷ ReportDsPropagated ∷
-      ReportRrsigPropagated ∷ [];
+  asks_between = CreateCdsRrset ∷ UpdateDsRrset ∷ UpdateRrsig ∷
+      ReportDsPropagated ∷ ReportRrsigPropagated ∷ [];
   second = record {
-    report = record no_stamp {
+    report = record writes_nothing {
       ds_visible = ksk_role kept_present;
       rrsig_visible = zsk_role kept_signing;
     };
     checks = zsk_role kept_signing;
     reads = RrsigVisible;
     moves = at_roles (only old_present leaves_dnskey) (only old_silent leaves_silently);
-    stamps = record no_stamp { withdrawn = either (ksk_role old_present) (zsk_role old_silent) };
+    writes = record writes_nothing {
+      withdrawn = either (ksk_role old_present) (zsk_role old_silent);
+    };
   };
   asks_last = RemoveCdsRrset ∷ UpdateDnskeyRrset ∷ WaitDnskeyPropagated ∷ [];
 }
@@ -318,32 +310,32 @@ csk_roll = record {
 -- algorithm roll, liberal: keys and signatures at once, then the DS (RFC 6781, section 4.1.4)
 abbrev pub algorithm_roll : Column
 algorithm_roll = record {
-  comes = at_roles comes_in_signing comes_in_signing;
-  stamps = record no_stamp { published = every_key };
+  comes = at_each_role comes_in_signing;
+  writes = record writes_nothing { published = every_key };
   asks = UpdateDnskeyRrset ∷ UpdateRrsig ∷ ReportDnskeyPropagated ∷ ReportRrsigPropagated ∷ [];
-  goes = at_roles leaves_dnskey leaves_dnskey;
-  returns = at_roles turns_back turns_back;
+  goes = at_each_role leaves_dnskey;
+  returns = at_each_role turns_back;
   asks_early = UpdateDnskeyRrset ∷ UpdateRrsig ∷ WaitDnskeyPropagated ∷ WaitRrsigPropagated ∷ [];
   first = record {
-    report = record no_stamp {
+    report = record writes_nothing {
       visible = any_key kept_present;
       rrsig_visible = zone_key kept_present;
     };
     checks = any_key kept_present;
     reads = Visible;
     moves = at_roles ds_follows stays;
-    stamps = no_stamp;
+    writes = writes_nothing;
   };
   asks_between = CreateCdsRrset ∷ UpdateDsRrset ∷ ReportDsPropagated ∷ [];
   second = record {
-    report = record no_stamp { ds_visible = ksk_role kept_present };
+    report = record writes_nothing { ds_visible = ksk_role kept_present };
     checks = ksk_role kept_signing;
     reads = DsVisible;
-    moves = at_whole_keys old_present leaves_dnskey;
-    stamps = record no_stamp { withdrawn = any_key old_present };
+    moves = only (any_key old_present) (at_each_role leaves_dnskey);
+    writes = record writes_nothing { withdrawn = any_key old_present };
   };
-  asks_last = RemoveCdsRrset ∷ UpdateDnskeyRrset ∷ UpdateRrsig ∷ WaitDnskeyPropagated ∷
-      WaitRrsigPropagated ∷ [];
+  asks_last = RemoveCdsRrset ∷ UpdateDnskeyRrset ∷ UpdateRrsig ∷
+      WaitDnskeyPropagated ∷ WaitRrsigPropagated ∷ [];
 }
 
 -- the column of each roll
@@ -362,63 +354,45 @@ half_of roll Second = (column roll).second
 
 -- ---- the table at one key
 
--- the moment of a stamp, where it was stamps_on
-abbrev pub stamp_at : Stamp → Stamps → Option ℕ
-stamp_at Published t = t.published
-stamp_at Visible t = t.visible
-stamp_at DsVisible t = t.ds_visible
-stamp_at RrsigVisible t = t.rrsig_visible
-stamp_at Withdrawn t = t.withdrawn
+-- the stamp of this name, where it was written
+abbrev pub stamp_named : Stamp → Stamps → Option ℕ
+stamp_named Published t = t.published
+stamp_named Visible t = t.visible
+stamp_named DsVisible t = t.ds_visible
+stamp_named RrsigVisible t = t.rrsig_visible
+stamp_named Withdrawn t = t.withdrawn
 
--- which stamps are stamps_on on a key of this kind
-abbrev pub stamps_on : Stamping → KeyType → Stamped
-stamps_on stamps k = record {
-  published = stamps.published k;
-  visible = stamps.visible k;
-  ds_visible = stamps.ds_visible k;
-  rrsig_visible = stamps.rrsig_visible k;
-  withdrawn = stamps.withdrawn k;
-}
-
--- a stamp that is stamps_on at now, or stays as it was
-abbrev pub stamp_if : Bool → ℕ → Option ℕ → Option ℕ
-stamp_if b now before = if b then Some now else before
-
--- the stamps with those that are stamps_on at now
-abbrev pub with_stamps : Stamped → ℕ → Stamps → Stamps
-with_stamps w now t = record {
+-- the stamps of a key of this kind after an event at now: what isn't written stays as it was
+abbrev pub stamps_after : Writes → KeyType → ℕ → Stamps → Stamps
+stamps_after writes kind now t = record {
   creation = t.creation;
-  published = stamp_if w.published now t.published;
-  visible = stamp_if w.visible now t.visible;
-  ds_visible = stamp_if w.ds_visible now t.ds_visible;
-  rrsig_visible = stamp_if w.rrsig_visible now t.rrsig_visible;
-  withdrawn = stamp_if w.withdrawn now t.withdrawn;
+  published = if writes.published kind then Some now else t.published;
+  visible = if writes.visible kind then Some now else t.visible;
+  ds_visible = if writes.ds_visible kind then Some now else t.ds_visible;
+  rrsig_visible = if writes.rrsig_visible kind then Some now else t.rrsig_visible;
+  withdrawn = if writes.withdrawn kind then Some now else t.withdrawn;
 }
 
--- a key whose flags move and whose stamps are stamps_on, by the flags before
-abbrev pub key_by : (KeyType → KeyType) → Stamping → ℕ → KeyParts → KeyParts
-key_by moves stamps now k = record k {
+-- a key after an event that moves its flags and writes stamps, by its flags before
+abbrev pub key_by : (KeyType → KeyType) → Writes → ℕ → KeyParts → KeyParts
+key_by moves writes now k = record k {
   keytype = moves k.keytype;
-  timestamps = with_stamps (stamps_on stamps k.keytype) now k.timestamps;
+  timestamps = stamps_after writes k.keytype now k.timestamps;
 }
-
--- it is on its way out from now on
-abbrev pub turns_old : Flags → Flags
-turns_old s = record s { old = true }
 
 -- a key that a start lists as old
 abbrev pub old_at_start : KeyParts → KeyParts
-old_at_start k = record k { keytype = at_roles turns_old turns_old k.keytype }
+old_at_start k = record k { keytype = at_each_role turns_old k.keytype }
 
 -- a key that a start lists as new
 abbrev pub new_at_start : RollType → ℕ → KeyParts → KeyParts
-new_at_start roll = key_by (column roll).comes (column roll).stamps
+new_at_start roll = key_by (column roll).comes (column roll).writes
 
 -- a key after a start, by whether it is listed as old, and whether as new
 abbrev pub after_start : RollType → ℕ → Bool → Bool → KeyParts → KeyParts
-after_start roll now is_old is_new k =
-    let old = (if is_old then old_at_start k else k) in
-    if is_new then new_at_start roll now old else old
+after_start roll now as_old as_new k =
+    let marked = (if as_old then old_at_start k else k) in
+    if as_new then new_at_start roll now marked else marked
 
 -- an old key of a roll that is ended early: it is old no more, and no stamp changes
 abbrev pub old_at_early_end : RollType → KeyParts → KeyParts
@@ -428,20 +402,19 @@ old_at_early_end roll k = record k { keytype = (column roll).returns k.keytype }
 abbrev pub new_at_early_end : RollType → KeyParts → KeyParts
 new_at_early_end roll k = record k { keytype = (column roll).goes k.keytype }
 
--- a key after an early end, by whether it is kept as an old one of the roll, and whether as a new
--- one
+-- a key after an early end, by whether it is still listed as old, and whether as new
 abbrev pub after_early_end : RollType → Bool → Bool → KeyParts → KeyParts
-after_early_end roll was_old was_new k =
-    let old = (if was_old then old_at_early_end roll k else k) in
-    if was_new then new_at_early_end roll old else old
+after_early_end roll as_old as_new k =
+    let unmarked = (if as_old then old_at_early_end roll k else k) in
+    if as_new then new_at_early_end roll unmarked else unmarked
 
 -- a key after a report
 abbrev pub after_report : RollType → Half → ℕ → KeyParts → KeyParts
-after_report roll half = key_by at_none (half_of roll half).report
+after_report roll half = key_by stays (half_of roll half).report
 
 -- a key after an accepted wait
 abbrev pub after_wait : RollType → Half → ℕ → KeyParts → KeyParts
-after_wait roll half = key_by (half_of roll half).moves (half_of roll half).stamps
+after_wait roll half = key_by (half_of roll half).moves (half_of roll half).writes
 
 -- ---- phases, and what is asked in them
 
@@ -463,7 +436,7 @@ actions_of roll Propagation2 = (column roll).asks_between
 actions_of roll (CacheExpire2 ttl) = []
 actions_of roll Done = (column roll).asks_last
 
--- the same of a roll that may not be in progress
-abbrev pub actions_at : RollType → Option RollState → List Action
-actions_at roll None = []
-actions_at roll (Some phase) = actions_of roll phase
+-- the actions due now: none where the roll is in no phase
+abbrev pub actions_due : RollType → Option RollState → List Action
+actions_due roll None = []
+actions_due roll (Some phase) = actions_of roll phase

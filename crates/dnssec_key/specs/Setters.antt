@@ -3,13 +3,14 @@
 use Rattle.std.specs.Prelude.{ℕ, Bool, true, false, Option, None, Some}
 use Rattle.std.specs.Prelude.{if◌then◌else◌}
 use Rattle.dnssec_key.specs.declared.kind.KeyType.{KeyType}
-use Rattle.dnssec_key.specs.declared.kind.KeyType.TheVariants.{Ksk, Zsk, Csk, Include}
+use Rattle.dnssec_key.specs.declared.kind.KeyType.TheVariants.{Include}
 use Rattle.dnssec_key.specs.declared.setting.Setting.{Setting as SettingOfCode}
 use Rattle.dnssec_key.specs.declared.setting.Setting.TheVariants as code
 use Rattle.dnssec_key.specs.declared.error.Error.{Error}
 use Rattle.dnssec_key.specs.declared.error.Error.TheVariants.{WrongKeyType}
 use Rattle.dnssec_key.specs.State.{Flags, is_any}
 use Rattle.dnssec_key.specs.Key.{KeyParts, ksk_role, any_key}
+use Rattle.dnssec_key.specs.RollTable.{at_roles, at_each_role, stays}
 
 -- what a setter sets
 pub data Setting : Type 0 where
@@ -36,18 +37,9 @@ setting_of (code.RrsigVisibleAt time) = RrsigVisibleAt time
 -- ---- what a setter changes
 
 -- f at each state of the key, also at that of another signer's key
-abbrev pub at_states : (Flags → Flags) → KeyType → KeyType
-at_states f (Ksk s) = Ksk (f s)
-at_states f (Zsk s) = Zsk (f s)
-at_states f (Csk s t) = Csk (f s) (f t)
-at_states f (Include s) = Include (f s)
-
--- f at the KSK role alone
-abbrev pub at_ksk_role : (Flags → Flags) → KeyType → KeyType
-at_ksk_role f (Ksk s) = Ksk (f s)
-at_ksk_role f (Zsk s) = Zsk s
-at_ksk_role f (Csk s t) = Csk (f s) t
-at_ksk_role f (Include s) = Include s
+abbrev pub at_each_state : (Flags → Flags) → KeyType → KeyType
+at_each_state f (Include s) = Include (f s)
+at_each_state f k = at_each_role f k
 
 -- it is in the DNSKEY set, or not
 abbrev pub with_present : Bool → Flags → Flags
@@ -68,24 +60,21 @@ stale_by_hand s = record s { old = true; signer = false; present = false; at_par
 -- a key put into the DNSKEY set was published then, unless it was before
 abbrev pub first_published : Bool → ℕ → Option ℕ → Option ℕ
 first_published true now None = Some now
-first_published true now (Some before) = Some before
-first_published false now before = before
+first_published value now before = before
 
 -- a key after a setter
 abbrev pub set_by : Setting → KeyParts → KeyParts
 set_by (Decoupled value) k = record k { decoupled = value }
 set_by (Present value now) k = record k {
-  keytype = at_states (with_present value) k.keytype;
+  keytype = at_each_state (with_present value) k.keytype;
   timestamps = record k.timestamps { published = first_published value now k.timestamps.published };
 }
-set_by (Signer value) k = record k { keytype = at_states (with_signer value) k.keytype }
-set_by (AtParent value) k = record k { keytype = at_ksk_role (with_at_parent value) k.keytype }
-set_by Stale k = record k { keytype = at_states stale_by_hand k.keytype }
+set_by (Signer value) k = record k { keytype = at_each_state (with_signer value) k.keytype }
+set_by (AtParent value) k = record k { keytype = at_roles (with_at_parent value) stays k.keytype }
+set_by Stale k = record k { keytype = at_each_state stale_by_hand k.keytype }
 set_by (VisibleAt time) k = record k { timestamps = record k.timestamps { visible = Some time } }
-set_by (DsVisibleAt time) k = record k {
-  timestamps = record k.timestamps
-      { ds_visible = Some time };
-}
+set_by (DsVisibleAt time) k =
+    record k { timestamps = record k.timestamps { ds_visible = Some time } }
 set_by (RrsigVisibleAt time) k =
     record k { timestamps = record k.timestamps { rrsig_visible = Some time } }
 
@@ -101,14 +90,9 @@ is_flag_setting _ = false
 
 -- another signer's key signs nothing here, and only a KSK role has a DS
 abbrev pub suits_kind : Setting → KeyType → Bool
-suits_kind (Decoupled value) k = true
-suits_kind (Present value now) k = true
 suits_kind (Signer value) k = any_key is_any k
 suits_kind (AtParent value) k = ksk_role is_any k
-suits_kind Stale k = true
-suits_kind (VisibleAt time) k = true
-suits_kind (DsVisibleAt time) k = true
-suits_kind (RrsigVisibleAt time) k = true
+suits_kind _ k = true
 
 -- why a key refuses a setter
 abbrev pub kind_refusal : Setting → KeyType → Option Error

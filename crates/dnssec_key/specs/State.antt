@@ -14,13 +14,13 @@ pub record Flags : Type 0 where
 abbrev pub is_used : Flags → Bool
 is_used s = s.signer || s.present || s.at_parent
 
--- may come in, and has not begun to
-abbrev pub is_fresh : Flags → Bool
-is_fresh s = s.available && not s.old && not (is_used s)
-
 -- has not begun to come in
 abbrev pub is_future : Flags → Bool
 is_future s = not s.old && not (is_used s)
+
+-- may come in, and has not begun to
+abbrev pub is_fresh : Flags → Bool
+is_fresh s = s.available && is_future s
 
 -- a ZSK role at work
 abbrev pub is_active_zsk : Flags → Bool
@@ -62,15 +62,15 @@ is_at_parent s = s.at_parent
 
 -- stays, and is in the DNSKEY set
 abbrev pub kept_present : Flags → Bool
-kept_present s = not s.old && s.present
+kept_present s = is_kept s && s.present
 
 -- stays, and signs
 abbrev pub kept_signing : Flags → Bool
-kept_signing s = not s.old && s.signer
+kept_signing s = is_kept s && s.signer
 
 -- stays, and has to have a DS record at the parent
 abbrev pub kept_at_parent : Flags → Bool
-kept_at_parent s = not s.old && s.at_parent
+kept_at_parent s = is_kept s && s.at_parent
 
 -- is on its way out, and still in the DNSKEY set
 abbrev pub old_present : Flags → Bool

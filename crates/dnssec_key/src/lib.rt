@@ -29,6 +29,6 @@ pub use kind::KeyType;
 pub use role::{is_kept_at_parent, is_kept_present};
 pub use roll::{Action, Half, RollState, RollType};
 pub use setting::Setting;
-pub use stamps::{KeyTimestamps, Stamp, Stamped};
+pub use stamps::{KeyTimestamps, Stamp};
 pub use state::{Available, KeyState};
 pub use time::UnixTime;

@@ -1,6 +1,7 @@
 //! What the setters do to a key of each kind.
 ghost use Rattle.std.specs.Prelude.{◌≡◌};
-ghost use Rattle.dnssec_key.specs.Setters.{setting_of, at_ksk_role, at_states, is_flag_setting};
+ghost use Rattle.dnssec_key.specs.RollTable.{at_roles, stays};
+ghost use Rattle.dnssec_key.specs.Setters.{setting_of, at_each_state, is_flag_setting};
 ghost use Rattle.dnssec_key.specs.Setters.{suits_kind, stale_by_hand, with_at_parent, with_present};
 ghost use Rattle.dnssec_key.specs.Setters.{with_signer};
 
@@ -78,7 +79,7 @@ impl KeyState {
 /// What the setters do to a key of each kind.
 impl KeyType {
     pub(crate) fn with_present(self, value: bool) -> KeyType
-        ensures { result ≡ at_states (with_present value) self }
+        ensures { result ≡ at_each_state (with_present value) self }
     {
         match self {
             KeyType::Ksk(state) => KeyType::Ksk(state.with_present(value)),
@@ -91,7 +92,7 @@ impl KeyType {
     }
 
     pub(crate) fn with_signer(self, value: bool) -> KeyType
-        ensures { result ≡ at_states (with_signer value) self }
+        ensures { result ≡ at_each_state (with_signer value) self }
     {
         match self {
             KeyType::Ksk(state) => KeyType::Ksk(state.with_signer(value)),
@@ -102,7 +103,7 @@ impl KeyType {
     }
 
     pub(crate) fn with_at_parent(self, value: bool) -> KeyType
-        ensures { result ≡ at_ksk_role (with_at_parent value) self }
+        ensures { result ≡ at_roles (with_at_parent value) stays self }
     {
         match self {
             KeyType::Ksk(state) => KeyType::Ksk(state.with_at_parent(value)),
@@ -112,7 +113,7 @@ impl KeyType {
     }
 
     pub(crate) fn as_stale(self) -> KeyType
-        ensures { result ≡ at_states stale_by_hand self }
+        ensures { result ≡ at_each_state stale_by_hand self }
     {
         match self {
             KeyType::Ksk(state) => KeyType::Ksk(state.as_stale()),

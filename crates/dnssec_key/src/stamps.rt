@@ -1,12 +1,13 @@
 //! When a key passed the stages of its life.
 ghost use Rattle.std.specs.Prelude.{◌≡◌, Some};
-ghost use Rattle.dnssec_key.specs.RollTable.{with_stamps, stamp_at};
+ghost use Rattle.dnssec_key.specs.RollTable.{stamp_named};
+ghost use Rattle.dnssec_key.specs.Inner.Stamped.{stamps_with};
 ghost use Rattle.dnssec_key.specs.Setters.{first_published};
 
 use crate::time::UnixTime;
 use std::marker::Model;
 
-/// The stamps that an event may write.
+/// A stamp that an event may write, by its name.
 #[derive(Clone, Copy, Debug, PartialEq, Eq)]
 pub enum Stamp {
     Published,
@@ -16,14 +17,14 @@ pub enum Stamp {
     Withdrawn,
 }
 
-/// Which stamps of a key an event writes.
+/// Which stamps an event writes on a key.
 #[derive(Clone, Copy, Debug, Default, PartialEq, Eq)]
-pub struct Stamped {
-    pub published: bool,
-    pub visible: bool,
-    pub ds_visible: bool,
-    pub rrsig_visible: bool,
-    pub withdrawn: bool,
+pub(crate) struct Stamped {
+    pub(crate) published: bool,
+    pub(crate) visible: bool,
+    pub(crate) ds_visible: bool,
+    pub(crate) rrsig_visible: bool,
+    pub(crate) withdrawn: bool,
 }
 
 /// When a key passed the stages of its life, as far as it did.
@@ -105,9 +106,9 @@ impl KeyTimestamps {
         self.withdrawn
     }
 
-    /// The moment of one of the stamps that rolls write, if it was written.
+    /// The stamp of this name, if it was written.
     pub fn at(&self, stamp: Stamp) -> Option<UnixTime>
-        ensures { result ≡ stamp_at stamp self.now }
+        ensures { result ≡ stamp_named stamp self.now }
     {
         match stamp {
             Stamp::Published => self.published,
@@ -161,7 +162,7 @@ impl KeyTimestamps {
 
     /// These stamps, with those that are written at `now`.
     pub(crate) fn with(self, stamped: Stamped, now: UnixTime) -> KeyTimestamps
-        ensures { result ≡ with_stamps stamped now self }
+        ensures { result ≡ stamps_with stamped now self }
     {
         let mut stamps = self;
         if stamped.published {

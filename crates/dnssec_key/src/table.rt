@@ -3,9 +3,9 @@
 
 ghost use Rattle.std.specs.Prelude.{◌≡◌};
 ghost use Rattle.dnssec_key.specs.declared.kind.KeyType.TheVariants.{Csk};
-ghost use Rattle.dnssec_key.specs.RollTable.{which, column, half_of, stamps_on, at_roles};
-ghost use Rattle.dnssec_key.specs.RollTable.{turns_old};
-ghost use Rattle.dnssec_key.specs.RollTable.{leaves_dnskey};
+ghost use Rattle.dnssec_key.specs.RollTable.{which, column, half_of, at_each_role};
+ghost use Rattle.dnssec_key.specs.RollTable.{turns_old, leaves_dnskey};
+ghost use Rattle.dnssec_key.specs.Inner.Stamped.{stamped_on};
 
 use crate::kind::KeyType;
 use crate::role::{
@@ -31,7 +31,7 @@ fn leaving_csk(ksk: KeyState, zsk: KeyState) -> KeyType
 impl KeyType {
     /// A start lists the key as old.
     pub(crate) fn after_start_as_old(&self) -> KeyType
-        ensures { result ≡ at_roles turns_old turns_old self.now }
+        ensures { result ≡ at_each_role turns_old self.now }
     {
         match *self {
             KeyType::Ksk(state) => KeyType::Ksk(state.turns_old()),
@@ -112,7 +112,7 @@ impl KeyType {
 
     /// What a start stamps on a new key.
     pub(crate) fn stamps_at_start(&self, roll: RollType) -> Stamped
-        ensures { result ≡ stamps_on (column roll).stamps self.now }
+        ensures { result ≡ stamped_on (column roll).writes self.now }
     {
         Stamped {
             published: roll != KskDoubleDsRoll,
@@ -122,7 +122,7 @@ impl KeyType {
 
     /// What a report stamps.
     pub(crate) fn stamps_by_report(&self, roll: RollType, half: Half) -> Stamped
-        ensures { result ≡ stamps_on (half_of roll (which half)).report self.now }
+        ensures { result ≡ stamped_on (half_of roll (which half)).report self.now }
     {
         let none = Stamped::default();
         match (roll, half) {
@@ -249,7 +249,7 @@ impl KeyType {
 
     /// What is stamped once a wait is over.
     pub(crate) fn stamps_by_wait(&self, roll: RollType, half: Half) -> Stamped
-        ensures { result ≡ stamps_on (half_of roll (which half)).stamps self.now }
+        ensures { result ≡ stamped_on (half_of roll (which half)).writes self.now }
     {
         let none = Stamped::default();
         match (roll, half) {

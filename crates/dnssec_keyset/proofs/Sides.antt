@@ -9,14 +9,13 @@ use Rattle.std.specs.Str.{bytes_eq}
 use Rattle.std.specs.Cmp.Lexicographic.{bytes_decides}
 use Rattle.std.specs.FinMap.{get}
 use Rattle.dnssec_key.specs.declared.kind.KeyType.{KeyType}
-use Rattle.dnssec_key.specs.declared.stamps.Stamped.{Stamped}
 use Rattle.dnssec_key.specs.declared.roll.RollType.{RollType}
 use Rattle.dnssec_key.specs.declared.error.Error.TheVariants.{WrongKeyType, WrongKeyState}
 use Rattle.dnssec_key.specs.Key.{KeyParts, all_states}
-use Rattle.dnssec_key.specs.State.{is_fresh}
+use Rattle.dnssec_key.specs.State.{Stamps, is_fresh}
 use Rattle.dnssec_keyset.specs.KeySet.{KeySetParts}
-use Rattle.dnssec_key.specs.RollTable.{Half, First, Second, Stamping, column, half_of, stamps_on}
-use Rattle.dnssec_key.specs.RollTable.{with_stamps, after_start, after_report, after_wait}
+use Rattle.dnssec_key.specs.RollTable.{Half, First, Second, Writes, column, half_of, stamps_after}
+use Rattle.dnssec_key.specs.RollTable.{after_start, after_report, after_wait}
 use Rattle.dnssec_key.specs.RollTable.{after_early_end}
 use Rattle.dnssec_keyset.specs.Start.{algorithm_fault, conflict, is_listed, lists_kind}
 use Rattle.dnssec_keyset.specs.Start.{new_entry_fault, new_fault, old_entry_fault, old_fault}
@@ -28,39 +27,32 @@ use Rattle.dnssec_keyset.proofs.Laws.{moved, no_cause, no_first, no_rest}
 use Rattle.dnssec_keyset.proofs.Tests.{each_in_roll, each_in_roll-at, four, or_second, same_kind}
 use Rattle.dnssec_keyset.proofs.Tests.{same_kind-is}
 
--- no stamp is written
-pub unstamped : Stamped
-unstamped = record {
-  published = false;
-  visible = false;
-  ds_visible = false;
-  rrsig_visible = false;
-  withdrawn = false;
-}
-
 -- ---- the table at the keys that a roll doesn't change
 
-bare : Stamping → KeyType → Bool
+bare : Writes → KeyType → Bool
 bare w k = not (w.published k) && not (w.visible k) && not (w.ds_visible k)
     && (not (w.rrsig_visible k) && not (w.withdrawn k))
 
-bare-is : (w : Stamping) (k : KeyType) → bare w k ≡ true → stamps_on w k ≡ unstamped
-unfolding bare unstamped
-bare-is w k e =
+-- no stamp is written
+bare-is : (w : Writes) (k : KeyType) (now : ℕ) (t : Stamps) → bare w k ≡ true
+    → stamps_after w k now t ≡ t
+unfolding bare
+bare-is w k now t e =
     let x = four (not (w.published k)) (not (w.visible k)) (not (w.ds_visible k))
     (not (w.rrsig_visible k) && not (w.withdrawn k)) e in
     let y = and_parts (not (w.rrsig_visible k)) (not (w.withdrawn k)) x.3 in
     λ i. record {
-      published = not-true (w.published k) x.0 i;
-      visible = not-true (w.visible k) x.1 i;
-      ds_visible = not-true (w.ds_visible k) x.2 i;
-      rrsig_visible = not-true (w.rrsig_visible k) y.0 i;
-      withdrawn = not-true (w.withdrawn k) y.1 i;
+      creation = t.creation;
+      published = if not-true (w.published k) x.0 i then Some now else t.published;
+      visible = if not-true (w.visible k) x.1 i then Some now else t.visible;
+      ds_visible = if not-true (w.ds_visible k) x.2 i then Some now else t.ds_visible;
+      rrsig_visible = if not-true (w.rrsig_visible k) y.0 i then Some now else t.rrsig_visible;
+      withdrawn = if not-true (w.withdrawn k) y.1 i then Some now else t.withdrawn;
     }
 
 half_table : Half → RollType → KeyType → Bool
 half_table half r k = lists_kind (side_of r) k
-    || (bare (half_of r half).report k && bare (half_of r half).stamps k
+    || (bare (half_of r half).report k && bare (half_of r half).writes k
     && same_kind ((half_of r half).moves k) k && not ((half_of r half).checks k))
 
 half_all : (half : Half) (a b : Bool) → each_in_roll a b (half_table half) ≡ true
@@ -75,8 +67,8 @@ half_all Second false true = refl
 half_all Second false false = refl
 
 record HalfOthers (roll : RollType) (half : Half) (t : KeyType) : Type 0 where
-  report : stamps_on (half_of roll half).report t ≡ unstamped
-  stamps : stamps_on (half_of roll half).stamps t ≡ unstamped
+  report : bare (half_of roll half).report t ≡ true
+  writes : bare (half_of roll half).writes t ≡ true
   moves : (half_of roll half).moves t ≡ t
   checks : (half_of roll half).checks t ≡ false
 
@@ -87,8 +79,8 @@ half-others roll half t e =
     let x = four _ _ _ _
     (or_second _ _ (each_in_roll-at (half_table half) (half_all half) roll t) e) in
     record {
-      report = bare-is _ t x.0;
-      stamps = bare-is _ t x.1;
+      report = x.0;
+      writes = x.1;
       moves = same_kind-is _ _ x.2;
       checks = not-true _ x.3;
     }
@@ -103,21 +95,19 @@ checks-others roll half t e = (half-others roll half t e).checks
 
 pub after_report-others : (roll : RollType) (half : Half) (now : ℕ) (k : KeyParts)
     → lists_kind (side_of roll) k.keytype ≡ false → after_report roll half now k ≡ k
-unfolding unstamped
 after_report-others roll half now k e =
-    λ i. record k {
-      timestamps = with_stamps ((half-others roll half k.keytype e).report i) now
-          k.timestamps;
-    }
+    let same : stamps_after (half_of roll half).report k.keytype now k.timestamps ≡ k.timestamps =
+    bare-is _ k.keytype now k.timestamps (half-others roll half k.keytype e).report in
+    λ i. record k { timestamps = same i }
 
 pub after_wait-others : (roll : RollType) (half : Half) (now : ℕ) (k : KeyParts)
     → lists_kind (side_of roll) k.keytype ≡ false → after_wait roll half now k ≡ k
-unfolding unstamped
 after_wait-others roll half now k e =
+    let same : stamps_after (half_of roll half).writes k.keytype now k.timestamps ≡ k.timestamps =
+    bare-is _ k.keytype now k.timestamps (half-others roll half k.keytype e).writes in
     λ i. record k {
       keytype = moves-others roll half k.keytype e i;
-      timestamps =
-          with_stamps ((half-others roll half k.keytype e).stamps i) now k.timestamps;
+      timestamps = same i;
     }
 
 back_table : RollType → KeyType → Bool

@@ -180,12 +180,12 @@ accepted_reply (AbortRoll roll) = Actions (column roll).asks_early
 -- ---- what is kept of starts
 
 -- the key at a reference is there, and not old
-abbrev pub is_kept_at : Keys → List ℕ → Bool
-is_kept_at keys q = option_map_or (λ k. all_states is_kept k.keytype) (get keys q) false
+abbrev pub has_kept_key : Keys → List ℕ → Bool
+has_kept_key keys q = option_map_or (λ k. all_states is_kept k.keytype) (get keys q) false
 
 -- what a start lists: its old references whose keys are not old yet, and its new ones
 abbrev pub listed_at_start : Keys → List (List ℕ) → List (List ℕ) → Listed
-listed_at_start keys olds news = record { olds = filter (is_kept_at keys) olds; news = news }
+listed_at_start keys olds news = record { olds = filter (has_kept_key keys) olds; news = news }
 
 -- a key whose flag is set by hand is kept in no list
 abbrev pub lists_after_setting : Setting → List ℕ → Lists → Lists

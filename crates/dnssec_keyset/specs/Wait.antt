@@ -13,7 +13,7 @@ use Rattle.dnssec_key.specs.declared.roll.RollState.TheVariants.{CacheExpire1}
 use Rattle.dnssec_key.specs.declared.roll.RollState.TheVariants.{CacheExpire2}
 use Rattle.dnssec_key.specs.Key.{KeyParts}
 use Rattle.dnssec_keyset.specs.KeySet.{Keys}
-use Rattle.dnssec_key.specs.RollTable.{Half, First, Second, half_of, stamp_at}
+use Rattle.dnssec_key.specs.RollTable.{Half, First, Second, half_of, stamp_named}
 
 -- the TTL that this half of a roll waits for, in that phase alone
 abbrev pub ttl_in : Half → Option RollState → Option ℕ
@@ -23,7 +23,7 @@ ttl_in half _ = None
 
 -- the stamp that the wait reads of a key
 abbrev pub stamp_read : RollType → Half → KeyParts → Option ℕ
-stamp_read roll half k = stamp_at (half_of roll half).reads k.timestamps
+stamp_read roll half k = stamp_named (half_of roll half).reads k.timestamps
 
 -- the nanoseconds left of a wait of ttl seconds since a stamp: all of them up to its moment
 abbrev pub left_since : ℕ → ℕ → ℕ → ℕ

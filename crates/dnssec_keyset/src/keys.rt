@@ -23,7 +23,7 @@ ghost use Rattle.dnssec_keyset.specs.Laws.{TagsApart};
 ghost use Rattle.dnssec_keyset.specs.KeySet.{keys_in_map};
 ghost use Rattle.dnssec_keyset.specs.Start.{is_listed, serves_as_kept, texts};
 ghost use Rattle.dnssec_keyset.specs.Step.{Answers, AnswersExactly, add_refusal, has_tag};
-ghost use Rattle.dnssec_keyset.specs.Step.{deletion_refusal, is_kept_at, listed_at_start};
+ghost use Rattle.dnssec_keyset.specs.Step.{deletion_refusal, has_kept_key, listed_at_start};
 ghost use Rattle.dnssec_keyset.specs.Step.{setting_refusal};
 ghost use Rattle.dnssec_keyset.specs.Inner.Over.{over_at};
 ghost use Rattle.dnssec_keyset.specs.WaitEnd.{IsOverFrom, LacksStamp};
@@ -287,7 +287,7 @@ impl Keys {
     /// Copies of the references whose keys are not old.
     fn copy_kept(&self, alloc: Global, references: &[&str]) -> Result<Vec<String>, Error>
         ensures ok { IfOk result (λ list. list_map string_bytes list.items
-            ≡ filter (is_kept_at self.now) (texts references.now)) }
+            ≡ filter (has_kept_key self.now) (texts references.now)) }
         ensures err { IfErr result (λ e. e ≡ OutOfMemory) }
     {
         let mut list = Vec::new(alloc);
@@ -300,7 +300,7 @@ impl Keys {
     }
 
     fn is_kept(&self, reference: &str) -> bool
-        ensures { result ≡ is_kept_at self.now reference.now }
+        ensures { result ≡ has_kept_key self.now reference.now }
     {
         match self.get(reference) {
             None => false,

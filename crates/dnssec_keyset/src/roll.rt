@@ -1,7 +1,7 @@
 //! The calls of a roll.
 ghost use Rattle.std.specs.Prelude.{◌≡◌, [], IfOk, IfErr, IsOk, OnOk, OnErr};
 ghost use Rattle.dnssec_key.specs.declared.error.Error.TheVariants.{OutOfMemory};
-ghost use Rattle.dnssec_key.specs.RollTable.{which, First, Second, actions_at, actions_of, behind};
+ghost use Rattle.dnssec_key.specs.RollTable.{which, First, Second, actions_due, actions_of, behind};
 ghost use Rattle.dnssec_key.specs.RollTable.{column};
 ghost use Rattle.dnssec_keyset.specs.KeySet.{phase_of};
 ghost use Rattle.dnssec_keyset.specs.Start.{start_refusal, texts};
@@ -248,8 +248,8 @@ impl KeySet {
     /// `OutOfMemory` alone, where there is no memory for the list.
     pub fn actions(&self, rolltype: RollType) -> Result<Vec<Action>, Error>
         ensures list { IfOk result (λ actions.
-            actions.items ≡ actions_at rolltype (phase_of self.now.rolls rolltype)) }
-        ensures none { actions_at rolltype (phase_of self.now.rolls rolltype) ≡ [] → IsOk result }
+            actions.items ≡ actions_due rolltype (phase_of self.now.rolls rolltype)) }
+        ensures none { actions_due rolltype (phase_of self.now.rolls rolltype) ≡ [] → IsOk result }
         ensures err { IfErr result (λ e. e ≡ OutOfMemory) }
     {
         match self.rolls.phase_of(rolltype) {

@@ -1,5 +1,5 @@
--- The record of a run: at each position the key set, and what the call there answered and left
--- published.
+-- The record of a run: at each position the key set, and what the call there answered and what it
+-- left published.
 use Rattle.std.specs.Prelude.{◌≡◌, ◌≤◌, ℕ, zero, suc, Bool, true, false, List, length, slice_get}
 use Rattle.std.specs.Prelude.{Option, None, Some, if◌then◌else◌, string_bytes}
 use Rattle.std.specs.Option.{option_map}
@@ -74,8 +74,8 @@ reply_of (Refused cause) = keyset.Refused cause
 
 -- ---- the moment and the mark of an entry
 
--- the moment that a call is given as now, if any: a creation stamp and the time of a setter are
--- none
+-- the moment that a call is given as now, if any: a creation stamp is none, nor is the time of a
+-- setter
 abbrev pub call_moment : Call → Option ℕ
 call_moment (SetPresent pubref value now) = Some now
 call_moment (StartRoll roll old new now) = Some now

@@ -17,7 +17,7 @@ use Rattle.dnssec_key.specs.declared.kind.KeyType.{KeyType}
 use Rattle.dnssec_key.specs.declared.kind.KeyType.TheVariants.{Ksk, Zsk, Csk, Include}
 use Rattle.dnssec_key.specs.Key.{KeyParts}
 use Rattle.dnssec_key.specs.Setters.{Setting, Decoupled, Present, Signer, AtParent, Stale}
-use Rattle.dnssec_key.specs.Setters.{VisibleAt, DsVisibleAt, RrsigVisibleAt, set_by, at_states}
+use Rattle.dnssec_key.specs.Setters.{VisibleAt, DsVisibleAt, RrsigVisibleAt, set_by, at_each_state}
 use Rattle.dnssec_key.specs.Setters.{with_signer}
 use Rattle.dnssec_keyset.specs.KeySet.{Keys, keys_in_map, entries_by_bytes}
 use Rattle.dnssec_keyset.specs.declared.counts.Counts.{Counts}
@@ -171,7 +171,7 @@ module _ (f : KeyParts → KeyParts) (c : Counts) (m n : Keys) (r : List ℕ) (k
 
 -- a key serves, whether it signs or not
 signing : (value : Bool) (t : KeyType) (w : Want)
-    → serves_as_kept w (at_states (with_signer value) t) ≡ serves_as_kept w t
+    → serves_as_kept w (at_each_state (with_signer value) t) ≡ serves_as_kept w t
 signing value (Ksk s) PresentKsk = refl
 signing value (Ksk s) KskAtParent = refl
 signing value (Ksk s) PresentZsk = refl

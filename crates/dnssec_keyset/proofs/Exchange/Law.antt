@@ -19,7 +19,7 @@ use Rattle.dnssec_keyset.specs.Start.{start_refusal, together}
 use Rattle.dnssec_keyset.specs.Step.{Call, AddKey, Set, DeleteKey, StartRoll, Report, Wait}
 use Rattle.dnssec_keyset.specs.Step.{RollDone, AbortRoll, Reply, Refused, Clearance, Barred, Early}
 use Rattle.dnssec_keyset.specs.Step.{Clear, Changes, Step, StepBy, accepted_reply, after}
-use Rattle.dnssec_keyset.specs.Step.{is_kept_at, clearance}
+use Rattle.dnssec_keyset.specs.Step.{has_kept_key, clearance}
 use Rattle.dnssec_keyset.specs.Laws.{AreApart, MayBeExchanged, roll_of}
 use Rattle.dnssec_keyset.proofs.After.{after-changes}
 use Rattle.dnssec_keyset.proofs.Laws.{no_cause, no_first, no_rest, same-is}
@@ -117,7 +117,7 @@ kept-same b (Some k) (Some l) h own = elim (cases_Bool (lists_kind (side_of b) k
 
 module _ (b : RollType) (s t : KeySetParts) (same : SameFor b s t) where
   olds-same : (olds : List (List ℕ)) → old_fault b (get s.keys) olds ≡ None
-      → filter (is_kept_at s.keys) olds ≡ filter (is_kept_at t.keys) olds
+      → filter (has_kept_key s.keys) olds ≡ filter (has_kept_key t.keys) olds
   olds-same [] none = refl
   olds-same (q ∷ qs) none = λ i.
       cond (kept-same b _ _ (same.keys q) (no_first _ _ none) i)

@@ -9,7 +9,7 @@ use Rattle.dnssec_key.specs.declared.roll.RollState.{RollState}
 use Rattle.dnssec_key.specs.declared.roll.RollState.TheVariants.{Propagation1, CacheExpire1}
 use Rattle.dnssec_key.specs.declared.roll.RollState.TheVariants.{Propagation2}
 use Rattle.dnssec_keyset.specs.KeySet.{same_roll}
-use Rattle.dnssec_keyset.specs.Step.{is_kept_at}
+use Rattle.dnssec_keyset.specs.Step.{has_kept_key}
 use Rattle.dnssec_run.specs.declared.record.Mark.TheVariants.{Step}
 use Rattle.dnssec_run.specs.Published.{Id}
 use Rattle.dnssec_run.specs.Safe.{position_at}
@@ -51,7 +51,7 @@ module _ (tale : Tale) (n : ℕ) (here : suc n ≤ length tale.es) where
       (can : CanStart r (world_at tale n) old new)
       (mark : (position_at tale.es (suc n)).mark ≡ Step r)
       (olds : (q : List ℕ) → is_listed q (listed_at tale r (suc n)).olds
-      ≡ (is_listed q old && is_kept_at (real tale n).set.keys q))
+      ≡ (is_listed q old && has_kept_key (real tale n).set.keys q))
       (news : (q : List ℕ) → is_listed q (listed_at tale r (suc n)).news ≡ is_listed q new)
       (lists : (sd : SideOf) → affects sd r ≡ false → KeepsLists tale sd n) where
     quiet_now : (sd : SideOf) (st : Stage) → affects sd r ≡ true → At tale sd st n

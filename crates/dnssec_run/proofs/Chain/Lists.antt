@@ -1,6 +1,5 @@
 -- What is kept of starts: how each call changes the lists, and which calls leave a side's keys in
--- them
--- as they were.
+-- them as they were.
 use Rattle.std.proofs.Common.{[], ◌∷◌, ◌≡◌, ℕ, suc, Bool, true, false, not, ◌&&◌, ◌||◌, refl, sym}
 use Rattle.std.proofs.Common.{◌∙◌, ap, List, Option, Some}
 use Rattle.std.specs.Prelude.{filter, if◌then◌else◌}

@@ -1,6 +1,7 @@
 -- What a roll in progress waits for: its last report, and a key with that report's stamp.
 use Rattle.std.proofs.Common.{◌≡◌, ℕ, suc, ◌-◌, ◌*◌, ◌<◌, ◌≤◌, Bool, true, false, refl, sym, ◌∙◌}
 use Rattle.std.proofs.Common.{ap, subst, arith, List, Option, None, Some, not}
+use Rattle.std.specs.Prelude.{if◌then◌else◌}
 use Rattle.std.specs.Option.{option_map}
 use Rattle.std.proofs.lemmas.Bool.{true≢false, not-true}
 use Rattle.std.proofs.lemmas.Option.{same_Some, none-some}
@@ -10,14 +11,14 @@ use Rattle.dnssec_key.specs.declared.roll.RollState.TheVariants.{Propagation1, C
 use Rattle.dnssec_key.specs.declared.roll.RollState.TheVariants.{Propagation2, CacheExpire2}
 use Rattle.dnssec_key.specs.declared.roll.RollState.TheVariants.{Done}
 use Rattle.dnssec_key.specs.declared.kind.KeyType.{KeyType}
-use Rattle.dnssec_key.specs.RollTable.{column, half_of, stamp_if, after_wait}
+use Rattle.dnssec_key.specs.RollTable.{column, half_of, after_wait}
 use Rattle.dnssec_run.specs.declared.record.Mark.TheVariants.{Other, Report}
 use Rattle.dnssec_run.specs.Published.{Id}
 use Rattle.dnssec_run.specs.Safe.{SetKind, position_at, base_below, time_at, is_step, IsGone}
 use Rattle.dnssec_run.specs.Safe.{retires}
 use Rattle.dnssec_keyset.proofs.Flags.{may_list, aged, tolerates, Quiet, Early, fits, may_start}
 use Rattle.dnssec_keyset.proofs.Flags.{is_idle}
-use Rattle.dnssec_run.proofs.Chain.Tables.{half, stamps, written, Stamp, Visible, DsVisible}
+use Rattle.dnssec_run.proofs.Chain.Tables.{half, writes, written, Stamp, Visible, DsVisible}
 use Rattle.dnssec_run.proofs.Chain.Tables.{RrsigVisible, read, serves_new, serves_kept}
 use Rattle.dnssec_run.proofs.Chain.Tale.{Tale, World, Key, found, if_some, world_at, started_key}
 use Rattle.dnssec_run.proofs.Chain.Tale.{start_key, report_key, wait1_key, wait2_key, is_listed}
@@ -98,31 +99,31 @@ gone tale n r second ttl now on reads told over moment kind goes b base q lt =
 
 -- a start and the waits leave the stamps alone that a wait reads
 start_all : (s : Stamp) (k : KeyType)
-    → each_roll (λ r. not (stamps s (column r).stamps k)) ≡ true
+    → each_roll (λ r. not (writes s (column r).writes k)) ≡ true
 unfolding column
 start_all Visible k = refl
 start_all DsVisible k = refl
 start_all RrsigVisible k = refl
 
-start_none : (r : RollType) (s : Stamp) (k : KeyType) → stamps s (column r).stamps k ≡ false
+start_none : (r : RollType) (s : Stamp) (k : KeyType) → writes s (column r).writes k ≡ false
 start_none r s k = not-true _
-    (each_roll-at (λ r. not (stamps s (column r).stamps k)) (start_all s k) r)
+    (each_roll-at (λ r. not (writes s (column r).writes k)) (start_all s k) r)
 
 wait_all : (s : Stamp) (k : KeyType)
-    → each_roll (λ r. both (λ second. not (stamps s (half_of r (half second)).stamps k))) ≡ true
+    → each_roll (λ r. both (λ second. not (writes s (half_of r (half second)).writes k))) ≡ true
 unfolding column
 wait_all Visible k = refl
 wait_all DsVisible k = refl
 wait_all RrsigVisible k = refl
 
 wait_none : (r : RollType) (second : Bool) (s : Stamp) (k : KeyType)
-    → stamps s (half_of r (half second)).stamps k ≡ false
+    → writes s (half_of r (half second)).writes k ≡ false
 wait_none r second s k = not-true _
-    (both-at (λ second. not (stamps s (half_of r (half second)).stamps k))
-    (each_roll-at (λ r. both (λ second. not (stamps s (half_of r (half second)).stamps k)))
+    (both-at (λ second. not (writes s (half_of r (half second)).writes k))
+    (each_roll-at (λ r. both (λ second. not (writes s (half_of r (half second)).writes k)))
     (wait_all s k) r) second)
 
-left_alone : (b : Bool) (now : ℕ) (s : Option ℕ) → b ≡ false → s ≡ stamp_if b now s
+left_alone : (b : Bool) (now : ℕ) (s : Option ℕ) → b ≡ false → s ≡ (if b then Some now else s)
 left_alone true now s e = absurd (true≢false e)
 left_alone false now s e = refl
 
@@ -276,7 +277,7 @@ module _ (tale : Tale) (n : ℕ) where
       stamps_same : (k : Key) (s : Stamp) → stamp_of s k ≡ stamp_of s (wait2_key r now k)
       stamps_same k = wait_stamps r true now k
 
-  unwritten : (b : Bool) (now : ℕ) (s : Option ℕ) → b ≡ false → s ≡ stamp_if b now s
+  unwritten : (b : Bool) (now : ℕ) (s : Option ℕ) → b ≡ false → s ≡ (if b then Some now else s)
   unwritten true now s e = absurd (true≢false e)
   unwritten false now s e = refl
 
@@ -344,9 +345,11 @@ module _ (tale : Tale) (n : ℕ) where
 
   report_stamp : (s : Stamp) (r : RollType) (second : Bool) (now : ℕ) (k : Key)
       → written s r second k.keytype ≡ true → stamp_of s (report_key r second now k) ≡ Some now
-  report_stamp Visible r second now k e = ap (λ b. stamp_if b now k.timestamps.visible) e
-  report_stamp DsVisible r second now k e = ap (λ b. stamp_if b now k.timestamps.ds_visible) e
-  report_stamp RrsigVisible r second now k e = ap (λ b. stamp_if b now k.timestamps.rrsig_visible) e
+  report_stamp Visible r second now k e = ap (λ b. if b then Some now else k.timestamps.visible) e
+  report_stamp DsVisible r second now k e =
+      ap (λ b. if b then Some now else k.timestamps.ds_visible) e
+  report_stamp RrsigVisible r second now k e =
+      ap (λ b. if b then Some now else k.timestamps.rrsig_visible) e
 
   pub told-report : (r : RollType) (second : Bool) (ttl now : ℕ)
       → Mapped tale n (λ q. report_key r second now) r (Some (waiting second ttl))

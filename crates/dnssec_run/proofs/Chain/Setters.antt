@@ -17,7 +17,7 @@ use Rattle.dnssec_key.specs.declared.kind.KeyType.TheVariants.{Ksk, Zsk, Csk, In
 use Rattle.dnssec_key.specs.Key.{KeyParts}
 use Rattle.dnssec_key.specs.Setters.{Setting, Decoupled, Present, Signer, AtParent, Stale}
 use Rattle.dnssec_key.specs.Setters.{VisibleAt, DsVisibleAt, RrsigVisibleAt, set_by}
-use Rattle.dnssec_key.specs.Setters.{at_states, with_present}
+use Rattle.dnssec_key.specs.Setters.{at_each_state, with_present}
 use Rattle.dnssec_keyset.specs.KeySet.{KeySetParts}
 use Rattle.dnssec_keyset.proofs.Flags.{SideOf, Keys, Zone, has_role, is_idle, may_list}
 use Rattle.dnssec_run.specs.Plain.{is_another_signers, is_plain_setting}
@@ -81,7 +81,7 @@ pub harmless-same : (k : KeyParts) → Harmless k k
 harmless-same k = record { kind = inl refl; stamps = λ s. refl }
 
 still_another : (value : Bool) (k : KeyType) → is_another_signers k ≡ true
-    → is_another_signers (at_states (with_present value) k) ≡ true
+    → is_another_signers (at_each_state (with_present value) k) ≡ true
 still_another value (Ksk s) e = e
 still_another value (Zsk s) e = e
 still_another value (Csk s t) e = e

@@ -4,7 +4,7 @@ use Rattle.std.proofs.Common.{refl, sym, ◌∙◌, ap, subst, arith, List, leng
 use Rattle.std.specs.Option.{option_map, option_map_or}
 use Rattle.dnssec_key.specs.State.{is_kept}
 use Rattle.dnssec_key.specs.Key.{all_states}
-use Rattle.dnssec_keyset.specs.Step.{is_kept_at}
+use Rattle.dnssec_keyset.specs.Step.{has_kept_key}
 use Rattle.std.proofs.lemmas.Bool.{true≢false, and_parts}
 use Rattle.dnssec_key.specs.declared.roll.RollType.{RollType}
 use Rattle.dnssec_key.specs.declared.roll.RollState.TheVariants.{Propagation1, Propagation2, Done}
@@ -51,7 +51,7 @@ module _ (tale : Tale) (n : ℕ) (here : suc n ≤ length tale.es) (sd : SideOf)
       (can : CanStart r (world_at tale n) old new)
       (mark : (position_at tale.es (suc n)).mark ≡ Step r)
       (olds : (q : List ℕ) → is_listed q (listed_at tale r (suc n)).olds
-      ≡ (is_listed q old && is_kept_at (real tale n).set.keys q))
+      ≡ (is_listed q old && has_kept_key (real tale n).set.keys q))
       (news : (q : List ℕ) → is_listed q (listed_at tale r (suc n)).news ≡ is_listed q new)
       (ties : (id : Id) → all_ok is_tied (found (world_at tale n) id) ≡ true) where
     may : (id : Id) → all_ok (may_start r (is_listed id.0 old) (is_listed id.0 new))

@@ -9,8 +9,8 @@ use Rattle.dnssec_key.specs.declared.kind.KeyType.{KeyType}
 use Rattle.dnssec_key.specs.State.{Flags, Stamps, is_any, kept_present, kept_at_parent}
 use Rattle.dnssec_key.specs.State.{kept_signing}
 use Rattle.dnssec_key.specs.Key.{ksk, zsk, ksk_role, zsk_role}
-use Rattle.dnssec_key.specs.RollTable.{stamp_at}
-use Rattle.dnssec_key.specs.RollTable.{Half, First, Second, half_of, column, Stamping}
+use Rattle.dnssec_key.specs.RollTable.{stamp_named}
+use Rattle.dnssec_key.specs.RollTable.{Half, First, Second, half_of, column, Writes}
 
 -- the half of a report or a wait
 abbrev pub half : Bool → Half
@@ -28,13 +28,13 @@ stamp_in Visible t = t.visible
 stamp_in DsVisible t = t.ds_visible
 stamp_in RrsigVisible t = t.rrsig_visible
 
-abbrev pub stamps : Stamp → Stamping → KeyType → Bool
-stamps Visible s k = s.visible k
-stamps DsVisible s k = s.ds_visible k
-stamps RrsigVisible s k = s.rrsig_visible k
+abbrev pub writes : Stamp → Writes → KeyType → Bool
+writes Visible w k = w.visible k
+writes DsVisible w k = w.ds_visible k
+writes RrsigVisible w k = w.rrsig_visible k
 
 abbrev pub written : Stamp → RollType → Bool → KeyType → Bool
-written s r second k = stamps s (half_of r (half second)).report k
+written s r second k = writes s (half_of r (half second)).report k
 
 -- the stamp that a wait reads; the second wait is `true`
 abbrev pub read : RollType → Bool → Stamp
@@ -47,7 +47,7 @@ read AlgorithmRoll true = DsVisible
 read _ _ = Visible
 
 pub reads-stamp : (r : RollType) (second : Bool) (t : Stamps)
-    → stamp_at (half_of r (half second)).reads t ≡ stamp_in (read r second) t
+    → stamp_named (half_of r (half second)).reads t ≡ stamp_in (read r second) t
 unfolding column
 reads-stamp KskRoll false t = refl
 reads-stamp KskRoll true t = refl

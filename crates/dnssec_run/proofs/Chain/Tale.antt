@@ -1,6 +1,5 @@
 -- A run as the chain's proof sees it: at each position the keys by reference, the positions of
--- their
--- adds, and the phases of the rolls.
+-- their adds, and the phases of the rolls.
 use Rattle.std.proofs.Common.{◌≡◌, ℕ, ◌-◌, ◌≤◌, ◌⊎◌, Bool, true, false, List, Option, None, Some}
 use Rattle.std.proofs.Common.{refl}
 use Rattle.std.specs.Prelude.{if◌then◌else◌, ◌==◌, ◌*◌}
@@ -16,7 +15,7 @@ use Rattle.dnssec_key.specs.Key.{KeyParts}
 use Rattle.dnssec_keyset.specs.KeySet.{phase_of, same_roll}
 use Rattle.dnssec_key.specs.RollTable.{after_start, after_report, after_wait, after_early_end}
 use Rattle.dnssec_key.specs.RollTable.{First, Second}
-use Rattle.dnssec_key.specs.RollTable.{column, with_stamps, stamps_on as stamped}
+use Rattle.dnssec_key.specs.RollTable.{column, stamps_after}
 use Rattle.dnssec_keyset.specs.Start.{is_listed as listed}
 use Rattle.dnssec_run.specs.declared.call.Call.{Call}
 use Rattle.dnssec_run.specs.declared.record.Entry.{Entry}
@@ -75,7 +74,7 @@ put_roll f r a q = if same_roll r q then a else f q
 abbrev pub started_key : RollType → ℕ → Bool → Bool → Key → Key
 started_key r now o i k = record k {
   keytype = started r o i k.keytype;
-  timestamps = if i then with_stamps (stamped (column r).stamps (aged o k.keytype)) now k.timestamps
+  timestamps = if i then stamps_after (column r).writes (aged o k.keytype) now k.timestamps
       else k.timestamps;
 }
 

@@ -234,7 +234,7 @@ module _ (tale : Tale) (n : ℕ) (here : suc n ≤ length tale.es) where
       (λ q. ap (λ l. is_listed q (listed_by l r).olds) h.lists
       ∙ ap (λ (l : Listed). is_listed q l.olds)
       (listed-same before.lists r (keyset.listed_at_start before.keys old new))
-      ∙ is_listed-filter (keyset.is_kept_at before.keys) old q)
+      ∙ is_listed-filter (keyset.has_kept_key before.keys) old q)
       (λ q. ap (λ l. is_listed q (listed_by l r).news) h.lists
       ∙ ap (λ (l : Listed). is_listed q l.news)
       (listed-same before.lists r (keyset.listed_at_start before.keys old new)))

@@ -16,7 +16,7 @@ use Rattle.dnssec_key.specs.Key.{KeyParts, all_states}
 use Rattle.dnssec_key.specs.RollTable.{after_early_end, after_start}
 use Rattle.dnssec_keyset.specs.KeySet.{KeySetParts, Listed, listed_by, phase_of}
 use Rattle.dnssec_keyset.specs.Start.{is_listed}
-use Rattle.dnssec_keyset.specs.Step.{is_kept_at, listed_at_start}
+use Rattle.dnssec_keyset.specs.Step.{has_kept_key, listed_at_start}
 use Rattle.dnssec_keyset.specs.Step as keyset
 use Rattle.dnssec_keyset.proofs.Accepted.{ends_early}
 use Rattle.dnssec_keyset.proofs.Flags.{ended, is_blank, may_list, may_start, started}
@@ -329,7 +329,7 @@ module _ (name : List ℕ) (calls : List Call) (entries : List Entry)
             let x = began q own.0 in
             let y = (stands q).key x.0 x.1 x.2 own.0 own.1 in
             let kept : was_old q ≡ (is_listed olds q && all_states is_kept x.0.keytype) =
-            (stands q).olds_are own.1 ∙ is_listed-filter (is_kept_at old.keys) olds q
+            (stands q).olds_are own.1 ∙ is_listed-filter (has_kept_key old.keys) olds q
             ∙ ap (λ o. is_listed olds q
             && option_map_or (λ (k : KeyParts). all_states is_kept k.keytype) o false) x.1 in (
               x.0,
@@ -346,9 +346,9 @@ module _ (name : List ℕ) (calls : List Call) (entries : List Entry)
             let no = one_listed (was_old q) (was_new q)
             (λ t. let u = (stands q).of_olds t in
             out (
-              or_left _ _ (and_parts (is_listed olds q) (is_kept_at old.keys q)
-                  (sym (is_listed-filter (is_kept_at old.keys) olds q) ∙ sym ((stands q).olds_are u)
-                  ∙ t)).0,
+              or_left _ _ (and_parts (is_listed olds q) (has_kept_key old.keys q)
+                  (sym (is_listed-filter (has_kept_key old.keys) olds q)
+                  ∙ sym ((stands q).olds_are u) ∙ t)).0,
               u,
             ))
             (λ t. let u = (stands q).of_news t in

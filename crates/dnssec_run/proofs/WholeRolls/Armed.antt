@@ -16,7 +16,7 @@ use Rattle.dnssec_key.specs.declared.kind.KeyType.{KeyType}
 use Rattle.dnssec_key.specs.declared.kind.KeyType.TheVariants.{Ksk, Zsk, Csk, Include}
 use Rattle.dnssec_key.specs.Key.{KeyParts}
 use Rattle.dnssec_keyset.specs.KeySet.{Lists, KeySetParts, PutsKey, same_roll}
-use Rattle.dnssec_key.specs.RollTable.{First, Second, column, stamp_if, after_report, after_wait}
+use Rattle.dnssec_key.specs.RollTable.{First, Second, column, after_report, after_wait}
 use Rattle.dnssec_keyset.proofs.Flags.{Zone, may_list, waited1, tolerates, Early, Late, fits}
 use Rattle.dnssec_keyset.proofs.Flags.{is_idle}
 use Rattle.dnssec_run.proofs.Chain.Tables.{written, Stamp, Visible, DsVisible, RrsigVisible, read}
@@ -244,15 +244,17 @@ beside-roll r p old new f both_in keys leaves kinds = record {
 
 stamp-written : (s : Stamp) (r : RollType) (now : ℕ) (k : KeyParts)
     → written s r false k.keytype ≡ true → stamp_of s (after_report r First now k) ≡ Some now
-stamp-written Visible r now k e = ap (λ b. stamp_if b now k.timestamps.visible) e
-stamp-written DsVisible r now k e = ap (λ b. stamp_if b now k.timestamps.ds_visible) e
-stamp-written RrsigVisible r now k e = ap (λ b. stamp_if b now k.timestamps.rrsig_visible) e
+stamp-written Visible r now k e = ap (λ b. if b then Some now else k.timestamps.visible) e
+stamp-written DsVisible r now k e = ap (λ b. if b then Some now else k.timestamps.ds_visible) e
+stamp-written RrsigVisible r now k e =
+    ap (λ b. if b then Some now else k.timestamps.rrsig_visible) e
 
 stamp-written2 : (s : Stamp) (r : RollType) (now : ℕ) (k : KeyParts)
     → written s r true k.keytype ≡ true → stamp_of s (after_report r Second now k) ≡ Some now
-stamp-written2 Visible r now k e = ap (λ b. stamp_if b now k.timestamps.visible) e
-stamp-written2 DsVisible r now k e = ap (λ b. stamp_if b now k.timestamps.ds_visible) e
-stamp-written2 RrsigVisible r now k e = ap (λ b. stamp_if b now k.timestamps.rrsig_visible) e
+stamp-written2 Visible r now k e = ap (λ b. if b then Some now else k.timestamps.visible) e
+stamp-written2 DsVisible r now k e = ap (λ b. if b then Some now else k.timestamps.ds_visible) e
+stamp-written2 RrsigVisible r now k e =
+    ap (λ b. if b then Some now else k.timestamps.rrsig_visible) e
 
 abbrev pub NoneLater : ℕ → KeySetParts → Type 0
 NoneLater t set = (q : List ℕ) (k : KeyParts) (s : Stamp) (x : ℕ) → get set.keys q ≡ Some k
@@ -393,7 +395,8 @@ module _ (t : ℕ) (old new : KeySetParts) (late : NoneLater t old) where
 
 -- a stamp that a report may write
 pub report-stamp : (r : RollType) (second : Bool) (now : ℕ) (k : KeyParts) (s : Stamp) (x : ℕ)
-    → (b : Bool) (was : Option ℕ) → stamp_if b now was ≡ Some x → (was ≡ Some x) ⊎ (x ≤ now)
+    → (b : Bool) (was : Option ℕ) → (if b then Some now else was) ≡ Some x
+    → (was ≡ Some x) ⊎ (x ≤ now)
 report-stamp r second now k s x true was e = let same : now ≡ x = same_Some now x e in
     inr (omega arith)
 report-stamp r second now k s x false was e = inl e

@@ -21,7 +21,7 @@ use Rattle.dnssec_key.specs.State.{is_kept}
 use Rattle.dnssec_keyset.specs.KeySet.{Listed, Lists, listed_by, with_listed, without, others}
 use Rattle.dnssec_keyset.specs.KeySet.{Keys as KeysBy}
 use Rattle.dnssec_keyset.specs.Start.{is_listed}
-use Rattle.dnssec_keyset.specs.Step.{is_kept_at, listed_at_start, lists_after_setting}
+use Rattle.dnssec_keyset.specs.Step.{has_kept_key, listed_at_start, lists_after_setting}
 use Rattle.dnssec_keyset.proofs.Flags.{SideOf, Keys, Zone, affects, ended, has_role, is_idle}
 use Rattle.dnssec_keyset.proofs.Flags.{may_start, started}
 use Rattle.dnssec_keyset.proofs.Phases.{listed_by-with_listed}
@@ -240,7 +240,7 @@ listed_start lists new keys r olds news q k is at =
     let here : listed_by new r ≡ listed_at_start keys olds news = ap (λ l. listed_by l r) is
     ∙ listed_by-with_listed lists r (listed_at_start keys olds news) r
     ∙ ap (λ b. if b then listed_at_start keys olds news else listed_by lists r) (same-same r) in (
-      ap (λ l. is_listed l.olds q) here ∙ listed_filter (is_kept_at keys) q olds
+      ap (λ l. is_listed l.olds q) here ∙ listed_filter (has_kept_key keys) q olds
           ∙ ap (λ o. is_listed olds q
           && option_map_or (λ (k : KeyParts). all_states is_kept k.keytype) o false) at,
       ap (λ l. is_listed l.news q) here,

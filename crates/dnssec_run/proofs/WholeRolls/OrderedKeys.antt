@@ -1,7 +1,7 @@
 -- The order that a side's keys keep, key by key.
 use Rattle.std.proofs.Common.{◌≡◌, ℕ, Bool, true, false, ◌&&◌, ◌||◌, refl, sym, ◌∙◌, ap, List}
 use Rattle.std.proofs.Common.{Option, None, Some}
-use Rattle.std.specs.Prelude.{is_some}
+use Rattle.std.specs.Prelude.{is_some, if◌then◌else◌}
 use Rattle.std.specs.Option.{option_map}
 use Rattle.std.specs.FinMap.{get}
 use Rattle.std.proofs.lemmas.Option.{same_Some, none-some}
@@ -10,7 +10,7 @@ use Rattle.dnssec_key.specs.declared.roll.RollState.{RollState}
 use Rattle.dnssec_key.specs.Key.{KeyParts, all_states}
 use Rattle.dnssec_key.specs.State.{is_kept}
 use Rattle.dnssec_keyset.specs.KeySet.{Lists, KeySetParts, MovesOn, phase_of, same_roll}
-use Rattle.dnssec_key.specs.RollTable.{First, Second, stamp_if, after_report, after_wait}
+use Rattle.dnssec_key.specs.RollTable.{First, Second, after_report, after_wait}
 use Rattle.dnssec_keyset.proofs.Flags.{SideOf, affects, may_list, started, ended, waited1, waited2}
 use Rattle.dnssec_keyset.proofs.Flags.{has_role, may_start}
 use Rattle.dnssec_run.proofs.Chain.Tables.{written, Visible, DsVisible, RrsigVisible}
@@ -46,7 +46,8 @@ pub back : (f : KeyParts → KeyParts) (o : Option KeyParts) (j : KeyParts) → 
 back f None j e = absurd (none-some j e)
 back f (Some k) j e = (k, refl, same_Some _ _ e)
 
-stamped : (b : Bool) (now : ℕ) (s : Option ℕ) → is_some (stamp_if b now s) ≡ (b || is_some s)
+stamped : (b : Bool) (now : ℕ) (s : Option ℕ)
+    → is_some (if b then Some now else s) ≡ (b || is_some s)
 stamped true now s = refl
 stamped false now s = refl
 

@@ -1,0 +1,2 @@
+-- What only the inside of the crate needs: no contract of a public call names it.
+pub mod Stamped
