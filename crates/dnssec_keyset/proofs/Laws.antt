@@ -37,7 +37,7 @@ use Rattle.dnssec_keyset.specs.Step.{RollDone, AbortRoll, Reply, Clearance, Barr
 use Rattle.dnssec_keyset.specs.Step.{Changes, Step, StepBy, add_refusal, barred_by, has_tag}
 use Rattle.dnssec_keyset.specs.Step.{report_refusal, clearance, wait_in_phase}
 use Rattle.dnssec_keyset.specs.Laws.{TagsApart, RollsTogether, in_progress}
-use Rattle.dnssec_keyset.proofs.Phases.{phase_of-with_phase, no_phases}
+use Rattle.dnssec_keyset.proofs.Phases.{phase_of-with_phase, no_phases, same-is}
 use Rattle.dnssec_keyset.proofs.Quantified.{some_key-none}
 use Rattle.dnssec_keyset.proofs.Tags.{mapped}
 
@@ -177,26 +177,6 @@ apart-new name = λ q r k l e d same. let f : None ≡ Some k = sym (get-empty (
     ∙ e in cc
 
 -- ---- rolls
-
-rolled : ℕ → RollType
-rolled zero = KskRoll
-rolled (suc zero) = KskDoubleDsRoll
-rolled (suc (suc zero)) = ZskRoll
-rolled (suc (suc (suc zero))) = ZskDoubleSignatureRoll
-rolled (suc (suc (suc (suc zero)))) = CskRoll
-rolled (suc (suc (suc (suc (suc n))))) = AlgorithmRoll
-
-rolled-number : (r : RollType) → rolled (roll_number r) ≡ r
-unfolding rolled
-rolled-number KskRoll = refl
-rolled-number KskDoubleDsRoll = refl
-rolled-number ZskRoll = refl
-rolled-number ZskDoubleSignatureRoll = refl
-rolled-number CskRoll = refl
-rolled-number AlgorithmRoll = refl
-
-pub same-is : (a b : RollType) → same_roll a b ≡ true → a ≡ b
-same-is a b e = sym (rolled-number a) ∙ ap rolled (eqb-true _ _ e) ∙ rolled-number b
 
 pub apart-sym : (a b : Side) → are_apart a b ≡ are_apart b a
 apart-sym KskSide KskSide = refl

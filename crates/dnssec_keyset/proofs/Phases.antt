@@ -1,7 +1,9 @@
 -- The phases that a key set shows, read through the hash map that it holds.
-use Rattle.std.proofs.Common.{◌≡◌, cond, List, [], ◌∷◌, Some, refl, sym, ◌∙◌, None, ℕ}
-use Rattle.std.specs.Prelude.{Option, nat_eq, if◌then◌else◌}
-use Rattle.std.specs.HashMap.{HashMap, get}
+use Rattle.std.proofs.Common.{◌≡◌, cond, List, [], ◌∷◌, Some, refl, sym, ◌∙◌, None, ℕ, zero, suc}
+use Rattle.std.proofs.Common.{Bool, true, false, ap, length, arith}
+use Rattle.std.specs.Prelude.{Option, nat_eq, if◌then◌else◌, ◌↔◌}
+use Rattle.std.proofs.lemmas.Bool.{eqb-true}
+use Rattle.std.specs.HashMap.{HashMap, get, hash_map_len}
 use Rattle.std.specs.Map.{lookup}
 use Rattle.dnssec_key.specs.declared.roll.RollType.{RollType}
 use Rattle.dnssec_key.specs.declared.roll.RollType.TheVariants.{KskRoll, KskDoubleDsRoll, ZskRoll}
@@ -11,7 +13,7 @@ use Rattle.dnssec_key.specs.declared.roll.RollState.{RollState}
 use Rattle.dnssec_key.specs.contracts.roll.RollTypePartialEq.TheImpl.{eq-value}
 use Rattle.dnssec_keyset.specs.KeySet.{Listed, Lists, listed_by, with_listed, Rolls, same_roll}
 use Rattle.dnssec_keyset.specs.KeySet.{rolls_in_map, phase_of, with_phase, roll_number, no_rolls}
-use Rattle.dnssec_keyset.specs.KeySet.{without, others}
+use Rattle.dnssec_keyset.specs.KeySet.{without, others, rolls_by}
 use Rattle.dnssec_key.specs.contracts.roll.RollType.{the_type}
 use denote.Enum.Declared.{tag_of}
 
@@ -64,6 +66,56 @@ no_phases ZskDoubleSignatureRoll = refl
 no_phases CskRoll = refl
 no_phases AlgorithmRoll = refl
 
+-- the phases that f tells
+phase_of-by : (f : RollType → Option RollState) (q : RollType) → phase_of (rolls_by f) q ≡ f q
+phase_of-by f KskRoll = refl
+phase_of-by f KskDoubleDsRoll = refl
+phase_of-by f ZskRoll = refl
+phase_of-by f ZskDoubleSignatureRoll = refl
+phase_of-by f CskRoll = refl
+phase_of-by f AlgorithmRoll = refl
+
+-- ---- rolls by their numbers
+
+same-itself : (a : RollType) → same_roll a a ≡ true
+same-itself KskRoll = refl
+same-itself KskDoubleDsRoll = refl
+same-itself ZskRoll = refl
+same-itself ZskDoubleSignatureRoll = refl
+same-itself CskRoll = refl
+same-itself AlgorithmRoll = refl
+
+rolled : ℕ → RollType
+rolled zero = KskRoll
+rolled (suc zero) = KskDoubleDsRoll
+rolled (suc (suc zero)) = ZskRoll
+rolled (suc (suc (suc zero))) = ZskDoubleSignatureRoll
+rolled (suc (suc (suc (suc zero)))) = CskRoll
+rolled (suc (suc (suc (suc (suc n))))) = AlgorithmRoll
+
+rolled-number : (r : RollType) → rolled (roll_number r) ≡ r
+unfolding rolled
+rolled-number KskRoll = refl
+rolled-number KskDoubleDsRoll = refl
+rolled-number ZskRoll = refl
+rolled-number ZskDoubleSignatureRoll = refl
+rolled-number CskRoll = refl
+rolled-number AlgorithmRoll = refl
+
+pub same-is : (a b : RollType) → same_roll a b ≡ true → a ≡ b
+same-is a b e = sym (rolled-number a) ∙ ap rolled (eqb-true _ _ e) ∙ rolled-number b
+
+-- a roll that is put into the phase that it is in
+pub same-phase : (r : Rolls) (roll : RollType) (phase : Option RollState)
+    → phase_of r roll ≡ phase → with_phase r roll phase ≡ r
+same-phase r roll phase is =
+    same_rolls _ _ (λ q. phase_of-with_phase r roll phase q ∙ at q (same_roll roll q) refl)
+  where
+    at : (q : RollType) (b : Bool) → same_roll roll q ≡ b →
+        (if b then phase else phase_of r q) ≡ phase_of r q
+    at q true e = sym is ∙ ap (phase_of r) (same-is roll q e)
+    at q false e = refl
+
 -- the same of what is kept of starts
 pub same_lists : (a b : Lists) → ((q : RollType) → listed_by a q ≡ listed_by b q) → a ≡ b
 same_lists a b h = λ i. record {
@@ -113,5 +165,24 @@ module _ {S : Type 0} where
       same_rolls _ _ (λ q. phase_of-shown n q ∙ h q
       ∙ (λ i. cond (same_roll-eq roll q i) phase (sym (phase_of-shown m q) i))
       ∙ sym (phase_of-with_phase (rolls_in_map m) roll phase q))
+
+  -- a hash map without phases is empty, and an empty one has none
+  pub shown-none : (m : HashMap RollType RollState S) → (hash_map_len m ≡ 0)
+      ↔ (rolls_in_map m ≡ no_rolls)
+  shown-none m = (λ e. none m.entries e, λ e. empty m.entries e)
+    where
+      none : (es : List (RollType × RollState)) → length es ≡ 0
+          → rolls_by (λ r. lookup (same_roll r) es) ≡ no_rolls
+      none [] e = refl
+      none (x ∷ es) e = absurd (omega (arith, e))
+
+      empty : (es : List (RollType × RollState))
+          → rolls_by (λ r. lookup (same_roll r) es) ≡ no_rolls → length es ≡ 0
+      empty [] e = refl
+      empty (x ∷ es) e =
+          let f : RollType → Option RollState = λ r. lookup (same_roll r) (x ∷ es) in
+          let there : Some x.1 ≡ None =
+          ap (λ b. cond b (Some x.1) (lookup (same_roll x.0) es)) (sym (same-itself x.0))
+          ∙ sym (phase_of-by f x.0) ∙ ap (λ r. phase_of r x.0) e ∙ no_phases x.0 in cc
 
 pub ruleset phases = (phase_of-shown, rolls_shown-updates)

@@ -1,13 +1,14 @@
 //! How many keys a start could go on with.
 ghost use Rattle.std.specs.Prelude.{◌≡◌, if◌then◌else◌};
+ghost use Rattle.dnssec_key.specs.RollTable.{which};
 ghost use Rattle.dnssec_key.specs.Setters.{setting_of};
 ghost use Rattle.dnssec_keyset.specs.Inner.Code.{as_want};
 ghost use Rattle.dnssec_keyset.specs.Inner.Counts.{count_of, moves_counts, no_counts};
-ghost use Rattle.dnssec_keyset.specs.Inner.Counts.{one_less, one_more};
+ghost use Rattle.dnssec_keyset.specs.Inner.Counts.{one_less, one_more, wait_moves_counts};
 ghost use Rattle.dnssec_keyset.specs.Inner.Counts.{with_key, without_key};
 
 use crate::side::Want;
-use dnssec_key::{KeyType, Setting};
+use dnssec_key::{Half, KeyType, RollType, Setting};
 
 /// For each want, how many keys meet it in their state, whether a start lists them as old or not.
 #[derive(Clone, Copy)]
@@ -39,6 +40,19 @@ fn less(count: usize, serves: bool) -> usize
     } else {
         count
     }
+}
+
+/// Whether a wait may move the counts. The others change no flag that a count asks for of a key
+/// that stays.
+pub(crate) fn wait_moves_counts(roll: RollType, half: Half) -> bool
+    ensures { result ≡ wait_moves_counts roll (which half) }
+{
+    matches!(
+        (roll, half),
+        (RollType::KskRoll | RollType::KskDoubleDsRoll, Half::First)
+            | (RollType::CskRoll, Half::First)
+            | (RollType::AlgorithmRoll, Half::First | Half::Second)
+    )
 }
 
 impl Counts {

@@ -1,5 +1,6 @@
 //! The keys by their public references. No other module opens the map that has them.
-ghost use Rattle.std.specs.Prelude.{◌≡◌, ◌<◌, ℕ, List, None, Some, true, max, nat_eq, string_bytes};
+ghost use Rattle.std.specs.Prelude.{◌≡◌, ◌<◌, ℕ, List, None, Some, true, false, max, nat_eq};
+ghost use Rattle.std.specs.Prelude.{string_bytes};
 ghost use Rattle.std.specs.Prelude.{IfOk, IfErr, IfSome, IfNone, OnOk, OnErr, if◌then◌else◌};
 ghost use Rattle.std.specs.Prelude.{filter, length, ◌≤◌};
 ghost use Rattle.std.specs.Prelude.{map as list_map};
@@ -18,7 +19,7 @@ ghost use Rattle.dnssec_key.specs.Setters.{setting_of, set_by};
 ghost use Rattle.dnssec_keyset.specs.Inner.Change.{makes};
 ghost use Rattle.dnssec_keyset.specs.Inner.Code.{as_want};
 ghost use Rattle.dnssec_keyset.specs.Inner.Counts.{CountsAgree, count_in, no_counts, passes};
-ghost use Rattle.dnssec_keyset.specs.Inner.Counts.{with_key};
+ghost use Rattle.dnssec_keyset.specs.Inner.Counts.{wait_moves_counts, with_key};
 ghost use Rattle.dnssec_keyset.specs.Laws.{TagsApart};
 ghost use Rattle.dnssec_keyset.specs.KeySet.{keys_in_map};
 ghost use Rattle.dnssec_keyset.specs.Start.{is_listed, serves_as_kept, texts};
@@ -28,7 +29,7 @@ ghost use Rattle.dnssec_keyset.specs.Step.{setting_refusal};
 ghost use Rattle.dnssec_keyset.specs.Inner.Over.{over_at};
 ghost use Rattle.dnssec_keyset.specs.WaitEnd.{IsOverFrom, LacksStamp};
 
-use crate::counts::Counts;
+use crate::counts::{Counts, wait_moves_counts};
 use crate::listed::{Listed, copy_list, push_copy};
 use crate::side::Want;
 use dnssec_key::{Error, Half, Key, RollType, Setting, UnixTime};
@@ -172,7 +173,7 @@ impl Keys {
         Ok(())
     }
 
-    /// Takes out the key at a reference, if it is stale.
+    /// Takes out the key at a reference, if it is stale: such a key is in no count.
     #[tactic(auto, using(crate::proofs::Shown::shown))]
     pub(crate) fn delete(&mut self, pubref: &str) -> Result<(), Error>
         ensures reply { AnswersExactly (deletion_refusal (map.get self.old pubref.now)) result }
@@ -187,10 +188,8 @@ impl Keys {
             return Err(Error::KeyNotOld);
         }
         let key_tag = key.key_tag();
-        let keytype = key.keytype();
         self.map.remove(pubref);
         self.tags.remove(&key_tag);
-        self.counts = self.counts.without(&keytype);
         Ok(())
     }
 
@@ -329,13 +328,11 @@ impl Keys {
         ensures { (q : List ℕ) → map.get self.new q
             ≡ option_map (after_report roll (which half) now) (map.get self.old q) }
     {
-        is_sound(&self.map);
         // `retain` says of each key what is written there; it keeps them all.
         self.map.retain(|_, key| {
             key.report(roll, half, now);
             true
         });
-        is_sound(&self.map);
     }
 
     /// Moves every key on, once a wait is over.
@@ -347,7 +344,7 @@ impl Keys {
             key.go_on(roll, half, now);
             true
         });
-        self.counts = recount(&self.map);
+        self.counts = counts_after_wait(&self.map, self.counts, roll, half);
     }
 
     /// The nanosecond since 1970 from which a wait of `ttl` seconds is over, or `None` where a
@@ -403,6 +400,24 @@ fn put_tag(tags: &mut HashSet<u16>, key_tag: u16)
     match tags.insert(key_tag) {
         Ok(_) => {}
         Err(_) => {}
+    }
+}
+
+/// The counts after a wait has moved the keys on: those before, unless it may move them.
+fn counts_after_wait(
+    keys: &HashMap<String, Key>,
+    before: Counts,
+    roll: RollType,
+    half: Half,
+) -> Counts
+    ensures moved { wait_moves_counts roll (which half) ≡ true
+        → CountsAgree result (keys_in_map keys.now) }
+    ensures kept { wait_moves_counts roll (which half) ≡ false → result ≡ before }
+{
+    if wait_moves_counts(roll, half) {
+        recount(keys)
+    } else {
+        before
     }
 }
 

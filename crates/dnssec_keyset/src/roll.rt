@@ -274,9 +274,9 @@ impl KeySet {
             (Changes self.old (Report rolltype (which half) ttl now.now) self.new) }
         ensures err { OnErr result (self.new ≡ self.old) }
     {
-        self.rolls.check_report(rolltype, half)?;
+        // It takes no memory, so its check is its first write at once.
+        self.rolls.take_report(rolltype, half, ttl)?;
         self.keys.report_all(rolltype, half, *now);
-        self.rolls.move_to(rolltype, half.expiring(ttl));
         self.lists.report(self.alloc, rolltype, half);
         Ok(Vec::new(self.alloc))
     }

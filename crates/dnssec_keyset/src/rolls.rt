@@ -1,11 +1,11 @@
 //! The rolls in progress, each in its phase. No other module opens the map that has them.
-ghost use Rattle.std.specs.Prelude.{◌≡◌, not, ◌&&◌, is_some, IsSome, IsTrue, None, Some, IfOk};
+ghost use Rattle.std.specs.Prelude.{◌≡◌, ◌↔◌, not, ◌&&◌, is_some, IsSome, IsTrue, None, Some, IfOk};
 ghost use Rattle.std.specs.Prelude.{IfErr, OnOk, OnErr};
 ghost use Rattle.std.specs.List.{list_any};
 ghost use Rattle.std.specs.HashMap as hash;
 ghost use Rattle.dnssec_key.specs.declared.error.Error.TheVariants.{OutOfMemory};
 ghost use Rattle.dnssec_key.specs.declared.roll.RollType.{RollType as AnyRoll};
-ghost use Rattle.dnssec_key.specs.RollTable.{which};
+ghost use Rattle.dnssec_key.specs.RollTable.{which, expiring};
 ghost use Rattle.dnssec_keyset.specs.KeySet.{phase_of, with_phase, no_rolls, rolls_in_map};
 ghost use Rattle.dnssec_keyset.specs.Start.{has_conflict, conflict};
 ghost use Rattle.dnssec_keyset.specs.Step.{AnswersExactly, report_refusal, end_refusal};
@@ -83,7 +83,7 @@ impl Rolls {
 
     /// Whether no roll is in progress.
     fn is_empty(&self) -> bool
-        ensures { IsTrue result → self.now ≡ no_rolls }
+        ensures { IsTrue result ↔ (self.now ≡ no_rolls) }
     {
         self.phases.is_empty()
     }
@@ -112,12 +112,42 @@ impl Rolls {
         }
     }
 
+    /// Moves a roll on by a report, or refuses one that the roll isn't waiting for. It is looked up
+    /// once, and no memory is taken.
+    #[tactic(auto, using(crate::proofs::Phases::phases))]
+    pub(crate) fn take_report(&mut self, roll: RollType, half: Half, ttl: u32) -> Result<(), Error>
+        ensures reply { AnswersExactly
+            (report_refusal (which half) (phase_of self.old roll)) result }
+        ensures ok { OnOk result
+            (self.new ≡ with_phase self.old roll (Some (expiring (which half) ttl))) }
+        ensures err { OnErr result (self.new ≡ self.old) }
+    {
+        let Some(phase) = self.phases.get_mut(&roll) else {
+            return Err(Error::WrongStateForRollOperation);
+        };
+        if !awaits_report(*phase, half) {
+            return Err(Error::WrongStateForRollOperation);
+        }
+        *phase = half.expiring(ttl);
+        Ok(())
+    }
+
     #[tactic(auto, using(crate::proofs::Phases::phases))]
     pub(crate) fn take_out(&mut self, roll: RollType)
         ensures { self.new ≡ with_phase self.old roll None }
     {
         self.phases.remove(&roll);
     }
+}
+
+/// Whether a roll in a phase waits for a report.
+fn awaits_report(phase: RollState, half: Half) -> bool
+    ensures { result ≡ not (is_some (report_refusal (which half) (Some phase))) }
+{
+    matches!(
+        (half, phase),
+        (Half::First, RollState::Propagation1) | (Half::Second, RollState::Propagation2)
+    )
 }
 
 // What is read of the phases alone.
@@ -144,19 +174,6 @@ impl Rolls {
             return Err(Error::ConflictingRollInProgress);
         }
         Ok(())
-    }
-
-    /// Refuses a report that the roll isn't waiting for.
-    pub(crate) fn check_report(&self, roll: RollType, half: Half) -> Result<(), Error>
-        ensures reply { AnswersExactly
-            (report_refusal (which half) (phase_of self.now roll)) result }
-        ensures there { OnOk result (IsSome (phase_of self.now roll)) }
-    {
-        match (half, self.phase_of(roll)) {
-            (Half::First, Some(RollState::Propagation1)) => Ok(()),
-            (Half::Second, Some(RollState::Propagation2)) => Ok(()),
-            _ => Err(Error::WrongStateForRollOperation),
-        }
     }
 
     /// Refuses the end of a roll that isn't in its last phase.

@@ -110,18 +110,19 @@ counts-added c m n r x absent is fits old w =
     ∙ ap (λ b. if b then Some x else get m q) h) in
     with-of x.keytype c w ∙ omega (arith, here, gone, change, old w, fits w)
 
--- a key is gone
+-- a key that served for nothing is gone
 pub counts-removed : (c : Counts) (m n : Keys) (r : List ℕ) (x : KeyParts) → get m r ≡ Some x
     → ((q : List ℕ) → get n q ≡ (if bytes_eq r q then None else get m q))
-    → CountsAgree c m → CountsAgree (without_key x.keytype c) n
-counts-removed c m n r x found is old w =
+    → ((w : Want) → serves_as_kept w x.keytype ≡ false)
+    → CountsAgree c m → CountsAgree c n
+counts-removed c m n r x found is serves old w =
     let p : List ℕ → KeyParts → Bool = passes (serves_as_kept w) in
-    let here : share p r (get m r) ≡ bit (serves_as_kept w x.keytype) = ap (share p r) found in
+    let here : share p r (get m r) ≡ 0 = ap (share p r) found ∙ ap bit (serves w) in
     let gone : share p r (get n r) ≡ 0 =
     ap (share p r) (is r ∙ ap (λ b. if b then None else get m r) (same_itself r)) in
     let change = count-changed p m n r (λ q h. is q
     ∙ ap (λ b. if b then None else get m q) h) in
-    without-of x.keytype c w ∙ omega (arith, here, gone, change, old w)
+    omega (arith, here, gone, change, old w)
 
 -- a key is another one
 pub counts-changed : (c : Counts) (m n : Keys) (r : List ℕ) (k l : KeyParts) → get m r ≡ Some k
@@ -221,43 +222,45 @@ module _ {Y S : Type 0} where
   unfolding Fits
   fits-shown m unique fits w = count-fits (passes (serves_as_kept w)) m unique fits
 
-module _ (step : KeyParts → KeyParts) (kept : (k : KeyParts) → (step k).keytype ≡ k.keytype) where
-  module _ {Y : Type 0} where
-    as_many : (p : KeyType → Bool) (es : List (String Y × KeyParts)) →
-        length (filter (λ (k : KeyParts). p k.keytype)
-        (map (λ (e : String Y × KeyParts). e.1)
-        (map (λ (e : String Y × KeyParts). (e.0, step e.1)) es)))
-        ≡ length (filter (λ (k : KeyParts). p k.keytype)
-        (map (λ (e : String Y × KeyParts). e.1) es))
-    as_many p [] = refl
-    as_many p (e ∷ es) = ap (λ t. length (cond (p t) (step e.1 ∷ after) after)) (kept e.1)
-        ∙ at (p e.1.keytype) (as_many p es)
-      where
-        after : List KeyParts
-        after = filter (λ (k : KeyParts). p k.keytype) (map (λ (e : String Y × KeyParts). e.1)
-            (map (λ (e : String Y × KeyParts). (e.0, step e.1)) es))
+-- a key serves in its state
+abbrev served : Want → KeyParts → Bool
+served w k = serves_as_kept w k.keytype
 
-        before : List KeyParts
-        before = filter (λ (k : KeyParts). p k.keytype)
-            (map (λ (e : String Y × KeyParts). e.1) es)
+module _ (step : KeyParts → KeyParts)
+    (alike : (w : Want) (k : KeyParts) → serves_as_kept w (step k).keytype
+    ≡ serves_as_kept w k.keytype)
+  where
+    module _ {Y : Type 0} where
+      as_many : (w : Want) (es : List (String Y × KeyParts)) →
+          length (filter (served w) (map (λ (e : String Y × KeyParts). e.1)
+          (map (λ (e : String Y × KeyParts). (e.0, step e.1)) es)))
+          ≡ length (filter (served w) (map (λ (e : String Y × KeyParts). e.1) es))
+      as_many w [] = refl
+      as_many w (e ∷ es) = ap (λ b. length (cond b (step e.1 ∷ after) after)) (alike w e.1)
+          ∙ at (served w e.1) (as_many w es)
+        where
+          after : List KeyParts
+          after = filter (served w) (map (λ (e : String Y × KeyParts). e.1)
+              (map (λ (e : String Y × KeyParts). (e.0, step e.1)) es))
 
-        at : (b : Bool) → length after ≡ length before →
-            length (cond b (step e.1 ∷ after) after) ≡ length (cond b (e.1 ∷ before) before)
-        at true h = ap suc h
-        at false h = h
+          before : List KeyParts
+          before = filter (served w) (map (λ (e : String Y × KeyParts). e.1) es)
 
-  module _ {Y S : Type 0} where
-    -- a walk that keeps the kind and the flags of every key
-    pub counts-kept : (c : Counts) (m n : HashMap (String Y) KeyParts S) →
-        IsUnique string_eq m → IsUnique string_eq n
-        → n.entries ≡ map (λ (e : String Y × KeyParts). (e.0, step e.1)) m.entries
-        → CountsAgree c (keys_in_map m) → CountsAgree c (keys_in_map n)
-    counts-kept c m n one two is old w =
-        let p : KeyType → Bool = serves_as_kept w in
-        old w ∙ sym (count-shown p m one) ∙ sym (as_many p m.entries)
-        ∙ ap (λ es. length (filter (λ (k : KeyParts). p k.keytype)
-        (map (λ (e : String Y × KeyParts). e.1) es))) (sym is)
-        ∙ count-shown p n two
+          at : (b : Bool) → length after ≡ length before →
+              length (cond b (step e.1 ∷ after) after) ≡ length (cond b (e.1 ∷ before) before)
+          at true h = ap suc h
+          at false h = h
+
+    module _ {Y S : Type 0} where
+      -- a walk behind which each key serves as before
+      pub counts-kept : (c : Counts) (m n : HashMap (String Y) KeyParts S) →
+          IsUnique string_eq m → IsUnique string_eq n
+          → n.entries ≡ map (λ (e : String Y × KeyParts). (e.0, step e.1)) m.entries
+          → CountsAgree c (keys_in_map m) → CountsAgree c (keys_in_map n)
+      counts-kept c m n one two is old w =
+          old w ∙ sym (count-shown (serves_as_kept w) m one) ∙ sym (as_many w m.entries)
+          ∙ ap (λ es. length (filter (served w) (map (λ (e : String Y × KeyParts). e.1) es)))
+          (sym is) ∙ count-shown (serves_as_kept w) n two
 
 folded : (w : Want) (ks : List KeyParts) (c : Counts) → count_of c w ≤ 18446744073709551615 →
     count_of (fold (λ c k. with_key k.keytype c) c ks) w ≡ min 18446744073709551615

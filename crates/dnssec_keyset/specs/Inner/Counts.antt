@@ -3,7 +3,11 @@ use Rattle.std.specs.Prelude.{◌≡◌, ℕ, ◌+◌, ◌-◌, min, Bool, true,
 use Rattle.std.specs.Prelude.{Some, List, [], ◌∷◌}
 use Rattle.std.specs.FinMap.{entries}
 use Rattle.dnssec_key.specs.declared.kind.KeyType.{KeyType}
+use Rattle.dnssec_key.specs.declared.roll.RollType.{RollType}
+use Rattle.dnssec_key.specs.declared.roll.RollType.TheVariants.{KskRoll, KskDoubleDsRoll}
+use Rattle.dnssec_key.specs.declared.roll.RollType.TheVariants.{CskRoll, AlgorithmRoll}
 use Rattle.dnssec_key.specs.Key.{KeyParts}
+use Rattle.dnssec_key.specs.RollTable.{Half, First}
 use Rattle.dnssec_key.specs.Setters.{Setting, Present, AtParent, Stale}
 use Rattle.dnssec_keyset.specs.KeySet.{Keys}
 use Rattle.dnssec_keyset.specs.declared.counts.Counts.{Counts}
@@ -85,6 +89,16 @@ moves_counts (Present value now) = true
 moves_counts (AtParent value) = true
 moves_counts Stale = true
 moves_counts _ = false
+
+-- a wait may move them: by it a DS follows its key, or keys come in for others; and an algorithm
+-- roll takes the ZSK role of a CSK from the DNSKEY set by its KSK role. The other waits change no
+-- flag that a count asks for of a key that stays
+abbrev pub wait_moves_counts : RollType → Half → Bool
+wait_moves_counts KskRoll First = true
+wait_moves_counts KskDoubleDsRoll First = true
+wait_moves_counts CskRoll First = true
+wait_moves_counts AlgorithmRoll half = true
+wait_moves_counts _ _ = false
 
 -- each count is that of the keys
 abbrev pub CountsAgree : Counts → Keys → Type 0

@@ -1,10 +1,11 @@
--- The walk moves each key as an accepted wait does; all is counted again.
+-- The walk moves each key as an accepted wait does; all is counted again where that moves counts.
 use Rattle.std.proofs.Common.{refl, rules}
 use Rattle.std.specs.Prelude.{nat_eq}
 use Rattle.std.specs.HashSet.{contains}
 use Rattle.std.proofs.lemmas.Map.Made.{map_same_pairs}
 use Rattle.dnssec_key.specs.RollTable.{which, after_wait}
 use Rattle.dnssec_keyset.specs.KeySet.{keys_in_map}
+use Rattle.dnssec_keyset.proofs.Counted.Waits.{counts-waited}
 use Rattle.dnssec_keyset.proofs.Shown.{get-walked}
 use Rattle.dnssec_keyset.proofs.Tags.{TagsAgree-mapped}
 use Rattle.dnssec_keyset.proofs.keys.Keys.go_on_all.Goals as goal
@@ -23,5 +24,7 @@ invariant_of-self c =
     let e = map_same_pairs _ step _ (λ k v b w f t. search rules) _ _ c.retain.ensures.filtered in (
       TagsAgree-mapped (contains nat_eq i.tags) (keys_in_map i.map) (keys_in_map n) (λ q. step)
           (λ q k. refl) (get-walked step i.map n _ refl e) c.self.invariant.0,
-      c.recount-self-inside.ensures,
+      counts-waited c.args.roll (which c.args.half) c.args.now i.counts c.counts_after_wait-self-inside.result
+          i.map n c.retain.ensures.was_unique c.retain.ensures.unique e c.self.invariant.1
+          c.counts_after_wait-self-inside.ensures.moved c.counts_after_wait-self-inside.ensures.kept,
     )

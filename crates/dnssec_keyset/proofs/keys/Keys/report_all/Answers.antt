@@ -24,6 +24,6 @@ invariant_of-self c =
     let e = map_same_pairs _ step _ (λ k v b w f t. search rules) _ _ c.retain.ensures.filtered in (
       TagsAgree-mapped (contains nat_eq i.tags) (keys_in_map i.map) (keys_in_map n) (λ q. step)
           (λ q k. refl) (get-walked step i.map n _ refl e) c.self.invariant.0,
-      counts-kept step (λ k. refl) i.counts i.map n c.is_sound.ensures.unique
-          c.is_sound-2.ensures.unique e c.self.invariant.1,
+      counts-kept step (λ w k. refl) i.counts i.map n c.retain.ensures.was_unique
+          c.retain.ensures.unique e c.self.invariant.1,
     )
