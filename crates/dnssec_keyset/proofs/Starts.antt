@@ -63,7 +63,8 @@ module _ (set : KeySetParts) (roll : RollType) (olds news : List (List ℕ))
     (c : new_fault roll (get set.keys) olds [] news ≡ None)
   where
     -- all but the keys to go on with is in order
-    pub told-last : (r : Result (Unit {0}) Error) → algorithm_fault roll (get set.keys) olds news ≡ None
+    pub told-last : (r : Result (Unit {0}) Error)
+        → algorithm_fault roll (get set.keys) olds news ≡ None
         → AnswersExactly (suitability_fault roll set.keys olds news) r
         → AnswersExactly (start_refusal roll set olds news) r
     told-last r d h = rw (a, b, c, d) (at (suitability_fault roll set.keys olds news) h)
