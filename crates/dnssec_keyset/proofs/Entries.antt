@@ -46,7 +46,7 @@ module _ (roll : RollType) (keys : Keys) (olds : List (List ℕ)) (news : List (
   pub fault-found : (fault : Error) → {found : Option Error} → Some fault ≡ found
       → found ≡ new_entry_fault roll (get keys (get_or news i d).now)
       (has_its_tag tags (get keys (get_or news i d).now))
-      → AnswersExactly {T = Unit {0}} all (Err fault)
+      → AnswersExactly {T = List ℕ} all (Err fault)
   unfolding here behind
   fault-found fault is there =
       let e : all ≡ Some fault = apart ∙ ap (λ o. option_or o behind) (sym (is ∙ there)) in

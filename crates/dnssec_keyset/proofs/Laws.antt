@@ -1,7 +1,7 @@
 -- Laws of every step, and so of every run: no two keys get one tag, and rolls in progress go
 -- together.
 use Rattle.std.proofs.Common.{◌≡◌, ℕ, Bool, true, false, not, List, Some, None, refl, inl, inr, sym}
-use Rattle.std.proofs.Common.{ap, subst, ◌∙◌, arith, zero, suc}
+use Rattle.std.proofs.Common.{ap, subst, ◌∙◌, arith}
 use Rattle.std.specs.Prelude.{Option, ◌⊎◌, ◌&&◌, ◌||◌, nat_eq, is_some, if◌then◌else◌}
 use Rattle.std.specs.List.{list_any}
 use Rattle.std.specs.Option.{option_map, option_or, unwrap_or}
@@ -9,7 +9,7 @@ use Rattle.std.specs.Str.{bytes_eq}
 use Rattle.std.specs.Cmp.Lexicographic.{bytes_decides, slice_cmp}
 use Rattle.std.specs.FinMap.{get, get-empty}
 use Rattle.std.specs.Ordering.{nat_cmp}
-use Rattle.std.proofs.lemmas.Bool.{cases_Bool, eqb-true, true≢false}
+use Rattle.std.proofs.lemmas.Bool.{cases_Bool, true≢false}
 use Rattle.std.proofs.lemmas.Bool.Decides.{nat_tests}
 use Rattle.dnssec_keyset.specs.Start.{Side}
 use Rattle.dnssec_keyset.specs.Start.{KskSide, ZskSide, BothSides}
@@ -25,7 +25,7 @@ use Rattle.dnssec_key.specs.declared.error.Error.TheVariants.{WrongStateForRollO
 use Rattle.dnssec_key.specs.declared.error.Error.TheVariants.{ConflictingRollInProgress}
 use Rattle.dnssec_key.specs.Key.{KeyParts}
 use Rattle.dnssec_keyset.specs.KeySet.{Keys, KeySetParts, Lists, Rolls, PutsKey, new_set, phase_of}
-use Rattle.dnssec_keyset.specs.KeySet.{with_phase, roll_number, same_roll, without}
+use Rattle.dnssec_keyset.specs.KeySet.{with_phase, same_roll, without}
 use Rattle.dnssec_key.specs.RollTable.{Half, First, Second, after_start, after_early_end}
 use Rattle.dnssec_key.specs.Setters.{Setting, Decoupled, Present, Signer, AtParent, Stale}
 use Rattle.dnssec_key.specs.Setters.{VisibleAt, DsVisibleAt, RrsigVisibleAt, set_by}
@@ -37,7 +37,7 @@ use Rattle.dnssec_keyset.specs.Step.{RollDone, AbortRoll, Reply, Clearance, Barr
 use Rattle.dnssec_keyset.specs.Step.{Changes, Step, StepBy, add_refusal, barred_by, has_tag}
 use Rattle.dnssec_keyset.specs.Step.{report_refusal, clearance, wait_in_phase}
 use Rattle.dnssec_keyset.specs.Laws.{TagsApart, RollsTogether, in_progress}
-use Rattle.dnssec_keyset.proofs.Phases.{phase_of-with_phase, no_phases, same-is}
+use Rattle.dnssec_keyset.proofs.Phases.{phase_of-with_phase, no_phases, same_roll-is}
 use Rattle.dnssec_keyset.proofs.Quantified.{some_key-none}
 use Rattle.dnssec_keyset.proofs.Tags.{mapped}
 
@@ -177,6 +177,9 @@ apart-new name = λ q r k l e d same. let f : None ≡ Some k = sym (get-empty (
     ∙ e in cc
 
 -- ---- rolls
+
+pub same-is : (a b : RollType) → same_roll a b ≡ true → a ≡ b
+same-is = same_roll-is
 
 pub apart-sym : (a b : Side) → are_apart a b ≡ are_apart b a
 apart-sym KskSide KskSide = refl

@@ -8,8 +8,9 @@
 -- | `set` of bits                    | `written`                      | Words                 |
 -- | `check_many_new`                 | `fault-found`, `fault-behind`  | Entries, Marks, Lists |
 -- | `mark_old`, `mark_new` and back  | `mark_more`                    | Marks, Lists          |
--- | `are_of_same_algorithms`         | `same_algorithms`              | Algorithms            |
+-- | `check_start`                    | `same_algorithms`, `told-last` | Algorithms, Starts    |
 -- | `check_suitability`              | ruleset `starts`               | Starts                |
+-- | `go_on_all`, `delete`            | `counts-waited` and the like   | Counted, Tests        |
 -- | `search_and_drop`                | `filtered`                     | Retained              |
 -- | the phases of rolls              | ruleset `phases`               | Phases                |
 -- | `check_wait`, `over_from`        | `told-over`, `walk-over`       | Waits, Longest, Steps |

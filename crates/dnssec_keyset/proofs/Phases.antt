@@ -102,8 +102,8 @@ rolled-number ZskDoubleSignatureRoll = refl
 rolled-number CskRoll = refl
 rolled-number AlgorithmRoll = refl
 
-pub same-is : (a b : RollType) → same_roll a b ≡ true → a ≡ b
-same-is a b e = sym (rolled-number a) ∙ ap rolled (eqb-true _ _ e) ∙ rolled-number b
+pub same_roll-is : (a b : RollType) → same_roll a b ≡ true → a ≡ b
+same_roll-is a b e = sym (rolled-number a) ∙ ap rolled (eqb-true _ _ e) ∙ rolled-number b
 
 -- a roll that is put into the phase that it is in
 pub same-phase : (r : Rolls) (roll : RollType) (phase : Option RollState)
@@ -113,7 +113,7 @@ same-phase r roll phase is =
   where
     at : (q : RollType) (b : Bool) → same_roll roll q ≡ b →
         (if b then phase else phase_of r q) ≡ phase_of r q
-    at q true e = sym is ∙ ap (phase_of r) (same-is roll q e)
+    at q true e = sym is ∙ ap (phase_of r) (same_roll-is roll q e)
     at q false e = refl
 
 -- the same of what is kept of starts

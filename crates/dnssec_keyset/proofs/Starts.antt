@@ -1,15 +1,21 @@
 -- What the check of a start cites.
-use Rattle.std.proofs.Common.{◌≡◌, ℕ, Bool, List, [], ◌∷◌, map, Some, None, Err, refl, ap, Bor}
-use Rattle.std.specs.Prelude.{Option, ◌&&◌, ◌||◌, false}
+use Rattle.std.proofs.Common.{◌≡◌, ℕ, Bool, List, [], ◌∷◌, map, Some, None, Ok, Err, refl, ap, Bor}
+use Rattle.std.proofs.Common.{sym, ◌∙◌}
+use Rattle.std.specs.Prelude.{Option, Result, ◌&&◌, ◌||◌, false, if◌then◌else◌}
+use Rattle.std.specs.FinMap.{get}
 use Rattle.std.specs.List.{list_any, list_all}
-use Rattle.std.specs.Option.{option_map_or}
+use Rattle.std.specs.Option.{option_map_or, option_or}
 use Rattle.dnssec_key.specs.declared.error.Error.{Error}
+use Rattle.dnssec_key.specs.declared.error.Error.TheVariants.{AlgorithmSetsMismatch}
+use Rattle.dnssec_key.specs.declared.roll.RollType.{RollType}
 use Rattle.dnssec_key.specs.declared.kind.KeyType.{KeyType}
 use Rattle.dnssec_key.specs.Key.{KeyParts}
 use Rattle.dnssec_keyset.specs.declared.side.Want.{Want as WantOfCode}
 use Rattle.dnssec_keyset.specs.Inner.Code.{as_want}
-use Rattle.dnssec_keyset.specs.KeySet.{Keys}
-use Rattle.dnssec_keyset.specs.Start.{texts, is_met, some_listed}
+use Rattle.dnssec_keyset.specs.KeySet.{Keys, KeySetParts}
+use Rattle.dnssec_keyset.specs.Start.{texts, is_met, some_listed, conflict, old_fault, new_fault}
+use Rattle.dnssec_keyset.specs.Start.{algorithm_fault, algorithms_within, may_change_algorithms}
+use Rattle.dnssec_keyset.specs.Start.{suitability_fault, start_refusal}
 use Rattle.dnssec_keyset.specs.Step.{AnswersExactly}
 
 listed_by_texts : (f : List ℕ → Bool) (rs : List (Bor (List ℕ))) →
@@ -36,5 +42,40 @@ pub refused : (T : Type 0) (o : Option Error) (e : Error) → AnswersExactly {T 
     o ≡ Some e
 refused T None e h = cc
 refused T (Some x) e h = cc
+
+-- an accepted answer has no cause
+pub passed : {T : Type 0} (o : Option Error) (x : T) → AnswersExactly o (Ok x) → o ≡ None
+passed None x h = refl
+passed (Some e) x h = cc
+
+-- the algorithms, by the sets of both lists
+pub algorithms-told : (roll : RollType) (at : List ℕ → Option KeyParts)
+    (olds news : List (List ℕ)) (may b : Bool)
+    → b ≡ (algorithms_within at olds news && algorithms_within at news olds)
+    → (may_change_algorithms roll || b) ≡ may → algorithm_fault roll at olds news
+    ≡ (if may then None else Some AlgorithmSetsMismatch)
+algorithms-told roll at olds news may b same is =
+    ap (λ b. if b then None else Some AlgorithmSetsMismatch)
+    (ap (λ b. may_change_algorithms roll || b) (sym same) ∙ is)
+
+module _ (set : KeySetParts) (roll : RollType) (olds news : List (List ℕ))
+    (a : conflict roll set.rolls ≡ None) (b : old_fault roll (get set.keys) olds ≡ None)
+    (c : new_fault roll (get set.keys) olds [] news ≡ None)
+  where
+    -- all but the keys to go on with is in order
+    pub told-last : (r : Result (Unit {0}) Error)
+        → algorithm_fault roll (get set.keys) olds news ≡ None
+        → AnswersExactly (suitability_fault roll set.keys olds news) r
+        → AnswersExactly (start_refusal roll set olds news) r
+    told-last r d h = rw (a, b, c, d) (at (suitability_fault roll set.keys olds news) h)
+      where
+        at : (o : Option Error) → AnswersExactly o r → AnswersExactly (option_or o None) r
+        at None h = h
+        at (Some e) h = h
+
+    -- the algorithms differ
+    pub told-algorithms : (e : Error) → algorithm_fault roll (get set.keys) olds news ≡ Some e
+        → AnswersExactly {T = Unit {0}} (start_refusal roll set olds news) (Err e)
+    told-algorithms e d = rw (a, b, c, d) refl
 
 pub ruleset starts = (refused, some_listed-walked, all_met-walked)

@@ -1,6 +1,6 @@
 //! What a start is refused for. Nothing is changed here.
 ghost use Rattle.std.specs.Prelude.{◌≡◌, ℕ, Bool, List, [], false, true, not, ◌&&◌, ◌||◌, length};
-ghost use Rattle.std.specs.Prelude.{Some};
+ghost use Rattle.std.specs.Prelude.{None, Some, IfOk, IfErr};
 ghost use Rattle.std.specs.List.{list_any, list_all};
 ghost use Rattle.std.specs.Option.{option_map_or};
 ghost use Rattle.std.specs.Str.{bytes_eq};
@@ -11,7 +11,7 @@ ghost use Rattle.dnssec_keyset.specs.Inner.Counts.{count_in, listed};
 ghost use Rattle.dnssec_keyset.specs.Inner.Tags.{HasListed, has_its_tag};
 ghost use Rattle.dnssec_keyset.specs.Start.{texts, is_listed, old_entry_fault, old_fault};
 ghost use Rattle.dnssec_keyset.specs.Start.{new_entry_fault, new_fault, has_algorithm};
-ghost use Rattle.dnssec_keyset.specs.Start.{algorithms_within, algorithm_fault};
+ghost use Rattle.dnssec_keyset.specs.Start.{may_change_algorithms};
 ghost use Rattle.dnssec_keyset.specs.Start.{serves_as_new, serves_as_kept};
 ghost use Rattle.dnssec_keyset.specs.Start.{some_listed, some_kept, is_met, suitability_fault};
 ghost use Rattle.dnssec_keyset.specs.Start.{start_refusal};
@@ -54,15 +54,27 @@ fn new_key_fault(roll: RollType, key: &Key, is_taken: bool) -> Option<Error>
     }
 }
 
+/// Whether a roll may go from keys of some algorithms to keys of others.
+fn may_go_over(roll: RollType, old: &AlgorithmSet, new: &AlgorithmSet) -> bool
+    ensures { result ≡ (may_change_algorithms roll || bytes_eq old.now new.now) }
+{
+    may_change_algorithms(roll) || *old == *new
+}
+
 /// What a start is refused for, of the keys.
 impl Keys {
-    fn old_entry_fault(&self, roll: RollType, reference: &str) -> Option<Error>
-        ensures { result ≡ old_entry_fault roll (map.get self.now reference.now) }
+    /// The key of an old entry, or what is wrong with the entry.
+    fn old_key(&self, roll: RollType, reference: &str) -> Result<&Key, Error>
+        ensures key { IfOk result (λ key. map.get self.now reference.now ≡ Some key.now) }
+        ensures sound { IfOk result (λ key.
+            old_entry_fault roll (map.get self.now reference.now) ≡ None) }
+        ensures fault { IfErr result (λ fault.
+            old_entry_fault roll (map.get self.now reference.now) ≡ Some fault) }
     {
         match self.get(reference) {
-            None => Some(Error::KeyNotFound),
-            Some(key) if side_of(roll).lists(key.keytype()) => None,
-            Some(_) => Some(Error::WrongKeyType),
+            None => Err(Error::KeyNotFound),
+            Some(key) if side_of(roll).lists(key.keytype()) => Ok(key),
+            Some(_) => Err(Error::WrongKeyType),
         }
     }
 
@@ -77,13 +89,20 @@ impl Keys {
         }
     }
 
-    /// What is wrong with a new entry, which stands in a list before or doesn't.
-    fn fault_of_new(&self, roll: RollType, reference: &str, is_taken: bool) -> Option<Error>
-        ensures { result ≡ new_entry_fault roll (map.get self.now reference.now) is_taken }
+    /// The key of a new entry, which stands in a list before or doesn't, or what is wrong with it.
+    fn new_key(&self, roll: RollType, reference: &str, is_taken: bool) -> Result<&Key, Error>
+        ensures key { IfOk result (λ key. map.get self.now reference.now ≡ Some key.now) }
+        ensures sound { IfOk result (λ key.
+            new_entry_fault roll (map.get self.now reference.now) is_taken ≡ None) }
+        ensures fault { IfErr result (λ fault.
+            new_entry_fault roll (map.get self.now reference.now) is_taken ≡ Some fault) }
     {
-        match self.get(reference) {
-            None => Some(Error::KeyNotFound),
-            Some(key) => new_key_fault(roll, key, is_taken),
+        let Some(key) = self.get(reference) else {
+            return Err(Error::KeyNotFound);
+        };
+        match new_key_fault(roll, key, is_taken) {
+            None => Ok(key),
+            Some(fault) => Err(fault),
         }
     }
 
@@ -99,24 +118,30 @@ impl Keys {
         }
     }
 
-    /// Refuses the first old entry that has a fault.
-    fn check_old(&self, roll: RollType, old: &[&str]) -> Result<(), Error>
-        ensures { AnswersExactly (old_fault roll (map.get self.now) (texts old.now)) result }
+    /// Refuses the first old entry that has a fault, or answers the algorithms of the old keys.
+    fn check_old(&self, roll: RollType, old: &[&str]) -> Result<AlgorithmSet, Error>
+        ensures fault { AnswersExactly
+            (old_fault roll (map.get self.now) (texts old.now)) result }
+        ensures algorithms { IfOk result (λ algorithms. (a : ℕ) →
+            is_set algorithms a ≡ has_algorithm (map.get self.now) (texts old.now) a) }
     {
+        let mut algorithms = [0; 4];
         for reference in old {
-            if let Some(fault) = self.old_entry_fault(roll, reference) {
-                return Err(fault);
-            }
+            let key = self.old_key(roll, reference)?;
+            set(&mut algorithms, u16::from(key.algorithm().to_int()));
         }
-        Ok(())
+        Ok(algorithms)
     }
 
-    /// Refuses the first new entry that has a fault. What is listed before an entry is looked
-    /// through where the lists are short, and asked of a set of tags where they are long: to clear
-    /// the set costs more than to look through a few entries.
-    fn check_new(&self, roll: RollType, old: &[&str], new: &[&str]) -> Result<(), Error>
-        ensures { AnswersExactly
+    /// Refuses the first new entry that has a fault, or answers the algorithms of the new keys.
+    /// What is listed before an entry is looked through where the lists are short, and asked of a
+    /// set of tags where they are long: to clear the set costs more than to look through a few
+    /// entries.
+    fn check_new(&self, roll: RollType, old: &[&str], new: &[&str]) -> Result<AlgorithmSet, Error>
+        ensures fault { AnswersExactly
             (new_fault roll (map.get self.now) (texts old.now) [] (texts new.now)) result }
+        ensures algorithms { IfOk result (λ algorithms. (a : ℕ) →
+            is_set algorithms a ≡ has_algorithm (map.get self.now) (texts new.now) a) }
     {
         if old.len() <= FEW && new.len() <= FEW {
             self.check_few_new(roll, old, new)
@@ -126,25 +151,39 @@ impl Keys {
     }
 
     #[tactic(auto, using(crate::proofs::Lists::lists))]
-    fn check_few_new(&self, roll: RollType, old: &[&str], new: &[&str]) -> Result<(), Error>
-        ensures { AnswersExactly
+    fn check_few_new(
+        &self,
+        roll: RollType,
+        old: &[&str],
+        new: &[&str],
+    ) -> Result<AlgorithmSet, Error>
+        ensures fault { AnswersExactly
             (new_fault roll (map.get self.now) (texts old.now) [] (texts new.now)) result }
+        ensures algorithms { IfOk result (λ algorithms. (a : ℕ) →
+            is_set algorithms a ≡ has_algorithm (map.get self.now) (texts new.now) a) }
     {
+        let mut algorithms = [0; 4];
         for (i, reference) in new.iter().enumerate() {
             let is_taken = is_taken(old, &new[..i], reference);
-            if let Some(fault) = self.fault_of_new(roll, reference, is_taken) {
-                return Err(fault);
-            }
+            let key = self.new_key(roll, reference, is_taken)?;
+            set(&mut algorithms, u16::from(key.algorithm().to_int()));
         }
-        Ok(())
+        Ok(algorithms)
     }
 
     // Out of line, so that a start with short lists doesn't pay for the place of the set.
     #[inline(never)]
     #[tactic(auto, using(crate::proofs::Lists::lists))]
-    fn check_many_new(&self, roll: RollType, old: &[&str], new: &[&str]) -> Result<(), Error>
-        ensures { AnswersExactly
+    fn check_many_new(
+        &self,
+        roll: RollType,
+        old: &[&str],
+        new: &[&str],
+    ) -> Result<AlgorithmSet, Error>
+        ensures fault { AnswersExactly
             (new_fault roll (map.get self.now) (texts old.now) [] (texts new.now)) result }
+        ensures algorithms { IfOk result (λ algorithms. (a : ℕ) →
+            is_set algorithms a ≡ has_algorithm (map.get self.now) (texts new.now) a) }
     {
         let mut taken = [0; 1024];
         for entry in old {
@@ -156,7 +195,7 @@ impl Keys {
             }
             self.add_tag(&mut taken, reference);
         }
-        Ok(())
+        Ok(self.algorithms_of(new))
     }
 
     /// The algorithms of the keys that a list names.
@@ -171,26 +210,6 @@ impl Keys {
             }
         }
         algorithms
-    }
-
-    fn are_of_same_algorithms(&self, old: &[&str], new: &[&str]) -> bool
-        ensures { result ≡
-            (algorithms_within (map.get self.now) (texts old.now) (texts new.now)
-            && algorithms_within (map.get self.now) (texts new.now) (texts old.now)) }
-    {
-        self.algorithms_of(old) == self.algorithms_of(new)
-    }
-
-    /// Refuses lists of different algorithms, unless the roll goes from some to others.
-    fn check_algorithms(&self, roll: RollType, old: &[&str], new: &[&str]) -> Result<(), Error>
-        ensures { AnswersExactly
-            (algorithm_fault roll (map.get self.now) (texts old.now) (texts new.now)) result }
-    {
-        if may_change_algorithms(roll) || self.are_of_same_algorithms(old, new) {
-            Ok(())
-        } else {
-            Err(Error::AlgorithmSetsMismatch)
-        }
     }
 
     /// Refuses a start that leaves no key to go on with.
@@ -332,9 +351,11 @@ impl KeySet {
             (start_refusal rolltype self.now (texts old.now) (texts new.now)) result }
     {
         self.rolls.check_conflict(rolltype)?;
-        self.keys.check_old(rolltype, old)?;
-        self.keys.check_new(rolltype, old, new)?;
-        self.keys.check_algorithms(rolltype, old, new)?;
+        let of_old = self.keys.check_old(rolltype, old)?;
+        let of_new = self.keys.check_new(rolltype, old, new)?;
+        if !may_go_over(rolltype, &of_old, &of_new) {
+            return Err(Error::AlgorithmSetsMismatch);
+        }
         self.keys.check_suitability(rolltype, old, new)
     }
 }

@@ -17,8 +17,7 @@ use Rattle.dnssec_keyset.specs.Step.{Call, AddKey, Set, DeleteKey, StartRoll, Re
 use Rattle.dnssec_keyset.specs.Step.{RollDone, AbortRoll, Clear, Changes, clearance}
 use Rattle.dnssec_keyset.specs.Step.{listed_at_start}
 use Rattle.dnssec_keyset.specs.Laws.{roll_of}
-use Rattle.dnssec_keyset.proofs.Laws.{no_cause}
-use Rattle.dnssec_keyset.proofs.Phases.{same-is}
+use Rattle.dnssec_keyset.proofs.Laws.{no_cause, same-is}
 use Rattle.dnssec_keyset.proofs.Phases.{same_lists, listed_by-with_listed}
 use Rattle.dnssec_keyset.proofs.Sides.{after_start-others, after_report-others, after_wait-others}
 use Rattle.dnssec_keyset.proofs.Sides.{after_early_end-others, starts-clear}

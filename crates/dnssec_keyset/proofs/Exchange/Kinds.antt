@@ -10,7 +10,7 @@ use Rattle.dnssec_key.specs.declared.roll.RollType.{RollType}
 use Rattle.dnssec_key.specs.State.{Flags}
 use Rattle.dnssec_keyset.specs.KeySet.{same_roll}
 use Rattle.dnssec_key.specs.RollTable.{Half, First, Second, column, half_of, at_roles}
-use Rattle.dnssec_keyset.proofs.Phases.{same-is}
+use Rattle.dnssec_keyset.proofs.Laws.{same-is}
 use Rattle.std.proofs.lemmas.Bool.{cases_Bool, and_parts, eqb-true}
 use Rattle.dnssec_keyset.proofs.Tests.{each_in_roll, each_in_roll-at}
 

@@ -22,8 +22,7 @@ use Rattle.dnssec_keyset.specs.Step.{Clear, Changes, Step, StepBy, accepted_repl
 use Rattle.dnssec_keyset.specs.Step.{has_kept_key, clearance}
 use Rattle.dnssec_keyset.specs.Laws.{AreApart, MayBeExchanged, roll_of}
 use Rattle.dnssec_keyset.proofs.After.{after-changes}
-use Rattle.dnssec_keyset.proofs.Laws.{no_cause, no_first, no_rest}
-use Rattle.dnssec_keyset.proofs.Phases.{same-is}
+use Rattle.dnssec_keyset.proofs.Laws.{no_cause, no_first, no_rest, same-is}
 use Rattle.dnssec_keyset.proofs.Phases.{phase_of-with_phase, same_rolls, same_lists}
 use Rattle.dnssec_keyset.proofs.Phases.{listed_by-with_listed}
 use Rattle.dnssec_keyset.proofs.Sides.{starts-clear, old-kind}

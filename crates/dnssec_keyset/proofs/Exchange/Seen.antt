@@ -17,7 +17,7 @@ use Rattle.dnssec_keyset.specs.KeySet.{KeySetParts, Rolls, listed_by, phase_of, 
 use Rattle.dnssec_keyset.specs.KeySet.{same_roll}
 use Rattle.dnssec_keyset.specs.Step.{Call, Clear, Changes, clearance}
 use Rattle.dnssec_keyset.specs.Laws.{roll_of}
-use Rattle.dnssec_keyset.proofs.Phases.{same-is}
+use Rattle.dnssec_keyset.proofs.Laws.{same-is}
 use Rattle.dnssec_keyset.proofs.Phases.{phase_of-with_phase, listed_by-with_listed}
 use Rattle.dnssec_keyset.proofs.Exchange.Kinds.{apart-kinds, apart-rolls}
 use Rattle.dnssec_keyset.proofs.Exchange.Calls.{algorithm-after, key_after, kind-after}

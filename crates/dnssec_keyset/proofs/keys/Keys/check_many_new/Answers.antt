@@ -34,8 +34,8 @@ loop-reference-init c =
           c.loop-entry.invariant.1,
     )
 
-pub returns-in-Some : goal.returns-in-Some
-returns-in-Some c =
+pub returns-in-Some-clause-fault : goal.returns-in-Some-clause-fault
+returns-in-Some-clause-fault c =
     let l = c.loop-reference in
     fault-found c.args.roll c.args.self.now (texts c.args.old.now) c.args.new.now l.taken
     l.reference-index _ c.loop-reference-test.true l.invariant.2 _ l.invariant.0
