@@ -30,7 +30,7 @@ ghost use Rattle.dnssec_keyset.specs.Inner.Over.{over_at};
 ghost use Rattle.dnssec_keyset.specs.WaitEnd.{IsOverFrom, LacksStamp};
 
 use crate::counts::{Counts, wait_moves_counts};
-use crate::listed::{Listed, copy_list, list_for, push_copy};
+use crate::listed::{Listed, copy_list, push_copy};
 use crate::side::Want;
 use dnssec_key::{Error, Half, Key, RollType, Setting, UnixTime};
 use std::alloc::Global;
@@ -289,7 +289,7 @@ impl Keys {
             ≡ filter (is_kept_at self.now) (texts references.now)) }
         ensures err { IfErr result (λ e. e ≡ OutOfMemory) }
     {
-        let mut list = list_for(alloc, references.len())?;
+        let mut list = Vec::new(alloc);
         for reference in references {
             if self.is_kept(reference) {
                 push_copy(alloc, &mut list, reference)?;

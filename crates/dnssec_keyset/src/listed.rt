@@ -193,17 +193,6 @@ impl Lists {
     }
 }
 
-/// An empty list with room for so many references.
-pub(crate) fn list_for(alloc: Global, number: usize) -> Result<Vec<String>, Error>
-    ensures ok { IfOk result (λ list. list.items ≡ []) }
-    ensures err { IfErr result (λ e. e ≡ OutOfMemory) }
-{
-    match Vec::with_capacity(alloc, number) {
-        Ok(list) => Ok(list),
-        Err(_) => Err(Error::OutOfMemory),
-    }
-}
-
 /// Puts a copy of a reference at the end of a list.
 pub(crate) fn push_copy(alloc: Global, list: &mut Vec<String>, reference: &str) -> Result<(), Error>
     ensures ok { OnOk result (map string_bytes list.new.items
@@ -224,7 +213,7 @@ pub(crate) fn copy_list(alloc: Global, references: &[&str]) -> Result<Vec<String
     ensures ok { IfOk result (λ list. map string_bytes list.items ≡ texts references.now) }
     ensures err { IfErr result (λ e. e ≡ OutOfMemory) }
 {
-    let mut list = list_for(alloc, references.len())?;
+    let mut list = Vec::new(alloc);
     for reference in references {
         push_copy(alloc, &mut list, reference)?;
     }

@@ -6,7 +6,7 @@ use Rattle.dnssec_keyset.proofs.Lists.{copied-more}
 use Rattle.dnssec_keyset.proofs.listed.copy_list.Goals as goal
 
 pub loop-reference-init : goal.loop-reference-init
-loop-reference-init c = ap (map string_bytes) c.in_ok-list.ensures.ok
+loop-reference-init c = ap (map string_bytes) c.new-list.ensures.items
 
 pub loop-reference-preserved : goal.loop-reference-preserved
 loop-reference-preserved c =

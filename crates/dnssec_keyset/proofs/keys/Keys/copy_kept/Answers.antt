@@ -10,7 +10,7 @@ use Rattle.dnssec_keyset.proofs.keys.Keys.copy_kept.Goals.{then-is_kept+in_ok-pu
 use Rattle.dnssec_keyset.proofs.keys.Keys.copy_kept.Goals.{else-is_kept}
 
 pub loop-reference-init : goal.loop-reference-init
-loop-reference-init c = ap (map string_bytes) c.in_ok-list.ensures.ok
+loop-reference-init c = ap (map string_bytes) c.new-list.ensures.items
 
 pub loop-reference-preserved : goal.loop-reference-preserved
 loop-reference-preserved c = elim c.if-is_kept.branch [
