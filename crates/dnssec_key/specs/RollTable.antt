@@ -419,9 +419,9 @@ after_wait roll half = key_by (half_of roll half).moves (half_of roll half).writ
 -- ---- phases, and what is asked in them
 
 -- old data with this TTL leaves the caches
-abbrev pub expiring : Half → ℕ → RollState
-expiring First ttl = CacheExpire1 ttl
-expiring Second ttl = CacheExpire2 ttl
+abbrev pub cache_expire : Half → ℕ → RollState
+cache_expire First ttl = CacheExpire1 ttl
+cache_expire Second ttl = CacheExpire2 ttl
 
 -- the phase behind the wait
 abbrev pub behind : Half → RollState

@@ -1,6 +1,6 @@
 //! Rolls: their kinds, their phases, their halves, and what they ask of the operator.
 ghost use Rattle.std.specs.Prelude.{◌≡◌};
-ghost use Rattle.dnssec_key.specs.RollTable.{which, behind, expiring};
+ghost use Rattle.dnssec_key.specs.RollTable.{which, behind, cache_expire};
 ghost use Rattle.dnssec_key.specs.Texts.{NamesRoll};
 
 use crate::error::Error;
@@ -103,8 +103,8 @@ pub enum Action {
 
 impl Half {
     /// The phase in which old data leaves the caches, which hold it for at most `ttl` seconds.
-    pub fn expiring(self, ttl: u32) -> RollState
-        ensures { result ≡ expiring (which self) ttl }
+    pub fn cache_expire(self, ttl: u32) -> RollState
+        ensures { result ≡ cache_expire (which self) ttl }
     {
         match self {
             Half::First => RollState::CacheExpire1(ttl),

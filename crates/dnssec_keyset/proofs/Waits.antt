@@ -13,7 +13,7 @@ use Rattle.std.specs.String.{string_eq}
 use Rattle.std.specs.FinMap.{get}
 use Rattle.std.specs.HashMap.{IsUnique, values as hash_values}
 use Rattle.std.proofs.lemmas.Bool.Decides.{nat_tests}
-use Rattle.dnssec_key.specs.RollTable.{Half, First, Second, expiring}
+use Rattle.dnssec_key.specs.RollTable.{Half, First, Second, cache_expire}
 use Rattle.dnssec_key.specs.declared.roll.RollType.{RollType}
 use Rattle.dnssec_key.specs.declared.roll.Action.{Action}
 use Rattle.dnssec_key.specs.declared.error.Error.{Error}
@@ -348,7 +348,7 @@ no-wait roll set p is lacks half now = at (ttl_in half p) (ap (ttl_in half) is) 
 
 -- the same for a half whose wait misses a stamp
 pub no-wait-half : (roll : RollType) (set : KeySetParts) (half : Half) (ttl : ℕ) →
-    phase_of set.rolls roll ≡ Some (expiring half ttl)
+    phase_of set.rolls roll ≡ Some (cache_expire half ttl)
     → LacksStamp roll half ttl set.keys → HasNoWait roll set
 no-wait-half roll set First ttl is lacks =
     no-wait roll set (Some (CacheExpire1 ttl)) is (at roll set ttl lacks)

@@ -29,7 +29,8 @@ use Rattle.dnssec_keyset.specs.KeySet.{Keys, KeySetParts, PutsKey, MovesOn, phas
 use Rattle.dnssec_keyset.specs.KeySet.{some_key, Listed, Lists, listed_by, nothing_listed}
 use Rattle.dnssec_keyset.specs.KeySet.{with_listed, without}
 use Rattle.dnssec_key.specs.RollTable.{Half, First, Second, column, after_start, after_report}
-use Rattle.dnssec_key.specs.RollTable.{after_early_end, after_wait, actions_of, expiring, behind}
+use Rattle.dnssec_key.specs.RollTable.{after_early_end, after_wait, actions_of, behind}
+use Rattle.dnssec_key.specs.RollTable.{cache_expire}
 use Rattle.dnssec_key.specs.Setters.{Setting, is_flag_setting, kind_refusal, set_by}
 use Rattle.dnssec_keyset.specs.KeySet.{ChangesKey}
 use Rattle.dnssec_keyset.specs.Start.{start_refusal, is_listed}
@@ -211,7 +212,7 @@ Changes old (StartRoll roll olds news now) new =
     (with_listed old.lists roll (listed_at_start old.keys olds news))
     (λ q. after_start roll now (is_listed olds q) (is_listed news q))
 Changes old (Report roll half ttl now) new =
-    MovesOn old new roll (Some (expiring half ttl)) (lists_after_report roll half old.lists)
+    MovesOn old new roll (Some (cache_expire half ttl)) (lists_after_report roll half old.lists)
     (λ q. after_report roll half now)
 Changes old (Wait roll half now) new =
     MovesOn old new roll (Some (behind half)) old.lists (λ q. after_wait roll half now)
@@ -269,7 +270,7 @@ after (StartRoll roll olds news now) set = record set {
 }
 after (Report roll half ttl now) set = record set {
   keys = keys_by (λ q. after_report roll half now) set.keys;
-  rolls = with_phase set.rolls roll (Some (expiring half ttl));
+  rolls = with_phase set.rolls roll (Some (cache_expire half ttl));
   lists = lists_after_report roll half set.lists;
 }
 after (Wait roll half now) set = record set {

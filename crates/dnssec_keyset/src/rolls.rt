@@ -5,7 +5,7 @@ ghost use Rattle.std.specs.List.{list_any};
 ghost use Rattle.std.specs.HashMap as hash;
 ghost use Rattle.dnssec_key.specs.declared.error.Error.TheVariants.{OutOfMemory};
 ghost use Rattle.dnssec_key.specs.declared.roll.RollType.{RollType as AnyRoll};
-ghost use Rattle.dnssec_key.specs.RollTable.{which, expiring};
+ghost use Rattle.dnssec_key.specs.RollTable.{which, cache_expire};
 ghost use Rattle.dnssec_keyset.specs.KeySet.{phase_of, with_phase, no_rolls, rolls_in_map};
 ghost use Rattle.dnssec_keyset.specs.Start.{has_conflict, conflict};
 ghost use Rattle.dnssec_keyset.specs.Step.{AnswersExactly, report_refusal, end_refusal};
@@ -119,7 +119,7 @@ impl Rolls {
         ensures reply { AnswersExactly
             (report_refusal (which half) (phase_of self.old roll)) result }
         ensures ok { OnOk result
-            (self.new ≡ with_phase self.old roll (Some (expiring (which half) ttl))) }
+            (self.new ≡ with_phase self.old roll (Some (cache_expire (which half) ttl))) }
         ensures err { OnErr result (self.new ≡ self.old) }
     {
         let Some(phase) = self.phases.get_mut(&roll) else {
@@ -128,7 +128,7 @@ impl Rolls {
         if !awaits_report(*phase, half) {
             return Err(Error::WrongStateForRollOperation);
         }
-        *phase = half.expiring(ttl);
+        *phase = half.cache_expire(ttl);
         Ok(())
     }
 

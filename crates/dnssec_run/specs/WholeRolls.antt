@@ -18,7 +18,7 @@ use Rattle.dnssec_key.specs.declared.roll.RollState.TheVariants.{Done}
 use Rattle.dnssec_key.specs.State.{Flags, is_future, is_active_ksk, is_active_zsk, is_stale}
 use Rattle.dnssec_key.specs.Key.{KeyParts, all_states}
 use Rattle.dnssec_keyset.specs.KeySet.{phase_of}
-use Rattle.dnssec_key.specs.RollTable.{Half, First, Second, expiring}
+use Rattle.dnssec_key.specs.RollTable.{Half, First, Second, cache_expire}
 use Rattle.dnssec_keyset.specs.Start.{is_listed}
 use Rattle.dnssec_keyset.specs.Laws.{in_progress}
 use Rattle.dnssec_keyset.specs.Step as keyset
@@ -126,7 +126,7 @@ abbrev pub WaitsExactly : List ℕ → List Call → List Entry → Type 0
 WaitsExactly name calls entries = SetsNothing name calls entries → NeverFalls calls →
     (n : ℕ) (roll : RollType) (half : Half) (now ttl : ℕ)
     (wait : IsMade calls entries n (keyset.Wait roll half now)) →
-    phase_of (world_at name calls entries n).set.rolls roll ≡ Some (expiring half ttl) →
+    phase_of (world_at name calls entries n).set.rolls roll ≡ Some (cache_expire half ttl) →
     (told : LastReport entries roll half n) × (told.ttl ≡ ttl) ×
     (from : LastReport entries roll (counts_from roll half) n) ×
     WaitsUntil (from.moment + told.ttl * 1_000_000_000) now (reply_of wait.entry.reply)

@@ -12,7 +12,7 @@ use Rattle.dnssec_key.specs.Key.{KeyParts}
 use Rattle.dnssec_keyset.specs.KeySet.{KeySetParts, Listed, Lists, MovesOn, listed_by}
 use Rattle.dnssec_keyset.specs.KeySet.{nothing_listed, with_listed, same_roll}
 use Rattle.dnssec_key.specs.RollTable.{First, Second, turns_old, after_start, after_report}
-use Rattle.dnssec_key.specs.RollTable.{after_wait, after_early_end, behind, expiring}
+use Rattle.dnssec_key.specs.RollTable.{after_wait, after_early_end, behind, cache_expire}
 use Rattle.dnssec_keyset.specs.Step.{Call, AddKey, Set, DeleteKey, StartRoll, Report, Wait}
 use Rattle.dnssec_keyset.specs.Step.{RollDone, AbortRoll, Clear, Changes, clearance}
 use Rattle.dnssec_keyset.specs.Step.{listed_at_start}
@@ -39,7 +39,7 @@ key_after lists _ q k = k
 
 unfoldable pub phase_after : Call → Option RollState
 phase_after (StartRoll roll olds news now) = Some Propagation1
-phase_after (Report roll half ttl now) = Some (expiring half ttl)
+phase_after (Report roll half ttl now) = Some (cache_expire half ttl)
 phase_after (Wait roll half now) = Some (behind half)
 phase_after _ = None
 
@@ -80,7 +80,7 @@ moves-by old new (StartRoll r olds news now) roll on =
 moves-by old new (Report r First ttl now) roll on =
     ap (λ x. MovesBy old (Report r First ttl now) x new) (same_Some _ _ on)
 moves-by old new (Report r Second ttl now) roll on =
-    (λ i. MovesOn old new r (Some (expiring Second ttl)) (same-put old.lists r i)
+    (λ i. MovesOn old new r (Some (cache_expire Second ttl)) (same-put old.lists r i)
     (λ q. after_report r Second now))
     ∙ ap (λ x. MovesBy old (Report r Second ttl now) x new) (same_Some _ _ on)
 moves-by old new (Wait r half now) roll on =

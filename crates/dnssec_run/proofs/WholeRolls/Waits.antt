@@ -18,7 +18,7 @@ use Rattle.dnssec_run.specs.WholeRolls.{IsMade, NeverFalls, LastReport, counts_f
 use Rattle.dnssec_run.specs.WholeRolls.{WaitsUntil, WaitsExactly}
 use Rattle.dnssec_run.proofs.Chain.Trust.{moment, plainly}
 use Rattle.dnssec_keyset.specs.KeySet.{KeySetParts, phase_of}
-use Rattle.dnssec_key.specs.RollTable.{Half, First, Second, expiring}
+use Rattle.dnssec_key.specs.RollTable.{Half, First, Second, cache_expire}
 use Rattle.dnssec_keyset.specs.Wait.{ttl_in}
 use Rattle.dnssec_keyset.specs.Laws.{RollsTogether}
 use Rattle.dnssec_keyset.specs.Step as keyset
@@ -216,7 +216,7 @@ module _ (name : List ℕ) (calls : List Call) (entries : List Entry) (run : IsR
   -- what the record tells of the wait, and what it is answered
   exactly : (n : ℕ) (r : RollType) (h : Half) (now ttl : ℕ)
       → (wait : IsMade calls entries n (keyset.Wait r h now))
-      → roll_now (set_at n) r ≡ Some (expiring h ttl)
+      → roll_now (set_at n) r ≡ Some (cache_expire h ttl)
       → (told : LastReport entries r h n) × (told.ttl ≡ ttl)
       × (from : LastReport entries r (counts_from r h) n)
       × WaitsUntil (from.moment + told.ttl * 1_000_000_000) now (reply_of wait.entry.reply)
@@ -243,7 +243,7 @@ module _ (name : List ℕ) (calls : List Call) (entries : List Entry) (run : IsR
           wait.call_is (run.each n wait.made wait.entry wait.made_is wait.entry_is).step
 
       by : (h : Half) → (wait : IsMade calls entries n (keyset.Wait r h now))
-          → roll_now (set_at n) r ≡ Some (expiring h ttl)
+          → roll_now (set_at n) r ≡ Some (cache_expire h ttl)
           → (told : LastReport entries r h n) × (told.ttl ≡ ttl)
           × (from : LastReport entries r (counts_from r h) n)
           × WaitsUntil (from.moment + told.ttl * 1_000_000_000) now (reply_of wait.entry.reply)
