@@ -3,7 +3,7 @@
 
 SCRIPT ?= examples/algorithm-roll.script
 PROGRAM = crates/keyset/out/keyset
-PARTS = dnssec_base dnssec_key dnssec_keyset dnssec_run dnssec_judge dnssec_record keyset
+PARTS = dnssec_base dnssec_key dnssec_zone dnssec_keyset dnssec_run dnssec_judge dnssec_record keyset
 SOURCES = crates.txt $(wildcard $(foreach part,$(PARTS),$(addprefix crates/$(part)/,src specs proofs)))
 
 RUNS ?= 1000000

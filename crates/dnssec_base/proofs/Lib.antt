@@ -1,4 +1,4 @@
--- Domain names and algorithms. What carries each clause:
+-- Domain names, algorithms and durations. What carries each clause:
 --
 -- | Function and clause            | Lemma                    | Files                       |
 -- |--------------------------------|--------------------------|-----------------------------|
@@ -13,6 +13,7 @@
 -- | `spells_unless_fault`          |                          | Complete, Reading, Places   |
 -- | `one_fault_stands_first`       |                          | OneFault, Faults, Places    |
 -- | `prints_its_spelling`          |                          | PrintedNames, PrintedBytes  |
+-- | `write_decimals`               | `turn`, `all_decimals`   | Decimals                    |
 pub mod AlgorithmNames
 pub mod Complete
 pub mod OneFault
@@ -27,3 +28,4 @@ pub mod Symbols
 pub mod PrintedLabels
 pub mod PrintedBytes
 pub mod WireLabels
+pub mod Decimals

@@ -2,3 +2,4 @@
 pub mod Draft
 pub mod DraftName
 pub mod Pieces
+pub mod Stamped

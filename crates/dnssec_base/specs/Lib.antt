@@ -3,3 +3,6 @@ pub mod Inner
 pub mod NameLaws
 pub mod NameText
 pub mod WireName
+pub mod Moment
+pub mod Stamps
+pub mod ErrorTexts

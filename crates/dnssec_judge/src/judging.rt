@@ -2,7 +2,7 @@
 ghost use Rattle.std.specs.Prelude.{◌≡◌, ◌++◌, ◌∷◌, suc, List, [], length, IfOk, IfErr, OnOk};
 ghost use Rattle.std.specs.Prelude.{true, false, None};
 ghost use Rattle.std.specs.Option.{option_map};
-ghost use Rattle.dnssec_key.specs.declared.error.Error.TheVariants.{OutOfMemory};
+ghost use Rattle.dnssec_base.specs.declared.error.Error.TheVariants.{OutOfMemory};
 ghost use Rattle.dnssec_run.specs.declared.record.Entry.{Entry};
 ghost use Rattle.dnssec_judge.specs.Judge.{ComesNext, Follows, Knows};
 ghost use Rattle.dnssec_judge.specs.Verdict.{IsVerdict};

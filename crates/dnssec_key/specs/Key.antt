@@ -6,7 +6,8 @@ use Rattle.dnssec_key.specs.declared.kind.KeyType.{KeyType}
 use Rattle.dnssec_key.specs.declared.kind.KeyType.TheVariants.{Ksk, Zsk, Csk, Include}
 use Rattle.dnssec_key.specs.declared.state.Available.{Available as Availability}
 use Rattle.dnssec_key.specs.declared.state.Available.TheVariants.{Available, NotAvailable}
-use Rattle.dnssec_key.specs.State.{Flags, Stamps, no_stamps}
+use Rattle.dnssec_key.specs.State.{Flags}
+use Rattle.dnssec_base.specs.Stamps.{Stamps, no_stamps}
 
 -- the parts of a key; a private reference is its bytes
 pub record KeyParts : Type 0 where

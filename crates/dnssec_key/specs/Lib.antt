@@ -1,4 +1,3 @@
-pub mod Moment
 pub mod State
 pub mod Key
 pub mod RollTable

@@ -2,38 +2,34 @@
 -- column says what a start does to a new key, and for each half of the roll which stamps its report
 -- writes, which keys its wait checks and what the wait then does; what an early end takes back; and
 -- the actions due. Tests are on the flags before the call; what a column doesn't name stays.
-use Rattle.std.specs.Prelude.{ℕ, Bool, true, false, not, ◌||◌, if◌then◌else◌, Option, None}
-use Rattle.std.specs.Prelude.{Some, List, [], ◌∷◌}
+use Rattle.std.specs.Prelude.{true, not, if◌then◌else◌, false, Bool, List, ◌||◌, [], ◌∷◌, ℕ, Some}
+use Rattle.std.specs.Prelude.{Option, None}
+use Rattle.dnssec_base.specs.declared.stamps.Stamp.{Stamp}
+use Rattle.dnssec_base.specs.declared.stamps.Stamp.TheVariants.{Visible, DsVisible, RrsigVisible}
+use Rattle.dnssec_base.specs.Stamps.{Stamps}
+use Rattle.dnssec_key.specs.State.{Flags, kept_present, kept_at_parent, old_present, is_any}
+use Rattle.dnssec_key.specs.State.{is_leaving, old_at_parent, kept_signing, old_silent, is_old}
 use Rattle.dnssec_key.specs.declared.kind.KeyType.{KeyType}
 use Rattle.dnssec_key.specs.declared.kind.KeyType.TheVariants.{Ksk, Zsk, Csk, Include}
-use Rattle.dnssec_key.specs.declared.stamps.Stamp.{Stamp}
-use Rattle.dnssec_key.specs.declared.stamps.Stamp.TheVariants.{Visible, DsVisible, RrsigVisible}
-use Rattle.dnssec_key.specs.declared.stamps.Stamp.TheVariants.{Published, Withdrawn}
+use Rattle.dnssec_key.specs.Key.{ksk, zsk, no_key, every_key, ksk_role, zsk_role, any_key, either}
+use Rattle.dnssec_key.specs.Key.{zone_key, KeyParts}
 use Rattle.dnssec_key.specs.declared.roll.Half.{Half as HalfOfCode}
-use Rattle.dnssec_key.specs.declared.roll.Half.TheVariants as code
-use Rattle.dnssec_key.specs.declared.roll.RollType.{RollType}
-use Rattle.dnssec_key.specs.declared.roll.RollType.TheVariants.{KskRoll, KskDoubleDsRoll}
-use Rattle.dnssec_key.specs.declared.roll.RollType.TheVariants.{ZskRoll, ZskDoubleSignatureRoll}
-use Rattle.dnssec_key.specs.declared.roll.RollType.TheVariants.{CskRoll, AlgorithmRoll}
-use Rattle.dnssec_key.specs.declared.roll.RollState.{RollState}
-use Rattle.dnssec_key.specs.declared.roll.RollState.TheVariants.{Propagation1, CacheExpire1}
-use Rattle.dnssec_key.specs.declared.roll.RollState.TheVariants.{Propagation2, CacheExpire2}
-use Rattle.dnssec_key.specs.declared.roll.RollState.TheVariants.{Done}
 use Rattle.dnssec_key.specs.declared.roll.Action.{Action}
 use Rattle.dnssec_key.specs.declared.roll.Action.TheVariants.{UpdateDnskeyRrset, CreateCdsRrset}
 use Rattle.dnssec_key.specs.declared.roll.Action.TheVariants.{RemoveCdsRrset, UpdateDsRrset}
-use Rattle.dnssec_key.specs.declared.roll.Action.TheVariants.{UpdateRrsig}
 use Rattle.dnssec_key.specs.declared.roll.Action.TheVariants.{ReportDnskeyPropagated}
 use Rattle.dnssec_key.specs.declared.roll.Action.TheVariants.{WaitDnskeyPropagated}
-use Rattle.dnssec_key.specs.declared.roll.Action.TheVariants.{ReportDsPropagated}
-use Rattle.dnssec_key.specs.declared.roll.Action.TheVariants.{WaitDsPropagated}
-use Rattle.dnssec_key.specs.declared.roll.Action.TheVariants.{ReportRrsigPropagated}
+use Rattle.dnssec_key.specs.declared.roll.Action.TheVariants.{ReportDsPropagated, WaitDsPropagated}
+use Rattle.dnssec_key.specs.declared.roll.Action.TheVariants.{UpdateRrsig, ReportRrsigPropagated}
 use Rattle.dnssec_key.specs.declared.roll.Action.TheVariants.{WaitRrsigPropagated}
-use Rattle.dnssec_key.specs.State.{Flags, Stamps, is_any, is_old, is_leaving, kept_present}
-use Rattle.dnssec_key.specs.State.{kept_signing, kept_at_parent, old_present, old_at_parent}
-use Rattle.dnssec_key.specs.State.{old_silent}
-use Rattle.dnssec_key.specs.Key.{KeyParts, ksk, zsk, ksk_role, zsk_role, any_key, zone_key}
-use Rattle.dnssec_key.specs.Key.{every_key, no_key, either}
+use Rattle.dnssec_key.specs.declared.roll.RollType.{RollType}
+use Rattle.dnssec_key.specs.declared.roll.RollType.TheVariants.{KskRoll, KskDoubleDsRoll, ZskRoll}
+use Rattle.dnssec_key.specs.declared.roll.RollType.TheVariants.{ZskDoubleSignatureRoll, CskRoll}
+use Rattle.dnssec_key.specs.declared.roll.RollType.TheVariants.{AlgorithmRoll}
+use Rattle.dnssec_key.specs.declared.roll.RollState.{RollState}
+use Rattle.dnssec_key.specs.declared.roll.RollState.TheVariants.{CacheExpire1, CacheExpire2}
+use Rattle.dnssec_key.specs.declared.roll.RollState.TheVariants.{Propagation2, Done, Propagation1}
+use Rattle.dnssec_key.specs.declared.roll.Half.TheVariants as code
 
 -- ---- what happens to one role, in the operator's words
 
@@ -353,14 +349,6 @@ half_of roll First = (column roll).first
 half_of roll Second = (column roll).second
 
 -- ---- the table at one key
-
--- the stamp of this name, where it was written
-abbrev pub stamp_named : Stamp → Stamps → Option ℕ
-stamp_named Published t = t.published
-stamp_named Visible t = t.visible
-stamp_named DsVisible t = t.ds_visible
-stamp_named RrsigVisible t = t.rrsig_visible
-stamp_named Withdrawn t = t.withdrawn
 
 -- the stamps of a key of this kind after an event at now: what isn't written stays as it was
 abbrev pub stamps_after : Writes → KeyType → ℕ → Stamps → Stamps

@@ -1,16 +1,16 @@
 -- What each setter changes of a key, and what a key refuses it for. By a setter an operator does by
 -- hand what a roll does to many keys (RFC 6781, section 4.1).
-use Rattle.std.specs.Prelude.{ℕ, Bool, true, false, Option, None, Some}
-use Rattle.std.specs.Prelude.{if◌then◌else◌}
+use Rattle.std.specs.Prelude.{ℕ, Bool, true, false, Some, Option, None, if◌then◌else◌}
+use Rattle.dnssec_base.specs.Stamps.{first_published}
+use Rattle.dnssec_base.specs.declared.error.Error.{Error}
+use Rattle.dnssec_base.specs.declared.error.Error.TheVariants.{WrongKeyType}
+use Rattle.dnssec_key.specs.declared.setting.Setting.{Setting as SettingOfCode}
 use Rattle.dnssec_key.specs.declared.kind.KeyType.{KeyType}
 use Rattle.dnssec_key.specs.declared.kind.KeyType.TheVariants.{Include}
-use Rattle.dnssec_key.specs.declared.setting.Setting.{Setting as SettingOfCode}
-use Rattle.dnssec_key.specs.declared.setting.Setting.TheVariants as code
-use Rattle.dnssec_key.specs.declared.error.Error.{Error}
-use Rattle.dnssec_key.specs.declared.error.Error.TheVariants.{WrongKeyType}
 use Rattle.dnssec_key.specs.State.{Flags, is_any}
+use Rattle.dnssec_key.specs.RollTable.{at_each_role, at_roles, stays}
 use Rattle.dnssec_key.specs.Key.{KeyParts, ksk_role, any_key}
-use Rattle.dnssec_key.specs.RollTable.{at_roles, at_each_role, stays}
+use Rattle.dnssec_key.specs.declared.setting.Setting.TheVariants as code
 
 -- what a setter sets
 pub data Setting : Type 0 where
@@ -56,11 +56,6 @@ with_at_parent value s = record s { at_parent = value }
 -- it has left: old, and in use in no way
 abbrev pub stale_by_hand : Flags → Flags
 stale_by_hand s = record s { old = true; signer = false; present = false; at_parent = false }
-
--- a key put into the DNSKEY set was published then, unless it was before
-abbrev pub first_published : Bool → ℕ → Option ℕ → Option ℕ
-first_published true now None = Some now
-first_published value now before = before
 
 -- a key after a setter
 abbrev pub set_by : Setting → KeyParts → KeyParts

@@ -1,6 +1,6 @@
 -- What a contract sees of one role of a key, and of its stamps. The words for a role are the
 -- operator's (RFC 6781, section 4.1; RFC 7583, section 3.1).
-use Rattle.std.specs.Prelude.{ℕ, Bool, true, not, ◌&&◌, ◌||◌, Option, None}
+use Rattle.std.specs.Prelude.{Bool, ◌||◌, not, ◌&&◌, true}
 
 -- the flags of one role of a key (RFC 6781, section 3.1: KSK, ZSK and both in one)
 pub record Flags : Type 0 where
@@ -83,25 +83,3 @@ old_at_parent s = s.old && s.at_parent
 -- is old, and doesn't sign
 abbrev pub old_silent : Flags → Bool
 old_silent s = s.old && not s.signer
-
--- ---- stamps
-
--- when a key passed the stages of its life, where it did (RFC 7583, section 3: the events of a key)
-pub record Stamps : Type 0 where
-  pub creation : Option ℕ  -- made
-  pub published : Option ℕ  -- put into the DNSKEY set
-  pub visible : Option ℕ  -- seen there by all
-  pub ds_visible : Option ℕ  -- its DS seen by all
-  pub rrsig_visible : Option ℕ  -- its signatures seen by all
-  pub withdrawn : Option ℕ  -- taken out
-
--- no stage passed
-abbrev pub no_stamps : Stamps
-no_stamps = record {
-  creation = None;
-  published = None;
-  visible = None;
-  ds_visible = None;
-  rrsig_visible = None;
-  withdrawn = None;
-}

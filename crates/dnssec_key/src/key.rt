@@ -5,16 +5,13 @@ ghost use Rattle.dnssec_key.specs.State.{is_stale, is_fresh, is_kept};
 ghost use Rattle.dnssec_key.specs.Key.{all_states, new_key};
 ghost use Rattle.dnssec_key.specs.RollTable.{which, after_report, after_wait, new_at_start};
 ghost use Rattle.dnssec_key.specs.RollTable.{old_at_start, new_at_early_end, old_at_early_end};
-ghost use Rattle.dnssec_key.specs.declared.error.Error.TheVariants.{OutOfMemory};
+ghost use Rattle.dnssec_base.specs.declared.error.Error.TheVariants.{OutOfMemory};
 ghost use Rattle.dnssec_key.specs.Setters.{setting_of, set_by};
 
-use crate::error::Error;
 use crate::kind::KeyType;
 use crate::roll::{Half, RollType};
 use crate::setting::Setting;
-use crate::stamps::KeyTimestamps;
-use crate::time::UnixTime;
-use dnssec_base::SecurityAlgorithm;
+use dnssec_base::{Error, KeyTimestamps, SecurityAlgorithm, UnixTime};
 use std::alloc::AllocError;
 use std::marker::Model;
 
@@ -80,10 +77,7 @@ impl Key {
             keytype,
             algorithm,
             key_tag,
-            timestamps: KeyTimestamps {
-                creation: Some(creation),
-                ..KeyTimestamps::default()
-            },
+            timestamps: KeyTimestamps::of_new_key(creation),
         }
     }
 

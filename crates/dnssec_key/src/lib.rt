@@ -1,34 +1,29 @@
-//! Keys of a zone, and what the steps of each roll do to one of them: moments, stamps, the states
-//! of a key's roles, refusals and their texts, and the table of the six rolls.
+//! Keys of a zone, and what the steps of each roll do to one of them: the states of a key's roles,
+//! and the table of the six rolls.
 //!
 //! `dnssec_keyset` re-exports what its callers name. What it needs besides, it finds here.
 #![tactic(auto)]
 
 mod actions;
 mod comparisons;
-mod error;
 mod key;
 mod kind;
 mod role;
 mod roll;
 mod setting;
-mod stamps;
 mod state;
 mod table;
-mod text;
-mod time;
 
 pub use comparisons::{
-    default_stamps_are_none, default_states_are_unused, equal_errors_are_one, equal_kinds_are_one,
-    equal_moments_are_one, equal_phases_are_one, equal_states_are_one,
-    moments_are_in_order_of_time,
+    default_states_are_unused, equal_kinds_are_one, equal_phases_are_one, equal_states_are_one,
 };
-pub use error::Error;
+pub use dnssec_base::{
+    Error, KeyTimestamps, Stamp, UnixTime, default_stamps_are_none, equal_errors_are_one,
+    equal_moments_are_one, moments_are_in_order_of_time,
+};
 pub use key::Key;
 pub use kind::KeyType;
 pub use role::{is_kept_at_parent, is_kept_present};
 pub use roll::{Action, Half, RollState, RollType};
 pub use setting::Setting;
-pub use stamps::{KeyTimestamps, Stamp};
 pub use state::{Available, KeyState};
-pub use time::UnixTime;

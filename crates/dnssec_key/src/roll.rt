@@ -3,7 +3,7 @@ ghost use Rattle.std.specs.Prelude.{◌≡◌};
 ghost use Rattle.dnssec_key.specs.RollTable.{which, behind, cache_expire};
 ghost use Rattle.dnssec_key.specs.Texts.{NamesRoll};
 
-use crate::error::Error;
+use dnssec_base::Error;
 use std::str::FromStr;
 
 /// The kind of a roll (RFC 6781, section 4.1).

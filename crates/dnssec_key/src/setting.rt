@@ -1,13 +1,13 @@
 //! What the setters do to a key of each kind.
 ghost use Rattle.std.specs.Prelude.{◌≡◌};
 ghost use Rattle.dnssec_key.specs.RollTable.{at_roles, stays};
-ghost use Rattle.dnssec_key.specs.Setters.{setting_of, at_each_state, is_flag_setting};
-ghost use Rattle.dnssec_key.specs.Setters.{suits_kind, stale_by_hand, with_at_parent, with_present};
+ghost use Rattle.dnssec_key.specs.Setters.{setting_of, at_each_state, is_flag_setting, suits_kind};
+ghost use Rattle.dnssec_key.specs.Setters.{stale_by_hand, with_at_parent, with_present};
 ghost use Rattle.dnssec_key.specs.Setters.{with_signer};
 
 use crate::kind::KeyType;
 use crate::state::KeyState;
-use crate::time::UnixTime;
+use dnssec_base::UnixTime;
 
 /// What a setter sets.
 #[derive(Clone, Copy, Debug)]

@@ -3,8 +3,8 @@
 
 ghost use Rattle.std.specs.Prelude.{◌≡◌};
 ghost use Rattle.dnssec_key.specs.declared.kind.KeyType.TheVariants.{Csk};
-ghost use Rattle.dnssec_key.specs.RollTable.{which, column, half_of, at_each_role};
-ghost use Rattle.dnssec_key.specs.RollTable.{turns_old, leaves_dnskey};
+ghost use Rattle.dnssec_key.specs.RollTable.{which, column, half_of, at_each_role, turns_old};
+ghost use Rattle.dnssec_key.specs.RollTable.{leaves_dnskey};
 ghost use Rattle.dnssec_key.specs.Inner.Stamped.{stamped_on};
 
 use crate::kind::KeyType;
@@ -17,8 +17,8 @@ use crate::roll::RollType::{
     AlgorithmRoll, CskRoll, KskDoubleDsRoll, KskRoll, ZskDoubleSignatureRoll, ZskRoll,
 };
 use crate::roll::{Half, RollType};
-use crate::stamps::{Stamp, Stamped};
 use crate::state::KeyState;
+use dnssec_base::{Stamp, Stamped};
 
 /// A CSK that leaves the DNSKEY set in both its roles.
 fn leaving_csk(ksk: KeyState, zsk: KeyState) -> KeyType

@@ -6,23 +6,24 @@ use Rattle.std.proofs.lemmas.Bool.{true≢false}
 use Rattle.std.proofs.lemmas.Option.{none-some}
 use Rattle.dnssec_key.specs.declared.roll.RollState.{RollState}
 use Rattle.dnssec_key.specs.declared.roll.RollState.TheVariants.{Propagation1, CacheExpire1}
-use Rattle.dnssec_key.specs.declared.roll.RollState.TheVariants.{Propagation2, CacheExpire2}
-use Rattle.dnssec_key.specs.declared.roll.RollState.TheVariants.{Done}
-use Rattle.dnssec_key.specs.declared.error.Error.{Error}
+use Rattle.dnssec_key.specs.declared.roll.RollState.TheVariants.{Propagation2, CacheExpire2, Done}
+use Rattle.dnssec_base.specs.declared.error.Error.{Error}
 use Rattle.dnssec_keyset.specs.KeySet.{KeySetParts}
 use Rattle.dnssec_key.specs.RollTable.{First, Second}
-use Rattle.dnssec_keyset.specs.Step.{deletion_refusal}
+use Rattle.dnssec_zone.specs.Refusals.{deletion_refusal}
 use Rattle.dnssec_keyset.specs.Step as keyset
-use Rattle.dnssec_keyset.proofs.Flags.{is_stale}
+use Rattle.dnssec_zone.specs.Wait as waits
+use Rattle.dnssec_zone.specs.Refusals as refusals
+use Rattle.dnssec_zone.proofs.Flags.{is_stale}
 use Rattle.dnssec_key.specs.Key.{KeyParts}
 
 -- a refused call left the set as it was
-pub refused_same : (v : keyset.Clearance) (old new : KeySetParts) (c : keyset.Call) (cause : Error)
+pub refused_same : (v : waits.Clearance) (old new : KeySetParts) (c : keyset.Call) (cause : Error)
     → keyset.StepBy v old c (keyset.Refused cause) new → new ≡ old
-refused_same (keyset.Barred e) old new c cause h = h.1
-refused_same (keyset.Early left) old new c cause h = h.1
-refused_same keyset.Clear old new c cause (inr h) = h.2
-refused_same keyset.Clear old new c cause (inl h) = absurd (accepts c h.0)
+refused_same (waits.Barred e) old new c cause h = h.1
+refused_same (waits.Early left) old new c cause h = h.1
+refused_same waits.Clear old new c cause (inr h) = h.2
+refused_same waits.Clear old new c cause (inl h) = absurd (accepts c h.0)
   where
     accepts : (c : keyset.Call) → keyset.Refused cause ≡ keyset.accepted_reply c → ⊥
     accepts (keyset.AddKey r k) e = cc
@@ -39,15 +40,15 @@ is_refused (keyset.Refused cause) = true
 is_refused _ = false
 
 -- an accepted call was clear, made its change, and answered what is due
-pub accepted_changes : (v : keyset.Clearance) (old new : KeySetParts) (c : keyset.Call)
-    (r : keyset.Reply) → is_refused r ≡ false → keyset.StepBy v old c r new → (v ≡ keyset.Clear)
+pub accepted_changes : (v : waits.Clearance) (old new : KeySetParts) (c : keyset.Call)
+    (r : keyset.Reply) → is_refused r ≡ false → keyset.StepBy v old c r new → (v ≡ waits.Clear)
     × keyset.Changes old c new × (r ≡ keyset.accepted_reply c)
-accepted_changes (keyset.Barred e) old new c r a h =
+accepted_changes (waits.Barred e) old new c r a h =
     absurd (true≢false (sym (ap is_refused h.0) ∙ a))
-accepted_changes (keyset.Early left) old new c r a h =
+accepted_changes (waits.Early left) old new c r a h =
     absurd (true≢false (sym (ap is_refused h.0.1) ∙ a))
-accepted_changes keyset.Clear old new c r a (inl h) = (refl, h.1, h.0)
-accepted_changes keyset.Clear old new c r a (inr h) =
+accepted_changes waits.Clear old new c r a (inl h) = (refl, h.1, h.0)
+accepted_changes waits.Clear old new c r a (inr h) =
     absurd (true≢false (sym (ap is_refused h.1) ∙ a))
 
 pub no_some : {A : Type 0} (o : Option A) → is_some o ≡ false → o ≡ None
@@ -73,7 +74,7 @@ gone_key (Some k) e = by (is_stale k.keytype) refl
         absurd (none-some _ (sym (sym (ap (λ b. if b then None else Some Error.KeyNotOld) t) ∙ e)))
 
 -- the phases in which a report and the end of a roll are accepted
-pub spreads_first : (o : Option RollState) → keyset.report_refusal First o ≡ None
+pub spreads_first : (o : Option RollState) → refusals.report_refusal First o ≡ None
     → o ≡ Some Propagation1
 spreads_first None e = absurd (none-some _ (sym e))
 spreads_first (Some Propagation1) e = refl
@@ -82,7 +83,7 @@ spreads_first (Some Propagation2) e = absurd (none-some _ (sym e))
 spreads_first (Some (CacheExpire2 ttl)) e = absurd (none-some _ (sym e))
 spreads_first (Some Done) e = absurd (none-some _ (sym e))
 
-pub spreads_second : (o : Option RollState) → keyset.report_refusal Second o ≡ None
+pub spreads_second : (o : Option RollState) → refusals.report_refusal Second o ≡ None
     → o ≡ Some Propagation2
 spreads_second None e = absurd (none-some _ (sym e))
 spreads_second (Some Propagation1) e = absurd (none-some _ (sym e))
@@ -91,7 +92,7 @@ spreads_second (Some Propagation2) e = refl
 spreads_second (Some (CacheExpire2 ttl)) e = absurd (none-some _ (sym e))
 spreads_second (Some Done) e = absurd (none-some _ (sym e))
 
-pub finishes : (o : Option RollState) → keyset.end_refusal o ≡ None → o ≡ Some Done
+pub finishes : (o : Option RollState) → refusals.end_refusal o ≡ None → o ≡ Some Done
 finishes None e = absurd (none-some _ (sym e))
 finishes (Some Propagation1) e = absurd (none-some _ (sym e))
 finishes (Some (CacheExpire1 ttl)) e = absurd (none-some _ (sym e))
@@ -100,7 +101,8 @@ finishes (Some (CacheExpire2 ttl)) e = absurd (none-some _ (sym e))
 finishes (Some Done) e = refl
 
 -- the phase in which an early end is accepted
-pub ends_early : (o : Option RollState) → keyset.early_end_refusal o ≡ None → o ≡ Some Propagation1
+pub ends_early : (o : Option RollState) → refusals.early_end_refusal o ≡ None
+    → o ≡ Some Propagation1
 ends_early None e = absurd (none-some _ (sym e))
 ends_early (Some Propagation1) e = refl
 ends_early (Some (CacheExpire1 ttl)) e = absurd (none-some _ (sym e))

@@ -13,15 +13,17 @@ use Rattle.std.specs.FinMap.{find, get, insert, remove, entries, get-entries, ge
 use Rattle.std.specs.FinMap.{get-insert, get-remove}
 use Rattle.std.proofs.lemmas.Map.Text.{is_eq-slice_cmp}
 use Rattle.dnssec_key.specs.Key.{KeyParts}
-use Rattle.dnssec_keyset.specs.KeySet.{Keys, KeySetParts, Lists, PutsKey, MovesOn, with_phase}
-use Rattle.dnssec_keyset.specs.KeySet.{without}
+use Rattle.dnssec_zone.specs.Keys.{Keys}
+use Rattle.dnssec_keyset.specs.KeySet.{KeySetParts, PutsKey, MovesOn}
+use Rattle.dnssec_zone.specs.Lists.{Lists, without}
+use Rattle.dnssec_zone.specs.Rolls.{with_phase}
 use Rattle.dnssec_key.specs.Setters.{set_by}
 use Rattle.dnssec_keyset.specs.Step.{Call, AddKey, Set, DeleteKey, StartRoll, Report, Wait}
-use Rattle.dnssec_keyset.specs.Step.{RollDone, AbortRoll, Reply, Clearance, Barred, Early, Clear}
-use Rattle.dnssec_keyset.specs.Step.{Changes, Step, StepBy, clearance, accepted_reply, after}
-use Rattle.dnssec_keyset.specs.Step.{after_reply, keys_by}
-use Rattle.dnssec_keyset.proofs.Shown.{same_keys}
-use Rattle.dnssec_keyset.proofs.Quantified.{same_key}
+use Rattle.dnssec_keyset.specs.Step.{RollDone, AbortRoll, Reply, Changes, Step, StepBy, clearance}
+use Rattle.dnssec_keyset.specs.Step.{accepted_reply, after, after_reply, keys_by}
+use Rattle.dnssec_zone.specs.Wait.{Clearance, Barred, Early, Clear}
+use Rattle.dnssec_zone.proofs.Shown.{same_keys}
+use Rattle.dnssec_zone.proofs.Quantified.{same_key}
 
 module _ (f : List ℕ → KeyParts → KeyParts) where
   find-by : (es : List (List ℕ × KeyParts)) (q : List ℕ)

@@ -3,12 +3,12 @@ use Rattle.std.proofs.Common.{◌≡◌, Some, None, Ok, Err, List, [], ◌∷�
 use Rattle.std.proofs.Common.{Global}
 use Rattle.std.specs.Prelude.{◌≢◌, Option, Result, OnOk, OnErr, IfOk}
 use Rattle.dnssec_key.specs.declared.roll.Action.{Action}
-use Rattle.dnssec_key.specs.declared.error.Error.{Error}
+use Rattle.dnssec_base.specs.declared.error.Error.{Error}
 use Rattle.dnssec_keyset.specs.KeySet.{KeySetParts}
-use Rattle.dnssec_keyset.specs.Step.{Call, Done, Actions, Clearance, Barred, Early, Clear}
-use Rattle.dnssec_keyset.specs.Step.{AnswersExactly, Answers, AnswersWait, barred_by}
-use Rattle.dnssec_keyset.specs.Step.{accepted_reply, Changes, TakesMemory, StepBy, reply_done}
-use Rattle.dnssec_keyset.specs.Step.{reply_list}
+use Rattle.dnssec_keyset.specs.Step.{Call, Done, Actions, AnswersWait, accepted_reply, Changes}
+use Rattle.dnssec_keyset.specs.Step.{TakesMemory, StepBy, reply_done, reply_list}
+use Rattle.dnssec_zone.specs.Wait.{Clearance, Barred, Early, Clear, barred_by}
+use Rattle.dnssec_zone.specs.Refusals.{AnswersExactly, Answers}
 
 module _ (old new : KeySetParts) (call : Call) where
   pub done_exactly : (refusal : Option Error) (r : Result (Unit {0}) Error) → Done

@@ -11,35 +11,35 @@ use Rattle.std.specs.FinMap.{get, get-empty}
 use Rattle.std.specs.Ordering.{nat_cmp}
 use Rattle.std.proofs.lemmas.Bool.{cases_Bool, true≢false}
 use Rattle.std.proofs.lemmas.Bool.Decides.{nat_tests}
-use Rattle.dnssec_keyset.specs.Start.{Side}
-use Rattle.dnssec_keyset.specs.Start.{KskSide, ZskSide, BothSides}
+use Rattle.dnssec_zone.specs.Start.{Side, KskSide, ZskSide, BothSides, are_apart, conflict}
+use Rattle.dnssec_zone.specs.Start.{has_conflict, side_of, together}
 use Rattle.dnssec_key.specs.declared.roll.RollType.{RollType}
 use Rattle.dnssec_key.specs.declared.roll.RollType.TheVariants.{KskRoll, KskDoubleDsRoll, ZskRoll}
 use Rattle.dnssec_key.specs.declared.roll.RollType.TheVariants.{ZskDoubleSignatureRoll, CskRoll}
 use Rattle.dnssec_key.specs.declared.roll.RollType.TheVariants.{AlgorithmRoll}
 use Rattle.dnssec_key.specs.declared.roll.RollState.{RollState}
 use Rattle.dnssec_key.specs.declared.roll.RollState.TheVariants.{Propagation1}
-use Rattle.dnssec_key.specs.declared.error.Error.{Error}
-use Rattle.dnssec_key.specs.declared.error.Error.TheVariants.{DuplicateKeyTag, KeyExists}
-use Rattle.dnssec_key.specs.declared.error.Error.TheVariants.{WrongStateForRollOperation}
-use Rattle.dnssec_key.specs.declared.error.Error.TheVariants.{ConflictingRollInProgress}
+use Rattle.dnssec_base.specs.declared.error.Error.{Error}
+use Rattle.dnssec_base.specs.declared.error.Error.TheVariants.{DuplicateKeyTag, KeyExists}
+use Rattle.dnssec_base.specs.declared.error.Error.TheVariants.{WrongStateForRollOperation}
+use Rattle.dnssec_base.specs.declared.error.Error.TheVariants.{ConflictingRollInProgress}
 use Rattle.dnssec_key.specs.Key.{KeyParts}
-use Rattle.dnssec_keyset.specs.KeySet.{Keys, KeySetParts, Lists, Rolls, PutsKey, new_set, phase_of}
-use Rattle.dnssec_keyset.specs.KeySet.{with_phase, same_roll, without}
+use Rattle.dnssec_zone.specs.Keys.{Keys, has_tag, TagsApart}
+use Rattle.dnssec_keyset.specs.KeySet.{KeySetParts, PutsKey, new_set}
+use Rattle.dnssec_zone.specs.Lists.{Lists, without}
+use Rattle.dnssec_zone.specs.Rolls.{Rolls, phase_of, with_phase, same_roll, all_rolls}
 use Rattle.dnssec_key.specs.RollTable.{Half, First, Second, after_start, after_early_end}
 use Rattle.dnssec_key.specs.Setters.{Setting, Decoupled, Present, Signer, AtParent, Stale}
 use Rattle.dnssec_key.specs.Setters.{VisibleAt, DsVisibleAt, RrsigVisibleAt, set_by}
-use Rattle.dnssec_keyset.specs.Start.{all_rolls, are_apart, conflict, has_conflict, side_of}
-use Rattle.dnssec_keyset.specs.Start.{together}
-use Rattle.dnssec_keyset.specs.Wait.{ttl_in}
+use Rattle.dnssec_zone.specs.Wait.{ttl_in, Clearance, Barred, Early, Clear, barred_by}
+use Rattle.dnssec_zone.specs.Wait.{wait_in_phase}
 use Rattle.dnssec_keyset.specs.Step.{Call, AddKey, Set, DeleteKey, StartRoll, Report, Wait}
-use Rattle.dnssec_keyset.specs.Step.{RollDone, AbortRoll, Reply, Clearance, Barred, Early, Clear}
-use Rattle.dnssec_keyset.specs.Step.{Changes, Step, StepBy, add_refusal, barred_by, has_tag}
-use Rattle.dnssec_keyset.specs.Step.{report_refusal, clearance, wait_in_phase}
-use Rattle.dnssec_keyset.specs.Laws.{TagsApart, RollsTogether, in_progress}
-use Rattle.dnssec_keyset.proofs.Phases.{phase_of-with_phase, no_phases, same_roll-is}
-use Rattle.dnssec_keyset.proofs.Quantified.{some_key-none}
-use Rattle.dnssec_keyset.proofs.Tags.{mapped}
+use Rattle.dnssec_keyset.specs.Step.{RollDone, AbortRoll, Reply, Changes, Step, StepBy, clearance}
+use Rattle.dnssec_zone.specs.Refusals.{add_refusal, report_refusal}
+use Rattle.dnssec_keyset.specs.Laws.{RollsTogether, in_progress}
+use Rattle.dnssec_zone.proofs.Phases.{phase_of-with_phase, no_phases, same_roll-is}
+use Rattle.dnssec_zone.proofs.Quantified.{some_key-none}
+use Rattle.dnssec_zone.proofs.Tags.{mapped}
 
 -- ---- a step changes nothing, or makes a change for which no cause stood
 

@@ -10,22 +10,23 @@ use Rattle.std.specs.Cmp.Lexicographic.{bytes_decides}
 use Rattle.std.specs.FinMap.{get}
 use Rattle.dnssec_key.specs.declared.kind.KeyType.{KeyType}
 use Rattle.dnssec_key.specs.declared.roll.RollType.{RollType}
-use Rattle.dnssec_key.specs.declared.error.Error.TheVariants.{WrongKeyType, WrongKeyState}
+use Rattle.dnssec_base.specs.declared.error.Error.TheVariants.{WrongKeyType, WrongKeyState}
 use Rattle.dnssec_key.specs.Key.{KeyParts, all_states}
-use Rattle.dnssec_key.specs.State.{Stamps, is_fresh}
+use Rattle.dnssec_base.specs.Stamps.{Stamps}
+use Rattle.dnssec_key.specs.State.{is_fresh}
 use Rattle.dnssec_keyset.specs.KeySet.{KeySetParts}
 use Rattle.dnssec_key.specs.RollTable.{Half, First, Second, Writes, column, half_of, stamps_after}
-use Rattle.dnssec_key.specs.RollTable.{after_start, after_report, after_wait}
-use Rattle.dnssec_key.specs.RollTable.{after_early_end}
-use Rattle.dnssec_keyset.specs.Start.{algorithm_fault, conflict, is_listed, lists_kind}
-use Rattle.dnssec_keyset.specs.Start.{new_entry_fault, new_fault, old_entry_fault, old_fault}
-use Rattle.dnssec_keyset.specs.Start.{side_of, start_refusal, suitability_fault}
-use Rattle.dnssec_keyset.specs.Step.{Call, AddKey, Set, DeleteKey, StartRoll, Report, Wait}
-use Rattle.dnssec_keyset.specs.Step.{RollDone, AbortRoll, Reply, Clear, Changes, Step, clearance}
+use Rattle.dnssec_key.specs.RollTable.{after_start, after_report, after_wait, after_early_end}
+use Rattle.dnssec_zone.specs.Start.{algorithm_fault, conflict, is_listed, lists_kind}
+use Rattle.dnssec_zone.specs.Start.{new_entry_fault, new_fault, old_entry_fault, old_fault, side_of}
+use Rattle.dnssec_zone.specs.Start.{suitability_fault}
+use Rattle.dnssec_keyset.specs.Step.{start_refusal, Call, AddKey, Set, DeleteKey, StartRoll, Report}
+use Rattle.dnssec_keyset.specs.Step.{Wait, RollDone, AbortRoll, Reply, Changes, Step, clearance}
+use Rattle.dnssec_zone.specs.Wait.{Clear}
 use Rattle.dnssec_keyset.specs.Laws.{LeavesOthers, roll_of}
 use Rattle.dnssec_keyset.proofs.Laws.{moved, no_cause, no_first, no_rest}
-use Rattle.dnssec_keyset.proofs.Tests.{each_in_roll, each_in_roll-at, four, or_second, same_kind}
-use Rattle.dnssec_keyset.proofs.Tests.{same_kind-is}
+use Rattle.dnssec_zone.proofs.Tests.{each_in_roll, each_in_roll-at, four, or_second, same_kind}
+use Rattle.dnssec_zone.proofs.Tests.{same_kind-is}
 
 -- ---- the table at the keys that a roll doesn't change
 

@@ -4,7 +4,7 @@ use Rattle.std.specs.FinMap.{get}
 use Rattle.dnssec_keyset.specs.KeySet.{KeySetParts}
 use Rattle.dnssec_keyset.specs.declared.set.KeySet.TheInside.{Inside}
 use Rattle.dnssec_keyset.specs.contracts.set.KeySet.{the_view}
-use Rattle.dnssec_keyset.proofs.Waits.{wait-refused, wait-passed}
+use Rattle.dnssec_keyset.proofs.WaitReplies.{wait-refused, wait-passed}
 
 -- the keys that a key set shows are those that it holds
 pub get-held : (i : Inside) (v : KeySetParts) (q : List ℕ) → the_view i ≡ v → get v.keys q

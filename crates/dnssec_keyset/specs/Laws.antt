@@ -1,20 +1,16 @@
 -- What holds of a key set after any calls, and of calls on different sides (RFC 6781, section 3.1:
 -- KSKs and ZSKs are rolled independently of each other).
-use Rattle.std.specs.Prelude.{◌≡◌, ◌≢◌, ℕ, Bool, true, false, List, Option, None, Some, ◌⊎◌}
-use Rattle.std.specs.Prelude.{is_some}
+use Rattle.std.specs.Prelude.{Bool, is_some, ◌≡◌, true, ◌⊎◌, Option, None, Some, ℕ, false, List}
+use Rattle.std.specs.Prelude.{◌≢◌}
 use Rattle.std.specs.FinMap.{get}
+use Rattle.dnssec_base.specs.declared.error.Error.TheVariants.{OutOfMemory}
 use Rattle.dnssec_key.specs.declared.roll.RollType.{RollType}
 use Rattle.dnssec_key.specs.Key.{KeyParts}
-use Rattle.dnssec_key.specs.declared.error.Error.TheVariants.{OutOfMemory}
-use Rattle.dnssec_keyset.specs.KeySet.{Keys, KeySetParts, Rolls, phase_of, same_roll}
-use Rattle.dnssec_keyset.specs.Start.{lists_kind, side_of, together}
-use Rattle.dnssec_keyset.specs.Step.{Call, StartRoll, Report, Wait, RollDone, AbortRoll}
-use Rattle.dnssec_keyset.specs.Step.{Reply, Refused, Step}
-
--- no two keys have one tag (RFC 4034, appendix B)
-abbrev pub TagsApart : Keys → Type 0
-TagsApart keys = (q r : List ℕ) (k l : KeyParts) →
-    get keys q ≡ Some k → get keys r ≡ Some l → k.key_tag ≡ l.key_tag → q ≡ r
+use Rattle.dnssec_zone.specs.Rolls.{Rolls, phase_of, same_roll}
+use Rattle.dnssec_zone.specs.Start.{together, lists_kind, side_of}
+use Rattle.dnssec_keyset.specs.Step.{Call, StartRoll, Report, Wait, RollDone, AbortRoll, Reply}
+use Rattle.dnssec_keyset.specs.Step.{Refused, Step}
+use Rattle.dnssec_keyset.specs.KeySet.{KeySetParts}
 
 -- the roll is in progress
 abbrev pub in_progress : Rolls → RollType → Bool

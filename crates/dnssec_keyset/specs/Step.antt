@@ -1,120 +1,57 @@
 -- The allowed step: from a key set, which reply a call may have and which key set it then leaves
 -- (RFC 6781, section 4.1). A cause is answered before anything is changed; without one the call is
 -- accepted, or has run out of memory where it takes some, and then too nothing is changed.
-use Rattle.std.specs.Prelude.{◌≡◌, ◌≢◌, ℕ, Bool, false, Option, None, Some, List, [], ◌∷◌}
-use Rattle.std.specs.Prelude.{filter, map, ◌⊎◌, Result, Ok, Err, IsOk, if◌then◌else◌, is_some}
-use Rattle.std.specs.Prelude.{nat_eq}
-use Rattle.std.specs.declared.vec.Vec.{Vec}
-use Rattle.std.specs.Global.{Global}
+use Rattle.std.specs.Prelude.{Option, None, List, [], ◌∷◌, ℕ, ◌≡◌, Result, Err, ◌⊎◌, IsOk, Ok}
+use Rattle.std.specs.Prelude.{if◌then◌else◌, Some, ◌≢◌, map}
+use Rattle.std.specs.Option.{option_or}
+use Rattle.std.specs.FinMap.{get, entries, from_entries, insert, remove}
 use Rattle.std.specs.Duration.{as_nanos}
 use Rattle.std.specs.declared.time.Duration.{Duration}
-use Rattle.std.specs.FinMap.{get, insert, remove, entries, from_entries}
-use Rattle.std.specs.Option.{option_map_or}
+use Rattle.std.specs.declared.vec.Vec.{Vec}
+use Rattle.std.specs.Global.{Global}
 use Rattle.std.specs.Str.{bytes_eq}
+use Rattle.dnssec_base.specs.declared.error.Error.{Error}
+use Rattle.dnssec_base.specs.declared.error.Error.TheVariants.{Wait as WaitFor, OutOfMemory}
 use Rattle.dnssec_key.specs.declared.roll.RollType.{RollType}
-use Rattle.dnssec_key.specs.declared.roll.RollState.{RollState}
-use Rattle.dnssec_key.specs.declared.roll.RollState.TheVariants.{Propagation1}
-use Rattle.dnssec_key.specs.declared.roll.RollState.TheVariants.{Propagation2}
-use Rattle.dnssec_key.specs.declared.roll.RollState.TheVariants.{Done as Finishing}
+use Rattle.dnssec_key.specs.RollTable.{Half, column, actions_of, behind, after_start, after_report}
+use Rattle.dnssec_key.specs.RollTable.{after_early_end, after_wait, cache_expire}
 use Rattle.dnssec_key.specs.declared.roll.Action.{Action}
-use Rattle.dnssec_key.specs.declared.error.Error.{Error}
-use Rattle.dnssec_key.specs.declared.error.Error.TheVariants.{KeyExists, DuplicateKeyTag}
-use Rattle.dnssec_key.specs.declared.error.Error.TheVariants.{KeyNotFound, KeyNotOld}
-use Rattle.dnssec_key.specs.declared.error.Error.TheVariants.{WrongKeyState}
-use Rattle.dnssec_key.specs.declared.error.Error.TheVariants.{WrongStateForRollOperation}
-use Rattle.dnssec_key.specs.declared.error.Error.TheVariants.{Wait as WaitFor, OutOfMemory}
-use Rattle.dnssec_key.specs.State.{is_kept, is_stale}
-use Rattle.dnssec_key.specs.Key.{KeyParts, all_states}
-use Rattle.dnssec_keyset.specs.KeySet.{Keys, KeySetParts, PutsKey, MovesOn, phase_of, with_phase}
-use Rattle.dnssec_keyset.specs.KeySet.{some_key, Listed, Lists, listed_by, nothing_listed}
-use Rattle.dnssec_keyset.specs.KeySet.{with_listed, without}
-use Rattle.dnssec_key.specs.RollTable.{Half, First, Second, column, after_start, after_report}
-use Rattle.dnssec_key.specs.RollTable.{after_early_end, after_wait, actions_of, behind}
-use Rattle.dnssec_key.specs.RollTable.{cache_expire}
-use Rattle.dnssec_key.specs.Setters.{Setting, is_flag_setting, kind_refusal, set_by}
-use Rattle.dnssec_keyset.specs.KeySet.{ChangesKey}
-use Rattle.dnssec_keyset.specs.Start.{start_refusal, is_listed}
-use Rattle.dnssec_keyset.specs.Wait.{ttl_in, lacks_stamp, longest_left}
+use Rattle.dnssec_key.specs.Key.{KeyParts}
+use Rattle.dnssec_key.specs.Setters.{Setting, is_flag_setting, set_by}
+use Rattle.dnssec_key.specs.declared.roll.RollState.TheVariants.{Propagation1}
+use Rattle.dnssec_zone.specs.Start.{old_fault, suitability_fault, new_fault, conflict}
+use Rattle.dnssec_zone.specs.Start.{algorithm_fault, is_listed}
+use Rattle.dnssec_zone.specs.Rolls.{phase_of, with_phase}
+use Rattle.dnssec_zone.specs.Wait.{ttl_in, wait_in_phase, Clearance, Barred, Early, Clear}
+use Rattle.dnssec_zone.specs.Wait.{barred_by}
+use Rattle.dnssec_zone.specs.Refusals.{early_end_refusal, deletion_refusal, add_refusal}
+use Rattle.dnssec_zone.specs.Refusals.{end_refusal, setting_refusal, report_refusal}
+use Rattle.dnssec_zone.specs.Lists.{Lists, without, listed_by, nothing_listed, with_listed}
+use Rattle.dnssec_zone.specs.Lists.{lists_after_report, listed_at_start}
+use Rattle.dnssec_zone.specs.Keys.{Keys}
+use Rattle.dnssec_keyset.specs.KeySet.{KeySetParts, PutsKey, MovesOn, ChangesKey}
 
--- ---- what bars a call, or clears it
+-- ---- what a start and a wait answer
 
--- some key has the tag, which no two may share here (RFC 4034, appendix B: two keys may)
-abbrev pub has_tag : ℕ → Keys → Bool
-has_tag tag = some_key (λ k. nat_eq k.key_tag tag)
+-- the first cause that stands, if any
+abbrev pub first_of_causes : List (Option Error) → Option Error
+first_of_causes [] = None
+first_of_causes (cause ∷ causes) = option_or cause (first_of_causes causes)
 
--- why an add of a key is refused: first its tag, then its reference
-abbrev pub add_refusal : Keys → List ℕ → ℕ → Option Error
-add_refusal keys reference tag =
-    if has_tag tag keys then Some DuplicateKeyTag
-    else (if is_some (get keys reference) then Some KeyExists else None)
-
--- why a setter is refused, with the key that it names
-abbrev pub setting_refusal : Setting → Option KeyParts → Option Error
-setting_refusal setting None = Some KeyNotFound
-setting_refusal setting (Some k) = kind_refusal setting k.keytype
-
--- why a deletion is refused: only a key that has left in every role may go
-abbrev pub deletion_refusal : Option KeyParts → Option Error
-deletion_refusal None = Some KeyNotFound
-deletion_refusal (Some k) = if all_states is_stale k.keytype then None else Some KeyNotOld
-
--- why a report is refused: it belongs to the phase of its change
-abbrev pub report_refusal : Half → Option RollState → Option Error
-report_refusal First (Some Propagation1) = None
-report_refusal Second (Some Propagation2) = None
-report_refusal half _ = Some WrongStateForRollOperation
-
--- why the end of a roll is refused: it belongs to its last phase
-abbrev pub end_refusal : Option RollState → Option Error
-end_refusal (Some Finishing) = None
-end_refusal _ = Some WrongStateForRollOperation
-
--- why a roll can't be ended early: only until its first report, as from then on caches may hold
--- what its start changed
-abbrev pub early_end_refusal : Option RollState → Option Error
-early_end_refusal (Some Propagation1) = None
-early_end_refusal _ = Some WrongStateForRollOperation
-
--- whether a call may be made: barred by a cause; too early by so many nanoseconds, a wait alone; or
--- clear
-pub data Clearance : Type 0 where
-  Barred : Error → Clearance
-  Early : ℕ → Clearance
-  Clear : Clearance
-
--- barred by the cause, or clear where there is none
-abbrev pub barred_by : Option Error → Clearance
-barred_by None = Clear
-barred_by (Some cause) = Barred cause
-
--- too early by what is left, or clear where nothing is
-abbrev pub early_by : ℕ → Clearance
-early_by left = if nat_eq left 0 then Clear else Early left
-
--- a wait, by the TTL that it waits for: barred in a phase that has none, and where some key lacks
--- its stamp; else too early by the longest that is left for a key
-abbrev pub wait_in_phase : RollType → Half → Option ℕ → ℕ → Keys → Clearance
-wait_in_phase roll half None now keys = Barred WrongStateForRollOperation
-wait_in_phase roll half (Some ttl) now keys =
-    if some_key (lacks_stamp roll half) keys then Barred WrongKeyState
-    else early_by (longest_left roll half ttl now keys)
+-- why a start is refused: the first cause, in this order
+abbrev pub start_refusal : RollType → KeySetParts → List (List ℕ) → List (List ℕ) → Option Error
+start_refusal roll set olds news = first_of_causes (
+    conflict roll set.rolls
+    ∷ old_fault roll (get set.keys) olds
+    ∷ new_fault roll (get set.keys) olds [] news
+    ∷ algorithm_fault roll (get set.keys) olds news
+    ∷ suitability_fault roll set.keys olds news
+    ∷ [])
 
 -- the same in the phase that its roll is in
 abbrev pub wait_clearance : RollType → Half → ℕ → KeySetParts → Clearance
 wait_clearance roll half now set =
     wait_in_phase roll half (ttl_in half (phase_of set.rolls roll)) now set.keys
-
--- ---- what a call answers
-
--- a call that takes no memory answers its cause, or is accepted
-abbrev pub AnswersExactly : {T : Type 0} → Option Error → Result T Error → Type 0
-AnswersExactly (Some cause) r = r ≡ Err cause
-AnswersExactly None r = IsOk r
-
--- a call that takes memory may also run out of it, but has no cause then
-abbrev pub Answers : {T : Type 0} → Option Error → Result T Error → Type 0
-Answers (Some cause) r = r ≡ Err cause
-Answers None r = IsOk r ⊎ (r ≡ Err OutOfMemory)
 
 -- the answer is to wait for so many nanoseconds
 abbrev pub IsToldToWait : {T : Type 0} → ℕ → Result T Error → Type 0
@@ -178,27 +115,12 @@ accepted_reply (Wait roll half now) = Actions (actions_of roll (behind half))
 accepted_reply (RollDone roll) = Actions []
 accepted_reply (AbortRoll roll) = Actions (column roll).asks_early
 
--- ---- what is kept of starts
-
--- the key at a reference is there, and not old
-abbrev pub has_kept_key : Keys → List ℕ → Bool
-has_kept_key keys q = option_map_or (λ k. all_states is_kept k.keytype) (get keys q) false
-
--- what a start lists: its old references whose keys are not old yet, and its new ones
-abbrev pub listed_at_start : Keys → List (List ℕ) → List (List ℕ) → Listed
-listed_at_start keys olds news = record { olds = filter (has_kept_key keys) olds; news = news }
+-- ---- what a call changes
 
 -- a key whose flag is set by hand is kept in no list
 abbrev pub lists_after_setting : Setting → List ℕ → Lists → Lists
 lists_after_setting setting reference lists =
     if is_flag_setting setting then without reference lists else lists
-
--- from the first report on nothing is kept for the roll
-abbrev pub lists_after_report : RollType → Half → Lists → Lists
-lists_after_report roll First lists = with_listed lists roll nothing_listed
-lists_after_report roll Second lists = lists
-
--- ---- what a call changes
 
 -- what an accepted call changes
 abbrev pub Changes : KeySetParts → Call → KeySetParts → Type 0

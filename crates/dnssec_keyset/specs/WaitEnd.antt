@@ -1,30 +1,16 @@
 -- When the wait of a roll is over, said by what a wait at any moment is told: so a tool that sleeps
 -- until then asks neither too early nor longer than it must (RFC 7583, section 3: the interval is a
 -- TTL from the event on).
-use Rattle.std.specs.Prelude.{◌≡◌, ℕ, ◌*◌, ◌-◌, ◌^◌, ◌≤◌, ◌<◌, Option, None, Some, min}
-use Rattle.dnssec_key.specs.declared.error.Error.{Error}
-use Rattle.dnssec_key.specs.declared.error.Error.TheVariants.{WrongKeyState}
+use Rattle.std.specs.Prelude.{◌≡◌, ℕ, Some, ◌*◌, ◌^◌, ◌≤◌, Option, None}
+use Rattle.dnssec_base.specs.declared.error.Error.{Error}
 use Rattle.dnssec_key.specs.declared.roll.RollType.{RollType}
+use Rattle.dnssec_key.specs.RollTable.{Half}
+use Rattle.dnssec_zone.specs.Rolls.{phase_of}
+use Rattle.dnssec_zone.specs.Wait.{ttl_in, IsOverFrom, Barred}
+use Rattle.dnssec_keyset.specs.KeySet.{KeySetParts}
+use Rattle.dnssec_keyset.specs.Step.{wait_clearance}
 use Rattle.dnssec_keyset.specs.declared.wait.WaitEnd.{WaitEnd}
 use Rattle.dnssec_keyset.specs.declared.wait.WaitEnd.TheVariants.{At, PastTime}
-use Rattle.dnssec_keyset.specs.KeySet.{Keys, KeySetParts, phase_of}
-use Rattle.dnssec_key.specs.RollTable.{Half}
-use Rattle.dnssec_keyset.specs.Step.{Barred, Early, Clear, wait_in_phase, wait_clearance}
-use Rattle.dnssec_keyset.specs.Wait.{ttl_in}
-
--- a wait of ttl seconds is over from `end` on. Before, it is told what is left until then, but no
--- more than the TTL: so it is told where the moment lies before the event that is waited on. (Of a
--- TTL of 0 nothing is ever left, and `end` is 0.)
-pub record IsOverFrom (roll : RollType) (half : Half) (ttl : ℕ) (keys : Keys) (end : ℕ) : Type 0
-  where
-    pub early : (now : ℕ) → now < end →
-        wait_in_phase roll half (Some ttl) now keys ≡ Early (min (ttl * 1_000_000_000) (end - now))
-    pub over : (now : ℕ) → end ≤ now → wait_in_phase roll half (Some ttl) now keys ≡ Clear
-
--- a checked key lacks its stamp, and each wait is refused for it
-abbrev pub LacksStamp : RollType → Half → ℕ → Keys → Type 0
-LacksStamp roll half ttl keys =
-    (now : ℕ) → wait_in_phase roll half (Some ttl) now keys ≡ Barred WrongKeyState
 
 -- the wait of a roll, in its phase, is over from `end` on
 abbrev pub EndsAt : RollType → KeySetParts → ℕ → Type 0

@@ -7,15 +7,9 @@
 //! those of RFC 6781, section 4.1.
 #![tactic(auto)]
 
-mod bits;
-mod check;
-mod counts;
-mod keys;
-mod listed;
 mod roll;
-mod rolls;
 mod set;
-mod side;
+mod start;
 mod wait;
 
 pub use dnssec_base::{Name, NameError, SecurityAlgorithm, Timestamp};

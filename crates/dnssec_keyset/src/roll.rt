@@ -1,14 +1,14 @@
 //! The calls of a roll.
 ghost use Rattle.std.specs.Prelude.{◌≡◌, [], IfOk, IfErr, IsOk, OnOk, OnErr};
-ghost use Rattle.dnssec_key.specs.declared.error.Error.TheVariants.{OutOfMemory};
+ghost use Rattle.dnssec_base.specs.declared.error.Error.TheVariants.{OutOfMemory};
 ghost use Rattle.dnssec_key.specs.RollTable.{which, First, Second, actions_due, actions_of, behind};
 ghost use Rattle.dnssec_key.specs.RollTable.{column};
-ghost use Rattle.dnssec_keyset.specs.KeySet.{phase_of};
-ghost use Rattle.dnssec_keyset.specs.Start.{start_refusal, texts};
-ghost use Rattle.dnssec_keyset.specs.Step.{Answers, AnswersExactly, AnswersWait};
-ghost use Rattle.dnssec_keyset.specs.Step.{StartRoll, Report, Wait, RollDone, AbortRoll, Changes};
-ghost use Rattle.dnssec_keyset.specs.Step.{early_end_refusal, report_refusal, end_refusal};
-ghost use Rattle.dnssec_keyset.specs.Step.{wait_clearance};
+ghost use Rattle.dnssec_zone.specs.Rolls.{phase_of};
+ghost use Rattle.dnssec_keyset.specs.Step.{start_refusal, AnswersWait, StartRoll, Report, Wait};
+ghost use Rattle.dnssec_keyset.specs.Step.{RollDone, AbortRoll, Changes, wait_clearance};
+ghost use Rattle.dnssec_zone.specs.Start.{texts};
+ghost use Rattle.dnssec_zone.specs.Refusals.{Answers, AnswersExactly, early_end_refusal};
+ghost use Rattle.dnssec_zone.specs.Refusals.{report_refusal, end_refusal};
 
 use crate::set::KeySet;
 use dnssec_key::{Action, Error, Half, RollState, RollType, UnixTime};

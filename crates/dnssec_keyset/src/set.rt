@@ -3,24 +3,24 @@ ghost use Rattle.std.specs.Prelude.{◌≡◌, ℕ, List, None, IfOk, IfErr, OnO
 ghost use Rattle.std.specs.Option.{option_map};
 ghost use Rattle.std.specs.FinMap as map;
 ghost use Rattle.std.specs.HashMap as hash;
-ghost use Rattle.dnssec_key.specs.declared.error.Error.TheVariants.{OutOfMemory};
+ghost use Rattle.dnssec_base.specs.declared.error.Error.TheVariants.{OutOfMemory};
 ghost use Rattle.dnssec_key.specs.declared.kind.KeyType.TheVariants.{Ksk, Zsk, Csk, Include};
 ghost use Rattle.dnssec_key.specs.declared.roll.RollType.{RollType as AnyRoll};
 ghost use Rattle.dnssec_key.specs.Key.{new_key, new_state, is_available};
-ghost use Rattle.dnssec_key.specs.Setters.{Decoupled, Present, Signer, AtParent, Stale};
-ghost use Rattle.dnssec_key.specs.Setters.{VisibleAt, DsVisibleAt, RrsigVisibleAt, setting_of};
-ghost use Rattle.dnssec_keyset.specs.KeySet.{keys_in_map, rolls_in_map, new_set, phase_of};
+ghost use Rattle.dnssec_key.specs.Setters.{Decoupled, Present, Signer, AtParent, Stale, VisibleAt};
+ghost use Rattle.dnssec_key.specs.Setters.{DsVisibleAt, RrsigVisibleAt, setting_of};
+ghost use Rattle.dnssec_zone.specs.Keys.{keys_in_map};
+ghost use Rattle.dnssec_zone.specs.Rolls.{rolls_in_map, phase_of};
+ghost use Rattle.dnssec_keyset.specs.KeySet.{new_set};
 ghost use Rattle.dnssec_keyset.specs.Step.{AddKey, Set, DeleteKey, Changes};
-ghost use Rattle.dnssec_keyset.specs.Step.{Answers, AnswersExactly, add_refusal};
-ghost use Rattle.dnssec_keyset.specs.Step.{setting_refusal, deletion_refusal};
+ghost use Rattle.dnssec_zone.specs.Refusals.{Answers, AnswersExactly, add_refusal, setting_refusal};
+ghost use Rattle.dnssec_zone.specs.Refusals.{deletion_refusal};
 
-use crate::keys::Keys;
-use crate::listed::Lists;
-use crate::rolls::Rolls;
 use dnssec_base::{Name, SecurityAlgorithm};
 use dnssec_key::{
     Available, Error, Key, KeyState, KeyType, RollState, RollType, Setting, UnixTime,
 };
+use dnssec_zone::{Keys, Lists, Rolls};
 use std::alloc::Global;
 use std::collections::HashMap;
 use std::marker::Model;
@@ -60,7 +60,8 @@ impl Drop for KeySet {
 
 impl Model for KeySet {
     ghost use Rattle.std.specs.Coded.{codes};
-    ghost use Rattle.dnssec_keyset.specs.KeySet.{KeySetParts, keys_code};
+    ghost use Rattle.dnssec_keyset.specs.KeySet.{KeySetParts};
+    ghost use Rattle.dnssec_zone.specs.Keys.{keys_code};
 
     ghost Value = { KeySetParts };
 

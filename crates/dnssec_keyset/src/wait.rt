@@ -1,12 +1,11 @@
 //! When a wait is over, and what it is refused for until then. Nothing is changed here.
-ghost use Rattle.std.specs.Prelude.{◌≡◌, ◌-◌, ◌*◌, ◌^◌, ◌≤◌, [], min, OnOk, IsSome};
-ghost use Rattle.std.specs.Prelude.{IfSome, IfNone};
+ghost use Rattle.std.specs.Prelude.{◌≡◌, ◌-◌, ◌*◌, ◌^◌, ◌≤◌, [], min, OnOk, IsSome, IfSome, IfNone};
 ghost use Rattle.std.specs.Duration.{as_nanos};
 ghost use Rattle.dnssec_key.specs.RollTable.{which};
-ghost use Rattle.dnssec_keyset.specs.KeySet.{phase_of};
+ghost use Rattle.dnssec_zone.specs.Rolls.{phase_of};
 ghost use Rattle.dnssec_keyset.specs.Step.{AnswersWait, wait_clearance};
-ghost use Rattle.dnssec_keyset.specs.WaitEnd.{EndsAt, HasNoWait, IsOverFrom, LacksStamp};
-ghost use Rattle.dnssec_keyset.specs.WaitEnd.{TellsEnd};
+ghost use Rattle.dnssec_keyset.specs.WaitEnd.{EndsAt, HasNoWait, TellsEnd};
+ghost use Rattle.dnssec_zone.specs.Wait.{IsOverFrom, LacksStamp};
 
 use crate::set::KeySet;
 use dnssec_key::{Error, Half, RollState, RollType, UnixTime};

@@ -6,13 +6,13 @@ use Rattle.std.specs.Str.{IsUtf8, bytes_eq}
 use Rattle.std.specs.Cmp.Lexicographic.{bytes_decides}
 use Rattle.std.specs.Result.{result_ok}
 use Rattle.dnssec_key.specs.Texts.{roll_name, NamesRoll}
-use Rattle.dnssec_key.specs.declared.error.Error.{Error}
+use Rattle.dnssec_base.specs.declared.error.Error.{Error}
 use Rattle.dnssec_key.specs.declared.roll.RollType.{RollType}
 use Rattle.dnssec_key.specs.declared.roll.RollType.TheVariants.{KskRoll, KskDoubleDsRoll}
 use Rattle.dnssec_key.specs.declared.roll.RollType.TheVariants.{ZskRoll}
 use Rattle.dnssec_key.specs.declared.roll.RollType.TheVariants.{ZskDoubleSignatureRoll, CskRoll}
 use Rattle.dnssec_key.specs.declared.roll.RollType.TheVariants.{AlgorithmRoll}
-use Rattle.dnssec_keyset.specs.Start.{all_rolls}
+use Rattle.dnssec_zone.specs.Rolls.{all_rolls}
 use Rattle.dnssec_record.specs.Script.{roll_named}
 use Rattle.dnssec_record.proofs.Zone.{ascii_utf8}
 

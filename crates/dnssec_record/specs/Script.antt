@@ -14,7 +14,7 @@ use Rattle.dnssec_key.specs.declared.roll.Half.TheVariants.{First, Second}
 use Rattle.dnssec_key.specs.declared.roll.RollType.{RollType}
 use Rattle.dnssec_key.specs.Key.{is_available}
 use Rattle.dnssec_key.specs.Texts.{roll_name}
-use Rattle.dnssec_keyset.specs.Start.{all_rolls}
+use Rattle.dnssec_zone.specs.Rolls.{all_rolls}
 use Rattle.dnssec_run.specs.declared.call.Call.{Call}
 use Rattle.dnssec_run.specs.declared.call.Call.TheVariants as call
 use Rattle.dnssec_record.specs.declared.words.Word.{Word}

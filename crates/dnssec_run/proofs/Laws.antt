@@ -2,7 +2,8 @@
 use Rattle.std.proofs.Common.{◌≡◌, ℕ, zero, suc, List, Some, None, refl, subst}
 use Rattle.std.specs.Prelude.{Option, slice_get}
 use Rattle.dnssec_keyset.specs.KeySet.{KeySetParts, new_set}
-use Rattle.dnssec_keyset.specs.Laws.{TagsApart, RollsTogether}
+use Rattle.dnssec_zone.specs.Keys.{TagsApart}
+use Rattle.dnssec_keyset.specs.Laws.{RollsTogether}
 use Rattle.dnssec_keyset.specs.Step as keyset
 use Rattle.dnssec_keyset.proofs.Laws.{apart-new, apart-step, together-new, together-step}
 use Rattle.dnssec_run.specs.declared.call.Call.{Call}

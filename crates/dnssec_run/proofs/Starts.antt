@@ -14,8 +14,10 @@ use Rattle.dnssec_key.specs.declared.roll.RollType.TheVariants.{AlgorithmRoll}
 use Rattle.dnssec_key.specs.declared.roll.RollState.{RollState}
 use Rattle.dnssec_key.specs.declared.roll.RollState.TheVariants.{Propagation1, CacheExpire1}
 use Rattle.dnssec_key.specs.RollTable.{First, Second}
-use Rattle.dnssec_keyset.specs.KeySet.{KeySetParts, phase_of, same_roll, with_phase}
+use Rattle.dnssec_keyset.specs.KeySet.{KeySetParts}
+use Rattle.dnssec_zone.specs.Rolls.{phase_of, same_roll, with_phase}
 use Rattle.dnssec_keyset.specs.Step as keyset
+use Rattle.dnssec_zone.specs.Wait as waits
 use Rattle.dnssec_keyset.proofs.Accepted.{finishes, spreads_second}
 use Rattle.dnssec_run.specs.declared.call.Call.{Call}
 use Rattle.dnssec_run.specs.declared.record.Entry.{Entry}
@@ -59,7 +61,7 @@ module _ (old new : KeySetParts) where
       ∙ ap is_early phase ∙ past)
 
   -- only the end of its first wait takes an algorithm roll further
-  moves-on : (c : keyset.Call) → keyset.clearance old c ≡ keyset.Clear → keyset.Changes old c new
+  moves-on : (c : keyset.Call) → keyset.clearance old c ≡ waits.Clear → keyset.Changes old c new
       → early_end_of c ≢ Some AlgorithmRoll → IsEarly old → (first_wait_of c ≡ Some AlgorithmRoll)
       ⊎ IsEarly new
   moves-on (keyset.AddKey q k) v m none e =
@@ -116,7 +118,7 @@ module _ (old new : KeySetParts) where
   started (keyset.AbortRoll r) m s = absurd (none-some AlgorithmRoll s)
 
 -- where a roll is accepted to start, no algorithm roll is in progress
-alone : (set : KeySetParts) (c : keyset.Call) → keyset.clearance set c ≡ keyset.Clear
+alone : (set : KeySetParts) (c : keyset.Call) → keyset.clearance set c ≡ waits.Clear
     → (roll : RollType) → start_of c ≡ Some roll → phase_of set.rolls AlgorithmRoll ≡ None
 alone set (keyset.AddKey q k) v roll s = absurd (none-some roll s)
 alone set (keyset.Set q x) v roll s = absurd (none-some roll s)
@@ -143,7 +145,7 @@ module _ (name : List ℕ) (calls : List Call) (entries : List Entry) (run : IsR
   -- what an accepted call found and did
   step_of : (does : keyset.Call → Option RollType) (n : ℕ) (roll : RollType)
       → (d : DoesAt does calls entries n roll)
-      → (keyset.clearance (set_at n) (call_of d.call) ≡ keyset.Clear)
+      → (keyset.clearance (set_at n) (call_of d.call) ≡ waits.Clear)
       × keyset.Changes (set_at n) (call_of d.call) (set_at (suc n))
   step_of does n roll d =
       let x = accepted_step (keyset.clearance (set_at n) (call_of d.call)) (set_at n)

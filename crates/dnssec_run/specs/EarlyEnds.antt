@@ -6,8 +6,8 @@ use Rattle.std.specs.Str.{bytes_eq}
 use Rattle.dnssec_key.specs.declared.roll.RollType.{RollType}
 use Rattle.dnssec_key.specs.Key.{KeyParts}
 use Rattle.dnssec_key.specs.Setters.{is_flag_setting}
-use Rattle.dnssec_keyset.specs.KeySet.{with_phase}
-use Rattle.dnssec_keyset.specs.Start.{is_listed}
+use Rattle.dnssec_zone.specs.Rolls.{with_phase}
+use Rattle.dnssec_zone.specs.Start.{is_listed}
 use Rattle.dnssec_keyset.specs.Step as keyset
 use Rattle.dnssec_run.specs.declared.call.Call.{Call}
 use Rattle.dnssec_run.specs.declared.record.Entry.{Entry}

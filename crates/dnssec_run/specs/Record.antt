@@ -10,8 +10,9 @@ use Rattle.dnssec_key.specs.Setters.{DsVisibleAt, RrsigVisibleAt}
 use Rattle.dnssec_key.specs.RollTable.{First, Second}
 use Rattle.dnssec_key.specs.Key.{new_key, new_state, is_available}
 use Rattle.dnssec_keyset.specs.KeySet.{new_set}
-use Rattle.dnssec_keyset.specs.Start.{texts}
-use Rattle.dnssec_keyset.specs.Laws.{TagsApart, RollsTogether, LeavesOthers, AreApart}
+use Rattle.dnssec_zone.specs.Start.{texts}
+use Rattle.dnssec_zone.specs.Keys.{TagsApart}
+use Rattle.dnssec_keyset.specs.Laws.{RollsTogether, LeavesOthers, AreApart}
 use Rattle.dnssec_keyset.specs.Laws.{MayBeExchanged}
 use Rattle.dnssec_keyset.specs.Step as keyset
 use Rattle.dnssec_run.specs.declared.call.Call.{Call}

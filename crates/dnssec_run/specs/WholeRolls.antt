@@ -6,8 +6,8 @@ use Rattle.std.specs.Prelude.{Option, None}
 use Rattle.std.specs.Duration.{as_nanos}
 use Rattle.std.specs.declared.time.Duration.{Duration}
 use Rattle.std.specs.FinMap.{get}
-use Rattle.dnssec_key.specs.declared.error.Error.TheVariants.{WrongKeyState, OutOfMemory}
-use Rattle.dnssec_key.specs.declared.error.Error.TheVariants.{Wait as TooEarly}
+use Rattle.dnssec_base.specs.declared.error.Error.TheVariants.{WrongKeyState, OutOfMemory}
+use Rattle.dnssec_base.specs.declared.error.Error.TheVariants.{Wait as TooEarly}
 use Rattle.dnssec_key.specs.declared.kind.KeyType.{KeyType}
 use Rattle.dnssec_key.specs.declared.kind.KeyType.TheVariants.{Ksk, Zsk, Csk, Include}
 use Rattle.dnssec_key.specs.declared.roll.RollType.{RollType}
@@ -17,9 +17,9 @@ use Rattle.dnssec_key.specs.declared.roll.RollState.TheVariants.{Propagation1, P
 use Rattle.dnssec_key.specs.declared.roll.RollState.TheVariants.{Done}
 use Rattle.dnssec_key.specs.State.{Flags, is_future, is_active_ksk, is_active_zsk, is_stale}
 use Rattle.dnssec_key.specs.Key.{KeyParts, all_states}
-use Rattle.dnssec_keyset.specs.KeySet.{phase_of}
+use Rattle.dnssec_zone.specs.Rolls.{phase_of}
 use Rattle.dnssec_key.specs.RollTable.{Half, First, Second, cache_expire}
-use Rattle.dnssec_keyset.specs.Start.{is_listed}
+use Rattle.dnssec_zone.specs.Start.{is_listed}
 use Rattle.dnssec_keyset.specs.Laws.{in_progress}
 use Rattle.dnssec_keyset.specs.Step as keyset
 use Rattle.dnssec_run.specs.declared.call.Call.{Call}

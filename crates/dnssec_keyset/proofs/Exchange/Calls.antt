@@ -4,21 +4,23 @@ use Rattle.std.proofs.Common.{◌∙◌}
 use Rattle.std.specs.Prelude.{Option, if◌then◌else◌}
 use Rattle.std.specs.FinMap.{get}
 use Rattle.std.proofs.lemmas.Option.{same_Some}
-use Rattle.dnssec_keyset.specs.Start.{Side, is_listed, lists_kind, side_of}
+use Rattle.dnssec_zone.specs.Start.{Side, is_listed, lists_kind, side_of}
 use Rattle.dnssec_key.specs.declared.roll.RollType.{RollType}
 use Rattle.dnssec_key.specs.declared.roll.RollState.{RollState}
 use Rattle.dnssec_key.specs.declared.roll.RollState.TheVariants.{Propagation1}
 use Rattle.dnssec_key.specs.Key.{KeyParts}
-use Rattle.dnssec_keyset.specs.KeySet.{KeySetParts, Listed, Lists, MovesOn, listed_by}
-use Rattle.dnssec_keyset.specs.KeySet.{nothing_listed, with_listed, same_roll}
+use Rattle.dnssec_keyset.specs.KeySet.{KeySetParts, MovesOn}
+use Rattle.dnssec_zone.specs.Lists.{Listed, Lists, listed_by, nothing_listed, with_listed}
+use Rattle.dnssec_zone.specs.Lists.{listed_at_start}
+use Rattle.dnssec_zone.specs.Rolls.{same_roll}
 use Rattle.dnssec_key.specs.RollTable.{First, Second, turns_old, after_start, after_report}
 use Rattle.dnssec_key.specs.RollTable.{after_wait, after_early_end, behind, cache_expire}
 use Rattle.dnssec_keyset.specs.Step.{Call, AddKey, Set, DeleteKey, StartRoll, Report, Wait}
-use Rattle.dnssec_keyset.specs.Step.{RollDone, AbortRoll, Clear, Changes, clearance}
-use Rattle.dnssec_keyset.specs.Step.{listed_at_start}
+use Rattle.dnssec_keyset.specs.Step.{RollDone, AbortRoll, Changes, clearance}
+use Rattle.dnssec_zone.specs.Wait.{Clear}
 use Rattle.dnssec_keyset.specs.Laws.{roll_of}
 use Rattle.dnssec_keyset.proofs.Laws.{no_cause, same-is}
-use Rattle.dnssec_keyset.proofs.Phases.{same_lists, listed_by-with_listed}
+use Rattle.dnssec_zone.proofs.Phases.{same_lists, listed_by-with_listed}
 use Rattle.dnssec_keyset.proofs.Sides.{after_start-others, after_report-others, after_wait-others}
 use Rattle.dnssec_keyset.proofs.Sides.{after_early_end-others, starts-clear}
 use Rattle.dnssec_keyset.proofs.Exchange.Kinds.{kind_number, lists-number, lists_by}

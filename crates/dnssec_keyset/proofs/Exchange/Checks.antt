@@ -5,26 +5,27 @@ use Rattle.std.specs.Prelude.{Option, ◌||◌, ◌&&◌, if◌then◌else◌, i
 use Rattle.std.specs.Option.{option_map_or, option_or}
 use Rattle.std.specs.FinMap.{get}
 use Rattle.dnssec_key.specs.declared.kind.KeyType.{KeyType}
-use Rattle.dnssec_keyset.specs.Start.{PresentKsk, KskAtParent, PresentZsk, PresentKskRole}
-use Rattle.dnssec_keyset.specs.Start.{PresentZskRole, KskSide, ZskSide, BothSides, algorithm_fault}
-use Rattle.dnssec_keyset.specs.Start.{algorithms_within, has_algorithm, is_listed, lists_kind}
-use Rattle.dnssec_keyset.specs.Start.{may_change_algorithms, new_entry_fault, new_fault}
-use Rattle.dnssec_keyset.specs.Start.{old_entry_fault, old_fault, serves_as_kept, serves_as_new}
-use Rattle.dnssec_keyset.specs.Start.{side_of, some_listed, Want, Side}
+use Rattle.dnssec_zone.specs.Start.{PresentKsk, KskAtParent, PresentZsk, PresentKskRole}
+use Rattle.dnssec_zone.specs.Start.{PresentZskRole, KskSide, ZskSide, BothSides, algorithm_fault}
+use Rattle.dnssec_zone.specs.Start.{algorithms_within, has_algorithm, is_listed, lists_kind}
+use Rattle.dnssec_zone.specs.Start.{may_change_algorithms, new_entry_fault, new_fault}
+use Rattle.dnssec_zone.specs.Start.{old_entry_fault, old_fault, serves_as_kept, serves_as_new}
+use Rattle.dnssec_zone.specs.Start.{side_of, some_listed, Want, Side}
 use Rattle.dnssec_key.specs.declared.roll.RollType.{RollType}
-use Rattle.dnssec_key.specs.declared.error.Error.TheVariants.{WrongKeyType, WrongKeyState}
-use Rattle.dnssec_key.specs.declared.error.Error.TheVariants.{AlgorithmSetsMismatch}
+use Rattle.dnssec_base.specs.declared.error.Error.TheVariants.{WrongKeyType, WrongKeyState}
+use Rattle.dnssec_base.specs.declared.error.Error.TheVariants.{AlgorithmSetsMismatch}
 use Rattle.dnssec_key.specs.State.{is_fresh}
 use Rattle.dnssec_key.specs.Key.{KeyParts, all_states}
-use Rattle.dnssec_keyset.specs.KeySet.{KeySetParts, some_entry, some_key}
+use Rattle.dnssec_keyset.specs.KeySet.{KeySetParts}
+use Rattle.dnssec_zone.specs.Keys.{some_entry, some_key}
 use Rattle.dnssec_key.specs.RollTable.{Half}
-use Rattle.dnssec_keyset.specs.Wait.{lacks_stamp, left_since, stamp_read, time_left}
-use Rattle.dnssec_keyset.proofs.Quantified.{some_key-found, some_key-none, some_entry-found}
-use Rattle.dnssec_keyset.proofs.Quantified.{some_entry-none}
+use Rattle.dnssec_zone.specs.Wait.{lacks_stamp, left_since, stamp_read, time_left}
+use Rattle.dnssec_zone.proofs.Quantified.{some_key-found, some_key-none, some_entry-found}
+use Rattle.dnssec_zone.proofs.Quantified.{some_entry-none}
 use Rattle.dnssec_keyset.proofs.Sides.{checks-others}
 use Rattle.dnssec_keyset.proofs.Exchange.Seen.{Alike, SameFor, alike-found, same-sym}
 use Rattle.std.proofs.lemmas.Bool.{cases_Bool, and_parts, not-true}
-use Rattle.dnssec_keyset.proofs.Tests.{each_key, each_key-at, or_second}
+use Rattle.dnssec_zone.proofs.Tests.{each_key, each_key-at, or_second}
 
 -- ---- a roll's call is told the same where the roll sees the same
 

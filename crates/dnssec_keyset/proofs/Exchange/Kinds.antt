@@ -4,15 +4,15 @@ use Rattle.std.proofs.Common.{◌≡◌, ℕ, Bool, true, false, refl, inl, inr,
 use Rattle.std.specs.Prelude.{nat_eq, nat_lt}
 use Rattle.dnssec_key.specs.declared.kind.KeyType.{KeyType}
 use Rattle.dnssec_key.specs.declared.kind.KeyType.TheVariants.{Ksk, Zsk, Csk, Include}
-use Rattle.dnssec_keyset.specs.Start.{Side, KskSide, ZskSide, BothSides, are_apart, lists_kind}
-use Rattle.dnssec_keyset.specs.Start.{side_of, together}
+use Rattle.dnssec_zone.specs.Start.{Side, KskSide, ZskSide, BothSides, are_apart, lists_kind}
+use Rattle.dnssec_zone.specs.Start.{side_of, together}
 use Rattle.dnssec_key.specs.declared.roll.RollType.{RollType}
 use Rattle.dnssec_key.specs.State.{Flags}
-use Rattle.dnssec_keyset.specs.KeySet.{same_roll}
+use Rattle.dnssec_zone.specs.Rolls.{same_roll}
 use Rattle.dnssec_key.specs.RollTable.{Half, First, Second, column, half_of, at_roles}
 use Rattle.dnssec_keyset.proofs.Laws.{same-is}
 use Rattle.std.proofs.lemmas.Bool.{cases_Bool, and_parts, eqb-true}
-use Rattle.dnssec_keyset.proofs.Tests.{each_in_roll, each_in_roll-at}
+use Rattle.dnssec_zone.proofs.Tests.{each_in_roll, each_in_roll-at}
 
 -- ---- kinds
 

@@ -8,23 +8,24 @@ use Rattle.std.specs.FinMap.{get}
 use Rattle.std.proofs.lemmas.Option.{same_Some}
 use Rattle.dnssec_key.specs.declared.roll.RollType.{RollType}
 use Rattle.dnssec_key.specs.declared.roll.RollState.{RollState}
-use Rattle.dnssec_key.specs.declared.error.Error.TheVariants.{OutOfMemory}
+use Rattle.dnssec_base.specs.declared.error.Error.TheVariants.{OutOfMemory}
 use Rattle.dnssec_key.specs.State.{is_kept}
 use Rattle.dnssec_key.specs.Key.{KeyParts, all_states}
-use Rattle.dnssec_keyset.specs.KeySet.{KeySetParts, Listed, Lists, Rolls, listed_by, with_listed}
-use Rattle.dnssec_keyset.specs.KeySet.{phase_of, with_phase, same_roll}
+use Rattle.dnssec_keyset.specs.KeySet.{KeySetParts}
+use Rattle.dnssec_zone.specs.Lists.{Listed, Lists, listed_by, with_listed, has_kept_key}
+use Rattle.dnssec_zone.specs.Rolls.{Rolls, phase_of, with_phase, same_roll}
 use Rattle.dnssec_key.specs.RollTable.{First, Second, after_early_end}
-use Rattle.dnssec_keyset.specs.Start.{is_listed, lists_kind, old_entry_fault, old_fault, side_of}
-use Rattle.dnssec_keyset.specs.Start.{start_refusal, together}
-use Rattle.dnssec_keyset.specs.Step.{Call, AddKey, Set, DeleteKey, StartRoll, Report, Wait}
-use Rattle.dnssec_keyset.specs.Step.{RollDone, AbortRoll, Reply, Refused, Clearance, Barred, Early}
-use Rattle.dnssec_keyset.specs.Step.{Clear, Changes, Step, StepBy, accepted_reply, after}
-use Rattle.dnssec_keyset.specs.Step.{has_kept_key, clearance}
+use Rattle.dnssec_zone.specs.Start.{is_listed, lists_kind, old_entry_fault, old_fault, side_of}
+use Rattle.dnssec_zone.specs.Start.{together}
+use Rattle.dnssec_keyset.specs.Step.{start_refusal, Call, AddKey, Set, DeleteKey, StartRoll, Report}
+use Rattle.dnssec_keyset.specs.Step.{Wait, RollDone, AbortRoll, Reply, Refused, Changes, Step}
+use Rattle.dnssec_keyset.specs.Step.{StepBy, accepted_reply, after, clearance}
+use Rattle.dnssec_zone.specs.Wait.{Clearance, Barred, Early, Clear}
 use Rattle.dnssec_keyset.specs.Laws.{AreApart, MayBeExchanged, roll_of}
 use Rattle.dnssec_keyset.proofs.After.{after-changes}
 use Rattle.dnssec_keyset.proofs.Laws.{no_cause, no_first, no_rest, same-is}
-use Rattle.dnssec_keyset.proofs.Phases.{phase_of-with_phase, same_rolls, same_lists}
-use Rattle.dnssec_keyset.proofs.Phases.{listed_by-with_listed}
+use Rattle.dnssec_zone.proofs.Phases.{phase_of-with_phase, same_rolls, same_lists}
+use Rattle.dnssec_zone.proofs.Phases.{listed_by-with_listed}
 use Rattle.dnssec_keyset.proofs.Sides.{starts-clear, old-kind}
 use Rattle.dnssec_keyset.proofs.Exchange.Kinds.{apart-kinds, apart-rolls}
 use Rattle.dnssec_keyset.proofs.Exchange.Calls.{MovesBy, key_after, kind-after, listed_after}

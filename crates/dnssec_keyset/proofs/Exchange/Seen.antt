@@ -5,20 +5,22 @@ use Rattle.std.specs.Prelude.{Option, ◌||◌, ◌&&◌, if◌then◌else◌, i
 use Rattle.std.specs.Option.{option_map}
 use Rattle.std.specs.FinMap.{get}
 use Rattle.std.proofs.lemmas.Option.{same_Some}
-use Rattle.dnssec_keyset.specs.Start.{Side, KskSide, ZskSide, BothSides, are_apart, has_conflict}
-use Rattle.dnssec_keyset.specs.Start.{lists_kind, side_of, together}
+use Rattle.dnssec_zone.specs.Start.{Side, KskSide, ZskSide, BothSides, are_apart, has_conflict}
+use Rattle.dnssec_zone.specs.Start.{lists_kind, side_of, together}
 use Rattle.dnssec_key.specs.declared.roll.RollType.{RollType}
 use Rattle.dnssec_key.specs.declared.roll.RollType.TheVariants.{KskRoll, KskDoubleDsRoll, ZskRoll}
 use Rattle.dnssec_key.specs.declared.roll.RollType.TheVariants.{ZskDoubleSignatureRoll, CskRoll}
 use Rattle.dnssec_key.specs.declared.roll.RollType.TheVariants.{AlgorithmRoll}
 use Rattle.dnssec_key.specs.declared.roll.RollState.{RollState}
 use Rattle.dnssec_key.specs.Key.{KeyParts}
-use Rattle.dnssec_keyset.specs.KeySet.{KeySetParts, Rolls, listed_by, phase_of, with_phase}
-use Rattle.dnssec_keyset.specs.KeySet.{same_roll}
-use Rattle.dnssec_keyset.specs.Step.{Call, Clear, Changes, clearance}
+use Rattle.dnssec_keyset.specs.KeySet.{KeySetParts}
+use Rattle.dnssec_zone.specs.Rolls.{Rolls, phase_of, with_phase, same_roll}
+use Rattle.dnssec_zone.specs.Lists.{listed_by}
+use Rattle.dnssec_keyset.specs.Step.{Call, Changes, clearance}
+use Rattle.dnssec_zone.specs.Wait.{Clear}
 use Rattle.dnssec_keyset.specs.Laws.{roll_of}
 use Rattle.dnssec_keyset.proofs.Laws.{same-is}
-use Rattle.dnssec_keyset.proofs.Phases.{phase_of-with_phase, listed_by-with_listed}
+use Rattle.dnssec_zone.proofs.Phases.{phase_of-with_phase, listed_by-with_listed}
 use Rattle.dnssec_keyset.proofs.Exchange.Kinds.{apart-kinds, apart-rolls}
 use Rattle.dnssec_keyset.proofs.Exchange.Calls.{algorithm-after, key_after, kind-after}
 use Rattle.dnssec_keyset.proofs.Exchange.Calls.{listed_after, moves-on, phase_after, stays-after}

@@ -1,32 +1,32 @@
 -- So is every call on a roll, down to the longest time that is left.
-use Rattle.std.proofs.Common.{◌≡◌, ℕ, ◌≤◌, Bool, true, false, not, List, [], ◌∷◌, Some, None}
-use Rattle.std.proofs.Common.{refl, inl, inr, sym, ap, subst, ◌∙◌, arith}
+use Rattle.std.proofs.Common.{◌≡◌, ℕ, ◌≤◌, Bool, true, false, not, List, [], ◌∷◌, Some, None, refl}
+use Rattle.std.proofs.Common.{inl, inr, sym, ap, subst, ◌∙◌, arith}
 use Rattle.std.specs.Prelude.{Option, ◌||◌, ◌&&◌, if◌then◌else◌, is_some}
 use Rattle.std.specs.List.{list_all}
 use Rattle.std.specs.FinMap.{get}
 use Rattle.std.proofs.lemmas.Option.{same_Some}
 use Rattle.dnssec_key.specs.declared.kind.KeyType.{KeyType}
-use Rattle.dnssec_keyset.specs.Start.{Want, PresentKsk, KskAtParent, PresentZsk, PresentKskRole}
-use Rattle.dnssec_keyset.specs.Start.{PresentZskRole, conflict, first_of_causes, is_listed, is_met}
-use Rattle.dnssec_keyset.specs.Start.{lists_kind, serves_as_kept, serves_as_new, side_of}
-use Rattle.dnssec_keyset.specs.Start.{start_refusal, wants}
+use Rattle.dnssec_zone.specs.Start.{Want, PresentKsk, KskAtParent, PresentZsk, PresentKskRole}
+use Rattle.dnssec_zone.specs.Start.{PresentZskRole, conflict, is_listed, is_met, lists_kind}
+use Rattle.dnssec_zone.specs.Start.{serves_as_kept, serves_as_new, side_of, wants}
+use Rattle.dnssec_keyset.specs.Step.{first_of_causes, start_refusal, Call, AddKey, Set, DeleteKey}
+use Rattle.dnssec_keyset.specs.Step.{StartRoll, Report, Wait, RollDone, AbortRoll, clearance}
 use Rattle.dnssec_key.specs.declared.roll.RollType.{RollType}
 use Rattle.dnssec_key.specs.declared.roll.RollType.TheVariants.{KskRoll, KskDoubleDsRoll, ZskRoll}
 use Rattle.dnssec_key.specs.declared.roll.RollType.TheVariants.{ZskDoubleSignatureRoll, CskRoll}
 use Rattle.dnssec_key.specs.declared.roll.RollType.TheVariants.{AlgorithmRoll}
-use Rattle.dnssec_key.specs.declared.error.Error.TheVariants.{WrongKeyState, NoSuitableKeyPresent}
-use Rattle.dnssec_key.specs.declared.error.Error.TheVariants.{WrongStateForRollOperation}
-use Rattle.dnssec_key.specs.declared.error.Error.TheVariants.{ConflictingRollInProgress}
+use Rattle.dnssec_base.specs.declared.error.Error.TheVariants.{WrongKeyState, NoSuitableKeyPresent}
+use Rattle.dnssec_base.specs.declared.error.Error.TheVariants.{WrongStateForRollOperation}
+use Rattle.dnssec_base.specs.declared.error.Error.TheVariants.{ConflictingRollInProgress}
 use Rattle.dnssec_key.specs.Key.{KeyParts}
-use Rattle.dnssec_keyset.specs.KeySet.{KeySetParts, phase_of}
+use Rattle.dnssec_keyset.specs.KeySet.{KeySetParts}
+use Rattle.dnssec_zone.specs.Rolls.{phase_of}
 use Rattle.dnssec_key.specs.RollTable.{Half}
-use Rattle.dnssec_keyset.specs.Wait.{lacks_stamp, longest_left, time_left, ttl_in}
-use Rattle.dnssec_keyset.specs.Step.{Call, AddKey, Set, DeleteKey, StartRoll, Report, Wait}
-use Rattle.dnssec_keyset.specs.Step.{RollDone, AbortRoll, Barred, barred_by, early_by, clearance}
-use Rattle.dnssec_keyset.specs.Step.{early_end_refusal, end_refusal, report_refusal}
-use Rattle.dnssec_keyset.specs.Step.{wait_in_phase}
+use Rattle.dnssec_zone.specs.Wait.{lacks_stamp, longest_left, time_left, ttl_in, Barred, barred_by}
+use Rattle.dnssec_zone.specs.Wait.{early_by, wait_in_phase}
+use Rattle.dnssec_zone.specs.Refusals.{early_end_refusal, end_refusal, report_refusal}
 use Rattle.dnssec_keyset.specs.Laws.{roll_of}
-use Rattle.dnssec_keyset.proofs.Longest.{longest-bound, longest-most}
+use Rattle.dnssec_zone.proofs.Longest.{longest-bound, longest-most}
 use Rattle.dnssec_keyset.proofs.Exchange.Seen.{SameFor, alike-found, same-sym}
 use Rattle.dnssec_keyset.proofs.Exchange.Checks.{algorithms-same, entry-same, key-same, left-others}
 use Rattle.dnssec_keyset.proofs.Exchange.Checks.{listed-same, new-same, old-same, serves-others}

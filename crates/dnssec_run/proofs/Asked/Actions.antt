@@ -12,10 +12,10 @@ use Rattle.dnssec_run.specs.Asked.{update_of, report_of}
 use Rattle.dnssec_run.specs.WholeRolls.{spreading}
 use Rattle.dnssec_run.specs.Published.{in_ds, in_dnskey, signs_dnskey, signs_zone}
 use Rattle.dnssec_run.specs.Safe.{SetKind, Ds, Dnskey, ZoneSigners, retires}
-use Rattle.dnssec_keyset.proofs.Flags.{started, ended, is_blank, is_stale}
+use Rattle.dnssec_zone.proofs.Flags.{started, ended, is_blank, is_stale}
 use Rattle.dnssec_run.proofs.Chain.Tables.{half}
-use Rattle.dnssec_keyset.proofs.Tests.{both, both-at, each_key, each_key-at, each_roll}
-use Rattle.dnssec_keyset.proofs.Tests.{each_roll-at, ◌⇒◌, mp, alike, alike-same, and-both}
+use Rattle.dnssec_zone.proofs.Tests.{both, both-at, each_key, each_key-at, each_roll}
+use Rattle.dnssec_zone.proofs.Tests.{each_roll-at, ◌⇒◌, mp, alike, alike-same, and-both}
 
 -- ---- an action in a list
 

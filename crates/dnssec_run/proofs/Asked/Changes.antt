@@ -13,13 +13,15 @@ use Rattle.std.proofs.lemmas.Option.{none-some, slice_get_cases}
 use Rattle.dnssec_key.specs.declared.roll.Action.{Action}
 use Rattle.dnssec_key.specs.declared.kind.KeyType.{KeyType}
 use Rattle.dnssec_key.specs.Key.{KeyParts}
-use Rattle.dnssec_keyset.specs.KeySet.{KeySetParts, listed_by}
+use Rattle.dnssec_keyset.specs.KeySet.{KeySetParts}
+use Rattle.dnssec_zone.specs.Lists.{listed_by}
 use Rattle.dnssec_key.specs.RollTable.{First, Second}
 use Rattle.dnssec_key.specs.Setters.{Setting, Decoupled, Present, Signer, AtParent, Stale}
 use Rattle.dnssec_key.specs.Setters.{VisibleAt, DsVisibleAt, RrsigVisibleAt, is_flag_setting}
 use Rattle.dnssec_key.specs.Setters.{set_by}
-use Rattle.dnssec_keyset.specs.Start.{is_listed}
+use Rattle.dnssec_zone.specs.Start.{is_listed}
 use Rattle.dnssec_keyset.specs.Step as keyset
+use Rattle.dnssec_zone.specs.Wait as waits
 use Rattle.dnssec_run.specs.declared.call.Call.{Call}
 use Rattle.dnssec_run.specs.declared.record.Entry.{Entry}
 use Rattle.dnssec_run.specs.declared.record.Published.{Published}
@@ -35,7 +37,7 @@ use Rattle.dnssec_run.specs.Record.{reference_added, added_by}
 use Rattle.dnssec_run.specs.Safe.{SetKind, Ds, Dnskey, ZoneSigners, position_at, position_of, blank}
 use Rattle.dnssec_run.proofs.Positions.{same-shown, shown-none}
 use Rattle.dnssec_run.proofs.Chain.Tale.{start-parts, early-end-parts}
-use Rattle.dnssec_keyset.proofs.Tests.{alike-same, or_second}
+use Rattle.dnssec_zone.proofs.Tests.{alike-same, or_second}
 use Rattle.dnssec_run.proofs.Chain.Trust.{adds_blank, plainly}
 use Rattle.dnssec_run.proofs.Asked.Actions.{updates, asks_update, start-asks, wait-asks, same_in}
 use Rattle.dnssec_run.proofs.Asked.Actions.{early-end-asks}
@@ -120,7 +122,7 @@ module _ (kind : SetKind) (old new : KeySetParts) where
   by_keys o keys agree q = subst (λ u. Agree kind u (get old.keys q)) (sym (keys q)) (agree q)
 
   agree-step : (c : keyset.Call) → sets_flag c ≡ false → adds_blank c ≡ true
-      → keyset.clearance old c ≡ keyset.Clear → keyset.Changes old c new
+      → keyset.clearance old c ≡ waits.Clear → keyset.Changes old c new
       → list_any (updates kind) (due (keyset.accepted_reply c)) ≡ false
       → (q : List ℕ) → Agree kind (get new.keys q) (get old.keys q)
   agree-step (keyset.AddKey r k) calm fresh v m none =
@@ -173,7 +175,7 @@ module _ (kind : SetKind) (old new : KeySetParts) where
 
 -- a key that is there isn't added
 added-same : (n : ℕ) (c : keyset.Call) (f : List ℕ → ℕ) (set : KeySetParts)
-    → keyset.clearance set c ≡ keyset.Clear → (q : List ℕ) (k : KeyParts)
+    → keyset.clearance set c ≡ waits.Clear → (q : List ℕ) (k : KeyParts)
     → get set.keys q ≡ Some k → with_added n (reference_added c) f q ≡ f q
 added-same n (keyset.AddKey r key) f set v q k there = by (bytes_eq r q) refl
   where

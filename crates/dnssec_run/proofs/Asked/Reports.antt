@@ -11,9 +11,11 @@ use Rattle.dnssec_key.specs.declared.roll.RollState.{RollState}
 use Rattle.dnssec_key.specs.declared.roll.RollState.TheVariants.{Propagation1, CacheExpire1}
 use Rattle.dnssec_key.specs.declared.roll.RollState.TheVariants.{Propagation2, CacheExpire2}
 use Rattle.dnssec_key.specs.declared.roll.RollState.TheVariants.{Done}
-use Rattle.dnssec_keyset.specs.KeySet.{KeySetParts, phase_of, same_roll, with_phase}
+use Rattle.dnssec_keyset.specs.KeySet.{KeySetParts}
+use Rattle.dnssec_zone.specs.Rolls.{phase_of, same_roll, with_phase}
 use Rattle.dnssec_key.specs.RollTable.{First, Second, actions_of}
 use Rattle.dnssec_keyset.specs.Step as keyset
+use Rattle.dnssec_zone.specs.Wait as waits
 use Rattle.dnssec_run.specs.declared.call.Call.{Call}
 use Rattle.dnssec_run.specs.declared.record.Entry.{Entry}
 use Rattle.dnssec_run.specs.declared.record.Mark.{Mark}
@@ -32,7 +34,7 @@ use Rattle.dnssec_run.proofs.WholeRolls.Replies.{accepted_step, refused_step, at
 use Rattle.dnssec_run.proofs.Asked.Actions.{reports, asks_report, report_asked, retires-asked}
 use Rattle.dnssec_run.proofs.Asked.Changes.{due, due_by}
 use Rattle.dnssec_keyset.proofs.Laws.{same-is, no_cause}
-use Rattle.dnssec_keyset.proofs.Phases.{no_phases}
+use Rattle.dnssec_zone.proofs.Phases.{no_phases}
 use Rattle.std.proofs.lemmas.Bool.{cases_Bool}
 
 -- the phase in which a roll last asked for something but its last actions
@@ -96,7 +98,7 @@ module _ (entries : List Entry) (n : ℕ) (old new : KeySetParts) where
   other-roll : (q r : RollType) → same_roll q r ≡ false → same_roll r q ≡ false
   other-roll q r e = same-sym r q ∙ e
 
-  based-step : (c : keyset.Call) → keyset.clearance old c ≡ keyset.Clear → keyset.Changes old c new
+  based-step : (c : keyset.Call) → keyset.clearance old c ≡ waits.Clear → keyset.Changes old c new
       → (position_at entries (suc n)).mark ≡ mark c
       → asked_at entries (suc n) ≡ due (keyset.accepted_reply c) → Before → After
   based-step (keyset.AddKey r k) v m mk asked h = calm m.rolls (λ r. ap (is_step r) mk) h
@@ -212,7 +214,7 @@ module _ (name : List ℕ) (calls : List Call) (entries : List Entry)
 
   -- the report of a call
   reported : (n : ℕ) → n ≤ length entries → (c : keyset.Call)
-      → keyset.clearance (set_at n) c ≡ keyset.Clear → (roll : RollType) (second : Bool) (ttl : ℕ)
+      → keyset.clearance (set_at n) c ≡ waits.Clear → (roll : RollType) (second : Bool) (ttl : ℕ)
       → mark c ≡ Report roll second ttl → Retires (suc n) roll second
   reported n le (keyset.Report r First t now) v roll second ttl e =
       subst (λ m. Retires (suc n) (roll_in m) (half_in m)) e

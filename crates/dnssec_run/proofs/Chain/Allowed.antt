@@ -19,24 +19,28 @@ use Rattle.dnssec_key.specs.declared.roll.RollState.TheVariants.{Propagation1, C
 use Rattle.dnssec_key.specs.declared.roll.RollState.TheVariants.{Propagation2, CacheExpire2}
 use Rattle.dnssec_key.specs.declared.roll.RollState.TheVariants.{Done}
 use Rattle.dnssec_key.specs.declared.kind.KeyType.{KeyType}
-use Rattle.dnssec_key.specs.declared.error.Error.{Error}
+use Rattle.dnssec_base.specs.declared.error.Error.{Error}
 use Rattle.dnssec_key.specs.State.{is_fresh}
 use Rattle.dnssec_key.specs.Key.{KeyParts, all_states}
-use Rattle.dnssec_keyset.specs.KeySet.{Rolls, phase_of, some_key}
-use Rattle.dnssec_keyset.specs.Start.{is_listed as listed, conflict, has_conflict, together}
-use Rattle.dnssec_keyset.specs.Start.{old_entry_fault, old_fault, new_entry_fault, new_fault}
-use Rattle.dnssec_keyset.specs.Start.{start_refusal, some_listed, some_kept, is_met, wants}
-use Rattle.dnssec_keyset.specs.Start.{algorithm_fault, suitability_fault, first_of_causes}
-use Rattle.dnssec_keyset.specs.Step.{Barred, Clear, early_by, wait_in_phase, wait_clearance}
-use Rattle.dnssec_keyset.specs.Wait.{lacks_stamp, longest_left, time_left, ttl_in, left_since}
-use Rattle.dnssec_keyset.specs.Wait.{stamp_read}
-use Rattle.dnssec_keyset.proofs.Quantified.{some_key-none, some_entry-found}
-use Rattle.dnssec_keyset.proofs.Longest.{longest-bound, clear-left}
+use Rattle.dnssec_zone.specs.Rolls.{Rolls, phase_of}
+use Rattle.dnssec_zone.specs.Keys.{some_key}
+use Rattle.dnssec_zone.specs.Start.{is_listed as listed, conflict, has_conflict, together}
+use Rattle.dnssec_zone.specs.Start.{old_entry_fault, old_fault, new_entry_fault, new_fault}
+use Rattle.dnssec_keyset.specs.Step.{start_refusal}
+use Rattle.dnssec_zone.specs.Start.{some_listed, some_kept, is_met, wants}
+use Rattle.dnssec_zone.specs.Start.{algorithm_fault, suitability_fault}
+use Rattle.dnssec_keyset.specs.Step.{first_of_causes}
+use Rattle.dnssec_zone.specs.Wait.{Barred, Clear, early_by, wait_in_phase}
+use Rattle.dnssec_keyset.specs.Step.{wait_clearance}
+use Rattle.dnssec_zone.specs.Wait.{lacks_stamp, longest_left, time_left, ttl_in, left_since}
+use Rattle.dnssec_zone.specs.Wait.{stamp_read}
+use Rattle.dnssec_zone.proofs.Quantified.{some_key-none, some_entry-found}
+use Rattle.dnssec_zone.proofs.Longest.{longest-bound, clear-left}
 use Rattle.dnssec_run.specs.Published.{World as RealWorld}
-use Rattle.dnssec_keyset.proofs.Flags.{SideOf, Keys, Zone, affects, is_blank, may_list}
+use Rattle.dnssec_zone.proofs.Flags.{SideOf, Keys, Zone, affects, is_blank, may_list}
 use Rattle.dnssec_run.proofs.Chain.Tables.{half, reads-stamp}
 use Rattle.dnssec_run.proofs.Chain.Tale.{seen, waiting, IsOver, HasSuitable, CanStart}
-use Rattle.dnssec_keyset.proofs.Tests.{each_key, each_key-at, ◌⇒◌, mp}
+use Rattle.dnssec_zone.proofs.Tests.{each_key, each_key-at, ◌⇒◌, mp}
 use Rattle.dnssec_keyset.proofs.Laws.{no_first, no_rest, no_roll, no_conflict}
 use Rattle.dnssec_keyset.proofs.Sides.{old-listed}
 

@@ -11,12 +11,12 @@ use Rattle.dnssec_key.specs.declared.roll.RollType.TheVariants.{AlgorithmRoll}
 use Rattle.dnssec_key.specs.declared.roll.RollState.{RollState}
 use Rattle.dnssec_key.specs.declared.roll.RollState.TheVariants.{Propagation1, Propagation2, Done}
 use Rattle.dnssec_key.specs.declared.kind.KeyType.{KeyType}
-use Rattle.dnssec_keyset.specs.KeySet.{same_roll}
+use Rattle.dnssec_zone.specs.Rolls.{same_roll}
 use Rattle.dnssec_run.specs.declared.record.Mark.TheVariants.{Other, Step, Report}
 use Rattle.dnssec_run.specs.Published.{Id, in_ds}
 use Rattle.dnssec_run.specs.Safe.{Ds, position_at, is_step}
 use Rattle.dnssec_run.specs.Plain.{DoesAt, first_wait_of}
-use Rattle.dnssec_keyset.proofs.Flags.{SideOf, Keys, Zone, tolerates, Stage, Quiet, Early}
+use Rattle.dnssec_zone.proofs.Flags.{SideOf, Keys, Zone, tolerates, Stage, Quiet, Early}
 use Rattle.dnssec_run.proofs.Chain.Tale.{Tale, World, Key, found, if_some, world_at, put_roll}
 use Rattle.dnssec_run.proofs.Chain.Tale.{rolled, report_key, waiting, spreading}
 use Rattle.dnssec_run.proofs.Chain.Flags.{in_use, in_other, in_keys}

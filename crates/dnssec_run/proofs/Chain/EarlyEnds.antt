@@ -1,9 +1,9 @@
 -- The facts of the tables on early ends: what a start put on keys is taken from them again.
-use Rattle.dnssec_keyset.proofs.Tests.{each_key, each_key-at, ◌⇒◌, mp, and-both, each_listed}
-use Rattle.dnssec_keyset.proofs.Tests.{each_listed-at}
-use Rattle.dnssec_keyset.proofs.Flags.{SideOf, Keys, Zone, affects, fits, Quiet, has_role, is_idle}
-use Rattle.dnssec_keyset.proofs.Flags.{may_list, may_start, started, ended, tied, Stage, each_stage}
-use Rattle.dnssec_keyset.proofs.Flags.{each_stage-at}
+use Rattle.dnssec_zone.proofs.Tests.{each_key, each_key-at, ◌⇒◌, mp, and-both, each_listed}
+use Rattle.dnssec_zone.proofs.Tests.{each_listed-at}
+use Rattle.dnssec_zone.proofs.Flags.{SideOf, Keys, Zone, affects, fits, Quiet, has_role, is_idle}
+use Rattle.dnssec_zone.proofs.Flags.{may_list, may_start, started, ended, tied, Stage, each_stage}
+use Rattle.dnssec_zone.proofs.Flags.{each_stage-at}
 use Rattle.dnssec_keyset.proofs.Sides.{after_early_end-others}
 use Rattle.std.proofs.Common.{◌≡◌, Bool, true, false, not, ◌&&◌, refl, sym, ◌∙◌, ap}
 use Rattle.std.proofs.lemmas.Bool.{and_parts}

@@ -1,11 +1,11 @@
 -- More facts of the tables: the waits, the keys that a call leaves alone, the keys that a wait
 -- reads.
-use Rattle.dnssec_keyset.proofs.Tests.{each_key, four, each_key-at, ◌⇒◌, mp, and-both, each_in_roll}
-use Rattle.dnssec_keyset.proofs.Tests.{each_in_roll-at, each_in_half, each_in_half-at, each_listed}
-use Rattle.dnssec_keyset.proofs.Tests.{each_listed-at, each_roll, each_roll-at, or_second}
-use Rattle.dnssec_keyset.proofs.Flags.{SideOf, affects, fits, has_role, is_blank, is_idle, may_list}
-use Rattle.dnssec_keyset.proofs.Flags.{may_start, started, tolerates, waited1, waited2, Keys, Zone}
-use Rattle.dnssec_keyset.proofs.Flags.{Quiet, Early, Late, wait1-fits, wait2-fits}
+use Rattle.dnssec_zone.proofs.Tests.{each_key, four, each_key-at, ◌⇒◌, mp, and-both, each_in_roll}
+use Rattle.dnssec_zone.proofs.Tests.{each_in_roll-at, each_in_half, each_in_half-at, each_listed}
+use Rattle.dnssec_zone.proofs.Tests.{each_listed-at, each_roll, each_roll-at, or_second}
+use Rattle.dnssec_zone.proofs.Flags.{SideOf, affects, fits, has_role, is_blank, is_idle, may_list}
+use Rattle.dnssec_zone.proofs.Flags.{may_start, started, tolerates, waited1, waited2, Keys, Zone}
+use Rattle.dnssec_zone.proofs.Flags.{Quiet, Early, Late, wait1-fits, wait2-fits}
 use Rattle.std.proofs.Common.{◌≡◌, Bool, true, false, not, ◌&&◌, ◌||◌, refl, sym, ◌∙◌, ap}
 use Rattle.std.proofs.lemmas.Bool.{and_parts, true≢false, not-true}
 use Rattle.dnssec_key.specs.declared.roll.RollType.{RollType}

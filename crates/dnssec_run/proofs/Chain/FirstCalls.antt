@@ -8,14 +8,14 @@ use Rattle.dnssec_key.specs.declared.roll.RollType.TheVariants.{AlgorithmRoll}
 use Rattle.dnssec_key.specs.declared.roll.RollState.{RollState}
 use Rattle.dnssec_key.specs.declared.roll.RollState.TheVariants.{Propagation1, CacheExpire1}
 use Rattle.dnssec_key.specs.declared.roll.RollState.TheVariants.{Propagation2}
-use Rattle.dnssec_keyset.specs.KeySet.{same_roll}
-use Rattle.dnssec_keyset.specs.Step.{has_kept_key}
+use Rattle.dnssec_zone.specs.Rolls.{same_roll}
+use Rattle.dnssec_zone.specs.Lists.{has_kept_key}
 use Rattle.dnssec_run.specs.declared.record.Mark.TheVariants.{Step}
 use Rattle.dnssec_run.specs.Published.{Id}
 use Rattle.dnssec_run.specs.Safe.{position_at}
 use Rattle.dnssec_run.specs.Plain.{DoesAt, start_of, needs_algorithm_roll}
-use Rattle.dnssec_keyset.proofs.Flags.{SideOf, Keys, Zone, affects, tolerates, Stage, Quiet, Early}
-use Rattle.dnssec_keyset.proofs.Flags.{Late, fits}
+use Rattle.dnssec_zone.proofs.Flags.{SideOf, Keys, Zone, affects, tolerates, Stage, Quiet, Early}
+use Rattle.dnssec_zone.proofs.Flags.{Late, fits}
 use Rattle.dnssec_run.proofs.Chain.Tale.{Tale, Key, found, world_at, start_key, wait1_key}
 use Rattle.dnssec_run.proofs.Chain.Tale.{is_listed, IsOver, CanStart}
 use Rattle.dnssec_run.proofs.Chain.Flags.{second_kind, switches}

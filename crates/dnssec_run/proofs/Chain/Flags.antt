@@ -1,7 +1,7 @@
 -- The finite facts of the tables on both sides of the chain, computed over all kinds and flags.
-use Rattle.dnssec_keyset.proofs.Tests.{four, ◌⇒◌, mp, and-both, each_listed, each_listed-at}
-use Rattle.dnssec_keyset.proofs.Flags.{SideOf, affects, fits, has_role, may_start, started, Keys}
-use Rattle.dnssec_keyset.proofs.Flags.{Zone, Quiet, Early, start-fits}
+use Rattle.dnssec_zone.proofs.Tests.{four, ◌⇒◌, mp, and-both, each_listed, each_listed-at}
+use Rattle.dnssec_zone.proofs.Flags.{SideOf, affects, fits, has_role, may_start, started, Keys}
+use Rattle.dnssec_zone.proofs.Flags.{Zone, Quiet, Early, start-fits}
 use Rattle.std.proofs.Common.{◌≡◌, Bool, true, false, not, ◌&&◌, ◌||◌, refl}
 use Rattle.std.proofs.lemmas.Bool.{and_parts}
 use Rattle.dnssec_key.specs.declared.roll.RollType.{RollType}

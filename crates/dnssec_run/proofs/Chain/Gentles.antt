@@ -11,12 +11,12 @@ use Rattle.dnssec_key.specs.declared.roll.RollState.TheVariants.{Propagation1, P
 use Rattle.dnssec_key.specs.declared.kind.KeyType.{KeyType}
 use Rattle.std.specs.Str.{bytes_eq}
 use Rattle.std.specs.Cmp.Lexicographic.{bytes_decides}
-use Rattle.dnssec_keyset.specs.KeySet.{same_roll}
+use Rattle.dnssec_zone.specs.Rolls.{same_roll}
 use Rattle.dnssec_run.specs.declared.record.Mark.TheVariants.{Other, Step, Report}
 use Rattle.dnssec_run.specs.Published.{Id}
 use Rattle.dnssec_run.specs.Safe.{position_at, is_step}
-use Rattle.dnssec_keyset.proofs.Flags.{SideOf, affects, Stage, Quiet, Early, Late, fits, has_role}
-use Rattle.dnssec_keyset.proofs.Flags.{may_start, unseen-fits, idle-fits, is_idle}
+use Rattle.dnssec_zone.proofs.Flags.{SideOf, affects, Stage, Quiet, Early, Late, fits, has_role}
+use Rattle.dnssec_zone.proofs.Flags.{may_start, unseen-fits, idle-fits, is_idle}
 use Rattle.dnssec_run.proofs.Chain.Tables.{Stamp}
 use Rattle.dnssec_run.proofs.Chain.Tale.{Tale, World, Key, found, if_some, world_at, put, put_roll}
 use Rattle.dnssec_run.proofs.Chain.Tale.{start_key, report_key, wait1_key, wait2_key, is_listed}

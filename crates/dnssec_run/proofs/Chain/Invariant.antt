@@ -11,7 +11,7 @@ use Rattle.dnssec_run.specs.declared.record.Entry.{Entry}
 use Rattle.dnssec_run.specs.Published.{Id}
 use Rattle.dnssec_run.specs.Safe.{SetKind, Ds, Dnskey, ZoneSigners, position_at, base_below}
 use Rattle.dnssec_run.specs.Safe.{is_step, IsGone}
-use Rattle.dnssec_keyset.proofs.Flags.{SideOf, Keys, Zone, affects, Stage, Quiet, Early, Late, fits}
+use Rattle.dnssec_zone.proofs.Flags.{SideOf, Keys, Zone, affects, Stage, Quiet, Early, Late, fits}
 use Rattle.dnssec_run.proofs.Chain.Tale.{Tale, Key, found, if_some, world_at}
 use Rattle.dnssec_run.proofs.Chain.Side.{upto, Rest, Early as EarlySets, Late as LateSets, Broad}
 use Rattle.dnssec_run.proofs.Chain.Side.{Serves, Alive as AliveSide, rest-serves, early-serves}

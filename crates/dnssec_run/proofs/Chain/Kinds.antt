@@ -5,12 +5,12 @@ use Rattle.dnssec_key.specs.declared.roll.RollType.{RollType}
 use Rattle.dnssec_key.specs.declared.kind.KeyType.{KeyType}
 use Rattle.dnssec_key.specs.declared.kind.KeyType.TheVariants.{Ksk, Zsk, Csk, Include}
 use Rattle.dnssec_key.specs.RollTable.{First, Second, at_roles, turns_old}
-use Rattle.dnssec_keyset.specs.Start.{side_of}
+use Rattle.dnssec_zone.specs.Start.{side_of}
 use Rattle.dnssec_keyset.proofs.Exchange.Kinds.{kind_number, lists-number, lists_by, number-comes}
 use Rattle.dnssec_keyset.proofs.Exchange.Kinds.{number-at_roles, number-goes, number-moves}
 use Rattle.dnssec_keyset.proofs.Exchange.Kinds.{number-returns}
-use Rattle.dnssec_keyset.proofs.Flags.{SideOf, Keys, Zone, may_list, started, ended, waited1}
-use Rattle.dnssec_keyset.proofs.Flags.{waited2, has_role}
+use Rattle.dnssec_zone.proofs.Flags.{SideOf, Keys, Zone, may_list, started, ended, waited1}
+use Rattle.dnssec_zone.proofs.Flags.{waited2, has_role}
 
 number_started : (r : RollType) (o i : Bool) (k : KeyType)
     → kind_number (started r o i k) ≡ kind_number k

@@ -8,10 +8,10 @@ use Rattle.std.specs.Cmp.Lexicographic.{bytes_decides}
 use Rattle.dnssec_key.specs.declared.roll.RollType.{RollType}
 use Rattle.dnssec_key.specs.declared.roll.RollState.{RollState}
 use Rattle.dnssec_key.specs.declared.roll.RollState.TheVariants.{Propagation1}
-use Rattle.dnssec_keyset.specs.KeySet.{Listed, Lists, listed_by, with_listed, without, others}
-use Rattle.dnssec_keyset.specs.KeySet.{same_roll}
-use Rattle.dnssec_keyset.proofs.Flags.{SideOf, affects, has_role}
-use Rattle.dnssec_keyset.proofs.Phases.{listed_by-with_listed, listed_by-without}
+use Rattle.dnssec_zone.specs.Lists.{Listed, Lists, listed_by, with_listed, without, others}
+use Rattle.dnssec_zone.specs.Rolls.{same_roll}
+use Rattle.dnssec_zone.proofs.Flags.{SideOf, affects, has_role}
+use Rattle.dnssec_zone.proofs.Phases.{listed_by-with_listed, listed_by-without}
 use Rattle.dnssec_run.specs.Published.{Id}
 use Rattle.dnssec_run.proofs.Chain.Tale.{Tale, Key, found, world_at, put_roll, is_listed}
 use Rattle.dnssec_run.proofs.Chain.Rolls.{same-same, put-same, put-other}

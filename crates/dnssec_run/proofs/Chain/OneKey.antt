@@ -8,11 +8,11 @@ use Rattle.dnssec_key.specs.declared.roll.RollType.{RollType}
 use Rattle.dnssec_key.specs.declared.roll.RollState.{RollState}
 use Rattle.dnssec_key.specs.declared.kind.KeyType.{KeyType}
 use Rattle.dnssec_run.specs.Published.{Id}
-use Rattle.dnssec_keyset.proofs.Flags.{SideOf, affects, may_list, is_blank, Quiet, Early, Late}
-use Rattle.dnssec_keyset.proofs.Flags.{fits, may_start}
+use Rattle.dnssec_zone.proofs.Flags.{SideOf, affects, may_list, is_blank, Quiet, Early, Late}
+use Rattle.dnssec_zone.proofs.Flags.{fits, may_start}
 use Rattle.dnssec_run.proofs.Chain.Tale.{Tale, World, Key, found, if_some, world_at, put_roll}
 use Rattle.dnssec_run.proofs.Chain.Tale.{start_key, wait1_key, wait2_key, is_listed, CanStart}
-use Rattle.dnssec_keyset.proofs.Tests.{and-both}
+use Rattle.dnssec_zone.proofs.Tests.{and-both}
 use Rattle.dnssec_run.proofs.Chain.Flags.{first_test, second_test, in_use, live, remains, switches}
 use Rattle.dnssec_run.proofs.Chain.Flags.{start_facts}
 use Rattle.dnssec_run.proofs.Chain.Facts.{wait1_facts, wait2_facts}

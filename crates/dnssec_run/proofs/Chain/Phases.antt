@@ -16,8 +16,8 @@ use Rattle.dnssec_run.specs.declared.record.Mark.TheVariants.{Other, Report}
 use Rattle.dnssec_run.specs.Published.{Id}
 use Rattle.dnssec_run.specs.Safe.{SetKind, position_at, base_below, time_at, is_step, IsGone}
 use Rattle.dnssec_run.specs.Safe.{retires}
-use Rattle.dnssec_keyset.proofs.Flags.{may_list, aged, tolerates, Quiet, Early, fits, may_start}
-use Rattle.dnssec_keyset.proofs.Flags.{is_idle}
+use Rattle.dnssec_zone.proofs.Flags.{may_list, aged, tolerates, Quiet, Early, fits, may_start}
+use Rattle.dnssec_zone.proofs.Flags.{is_idle}
 use Rattle.dnssec_run.proofs.Chain.Tables.{half, writes, written, Stamp, Visible, DsVisible}
 use Rattle.dnssec_run.proofs.Chain.Tables.{RrsigVisible, read, serves_new, serves_kept}
 use Rattle.dnssec_run.proofs.Chain.Tale.{Tale, World, Key, found, if_some, world_at, started_key}
@@ -33,7 +33,7 @@ use Rattle.dnssec_run.proofs.Chain.Returns.{early_end_key}
 use Rattle.dnssec_run.proofs.Chain.OneKey.{Mapped, may_at, suits}
 use Rattle.dnssec_run.proofs.Chain.Gentles.{Kept}
 use Rattle.dnssec_run.proofs.Chain.Kinds.{list_start, list_waited1, list_waited2}
-use Rattle.dnssec_keyset.proofs.Tests.{each_roll, each_roll-at, both, both-at}
+use Rattle.dnssec_zone.proofs.Tests.{each_roll, each_roll-at, both, both-at}
 
 pub record Told (tale : Tale) (r : RollType) (second : Bool) (n ttl : ℕ) : Type 0 where
   pub at : ℕ

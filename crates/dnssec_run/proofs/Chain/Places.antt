@@ -22,7 +22,7 @@ use Rattle.dnssec_run.specs.Safe.{IsGone}
 use Rattle.dnssec_key.specs.declared.roll.RollType.{RollType}
 use Rattle.dnssec_keyset.specs.Step as keyset
 use Rattle.dnssec_run.specs.Plain.{sets_nothing, DoesAt}
-use Rattle.dnssec_keyset.proofs.Flags.{SideOf, Keys, Zone}
+use Rattle.dnssec_zone.proofs.Flags.{SideOf, Keys, Zone}
 use Rattle.dnssec_run.proofs.Chain.Tale.{Tale, World, Key, seen, found, if_some, world_at}
 use Rattle.dnssec_run.proofs.Chain.Shown.{shown-found}
 use Rattle.dnssec_run.proofs.Chain.Flags.{test_of, first_kind, second_kind, first_test, second_test}

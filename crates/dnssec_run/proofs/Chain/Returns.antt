@@ -5,12 +5,12 @@ use Rattle.std.proofs.lemmas.Bool.{true≢false, and_parts, not-true}
 use Rattle.dnssec_key.specs.declared.roll.RollType.{RollType}
 use Rattle.dnssec_key.specs.declared.roll.RollState.TheVariants.{Propagation1}
 use Rattle.dnssec_key.specs.declared.kind.KeyType.{KeyType}
-use Rattle.dnssec_keyset.specs.KeySet.{Listed, listed_by}
+use Rattle.dnssec_zone.specs.Lists.{Listed, listed_by}
 use Rattle.dnssec_run.specs.Published.{Id}
 use Rattle.dnssec_run.specs.Safe.{SetKind, IsGone}
-use Rattle.dnssec_keyset.proofs.Tests.{and-both}
-use Rattle.dnssec_keyset.proofs.Flags.{SideOf, affects, Stage, Quiet, Early, Late, fits, has_role}
-use Rattle.dnssec_keyset.proofs.Flags.{is_idle, ended}
+use Rattle.dnssec_zone.proofs.Tests.{and-both}
+use Rattle.dnssec_zone.proofs.Flags.{SideOf, affects, Stage, Quiet, Early, Late, fits, has_role}
+use Rattle.dnssec_zone.proofs.Flags.{is_idle, ended}
 use Rattle.dnssec_run.proofs.Chain.Tale.{Tale, Key, found, if_some, world_at, is_listed}
 use Rattle.dnssec_run.proofs.Chain.Side.{upto}
 use Rattle.dnssec_run.proofs.Chain.Flags.{test_of, in_use}

@@ -10,14 +10,14 @@ use Rattle.dnssec_key.specs.declared.kind.KeyType.{KeyType}
 use Rattle.dnssec_key.specs.RollTable.{column}
 use Rattle.dnssec_run.specs.Published.{in_ds}
 use Rattle.dnssec_run.specs.Plain.{needs_algorithm_roll}
-use Rattle.dnssec_keyset.proofs.Flags.{SideOf, Keys, Zone, affects, tolerates, started, waited1}
-use Rattle.dnssec_keyset.proofs.Flags.{waited2, Quiet, Early, Late}
-use Rattle.dnssec_keyset.proofs.Tests.{both, both-at, each_roll, each_roll-at, each_key}
-use Rattle.dnssec_keyset.proofs.Tests.{each_key-at, alike, alike-same, or_second, mp, and-both, ◌⇒◌}
+use Rattle.dnssec_zone.proofs.Flags.{SideOf, Keys, Zone, affects, tolerates, started, waited1}
+use Rattle.dnssec_zone.proofs.Flags.{waited2, Quiet, Early, Late}
+use Rattle.dnssec_zone.proofs.Tests.{both, both-at, each_roll, each_roll-at, each_key}
+use Rattle.dnssec_zone.proofs.Tests.{each_key-at, alike, alike-same, or_second, mp, and-both, ◌⇒◌}
 use Rattle.dnssec_run.proofs.Chain.Flags.{switches}
 use Rattle.dnssec_run.proofs.Chain.Facts.{timed}
 use Rattle.dnssec_keyset.proofs.Laws.{apart-sym}
-use Rattle.dnssec_keyset.specs.Start.{side_of}
+use Rattle.dnssec_zone.specs.Start.{side_of}
 
 still_table : RollType → Bool → Bool → KeyType → Bool
 still_table r o i k = alike (in_ds (started r o i k)) (in_ds k)

@@ -11,12 +11,12 @@ use Rattle.dnssec_key.specs.declared.roll.RollState.{RollState}
 use Rattle.dnssec_key.specs.declared.roll.RollState.TheVariants.{Propagation1, CacheExpire1}
 use Rattle.dnssec_key.specs.declared.roll.RollState.TheVariants.{Propagation2, CacheExpire2}
 use Rattle.dnssec_key.specs.declared.roll.RollState.TheVariants.{Done}
-use Rattle.dnssec_keyset.specs.KeySet.{same_roll}
+use Rattle.dnssec_zone.specs.Rolls.{same_roll}
 use Rattle.dnssec_run.proofs.Chain.Tale.{put_roll}
-use Rattle.dnssec_keyset.proofs.Flags.{SideOf, Keys, Zone, affects, tolerates, Stage, Quiet, Early}
-use Rattle.dnssec_keyset.proofs.Flags.{Late}
-use Rattle.dnssec_keyset.proofs.Tests.{each_roll, each_roll-at, alike, alike-same, mp, and-both}
-use Rattle.dnssec_keyset.proofs.Tests.{◌⇒◌}
+use Rattle.dnssec_zone.proofs.Flags.{SideOf, Keys, Zone, affects, tolerates, Stage, Quiet, Early}
+use Rattle.dnssec_zone.proofs.Flags.{Late}
+use Rattle.dnssec_zone.proofs.Tests.{each_roll, each_roll-at, alike, alike-same, mp, and-both}
+use Rattle.dnssec_zone.proofs.Tests.{◌⇒◌}
 use Rattle.dnssec_keyset.proofs.Laws.{same-is}
 
 abbrev pub stage_fits : Stage → RollType → Option RollState → Bool

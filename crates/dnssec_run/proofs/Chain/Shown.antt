@@ -13,7 +13,7 @@ use Rattle.dnssec_key.specs.declared.kind.KeyType.{KeyType}
 use Rattle.dnssec_key.specs.Key.{KeyParts}
 use Rattle.dnssec_run.specs.Published.{Id, World as RealWorld, keys_where}
 use Rattle.dnssec_run.proofs.Chain.Tale.{seen, found, if_some}
-use Rattle.dnssec_keyset.proofs.Quantified.{first, second, not_both, same_key, itself}
+use Rattle.dnssec_zone.proofs.Quantified.{first, second, not_both, same_key, itself}
 
 -- a key that stands below all of the list is none of it
 not_below : (x q : List ℕ) (v : KeyParts) (es : List (List ℕ × KeyParts))

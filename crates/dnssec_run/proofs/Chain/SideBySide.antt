@@ -11,7 +11,7 @@ use Rattle.dnssec_key.specs.declared.roll.RollState.TheVariants.{Propagation1, C
 use Rattle.dnssec_run.specs.declared.record.Mark.TheVariants.{Other}
 use Rattle.dnssec_run.specs.Published.{Id, in_ds}
 use Rattle.dnssec_run.specs.Safe.{SetKind, Ds, position_at, is_step, IsSafe}
-use Rattle.dnssec_keyset.proofs.Flags.{SideOf, Keys, Zone, affects, Stage, Quiet, Early, Late}
+use Rattle.dnssec_zone.proofs.Flags.{SideOf, Keys, Zone, affects, Stage, Quiet, Early, Late}
 use Rattle.dnssec_run.proofs.Chain.Tale.{Tale, Key, found, if_some, world_at, wait2_key, IsOver}
 use Rattle.dnssec_run.proofs.Chain.Flags.{in_use, in_other, in_keys, switches}
 use Rattle.dnssec_run.proofs.Chain.Rolls.{stage_fits, same-same, stage_early, stage_late}

@@ -4,7 +4,7 @@ use Rattle.std.proofs.Common.{refl, sym, ◌∙◌, ap, subst, arith, List, leng
 use Rattle.std.specs.Option.{option_map, option_map_or}
 use Rattle.dnssec_key.specs.State.{is_kept}
 use Rattle.dnssec_key.specs.Key.{all_states}
-use Rattle.dnssec_keyset.specs.Step.{has_kept_key}
+use Rattle.dnssec_zone.specs.Lists.{has_kept_key}
 use Rattle.std.proofs.lemmas.Bool.{true≢false, and_parts}
 use Rattle.dnssec_key.specs.declared.roll.RollType.{RollType}
 use Rattle.dnssec_key.specs.declared.roll.RollState.TheVariants.{Propagation1, Propagation2, Done}
@@ -12,8 +12,8 @@ use Rattle.dnssec_key.specs.declared.kind.KeyType.{KeyType}
 use Rattle.dnssec_run.specs.declared.record.Mark.TheVariants.{Step}
 use Rattle.dnssec_run.specs.Published.{Id}
 use Rattle.dnssec_run.specs.Safe.{SetKind, position_at, base_below, is_step, IsGone, retires}
-use Rattle.dnssec_keyset.proofs.Flags.{SideOf, affects, Quiet, Early, Late, fits, may_start}
-use Rattle.dnssec_keyset.proofs.Flags.{started, ended}
+use Rattle.dnssec_zone.proofs.Flags.{SideOf, affects, Quiet, Early, Late, fits, may_start}
+use Rattle.dnssec_zone.proofs.Flags.{started, ended}
 use Rattle.dnssec_run.proofs.Chain.Tables.{serves_new, serves_kept}
 use Rattle.dnssec_run.proofs.Chain.Tale.{Tale, Key, found, if_some, world_at, start_key, wait1_key}
 use Rattle.dnssec_run.proofs.Chain.Tale.{wait2_key, is_listed, CanStart}

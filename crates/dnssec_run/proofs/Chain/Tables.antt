@@ -1,15 +1,16 @@
 -- The tables of the key set in the words of the chain's proof.
-use Rattle.dnssec_keyset.proofs.Flags.{SideOf, Keys, Zone}
+use Rattle.dnssec_zone.proofs.Flags.{SideOf, Keys, Zone}
 use Rattle.std.proofs.Common.{◌≡◌, Bool, true, false, ℕ, Option, refl}
 use Rattle.dnssec_key.specs.declared.roll.RollType.{RollType}
 use Rattle.dnssec_key.specs.declared.roll.RollType.TheVariants.{KskRoll, KskDoubleDsRoll}
 use Rattle.dnssec_key.specs.declared.roll.RollType.TheVariants.{ZskRoll, ZskDoubleSignatureRoll}
 use Rattle.dnssec_key.specs.declared.roll.RollType.TheVariants.{CskRoll, AlgorithmRoll}
 use Rattle.dnssec_key.specs.declared.kind.KeyType.{KeyType}
-use Rattle.dnssec_key.specs.State.{Flags, Stamps, is_any, kept_present, kept_at_parent}
+use Rattle.dnssec_key.specs.State.{Flags, is_any, kept_present, kept_at_parent}
+use Rattle.dnssec_base.specs.Stamps.{Stamps}
 use Rattle.dnssec_key.specs.State.{kept_signing}
 use Rattle.dnssec_key.specs.Key.{ksk, zsk, ksk_role, zsk_role}
-use Rattle.dnssec_key.specs.RollTable.{stamp_named}
+use Rattle.dnssec_base.specs.Stamps.{stamp_named}
 use Rattle.dnssec_key.specs.RollTable.{Half, First, Second, half_of, column, Writes}
 
 -- the half of a report or a wait

@@ -12,18 +12,18 @@ use Rattle.dnssec_key.specs.declared.roll.RollState.TheVariants.{Propagation1, C
 use Rattle.dnssec_key.specs.declared.roll.RollState.TheVariants.{Propagation2, CacheExpire2}
 use Rattle.dnssec_key.specs.declared.kind.KeyType.{KeyType}
 use Rattle.dnssec_key.specs.Key.{KeyParts}
-use Rattle.dnssec_keyset.specs.KeySet.{phase_of, same_roll}
+use Rattle.dnssec_zone.specs.Rolls.{phase_of, same_roll}
 use Rattle.dnssec_key.specs.RollTable.{after_start, after_report, after_wait, after_early_end}
 use Rattle.dnssec_key.specs.RollTable.{First, Second}
 use Rattle.dnssec_key.specs.RollTable.{column, stamps_after}
-use Rattle.dnssec_keyset.specs.Start.{is_listed as listed}
+use Rattle.dnssec_zone.specs.Start.{is_listed as listed}
 use Rattle.dnssec_run.specs.declared.call.Call.{Call}
 use Rattle.dnssec_run.specs.declared.record.Entry.{Entry}
 use Rattle.dnssec_run.specs.Published.{Id, World as RealWorld}
 use Rattle.dnssec_run.specs.Record as rec
 use Rattle.dnssec_run.specs.Plain.{IsPlain}
-use Rattle.dnssec_keyset.proofs.Flags.{started, ended, aged, tolerates, may_list, is_blank, SideOf}
-use Rattle.dnssec_keyset.proofs.Flags.{affects}
+use Rattle.dnssec_zone.proofs.Flags.{started, ended, aged, tolerates, may_list, is_blank, SideOf}
+use Rattle.dnssec_zone.proofs.Flags.{affects}
 use Rattle.dnssec_run.proofs.Chain.Tables.{Stamp, stamp_in, half, read, checked, serves_new}
 use Rattle.dnssec_run.proofs.Chain.Tables.{serves_kept}
 

@@ -21,13 +21,17 @@ use Rattle.dnssec_key.specs.declared.roll.RollState.TheVariants.{Propagation1, C
 use Rattle.dnssec_key.specs.declared.roll.RollState.TheVariants.{Propagation2, CacheExpire2}
 use Rattle.dnssec_key.specs.declared.roll.RollState.TheVariants.{Done}
 use Rattle.dnssec_key.specs.declared.kind.KeyType.{KeyType}
-use Rattle.dnssec_keyset.specs.KeySet.{Listed, listed_by, nothing_listed, ChangesKey, Lists}
-use Rattle.dnssec_keyset.specs.KeySet.{KeySetParts, Rolls, MovesOn, phase_of, with_phase}
+use Rattle.dnssec_zone.specs.Lists.{Listed, listed_by, nothing_listed, Lists}
+use Rattle.dnssec_keyset.specs.KeySet.{ChangesKey}
+use Rattle.dnssec_keyset.specs.KeySet.{KeySetParts, MovesOn}
+use Rattle.dnssec_zone.specs.Rolls.{Rolls, phase_of, with_phase}
 use Rattle.dnssec_key.specs.RollTable.{First, Second}
 use Rattle.dnssec_key.specs.Setters.{Setting, Decoupled, Present, Signer, AtParent, Stale}
 use Rattle.dnssec_key.specs.Setters.{VisibleAt, DsVisibleAt, RrsigVisibleAt}
 use Rattle.dnssec_key.specs.Setters.{set_by}
 use Rattle.dnssec_keyset.specs.Step as keyset
+use Rattle.dnssec_zone.specs.Wait as waits
+use Rattle.dnssec_zone.specs.Lists as lists
 use Rattle.dnssec_run.specs.declared.call.Call.{Call}
 use Rattle.dnssec_run.specs.declared.call.Call.TheVariants as call
 use Rattle.dnssec_run.specs.declared.record.Entry.{Entry}
@@ -39,8 +43,8 @@ use Rattle.dnssec_run.specs.Record as rec
 use Rattle.dnssec_run.specs.Safe.{position_at}
 use Rattle.dnssec_run.specs.Plain.{DoesAt, StaysSafe, start_of, first_wait_of, sets_nothing}
 use Rattle.dnssec_run.specs.Plain.{is_plain_setting}
-use Rattle.dnssec_keyset.proofs.Flags.{SideOf, Keys, Zone, is_blank, Quiet, fits, stale-idle}
-use Rattle.dnssec_keyset.proofs.Flags.{blank-idle}
+use Rattle.dnssec_zone.proofs.Flags.{SideOf, Keys, Zone, is_blank, Quiet, fits, stale-idle}
+use Rattle.dnssec_zone.proofs.Flags.{blank-idle}
 use Rattle.dnssec_run.proofs.Chain.Tale.{Tale, World, Key, world_at, put_roll, rolled, start_key}
 use Rattle.dnssec_run.proofs.Chain.Tale.{early-end-parts, start-parts, report_key, wait1_key}
 use Rattle.dnssec_run.proofs.Chain.Tale.{wait2_key, is_listed}
@@ -60,7 +64,7 @@ use Rattle.dnssec_run.proofs.Chain.FirstCalls.{start, wait1}
 use Rattle.dnssec_run.proofs.Chain.SideBySide.{wait2, safe_of, end_early}
 use Rattle.dnssec_run.proofs.Chain.Allowed.{can_start, waits_in_phase}
 use Rattle.dnssec_keyset.proofs.Laws.{no_cause}
-use Rattle.dnssec_keyset.proofs.Phases.{no_phases}
+use Rattle.dnssec_zone.proofs.Phases.{no_phases}
 
 -- ---- replies
 
@@ -189,7 +193,7 @@ module _ (tale : Tale) (n : ℕ) (here : suc n ≤ length tale.es) where
       by (DsVisibleAt time) plain h = absurd (true≢false (sym plain))
       by (RrsigVisibleAt time) plain h = absurd (true≢false (sym plain))
 
-  accepted : (c : keyset.Call) → keyset.clearance before c ≡ keyset.Clear
+  accepted : (c : keyset.Call) → keyset.clearance before c ≡ waits.Clear
       → keyset.Changes before c after → sets_nothing before c ≡ true → adds_blank c ≡ true
       → ((q : List ℕ) → (world_at tale (suc n)).added q
       ≡ rec.with_added (suc n) (rec.reference_added c) (world_at tale n).added q)
@@ -233,14 +237,14 @@ module _ (tale : Tale) (n : ℕ) (here : suc n ≤ length tale.es) where
       start tale n here r now old new on (can_start (real tale n) r old new (no_cause _ v)) m
       (λ q. ap (λ l. is_listed q (listed_by l r).olds) h.lists
       ∙ ap (λ (l : Listed). is_listed q l.olds)
-      (listed-same before.lists r (keyset.listed_at_start before.keys old new))
-      ∙ is_listed-filter (keyset.has_kept_key before.keys) old q)
+      (listed-same before.lists r (lists.listed_at_start before.keys old new))
+      ∙ is_listed-filter (lists.has_kept_key before.keys) old q)
       (λ q. ap (λ l. is_listed q (listed_by l r).news) h.lists
       ∙ ap (λ (l : Listed). is_listed q l.news)
-      (listed-same before.lists r (keyset.listed_at_start before.keys old new)))
+      (listed-same before.lists r (lists.listed_at_start before.keys old new)))
       (λ sd out. keeps-start tale n r (Some Propagation1) on.rolls
       (λ q d. ap (λ l. listed_by l q) h.lists
-      ∙ listed-other before.lists r (keyset.listed_at_start before.keys old new) q d) sd
+      ∙ listed-other before.lists r (lists.listed_at_start before.keys old new) q d) sd
       (λ q own. distinct sd r q out own))
       (some r refl) (λ s. none-some AlgorithmRoll (only s)) inv
   accepted (keyset.Report r First ttl now) v h plain blank added m t only some inv =

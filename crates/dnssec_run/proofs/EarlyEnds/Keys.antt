@@ -18,11 +18,13 @@ use Rattle.dnssec_key.specs.RollTable.{First, Second, after_report}
 use Rattle.dnssec_key.specs.Setters.{Setting, Decoupled, Present, Signer, AtParent, Stale}
 use Rattle.dnssec_key.specs.Setters.{VisibleAt, DsVisibleAt, RrsigVisibleAt, is_flag_setting}
 use Rattle.dnssec_key.specs.Setters.{set_by}
-use Rattle.dnssec_keyset.specs.KeySet.{KeySetParts, phase_of, same_roll, with_phase}
+use Rattle.dnssec_keyset.specs.KeySet.{KeySetParts}
+use Rattle.dnssec_zone.specs.Rolls.{phase_of, same_roll, with_phase}
 use Rattle.dnssec_keyset.specs.Laws.{LeavesOthers, RollsTogether, roll_of}
 use Rattle.dnssec_keyset.specs.Step as keyset
+use Rattle.dnssec_zone.specs.Wait as waits
 use Rattle.dnssec_keyset.proofs.Accepted.{add_free, ends_early}
-use Rattle.dnssec_keyset.proofs.Flags.{may_list, tolerates}
+use Rattle.dnssec_zone.proofs.Flags.{may_list, tolerates}
 use Rattle.dnssec_run.specs.EarlyEnds.{touches}
 use Rattle.dnssec_run.proofs.Chain.Allowed.{can_start, waits_in_phase}
 use Rattle.dnssec_run.proofs.Chain.Facts.{other}
@@ -105,7 +107,7 @@ module _ (roll : RollType) (old new : KeySetParts) (all : RollsTogether old.roll
     left c r leaves on apart =
         (k, leaves r q k on there (other r roll k.keytype apart own), refl)
 
-    pub key-step : (c : keyset.Call) → keyset.clearance old c ≡ keyset.Clear
+    pub key-step : (c : keyset.Call) → keyset.clearance old c ≡ waits.Clear
         → keyset.Changes old c new → LeavesOthers old c new → IsAside roll c
         → touches c q ≡ false → Remains
     key-step (keyset.AddKey r key) v m leaves aside none = by (bytes_eq r q) refl

@@ -7,11 +7,13 @@ use Rattle.std.specs.Cmp.Lexicographic.{bytes_decides}
 use Rattle.dnssec_key.specs.declared.roll.RollType.{RollType}
 use Rattle.dnssec_key.specs.RollTable.{First, Second}
 use Rattle.dnssec_key.specs.Setters.{is_flag_setting}
-use Rattle.dnssec_keyset.specs.KeySet.{KeySetParts, Listed, Lists, listed_by, same_roll}
-use Rattle.dnssec_keyset.specs.KeySet.{with_listed, without}
-use Rattle.dnssec_keyset.specs.Start.{is_listed}
+use Rattle.dnssec_keyset.specs.KeySet.{KeySetParts}
+use Rattle.dnssec_zone.specs.Lists.{Listed, Lists, listed_by}
+use Rattle.dnssec_zone.specs.Rolls.{same_roll}
+use Rattle.dnssec_zone.specs.Lists.{with_listed, without}
+use Rattle.dnssec_zone.specs.Start.{is_listed}
 use Rattle.dnssec_keyset.specs.Step as keyset
-use Rattle.dnssec_keyset.proofs.Phases.{listed_by-with_listed, listed_by-without}
+use Rattle.dnssec_zone.proofs.Phases.{listed_by-with_listed, listed_by-without}
 use Rattle.dnssec_run.specs.EarlyEnds.{touches}
 use Rattle.std.proofs.Math.Bool.{and-true, and-false}
 

@@ -15,8 +15,9 @@ use Rattle.dnssec_key.specs.RollTable.{First, Second, at_roles, stays}
 use Rattle.dnssec_key.specs.Setters.{Setting, Decoupled, Present, Signer, AtParent, Stale}
 use Rattle.dnssec_key.specs.Setters.{VisibleAt, DsVisibleAt, RrsigVisibleAt, set_by, with_at_parent}
 use Rattle.dnssec_key.specs.Setters.{at_each_state, stale_by_hand, with_present, with_signer}
-use Rattle.dnssec_keyset.specs.KeySet.{KeySetParts, listed_by}
-use Rattle.dnssec_keyset.specs.Start.{is_listed}
+use Rattle.dnssec_keyset.specs.KeySet.{KeySetParts}
+use Rattle.dnssec_zone.specs.Lists.{listed_by}
+use Rattle.dnssec_zone.specs.Start.{is_listed}
 use Rattle.dnssec_keyset.specs.Step as keyset
 use Rattle.dnssec_run.specs.declared.call.Call.{Call}
 use Rattle.dnssec_run.specs.declared.call.Call.TheVariants as call

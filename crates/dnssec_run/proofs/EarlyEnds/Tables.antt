@@ -7,9 +7,9 @@ use Rattle.dnssec_key.specs.declared.roll.RollType.{RollType}
 use Rattle.dnssec_key.specs.State.{is_kept}
 use Rattle.dnssec_key.specs.Key.{all_states}
 use Rattle.dnssec_key.specs.RollTable.{column}
-use Rattle.dnssec_keyset.proofs.Flags.{ended, may_list, may_start, started, waited1, waited2}
-use Rattle.dnssec_keyset.proofs.Tests.{alike, each_listed, each_listed-at, four, mp, same_kind}
-use Rattle.dnssec_keyset.proofs.Tests.{same_kind-is, ◌⇒◌}
+use Rattle.dnssec_zone.proofs.Flags.{ended, may_list, may_start, started, waited1, waited2}
+use Rattle.dnssec_zone.proofs.Tests.{alike, each_listed, each_listed-at, four, mp, same_kind}
+use Rattle.dnssec_zone.proofs.Tests.{same_kind-is, ◌⇒◌}
 
 -- ---- both roles are old together
 

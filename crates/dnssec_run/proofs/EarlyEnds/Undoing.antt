@@ -14,15 +14,18 @@ use Rattle.dnssec_key.specs.declared.roll.RollState.TheVariants.{Propagation1}
 use Rattle.dnssec_key.specs.State.{is_kept}
 use Rattle.dnssec_key.specs.Key.{KeyParts, all_states}
 use Rattle.dnssec_key.specs.RollTable.{after_early_end, after_start}
-use Rattle.dnssec_keyset.specs.KeySet.{KeySetParts, Listed, listed_by, phase_of}
-use Rattle.dnssec_keyset.specs.Start.{is_listed}
-use Rattle.dnssec_keyset.specs.Step.{has_kept_key, listed_at_start}
+use Rattle.dnssec_keyset.specs.KeySet.{KeySetParts}
+use Rattle.dnssec_zone.specs.Lists.{Listed, listed_by}
+use Rattle.dnssec_zone.specs.Rolls.{phase_of}
+use Rattle.dnssec_zone.specs.Start.{is_listed}
+use Rattle.dnssec_zone.specs.Lists.{has_kept_key, listed_at_start}
 use Rattle.dnssec_keyset.specs.Step as keyset
+use Rattle.dnssec_zone.specs.Wait as waits
 use Rattle.dnssec_keyset.proofs.Accepted.{ends_early}
-use Rattle.dnssec_keyset.proofs.Flags.{ended, is_blank, may_list, may_start, started}
-use Rattle.dnssec_keyset.proofs.Phases.{listed_by-with_listed}
+use Rattle.dnssec_zone.proofs.Flags.{ended, is_blank, may_list, may_start, started}
+use Rattle.dnssec_zone.proofs.Phases.{listed_by-with_listed}
 use Rattle.dnssec_keyset.proofs.Sides.{leaves-others}
-use Rattle.dnssec_keyset.proofs.Tests.{and-both}
+use Rattle.dnssec_zone.proofs.Tests.{and-both}
 use Rattle.dnssec_run.specs.declared.call.Call.{Call}
 use Rattle.dnssec_run.specs.declared.record.Entry.{Entry}
 use Rattle.dnssec_run.specs.EarlyEnds.{IsUntouched, Undoes, UndoesStarts, touches}
@@ -116,7 +119,7 @@ module _ (name : List ℕ) (calls : List Call) (entries : List Entry)
     abbrev first : Listed
     first = listed_at_start old.keys olds news
 
-    started_so : (keyset.clearance old (keyset.StartRoll roll olds news now) ≡ keyset.Clear)
+    started_so : (keyset.clearance old (keyset.StartRoll roll olds news now) ≡ waits.Clear)
         × keyset.Changes old (keyset.StartRoll roll olds news now) (at (suc s)).set
     started_so =
         let ok = accepted_step (keyset.clearance old (keyset.StartRoll roll olds news now)) old
@@ -305,7 +308,7 @@ module _ (name : List ℕ) (calls : List Call) (entries : List Entry)
       abbrev was_new : List ℕ → Bool
       was_new q = is_listed (listed_by here.lists roll).news q
 
-      ended_so : (keyset.clearance here (keyset.AbortRoll roll) ≡ keyset.Clear)
+      ended_so : (keyset.clearance here (keyset.AbortRoll roll) ≡ waits.Clear)
           × keyset.Changes here (keyset.AbortRoll roll) new
       ended_so =
           let ok = accepted_step (keyset.clearance here (keyset.AbortRoll roll)) here new

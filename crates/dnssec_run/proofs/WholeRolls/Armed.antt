@@ -15,16 +15,18 @@ use Rattle.dnssec_key.specs.declared.roll.RollType.TheVariants.{CskRoll, Algorit
 use Rattle.dnssec_key.specs.declared.kind.KeyType.{KeyType}
 use Rattle.dnssec_key.specs.declared.kind.KeyType.TheVariants.{Ksk, Zsk, Csk, Include}
 use Rattle.dnssec_key.specs.Key.{KeyParts}
-use Rattle.dnssec_keyset.specs.KeySet.{Lists, KeySetParts, PutsKey, same_roll}
+use Rattle.dnssec_zone.specs.Lists.{Lists}
+use Rattle.dnssec_keyset.specs.KeySet.{KeySetParts, PutsKey}
+use Rattle.dnssec_zone.specs.Rolls.{same_roll}
 use Rattle.dnssec_key.specs.RollTable.{First, Second, column, after_report, after_wait}
-use Rattle.dnssec_keyset.proofs.Flags.{Zone, may_list, waited1, tolerates, Early, Late, fits}
-use Rattle.dnssec_keyset.proofs.Flags.{is_idle}
+use Rattle.dnssec_zone.proofs.Flags.{Zone, may_list, waited1, tolerates, Early, Late, fits}
+use Rattle.dnssec_zone.proofs.Flags.{is_idle}
 use Rattle.dnssec_run.proofs.Chain.Tables.{written, Stamp, Visible, DsVisible, RrsigVisible, read}
 use Rattle.dnssec_run.proofs.Chain.Tables.{checked}
 use Rattle.dnssec_run.proofs.Chain.Tale.{stamp_of}
 use Rattle.dnssec_run.proofs.Chain.Setters.{Harmless, harmless-alike, harmless-busy, others-idle}
-use Rattle.dnssec_keyset.proofs.Tests.{each_key, each_key-at, ◌⇒◌, mp, and-both, each_in_half}
-use Rattle.dnssec_keyset.proofs.Tests.{each_in_half-at, alike}
+use Rattle.dnssec_zone.proofs.Tests.{each_key, each_key-at, ◌⇒◌, mp, and-both, each_in_half}
+use Rattle.dnssec_zone.proofs.Tests.{each_in_half-at, alike}
 use Rattle.dnssec_run.proofs.Chain.Facts.{stays, timed, stays_facts, timer, other, stays_wait}
 use Rattle.dnssec_run.proofs.Chain.Phases.{wait_stamps}
 use Rattle.dnssec_run.proofs.WholeRolls.OrderedKeys.{back}

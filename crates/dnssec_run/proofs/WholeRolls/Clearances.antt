@@ -7,14 +7,16 @@ use Rattle.std.specs.Duration.{as_nanos}
 use Rattle.std.specs.FinMap.{get}
 use Rattle.std.proofs.lemmas.Bool.{false_from_ne_true, true≢false}
 use Rattle.dnssec_key.specs.declared.roll.RollType.{RollType}
-use Rattle.dnssec_key.specs.declared.error.Error.TheVariants.{WrongKeyState}
+use Rattle.dnssec_base.specs.declared.error.Error.TheVariants.{WrongKeyState}
 use Rattle.dnssec_key.specs.Key.{KeyParts}
 use Rattle.dnssec_run.specs.WholeRolls.{WaitsUntil}
-use Rattle.dnssec_keyset.specs.KeySet.{KeySetParts, some_key}
+use Rattle.dnssec_keyset.specs.KeySet.{KeySetParts}
+use Rattle.dnssec_zone.specs.Keys.{some_key}
 use Rattle.dnssec_key.specs.RollTable.{Half}
-use Rattle.dnssec_keyset.specs.Wait.{lacks_stamp, longest_left, time_left, left_since, stamp_read}
+use Rattle.dnssec_zone.specs.Wait.{lacks_stamp, longest_left, time_left, left_since, stamp_read}
 use Rattle.dnssec_keyset.specs.Step as keyset
-use Rattle.dnssec_keyset.proofs.Longest.{longest-is, none-left, some-left}
+use Rattle.dnssec_zone.specs.Wait as waits
+use Rattle.dnssec_zone.proofs.Longest.{longest-is, none-left, some-left}
 use Rattle.dnssec_run.proofs.Chain.Tables.{half, read, reads-stamp, checked}
 use Rattle.dnssec_run.proofs.Chain.Tale.{stamp_of}
 use Rattle.dnssec_run.proofs.WholeRolls.Armed.{Armed}
@@ -68,7 +70,7 @@ module _ (set : KeySetParts) (r : RollType) (second : Bool) (ttl now m : ℕ)
   -- what the wait is answered
   pub answers : (new : KeySetParts) (h : Half) (reply : keyset.Reply) → half second ≡ h
       → (some_key (lacks_stamp r (half second)) set.keys ≡ true → ⊥)
-      → keyset.StepBy (keyset.wait_in_phase r (half second) (Some ttl) now set.keys) set
+      → keyset.StepBy (waits.wait_in_phase r (half second) (Some ttl) now set.keys) set
       (keyset.Wait r h now) reply new
       → WaitsUntil (m + ttl * 1_000_000_000) now reply
       (keyset.accepted_reply (keyset.Wait r h now))
@@ -76,16 +78,16 @@ module _ (set : KeySetParts) (r : RollType) (second : Bool) (ttl now m : ℕ)
       by (ttl * 1_000_000_000 - (now - m)) refl
       (subst (λ v. keyset.StepBy v set (keyset.Wait r h now) reply new) clearance_is step)
     where
-      clearance_is : keyset.wait_in_phase r (half second) (Some ttl) now set.keys
-          ≡ keyset.early_by (ttl * 1_000_000_000 - (now - m))
+      clearance_is : waits.wait_in_phase r (half second) (Some ttl) now set.keys
+          ≡ waits.early_by (ttl * 1_000_000_000 - (now - m))
       clearance_is =
-          ap (λ b. if b then keyset.Barred WrongKeyState
-          else keyset.early_by (longest_left r (half second) ttl now set.keys))
+          ap (λ b. if b then waits.Barred WrongKeyState
+          else waits.early_by (longest_left r (half second) ttl now set.keys))
           (false_from_ne_true (some_key (lacks_stamp r (half second)) set.keys) whole)
-          ∙ ap keyset.early_by longest
+          ∙ ap waits.early_by longest
 
       by : (left : ℕ) → left ≡ ttl * 1_000_000_000 - (now - m)
-          → keyset.StepBy (keyset.early_by left) set (keyset.Wait r h now) reply new
+          → keyset.StepBy (waits.early_by left) set (keyset.Wait r h now) reply new
           → WaitsUntil (m + ttl * 1_000_000_000) now reply
           (keyset.accepted_reply (keyset.Wait r h now))
       by zero is s =

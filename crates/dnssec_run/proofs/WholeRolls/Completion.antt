@@ -11,12 +11,15 @@ use Rattle.std.proofs.lemmas.Option.{same_Some, none-some, slice_get_cases}
 use Rattle.dnssec_key.specs.declared.roll.RollType.{RollType}
 use Rattle.dnssec_key.specs.declared.roll.RollState.{RollState}
 use Rattle.dnssec_key.specs.declared.roll.RollState.TheVariants.{Propagation1, Done}
-use Rattle.dnssec_key.specs.declared.error.Error.{Error}
+use Rattle.dnssec_base.specs.declared.error.Error.{Error}
 use Rattle.dnssec_key.specs.Key.{KeyParts}
-use Rattle.dnssec_keyset.specs.KeySet.{KeySetParts, phase_of}
+use Rattle.dnssec_keyset.specs.KeySet.{KeySetParts}
+use Rattle.dnssec_zone.specs.Rolls.{phase_of}
 use Rattle.dnssec_key.specs.RollTable.{Half, First, Second, after_start}
-use Rattle.dnssec_keyset.specs.Start.{is_listed}
+use Rattle.dnssec_zone.specs.Start.{is_listed}
 use Rattle.dnssec_keyset.specs.Step as keyset
+use Rattle.dnssec_zone.specs.Wait as waits
+use Rattle.dnssec_zone.specs.Refusals as refusals
 use Rattle.dnssec_keyset.proofs.Sides.{leaves-others}
 use Rattle.dnssec_run.specs.Plain.{DoesAt, SetsNothing}
 use Rattle.dnssec_run.specs.WholeRolls.{GoesOn, IsAccepted, HasLeft, IsAtWork, end_of}
@@ -29,9 +32,9 @@ use Rattle.dnssec_run.specs.Published.{World}
 use Rattle.dnssec_run.specs.Record.{IsRun, call_of, reply_of, is_accepted, world_at, with_added}
 use Rattle.dnssec_run.specs.Record.{reference_added, added_by}
 use Rattle.dnssec_run.proofs.Laws.{stays-sound}
-use Rattle.dnssec_keyset.proofs.Flags.{SideOf, Keys, Zone, affects, may_list, is_blank}
+use Rattle.dnssec_zone.proofs.Flags.{SideOf, Keys, Zone, affects, may_list, is_blank}
 use Rattle.dnssec_run.proofs.Chain.Tale.{start-parts}
-use Rattle.dnssec_keyset.proofs.Tests.{◌⇒◌, and-both}
+use Rattle.dnssec_zone.proofs.Tests.{◌⇒◌, and-both}
 use Rattle.dnssec_run.proofs.Chain.Rolls.{same-same}
 use Rattle.dnssec_run.proofs.Chain.OneKey.{may_by}
 use Rattle.dnssec_run.proofs.Chain.Allowed.{can_start}
@@ -49,13 +52,13 @@ use Rattle.dnssec_keyset.proofs.Laws.{no_cause}
 -- ---- the run
 
 accepted_report : (o : Option RollState) (half : Half) → o ≡ Some (spreading half)
-    → keyset.report_refusal half o ≡ None
-accepted_report o First e = ap (keyset.report_refusal First) e
-accepted_report o Second e = ap (keyset.report_refusal Second) e
+    → refusals.report_refusal half o ≡ None
+accepted_report o First e = ap (refusals.report_refusal First) e
+accepted_report o Second e = ap (refusals.report_refusal Second) e
 
 -- a call without a cause that takes no memory is accepted
-accepts : (v : keyset.Clearance) (old new : KeySetParts) (c : keyset.Call) (r : Reply)
-    → v ≡ keyset.Clear → (keyset.TakesMemory c → ⊥) → keyset.StepBy v old c (reply_of r) new
+accepts : (v : waits.Clearance) (old new : KeySetParts) (c : keyset.Call) (r : Reply)
+    → v ≡ waits.Clear → (keyset.TakesMemory c → ⊥) → keyset.StepBy v old c (reply_of r) new
     → is_accepted r ≡ true
 accepts v old new c r clear free step =
     by r (subst (λ v. keyset.StepBy v old c (reply_of r) new) clear step)
@@ -70,7 +73,7 @@ accepts v old new c r clear free step =
     refused (keyset.RollDone r) cause e = cc
     refused (keyset.AbortRoll r) cause e = cc
 
-    by : (r : Reply) → keyset.StepBy keyset.Clear old c (reply_of r) new → is_accepted r ≡ true
+    by : (r : Reply) → keyset.StepBy waits.Clear old c (reply_of r) new → is_accepted r ≡ true
     by reply.Done s = refl
     by (reply.Actions a) s = refl
     by (reply.Refused cause) (inl s) = absurd (refused c cause s.0)
@@ -83,13 +86,13 @@ goes-on name calls entries run = record {
       let old = (world_at name calls entries n).set in
       accepts (keyset.clearance old (keyset.Report roll half ttl now)) old
       (world_at name calls entries (suc n)).set (keyset.Report roll half ttl now) report.entry.reply
-      (ap keyset.barred_by (accepted_report (phase_of old.rolls roll) half phase)) (λ t. t)
+      (ap waits.barred_by (accepted_report (phase_of old.rolls roll) half phase)) (λ t. t)
       (step-made name calls entries run n (keyset.Report roll half ttl now) report);
   ends = λ n roll end phase.
       let old = (world_at name calls entries n).set in
       accepts (keyset.clearance old (keyset.RollDone roll)) old
       (world_at name calls entries (suc n)).set (keyset.RollDone roll) end.entry.reply
-      (ap (λ o. keyset.barred_by (keyset.end_refusal o)) phase) (λ t. t)
+      (ap (λ o. waits.barred_by (refusals.end_refusal o)) phase) (λ t. t)
       (step-made name calls entries run n (keyset.RollDone roll) end);
 }
 
@@ -175,7 +178,7 @@ module _ (name : List ℕ) (calls : List Call) (entries : List Entry) (run : IsR
         is : (at (suc n)).added q ≡ added_by (suc n) c e.reply (at n).added q
         is = ap (λ f. f q) (added-next name calls entries run n c e ci ei)
 
-        no_add : (d : keyset.Call) → keyset.clearance (at n).set d ≡ keyset.Clear
+        no_add : (d : keyset.Call) → keyset.clearance (at n).set d ≡ waits.Clear
             → with_added (suc n) (reference_added d) (at n).added q ≡ (at n).added q
         no_add (keyset.AddKey r key) v = apart (bytes_eq r q) refl
           where

@@ -18,15 +18,16 @@ use Rattle.dnssec_key.specs.RollTable.{column}
 use Rattle.dnssec_key.specs.Setters.{Setting, Decoupled, Present, Signer, AtParent, Stale}
 use Rattle.dnssec_key.specs.Setters.{VisibleAt, DsVisibleAt, RrsigVisibleAt, is_flag_setting}
 use Rattle.dnssec_key.specs.State.{is_kept}
-use Rattle.dnssec_keyset.specs.KeySet.{Listed, Lists, listed_by, with_listed, without, others}
-use Rattle.dnssec_keyset.specs.KeySet.{Keys as KeysBy}
-use Rattle.dnssec_keyset.specs.Start.{is_listed}
-use Rattle.dnssec_keyset.specs.Step.{has_kept_key, listed_at_start, lists_after_setting}
-use Rattle.dnssec_keyset.proofs.Flags.{SideOf, Keys, Zone, affects, ended, has_role, is_idle}
-use Rattle.dnssec_keyset.proofs.Flags.{may_start, started}
-use Rattle.dnssec_keyset.proofs.Phases.{listed_by-with_listed}
-use Rattle.dnssec_keyset.proofs.Tests.{both, both-at, each_roll, each_roll-at, ◌⇒◌, mp, and-both}
-use Rattle.dnssec_keyset.proofs.Tests.{each_listed, each_listed-at, implies}
+use Rattle.dnssec_zone.specs.Lists.{Listed, Lists, listed_by, with_listed, without, others}
+use Rattle.dnssec_zone.specs.Keys.{Keys as KeysBy}
+use Rattle.dnssec_zone.specs.Start.{is_listed}
+use Rattle.dnssec_zone.specs.Lists.{has_kept_key, listed_at_start}
+use Rattle.dnssec_keyset.specs.Step.{lists_after_setting}
+use Rattle.dnssec_zone.proofs.Flags.{SideOf, Keys, Zone, affects, ended, has_role, is_idle}
+use Rattle.dnssec_zone.proofs.Flags.{may_start, started}
+use Rattle.dnssec_zone.proofs.Phases.{listed_by-with_listed}
+use Rattle.dnssec_zone.proofs.Tests.{both, both-at, each_roll, each_roll-at, ◌⇒◌, mp, and-both}
+use Rattle.dnssec_zone.proofs.Tests.{each_listed, each_listed-at, implies}
 use Rattle.dnssec_run.specs.Plain.{is_another_signers, is_plain_setting}
 use Rattle.dnssec_run.proofs.Chain.Rolls.{same-same}
 use Rattle.dnssec_run.proofs.Chain.Setters.{Harmless, harmless-alike, others-role}

@@ -14,21 +14,24 @@ use Rattle.dnssec_key.specs.declared.roll.RollType.{RollType}
 use Rattle.dnssec_key.specs.declared.roll.RollState.{RollState}
 use Rattle.dnssec_key.specs.declared.roll.RollState.TheVariants.{Propagation1, CacheExpire1}
 use Rattle.dnssec_key.specs.declared.roll.RollState.TheVariants.{CacheExpire2}
-use Rattle.dnssec_key.specs.declared.error.Error.{Error}
+use Rattle.dnssec_base.specs.declared.error.Error.{Error}
 use Rattle.dnssec_key.specs.Key.{KeyParts, all_states}
-use Rattle.dnssec_keyset.specs.KeySet.{KeySetParts, listed_by, phase_of, with_phase, same_roll}
+use Rattle.dnssec_keyset.specs.KeySet.{KeySetParts}
+use Rattle.dnssec_zone.specs.Lists.{listed_by}
+use Rattle.dnssec_zone.specs.Rolls.{phase_of, with_phase, same_roll}
 use Rattle.dnssec_key.specs.RollTable.{First, Second, after_report, after_wait}
-use Rattle.dnssec_keyset.specs.Step.{deletion_refusal}
+use Rattle.dnssec_zone.specs.Refusals.{deletion_refusal}
 use Rattle.dnssec_key.specs.Setters.{set_by}
 use Rattle.dnssec_key.specs.State.{is_old}
 use Rattle.dnssec_key.specs.declared.kind.KeyType.{KeyType}
 use Rattle.dnssec_run.specs.Plain.{is_another_signers}
 use Rattle.dnssec_run.specs.WholeRolls.{end_of}
 use Rattle.dnssec_run.proofs.Chain.Setters.{harmless, harmless-alike, others-unlisted}
-use Rattle.dnssec_keyset.specs.Start.{is_listed}
+use Rattle.dnssec_zone.specs.Start.{is_listed}
 use Rattle.dnssec_keyset.specs.Laws.{LeavesOthers, RollsTogether}
 use Rattle.dnssec_keyset.specs.Step as keyset
-use Rattle.dnssec_keyset.proofs.Flags.{is_stale, may_list, tolerates, waited1, waited2}
+use Rattle.dnssec_zone.specs.Wait as waits
+use Rattle.dnssec_zone.proofs.Flags.{is_stale, may_list, tolerates, waited1, waited2}
 use Rattle.dnssec_run.proofs.Chain.Tale.{start-parts}
 use Rattle.dnssec_run.proofs.Chain.Facts.{other}
 use Rattle.dnssec_run.proofs.Chain.Allowed.{can_start, waits_in_phase}
@@ -77,7 +80,7 @@ module _ (roll : RollType) (old new : KeySetParts) where
           ]
 
       -- another roll that ends early runs beside this one
-      ends_beside : (p : RollType) → keyset.clearance old (keyset.AbortRoll p) ≡ keyset.Clear
+      ends_beside : (p : RollType) → keyset.clearance old (keyset.AbortRoll p) ≡ waits.Clear
           → (end_of (keyset.AbortRoll p) ≡ Some roll → ⊥) → tolerates p roll ≡ true
       ends_beside p v not_end = elim (cases_Bool (same_roll p roll)) [
         | inl t ↦ absurd (not_end (ap Some (same-is p roll t)))
@@ -86,7 +89,7 @@ module _ (roll : RollType) (old new : KeySetParts) where
 
       -- an old key stays old
       pub old-step : (c : keyset.Call) → is_calm old c ≡ true
-          → keyset.clearance old c ≡ keyset.Clear
+          → keyset.clearance old c ≡ waits.Clear
           → keyset.Changes old c new → (end_of c ≡ Some roll → ⊥) → (q : List ℕ) → IsNoAdd c q
           → ((k : KeyParts) → get old.keys q ≡ Some k → oldly roll k.keytype ≡ true)
           → (j : KeyParts) → get new.keys q ≡ Some j → oldly roll j.keytype ≡ true
@@ -129,7 +132,7 @@ module _ (roll : RollType) (old new : KeySetParts) where
 
       -- a new key stays new
       pub new-step : (c : keyset.Call) → is_calm old c ≡ true
-          → keyset.clearance old c ≡ keyset.Clear
+          → keyset.clearance old c ≡ waits.Clear
           → keyset.Changes old c new → LeavesOthers old c new → (end_of c ≡ Some roll → ⊥)
           → (q : List ℕ) (k : KeyParts) → get old.keys q ≡ Some k → newly roll k.keytype ≡ true
           → Stays q

@@ -2,10 +2,10 @@
 use Rattle.std.proofs.lemmas.Bool.{and_parts}
 use Rattle.std.specs.Prelude.{is_some}
 use Rattle.std.proofs.Common.{sym, ◌∙◌, ◌≡◌, Bool, true, false, not, ◌&&◌, ◌||◌, refl, ap}
-use Rattle.dnssec_keyset.proofs.Flags.{start-fits, wait1-fits, wait2-fits, idle-fits, unseen-fits}
-use Rattle.dnssec_keyset.proofs.Flags.{SideOf, Keys, Zone, affects, started, waited1, waited2}
-use Rattle.dnssec_keyset.proofs.Flags.{Stage, Quiet, Early, Late, fits, may_start, has_role}
-use Rattle.dnssec_keyset.proofs.Flags.{is_idle}
+use Rattle.dnssec_zone.proofs.Flags.{start-fits, wait1-fits, wait2-fits, idle-fits, unseen-fits}
+use Rattle.dnssec_zone.proofs.Flags.{SideOf, Keys, Zone, affects, started, waited1, waited2}
+use Rattle.dnssec_zone.proofs.Flags.{Stage, Quiet, Early, Late, fits, may_start, has_role}
+use Rattle.dnssec_zone.proofs.Flags.{is_idle}
 use Rattle.dnssec_key.specs.declared.roll.RollType.{RollType}
 use Rattle.dnssec_key.specs.declared.roll.RollType.TheVariants.{KskDoubleDsRoll}
 use Rattle.dnssec_key.specs.declared.roll.RollType.TheVariants.{ZskDoubleSignatureRoll}
@@ -18,8 +18,8 @@ use Rattle.dnssec_key.specs.RollTable.{column}
 use Rattle.dnssec_run.specs.WholeRolls.{each_role, is_settled_ksk, is_settled_zsk}
 use Rattle.dnssec_run.proofs.Chain.Tables.{written, Stamp, Visible, DsVisible, RrsigVisible, read}
 use Rattle.dnssec_run.proofs.Chain.Tables.{checked}
-use Rattle.dnssec_keyset.proofs.Tests.{both, both-at, each_key, each_key-at, ◌⇒◌, mp, and-both}
-use Rattle.dnssec_keyset.proofs.Tests.{each_roll, each_roll-at, implies}
+use Rattle.dnssec_zone.proofs.Tests.{both, both-at, each_key, each_key-at, ◌⇒◌, mp, and-both}
+use Rattle.dnssec_zone.proofs.Tests.{each_roll, each_roll-at, implies}
 
 -- where a side is in its roll, if any; the second half is true
 pub data Phase : Type 0 where

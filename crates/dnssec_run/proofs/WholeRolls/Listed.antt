@@ -9,10 +9,10 @@ use Rattle.dnssec_key.specs.State.{kept_at_parent}
 use Rattle.dnssec_key.specs.Key.{all_states, ksk}
 use Rattle.dnssec_key.specs.RollTable.{column}
 use Rattle.dnssec_run.specs.WholeRolls.{each_role}
-use Rattle.dnssec_keyset.proofs.Flags.{Keys, Zone, affects, may_list, is_stale, started, waited1}
-use Rattle.dnssec_keyset.proofs.Flags.{waited2, may_start}
-use Rattle.dnssec_keyset.proofs.Tests.{each_roll, each_roll-at, ◌⇒◌, mp, each_in_roll}
-use Rattle.dnssec_keyset.proofs.Tests.{each_in_roll-at, each_listed, each_listed-at}
+use Rattle.dnssec_zone.proofs.Flags.{Keys, Zone, affects, may_list, is_stale, started, waited1}
+use Rattle.dnssec_zone.proofs.Flags.{waited2, may_start}
+use Rattle.dnssec_zone.proofs.Tests.{each_roll, each_roll-at, ◌⇒◌, mp, each_in_roll}
+use Rattle.dnssec_zone.proofs.Tests.{each_in_roll-at, each_listed, each_listed-at}
 use Rattle.dnssec_run.proofs.WholeRolls.Keys.{Idle, each_dated, each_dated-at, orderly}
 
 -- ---- the keys that a roll lists

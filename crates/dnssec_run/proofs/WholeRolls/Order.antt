@@ -11,19 +11,24 @@ use Rattle.dnssec_key.specs.declared.roll.RollType.{RollType}
 use Rattle.dnssec_key.specs.declared.roll.RollState.TheVariants.{Propagation1, CacheExpire1}
 use Rattle.dnssec_key.specs.declared.roll.RollState.TheVariants.{Propagation2, CacheExpire2, Done}
 use Rattle.dnssec_key.specs.Key.{KeyParts}
-use Rattle.dnssec_keyset.specs.KeySet.{Lists, KeySetParts, PutsKey, MovesOn, new_set, phase_of}
-use Rattle.dnssec_keyset.specs.KeySet.{listed_by, same_roll, with_listed}
+use Rattle.dnssec_zone.specs.Lists.{Lists}
+use Rattle.dnssec_keyset.specs.KeySet.{KeySetParts, PutsKey, MovesOn, new_set}
+use Rattle.dnssec_zone.specs.Rolls.{phase_of}
+use Rattle.dnssec_zone.specs.Lists.{listed_by, with_listed}
+use Rattle.dnssec_zone.specs.Rolls.{same_roll}
 use Rattle.dnssec_key.specs.RollTable.{First, Second, after_start, after_report, after_early_end}
 use Rattle.dnssec_key.specs.RollTable.{after_wait}
 use Rattle.dnssec_key.specs.Setters.{set_by}
 use Rattle.dnssec_keyset.specs.Laws.{LeavesOthers}
 use Rattle.dnssec_keyset.specs.Step as keyset
+use Rattle.dnssec_zone.specs.Wait as waits
+use Rattle.dnssec_zone.specs.Lists as lists
 use Rattle.dnssec_keyset.proofs.Sides.{leaves-others}
 use Rattle.dnssec_keyset.proofs.Laws.{moved, no_cause}
 use Rattle.dnssec_run.specs.Published.{World as RealWorld}
 use Rattle.dnssec_run.specs.Plain.{is_plain_setting, sets_nothing}
-use Rattle.dnssec_keyset.proofs.Flags.{SideOf, affects, may_list, is_blank, has_role, may_start}
-use Rattle.dnssec_keyset.proofs.Flags.{is_idle}
+use Rattle.dnssec_zone.proofs.Flags.{SideOf, affects, may_list, is_blank, has_role, may_start}
+use Rattle.dnssec_zone.proofs.Flags.{is_idle}
 use Rattle.dnssec_run.proofs.Chain.Tale.{seen, is_listed, CanStart, start-parts, early-end-parts}
 use Rattle.dnssec_run.proofs.Chain.Setters.{Harmless, harmless}
 use Rattle.dnssec_run.proofs.Chain.Rolls.{clash}
@@ -42,7 +47,7 @@ use Rattle.dnssec_run.proofs.WholeRolls.OrderedKeys.{other_side, own_side, repor
 use Rattle.dnssec_run.proofs.WholeRolls.OrderedKeys.{report_second, start_key, undone_key}
 use Rattle.dnssec_run.proofs.WholeRolls.OrderedKeys.{wait_first, wait_second}
 use Rattle.dnssec_run.proofs.Chain.EarlyEnds.{role-ended}
-use Rattle.dnssec_keyset.proofs.Phases.{no_phases}
+use Rattle.dnssec_zone.proofs.Phases.{no_phases}
 use Rattle.std.proofs.lemmas.Bool.{cases_Bool}
 
 abbrev pub is_calm : KeySetParts → keyset.Call → Bool
@@ -77,7 +82,7 @@ module _ (sd : SideOf) (old new : KeySetParts) where
   start_side : (r : RollType) (olds news : List (List ℕ)) (now : ℕ)
       → CanStart r (seen (world_of old)) olds news
       → MovesOn old new r (Some Propagation1)
-      (with_listed old.lists r (keyset.listed_at_start old.keys olds news))
+      (with_listed old.lists r (lists.listed_at_start old.keys olds news))
       (λ q. after_start r now (is_listed q olds) (is_listed q news))
       → affects sd r ≡ true → ((s : SideOf) → Order s old) → Order sd new
   start_side r olds news now can m own h = record {
@@ -197,7 +202,7 @@ module _ (sd : SideOf) (old new : KeySetParts) where
       ∙ role-ended sd r o i k.keytype
 
   changed_side : (c : keyset.Call) → is_calm old c ≡ true → LeavesOthers old c new
-      → keyset.clearance old c ≡ keyset.Clear → keyset.Changes old c new
+      → keyset.clearance old c ≡ waits.Clear → keyset.Changes old c new
       → ((s : SideOf) → Order s old) → Order sd new
   changed_side (keyset.AddKey r k) plain leaves v m h =
       puts_side r (Some k) m (λ q t. alike_same sd q old.lists) (h sd)

@@ -9,10 +9,12 @@ use Rattle.dnssec_key.specs.declared.roll.RollType.{RollType}
 use Rattle.dnssec_key.specs.declared.roll.RollState.{RollState}
 use Rattle.dnssec_key.specs.Key.{KeyParts, all_states}
 use Rattle.dnssec_key.specs.State.{is_kept}
-use Rattle.dnssec_keyset.specs.KeySet.{Lists, KeySetParts, MovesOn, phase_of, same_roll}
+use Rattle.dnssec_zone.specs.Lists.{Lists}
+use Rattle.dnssec_keyset.specs.KeySet.{KeySetParts, MovesOn}
+use Rattle.dnssec_zone.specs.Rolls.{phase_of, same_roll}
 use Rattle.dnssec_key.specs.RollTable.{First, Second, after_report, after_wait}
-use Rattle.dnssec_keyset.proofs.Flags.{SideOf, affects, may_list, started, ended, waited1, waited2}
-use Rattle.dnssec_keyset.proofs.Flags.{has_role, may_start}
+use Rattle.dnssec_zone.proofs.Flags.{SideOf, affects, may_list, started, ended, waited1, waited2}
+use Rattle.dnssec_zone.proofs.Flags.{has_role, may_start}
 use Rattle.dnssec_run.proofs.Chain.Tables.{written, Visible, DsVisible, RrsigVisible}
 use Rattle.dnssec_run.proofs.Chain.Tale.{started_key}
 use Rattle.dnssec_run.proofs.Chain.Setters.{Harmless, harmless-alike, others-role}

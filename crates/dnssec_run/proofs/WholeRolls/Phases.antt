@@ -7,9 +7,10 @@ use Rattle.dnssec_key.specs.declared.roll.RollState.{RollState}
 use Rattle.dnssec_key.specs.declared.roll.RollState.TheVariants.{Propagation1, CacheExpire1}
 use Rattle.dnssec_key.specs.declared.roll.RollState.TheVariants.{Propagation2, CacheExpire2}
 use Rattle.dnssec_key.specs.declared.roll.RollState.TheVariants.{Done}
-use Rattle.dnssec_keyset.specs.KeySet.{KeySetParts, Rolls, phase_of, with_phase, same_roll}
-use Rattle.dnssec_keyset.proofs.Phases.{phase_of-with_phase}
-use Rattle.dnssec_keyset.proofs.Flags.{SideOf, affects}
+use Rattle.dnssec_keyset.specs.KeySet.{KeySetParts}
+use Rattle.dnssec_zone.specs.Rolls.{Rolls, phase_of, with_phase, same_roll}
+use Rattle.dnssec_zone.proofs.Phases.{phase_of-with_phase}
+use Rattle.dnssec_zone.proofs.Flags.{SideOf, affects}
 use Rattle.dnssec_run.proofs.Chain.Rolls.{same-same}
 use Rattle.dnssec_run.proofs.WholeRolls.Keys.{Expiring, Idle, Phase, Spreading}
 use Rattle.dnssec_keyset.proofs.Laws.{same-is}

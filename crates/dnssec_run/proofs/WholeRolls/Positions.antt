@@ -9,15 +9,18 @@ use Rattle.dnssec_key.specs.declared.roll.RollState.{RollState}
 use Rattle.dnssec_key.specs.declared.roll.RollState.TheVariants.{Propagation1, CacheExpire1}
 use Rattle.dnssec_key.specs.declared.roll.RollState.TheVariants.{Propagation2, CacheExpire2}
 use Rattle.dnssec_key.specs.declared.roll.RollState.TheVariants.{Done}
-use Rattle.dnssec_key.specs.declared.error.Error.TheVariants.{WrongKeyState}
+use Rattle.dnssec_base.specs.declared.error.Error.TheVariants.{WrongKeyState}
 use Rattle.dnssec_key.specs.Key.{KeyParts}
-use Rattle.dnssec_keyset.specs.KeySet.{KeySetParts, phase_of, some_key}
+use Rattle.dnssec_keyset.specs.KeySet.{KeySetParts}
+use Rattle.dnssec_zone.specs.Rolls.{phase_of}
+use Rattle.dnssec_zone.specs.Keys.{some_key}
 use Rattle.dnssec_keyset.specs.Laws.{in_progress}
 use Rattle.dnssec_key.specs.RollTable.{Half, First, Second}
-use Rattle.dnssec_keyset.specs.Wait.{ttl_in, lacks_stamp, longest_left, stamp_read}
+use Rattle.dnssec_zone.specs.Wait.{ttl_in, lacks_stamp, longest_left, stamp_read}
 use Rattle.dnssec_keyset.specs.Step as keyset
-use Rattle.dnssec_keyset.proofs.Quantified.{some_key-found}
-use Rattle.dnssec_keyset.proofs.Longest.{left-unbarred}
+use Rattle.dnssec_zone.specs.Wait as waits
+use Rattle.dnssec_zone.proofs.Quantified.{some_key-found}
+use Rattle.dnssec_zone.proofs.Longest.{left-unbarred}
 use Rattle.dnssec_run.specs.WholeRolls.{NeverMissesStamp, SettlesBetweenRolls}
 use Rattle.dnssec_run.specs.declared.call.Call.{Call}
 use Rattle.dnssec_run.specs.declared.call.Call.TheVariants as call
@@ -25,7 +28,7 @@ use Rattle.dnssec_run.specs.declared.record.Entry.{Entry}
 use Rattle.dnssec_run.specs.Published.{World}
 use Rattle.dnssec_run.specs.Plain.{SetsNothing, sets_nothing}
 use Rattle.dnssec_run.specs.Record.{IsRun, call_of, reply_of, world_behind, world_at}
-use Rattle.dnssec_keyset.proofs.Flags.{SideOf, Keys, Zone, affects}
+use Rattle.dnssec_zone.proofs.Flags.{SideOf, Keys, Zone, affects}
 use Rattle.dnssec_run.proofs.Chain.Tables.{half, read, reads-stamp, checked, Stamp, Visible}
 use Rattle.dnssec_run.proofs.Chain.Tables.{DsVisible, RrsigVisible}
 use Rattle.dnssec_run.proofs.Chain.Tale.{stamp_of, waiting}
@@ -151,24 +154,24 @@ module _ (set : KeySetParts) (ks : Order Keys set) (zs : Order Zone set) (r : Ro
       by q k at false t lack = true≢false (sym lack
           ∙ ap (λ b. b && is_none (stamp_read r (half second) k)) t)
 
-  not_barred : keyset.wait_in_phase r (half second) (Some ttl) now set.keys
-      ≡ keyset.Barred WrongKeyState → ⊥
+  not_barred : waits.wait_in_phase r (half second) (Some ttl) now set.keys
+      ≡ waits.Barred WrongKeyState → ⊥
   not_barred e = by (some_key (lacks_stamp r (half second)) set.keys) refl e
     where
       by : (b : Bool) → some_key (lacks_stamp r (half second)) set.keys ≡ b
-          → (if b then keyset.Barred WrongKeyState
-          else keyset.early_by (longest_left r (half second) ttl now set.keys))
-          ≡ keyset.Barred WrongKeyState → ⊥
+          → (if b then waits.Barred WrongKeyState
+          else waits.early_by (longest_left r (half second) ttl now set.keys))
+          ≡ waits.Barred WrongKeyState → ⊥
       by true t e = no_lack t
       by false t e = left-unbarred (longest_left r (half second) ttl now set.keys) WrongKeyState e
 
 never_barred : (set : KeySetParts) → Order Keys set → Order Zone set
     → (r : RollType) (h : Half) (now : ℕ)
-    → keyset.wait_clearance r h now set ≡ keyset.Barred WrongKeyState → ⊥
+    → keyset.wait_clearance r h now set ≡ waits.Barred WrongKeyState → ⊥
 never_barred set ks zs r First now e = by (phase_of set.rolls r) refl e
   where
     by : (o : Option RollState) → phase_of set.rolls r ≡ o
-        → keyset.wait_in_phase r First (ttl_in First o) now set.keys ≡ keyset.Barred WrongKeyState
+        → waits.wait_in_phase r First (ttl_in First o) now set.keys ≡ waits.Barred WrongKeyState
         → ⊥
     by None p f = cc
     by (Some Propagation1) p f = cc
@@ -179,7 +182,7 @@ never_barred set ks zs r First now e = by (phase_of set.rolls r) refl e
 never_barred set ks zs r Second now e = by (phase_of set.rolls r) refl e
   where
     by : (o : Option RollState) → phase_of set.rolls r ≡ o
-        → keyset.wait_in_phase r Second (ttl_in Second o) now set.keys ≡ keyset.Barred WrongKeyState
+        → waits.wait_in_phase r Second (ttl_in Second o) now set.keys ≡ waits.Barred WrongKeyState
         → ⊥
     by None p f = cc
     by (Some Propagation1) p f = cc
@@ -189,15 +192,15 @@ never_barred set ks zs r Second now e = by (phase_of set.rolls r) refl e
     by (Some Done) p f = cc
 
 -- the reply of a wait that isn't barred so
-told_else : (v : keyset.Clearance) (old new : KeySetParts) (r : RollType) (h : Half) (now : ℕ)
+told_else : (v : waits.Clearance) (old new : KeySetParts) (r : RollType) (h : Half) (now : ℕ)
     (reply : keyset.Reply) → keyset.StepBy v old (keyset.Wait r h now) reply new
-    → (v ≡ keyset.Barred WrongKeyState → ⊥) → reply ≡ keyset.Refused WrongKeyState → ⊥
-told_else (keyset.Barred cause) old new r h now reply step not_so e =
+    → (v ≡ waits.Barred WrongKeyState → ⊥) → reply ≡ keyset.Refused WrongKeyState → ⊥
+told_else (waits.Barred cause) old new r h now reply step not_so e =
     let same : keyset.Refused cause ≡ keyset.Refused WrongKeyState = sym step.0 ∙ e in not_so (cc)
-told_else (keyset.Early left) old new r h now reply step not_so e = let same = sym step.0.1 ∙ e in
+told_else (waits.Early left) old new r h now reply step not_so e = let same = sym step.0.1 ∙ e in
     cc
-told_else keyset.Clear old new r h now reply (inl step) not_so e = let same = sym step.0 ∙ e in cc
-told_else keyset.Clear old new r h now reply (inr step) not_so e = let same = sym step.1 ∙ e in cc
+told_else waits.Clear old new r h now reply (inl step) not_so e = let same = sym step.0 ∙ e in cc
+told_else waits.Clear old new r h now reply (inr step) not_so e = let same = sym step.1 ∙ e in cc
 
 pub never-misses : (name : List ℕ) (calls : List Call) (entries : List Entry)
     → IsRun name calls entries → NeverMissesStamp name calls entries

@@ -4,6 +4,7 @@ use Rattle.std.proofs.Common.{◌≡◌, ℕ, suc, Bool, true, false, List, Some
 use Rattle.std.proofs.lemmas.Bool.{true≢false}
 use Rattle.dnssec_keyset.specs.KeySet.{KeySetParts}
 use Rattle.dnssec_keyset.specs.Step as keyset
+use Rattle.dnssec_zone.specs.Wait as waits
 use Rattle.dnssec_run.specs.declared.record.Reply.{Reply}
 use Rattle.dnssec_run.specs.declared.record.Reply.TheVariants as reply
 use Rattle.dnssec_run.specs.Record.{IsRun, reply_of, is_accepted, mark_after, call_moment, call_of}
@@ -17,8 +18,8 @@ use Rattle.dnssec_run.specs.declared.record.Mark.TheVariants.{Other}
 use Rattle.dnssec_run.proofs.Chain.Trust.{mark, plainly}
 
 -- a reply that accepts
-pub accepted_step : (v : keyset.Clearance) (old new : KeySetParts) (c : keyset.Call) (r : Reply)
-    → is_accepted r ≡ true → keyset.StepBy v old c (reply_of r) new → (v ≡ keyset.Clear)
+pub accepted_step : (v : waits.Clearance) (old new : KeySetParts) (c : keyset.Call) (r : Reply)
+    → is_accepted r ≡ true → keyset.StepBy v old c (reply_of r) new → (v ≡ waits.Clear)
     × keyset.Changes old c new × (reply_of r ≡ keyset.accepted_reply c)
 accepted_step v old new c reply.Done a h = accepted_changes v old new c keyset.Done refl h
 accepted_step v old new c (reply.Actions x) a h =
@@ -26,7 +27,7 @@ accepted_step v old new c (reply.Actions x) a h =
 accepted_step v old new c (reply.Refused x) a h = absurd (true≢false (sym a))
 
 -- a reply that refuses
-pub refused_step : (v : keyset.Clearance) (old new : KeySetParts) (c : keyset.Call) (r : Reply)
+pub refused_step : (v : waits.Clearance) (old new : KeySetParts) (c : keyset.Call) (r : Reply)
     → is_accepted r ≡ false → keyset.StepBy v old c (reply_of r) new → new ≡ old
 refused_step v old new c reply.Done a h = absurd (true≢false a)
 refused_step v old new c (reply.Actions x) a h = absurd (true≢false a)

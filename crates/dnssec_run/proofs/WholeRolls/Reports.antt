@@ -16,15 +16,16 @@ use Rattle.dnssec_key.specs.Key.{KeyParts}
 use Rattle.dnssec_run.specs.WholeRolls.{LastReport, is_second, counts_from}
 use Rattle.dnssec_run.proofs.Chain.Rolls.{same-same}
 use Rattle.dnssec_run.proofs.Chain.Trust.{moment, mark}
-use Rattle.dnssec_keyset.specs.KeySet.{KeySetParts, same_roll}
+use Rattle.dnssec_keyset.specs.KeySet.{KeySetParts}
+use Rattle.dnssec_zone.specs.Rolls.{same_roll}
 use Rattle.dnssec_key.specs.RollTable.{Half, First, Second, after_report, after_wait}
 use Rattle.dnssec_run.specs.declared.record.Entry.{Entry}
 use Rattle.dnssec_run.specs.declared.record.Mark.{Mark}
 use Rattle.dnssec_run.specs.declared.record.Mark.TheVariants.{Report}
 use Rattle.dnssec_run.specs.Safe.{position_at}
 use Rattle.dnssec_run.proofs.Chain.Tables.{half}
-use Rattle.dnssec_keyset.proofs.Tests.{and-both}
-use Rattle.dnssec_keyset.proofs.Flags.{Early, fits}
+use Rattle.dnssec_zone.proofs.Tests.{and-both}
+use Rattle.dnssec_zone.proofs.Flags.{Early, fits}
 use Rattle.dnssec_run.proofs.Chain.Facts.{timer}
 use Rattle.dnssec_run.proofs.WholeRolls.Armed.{Armed, Beside, NoneLater, Reads, armed-beside}
 use Rattle.dnssec_run.proofs.WholeRolls.Armed.{armed-between, armed-both, armed-first, armed-second}

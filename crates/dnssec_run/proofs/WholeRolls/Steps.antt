@@ -14,25 +14,28 @@ use Rattle.dnssec_key.specs.declared.roll.RollState.{RollState}
 use Rattle.dnssec_key.specs.declared.roll.RollState.TheVariants.{Propagation1, CacheExpire1}
 use Rattle.dnssec_key.specs.declared.roll.RollState.TheVariants.{Propagation2, CacheExpire2}
 use Rattle.dnssec_key.specs.declared.roll.RollState.TheVariants.{Done}
-use Rattle.dnssec_key.specs.declared.error.Error.{Error}
+use Rattle.dnssec_base.specs.declared.error.Error.{Error}
 use Rattle.dnssec_key.specs.Key.{KeyParts}
-use Rattle.dnssec_keyset.specs.Start.{is_listed}
-use Rattle.dnssec_keyset.specs.Step.{deletion_refusal}
+use Rattle.dnssec_zone.specs.Start.{is_listed}
+use Rattle.dnssec_zone.specs.Refusals.{deletion_refusal}
 use Rattle.dnssec_key.specs.Setters.{set_by}
 use Rattle.dnssec_run.proofs.Chain.Rolls.{same-sym, clash}
 use Rattle.dnssec_run.proofs.Chain.Allowed.{can_start, waits_in_phase}
 use Rattle.dnssec_run.proofs.Chain.OneKey.{may_by, suits}
 use Rattle.dnssec_run.proofs.Chain.Kinds.{list_start, list_waited1, list_waited2}
 use Rattle.dnssec_run.proofs.Chain.Trust.{moment, mark}
-use Rattle.dnssec_keyset.specs.KeySet.{KeySetParts, listed_by, phase_of, with_phase, same_roll}
+use Rattle.dnssec_keyset.specs.KeySet.{KeySetParts}
+use Rattle.dnssec_zone.specs.Lists.{listed_by}
+use Rattle.dnssec_zone.specs.Rolls.{phase_of, with_phase, same_roll}
 use Rattle.dnssec_key.specs.RollTable.{First, Second, after_start, after_report, after_early_end}
 use Rattle.dnssec_key.specs.RollTable.{after_wait}
 use Rattle.dnssec_keyset.specs.Laws.{LeavesOthers, RollsTogether}
 use Rattle.dnssec_keyset.specs.Step as keyset
+use Rattle.dnssec_zone.specs.Wait as waits
 use Rattle.dnssec_run.specs.declared.record.Entry.{Entry}
 use Rattle.dnssec_run.specs.Safe.{position_at}
-use Rattle.dnssec_keyset.proofs.Flags.{SideOf, Keys, Zone, may_list, is_blank, is_stale, tolerates}
-use Rattle.dnssec_keyset.proofs.Flags.{Quiet, fits, may_start, is_idle, stale-idle}
+use Rattle.dnssec_zone.proofs.Flags.{SideOf, Keys, Zone, may_list, is_blank, is_stale, tolerates}
+use Rattle.dnssec_zone.proofs.Flags.{Quiet, fits, may_start, is_idle, stale-idle}
 use Rattle.dnssec_run.proofs.Chain.Tables.{serves_new, serves_kept}
 use Rattle.dnssec_run.proofs.Chain.Tale.{early-end-parts, start-parts, seen, CanStart}
 use Rattle.dnssec_run.proofs.Chain.Setters.{harmless}
@@ -118,7 +121,7 @@ module _ (entries : List Entry) (n : ℕ) (old new : KeySetParts) (ks : Order Ke
         data-beside entries r y n old new (beside r y was t) (none r t) (h r y was)
   ]
 
-  pub data-step : (c : keyset.Call) → is_calm old c ≡ true → keyset.clearance old c ≡ keyset.Clear
+  pub data-step : (c : keyset.Call) → is_calm old c ≡ true → keyset.clearance old c ≡ waits.Clear
       → keyset.Changes old c new → LeavesOthers old c new
       → (position_at entries (suc n)).mark ≡ mark c
       → (position_at entries (suc n)).moment ≡ moment c

@@ -17,11 +17,13 @@ use Rattle.dnssec_run.specs.Plain.{SetsNothing}
 use Rattle.dnssec_run.specs.WholeRolls.{IsMade, NeverFalls, LastReport, counts_from}
 use Rattle.dnssec_run.specs.WholeRolls.{WaitsUntil, WaitsExactly}
 use Rattle.dnssec_run.proofs.Chain.Trust.{moment, plainly}
-use Rattle.dnssec_keyset.specs.KeySet.{KeySetParts, phase_of}
+use Rattle.dnssec_keyset.specs.KeySet.{KeySetParts}
+use Rattle.dnssec_zone.specs.Rolls.{phase_of}
 use Rattle.dnssec_key.specs.RollTable.{Half, First, Second, cache_expire}
-use Rattle.dnssec_keyset.specs.Wait.{ttl_in}
+use Rattle.dnssec_zone.specs.Wait.{ttl_in}
 use Rattle.dnssec_keyset.specs.Laws.{RollsTogether}
 use Rattle.dnssec_keyset.specs.Step as keyset
+use Rattle.dnssec_zone.specs.Wait as waits
 use Rattle.dnssec_run.specs.declared.call.Call.{Call}
 use Rattle.dnssec_run.specs.declared.record.Entry.{Entry}
 use Rattle.dnssec_run.specs.Safe.{position_at, time_at}
@@ -31,7 +33,7 @@ use Rattle.dnssec_keyset.proofs.Laws.{together-new, together-step}
 use Rattle.dnssec_run.proofs.Laws.{stays-sound, kept-at}
 use Rattle.dnssec_run.proofs.Chain.History.{time_grows, time_now, time_mono}
 use Rattle.dnssec_run.specs.Record.{IsRun, call_of, reply_of, world_at, call_moment}
-use Rattle.dnssec_keyset.proofs.Flags.{Keys, Zone, fits}
+use Rattle.dnssec_zone.proofs.Flags.{Keys, Zone, fits}
 use Rattle.dnssec_run.proofs.Chain.Tables.{half, checked}
 use Rattle.dnssec_run.proofs.Chain.Tale.{waiting}
 use Rattle.dnssec_run.proofs.Chain.Facts.{stays_facts}
@@ -47,7 +49,7 @@ use Rattle.dnssec_run.proofs.WholeRolls.Replies.{At, at_position, marked, accept
 use Rattle.dnssec_run.proofs.WholeRolls.Replies.{refused_step}
 use Rattle.dnssec_run.proofs.WholeRolls.Clearances.{answers}
 use Rattle.dnssec_run.proofs.Chain.RollFacts.{timed_first}
-use Rattle.dnssec_keyset.proofs.Phases.{no_phases}
+use Rattle.dnssec_zone.proofs.Phases.{no_phases}
 
 -- ---- at each position
 
@@ -196,7 +198,7 @@ module _ (name : List ℕ) (calls : List Call) (entries : List Entry) (run : IsR
       → (a : Arms entries (set_at n) n r second) → (c : Call) → slice_get calls n ≡ Some c
       → call_moment c ≡ Some now
       → (new : KeySetParts) (h : Half) (reply : keyset.Reply) → half second ≡ h
-      → keyset.StepBy (keyset.wait_in_phase r (half second) (Some ttl) now (set_at n).keys)
+      → keyset.StepBy (waits.wait_in_phase r (half second) (Some ttl) now (set_at n).keys)
       (set_at n) (keyset.Wait r h now) reply new
       → WaitsUntil (a.0.moment + ttl * 1_000_000_000) now reply
       (keyset.accepted_reply (keyset.Wait r h now))
@@ -250,10 +252,10 @@ module _ (name : List ℕ) (calls : List Call) (entries : List Entry) (run : IsR
           (keyset.accepted_reply (keyset.Wait r h now))
       by First wait phase =
           let d = (clocks n within).data_of r (CacheExpire1 ttl) phase in
-          let in_phase : keyset.StepBy (keyset.wait_in_phase r First (Some ttl) now (set_at n).keys)
+          let in_phase : keyset.StepBy (waits.wait_in_phase r First (Some ttl) now (set_at n).keys)
           (set_at n) (keyset.Wait r First now) (reply_of wait.entry.reply) (set_at (suc n)) =
           subst (λ o. keyset.StepBy
-          (keyset.wait_in_phase r First (ttl_in First o) now (set_at n).keys) (set_at n)
+          (waits.wait_in_phase r First (ttl_in First o) now (set_at n).keys) (set_at n)
           (keyset.Wait r First now) (reply_of wait.entry.reply) (set_at (suc n))) phase
           (step First wait) in (
             last-report entries r First n d.1.0,
@@ -269,10 +271,10 @@ module _ (name : List ℕ) (calls : List Call) (entries : List Entry) (run : IsR
       by Second wait phase =
           let d = (clocks n within).data_of r (CacheExpire2 ttl) phase in
           let in_phase : keyset.StepBy
-          (keyset.wait_in_phase r Second (Some ttl) now (set_at n).keys) (set_at n)
+          (waits.wait_in_phase r Second (Some ttl) now (set_at n).keys) (set_at n)
           (keyset.Wait r Second now) (reply_of wait.entry.reply) (set_at (suc n)) =
           subst (λ o. keyset.StepBy
-          (keyset.wait_in_phase r Second (ttl_in Second o) now (set_at n).keys)
+          (waits.wait_in_phase r Second (ttl_in Second o) now (set_at n).keys)
           (set_at n) (keyset.Wait r Second now) (reply_of wait.entry.reply)
           (set_at (suc n))) phase (step Second wait) in (
             last-report entries r Second n d.1.0,

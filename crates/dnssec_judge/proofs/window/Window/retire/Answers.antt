@@ -6,7 +6,7 @@ use Rattle.dnssec_judge.specs.Inner.Window.{floor_with}
 use Rattle.dnssec_judge.proofs.window.Window.retire.Goals as goal
 use Rattle.dnssec_judge.proofs.OneByOne.Windows.{floor-take, floor-all, is_over_at, waiting}
 use Rattle.dnssec_judge.proofs.OneByOne.Windows.{floor-retired}
-use Rattle.dnssec_keyset.proofs.Retained.{filtered}
+use Rattle.dnssec_zone.proofs.Retained.{filtered}
 use Rattle.dnssec_judge.proofs.window.Window.retire.Goals.{then-floor-over, else-floor-over}
 
 pub loop-due-preserved : goal.loop-due-preserved

@@ -3,8 +3,8 @@ use Rattle.std.proofs.Common.{refl, ap, ◌∙◌}
 use Rattle.std.specs.FinMap.{get}
 use Rattle.std.specs.Option.{option_map}
 use Rattle.dnssec_key.specs.RollTable.{after_early_end}
-use Rattle.dnssec_keyset.specs.KeySet.{Listed}
-use Rattle.dnssec_keyset.specs.Start.{is_listed}
+use Rattle.dnssec_zone.specs.Lists.{Listed}
+use Rattle.dnssec_zone.specs.Start.{is_listed}
 use Rattle.dnssec_keyset.proofs.set.KeySet.abort_roll.Goals as goal
 
 pub returns-clause-ok : goal.returns-clause-ok

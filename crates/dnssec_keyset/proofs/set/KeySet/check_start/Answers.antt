@@ -3,11 +3,12 @@ use Rattle.std.proofs.Common.{◌≡◌, rules, sym, ◌∙◌}
 use Rattle.std.specs.Prelude.{◌&&◌}
 use Rattle.std.specs.FinMap.{get}
 use Rattle.std.specs.Str.{bytes_eq}
-use Rattle.dnssec_key.specs.declared.error.Error.TheVariants.{AlgorithmSetsMismatch}
-use Rattle.dnssec_keyset.specs.Start.{texts, algorithms_within}
+use Rattle.dnssec_base.specs.declared.error.Error.TheVariants.{AlgorithmSetsMismatch}
+use Rattle.dnssec_zone.specs.Start.{texts, algorithms_within}
 use Rattle.dnssec_keyset.specs.contracts.set.KeySet.{the_view}
-use Rattle.dnssec_keyset.proofs.Algorithms.{same_algorithms}
-use Rattle.dnssec_keyset.proofs.Starts.{algorithms-told, passed, told-algorithms, told-last}
+use Rattle.dnssec_zone.proofs.Algorithms.{same_algorithms}
+use Rattle.dnssec_zone.proofs.Starts.{algorithms-told, passed}
+use Rattle.dnssec_keyset.proofs.StartReplies.{told-algorithms, told-last}
 use Rattle.dnssec_keyset.proofs.set.KeySet.check_start.Goals as goal
 
 pub returns-then-not-may_go_over : goal.returns-then-not-may_go_over

@@ -2,8 +2,9 @@
 use Rattle.std.proofs.Common.{sym, subst, ◌∙◌, arith}
 use Rattle.std.specs.Prelude.{IfNone}
 use Rattle.dnssec_key.specs.RollTable.{which}
-use Rattle.dnssec_keyset.specs.WaitEnd.{LacksStamp}
-use Rattle.dnssec_keyset.proofs.Waits.{ttl-shown, told-early, told-over, told-missing, left-now}
+use Rattle.dnssec_zone.specs.Wait.{LacksStamp}
+use Rattle.dnssec_keyset.proofs.WaitReplies.{ttl-shown, told-early, told-over, told-missing}
+use Rattle.dnssec_keyset.proofs.WaitReplies.{left-now}
 use Rattle.dnssec_keyset.proofs.set.KeySet.check_wait.Goals as goal
 
 pub returns-then-now-end-clause-reply : goal.returns-then-now-end-clause-reply

@@ -2,9 +2,10 @@
 use Rattle.std.proofs.Common.{ℕ, Some, None, sym, ◌∙◌, ap}
 use Rattle.std.specs.Prelude.{Option, IfNone}
 use Rattle.dnssec_key.specs.RollTable.{First, Second}
-use Rattle.dnssec_keyset.specs.WaitEnd.{HasNoWait, LacksStamp}
-use Rattle.dnssec_keyset.proofs.Waits.{no-wait-half, no-wait-phase, phase-shown}
-use Rattle.dnssec_keyset.proofs.Waits.{NotBegun, FirstChange, SecondChange, Ended}
+use Rattle.dnssec_keyset.specs.WaitEnd.{HasNoWait}
+use Rattle.dnssec_zone.specs.Wait.{LacksStamp}
+use Rattle.dnssec_keyset.proofs.WaitReplies.{no-wait-half, no-wait-phase, phase-shown, NotBegun}
+use Rattle.dnssec_keyset.proofs.WaitReplies.{FirstChange, SecondChange, Ended}
 use Rattle.dnssec_keyset.proofs.set.KeySet.over_in_phase.Goals as goal
 
 pub returns-in-Some-CacheExpire1-clause-none : goal.returns-in-Some-CacheExpire1-clause-none

@@ -1,0 +1,39 @@
+-- The stamps of a key: when it passed the stages of its life (RFC 7583, section 3: the events of a
+-- key).
+use Rattle.std.specs.Prelude.{ℕ, Option, None, Bool, true, Some}
+use Rattle.dnssec_base.specs.declared.stamps.Stamp.{Stamp}
+use Rattle.dnssec_base.specs.declared.stamps.Stamp.TheVariants.{Visible, DsVisible, RrsigVisible}
+use Rattle.dnssec_base.specs.declared.stamps.Stamp.TheVariants.{Published, Withdrawn}
+
+-- when a key passed the stages of its life, where it did (RFC 7583, section 3: the events of a key)
+pub record Stamps : Type 0 where
+  pub creation : Option ℕ  -- made
+  pub published : Option ℕ  -- put into the DNSKEY set
+  pub visible : Option ℕ  -- seen there by all
+  pub ds_visible : Option ℕ  -- its DS seen by all
+  pub rrsig_visible : Option ℕ  -- its signatures seen by all
+  pub withdrawn : Option ℕ  -- taken out
+
+-- no stage passed
+abbrev pub no_stamps : Stamps
+no_stamps = record {
+  creation = None;
+  published = None;
+  visible = None;
+  ds_visible = None;
+  rrsig_visible = None;
+  withdrawn = None;
+}
+
+-- the stamp of this name, where it was written
+abbrev pub stamp_named : Stamp → Stamps → Option ℕ
+stamp_named Published t = t.published
+stamp_named Visible t = t.visible
+stamp_named DsVisible t = t.ds_visible
+stamp_named RrsigVisible t = t.rrsig_visible
+stamp_named Withdrawn t = t.withdrawn
+
+-- a key put into the DNSKEY set was published then, unless it was before
+abbrev pub first_published : Bool → ℕ → Option ℕ → Option ℕ
+first_published true now None = Some now
+first_published value now before = before

@@ -1,7 +1,0 @@
--- The index tells the keys apart by their tags.
-use Rattle.std.proofs.Common.{subst}
-use Rattle.dnssec_keyset.specs.Laws.{TagsApart}
-use Rattle.dnssec_keyset.proofs.keys.Keys.differ_in_tags.Goals as goal
-
-pub returns : goal.returns
-returns c = subst TagsApart c.self.view_is c.self.invariant.0.apart

@@ -1,0 +1,35 @@
+-- The keys, rolls and lists of a zone. What carries each clause:
+--
+-- | Function or law                  | Lemma                          | Files                    |
+-- |----------------------------------|--------------------------------|--------------------------|
+-- | `Keys`: the map that it shows    | ruleset `shown`, `get-walked`  | Shown, Walks             |
+-- | `Keys`: the tags that it keeps   | `TagsAgree-added` and the like | Tags, Quantified         |
+-- | `Keys`: the counts that it keeps | `counts-added` and the like    | Counted, Walks           |
+-- | `set` of bits                    | `written`                      | Words                    |
+-- | `check_many_new`                 | `fault-found`, `fault-behind`  | Entries, Marks, TwoLists |
+-- | `mark_old`, `mark_new` and back  | `mark_more`                    | Marks, TwoLists          |
+-- | `check_suitability`              | ruleset `starts`               | Starts                   |
+-- | `go_on_all`, `delete`            | `counts-waited` and the like   | Counted, Tests           |
+-- | `search_and_drop`                | `filtered`                     | Retained                 |
+-- | the phases of rolls              | ruleset `phases`               | Phases                   |
+-- | `over_from`                      | `walk-lacks`, `walk-over`      | Waits                    |
+--
+-- `Tests` computes tables over all rolls and keys; `Flags` says by it what flags a key may have on
+-- each side: for the laws of key sets and of runs.
+pub mod Shown
+pub mod Walks
+pub mod Phases
+pub mod Quantified
+pub mod Words
+pub mod Tags
+pub mod Counted
+pub mod TwoLists
+pub mod Algorithms
+pub mod Retained
+pub mod Starts
+pub mod Marks
+pub mod Entries
+pub mod Longest
+pub mod Waits
+pub mod Tests
+pub mod Flags

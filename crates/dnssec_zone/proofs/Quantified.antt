@@ -1,0 +1,153 @@
+-- A test of some key, against the look-ups: where some key passes one finds it, and where none does
+-- none finds one.
+use Rattle.std.proofs.Common.{◌≡◌, ℕ, Bool, true, false, cond, List, [], ◌∷◌, map, Some, refl, sym}
+use Rattle.std.proofs.Common.{ap, subst, ◌∙◌, inl, inr}
+use Rattle.std.specs.Prelude.{◌&&◌, ◌||◌, T}
+use Rattle.std.specs.List.{list_any}
+use Rattle.std.specs.declared.cmp.Ordering.{Ordering}
+use Rattle.std.specs.declared.cmp.Ordering.TheVariants.{Less, Equal, Greater}
+use Rattle.std.specs.Ordering.{nat_cmp, is_eq, is_lt}
+use Rattle.std.specs.Cmp.Lexicographic.{slice_cmp, bytes_decides}
+use Rattle.std.specs.FinMap.{find, entries, get, get-entries, entries_sorted}
+use Rattle.std.specs.FinMap.Entries.{below_all, is_sorted}
+use Rattle.std.proofs.lemmas.Map.Text.{is_eq-slice_cmp}
+use Rattle.dnssec_key.specs.Key.{KeyParts}
+use Rattle.dnssec_zone.specs.Keys.{Keys, some_key, some_entry}
+use Rattle.std.proofs.lemmas.Bool.{cases_Bool, or_parts}
+
+pub first : (a b : Bool) → T (a && b) → T a
+first true b h = tt
+first false b h = absurd h
+
+pub second : (a b : Bool) → T (a && b) → T b
+second true b h = h
+second false b h = absurd h
+
+pub not_both : (o : Ordering) → T (is_lt o) → is_eq o ≡ true → ⊥
+not_both Less h e = cc
+not_both Equal h e = h
+not_both Greater h e = h
+
+pub same_key : (q x : List ℕ) → is_eq (slice_cmp nat_cmp q x) ≡ true → q ≡ x
+same_key q x e = (bytes_decides q x).0 (sym (is_eq-slice_cmp q x) ∙ e)
+
+pub itself : (q : List ℕ) → is_eq (slice_cmp nat_cmp q q) ≡ true
+itself q = is_eq-slice_cmp q q ∙ (bytes_decides q q).1 refl
+
+pub apart : (x q : List ℕ) → T (is_lt (slice_cmp nat_cmp x q)) →
+    is_eq (slice_cmp nat_cmp q x) ≡ false
+apart x q h = elim (cases_Bool (is_eq (slice_cmp nat_cmp q x))) [
+  | inl e ↦ absurd (not_both (slice_cmp nat_cmp x x)
+      (subst (λ k. T (is_lt (slice_cmp nat_cmp x k))) (same_key q x e) h) (itself x))
+  | inr e ↦ e
+]
+
+pub below_found : (x q : List ℕ) (v : KeyParts) (es : List (List ℕ × KeyParts)) →
+    T (below_all (slice_cmp nat_cmp) x es) → find (slice_cmp nat_cmp) q es ≡ Some v →
+    T (is_lt (slice_cmp nat_cmp x q))
+below_found x q v [] b f = cc
+below_found x q v (e ∷ es) b f = elim (cases_Bool (is_eq (slice_cmp nat_cmp q e.0))) [
+  | inl h ↦ subst (λ k. T (is_lt (slice_cmp nat_cmp x k))) (sym (same_key q e.0 h)) (first _ _ b)
+  | inr h ↦ below_found x q v es (second _ _ b)
+      (sym (ap (λ c. cond c (Some e.1) (find (slice_cmp nat_cmp) q es)) h) ∙ f)
+]
+
+module _ (p : KeyParts → Bool) where
+  key_found : (es : List (List ℕ × KeyParts)) → T (is_sorted (slice_cmp nat_cmp) es)
+      → list_any p (map (λ e. e.1) es) ≡ true → (q : List ℕ) × (k : KeyParts)
+      × (find (slice_cmp nat_cmp) q es ≡ Some k) × (p k ≡ true)
+  key_found [] s h = cc
+  key_found (e ∷ es) s h = elim (cases_Bool (p e.1)) [
+    | inl passes ↦ (
+      e.0,
+      e.1,
+      ap (λ c. cond c (Some e.1) (find (slice_cmp nat_cmp) e.0 es))
+          (itself e.0),
+      passes,
+    )
+    | inr fails ↦
+        let rest = key_found es (second _ _ s)
+        (sym (ap (λ b. b || list_any p (map (λ (x : List ℕ × KeyParts). x.1) es)) fails) ∙ h) in (
+          rest.0,
+          rest.1,
+          ap (λ c. cond c (Some e.1) (find (slice_cmp nat_cmp) rest.0 es))
+              (apart e.0 rest.0 (below_found e.0 rest.0 rest.1 es (first _ _ s) rest.2))
+              ∙ rest.2,
+          rest.3,
+        )
+  ]
+
+  no_entry : (es : List (List ℕ × KeyParts)) (q : List ℕ) (k : KeyParts)
+      → list_any p (map (λ e. e.1) es) ≡ false → find (slice_cmp nat_cmp) q es ≡ Some k → p k
+      ≡ false
+  no_entry [] q k h f = cc
+  no_entry (e ∷ es) q k h f = elim (cases_Bool (is_eq (slice_cmp nat_cmp q e.0))) [
+    | inl tied ↦
+        let one : Some e.1 ≡ Some k = sym
+        (ap (λ c. cond c (Some e.1) (find (slice_cmp nat_cmp) q es)) tied) ∙ f in
+        let same : e.1 ≡ k = cc in
+        sym (ap p same) ∙ (or_parts _ _ h).0
+    | inr other ↦ no_entry es q k (or_parts _ _ h).1
+        (sym (ap (λ c. cond c (Some e.1) (find (slice_cmp nat_cmp) q es)) other) ∙ f)
+  ]
+
+  -- where some key passes, a look-up finds one
+  pub some_key-found : (keys : Keys) → some_key p keys ≡ true → (q : List ℕ) × (k : KeyParts)
+      × (get keys q ≡ Some k) × (p k ≡ true)
+  some_key-found keys h = let e = key_found (entries keys) (entries_sorted keys) h in
+      (e.0, e.1, get-entries keys e.0 ∙ e.2, e.3)
+
+  -- where no key passes, none that a look-up finds does
+  pub some_key-none : (keys : Keys) (q : List ℕ) (k : KeyParts) → some_key p keys ≡ false
+      → get keys q ≡ Some k → p k ≡ false
+  some_key-none keys q k h f = no_entry (entries keys) q k h (sym (get-entries keys q) ∙ f)
+
+-- ---- the same of a test that reads the reference too
+
+module _ (p : List ℕ → KeyParts → Bool) where
+  one_entry : (es : List (List ℕ × KeyParts)) → T (is_sorted (slice_cmp nat_cmp) es)
+      → list_any (λ (e : List ℕ × KeyParts). p e.0 e.1) es ≡ true
+      → (q : List ℕ) × (k : KeyParts) × (find (slice_cmp nat_cmp) q es ≡ Some k) × (p q k ≡ true)
+  one_entry [] s h = cc
+  one_entry (e ∷ es) s h = elim (cases_Bool (p e.0 e.1)) [
+    | inl passes ↦ (
+      e.0,
+      e.1,
+      ap (λ c. cond c (Some e.1) (find (slice_cmp nat_cmp) e.0 es))
+          (itself e.0),
+      passes,
+    )
+    | inr fails ↦
+        let rest = one_entry es (second _ _ s)
+        (sym (ap (λ b. b || list_any (λ (x : List ℕ × KeyParts). p x.0 x.1) es) fails) ∙ h) in (
+          rest.0,
+          rest.1,
+          ap (λ c. cond c (Some e.1) (find (slice_cmp nat_cmp) rest.0 es))
+              (apart e.0 rest.0 (below_found e.0 rest.0 rest.1 es (first _ _ s) rest.2))
+              ∙ rest.2,
+          rest.3,
+        )
+  ]
+
+  none_entry : (es : List (List ℕ × KeyParts)) (q : List ℕ) (k : KeyParts)
+      → list_any (λ (e : List ℕ × KeyParts). p e.0 e.1) es ≡ false → find (slice_cmp nat_cmp) q es
+      ≡ Some k → p q k ≡ false
+  none_entry [] q k h f = cc
+  none_entry (e ∷ es) q k h f = elim (cases_Bool (is_eq (slice_cmp nat_cmp q e.0))) [
+    | inl tied ↦
+        let one : Some e.1 ≡ Some k = sym
+        (ap (λ c. cond c (Some e.1) (find (slice_cmp nat_cmp) q es)) tied) ∙ f in
+        let same : e.1 ≡ k = cc in
+        sym (λ i. p (sym (same_key q e.0 tied) i) (same i)) ∙ (or_parts _ _ h).0
+    | inr other ↦ none_entry es q k (or_parts _ _ h).1
+        (sym (ap (λ c. cond c (Some e.1) (find (slice_cmp nat_cmp) q es)) other) ∙ f)
+  ]
+
+  pub some_entry-found : (keys : Keys) → some_entry p keys ≡ true → (q : List ℕ) × (k : KeyParts)
+      × (get keys q ≡ Some k) × (p q k ≡ true)
+  some_entry-found keys h = let e = one_entry (entries keys) (entries_sorted keys) h in
+      (e.0, e.1, get-entries keys e.0 ∙ e.2, e.3)
+
+  pub some_entry-none : (keys : Keys) (q : List ℕ) (k : KeyParts) → some_entry p keys ≡ false
+      → get keys q ≡ Some k → p q k ≡ false
+  some_entry-none keys q k h f = none_entry (entries keys) q k h (sym (get-entries keys q) ∙ f)

@@ -1,0 +1,111 @@
+-- The finite map that the keys show, read through the hash map that it holds.
+use Rattle.std.proofs.Common.{◌≡◌, ℕ, cond, List, [], ◌∷◌, map, Some, None, Bool, true, false, refl}
+use Rattle.std.proofs.Common.{sym, ap, ◌∙◌, string_bytes}
+use Rattle.std.specs.declared.string.String.{String}
+use Rattle.std.specs.Ordering.{nat_cmp}
+use Rattle.std.specs.Cmp.Lexicographic.{nat_list_cmp_total, slice_cmp, bytes_decides}
+use Rattle.std.specs.HashMap.{HashMap, get_by_text}
+use Rattle.std.specs.Map.{lookup}
+use Rattle.std.specs.Prelude.{Option, if◌then◌else◌}
+use Rattle.std.specs.Str.{bytes_eq}
+use Rattle.std.specs.List.{AllZip}
+use Rattle.std.specs.FinMap as fin
+use Rattle.std.specs.FinMap.{find, get-from_entries, same_map, slice_cmp-IsAntisymmetric}
+use Rattle.std.specs.FinMap.{nat_cmp-IsAntisymmetric}
+use Rattle.std.proofs.lemmas.Map.Text.{is_text, is_eq-slice_cmp, text_keys}
+use Rattle.std.proofs.lemmas.Map.Made.{lookup-map_values}
+use Rattle.std.specs.Option.{option_map}
+use Rattle.dnssec_key.specs.Key.{KeyParts}
+use Rattle.dnssec_zone.specs.Keys.{Keys, keys_in_map, entries_by_bytes}
+use Rattle.dnssec_zone.specs.declared.keys.Keys.TheInside.{Inside}
+use Rattle.dnssec_zone.specs.contracts.keys.Keys.{the_view}
+
+module _ {Y : Type 0} where
+  pub find_by_bytes : (es : List (String Y × KeyParts)) (q : List ℕ) →
+      find (slice_cmp nat_cmp) q (map (λ e. (string_bytes e.0, e.1)) es) ≡ lookup (is_text q) es
+  find_by_bytes [] q = refl
+  find_by_bytes (e ∷ es) q =
+      ap (λ b. cond b (Some e.1)
+      (find (slice_cmp nat_cmp) q (map (λ e. (string_bytes e.0, e.1)) es)))
+      (is_eq-slice_cmp q (string_bytes e.0))
+      ∙ ap (cond (bytes_eq q (string_bytes e.0)) (Some e.1)) (find_by_bytes es q)
+
+  module _ {S : Type 0} where
+    -- the finite map has at the bytes q what the hash map has there
+    pub get-keys_shown : (m : HashMap (String Y) KeyParts S) (q : List ℕ) →
+        fin.get (keys_in_map m) q ≡ get_by_text m q
+    get-keys_shown m q = get-from_entries nat_list_cmp_total (entries_by_bytes m) q
+        ∙ find_by_bytes m.entries q
+
+    -- two hash maps that answer alike show one finite map
+    pub keys_shown-same : (m n : HashMap (String Y) KeyParts S) →
+        ((q : List ℕ) → get_by_text m q ≡ get_by_text n q) → keys_in_map m ≡ keys_in_map n
+    keys_shown-same m n same =
+        same_keys _ _ (λ q. get-keys_shown m q ∙ same q ∙ sym (get-keys_shown n q))
+      where
+        same_keys : (a b : Keys) → ((q : List ℕ) → fin.get a q ≡ fin.get b q) → a ≡ b
+        same_keys a b h =
+            same_map nat_list_cmp_total (slice_cmp-IsAntisymmetric nat_cmp-IsAntisymmetric) a b h
+
+-- maps that answer alike are equal
+pub same_keys : (a b : Keys) → ((q : List ℕ) → fin.get a q ≡ fin.get b q) → a ≡ b
+same_keys a b h = same_map nat_list_cmp_total (slice_cmp-IsAntisymmetric nat_cmp-IsAntisymmetric)
+    a b h
+
+-- the keys that are shown, through the hash map
+pub get-shown : (i : Inside) (v : Keys) (q : List ℕ) → the_view i ≡ v → fin.get v q
+    ≡ get_by_text i.map q
+get-shown i v q e = sym (ap (λ (w : Keys). fin.get w q) e) ∙ get-keys_shown i.map q
+
+-- what the keys show once a walk has put every key through a step
+pub get-walked : {Y S : Type 0} (step : KeyParts → KeyParts) (m n : HashMap (String Y) KeyParts S)
+    (v : Keys) → keys_in_map m ≡ v
+    → n.entries ≡ map (λ (e : String Y × KeyParts). (e.0, step e.1)) m.entries
+    → (q : List ℕ) → fin.get (keys_in_map n) q ≡ option_map step (fin.get v q)
+get-walked step m n v e is q = get-keys_shown n q ∙ ap (lookup (is_text q)) is
+    ∙ lookup-map_values step (is_text q) m.entries
+    ∙ ap (option_map step) (sym (get-keys_shown m q) ∙ ap (λ (w : Keys). fin.get w q) e)
+
+-- a change at a reference that no key has changes nothing
+pub get-absent : (f : KeyParts → KeyParts) (r : List ℕ) (v : Keys) → fin.get v r ≡ None
+    → (q : List ℕ) → fin.get v q ≡ option_map (λ k. if bytes_eq r q then f k else k) (fin.get v q)
+get-absent f r v none q = at (bytes_eq r q) refl (fin.get v q) refl
+  where
+    at : (b : Bool) → bytes_eq r q ≡ b → (o : Option KeyParts) → fin.get v q ≡ o →
+        o ≡ option_map (λ k. if b then f k else k) o
+    at b e None is = refl
+    at false e (Some k) is = refl
+    at true e (Some k) is = let there : None ≡ Some k = sym none
+        ∙ ap (fin.get v) ((bytes_decides r q).0 e) ∙ is in cc
+
+-- a key that is written back as it was changes nothing
+pub same-written : (v n : Keys) (r : List ℕ) (k : KeyParts) → fin.get v r ≡ Some k
+    → ((q : List ℕ) → fin.get n q ≡ (if bytes_eq r q then Some k else fin.get v q)) → n ≡ v
+same-written v n r k found is = same_keys n v (λ q. is q ∙ at q (bytes_eq r q) refl)
+  where
+    at : (q : List ℕ) (b : Bool) → bytes_eq r q ≡ b →
+        (if b then Some k else fin.get v q) ≡ fin.get v q
+    at q true e = sym found ∙ ap (fin.get v) ((bytes_decides r q).0 e)
+    at q false e = refl
+
+-- what the keys show once a key was put in or taken out
+pub get-updated : {Y S : Type 0} (m n : HashMap (String Y) KeyParts S) (r : List ℕ)
+    (o : Option KeyParts)
+    → ((q : List ℕ) → get_by_text n q ≡ (if bytes_eq r q then o else get_by_text m q))
+    → (q : List ℕ) → fin.get (keys_in_map n) q
+    ≡ (if bytes_eq r q then o else fin.get (keys_in_map m) q)
+get-updated m n r o is q = get-keys_shown n q ∙ is q
+    ∙ ap (λ (x : Option KeyParts). if bytes_eq r q then o else x) (sym (get-keys_shown m q))
+
+pub ruleset shown = (get-keys_shown, get-shown, text_keys)
+
+-- clones of the entries show the same
+pub entries_by_bytes-clones : {Y : Type 0} (es fs : List (String Y × KeyParts)) →
+    AllZip (λ p q. (string_bytes q.0 ≡ string_bytes p.0) × (q.1 ≡ p.1)) es fs
+    → map {B = List ℕ × KeyParts} (λ (e : String Y × KeyParts). (string_bytes e.0, e.1)) fs
+    ≡ map {B = List ℕ × KeyParts} (λ (e : String Y × KeyParts). (string_bytes e.0, e.1)) es
+entries_by_bytes-clones [] [] h = refl
+entries_by_bytes-clones [] (f ∷ fs) h = absurd h
+entries_by_bytes-clones (e ∷ es) [] h = absurd h
+entries_by_bytes-clones (e ∷ es) (f ∷ fs) h = λ i. (h.0.0 i, h.0.1 i) ∷ entries_by_bytes-clones es
+    fs h.1 i

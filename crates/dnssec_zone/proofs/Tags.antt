@@ -1,0 +1,314 @@
+-- What keeps the index of the tags, whatever its form: `has` tells whether a tag is in it.
+use Rattle.std.proofs.Common.{◌≡◌, ℕ, Bool, true, false, List, Some, None, refl, sym, ap, subst}
+use Rattle.std.proofs.Common.{◌∙◌, inl, inr, arith}
+use Rattle.std.specs.Prelude.{Option, nat_eq, if◌then◌else◌, ◌⊎◌, ◌||◌, ◌&&◌, not}
+use Rattle.std.specs.Str.{bytes_eq}
+use Rattle.std.specs.Cmp.Lexicographic.{bytes_decides}
+use Rattle.std.proofs.lemmas.Bool.Decides.{nat_tests}
+use Rattle.std.specs.Option.{option_map, option_map_or}
+use Rattle.std.specs.FinMap.{get}
+use Rattle.dnssec_key.specs.Key.{KeyParts}
+use Rattle.dnssec_zone.specs.Keys.{Keys, has_tag, TagsApart}
+use Rattle.dnssec_key.specs.Setters.{Setting, Decoupled, Present, Signer, AtParent, Stale}
+use Rattle.dnssec_key.specs.Setters.{VisibleAt, DsVisibleAt, RrsigVisibleAt, set_by}
+use Rattle.dnssec_zone.specs.declared.keys.Change.{Change}
+use Rattle.dnssec_zone.specs.declared.keys.Change.TheVariants.{MarkOld, MarkNew, UnmarkOld}
+use Rattle.dnssec_zone.specs.declared.keys.Change.TheVariants.{UnmarkNew}
+use Rattle.dnssec_zone.specs.Inner.Change.{makes}
+use Rattle.dnssec_key.specs.declared.kind.KeyType.{KeyType}
+use Rattle.dnssec_key.specs.declared.roll.RollType.{RollType}
+use Rattle.dnssec_zone.specs.Inner.Bits.{is_set}
+use Rattle.dnssec_zone.specs.Inner.Tags.{TagsAgree, HasListed, has_its_tag}
+use Rattle.dnssec_zone.specs.Start.{new_entry_fault}
+use Rattle.dnssec_zone.proofs.Quantified.{some_key-found, some_key-none}
+use Rattle.std.proofs.lemmas.Bool.{cases_Bool}
+use Rattle.std.proofs.Math.Bool.{or-true, or-false}
+
+-- a change at some references keeps the tags
+pub kept_at : (f : KeyParts → KeyParts) → ((k : KeyParts) → (f k).key_tag ≡ k.key_tag) →
+    (b : Bool) (k : KeyParts) → (if b then f k else k).key_tag ≡ k.key_tag
+kept_at f keeps true k = keeps k
+kept_at f keeps false k = refl
+
+pub kept_set : (setting : Setting) (k : KeyParts) → (set_by setting k).key_tag ≡ k.key_tag
+kept_set (Decoupled value) k = refl
+kept_set (Present value now) k = refl
+kept_set (Signer value) k = refl
+kept_set (AtParent value) k = refl
+kept_set Stale k = refl
+kept_set (VisibleAt time) k = refl
+kept_set (DsVisibleAt time) k = refl
+kept_set (RrsigVisibleAt time) k = refl
+
+pub kept_made : (change : Change) (k : KeyParts) → (makes change k).key_tag ≡ k.key_tag
+kept_made MarkOld k = refl
+kept_made (MarkNew roll now) k = refl
+kept_made (UnmarkOld roll) k = refl
+kept_made (UnmarkNew roll) k = refl
+
+-- a value that f gives of what was there
+pub mapped : (o : Option KeyParts) (f : KeyParts → KeyParts) (l : KeyParts)
+    → option_map f o ≡ Some l
+    → (k : KeyParts) × (o ≡ Some k) × (f k ≡ l)
+mapped None f l e = cc
+mapped (Some k) f l e = (k, refl, cc)
+
+-- a change of the keys that keeps their tags
+pub TagsAgree-mapped : (has : ℕ → Bool) (m n : Keys) (f : List ℕ → KeyParts → KeyParts) →
+    ((q : List ℕ) (k : KeyParts) → (f q k).key_tag ≡ k.key_tag)
+    → ((q : List ℕ) → get n q ≡ option_map (f q) (get m q)) → TagsAgree has m → TagsAgree has n
+TagsAgree-mapped has m n f keeps is old = record {
+  covers = λ q l e. let b = mapped _ (f q) l (sym (is q) ∙ e) in
+      subst (λ t. has t ≡ true) (sym (keeps q b.0) ∙ ap (λ (k : KeyParts). k.key_tag) b.2)
+      (old.covers q b.0 b.1);
+  owned = λ t h. let o = old.owned t h in
+      (o.0, f o.0 o.1, is o.0 ∙ ap (option_map (f o.0)) o.2, keeps o.0 o.1 ∙ o.3);
+  apart = λ q r k l e d same.
+      let b = mapped _ (f q) k (sym (is q) ∙ e) in
+      let c = mapped _ (f r) l (sym (is r) ∙ d) in
+      old.apart q r b.0 c.0 b.1 c.1 (sym (keeps q b.0) ∙ ap (λ (x : KeyParts). x.key_tag) b.2
+      ∙ same ∙ sym (ap (λ (x : KeyParts). x.key_tag) c.2) ∙ keeps r c.0);
+}
+
+-- a key is gone, and its tag
+pub TagsAgree-removed : (has left : ℕ → Bool) (m n : Keys) (r : List ℕ) (x : KeyParts) → get m r
+    ≡ Some x
+    → ((q : List ℕ) → get n q ≡ (if bytes_eq r q then None else get m q)) →
+    ((t : ℕ) → left t ≡ (if nat_eq x.key_tag t then false else has t))
+    → TagsAgree has m → TagsAgree left n
+TagsAgree-removed has left m n r x found is gone old = record {
+  covers = λ q k e. elim (cases_Bool (bytes_eq r q)) [
+    | inl h ↦ let f : None ≡ Some k = sym (ap (λ (b : Bool). if b then None else get m q) h)
+        ∙ sym (is q) ∙ e in cc
+    | inr h ↦
+        let here : get m q ≡ Some k = sym (ap (λ (b : Bool). if b then None else get m q) h)
+        ∙ sym (is q) ∙ e in
+        elim (cases_Bool (nat_eq x.key_tag k.key_tag)) [
+          | inl same ↦
+              let tied : x.key_tag ≡ k.key_tag = grind (arith, nat_tests) in
+              let one : r ≡ q = old.apart r q x k found here tied in
+              let yes : bytes_eq r q ≡ true = (bytes_decides r q).1 one in cc
+          | inr differs ↦ gone k.key_tag ∙ ap (λ (b : Bool). if b then false else has k.key_tag)
+              differs ∙ old.covers q k here
+        ]
+  ];
+  owned = λ t e. elim (cases_Bool (nat_eq x.key_tag t)) [
+    | inl same ↦ let f : false ≡ true = sym (ap (λ (b : Bool). if b then false else has t) same)
+        ∙ sym (gone t) ∙ e in cc
+    | inr differs ↦
+        let o = old.owned t (sym (ap (λ (b : Bool). if b then false else has t) differs)
+        ∙ sym (gone t) ∙ e) in
+        elim (cases_Bool (bytes_eq r o.0)) [
+          | inl h ↦
+              let one : r ≡ o.0 = (bytes_decides r o.0).0 h in
+              let key : Some x ≡ Some o.1 = sym found ∙ ap (get m) one ∙ o.2 in
+              let tied : x ≡ o.1 = cc in
+              let tag : x.key_tag ≡ t = ap (λ (k : KeyParts). k.key_tag) tied ∙ o.3 in
+              absurd (grind (arith, nat_tests))
+          | inr h ↦ (
+            o.0,
+            o.1,
+            is o.0 ∙ ap (λ (b : Bool). if b then None else get m o.0) h
+                ∙ o.2,
+            o.3,
+          )
+        ]
+  ];
+  apart = λ q s k l e d same. old.apart q s k l (kept q k e) (kept s l d) same;
+}
+  where
+    kept : (q : List ℕ) (k : KeyParts) → get n q ≡ Some k → get m q ≡ Some k
+    kept q k e = elim (cases_Bool (bytes_eq r q)) [
+      | inl h ↦ let f : None ≡ Some k = sym (ap (λ (b : Bool). if b then None else get m q) h)
+          ∙ sym (is q) ∙ e in cc
+      | inr h ↦ sym (ap (λ (b : Bool). if b then None else get m q) h) ∙ sym (is q) ∙ e
+    ]
+
+-- a key is new, and its tag
+pub TagsAgree-added : (has more : ℕ → Bool) (m n : Keys) (r : List ℕ) (x : KeyParts) → get m r
+    ≡ None → has x.key_tag ≡ false
+    → ((q : List ℕ) → get n q ≡ (if bytes_eq r q then Some x else get m q)) →
+    ((t : ℕ) → more t ≡ (if nat_eq x.key_tag t then true else has t))
+    → TagsAgree has m → TagsAgree more n
+TagsAgree-added has more m n r x absent free is gains old = record {
+  covers = λ q k e. elim (cases_Bool (nat_eq x.key_tag k.key_tag)) [
+    | inl same ↦ gains k.key_tag ∙ ap (λ (b : Bool). if b then true else has k.key_tag) same
+    | inr differs ↦ gains k.key_tag ∙ ap (λ (b : Bool). if b then true else has k.key_tag) differs
+        ∙ elim (there q k e) [
+          | inl h ↦ let tag : x.key_tag ≡ k.key_tag = ap (λ (z : KeyParts). z.key_tag) h.1 in
+              absurd (grind (arith, nat_tests))
+          | inr h ↦ old.covers q k h
+        ]
+  ];
+  owned = λ t e. elim (cases_Bool (nat_eq x.key_tag t)) [
+    | inl same ↦ let tag : x.key_tag ≡ t = grind (arith, nat_tests) in (
+      r,
+      x,
+      is r ∙ ap (λ (b : Bool). if b then Some x else get m r)
+          ((bytes_decides r r).1 refl),
+      tag,
+    )
+    | inr differs ↦
+        let o = old.owned t (sym (ap (λ (b : Bool). if b then true else has t) differs)
+        ∙ sym (gains t) ∙ e) in
+        elim (cases_Bool (bytes_eq r o.0)) [
+          | inl h ↦
+              let one : r ≡ o.0 = (bytes_decides r o.0).0 h in
+              let f : None ≡ Some o.1 = sym absent ∙ ap (get m) one ∙ o.2 in cc
+          | inr h ↦ (
+            o.0,
+            o.1,
+            is o.0 ∙ ap (λ (b : Bool). if b then Some x else get m o.0) h
+                ∙ o.2,
+            o.3,
+          )
+        ]
+  ];
+  apart = λ q s k l e d same. elim (there q k e) [
+    | inl h ↦ elim (there s l d) [
+      | inl g ↦ sym h.0 ∙ g.0
+      | inr g ↦
+          let tag : has x.key_tag ≡ true =
+          subst (λ t. has t ≡ true) (sym (ap (λ (z : KeyParts). z.key_tag) h.1 ∙ same))
+          (old.covers s l g) in cc
+    ]
+    | inr h ↦ elim (there s l d) [
+      | inl g ↦
+          let tag : has x.key_tag ≡ true =
+          subst (λ t. has t ≡ true) (same ∙ sym (ap (λ (z : KeyParts). z.key_tag) g.1))
+          (old.covers q k h) in cc
+      | inr g ↦ old.apart q s k l h g same
+    ]
+  ];
+}
+  where
+    there : (q : List ℕ) (k : KeyParts) → get n q ≡ Some k → ((r ≡ q) × (x ≡ k))
+        ⊎ (get m q ≡ Some k)
+    there q k e = elim (cases_Bool (bytes_eq r q)) [
+      | inl h ↦ let f : Some x ≡ Some k = sym (ap (λ (b : Bool). if b then Some x else get m q) h)
+          ∙ sym (is q) ∙ e in inl ((bytes_decides r q).0 h, cc)
+      | inr h ↦ inr (sym (ap (λ (b : Bool). if b then Some x else get m q) h) ∙ sym (is q) ∙ e)
+    ]
+
+-- no tags and no keys
+pub TagsAgree-none : (has : ℕ → Bool) (m : Keys) → ((t : ℕ) → has t ≡ false) →
+    ((q : List ℕ) → get m q ≡ None) → TagsAgree has m
+TagsAgree-none has m no_tag no_key = record {
+  covers = λ q k e. let there : None ≡ Some k = sym (no_key q) ∙ e in cc;
+  owned = λ t e. let there : false ≡ true = sym (no_tag t) ∙ e in cc;
+  apart = λ q r k l e d same. let there : None ≡ Some k = sym (no_key q) ∙ e in cc;
+}
+
+-- an index that has the same tags
+pub TagsAgree-same : (has more : ℕ → Bool) (m : Keys) → ((t : ℕ) → more t ≡ has t) →
+    TagsAgree has m → TagsAgree more m
+TagsAgree-same has more m same old = record {
+  covers = λ q k e. same k.key_tag ∙ old.covers q k e;
+  owned = λ t e. old.owned t (sym (same t) ∙ e);
+  apart = old.apart;
+}
+
+-- the index answers whether some key has the tag
+pub tags-has_tag : (has : ℕ → Bool) (v : Keys) (t : ℕ) → TagsAgree has v → has t ≡ has_tag t v
+tags-has_tag has v t agree = elim (cases_Bool (has t)) [
+  | inl h ↦ elim (cases_Bool (has_tag t v)) [
+    | inl g ↦ h ∙ sym g
+    | inr g ↦
+        let o = agree.owned t h in
+        let apart : nat_eq o.1.key_tag t ≡ false = some_key-none (λ k. nat_eq k.key_tag t) v o.0
+        o.1 g o.2 in
+        let tag : o.1.key_tag ≡ t = o.3 in
+        absurd (grind (arith, nat_tests))
+  ]
+  | inr h ↦ elim (cases_Bool (has_tag t v)) [
+    | inl g ↦
+        let o = some_key-found (λ k. nat_eq k.key_tag t) v g in
+        let same : nat_eq o.1.key_tag t ≡ true = o.3 in
+        let tag : o.1.key_tag ≡ t = grind (arith, nat_tests) in
+        let found : has t ≡ true = subst (λ n. has n ≡ true) tag (agree.covers o.0 o.1 o.2) in cc
+    | inr g ↦ h ∙ sym g
+  ]
+]
+
+-- ---- sets of the tags of listed keys
+
+-- one more reference, at which there is no key
+pub listed-none : (keys : Keys) (tags : List ℕ) (r : List ℕ) → get keys r ≡ None
+    → (listed : List ℕ → Bool) → HasListed tags keys listed
+    → HasListed tags keys (λ q. listed q || bytes_eq r q)
+listed-none keys tags r none listed old q k at =
+    old q k at ∙ sym (or-false (listed q)) ∙ ap (λ b. listed q || b) (sym other)
+  where
+    other : bytes_eq r q ≡ false
+    other = elim (cases_Bool (bytes_eq r q)) [
+      | inl same ↦ let there : None ≡ Some k =
+          sym none ∙ ap (get keys) ((bytes_decides r q).0 same) ∙ at in cc
+      | inr differs ↦ differs
+    ]
+
+-- one more reference, and the tag of the key there
+pub listed-put : (keys : Keys) → TagsApart keys → (tags more : List ℕ) (r : List ℕ)
+    (x : KeyParts) → get keys r ≡ Some x
+    → ((t : ℕ) → is_set more t ≡ (if nat_eq x.key_tag t then true else is_set tags t))
+    → (listed : List ℕ → Bool) → HasListed tags keys listed
+    → HasListed more keys (λ q. listed q || bytes_eq r q)
+listed-put keys differ tags more r x found put listed old q k at =
+    elim (cases_Bool (bytes_eq r q)) [
+      | inl same ↦
+          let one : Some x ≡ Some k =
+          sym found ∙ ap (get keys) ((bytes_decides r q).0 same) ∙ at in
+          let tag : x.key_tag ≡ k.key_tag = ap (λ (o : Option KeyParts). tag_in o) one in
+          let yes : nat_eq x.key_tag k.key_tag ≡ true = grind (arith, nat_tests) in
+          put k.key_tag ∙ ap (λ b. if b then true else is_set tags k.key_tag) yes
+          ∙ sym (or-true (listed q)) ∙ ap (λ b. listed q || b) (sym same)
+      | inr differs ↦
+          let no : nat_eq x.key_tag k.key_tag ≡ false =
+          elim (cases_Bool (nat_eq x.key_tag k.key_tag)) [
+            | inl e ↦
+                let tag : x.key_tag ≡ k.key_tag = grind (arith, nat_tests) in
+                let yes : bytes_eq r q ≡ true =
+                (bytes_decides r q).1 (differ r q x k found at tag) in cc
+            | inr e ↦ e
+          ] in
+          put k.key_tag ∙ ap (λ b. if b then true else is_set tags k.key_tag) no
+          ∙ old q k at ∙ sym (or-false (listed q)) ∙ ap (λ b. listed q || b) (sym differs)
+    ]
+  where
+    tag_in : Option KeyParts → ℕ
+    tag_in None = 0
+    tag_in (Some k) = k.key_tag
+
+-- a test that says the same of each reference
+pub listed-same : (keys : Keys) (tags : List ℕ) (one two : List ℕ → Bool)
+    → ((q : List ℕ) → two q ≡ one q) → HasListed tags keys one → HasListed tags keys two
+listed-same keys tags one two same old q k at = old q k at ∙ sym (same q)
+
+-- no tag, and nothing listed
+pub listed-nothing : (keys : Keys) (tags : List ℕ) → ((t : ℕ) → is_set tags t ≡ false)
+    → HasListed tags keys (λ q. false)
+listed-nothing keys tags none q k at = none k.key_tag
+
+-- what is wrong with a new entry, by the tags of those before it
+pub fault-listed : (roll : RollType) (keys : Keys) (tags : List ℕ) (listed : List ℕ → Bool)
+    (r : List ℕ) → HasListed tags keys listed
+    → new_entry_fault roll (get keys r) (has_its_tag tags (get keys r))
+    ≡ new_entry_fault roll (get keys r) (listed r)
+fault-listed roll keys tags listed r has = at (get keys r) refl
+  where
+    at : (o : Option KeyParts) → get keys r ≡ o →
+        new_entry_fault roll o (has_its_tag tags o) ≡ new_entry_fault roll o (listed r)
+    at None e = refl
+    at (Some k) e = ap (new_entry_fault roll (Some k)) (has r k e)
+
+-- whether a key serves that isn't listed, by the tags of those listed
+pub first-listed : (p : KeyType → Bool) (keys : Keys) (tags : List ℕ) (listed : List ℕ → Bool)
+    (r : List ℕ) → HasListed tags keys listed
+    → option_map_or (λ (k : KeyParts). p k.keytype && not (is_set tags k.key_tag)) (get keys r)
+    false ≡ option_map_or (λ (k : KeyParts). p k.keytype && not (listed r)) (get keys r) false
+first-listed p keys tags listed r has = at (get keys r) refl
+  where
+    at : (o : Option KeyParts) → get keys r ≡ o →
+        option_map_or (λ (k : KeyParts). p k.keytype && not (is_set tags k.key_tag)) o false
+        ≡ option_map_or (λ (k : KeyParts). p k.keytype && not (listed r)) o false
+    at None e = refl
+    at (Some k) e = ap (λ b. p k.keytype && not b) (has r k e)

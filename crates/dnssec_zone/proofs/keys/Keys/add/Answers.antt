@@ -1,0 +1,31 @@
+-- The new key's tag comes into the index with it, and it is counted.
+use Rattle.std.proofs.Common.{◌≡◌, false, None, Some, string_bytes, rules, ap, ◌∙◌}
+use Rattle.std.specs.Prelude.{nat_eq}
+use Rattle.std.specs.FinMap.{get}
+use Rattle.std.specs.HashSet.{contains}
+use Rattle.std.proofs.lemmas.Map.Text.{hash_map_updates_text}
+use Rattle.dnssec_zone.specs.Keys.{keys_in_map, has_tag}
+use Rattle.dnssec_zone.proofs.Counted.Kept.{counts-added, fits-shown}
+use Rattle.dnssec_zone.proofs.Shown.{shown, get-updated}
+use Rattle.dnssec_zone.proofs.Tags.{tags-has_tag, TagsAgree-added}
+use Rattle.dnssec_zone.proofs.keys.Keys.add.Goals as goal
+
+pub invariant_of-self-2 : goal.invariant_of-self-2
+invariant_of-self-2 c =
+    let i = c.self.inside in
+    let r = string_bytes c.args.pubref in
+    let x = c.args.key in
+    let n = keys_in_map c.insert.new.self in
+    let absent : get (keys_in_map i.map) r ≡ None = search (rules, shown) in
+    let free : contains nat_eq i.tags x.key_tag ≡ false =
+    tags-has_tag (contains nat_eq i.tags) _ x.key_tag c.self.invariant.0
+    ∙ ap (has_tag x.key_tag) c.self.view_is ∙ search rules in
+    let is = get-updated i.map c.insert.new.self r (Some x)
+    (hash_map_updates_text r i.map c.insert.new.self (Some x) c.in-Ok.ensures.updates) in (
+      TagsAgree-added (contains nat_eq i.tags) (contains nat_eq c.put_tag.new.tags)
+          (keys_in_map i.map) n r x absent free is (λ t. search rules) c.self.invariant.0,
+      rw (c.with-self-inside.ensures, c.keytype-keytype.ensures)
+          (counts-added i.counts (keys_in_map i.map) n r x
+          absent is (fits-shown c.insert.new.self c.is_sound.ensures.unique
+          c.is_sound.ensures.fits) c.self.invariant.1),
+    )

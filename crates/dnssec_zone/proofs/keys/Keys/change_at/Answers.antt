@@ -1,0 +1,49 @@
+-- Where no key has the reference, nothing is changed; else one key is, and is counted anew.
+use Rattle.std.proofs.Common.{◌≡◌, ℕ, List, None, Some, rules, sym, ap, subst, ◌∙◌}
+use Rattle.std.specs.Prelude.{nat_eq, if◌then◌else◌}
+use Rattle.std.specs.HashSet.{contains}
+use Rattle.std.specs.Str.{bytes_eq}
+use Rattle.std.specs.Option.{option_map}
+use Rattle.std.specs.FinMap as map
+use Rattle.dnssec_key.specs.Key.{KeyParts}
+use Rattle.dnssec_zone.specs.Inner.Change.{makes}
+use Rattle.dnssec_zone.specs.Inner.Counts.{CountsAgree, with_key, without_key}
+use Rattle.dnssec_zone.specs.Keys.{keys_in_map}
+use Rattle.dnssec_zone.proofs.Counted.Kept.{counts-at, fits-shown}
+use Rattle.dnssec_zone.proofs.Shown.{shown, get-absent}
+use Rattle.dnssec_zone.proofs.Tags.{TagsAgree-mapped, kept_at, kept_made}
+use Rattle.dnssec_zone.proofs.keys.Keys.change_at.Goals as goal
+
+pub returns-in_default : goal.returns-in_default
+returns-in_default c =
+    let same : c.get_mut.follows.lender-at-none ≡ c.self.inside.map = search rules in
+    let none : map.get c.args.self.now c.args.reference.now ≡ None = search (rules, shown) in
+    let is : keys_in_map c.get_mut.follows.lender-at-none ≡ c.args.self.now =
+    ap keys_in_map same ∙ c.self.view_is in
+    λ q. rw is (get-absent (makes c.args.change) c.args.reference.now c.args.self.now none q)
+
+pub invariant_of-self-2 : goal.invariant_of-self-2
+invariant_of-self-2 c =
+    let i = c.self.inside in
+    let r = c.args.reference.now in
+    let f = makes c.args.change in
+    let n = c.get_mut.follows.lender c.make.new.key in
+    let k = c.in-Some.key.now in
+    let found : map.get (keys_in_map i.map) r ≡ Some k = search (rules, shown) in
+    let is : (q : List ℕ) → map.get (keys_in_map n) q
+    ≡ option_map (λ k. if bytes_eq r q then f k else k) (map.get (keys_in_map i.map) q) =
+    λ q. search (rules, shown) in
+    let after : c.keytype-after.result ≡ (f k).keytype = c.keytype-after.ensures
+    ∙ ap (λ (x : KeyParts). x.keytype) c.make.ensures in
+    let counts : c.with-self-inside.result
+    ≡ with_key (f k).keytype (without_key k.keytype i.counts) =
+    c.with-self-inside.ensures ∙ ap (λ t. with_key t c.without.result) after
+    ∙ ap (with_key (f k).keytype) (c.without.ensures
+    ∙ ap (λ t. without_key t i.counts) c.keytype-before.ensures) in (
+      TagsAgree-mapped (contains nat_eq i.tags) (keys_in_map i.map) (keys_in_map n)
+          (λ q k. if bytes_eq r q then f k else k)
+          (λ q k. kept_at f (kept_made c.args.change) _ k) is c.self.invariant.0,
+      subst (λ counts. CountsAgree counts (keys_in_map n)) (sym counts)
+          (counts-at f i.counts (keys_in_map i.map) (keys_in_map n) r k found is
+          (fits-shown n c.is_sound.ensures.unique c.is_sound.ensures.fits) c.self.invariant.1),
+    )

@@ -1,0 +1,30 @@
+-- Each turn counts one more of the listed keys, if it serves and stood nowhere before.
+use Rattle.std.proofs.Common.{◌≡◌, ◌+◌, arith, sym, ap, ◌∙◌}
+use Rattle.dnssec_zone.specs.Inner.Code.{as_want}
+use Rattle.dnssec_zone.specs.Inner.Counts.{bit}
+use Rattle.dnssec_zone.specs.Start.{serves_as_kept}
+use Rattle.dnssec_zone.proofs.Counted.Lists.{none_listed}
+use Rattle.dnssec_zone.proofs.Entries.{counted-more, low, no_more}
+use Rattle.dnssec_zone.proofs.keys.Keys.count_few_listed.Goals as goal
+use Rattle.dnssec_zone.proofs.keys.Keys.count_few_listed.Goals.{then-serves_but_for}
+use Rattle.dnssec_zone.proofs.keys.Keys.count_few_listed.Goals.{else-serves_but_for}
+
+pub loop-i-init : goal.loop-i-init
+loop-i-init c =
+    (omega arith, sym (none_listed (serves_as_kept (as_want c.args.want)) c.args.self.now))
+
+pub loop-i-preserved : goal.loop-i-preserved
+loop-i-preserved c =
+    let l = c.loop-i in
+    let more : c.if-serves_but_for.count ≡ l.count + bit c.serves_but_for.result =
+    elim c.if-serves_but_for.branch [
+      | then-serves_but_for w ↦ w.count-is
+          ∙ ap (λ b. l.count + bit b) (sym w.if-serves_but_for.true)
+      | else-serves_but_for w ↦ w.count-is ∙ sym (no_more l.count)
+          ∙ ap (λ b. l.count + bit b) (sym w.if-serves_but_for.false)
+    ] in (
+      low l.count c.if-serves_but_for.count l.i c.serves_but_for.result l.invariant.0 more,
+      counted-more (serves_as_kept (as_want c.args.want)) c.args.self.now c.args.old.now l.i _
+          c.loop-i-test.true c.serves_but_for.result c.serves_but_for.ensures l.count
+          c.if-serves_but_for.count l.invariant.1 more,
+    )

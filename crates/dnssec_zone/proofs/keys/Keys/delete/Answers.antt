@@ -1,0 +1,32 @@
+-- The key's tag leaves the index with it; a stale key was in no count.
+use Rattle.std.proofs.Common.{◌≡◌, true, None, Some, rules}
+use Rattle.std.specs.Prelude.{nat_eq}
+use Rattle.std.specs.FinMap.{get}
+use Rattle.std.specs.HashSet.{contains}
+use Rattle.std.proofs.lemmas.Map.Text.{hash_map_updates_text}
+use Rattle.dnssec_key.specs.State.{is_stale}
+use Rattle.dnssec_key.specs.Key.{all_states}
+use Rattle.dnssec_zone.specs.Keys.{keys_in_map}
+use Rattle.dnssec_zone.proofs.Counted.Kept.{counts-removed}
+use Rattle.dnssec_zone.proofs.Counted.Waits.{stale-serves}
+use Rattle.dnssec_zone.proofs.Shown.{shown, get-updated}
+use Rattle.dnssec_zone.proofs.Tags.{TagsAgree-removed}
+use Rattle.dnssec_zone.proofs.keys.Keys.delete.Goals as goal
+
+pub invariant_of-self : goal.invariant_of-self
+invariant_of-self c =
+    let i = c.self.inside in
+    let r = c.args.pubref.now in
+    let x = c.in-Some.key.now in
+    let n = keys_in_map c.remove.new.self in
+    let stale : all_states is_stale x.keytype ≡ true = search rules in
+    let found : get (keys_in_map i.map) r ≡ Some x = search (rules, shown) in
+    let is = get-updated i.map c.remove.new.self r None
+    (hash_map_updates_text r i.map c.remove.new.self _ c.remove.ensures.updates) in (
+      TagsAgree-removed (contains nat_eq i.tags) (contains nat_eq c.remove-3.new.self)
+          (keys_in_map i.map) n r x found is
+          (λ t. rw (← c.key_tag-key_tag.ensures) (c.remove-3.ensures.updates.0 t))
+          c.self.invariant.0,
+      counts-removed i.counts (keys_in_map i.map) n r x found is
+          (stale-serves x.keytype stale) c.self.invariant.1,
+    )

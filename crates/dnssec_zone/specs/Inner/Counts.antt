@@ -1,0 +1,106 @@
+-- How many keys pass a test.
+use Rattle.std.specs.Prelude.{◌≡◌, ℕ, ◌+◌, ◌-◌, min, Bool, true, false, not, ◌&&◌, Option, None}
+use Rattle.std.specs.Prelude.{Some, List, [], ◌∷◌}
+use Rattle.std.specs.FinMap.{entries}
+use Rattle.dnssec_key.specs.declared.kind.KeyType.{KeyType}
+use Rattle.dnssec_key.specs.declared.roll.RollType.{RollType}
+use Rattle.dnssec_key.specs.declared.roll.RollType.TheVariants.{KskRoll, KskDoubleDsRoll, CskRoll}
+use Rattle.dnssec_key.specs.declared.roll.RollType.TheVariants.{AlgorithmRoll}
+use Rattle.dnssec_key.specs.Key.{KeyParts}
+use Rattle.dnssec_key.specs.RollTable.{Half, First}
+use Rattle.dnssec_key.specs.Setters.{Setting, Present, AtParent, Stale}
+use Rattle.dnssec_zone.specs.Keys.{Keys}
+use Rattle.dnssec_zone.specs.declared.counts.Counts.{Counts}
+use Rattle.dnssec_zone.specs.Start.{is_listed, serves_as_kept, Want, PresentKsk, KskAtParent}
+use Rattle.dnssec_zone.specs.Start.{PresentZsk, PresentKskRole, PresentZskRole}
+
+abbrev pub bit : Bool → ℕ
+bit true = 1
+bit false = 0
+
+abbrev pub count : (List ℕ → KeyParts → Bool) → List (List ℕ × KeyParts) → ℕ
+count p [] = 0
+count p (e ∷ es) = bit (p e.0 e.1) + count p es
+
+-- how many keys pass
+abbrev pub count_in : (List ℕ → KeyParts → Bool) → Keys → ℕ
+count_in p keys = count p (entries keys)
+
+-- what a key adds
+abbrev pub share : (List ℕ → KeyParts → Bool) → List ℕ → Option KeyParts → ℕ
+share p r None = 0
+share p r (Some k) = bit (p r k)
+
+module _ (p : KeyType → Bool) where
+  -- a key that isn't listed passes
+  abbrev pub kept : List (List ℕ) → List ℕ → KeyParts → Bool
+  kept qs q k = p k.keytype && not (is_listed qs q)
+
+  -- a listed key passes
+  abbrev pub listed : List (List ℕ) → List ℕ → KeyParts → Bool
+  listed qs q k = p k.keytype && is_listed qs q
+
+  -- a key passes, whether it is listed or not
+  abbrev pub passes : List ℕ → KeyParts → Bool
+  passes q k = p k.keytype
+
+-- ---- the counts that are kept
+
+abbrev pub count_of : Counts → Want → ℕ
+count_of c PresentKsk = c.present_ksk
+count_of c KskAtParent = c.ksk_at_parent
+count_of c PresentZsk = c.present_zsk
+count_of c PresentKskRole = c.present_ksk_role
+count_of c PresentZskRole = c.present_zsk_role
+
+-- the counts that f tells
+abbrev pub counts_by : (Want → ℕ) → Counts
+counts_by f = record {
+  present_ksk = f PresentKsk;
+  ksk_at_parent = f KskAtParent;
+  present_zsk = f PresentZsk;
+  present_ksk_role = f PresentKskRole;
+  present_zsk_role = f PresentZskRole;
+}
+
+-- those of no keys
+abbrev pub no_counts : Counts
+no_counts = counts_by (λ w. 0)
+
+-- one more, up to the greatest number that is kept, where a key serves
+abbrev pub one_more : Bool → ℕ → ℕ
+one_more serves n = min 18446744073709551615 (n + bit serves)
+
+-- one less where a key serves
+abbrev pub one_less : Bool → ℕ → ℕ
+one_less serves n = n - bit serves
+
+-- those with one key more
+abbrev pub with_key : KeyType → Counts → Counts
+with_key t c = counts_by (λ w. one_more (serves_as_kept w t) (count_of c w))
+
+-- those with one key less
+abbrev pub without_key : KeyType → Counts → Counts
+without_key t c = counts_by (λ w. one_less (serves_as_kept w t) (count_of c w))
+
+-- a setter may move them: none of them asks whether a key signs
+abbrev pub moves_counts : Setting → Bool
+moves_counts (Present value now) = true
+moves_counts (AtParent value) = true
+moves_counts Stale = true
+moves_counts _ = false
+
+-- a wait may move them: by it a DS follows its key, or keys come in for others; and an algorithm
+-- roll takes the ZSK role of a CSK from the DNSKEY set by its KSK role. The other waits change no
+-- flag that a count asks for of a key that stays
+abbrev pub wait_moves_counts : RollType → Half → Bool
+wait_moves_counts KskRoll First = true
+wait_moves_counts KskDoubleDsRoll First = true
+wait_moves_counts CskRoll First = true
+wait_moves_counts AlgorithmRoll half = true
+wait_moves_counts _ _ = false
+
+-- each count is that of the keys
+abbrev pub CountsAgree : Counts → Keys → Type 0
+CountsAgree counts keys =
+    (w : Want) → count_of counts w ≡ count_in (passes (serves_as_kept w)) keys

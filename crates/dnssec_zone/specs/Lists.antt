@@ -1,0 +1,87 @@
+-- What starts have listed, kept for rolls that may be ended early.
+use Rattle.std.specs.Prelude.{ℕ, List, [], if◌then◌else◌, filter, not, Bool, false}
+use Rattle.std.specs.Str.{bytes_eq}
+use Rattle.std.specs.FinMap.{get}
+use Rattle.std.specs.Option.{option_map_or}
+use Rattle.dnssec_key.specs.declared.roll.RollType.{RollType}
+use Rattle.dnssec_key.specs.declared.roll.RollType.TheVariants.{KskRoll, KskDoubleDsRoll, ZskRoll}
+use Rattle.dnssec_key.specs.declared.roll.RollType.TheVariants.{ZskDoubleSignatureRoll, CskRoll}
+use Rattle.dnssec_key.specs.declared.roll.RollType.TheVariants.{AlgorithmRoll}
+use Rattle.dnssec_key.specs.State.{is_kept}
+use Rattle.dnssec_key.specs.Key.{all_states}
+use Rattle.dnssec_key.specs.RollTable.{Half, First, Second}
+use Rattle.dnssec_zone.specs.Rolls.{same_roll}
+use Rattle.dnssec_zone.specs.Keys.{Keys}
+
+-- what is kept of a start until its first report
+pub record Listed : Type 0 where
+  pub olds : List (List ℕ)  -- the old references whose keys were not old
+  pub news : List (List ℕ)  -- the new references
+
+-- nothing is kept
+abbrev pub nothing_listed : Listed
+nothing_listed = record { olds = []; news = [] }
+
+-- what is kept for each roll
+pub record Lists : Type 0 where
+  pub ksk_roll : Listed
+  pub ksk_double_ds_roll : Listed
+  pub zsk_roll : Listed
+  pub zsk_double_signature_roll : Listed
+  pub csk_roll : Listed
+  pub algorithm_roll : Listed
+
+-- what is kept for one roll
+abbrev pub listed_by : Lists → RollType → Listed
+listed_by lists KskRoll = lists.ksk_roll
+listed_by lists KskDoubleDsRoll = lists.ksk_double_ds_roll
+listed_by lists ZskRoll = lists.zsk_roll
+listed_by lists ZskDoubleSignatureRoll = lists.zsk_double_signature_roll
+listed_by lists CskRoll = lists.csk_roll
+listed_by lists AlgorithmRoll = lists.algorithm_roll
+
+-- the lists that f tells
+abbrev pub lists_by : (RollType → Listed) → Lists
+lists_by f = record {
+  ksk_roll = f KskRoll;
+  ksk_double_ds_roll = f KskDoubleDsRoll;
+  zsk_roll = f ZskRoll;
+  zsk_double_signature_roll = f ZskDoubleSignatureRoll;
+  csk_roll = f CskRoll;
+  algorithm_roll = f AlgorithmRoll;
+}
+
+-- no start has listed a key
+abbrev pub no_lists : Lists
+no_lists = lists_by (λ roll. nothing_listed)
+
+-- the lists with those of one roll put in place
+abbrev pub with_listed : Lists → RollType → Listed → Lists
+with_listed lists roll listed =
+    lists_by (λ other. if same_roll roll other then listed else listed_by lists other)
+
+-- a list without a reference
+abbrev pub others : List ℕ → List (List ℕ) → List (List ℕ)
+others reference = filter (λ q. not (bytes_eq reference q))
+
+-- the lists without a reference
+abbrev pub without : List ℕ → Lists → Lists
+without reference lists = lists_by (λ roll. record {
+  olds = others reference (listed_by lists roll).olds;
+  news = others reference (listed_by lists roll).news;
+})
+
+-- ---- what is kept of a start, and until when
+
+-- the key at a reference is there, and not old
+abbrev pub has_kept_key : Keys → List ℕ → Bool
+has_kept_key keys q = option_map_or (λ k. all_states is_kept k.keytype) (get keys q) false
+
+-- what a start lists: its old references whose keys are not old yet, and its new ones
+abbrev pub listed_at_start : Keys → List (List ℕ) → List (List ℕ) → Listed
+listed_at_start keys olds news = record { olds = filter (has_kept_key keys) olds; news = news }
+
+-- from the first report on nothing is kept for the roll
+abbrev pub lists_after_report : RollType → Half → Lists → Lists
+lists_after_report roll First lists = with_listed lists roll nothing_listed
+lists_after_report roll Second lists = lists

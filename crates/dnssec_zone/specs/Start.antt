@@ -1,0 +1,192 @@
+-- Why a start is refused: another roll, an old entry, a new entry, the algorithms, or no key to go
+-- on with (RFC 6781, section 4.1). All of it is said of the keys and rolls before the call.
+use Rattle.std.specs.Prelude.{Bool, true, false, not, ◌&&◌, is_some, Option, None, Some}
+use Rattle.std.specs.Prelude.{if◌then◌else◌, ℕ, List, map, [], ◌∷◌, ◌||◌, ◌++◌, nat_eq}
+use Rattle.std.specs.List.{list_any, list_all}
+use Rattle.std.specs.Borrow.{Bor}
+use Rattle.std.specs.Str.{bytes_eq}
+use Rattle.std.specs.Option.{option_or, option_map_or}
+use Rattle.std.specs.FinMap.{get}
+use Rattle.dnssec_base.specs.declared.error.Error.{Error}
+use Rattle.dnssec_base.specs.declared.error.Error.TheVariants.{WrongStateForRollOperation}
+use Rattle.dnssec_base.specs.declared.error.Error.TheVariants.{ConflictingRollInProgress}
+use Rattle.dnssec_base.specs.declared.error.Error.TheVariants.{KeyNotFound, WrongKeyType}
+use Rattle.dnssec_base.specs.declared.error.Error.TheVariants.{WrongKeyState, AlgorithmSetsMismatch}
+use Rattle.dnssec_base.specs.declared.error.Error.TheVariants.{NoSuitableKeyPresent}
+use Rattle.dnssec_key.specs.declared.roll.RollType.{RollType}
+use Rattle.dnssec_key.specs.declared.roll.RollType.TheVariants.{KskRoll, KskDoubleDsRoll, ZskRoll}
+use Rattle.dnssec_key.specs.declared.roll.RollType.TheVariants.{ZskDoubleSignatureRoll, CskRoll}
+use Rattle.dnssec_key.specs.declared.roll.RollType.TheVariants.{AlgorithmRoll}
+use Rattle.dnssec_key.specs.declared.kind.KeyType.{KeyType}
+use Rattle.dnssec_key.specs.State.{is_any, is_fresh, kept_present, kept_at_parent}
+use Rattle.dnssec_key.specs.Key.{ksk, zsk, any_key, KeyParts, all_states, ksk_role, zsk_role}
+use Rattle.dnssec_zone.specs.Rolls.{Rolls, phase_of, all_rolls}
+use Rattle.dnssec_zone.specs.Keys.{Keys, some_entry}
+
+-- ---- rolls side by side
+
+-- which keys a roll changes: KSKs alone, ZSKs alone, or KSKs, ZSKs and CSKs
+pub data Side : Type 0 where
+  KskSide : Side
+  ZskSide : Side
+  BothSides : Side
+
+-- the side of a roll
+abbrev pub side_of : RollType → Side
+side_of KskRoll = KskSide
+side_of KskDoubleDsRoll = KskSide
+side_of ZskRoll = ZskSide
+side_of ZskDoubleSignatureRoll = ZskSide
+side_of CskRoll = BothSides
+side_of AlgorithmRoll = BothSides
+
+-- one side is that of KSKs alone, and the other that of ZSKs alone
+abbrev pub are_apart : Side → Side → Bool
+are_apart KskSide ZskSide = true
+are_apart ZskSide KskSide = true
+are_apart KskSide KskSide = false
+are_apart KskSide BothSides = false
+are_apart ZskSide ZskSide = false
+are_apart ZskSide BothSides = false
+are_apart BothSides _ = false
+
+-- two rolls go together where one changes KSKs alone, the other ZSKs alone
+abbrev pub together : RollType → RollType → Bool
+together roll other = are_apart (side_of roll) (side_of other)
+
+-- some roll is in progress beside which this one may not begin
+abbrev pub has_conflict : RollType → Rolls → Bool
+has_conflict roll rolls =
+    list_any (λ other. is_some (phase_of rolls other) && not (together roll other)) all_rolls
+
+-- the same roll in progress, or one beside which this may not begin
+unfoldable pub conflict : RollType → Rolls → Option Error
+conflict roll rolls =
+    if is_some (phase_of rolls roll) then Some WrongStateForRollOperation
+    else (if has_conflict roll rolls then Some ConflictingRollInProgress else None)
+
+-- ---- the two lists of references
+
+-- the texts that references point to
+abbrev pub texts : List (Bor (List ℕ)) → List (List ℕ)
+texts rs = map (λ (r : Bor (List ℕ)). r.now) rs
+
+-- the reference stands in the list
+abbrev pub is_listed : List (List ℕ) → List ℕ → Bool
+is_listed qs q = list_any (bytes_eq q) qs
+
+-- a roll may list the keys of its side, and none of another signer
+abbrev pub lists_kind : Side → KeyType → Bool
+lists_kind KskSide = ksk is_any
+lists_kind ZskSide = zsk is_any
+lists_kind BothSides = any_key is_any
+
+-- what is wrong with an old entry, with the key that it names
+abbrev pub old_entry_fault : RollType → Option KeyParts → Option Error
+old_entry_fault roll None = Some KeyNotFound
+old_entry_fault roll (Some k) =
+    if lists_kind (side_of roll) k.keytype then None else Some WrongKeyType
+
+-- the first fault among the old entries
+abbrev pub old_fault : RollType → (List ℕ → Option KeyParts) → List (List ℕ) → Option Error
+old_fault roll at [] = None
+old_fault roll at (q ∷ qs) = option_or (old_entry_fault roll (at q)) (old_fault roll at qs)
+
+-- what is wrong with a new entry; taken: it stands in a list before
+abbrev pub new_entry_fault : RollType → Option KeyParts → Bool → Option Error
+new_entry_fault roll None taken = Some KeyNotFound
+new_entry_fault roll (Some k) taken =
+    if lists_kind (side_of roll) k.keytype
+    then (if all_states is_fresh k.keytype && not taken then None else Some WrongKeyState)
+    else Some WrongKeyType
+
+-- the first fault among the new entries, those before them given
+abbrev pub new_fault : RollType → (List ℕ → Option KeyParts)
+    → List (List ℕ) → List (List ℕ) → List (List ℕ) → Option Error
+new_fault roll at olds earlier [] = None
+new_fault roll at olds earlier (q ∷ qs) =
+    option_or (new_entry_fault roll (at q) (is_listed olds q || is_listed earlier q))
+    (new_fault roll at olds (earlier ++ q ∷ []) qs)
+
+-- ---- the algorithms
+
+-- a listed key has the algorithm (RFC 6781, section 4.1.4)
+abbrev pub has_algorithm : (List ℕ → Option KeyParts) → List (List ℕ) → ℕ → Bool
+has_algorithm at qs algorithm =
+    list_any (λ q. option_map_or (λ k. nat_eq k.algorithm algorithm) (at q) false) qs
+
+-- each algorithm of the first list is one of the second (RFC 6781, section 4.1.4)
+abbrev pub algorithms_within : (List ℕ → Option KeyParts) → List (List ℕ) → List (List ℕ) → Bool
+algorithms_within at qs others =
+    list_all (λ q. option_map_or (λ k. has_algorithm at others k.algorithm) (at q) true) qs
+
+-- only an algorithm roll goes from one set of algorithms to another (RFC 6781, section 4.1.4)
+abbrev pub may_change_algorithms : RollType → Bool
+may_change_algorithms KskRoll = false
+may_change_algorithms KskDoubleDsRoll = false
+may_change_algorithms ZskRoll = false
+may_change_algorithms ZskDoubleSignatureRoll = false
+may_change_algorithms CskRoll = false
+may_change_algorithms AlgorithmRoll = true
+
+-- the two lists differ in algorithms that the roll may not change (RFC 6781, section 4.1.4)
+abbrev pub algorithm_fault : RollType → (List ℕ → Option KeyParts) → List (List ℕ) → List (List ℕ)
+    → Option Error
+algorithm_fault roll at olds news =
+    if may_change_algorithms roll
+    || (algorithms_within at olds news && algorithms_within at news olds)
+    then None else Some AlgorithmSetsMismatch
+
+-- ---- the keys to go on with
+
+-- a key that a start has to leave: a KSK in the DNSKEY set or one with a DS, a ZSK in the DNSKEY
+-- set, or there a KSK or CSK, or a ZSK or CSK
+pub data Want : Type 0 where
+  PresentKsk : Want
+  KskAtParent : Want
+  PresentZsk : Want
+  PresentKskRole : Want
+  PresentZskRole : Want
+
+-- what a start has to leave: a key that serves on each side of the roll
+abbrev pub wants : RollType → List Want
+wants KskRoll = PresentKsk ∷ []
+wants KskDoubleDsRoll = KskAtParent ∷ []
+wants ZskRoll = PresentZsk ∷ []
+wants ZskDoubleSignatureRoll = PresentZsk ∷ []
+wants CskRoll = PresentKskRole ∷ PresentZskRole ∷ []
+wants AlgorithmRoll = PresentKskRole ∷ PresentZskRole ∷ []
+
+-- a new key serves as soon as it comes in
+abbrev pub serves_as_new : Want → KeyType → Bool
+serves_as_new PresentKsk = ksk is_any
+serves_as_new KskAtParent = ksk is_any
+serves_as_new PresentZsk = zsk is_any
+serves_as_new PresentKskRole = ksk_role is_any
+serves_as_new PresentZskRole = zsk_role is_any
+
+-- a key that isn't listed as old serves in this state
+abbrev pub serves_as_kept : Want → KeyType → Bool
+serves_as_kept PresentKsk = ksk kept_present
+serves_as_kept KskAtParent = ksk kept_at_parent
+serves_as_kept PresentZsk = zsk kept_present
+serves_as_kept PresentKskRole = ksk_role kept_present
+serves_as_kept PresentZskRole = zsk_role kept_present
+
+-- a listed key passes
+abbrev pub some_listed : (KeyType → Bool) → (List ℕ → Option KeyParts) → List (List ℕ) → Bool
+some_listed p at qs = list_any (λ q. option_map_or (λ k. p k.keytype) (at q) false) qs
+
+-- a key that isn't listed passes
+abbrev pub some_kept : (KeyType → Bool) → Keys → List (List ℕ) → Bool
+some_kept p keys olds = some_entry (λ q k. p k.keytype && not (is_listed olds q)) keys
+
+-- a new key serves so, or a key that isn't listed as old
+abbrev pub is_met : Keys → List (List ℕ) → List (List ℕ) → Want → Bool
+is_met keys olds news want =
+    some_listed (serves_as_new want) (get keys) news || some_kept (serves_as_kept want) keys olds
+
+-- the start would leave no key to go on with
+abbrev pub suitability_fault : RollType → Keys → List (List ℕ) → List (List ℕ) → Option Error
+suitability_fault roll keys olds news =
+    if list_all (is_met keys olds news) (wants roll) then None else Some NoSuitableKeyPresent

@@ -1,0 +1,341 @@
+//! What a start is refused for. Nothing is changed here.
+ghost use Rattle.std.specs.Prelude.{◌≡◌, ℕ, Bool, List, [], false, not, ◌&&◌, ◌||◌, length, None};
+ghost use Rattle.std.specs.Prelude.{Some, IfOk, IfErr};
+ghost use Rattle.std.specs.List.{list_any, list_all};
+ghost use Rattle.std.specs.Option.{option_map_or};
+ghost use Rattle.std.specs.Str.{bytes_eq};
+ghost use Rattle.std.specs.FinMap as map;
+ghost use Rattle.dnssec_zone.specs.Inner.Bits.{is_set};
+ghost use Rattle.dnssec_zone.specs.Inner.Code.{as_want};
+ghost use Rattle.dnssec_zone.specs.Inner.Counts.{count_in, listed};
+ghost use Rattle.dnssec_zone.specs.Inner.Tags.{HasListed, has_its_tag};
+ghost use Rattle.dnssec_zone.specs.Start.{texts, is_listed, old_entry_fault, old_fault};
+ghost use Rattle.dnssec_zone.specs.Start.{new_entry_fault, new_fault, has_algorithm};
+ghost use Rattle.dnssec_zone.specs.Start.{may_change_algorithms, serves_as_new, serves_as_kept};
+ghost use Rattle.dnssec_zone.specs.Start.{some_listed, some_kept, is_met, suitability_fault};
+ghost use Rattle.dnssec_zone.specs.Refusals.{AnswersExactly};
+
+use crate::bits::{AlgorithmSet, TagSet, is_set, set};
+use crate::keys::Keys;
+use crate::side::{Want, may_change_algorithms, side_of, wants};
+use dnssec_key::{Error, Key, RollType};
+
+/// A list of more entries is long.
+const FEW: usize = 4;
+
+fn is_listed(references: &[&str], reference: &str) -> bool
+    ensures { result ≡ list_any (λ r. bytes_eq reference.now r.now) references.now }
+{
+    references.iter().any(|listed| reference == *listed)
+}
+
+/// Whether a new entry is an old one too, or stood earlier among the new.
+#[tactic(auto, using(crate::proofs::TwoLists::lists))]
+fn is_taken(old: &[&str], earlier: &[&str], reference: &str) -> bool
+    ensures { result ≡
+        (is_listed (texts old.now) reference.now || is_listed (texts earlier.now) reference.now) }
+{
+    is_listed(old, reference) || is_listed(earlier, reference)
+}
+
+/// What is wrong with a new entry that names this key.
+fn new_key_fault(roll: RollType, key: &Key, is_taken: bool) -> Option<Error>
+    ensures { result ≡ new_entry_fault roll (Some key.now) is_taken }
+{
+    if !side_of(roll).lists(key.keytype()) {
+        Some(Error::WrongKeyType)
+    } else if key.is_fresh() && !is_taken {
+        None
+    } else {
+        Some(Error::WrongKeyState)
+    }
+}
+
+/// Whether a roll may go from keys of some algorithms to keys of others.
+pub fn may_go_over(roll: RollType, old: &AlgorithmSet, new: &AlgorithmSet) -> bool
+    ensures { result ≡ (may_change_algorithms roll || bytes_eq old.now new.now) }
+{
+    may_change_algorithms(roll) || *old == *new
+}
+
+/// What a start is refused for, of the keys.
+impl Keys {
+    /// The key of an old entry, or what is wrong with the entry.
+    fn old_key(&self, roll: RollType, reference: &str) -> Result<&Key, Error>
+        ensures key { IfOk result (λ key. map.get self.now reference.now ≡ Some key.now) }
+        ensures sound { IfOk result (λ key.
+            old_entry_fault roll (map.get self.now reference.now) ≡ None) }
+        ensures fault { IfErr result (λ fault.
+            old_entry_fault roll (map.get self.now reference.now) ≡ Some fault) }
+    {
+        match self.get(reference) {
+            None => Err(Error::KeyNotFound),
+            Some(key) if side_of(roll).lists(key.keytype()) => Ok(key),
+            Some(_) => Err(Error::WrongKeyType),
+        }
+    }
+
+    /// What is wrong with a new entry, where the keys of these tags are listed before it.
+    fn new_entry_fault(&self, roll: RollType, reference: &str, taken: &TagSet) -> Option<Error>
+        ensures { result ≡ new_entry_fault roll (map.get self.now reference.now)
+            (has_its_tag taken.now (map.get self.now reference.now)) }
+    {
+        match self.get(reference) {
+            None => Some(Error::KeyNotFound),
+            Some(key) => new_key_fault(roll, key, is_set(taken, key.key_tag())),
+        }
+    }
+
+    /// The key of a new entry, which stands in a list before or doesn't, or what is wrong with it.
+    fn new_key(&self, roll: RollType, reference: &str, is_taken: bool) -> Result<&Key, Error>
+        ensures key { IfOk result (λ key. map.get self.now reference.now ≡ Some key.now) }
+        ensures sound { IfOk result (λ key.
+            new_entry_fault roll (map.get self.now reference.now) is_taken ≡ None) }
+        ensures fault { IfErr result (λ fault.
+            new_entry_fault roll (map.get self.now reference.now) is_taken ≡ Some fault) }
+    {
+        let Some(key) = self.get(reference) else {
+            return Err(Error::KeyNotFound);
+        };
+        match new_key_fault(roll, key, is_taken) {
+            None => Ok(key),
+            Some(fault) => Err(fault),
+        }
+    }
+
+    /// Puts the tag of the key at a reference into a set, where there is such a key.
+    fn add_tag(&self, tags: &mut TagSet, reference: &str)
+        ensures len { length tags.new ≡ length tags.old }
+        ensures listed { (listed : List ℕ → Bool) → HasListed tags.old self.now listed
+            → HasListed tags.new self.now (λ q. listed q || bytes_eq reference.now q) }
+    {
+        self.differ_in_tags();
+        if let Some(key) = self.get(reference) {
+            set(tags, key.key_tag());
+        }
+    }
+
+    /// Refuses the first old entry that has a fault, or answers the algorithms of the old keys.
+    pub fn check_old(&self, roll: RollType, old: &[&str]) -> Result<AlgorithmSet, Error>
+        ensures fault { AnswersExactly
+            (old_fault roll (map.get self.now) (texts old.now)) result }
+        ensures algorithms { IfOk result (λ algorithms. (a : ℕ) →
+            is_set algorithms a ≡ has_algorithm (map.get self.now) (texts old.now) a) }
+    {
+        let mut algorithms = [0; 4];
+        for reference in old {
+            let key = self.old_key(roll, reference)?;
+            set(&mut algorithms, u16::from(key.algorithm().to_int()));
+        }
+        Ok(algorithms)
+    }
+
+    /// Refuses the first new entry that has a fault, or answers the algorithms of the new keys.
+    /// What is listed before an entry is looked through where the lists are short, and asked of a
+    /// set of tags where they are long: to clear the set costs more than to look through a few
+    /// entries.
+    pub fn check_new(
+        &self,
+        roll: RollType,
+        old: &[&str],
+        new: &[&str],
+    ) -> Result<AlgorithmSet, Error>
+        ensures fault { AnswersExactly
+            (new_fault roll (map.get self.now) (texts old.now) [] (texts new.now)) result }
+        ensures algorithms { IfOk result (λ algorithms. (a : ℕ) →
+            is_set algorithms a ≡ has_algorithm (map.get self.now) (texts new.now) a) }
+    {
+        if old.len() <= FEW && new.len() <= FEW {
+            self.check_few_new(roll, old, new)
+        } else {
+            self.check_many_new(roll, old, new)
+        }
+    }
+
+    #[tactic(auto, using(crate::proofs::TwoLists::lists))]
+    fn check_few_new(
+        &self,
+        roll: RollType,
+        old: &[&str],
+        new: &[&str],
+    ) -> Result<AlgorithmSet, Error>
+        ensures fault { AnswersExactly
+            (new_fault roll (map.get self.now) (texts old.now) [] (texts new.now)) result }
+        ensures algorithms { IfOk result (λ algorithms. (a : ℕ) →
+            is_set algorithms a ≡ has_algorithm (map.get self.now) (texts new.now) a) }
+    {
+        let mut algorithms = [0; 4];
+        for (i, reference) in new.iter().enumerate() {
+            let is_taken = is_taken(old, &new[..i], reference);
+            let key = self.new_key(roll, reference, is_taken)?;
+            set(&mut algorithms, u16::from(key.algorithm().to_int()));
+        }
+        Ok(algorithms)
+    }
+
+    // Out of line, so that a start with short lists doesn't pay for the place of the set.
+    #[inline(never)]
+    #[tactic(auto, using(crate::proofs::TwoLists::lists))]
+    fn check_many_new(
+        &self,
+        roll: RollType,
+        old: &[&str],
+        new: &[&str],
+    ) -> Result<AlgorithmSet, Error>
+        ensures fault { AnswersExactly
+            (new_fault roll (map.get self.now) (texts old.now) [] (texts new.now)) result }
+        ensures algorithms { IfOk result (λ algorithms. (a : ℕ) →
+            is_set algorithms a ≡ has_algorithm (map.get self.now) (texts new.now) a) }
+    {
+        let mut taken = [0; 1024];
+        for entry in old {
+            self.add_tag(&mut taken, entry);
+        }
+        for reference in new {
+            if let Some(fault) = self.new_entry_fault(roll, reference, &taken) {
+                return Err(fault);
+            }
+            self.add_tag(&mut taken, reference);
+        }
+        Ok(self.algorithms_of(new))
+    }
+
+    /// The algorithms of the keys that a list names.
+    fn algorithms_of(&self, references: &[&str]) -> AlgorithmSet
+        ensures { (a : ℕ) →
+            is_set result a ≡ has_algorithm (map.get self.now) (texts references.now) a }
+    {
+        let mut algorithms = [0; 4];
+        for reference in references {
+            if let Some(key) = self.get(reference) {
+                set(&mut algorithms, u16::from(key.algorithm().to_int()));
+            }
+        }
+        algorithms
+    }
+
+    /// Refuses a start that leaves no key to go on with.
+    pub fn check_suitability(&self, roll: RollType, old: &[&str], new: &[&str]) -> Result<(), Error>
+        ensures { AnswersExactly
+            (suitability_fault roll self.now (texts old.now) (texts new.now)) result }
+    {
+        if self.are_met(wants(roll), old, new) {
+            Ok(())
+        } else {
+            Err(Error::NoSuitableKeyPresent)
+        }
+    }
+
+    fn are_met(&self, wants: &[Want], old: &[&str], new: &[&str]) -> bool
+        ensures { result ≡
+            list_all (λ w. is_met self.now (texts old.now) (texts new.now) (as_want w)) wants.now }
+    {
+        wants.iter().all(|want| self.is_met(*want, old, new))
+    }
+
+    fn is_met(&self, want: Want, old: &[&str], new: &[&str]) -> bool
+        ensures { result ≡ is_met self.now (texts old.now) (texts new.now) (as_want want) }
+    {
+        self.has_new(want, new) || self.has_kept(want, old)
+    }
+
+    /// Whether a key that isn't listed as old serves: more serve than the list has of them.
+    #[tactic(auto, using(crate::proofs::Counted::Lists::counts))]
+    fn has_kept(&self, want: Want, old: &[&str]) -> bool
+        ensures { result ≡ some_kept (serves_as_kept (as_want want)) self.now (texts old.now) }
+    {
+        self.count_listed(want, old) < self.count(want)
+    }
+
+    /// How many keys of a list serve, if they aren't listed as old: each is counted once.
+    fn count_listed(&self, want: Want, old: &[&str]) -> usize
+        ensures { result ≡
+            count_in (listed (serves_as_kept (as_want want)) (texts old.now)) self.now }
+    {
+        if old.len() <= FEW {
+            self.count_few_listed(want, old)
+        } else {
+            self.count_many_listed(want, old)
+        }
+    }
+
+    fn count_few_listed(&self, want: Want, old: &[&str]) -> usize
+        ensures { result ≡
+            count_in (listed (serves_as_kept (as_want want)) (texts old.now)) self.now }
+    {
+        let mut count = 0;
+        for (i, reference) in old.iter().enumerate() {
+            if self.serves_but_for(want, reference, &old[..i]) {
+                count += 1;
+            }
+        }
+        count
+    }
+
+    #[inline(never)]
+    fn count_many_listed(&self, want: Want, old: &[&str]) -> usize
+        ensures { result ≡
+            count_in (listed (serves_as_kept (as_want want)) (texts old.now)) self.now }
+    {
+        let mut earlier = [0; 1024];
+        let mut count = 0;
+        for reference in old {
+            if self.serves_first(want, reference, &earlier) {
+                count += 1;
+            }
+            self.add_tag(&mut earlier, reference);
+        }
+        count
+    }
+
+    /// Whether the key at a reference serves, and isn't one of these.
+    #[tactic(auto, using(crate::proofs::TwoLists::lists))]
+    fn serves_but_for(&self, want: Want, reference: &str, earlier: &[&str]) -> bool
+        ensures { result ≡ option_map_or (λ k. serves_as_kept (as_want want) k.keytype
+            && not (is_listed (texts earlier.now) reference.now))
+            (map.get self.now reference.now) false }
+    {
+        match self.get(reference) {
+            None => false,
+            Some(key) => want.is_met_by_kept(key.keytype()) && !is_listed(earlier, reference),
+        }
+    }
+
+    /// Whether the key at a reference serves, and isn't one of those with these tags.
+    fn serves_first(&self, want: Want, reference: &str, earlier: &TagSet) -> bool
+        ensures { result ≡ option_map_or (λ k. serves_as_kept (as_want want) k.keytype
+            && not (is_set earlier.now k.key_tag)) (map.get self.now reference.now) false }
+    {
+        match self.get(reference) {
+            None => false,
+            Some(key) => { want.is_met_by_kept(key.keytype()) && !is_set(earlier, key.key_tag()) }
+        }
+    }
+
+    #[tactic(auto, using(crate::proofs::Starts::starts))]
+    fn has_new(&self, want: Want, new: &[&str]) -> bool
+        ensures { result ≡
+            some_listed (serves_as_new (as_want want)) (map.get self.now) (texts new.now) }
+    {
+        self.any_serves_as_new(want, new)
+    }
+
+    fn any_serves_as_new(&self, want: Want, new: &[&str]) -> bool
+        ensures { result ≡
+            list_any (λ r. option_map_or (λ k. serves_as_new (as_want want) k.keytype)
+            (map.get self.now r.now) false) new.now }
+    {
+        new.iter()
+            .any(|reference| self.serves_as_new(want, reference))
+    }
+
+    fn serves_as_new(&self, want: Want, reference: &str) -> bool
+        ensures { result ≡ option_map_or (λ k. serves_as_new (as_want want) k.keytype)
+            (map.get self.now reference.now) false }
+    {
+        match self.get(reference) {
+            None => false,
+            Some(key) => want.is_met_by_new(key.keytype()),
+        }
+    }
+}

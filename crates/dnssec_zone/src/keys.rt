@@ -1,0 +1,481 @@
+//! The keys by their public references. No other module opens the map that has them.
+ghost use Rattle.std.specs.Prelude.{◌≡◌, ◌<◌, ℕ, List, None, Some, true, false, max, nat_eq};
+ghost use Rattle.std.specs.Prelude.{string_bytes, IfOk, IfErr, IfSome, IfNone, OnOk, OnErr};
+ghost use Rattle.std.specs.Prelude.{if◌then◌else◌, filter, length, ◌≤◌, map as list_map};
+ghost use Rattle.std.specs.List.{fold};
+ghost use Rattle.std.specs.Option.{option_map, option_and_then};
+ghost use Rattle.std.specs.Str.{bytes_eq};
+ghost use Rattle.std.specs.String.{string_eq};
+ghost use Rattle.std.specs.FinMap as map;
+ghost use Rattle.std.specs.HashMap as hash;
+ghost use Rattle.std.specs.HashSet.{contains, spare};
+ghost use Rattle.dnssec_base.specs.declared.error.Error.TheVariants.{OutOfMemory};
+ghost use Rattle.dnssec_key.specs.RollTable.{which, after_report, after_wait, new_at_start};
+ghost use Rattle.dnssec_key.specs.RollTable.{after_early_end, old_at_start, new_at_early_end};
+ghost use Rattle.dnssec_key.specs.RollTable.{old_at_early_end};
+ghost use Rattle.dnssec_key.specs.Setters.{setting_of, set_by};
+ghost use Rattle.dnssec_zone.specs.Inner.Change.{makes};
+ghost use Rattle.dnssec_zone.specs.Inner.Code.{as_want};
+ghost use Rattle.dnssec_zone.specs.Inner.Counts.{CountsAgree, count_in, no_counts, passes};
+ghost use Rattle.dnssec_zone.specs.Inner.Counts.{wait_moves_counts, with_key};
+ghost use Rattle.dnssec_zone.specs.Keys.{TagsApart, keys_in_map, has_tag};
+ghost use Rattle.dnssec_zone.specs.Start.{is_listed, serves_as_kept, texts};
+ghost use Rattle.dnssec_zone.specs.Refusals.{Answers, AnswersExactly, add_refusal};
+ghost use Rattle.dnssec_zone.specs.Refusals.{deletion_refusal, setting_refusal};
+ghost use Rattle.dnssec_zone.specs.Lists.{has_kept_key, listed_at_start};
+ghost use Rattle.dnssec_zone.specs.Inner.Over.{over_at};
+ghost use Rattle.dnssec_zone.specs.Wait.{IsOverFrom, LacksStamp};
+
+use crate::counts::{Counts, wait_moves_counts};
+use crate::listed::{Listed, copy_list, push_copy};
+use crate::side::Want;
+use dnssec_key::{Error, Half, Key, RollType, Setting, UnixTime};
+use std::alloc::Global;
+use std::collections::{HashMap, HashSet};
+use std::marker::Model;
+use std::time::Duration;
+
+/// The keys of a zone by their public references.
+#[derive(Drop)]
+pub struct Keys {
+    map: HashMap<String, Key>,
+    /// The tags of the keys.
+    tags: HashSet<u16>,
+    /// How many keys a start could go on with.
+    counts: Counts,
+}
+
+impl Model for Keys {
+    ghost use Rattle.std.specs.Prelude.{nat_eq};
+    ghost use Rattle.std.specs.Coded.{codes};
+    ghost use Rattle.std.specs.HashSet.{contains};
+    ghost use Rattle.dnssec_zone.specs.Inner.Counts.{CountsAgree};
+    ghost use Rattle.dnssec_zone.specs.Inner.Tags.{TagsAgree};
+    ghost use Rattle.dnssec_zone.specs.Keys.{Keys as ByReference, keys_code, keys_in_map};
+
+    ghost Value = { ByReference };
+
+    ghost coded = { Prim.hlevel (codes, keys_code) };
+
+    ghost view = { λ s. keys_in_map s.map };
+
+    ghost invariant = { λ s. TagsAgree (contains nat_eq s.tags) (keys_in_map s.map)
+        × CountsAgree s.counts (keys_in_map s.map) };
+}
+
+/// A change of one key.
+#[derive(Clone, Copy)]
+pub(crate) enum Change {
+    MarkOld,
+    MarkNew(RollType, UnixTime),
+    UnmarkOld(RollType),
+    UnmarkNew(RollType),
+}
+
+impl Change {
+    fn make(self, key: &mut Key)
+        ensures { key.new ≡ makes self key.old }
+    {
+        match self {
+            Change::MarkOld => key.mark_old(),
+            Change::MarkNew(roll, now) => key.mark_new(roll, now),
+            Change::UnmarkOld(roll) => key.unmark_old(roll),
+            Change::UnmarkNew(roll) => key.unmark_new(roll),
+        }
+    }
+}
+
+impl Keys {
+    pub fn new(alloc: Global) -> Self
+        ensures { result ≡ map.empty }
+    {
+        Keys {
+            map: HashMap::new(alloc),
+            tags: HashSet::new(alloc),
+            counts: Counts::none(),
+        }
+    }
+
+    pub fn try_clone(&self) -> Result<Keys, Error>
+        ensures same { IfOk result (λ keys. keys ≡ self.now) }
+        ensures err { IfErr result (λ e. e ≡ OutOfMemory) }
+    {
+        Ok(Keys {
+            map: clone_map(&self.map)?,
+            tags: clone_tags(&self.tags)?,
+            counts: self.counts,
+        })
+    }
+
+    /// The map itself, for callers to read.
+    pub fn as_map(&self) -> &HashMap<String, Key>
+        ensures shown { keys_in_map result.now ≡ self.now }
+        ensures at { (q : List ℕ) → hash.get_by_text result.now q ≡ map.get self.now q }
+    {
+        &self.map
+    }
+
+    /// The key at a reference.
+    #[tactic(auto, using(crate::proofs::Shown::shown))]
+    pub(crate) fn get(&self, reference: &str) -> Option<&Key>
+        ensures { option_map (λ k. k.now) result ≡ map.get self.now reference.now }
+    {
+        self.map.get(reference)
+    }
+
+    /// No two keys have one tag.
+    pub(crate) fn differ_in_tags(&self)
+        ensures { TagsApart self.now }
+    {
+        let _ = &self.map;
+    }
+
+    /// Whether some key has the tag.
+    fn has_tag(&self, key_tag: u16) -> bool
+        ensures { result ≡ has_tag key_tag self.now }
+    {
+        self.tags.contains(&key_tag)
+    }
+
+    /// How many keys meet a want in their state, whether a start lists them as old or not.
+    pub(crate) fn count(&self, want: Want) -> usize
+        ensures { result ≡ count_in (passes (serves_as_kept (as_want want))) self.now }
+    {
+        self.counts.of(want)
+    }
+
+    /// Adds a key. Its tag is looked for first, then its reference.
+    #[tactic(auto, using(crate::proofs::Shown::shown))]
+    pub fn add(&mut self, pubref: String, key: Key) -> Result<(), Error>
+        ensures reply { Answers (add_refusal self.old (string_bytes pubref) key.key_tag) result }
+        ensures ok { OnOk result ((q : List ℕ) → map.get self.new q
+            ≡ (if bytes_eq (string_bytes pubref) q then Some key else map.get self.old q)) }
+        ensures err { OnErr result (self.new ≡ self.old) }
+    {
+        if self.has_tag(key.key_tag()) {
+            return Err(Error::DuplicateKeyTag);
+        }
+        if self.map.contains_key(pubref.as_str()) {
+            return Err(Error::KeyExists);
+        }
+        let key_tag = key.key_tag();
+        let keytype = key.keytype();
+        reserve_tag(&mut self.tags)?;
+        let Ok(_) = self.map.insert(pubref, key) else {
+            return Err(Error::OutOfMemory);
+        };
+        put_tag(&mut self.tags, key_tag);
+        self.counts = self.counts.with(&keytype);
+        is_sound(&self.map);
+        Ok(())
+    }
+
+    /// Takes out the key at a reference, if it is stale: such a key is in no count.
+    #[tactic(auto, using(crate::proofs::Shown::shown))]
+    pub fn delete(&mut self, pubref: &str) -> Result<(), Error>
+        ensures reply { AnswersExactly (deletion_refusal (map.get self.old pubref.now)) result }
+        ensures ok { OnOk result ((q : List ℕ) → map.get self.new q
+            ≡ (if bytes_eq pubref.now q then None else map.get self.old q)) }
+        ensures err { OnErr result (self.new ≡ self.old) }
+    {
+        let Some(key) = self.map.get(pubref) else {
+            return Err(Error::KeyNotFound);
+        };
+        if !key.is_stale() {
+            return Err(Error::KeyNotOld);
+        }
+        let key_tag = key.key_tag();
+        self.map.remove(pubref);
+        self.tags.remove(&key_tag);
+        Ok(())
+    }
+
+    /// Sets something of the key at a reference.
+    #[tactic(auto, using(crate::proofs::Shown::shown))]
+    pub fn set(&mut self, pubref: &str, setting: Setting) -> Result<(), Error>
+        ensures reply { AnswersExactly
+            (setting_refusal (setting_of setting) (map.get self.old pubref.now)) result }
+        ensures ok { OnOk result ((q : List ℕ) → map.get self.new q ≡ option_map
+            (λ k. if bytes_eq pubref.now q then set_by (setting_of setting) k else k)
+            (map.get self.old q)) }
+        ensures err { OnErr result (self.new ≡ self.old) }
+    {
+        let Some(key) = self.map.get_mut(pubref) else {
+            return Err(Error::KeyNotFound);
+        };
+        let before = key.keytype();
+        if !before.suits(&setting) {
+            return Err(Error::WrongKeyType);
+        }
+        key.set(setting);
+        let after = key.keytype();
+        self.counts.follow(&setting, &before, &after);
+        is_sound(&self.map);
+        Ok(())
+    }
+
+    /// Marks the keys that a start lists as old.
+    pub fn mark_old(&mut self, old: &[&str])
+        ensures { (q : List ℕ) → map.get self.new q
+            ≡ option_map (λ k. if is_listed (texts old.now) q then old_at_start k else k)
+            (map.get self.old q) }
+    {
+        for reference in old {
+            self.change_at(reference, Change::MarkOld);
+        }
+    }
+
+    /// Marks the keys that a start lists as new.
+    pub fn mark_new(&mut self, roll: RollType, new: &[&str], now: UnixTime)
+        ensures { (q : List ℕ) → map.get self.new q
+            ≡ option_map (λ k. if is_listed (texts new.now) q then new_at_start roll now k else k)
+            (map.get self.old q) }
+    {
+        for reference in new {
+            self.change_at(reference, Change::MarkNew(roll, now));
+        }
+    }
+
+    /// Makes keys old no more, as their roll is ended early.
+    fn unmark_old(&mut self, roll: RollType, references: &[String])
+        ensures { (q : List ℕ) → map.get self.new q ≡ option_map
+            (λ k. if is_listed (list_map string_bytes references.now) q
+            then old_at_early_end roll k else k) (map.get self.old q) }
+    {
+        for reference in references {
+            self.change_at(reference.as_str(), Change::UnmarkOld(roll));
+        }
+    }
+
+    /// Takes from keys what the start put on them, as their roll is ended early.
+    fn unmark_new(&mut self, roll: RollType, references: &[String])
+        ensures { (q : List ℕ) → map.get self.new q ≡ option_map
+            (λ k. if is_listed (list_map string_bytes references.now) q
+            then new_at_early_end roll k else k) (map.get self.old q) }
+    {
+        for reference in references {
+            self.change_at(reference.as_str(), Change::UnmarkNew(roll));
+        }
+    }
+
+    /// Undoes a start on the keys that are kept of it.
+    pub fn unmark(&mut self, roll: RollType, listed: &Listed)
+        ensures { (q : List ℕ) → map.get self.new q ≡ option_map
+            (after_early_end roll (is_listed listed.now.olds q) (is_listed listed.now.news q))
+            (map.get self.old q) }
+    {
+        self.unmark_old(roll, listed.olds.as_slice());
+        self.unmark_new(roll, listed.news.as_slice());
+    }
+
+    /// What is kept of a start while its roll may be ended early.
+    pub fn list(&self, alloc: Global, old: &[&str], new: &[&str]) -> Result<Listed, Error>
+        ensures ok { IfOk result (λ listed.
+            listed ≡ listed_at_start self.now (texts old.now) (texts new.now)) }
+        ensures err { IfErr result (λ e. e ≡ OutOfMemory) }
+    {
+        Ok(Listed {
+            olds: self.copy_kept(alloc, old)?,
+            news: copy_list(alloc, new)?,
+        })
+    }
+
+    /// Copies of the references whose keys are not old.
+    fn copy_kept(&self, alloc: Global, references: &[&str]) -> Result<Vec<String>, Error>
+        ensures ok { IfOk result (λ list. list_map string_bytes list.items
+            ≡ filter (has_kept_key self.now) (texts references.now)) }
+        ensures err { IfErr result (λ e. e ≡ OutOfMemory) }
+    {
+        let mut list = Vec::new(alloc);
+        for reference in references {
+            if self.is_kept(reference) {
+                push_copy(alloc, &mut list, reference)?;
+            }
+        }
+        Ok(list)
+    }
+
+    fn is_kept(&self, reference: &str) -> bool
+        ensures { result ≡ has_kept_key self.now reference.now }
+    {
+        match self.get(reference) {
+            None => false,
+            Some(key) => key.is_kept(),
+        }
+    }
+
+    /// Changes the key at a reference, where there is one.
+    #[tactic(auto, using(crate::proofs::Shown::shown))]
+    fn change_at(&mut self, reference: &str, change: Change)
+        ensures { (q : List ℕ) → map.get self.new q ≡ option_map
+            (λ k. if bytes_eq reference.now q then makes change k else k) (map.get self.old q) }
+    {
+        let Some(key) = self.map.get_mut(reference) else {
+            return;
+        };
+        let before = key.keytype();
+        change.make(key);
+        let after = key.keytype();
+        self.counts = self.counts.without(&before).with(&after);
+        is_sound(&self.map);
+    }
+
+    /// Stamps every key that a report speaks of.
+    pub fn report_all(&mut self, roll: RollType, half: Half, now: UnixTime)
+        ensures { (q : List ℕ) → map.get self.new q
+            ≡ option_map (after_report roll (which half) now) (map.get self.old q) }
+    {
+        // `retain` says of each key what is written there; it keeps them all.
+        self.map.retain(|_, key| {
+            key.report(roll, half, now);
+            true
+        });
+    }
+
+    /// Moves every key on, once a wait is over.
+    pub fn go_on_all(&mut self, roll: RollType, half: Half, now: UnixTime)
+        ensures { (q : List ℕ) → map.get self.new q
+            ≡ option_map (after_wait roll (which half) now) (map.get self.old q) }
+    {
+        self.map.retain(|_, key| {
+            key.go_on(roll, half, now);
+            true
+        });
+        self.counts = counts_after_wait(&self.map, self.counts, roll, half);
+    }
+
+    /// The nanosecond since 1970 from which a wait of `ttl` seconds is over, or `None` where a
+    /// stamp is missing.
+    pub fn over_from(&self, roll: RollType, half: Half, ttl: u32) -> Option<u128>
+        ensures over { IfSome result (λ end.
+            IsOverFrom roll (which half) ttl self.now end) }
+        ensures missing { IfNone result (LacksStamp roll (which half) ttl self.now) }
+    {
+        latest_over(&self.map, roll, half, ttl)
+    }
+}
+
+fn clone_map(map: &HashMap<String, Key>) -> Result<HashMap<String, Key>, Error>
+    ensures same { IfOk result (λ m. keys_in_map m ≡ keys_in_map map.now) }
+    ensures err { IfErr result (λ e. e ≡ OutOfMemory) }
+{
+    match map.clone() {
+        Ok(made) => Ok(made),
+        Err(_) => Err(Error::OutOfMemory),
+    }
+}
+
+fn clone_tags(tags: &HashSet<u16>) -> Result<HashSet<u16>, Error>
+    ensures same { IfOk result (λ makes. (t : ℕ) →
+        contains nat_eq makes t ≡ contains nat_eq tags.now t) }
+    ensures err { IfErr result (λ e. e ≡ OutOfMemory) }
+{
+    match tags.clone() {
+        Ok(made) => Ok(made),
+        Err(_) => Err(Error::OutOfMemory),
+    }
+}
+
+/// Makes room for one more tag.
+fn reserve_tag(tags: &mut HashSet<u16>) -> Result<(), Error>
+    ensures same { (t : ℕ) → contains nat_eq tags.new t ≡ contains nat_eq tags.old t }
+    ensures room { OnOk result (0 < spare tags.new) }
+    ensures err { IfErr result (λ e. e ≡ OutOfMemory) }
+{
+    match tags.reserve(1) {
+        Ok(()) => Ok(()),
+        Err(_) => Err(Error::OutOfMemory),
+    }
+}
+
+/// Puts a tag in, where there is room for it.
+fn put_tag(tags: &mut HashSet<u16>, key_tag: u16)
+    requires { 0 < spare tags.old }
+    ensures { (t : ℕ) → contains nat_eq tags.new t
+        ≡ (if nat_eq key_tag t then true else contains nat_eq tags.old t) }
+{
+    match tags.insert(key_tag) {
+        Ok(_) => {}
+        Err(_) => {}
+    }
+}
+
+/// The counts after a wait has moved the keys on: those before, unless it may move them.
+fn counts_after_wait(
+    keys: &HashMap<String, Key>,
+    before: Counts,
+    roll: RollType,
+    half: Half,
+) -> Counts
+    ensures moved { wait_moves_counts roll (which half) ≡ true
+        → CountsAgree result (keys_in_map keys.now) }
+    ensures kept { wait_moves_counts roll (which half) ≡ false → result ≡ before }
+{
+    if wait_moves_counts(roll, half) {
+        recount(keys)
+    } else {
+        before
+    }
+}
+
+/// The counts by a walk over the keys.
+fn recount(keys: &HashMap<String, Key>) -> Counts
+    ensures { CountsAgree result (keys_in_map keys.now) }
+{
+    is_sound(keys);
+    count_all(keys)
+}
+
+fn count_all(keys: &HashMap<String, Key>) -> Counts
+    ensures { result ≡ fold (λ c k. with_key k.keytype c) no_counts (hash.values keys.now) }
+{
+    keys.values()
+        .fold(Counts::none(), |counts, key| counts.with(&key.keytype()))
+}
+
+/// What holds of every such map: no reference stands twice, and a `usize` tells how many do.
+fn is_sound(keys: &HashMap<String, Key>)
+    ensures unique { hash.IsUnique string_eq keys.now }
+    ensures fits { length keys.now.entries ≤ 18446744073709551615 }
+{
+    keys.len();
+}
+
+/// The nanosecond since 1970 from which a wait is over for a key, or `None` where its stamp is
+/// missing.
+fn over_at(key: &Key, roll: RollType, half: Half, ttl: u32) -> Option<u128>
+    ensures { result ≡ over_at roll (which half) ttl key.now }
+{
+    if !key.keytype().is_checked(roll, half) {
+        return Some(0);
+    }
+    let stamp = key.timestamps().at(roll.stamp_read(half))?;
+    if ttl == 0 {
+        return Some(0);
+    }
+    Some(Duration::from(stamp).as_nanos() + u128::from(ttl) * 1_000_000_000)
+}
+
+/// The later of two moments, where both are known.
+fn later(a: Option<u128>, b: Option<u128>) -> Option<u128>
+    ensures { result ≡ option_and_then (λ x. option_map (λ y. max x y) b) a }
+{
+    match (a, b) {
+        (Some(a), Some(b)) => Some(a.max(b)),
+        _ => None,
+    }
+}
+
+/// The last of the moments from which a wait is over for a key, or `None` where a stamp is missing.
+fn latest_over(keys: &HashMap<String, Key>, roll: RollType, half: Half, ttl: u32) -> Option<u128>
+    ensures latest { result ≡ fold
+        (λ a k. option_and_then (λ x. option_map (λ y. max x y)
+        (over_at roll (which half) ttl k)) a)
+        (Some 0) (hash.values keys.now) }
+    ensures unique { hash.IsUnique string_eq keys.now }
+{
+    keys.values().fold(
+        Some(0),
+        |latest, key| later(latest, over_at(key, roll, half, ttl)),
+    )
+}

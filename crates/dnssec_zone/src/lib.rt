@@ -1,0 +1,19 @@
+//! The parts of a key set: the keys of a zone by their references, its rolls in progress, and what
+//! the starts of rolls listed; with what a start is refused for, and from when on a wait is over.
+//!
+//! `dnssec_keyset` puts them together. Here each hash map is opened in one module.
+#![tactic(auto)]
+
+mod bits;
+mod check;
+mod counts;
+mod keys;
+mod listed;
+mod rolls;
+mod side;
+
+pub use bits::AlgorithmSet;
+pub use check::may_go_over;
+pub use keys::Keys;
+pub use listed::{Listed, Lists};
+pub use rolls::Rolls;

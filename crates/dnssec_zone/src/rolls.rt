@@ -1,0 +1,208 @@
+//! The rolls in progress, each in its phase. No other module opens the map that has them.
+ghost use Rattle.std.specs.Prelude.{◌≡◌, ◌↔◌, not, ◌&&◌, is_some, IsSome, IsTrue, None, Some, IfOk};
+ghost use Rattle.std.specs.Prelude.{IfErr, OnOk, OnErr};
+ghost use Rattle.std.specs.HashMap as hash;
+ghost use Rattle.dnssec_base.specs.declared.error.Error.TheVariants.{OutOfMemory};
+ghost use Rattle.dnssec_key.specs.declared.roll.RollType.{RollType as AnyRoll};
+ghost use Rattle.dnssec_key.specs.RollTable.{which, cache_expire};
+ghost use Rattle.dnssec_zone.specs.Rolls.{phase_of, with_phase, no_rolls, rolls_in_map};
+ghost use Rattle.dnssec_zone.specs.Start.{has_conflict, conflict};
+ghost use Rattle.dnssec_zone.specs.Refusals.{AnswersExactly, report_refusal, end_refusal};
+ghost use Rattle.dnssec_zone.specs.Refusals.{early_end_refusal};
+ghost use Rattle.dnssec_zone.specs.Wait.{ttl_in};
+
+use crate::side::go_together;
+use dnssec_key::{Error, Half, RollState, RollType};
+use std::alloc::Global;
+use std::collections::HashMap;
+use std::marker::Model;
+
+const ALL_ROLLS: [RollType; 6] = [
+    RollType::KskRoll,
+    RollType::KskDoubleDsRoll,
+    RollType::ZskRoll,
+    RollType::ZskDoubleSignatureRoll,
+    RollType::CskRoll,
+    RollType::AlgorithmRoll,
+];
+
+/// The rolls in progress.
+#[derive(Drop)]
+pub struct Rolls {
+    phases: HashMap<RollType, RollState>,
+}
+
+impl Model for Rolls {
+    ghost use Rattle.std.specs.Coded.{codes};
+    ghost use Rattle.dnssec_zone.specs.Rolls.{Rolls as Phases, rolls_in_map};
+
+    ghost Value = { Phases };
+
+    ghost coded = { Prim.hlevel codes };
+
+    ghost view = { λ s. rolls_in_map s.phases };
+}
+
+impl Rolls {
+    pub fn new(alloc: Global) -> Self
+        ensures { result ≡ no_rolls }
+    {
+        Rolls {
+            phases: HashMap::new(alloc),
+        }
+    }
+
+    pub fn try_clone(&self) -> Result<Rolls, Error>
+        ensures same { IfOk result (λ rolls. rolls ≡ self.now) }
+        ensures err { IfErr result (λ e. e ≡ OutOfMemory) }
+    {
+        match self.phases.clone() {
+            Ok(phases) => Ok(Rolls { phases }),
+            Err(_) => Err(Error::OutOfMemory),
+        }
+    }
+
+    /// The map itself, for callers to read.
+    #[tactic(auto, using(crate::proofs::Phases::phases))]
+    pub fn as_map(&self) -> &HashMap<RollType, RollState>
+        ensures shown { rolls_in_map result.now ≡ self.now }
+        ensures at { (roll : AnyRoll) → hash.get_by (⟦<RollType as PartialEq>⟧.eq roll) result.now
+            ≡ phase_of self.now roll }
+    {
+        &self.phases
+    }
+
+    /// The phase of a roll, where it is in progress.
+    #[tactic(auto, using(crate::proofs::Phases::phases))]
+    pub fn phase_of(&self, roll: RollType) -> Option<RollState>
+        ensures { result ≡ phase_of self.now roll }
+    {
+        self.phases.get(&roll).copied()
+    }
+
+    /// Whether no roll is in progress.
+    fn is_empty(&self) -> bool
+        ensures { IsTrue result ↔ (self.now ≡ no_rolls) }
+    {
+        self.phases.is_empty()
+    }
+
+    /// Puts a roll into a phase. Without memory for it nothing is changed.
+    #[tactic(auto, using(crate::proofs::Phases::phases))]
+    pub fn put_in(&mut self, roll: RollType, phase: RollState) -> Result<(), Error>
+        ensures ok { OnOk result (self.new ≡ with_phase self.old roll (Some phase)) }
+        ensures err { OnErr result (self.new ≡ self.old) }
+        ensures memory { IfErr result (λ e. e ≡ OutOfMemory) }
+    {
+        match self.phases.insert(roll, phase) {
+            Ok(_) => Ok(()),
+            Err(_) => Err(Error::OutOfMemory),
+        }
+    }
+
+    /// Moves a roll in progress to another phase.
+    #[tactic(auto, using(crate::proofs::Phases::phases))]
+    pub fn move_to(&mut self, roll: RollType, phase: RollState)
+        requires { IsSome (phase_of self.old roll) }
+        ensures { self.new ≡ with_phase self.old roll (Some phase) }
+    {
+        if let Some(state) = self.phases.get_mut(&roll) {
+            *state = phase;
+        }
+    }
+
+    /// Moves a roll on by a report, or refuses one that the roll isn't waiting for. It is looked up
+    /// once, and no memory is taken.
+    #[tactic(auto, using(crate::proofs::Phases::phases))]
+    pub fn take_report(&mut self, roll: RollType, half: Half, ttl: u32) -> Result<(), Error>
+        ensures reply { AnswersExactly
+            (report_refusal (which half) (phase_of self.old roll)) result }
+        ensures ok { OnOk result
+            (self.new ≡ with_phase self.old roll (Some (cache_expire (which half) ttl))) }
+        ensures err { OnErr result (self.new ≡ self.old) }
+    {
+        let Some(phase) = self.phases.get_mut(&roll) else {
+            return Err(Error::WrongStateForRollOperation);
+        };
+        if !awaits_report(*phase, half) {
+            return Err(Error::WrongStateForRollOperation);
+        }
+        *phase = half.cache_expire(ttl);
+        Ok(())
+    }
+
+    #[tactic(auto, using(crate::proofs::Phases::phases))]
+    pub fn take_out(&mut self, roll: RollType)
+        ensures { self.new ≡ with_phase self.old roll None }
+    {
+        self.phases.remove(&roll);
+    }
+}
+
+/// Whether a roll in a phase waits for a report.
+fn awaits_report(phase: RollState, half: Half) -> bool
+    ensures { result ≡ not (is_some (report_refusal (which half) (Some phase))) }
+{
+    matches!(
+        (half, phase),
+        (Half::First, RollState::Propagation1) | (Half::Second, RollState::Propagation2)
+    )
+}
+
+// What is read of the phases alone.
+impl Rolls {
+    fn has_conflict(&self, roll: RollType) -> bool
+        ensures { result ≡ has_conflict roll self.now }
+    {
+        ALL_ROLLS.iter().any(|other| self.phase_of(*other).is_some() && !go_together(roll, *other))
+    }
+
+    /// Refuses a roll that is in progress, or that doesn't go with one in progress.
+    #[tactic(auto, unfolding(crate::specs::Start::conflict))]
+    pub fn check_conflict(&self, roll: RollType) -> Result<(), Error>
+        ensures { AnswersExactly (conflict roll self.now) result }
+    {
+        // Most starts find no roll in progress, and needn't ask for each.
+        if self.is_empty() {
+            return Ok(());
+        }
+        if self.phase_of(roll).is_some() {
+            return Err(Error::WrongStateForRollOperation);
+        }
+        if self.has_conflict(roll) {
+            return Err(Error::ConflictingRollInProgress);
+        }
+        Ok(())
+    }
+
+    /// Refuses the end of a roll that isn't in its last phase.
+    pub fn check_end(&self, roll: RollType) -> Result<(), Error>
+        ensures { AnswersExactly (end_refusal (phase_of self.now roll)) result }
+    {
+        match self.phase_of(roll) {
+            Some(RollState::Done) => Ok(()),
+            _ => Err(Error::WrongStateForRollOperation),
+        }
+    }
+
+    /// Refuses an early end of a roll behind its first report.
+    pub fn check_early_end(&self, roll: RollType) -> Result<(), Error>
+        ensures { AnswersExactly (early_end_refusal (phase_of self.now roll)) result }
+    {
+        match self.phase_of(roll) {
+            Some(RollState::Propagation1) => Ok(()),
+            _ => Err(Error::WrongStateForRollOperation),
+        }
+    }
+
+    /// The TTL that a wait goes by, in its phase alone.
+    pub fn ttl_in(&self, roll: RollType, half: Half) -> Option<u32>
+        ensures { result ≡ ttl_in (which half) (phase_of self.now roll) }
+    {
+        match (half, self.phase_of(roll)) {
+            (Half::First, Some(RollState::CacheExpire1(ttl))) => Some(ttl),
+            (Half::Second, Some(RollState::CacheExpire2(ttl))) => Some(ttl),
+            _ => None,
+        }
+    }
+}
