@@ -3,8 +3,10 @@
 
 SCRIPT ?= examples/algorithm-roll.script
 PROGRAM = crates/keyset/out/keyset
-PARTS = dnssec_base dnssec_key dnssec_zone dnssec_keyset dnssec_run dnssec_judge dnssec_record keyset
-SOURCES = crates.txt $(wildcard $(foreach part,$(PARTS),$(addprefix crates/$(part)/,src specs proofs)))
+PARTS = dnssec_base dnssec_key dnssec_zone dnssec_keyset dnssec_run dnssec_judge dnssec_record \
+	keyset
+SOURCES = crates.txt \
+	$(wildcard $(foreach part,$(PARTS),$(addprefix crates/$(part)/,src specs proofs)))
 
 RUNS ?= 1000000
 
@@ -53,7 +55,7 @@ test:
 docs:
 	@tests/docs.py
 
-# Each request for memory of calls of a key set, of its copies, of names, of a script's record and of
-# its verdict fails in turn.
+# Each request for memory of calls of a key set, of its copies, of names, of a script's record and
+# of its verdict fails in turn.
 memory:
 	@tests/memory.py

@@ -1,7 +1,8 @@
 #!/usr/bin/env python3
 """The gate: `tests/docs.py`, then `rt ci`, beside its first proofs `tests/runbooks.py` and
-`tests/memory.py`, and beside its edits `tests/sets.py` and `tests/library.py`. Before the last line of `rt ci` it tells when, in
-minutes and seconds since the start, each step was done, so that a rise is seen."""
+`tests/memory.py`, and beside its edits `tests/sets.py` and `tests/library.py`. Before the last line
+of `rt ci` it tells when, in minutes and seconds since the start, each step was done, so that a rise
+is seen."""
 
 import os
 import re

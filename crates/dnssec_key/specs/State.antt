@@ -1,5 +1,5 @@
--- What a contract sees of one role of a key, and of its stamps. The words for a role are the
--- operator's (RFC 6781, section 4.1; RFC 7583, section 3.1).
+-- What a contract sees of one role of a key. The words for it are the operator's (RFC 6781, section
+-- 4.1; RFC 7583, section 3.1).
 use Rattle.std.specs.Prelude.{Bool, ◌||◌, not, ◌&&◌, true}
 
 -- the flags of one role of a key (RFC 6781, section 3.1: KSK, ZSK and both in one)

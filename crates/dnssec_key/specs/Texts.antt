@@ -1,5 +1,5 @@
--- The texts that a user reads: of a duration, of an error, of a roll's name, and of the state of a
--- role. How durations and errors read is no matter of an RFC.
+-- The texts that a user reads of a roll, its name, and of the state of a role. How they read is no
+-- matter of an RFC.
 use Rattle.std.specs.Prelude.{ℕ, List, codes, ◌≡◌, ◌≢◌, Result, MatchResult, Bool, [], ◌∷◌, filter}
 use Rattle.std.specs.Prelude.{map, true, false, ◌+◌, ◌++◌}
 use Rattle.std.specs.List.{join_by}

@@ -5,7 +5,7 @@
 -- | `check_start`                  | `same_algorithms`, `told-last` | StartReplies, Starts |
 -- | `check_wait`                   | `told-early`, `told-over`      | WaitReplies, Steps   |
 -- | `StaysSound`                   | `apart-step`, `together-step`  | Laws                 |
--- | `KeepsSidesApart`              | `leaves-others`                | Sides, Laws, Tests   |
+-- | `KeepsSidesApart`              | `leaves-others`                | Sides, Laws          |
 -- | `NeighboursMayBeExchanged`     | `Law.exchange`                 | Exchange             |
 -- | the set after an accepted call | `step-after`                   | After                |
 -- | `Call::make`                   | `done_exactly` and the like    | Allowed              |

@@ -1,4 +1,4 @@
-//! What a start is refused for. Nothing is changed here.
+//! What a start is refused for: the first cause that stands. Nothing is changed here.
 ghost use Rattle.dnssec_zone.specs.Refusals.{AnswersExactly};
 ghost use Rattle.dnssec_zone.specs.Start.{texts};
 ghost use Rattle.dnssec_keyset.specs.Step.{start_refusal};

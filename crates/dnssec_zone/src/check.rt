@@ -1,4 +1,4 @@
-//! What a start is refused for. Nothing is changed here.
+//! What a start is refused for, of the keys. Nothing is changed here.
 ghost use Rattle.std.specs.Prelude.{◌≡◌, ℕ, Bool, List, [], false, not, ◌&&◌, ◌||◌, length, None};
 ghost use Rattle.std.specs.Prelude.{Some, IfOk, IfErr};
 ghost use Rattle.std.specs.List.{list_any, list_all};
