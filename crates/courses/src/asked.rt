@@ -1,9 +1,9 @@
 //! The operator's table: what an accepted call of a roll asks.
-use crate::steps::Call;
+use crate::steps::CourseCall;
 use dnssec_keyset::{Action, RollType};
 
 /// What an accepted call asks of the operator.
-pub fn asked_after(call: Call) -> &'static [Action] {
+pub fn asked_after(call: CourseCall) -> &'static [Action] {
     use Action::{
         CreateCdsRrset, RemoveCdsRrset, ReportDnskeyPropagated, ReportDsPropagated,
         ReportRrsigPropagated, UpdateDnskeyRrset, UpdateDsRrset, UpdateRrsig, WaitDnskeyPropagated,
@@ -13,45 +13,48 @@ pub fn asked_after(call: Call) -> &'static [Action] {
         AlgorithmRoll, CskRoll, KskDoubleDsRoll, KskRoll, ZskDoubleSignatureRoll, ZskRoll,
     };
     match call {
-        Call::Start(KskRoll | ZskRoll | CskRoll, _, _) => {
+        CourseCall::Start(KskRoll | ZskRoll | CskRoll, _, _) => {
             &[UpdateDnskeyRrset, ReportDnskeyPropagated]
         }
-        Call::Start(ZskDoubleSignatureRoll | AlgorithmRoll, _, _)
-        | Call::Wait1(ZskDoubleSignatureRoll) => &[
+        CourseCall::Start(ZskDoubleSignatureRoll | AlgorithmRoll, _, _)
+        | CourseCall::Wait1(ZskDoubleSignatureRoll) => &[
             UpdateDnskeyRrset,
             UpdateRrsig,
             ReportDnskeyPropagated,
             ReportRrsigPropagated,
         ],
-        Call::Start(KskDoubleDsRoll, _, _) | Call::Wait1(KskRoll | AlgorithmRoll) => {
+        CourseCall::Start(KskDoubleDsRoll, _, _) | CourseCall::Wait1(KskRoll | AlgorithmRoll) => {
             &[CreateCdsRrset, UpdateDsRrset, ReportDsPropagated]
         }
-        Call::Wait1(KskDoubleDsRoll) => {
+        CourseCall::Wait1(KskDoubleDsRoll) => {
             &[RemoveCdsRrset, UpdateDnskeyRrset, ReportDnskeyPropagated]
         }
-        Call::Wait1(ZskRoll) => &[UpdateRrsig, ReportRrsigPropagated],
-        Call::Wait1(CskRoll) => &[
+        CourseCall::Wait1(ZskRoll) => &[UpdateRrsig, ReportRrsigPropagated],
+        CourseCall::Wait1(CskRoll) => &[
             CreateCdsRrset,
             UpdateDsRrset,
             UpdateRrsig,
             ReportDsPropagated,
             ReportRrsigPropagated,
         ],
-        Call::Wait2(KskRoll | CskRoll) => {
+        CourseCall::Wait2(KskRoll | CskRoll) => {
             &[RemoveCdsRrset, UpdateDnskeyRrset, WaitDnskeyPropagated]
         }
-        Call::Wait2(KskDoubleDsRoll) => &[CreateCdsRrset, UpdateDsRrset, WaitDsPropagated],
-        Call::Wait2(ZskRoll) => &[UpdateDnskeyRrset, WaitDnskeyPropagated],
-        Call::Wait2(AlgorithmRoll) => &[
+        CourseCall::Wait2(KskDoubleDsRoll) => &[CreateCdsRrset, UpdateDsRrset, WaitDsPropagated],
+        CourseCall::Wait2(ZskRoll) => &[UpdateDnskeyRrset, WaitDnskeyPropagated],
+        CourseCall::Wait2(AlgorithmRoll) => &[
             RemoveCdsRrset,
             UpdateDnskeyRrset,
             UpdateRrsig,
             WaitDnskeyPropagated,
             WaitRrsigPropagated,
         ],
-        Call::Abort(KskRoll | ZskRoll | CskRoll) => &[UpdateDnskeyRrset, WaitDnskeyPropagated],
-        Call::Abort(KskDoubleDsRoll) => &[CreateCdsRrset, UpdateDsRrset, WaitDsPropagated],
-        Call::Abort(ZskDoubleSignatureRoll | AlgorithmRoll) => &[
+        CourseCall::Abort(KskRoll | ZskRoll | CskRoll) => &[
+            UpdateDnskeyRrset,
+            WaitDnskeyPropagated,
+        ],
+        CourseCall::Abort(KskDoubleDsRoll) => &[CreateCdsRrset, UpdateDsRrset, WaitDsPropagated],
+        CourseCall::Abort(ZskDoubleSignatureRoll | AlgorithmRoll) => &[
             UpdateDnskeyRrset,
             UpdateRrsig,
             WaitDnskeyPropagated,

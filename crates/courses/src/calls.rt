@@ -2,7 +2,7 @@
 use crate::asked::asked_after;
 use crate::look::{Seen, at, look};
 use crate::mismatch::Trouble;
-use crate::steps::{Call, Kind, Memory, Names, Told};
+use crate::steps::{CourseCall, Kind, Memory, Names, Told};
 use dnssec_base::SecurityAlgorithm;
 use dnssec_keyset::{Action, Available, Error, KeySet, RollType, UnixTime};
 use std::alloc::{AllocError, Global};
@@ -13,7 +13,7 @@ use std::alloc::{AllocError, Global};
 pub(crate) fn make(
     alloc: Global,
     set: &mut KeySet,
-    call: Call,
+    call: CourseCall,
     now: u64,
     memory: &mut Memory,
 ) -> Result<Told, Trouble> {
@@ -37,7 +37,7 @@ pub(crate) fn make(
 }
 
 /// A call that was refused for lack of memory takes some, and has changed nothing.
-fn check_refusal(set: &KeySet, call: Call, before: &Seen) -> Result<(), Trouble> {
+fn check_refusal(set: &KeySet, call: CourseCall, before: &Seen) -> Result<(), Trouble> {
     if takes_memory(call) {
         check_same(set, before)
     } else {
@@ -53,7 +53,7 @@ fn check_same(set: &KeySet, before: &Seen) -> Result<(), Trouble> {
     }
 }
 
-fn check_asked(actions: &[Action], call: Call) -> Result<(), Trouble> {
+fn check_asked(actions: &[Action], call: CourseCall) -> Result<(), Trouble> {
     if actions == asked_after(call) {
         Ok(())
     } else {
@@ -62,7 +62,7 @@ fn check_asked(actions: &[Action], call: Call) -> Result<(), Trouble> {
 }
 
 /// After an accepted call of a roll `actions` tells what it asked.
-fn check_told_again(set: &KeySet, call: Call, memory: &mut Memory) -> Result<(), Trouble> {
+fn check_told_again(set: &KeySet, call: CourseCall, memory: &mut Memory) -> Result<(), Trouble> {
     let Some(roll) = roll_of(call) else {
         return Ok(());
     };
@@ -82,9 +82,9 @@ fn check_told_again(set: &KeySet, call: Call, memory: &mut Memory) -> Result<(),
 
 /// The actions due while the roll of an accepted call stands where it is then. A roll that was
 /// ended early stands nowhere.
-fn due_after(call: Call) -> &'static [Action] {
+fn due_after(call: CourseCall) -> &'static [Action] {
     match call {
-        Call::Abort(_) => &[],
+        CourseCall::Abort(_) => &[],
         _ => asked_after(call),
     }
 }
@@ -96,23 +96,23 @@ fn as_told(error: Error) -> Told {
     }
 }
 
-fn takes_memory(call: Call) -> bool {
+fn takes_memory(call: CourseCall) -> bool {
     match call {
-        Call::Add(..) | Call::Start(..) | Call::Abort(_) => true,
-        Call::Wait1(_) | Call::Wait2(_) => !asked_after(call).is_empty(),
+        CourseCall::Add(..) | CourseCall::Start(..) | CourseCall::Abort(_) => true,
+        CourseCall::Wait1(_) | CourseCall::Wait2(_) => !asked_after(call).is_empty(),
         _ => false,
     }
 }
 
-fn roll_of(call: Call) -> Option<RollType> {
+fn roll_of(call: CourseCall) -> Option<RollType> {
     match call {
-        Call::Start(roll, _, _)
-        | Call::Report1(roll, _)
-        | Call::Wait1(roll)
-        | Call::Report2(roll, _)
-        | Call::Wait2(roll)
-        | Call::Finish(roll)
-        | Call::Abort(roll) => Some(roll),
+        CourseCall::Start(roll, _, _)
+        | CourseCall::Report1(roll, _)
+        | CourseCall::Wait1(roll)
+        | CourseCall::Report2(roll, _)
+        | CourseCall::Wait2(roll)
+        | CourseCall::Finish(roll)
+        | CourseCall::Abort(roll) => Some(roll),
         _ => None,
     }
 }
@@ -121,17 +121,17 @@ fn roll_of(call: Call) -> Option<RollType> {
 fn attempt(
     alloc: Global,
     set: &mut KeySet,
-    call: Call,
+    call: CourseCall,
     now: &UnixTime,
 ) -> Result<Vec<Action>, Error> {
     match call {
-        Call::Start(roll, old, new) => start(alloc, set, roll, old, new, now),
-        Call::Report1(roll, ttl) => set.propagation1_complete(roll, ttl, now),
-        Call::Wait1(roll) => set.cache_expired1(roll, now),
-        Call::Report2(roll, ttl) => set.propagation2_complete(roll, ttl, now),
-        Call::Wait2(roll) => set.cache_expired2(roll, now),
-        Call::Finish(roll) => set.roll_done(roll),
-        Call::Abort(roll) => set.abort_roll(roll),
+        CourseCall::Start(roll, old, new) => start(alloc, set, roll, old, new, now),
+        CourseCall::Report1(roll, ttl) => set.propagation1_complete(roll, ttl, now),
+        CourseCall::Wait1(roll) => set.cache_expired1(roll, now),
+        CourseCall::Report2(roll, ttl) => set.propagation2_complete(roll, ttl, now),
+        CourseCall::Wait2(roll) => set.cache_expired2(roll, now),
+        CourseCall::Finish(roll) => set.roll_done(roll),
+        CourseCall::Abort(roll) => set.abort_roll(roll),
         _ => match attempt_on_key(alloc, set, call, now) {
             Ok(()) => Ok(Vec::new(alloc)),
             Err(error) => Err(error),
@@ -147,10 +147,10 @@ fn start(
     new: Names,
     now: &UnixTime,
 ) -> Result<Vec<Action>, Error> {
-    let Ok(old) = listed(alloc, old) else {
+    let Ok(old) = references(alloc, old) else {
         return Err(Error::OutOfMemory);
     };
-    let Ok(new) = listed(alloc, new) else {
+    let Ok(new) = references(alloc, new) else {
         return Err(Error::OutOfMemory);
     };
     set.start_roll(roll, old.as_slice(), new.as_slice(), now)
@@ -160,25 +160,25 @@ fn start(
 fn attempt_on_key(
     alloc: Global,
     set: &mut KeySet,
-    call: Call,
+    call: CourseCall,
     now: &UnixTime,
 ) -> Result<(), Error> {
     match call {
-        Call::Add(kind, reference, tag, algorithm) => {
+        CourseCall::Add(kind, reference, tag, algorithm) => {
             add(alloc, set, kind, reference, tag, algorithm, *now)
         }
-        Call::Delete(reference) => set.delete_key(reference),
+        CourseCall::Delete(reference) => set.delete_key(reference),
         _ => attempt_to_set(set, call, now),
     }
 }
 
-fn attempt_to_set(set: &mut KeySet, call: Call, now: &UnixTime) -> Result<(), Error> {
+fn attempt_to_set(set: &mut KeySet, call: CourseCall, now: &UnixTime) -> Result<(), Error> {
     match call {
-        Call::SetPresent(reference, value) => set.set_present(reference, value, now),
-        Call::SetSigner(reference, value) => set.set_signer(reference, value),
-        Call::SetAtParent(reference, value) => set.set_at_parent(reference, value),
-        Call::SetStale(reference) => set.set_stale(reference),
-        Call::SetVisible(reference) => set.set_visible(reference, *now),
+        CourseCall::SetPresent(reference, value) => set.set_present(reference, value, now),
+        CourseCall::SetSigner(reference, value) => set.set_signer(reference, value),
+        CourseCall::SetAtParent(reference, value) => set.set_at_parent(reference, value),
+        CourseCall::SetStale(reference) => set.set_stale(reference),
+        CourseCall::SetVisible(reference) => set.set_visible(reference, *now),
         _ => Ok(()),
     }
 }
@@ -214,8 +214,8 @@ fn text(alloc: Global, text: &str) -> Result<String, AllocError> {
     }
 }
 
-/// The names of a list, where at most one request for memory is refused.
-fn listed(alloc: Global, names: Names) -> Result<Vec<&'static str>, AllocError> {
+/// The references of a list, where at most one request for memory is refused.
+fn references(alloc: Global, names: Names) -> Result<Vec<&'static str>, AllocError> {
     let list = names.split(',').filter(|name| *name != "-");
     match list.collect(alloc) {
         Ok(list) => Ok(list),

@@ -17,5 +17,7 @@ mod walking;
 pub use asked::asked_after;
 pub use look::{SeenKey, are_alike, see_key};
 pub use mismatch::{Mismatch, Trouble};
-pub use steps::{Call, Course, Kind, Memory, NEVER, NOTHING, Names, Published, SAME, Step, Told};
+pub use steps::{
+    Course, CourseCall, Kind, Memory, NEVER, NOTHING, Names, Published, SAME, Step, Told,
+};
 pub use walking::{go_on, new_set, walk, walk_all};

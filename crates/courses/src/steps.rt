@@ -28,7 +28,7 @@ pub const NEVER: u64 = u64::MAX;
 #[derive(Clone, Copy)]
 pub enum Step {
     /// At a moment in seconds a call is made, it is told so, and this is published then.
-    At(u64, Call, Told, Published),
+    At(u64, CourseCall, Told, Published),
     /// The text of the state of a key that has one role.
     Shown(&'static str, &'static str),
     /// The second at which the wait of a roll is over, or none.
@@ -46,7 +46,7 @@ pub enum Kind {
 
 /// What an operator does, at the moment of its step.
 #[derive(Clone, Copy)]
-pub enum Call {
+pub enum CourseCall {
     /// Adds a key by its reference, its tag and its algorithm. Its private reference is the same
     /// text. It may come in by a roll.
     Add(Kind, &'static str, u16, u8),

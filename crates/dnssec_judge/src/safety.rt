@@ -1,9 +1,10 @@
 //! What makes a record safe, as tests: what a report retires and when, and whether sets have a
 //! chain.
-ghost use Rattle.std.specs.Prelude.{◌≡◌, ◌+◌, ◌*◌, map, max, nat_lt, not, true, unwrap_or};
+ghost use Rattle.std.specs.Prelude.{◌≡◌, ◌+◌, ◌*◌, ◌<◌, ◌≤◌, length, map, max};
+ghost use Rattle.std.specs.Prelude.{nat_lt, not, true, false, unwrap_or};
 ghost use Rattle.dnssec_run.specs.Published.{id_of};
 ghost use Rattle.dnssec_run.specs.Safe.{retires};
-ghost use Rattle.dnssec_judge.specs.Inner.Chained.{is_in, trusts_keys, trusts_zone};
+ghost use Rattle.dnssec_judge.specs.Inner.Chained.{IsInOrder, is_in, trusts_keys, trusts_zone};
 ghost use Rattle.dnssec_judge.specs.Inner.Search.{kind_of};
 
 use dnssec_keyset::{RollType, UnixTime};
@@ -72,7 +73,10 @@ fn is_in(keys: &[PublishedKey], key: &PublishedKey) -> bool
 /// Whether a search in a list that is in the order of its references finds the key. A short one is
 /// sooner looked through.
 fn is_at_its_place(keys: &[PublishedKey], key: &PublishedKey) -> bool
-    ensures { result ≡ true → is_in (map id_of keys.now) (id_of key.now) ≡ true }
+    ensures short { length keys.now ≤ 8 → result ≡ false }
+    ensures sorted { 8 < length keys.now → IsInOrder keys.now →
+        result ≡ is_in (map id_of keys.now) (id_of key.now) }
+    ensures found { result ≡ true → is_in (map id_of keys.now) (id_of key.now) ≡ true }
 {
     if keys.len() <= SHORT {
         return false;

@@ -11,6 +11,7 @@ use Rattle.dnssec_key.specs.declared.roll.RollType.{RollType}
 use Rattle.dnssec_key.specs.declared.roll.RollState.{RollState}
 use Rattle.std.specs.FinMap.{find, get, insert, remove, entries, get-entries, get-from_entries}
 use Rattle.std.specs.FinMap.{get-insert, get-remove}
+use Rattle.std.proofs.lemmas.Iterator.Adapters.{option_map_id}
 use Rattle.std.proofs.lemmas.Map.Text.{is_eq-slice_cmp}
 use Rattle.dnssec_key.specs.Key.{KeyParts}
 use Rattle.dnssec_zone.specs.Keys.{Keys}
@@ -91,11 +92,7 @@ module _ (old new : KeySetParts) where
 
   kept : (keys : Keys) → ((q : List ℕ) → get keys q ≡ option_map (λ k. k) (get old.keys q)) → keys
       ≡ old.keys
-  kept keys h = same_keys _ _ (λ q. h q ∙ itself (get old.keys q))
-    where
-      itself : (o : Option KeyParts) → option_map (λ k. k) o ≡ o
-      itself None = refl
-      itself (Some k) = refl
+  kept keys h = same_keys _ _ (λ q. h q ∙ option_map_id (get old.keys q))
 
   -- the set afterwards
   pub changes-after : (call : Call) → Changes old call new → new ≡ after call old
@@ -151,13 +148,8 @@ module _ (old : KeySetParts) where
     name = refl;
     rolls = refl;
     lists = refl;
-    keys =
-        λ q. same (get old.keys q);
+    keys = λ q. sym (option_map_id (get old.keys q));
   }
-    where
-      same : (o : Option KeyParts) → o ≡ option_map (λ k. k) o
-      same None = refl
-      same (Some k) = refl
 
 -- ---- the set after an allowed step
 

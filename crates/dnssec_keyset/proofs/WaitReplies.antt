@@ -22,8 +22,8 @@ use Rattle.dnssec_zone.specs.Wait.{IsOverFrom, LacksStamp}
 use Rattle.dnssec_keyset.specs.Step.{AnswersWait, wait_clearance}
 use Rattle.dnssec_keyset.specs.WaitEnd.{HasNoWait}
 use Rattle.dnssec_key.specs.declared.roll.RollState.{RollState}
-use Rattle.dnssec_key.specs.declared.roll.RollState.TheVariants.{Propagation1, CacheExpire1}
-use Rattle.dnssec_key.specs.declared.roll.RollState.TheVariants.{Propagation2, CacheExpire2, Done}
+use Rattle.dnssec_key.specs.declared.roll.RollState.TheVariants.{Propagation1}
+use Rattle.dnssec_key.specs.declared.roll.RollState.TheVariants.{Propagation2, Done}
 
 module _ (T U : Type 0) where
   -- a check that refuses
@@ -95,24 +95,17 @@ no-wait roll set p is lacks half now = at (ttl_in half p) (ap (ttl_in half) is) 
 pub no-wait-half : (roll : RollType) (set : KeySetParts) (half : Half) (ttl : ℕ) →
     phase_of set.rolls roll ≡ Some (cache_expire half ttl)
     → LacksStamp roll half ttl set.keys → HasNoWait roll set
-no-wait-half roll set First ttl is lacks =
-    no-wait roll set (Some (CacheExpire1 ttl)) is (at roll set ttl lacks)
+no-wait-half roll set half ttl is lacks =
+    no-wait roll set (Some (expiring half ttl)) is (at half lacks)
   where
-    at : (roll : RollType) (set : KeySetParts) (ttl : ℕ) → LacksStamp roll First ttl set.keys
-        → (half : Half) (t : ℕ) → ttl_in half (Some (CacheExpire1 ttl)) ≡ Some t →
-        LacksStamp roll half t set.keys
-    at roll set ttl lacks First t e = let same : ttl
-        ≡ t = cc in subst (λ x. LacksStamp roll First x set.keys) same lacks
-    at roll set ttl lacks Second t e = cc
-no-wait-half roll set Second ttl is lacks =
-    no-wait roll set (Some (CacheExpire2 ttl)) is (at roll set ttl lacks)
-  where
-    at : (roll : RollType) (set : KeySetParts) (ttl : ℕ) → LacksStamp roll Second ttl set.keys
-        → (half : Half) (t : ℕ) → ttl_in half (Some (CacheExpire2 ttl)) ≡ Some t →
-        LacksStamp roll half t set.keys
-    at roll set ttl lacks Second t e = let same : ttl
-        ≡ t = cc in subst (λ x. LacksStamp roll Second x set.keys) same lacks
-    at roll set ttl lacks First t e = cc
+    at : (h : Half) → LacksStamp roll h ttl set.keys → (half : Half) (t : ℕ)
+        → ttl_in half (Some (expiring h ttl)) ≡ Some t → LacksStamp roll half t set.keys
+    at First lacks First t e = let same : ttl ≡ t = cc in
+        subst (λ x. LacksStamp roll First x set.keys) same lacks
+    at First lacks Second t e = cc
+    at Second lacks First t e = cc
+    at Second lacks Second t e = let same : ttl ≡ t = cc in
+        subst (λ x. LacksStamp roll Second x set.keys) same lacks
 
 -- the same for a phase without a wait
 pub data IsWithoutWait : Option RollState → Type 0 where

@@ -253,7 +253,7 @@ impl<'a> Fields<'a> {
         ensures { option_map (λ x. (x.0, x.1)) result ≡ word_at self.entry }
     {
         let (name, fields) = self.next()?;
-        Some((Word::named(name)?, fields))
+        Some((Word::from_name(name)?, fields))
     }
 
     /// The next field as a reference.

@@ -96,7 +96,7 @@ const WORDS: [(&str, Word); 20] = [
 
 impl Word {
     /// The word with this name.
-    pub(crate) fn named(name: &[u8]) -> Option<Word>
+    pub(crate) fn from_name(name: &[u8]) -> Option<Word>
         ensures { result ≡ word_named name.now }
     {
         let row = WORDS.iter().find(|row| row.0.as_bytes() == name)?;

@@ -1,7 +1,7 @@
 -- The positions that the recorder keeps go along with each call.
 use Rattle.std.proofs.Common.{◌≡◌, ℕ, Bool, true, false, cond, List, Some, None, refl, sym, ap, ◌∙◌}
-use Rattle.std.proofs.Common.{inl, inr, subst, map}
-use Rattle.std.specs.Prelude.{Option, ◌⊎◌}
+use Rattle.std.proofs.Common.{subst, map}
+use Rattle.std.specs.Prelude.{Option}
 use Rattle.std.specs.Option.{option_map}
 use Rattle.std.specs.Str.{bytes_eq}
 use Rattle.std.specs.FinMap.{get, get-empty}
@@ -34,10 +34,6 @@ use Rattle.dnssec_run.specs.Recorder.{Agrees, HasSameKeys, IsOutcome, TellsOutco
 use Rattle.dnssec_run.specs.Recorder.{reference_deleted}
 use Rattle.dnssec_run.proofs.Positions.{shown-none}
 
-split : (b : Bool) → (b ≡ true) ⊎ (b ≡ false)
-split true = inl refl
-split false = inr refl
-
 -- who is there stays who is there, whatever happens to it
 still : (n : ℕ) (f : KeyParts → KeyParts) (o : Option KeyParts) → option_map (λ (k : KeyParts). n) o
     ≡ option_map (λ (k : KeyParts). n) (option_map f o)
@@ -55,36 +51,26 @@ module _ (n : ℕ) (w : World) (at : List ℕ → Option ℕ)
   moved f o q is = agrees q ∙ still (w.added q) f (get w.set.keys q)
       ∙ ap (option_map (λ k. w.added q)) (sym is)
 
+  -- at a key that is added, or deleted, and at the others
+  added_at : (b : Bool) (key : KeyParts) (q : List ℕ) → cond b (Some n) (at q)
+      ≡ option_map (λ (k : KeyParts). cond b n (w.added q))
+      (cond b (Some key) (get w.set.keys q))
+  added_at true key q = refl
+  added_at false key q = agrees q
+
+  deleted_at : (b : Bool) (q : List ℕ) → cond b None (at q)
+      ≡ option_map (λ (k : KeyParts). w.added q) (cond b None (get w.set.keys q))
+  deleted_at true q = refl
+  deleted_at false q = agrees q
+
   next : (c : keyset.Call) (q : List ℕ) → Next c q
   unfolding Next
-  next (AddKey r key) q =
-      let after_is = (after-changes w.set (AddKey r key)).keys q in
-      elim (split (bytes_eq r q)) [
-        | inl here ↦
-            ap (λ b. cond b (Some n) (at q)) here
-            ∙ sym (ap (λ b. option_map (λ (k : KeyParts). cond b n (w.added q))
-            (cond b (Some key) (get w.set.keys q))) here)
-            ∙ ap (option_map (λ (k : KeyParts). with_added n (Some r) w.added q)) (sym after_is)
-        | inr there ↦
-            ap (λ b. cond b (Some n) (at q)) there ∙ agrees q
-            ∙ sym (ap (λ b. option_map (λ (k : KeyParts). cond b n (w.added q))
-            (cond b (Some key) (get w.set.keys q))) there)
-            ∙ ap (option_map (λ (k : KeyParts). with_added n (Some r) w.added q)) (sym after_is)
-      ]
-  next (DeleteKey r) q =
-      let after_is = (after-changes w.set (DeleteKey r)).keys q in
-      elim (split (bytes_eq r q)) [
-        | inl here ↦
-            ap (λ b. cond b None (at q)) here
-            ∙ sym (ap (λ b. option_map (λ (k : KeyParts). w.added q)
-            (cond b None (get w.set.keys q))) here)
-            ∙ ap (option_map (λ (k : KeyParts). w.added q)) (sym after_is)
-        | inr there ↦
-            ap (λ b. cond b None (at q)) there ∙ agrees q
-            ∙ sym (ap (λ b. option_map (λ (k : KeyParts). w.added q)
-            (cond b None (get w.set.keys q))) there)
-            ∙ ap (option_map (λ (k : KeyParts). w.added q)) (sym after_is)
-      ]
+  next (AddKey r key) q = added_at (bytes_eq r q) key q
+      ∙ ap (option_map (λ (k : KeyParts). with_added n (Some r) w.added q))
+      (sym ((after-changes w.set (AddKey r key)).keys q))
+  next (DeleteKey r) q = deleted_at (bytes_eq r q) q
+      ∙ ap (option_map (λ (k : KeyParts). w.added q))
+      (sym ((after-changes w.set (DeleteKey r)).keys q))
   next (Set r setting) q = moved _ _ q ((after-changes w.set (Set r setting)).keys q)
   next (StartRoll roll olds news now) q =
       moved _ _ q ((after-changes w.set (StartRoll roll olds news now)).keys q)

@@ -1,13 +1,12 @@
 -- A published list has just the keys that its set shows, in their order: for `run` and `changes`.
 use Rattle.std.proofs.Common.{◌≡◌, ℕ, Bool, true, false, cond, List, [], ◌∷◌, map, None, Some, refl}
-use Rattle.std.proofs.Common.{sym, ap, subst, ◌∙◌, inl, inr, string_bytes, ◌++◌, append_assoc}
+use Rattle.std.proofs.Common.{sym, ap, subst, ◌∙◌, string_bytes, ◌++◌, append_assoc}
 use Rattle.std.proofs.Common.{append-nil}
-use Rattle.std.specs.Prelude.{Option, ◌⊎◌, ◌&&◌, T, filter}
+use Rattle.std.specs.Prelude.{Option, ◌&&◌, T, filter}
 use Rattle.std.specs.declared.string.String.{String}
-use Rattle.std.specs.declared.cmp.Ordering.{Ordering}
-use Rattle.std.specs.declared.cmp.Ordering.TheVariants.{Less, Equal, Greater}
+use Rattle.std.specs.declared.cmp.Ordering.TheVariants.{Less}
 use Rattle.std.specs.Ordering.{nat_cmp, is_eq, is_lt}
-use Rattle.std.specs.Cmp.Lexicographic.{slice_cmp, nat_list_cmp_total, bytes_decides}
+use Rattle.std.specs.Cmp.Lexicographic.{slice_cmp, nat_list_cmp_total}
 use Rattle.std.specs.List.{AllByRecursion}
 use Rattle.std.specs.List.Sorted.{IsStrictlySortedBy}
 use Rattle.std.specs.Option.{option_map, option_map_or}
@@ -19,43 +18,17 @@ use Rattle.std.specs.FinMap.{find, get, entries, get-empty, get-entries, entries
 use Rattle.std.specs.FinMap.{slice_cmp-IsAntisymmetric, nat_cmp-IsAntisymmetric}
 use Rattle.std.specs.FinMap.Entries.{below_all, is_sorted, same_entries, find-where_key}
 use Rattle.std.specs.FinMap.Entries.{is_sorted-where_key}
-use Rattle.std.proofs.lemmas.Map.Text.{is_eq-slice_cmp}
 use Rattle.dnssec_key.specs.declared.kind.KeyType.{KeyType}
 use Rattle.dnssec_key.specs.Key.{KeyParts}
 use Rattle.dnssec_keyset.specs.KeySet.{KeySetParts, new_set}
+use Rattle.dnssec_zone.proofs.Quantified.{apart, first, itself, same_key, second}
 use Rattle.dnssec_run.specs.Published.{Id, World, keys_where}
 use Rattle.dnssec_run.specs.Record.{new_world}
 use Rattle.dnssec_run.specs.Recorder.{Agrees, passing, shown_once}
 
-order : List ℕ → List ℕ → Ordering
-order = slice_cmp nat_cmp
-
-split : (b : Bool) → (b ≡ true) ⊎ (b ≡ false)
-split true = inl refl
-split false = inr refl
-
 both : (a b : Bool) → T a → T b → T (a && b)
 both true b p q = q
 both false b p q = absurd p
-
-first : (a b : Bool) → T (a && b) → T a
-first true b h = tt
-first false b h = absurd h
-
-second : (a b : Bool) → T (a && b) → T b
-second true b h = h
-second false b h = absurd h
-
-same_key : (q x : List ℕ) → is_eq (slice_cmp nat_cmp q x) ≡ true → q ≡ x
-same_key q x e = (bytes_decides q x).0 (sym (is_eq-slice_cmp q x) ∙ e)
-
-itself : (q : List ℕ) → is_eq (slice_cmp nat_cmp q q) ≡ true
-itself q = is_eq-slice_cmp q q ∙ (bytes_decides q q).1 refl
-
-not_both : (o : Ordering) → T (is_lt o) → is_eq o ≡ true → ⊥
-not_both Less h e = cc
-not_both Equal h e = h
-not_both Greater h e = h
 
 -- ---- the entries of a tree, by bytes
 
@@ -166,12 +139,8 @@ found_behind : (e : List ℕ × KeyParts) (es xs : List (List ℕ × KeyParts))
 unfolding AreFound
 found_behind e es [] below h = tt
 found_behind e es (x ∷ xs) below h = (
-  elim (split (is_eq (slice_cmp nat_cmp x.0 e.0))) [
-    | inl tied ↦ absurd (not_both (slice_cmp nat_cmp e.0 e.0)
-        (subst (λ k. T (is_lt (slice_cmp nat_cmp e.0 k))) (same_key x.0 e.0 tied) (first _ _ below))
-        (itself e.0))
-    | inr apart ↦ ap (λ b. cond b (Some e.1) (find (slice_cmp nat_cmp) x.0 es)) apart ∙ h.0
-  ],
+  ap (λ b. cond b (Some e.1) (find (slice_cmp nat_cmp) x.0 es)) (apart e.0 x.0 (first _ _ below))
+      ∙ h.0,
   found_behind e es xs (second _ _ below) h.1,
 )
 

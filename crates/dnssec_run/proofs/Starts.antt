@@ -8,7 +8,7 @@ use Rattle.std.proofs.Common.{◌≡◌, ℕ, zero, suc, ◌<◌, ◌≤◌, ◌
 use Rattle.std.proofs.Common.{sym, ◌∙◌, ap, subst, arith, List, length, Option, None, Some}
 use Rattle.std.specs.Prelude.{◌≢◌, slice_get}
 use Rattle.std.proofs.lemmas.Bool.{true≢false, cases_lt, cases_Bool}
-use Rattle.std.proofs.lemmas.Option.{same_Some, none-some, slice_get_cases}
+use Rattle.std.proofs.lemmas.Option.{same_Some, none-some, slice_get_cases, slice_get_within}
 use Rattle.dnssec_key.specs.declared.roll.RollType.{RollType}
 use Rattle.dnssec_key.specs.declared.roll.RollType.TheVariants.{AlgorithmRoll}
 use Rattle.dnssec_key.specs.declared.roll.RollState.{RollState}
@@ -211,10 +211,7 @@ module _ (name : List ℕ) (calls : List Call) (entries : List Entry) (run : IsR
       (alone (set_at n) (call_of s.call) (step_of start_of n roll s).0 roll s.roll_is)))
 
   within : (n : ℕ) (roll : RollType) → DoesAt start_of calls entries n roll → n ≤ length entries
-  within n roll s = elim ((slice_get_cases entries n).1) [
-    | inl x ↦ let lt = x.1 in omega arith
-    | inr x ↦ absurd (none-some _ (sym x.1 ∙ s.entry_is))
-  ]
+  within n roll s = let lt = slice_get_within entries n s.entry s.entry_is in omega arith
 
   pub starts-suffice : IsPlainByStarts name calls entries → IsPlain name calls entries
   starts-suffice plain = record {

@@ -153,7 +153,7 @@ impl<'a> Call<'a> {
     }
 
     /// The reference of the key that the call adds, if any.
-    pub(crate) fn added(&self) -> Option<&str>
+    pub(crate) fn reference_added(&self) -> Option<&str>
         ensures { option_map (λ r. r.now) result ≡ reference_added (call_of self.now) }
     {
         match self {
@@ -166,7 +166,7 @@ impl<'a> Call<'a> {
     }
 
     /// The reference of the key that the call deletes, if any.
-    pub(crate) fn deleted(&self) -> Option<&'a str>
+    pub(crate) fn reference_deleted(&self) -> Option<&'a str>
         ensures { option_map (λ r. r.now) result ≡ reference_deleted (call_of self.now) }
     {
         match self {
@@ -200,7 +200,14 @@ impl<'a> Call<'a> {
                 key_tag,
                 creation_ts,
                 available,
-            } => done(set.add_key_ksk(pubref, privref, algorithm, key_tag, creation_ts, available)),
+            } => reply_done(set.add_key_ksk(
+                pubref,
+                privref,
+                algorithm,
+                key_tag,
+                creation_ts,
+                available,
+            )),
             Call::AddKeyZsk {
                 pubref,
                 privref,
@@ -208,7 +215,14 @@ impl<'a> Call<'a> {
                 key_tag,
                 creation_ts,
                 available,
-            } => done(set.add_key_zsk(pubref, privref, algorithm, key_tag, creation_ts, available)),
+            } => reply_done(set.add_key_zsk(
+                pubref,
+                privref,
+                algorithm,
+                key_tag,
+                creation_ts,
+                available,
+            )),
             Call::AddKeyCsk {
                 pubref,
                 privref,
@@ -216,44 +230,56 @@ impl<'a> Call<'a> {
                 key_tag,
                 creation_ts,
                 available,
-            } => done(set.add_key_csk(pubref, privref, algorithm, key_tag, creation_ts, available)),
+            } => reply_done(set.add_key_csk(
+                pubref,
+                privref,
+                algorithm,
+                key_tag,
+                creation_ts,
+                available,
+            )),
             Call::AddPublicKey {
                 pubref,
                 algorithm,
                 key_tag,
                 creation_ts,
                 available,
-            } => done(set.add_public_key(pubref, algorithm, key_tag, creation_ts, available)),
-            Call::SetDecoupled { pubref, value } => done(set.set_decoupled(pubref, value)),
-            Call::SetPresent { pubref, value, now } => done(set.set_present(pubref, value, &now)),
-            Call::SetSigner { pubref, value } => done(set.set_signer(pubref, value)),
-            Call::SetAtParent { pubref, value } => done(set.set_at_parent(pubref, value)),
-            Call::SetStale { pubref } => done(set.set_stale(pubref)),
-            Call::SetVisible { pubref, time } => done(set.set_visible(pubref, time)),
-            Call::SetDsVisible { pubref, time } => done(set.set_ds_visible(pubref, time)),
-            Call::SetRrsigVisible { pubref, time } => done(set.set_rrsig_visible(pubref, time)),
-            Call::DeleteKey { pubref } => done(set.delete_key(pubref)),
+            } => reply_done(set.add_public_key(pubref, algorithm, key_tag, creation_ts, available)),
+            Call::SetDecoupled { pubref, value } => reply_done(set.set_decoupled(pubref, value)),
+            Call::SetPresent { pubref, value, now } => reply_done(set.set_present(
+                pubref, value, &now,
+            )),
+            Call::SetSigner { pubref, value } => reply_done(set.set_signer(pubref, value)),
+            Call::SetAtParent { pubref, value } => reply_done(set.set_at_parent(pubref, value)),
+            Call::SetStale { pubref } => reply_done(set.set_stale(pubref)),
+            Call::SetVisible { pubref, time } => reply_done(set.set_visible(pubref, time)),
+            Call::SetDsVisible { pubref, time } => reply_done(set.set_ds_visible(pubref, time)),
+            Call::SetRrsigVisible { pubref, time } => reply_done(set.set_rrsig_visible(
+                pubref, time,
+            )),
+            Call::DeleteKey { pubref } => reply_done(set.delete_key(pubref)),
             Call::StartRoll {
                 rolltype,
                 old,
                 new,
                 now,
-            } => listed(set.start_roll(rolltype, old, new, &now)),
+            } => reply_list(set.start_roll(rolltype, old, new, &now)),
             Call::Propagation1Complete { rolltype, ttl, now } => {
-                listed(set.propagation1_complete(rolltype, ttl, &now))
+                reply_list(set.propagation1_complete(rolltype, ttl, &now))
             }
-            Call::CacheExpired1 { rolltype, now } => listed(set.cache_expired1(rolltype, &now)),
+            Call::CacheExpired1 { rolltype, now } => reply_list(set.cache_expired1(rolltype, &now)),
             Call::Propagation2Complete { rolltype, ttl, now } => {
-                listed(set.propagation2_complete(rolltype, ttl, &now))
+                reply_list(set.propagation2_complete(rolltype, ttl, &now))
             }
-            Call::CacheExpired2 { rolltype, now } => listed(set.cache_expired2(rolltype, &now)),
-            Call::RollDone { rolltype } => listed(set.roll_done(rolltype)),
-            Call::AbortRoll { rolltype } => listed(set.abort_roll(rolltype)),
+            Call::CacheExpired2 { rolltype, now } => reply_list(set.cache_expired2(rolltype, &now)),
+            Call::RollDone { rolltype } => reply_list(set.roll_done(rolltype)),
+            Call::AbortRoll { rolltype } => reply_list(set.abort_roll(rolltype)),
         }
     }
 }
 
-fn done(answer: Result<(), Error>) -> Reply
+/// The reply of an add, a setter or a deletion.
+fn reply_done(answer: Result<(), Error>) -> Reply
     ensures { reply_of result ≡ reply_done answer }
 {
     match answer {
@@ -262,7 +288,8 @@ fn done(answer: Result<(), Error>) -> Reply
     }
 }
 
-fn listed(answer: Result<Vec<Action>, Error>) -> Reply
+/// The reply of a call on a roll.
+fn reply_list(answer: Result<Vec<Action>, Error>) -> Reply
     ensures { reply_of result ≡ reply_list answer }
 {
     match answer {

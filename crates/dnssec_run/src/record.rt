@@ -1,5 +1,5 @@
 //! What a run leaves: its entries, with what was published at each position.
-ghost use Rattle.std.specs.Prelude.{◌≡◌, [], true, false};
+ghost use Rattle.std.specs.Prelude.{◌≡◌, ◌↔◌, [], true, false};
 ghost use Rattle.dnssec_run.specs.Asked.{asked_by};
 ghost use Rattle.dnssec_run.specs.Record.{is_accepted};
 
@@ -30,8 +30,8 @@ impl Reply {
     /// Whether the call may have changed what is published: where it was accepted, and sets a flag
     /// by hand or asks to perform an action.
     pub(crate) fn may_publish(&self, sets_flag: bool) -> bool
-        ensures { result ≡ false → is_accepted self.now ≡ true →
-            (sets_flag ≡ false) × (asked_by self.now ≡ []) }
+        ensures { (result ≡ false) ↔ (is_accepted self.now ≡ true →
+            (sets_flag ≡ false) × (asked_by self.now ≡ [])) }
     {
         match self {
             Reply::Done => sets_flag,

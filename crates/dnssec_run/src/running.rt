@@ -59,7 +59,7 @@ fn clone_added(alloc: Global, call: &Call<'_>) -> Result<Option<String>, Error>
         (call_of call.now)) }
     ensures err { IfErr result (λ e. e ≡ OutOfMemory) }
 {
-    match call.added() {
+    match call.reference_added() {
         None => Ok(None),
         Some(reference) => match String::from_str(alloc, reference) {
             Ok(reference) => Ok(Some(reference)),
@@ -88,7 +88,7 @@ fn advance(
     let mark = call.mark();
     let sets_flag = call.sets_flag();
     let put = clone_added(alloc, &call)?;
-    let taken = call.deleted();
+    let taken = call.reference_deleted();
     let reply = call.make(keyset);
     let mark = if reply.is_accepted() {
         note(added, put, taken, at)?;

@@ -6,7 +6,8 @@ ghost use Rattle.std.specs.HashMap as hash;
 ghost use Rattle.std.specs.Option.{option_map};
 ghost use Rattle.dnssec_base.specs.declared.error.Error.TheVariants.{OutOfMemory};
 ghost use Rattle.dnssec_run.specs.Published.{IsPublished, World, id_of};
-ghost use Rattle.dnssec_run.specs.Recorder.{Agrees, AreFound, HasSameKeys, shown_once, shows};
+ghost use Rattle.dnssec_run.specs.Recorder.{Agrees, AreFound, AreInOrder, HasSameKeys, shown_once};
+ghost use Rattle.dnssec_run.specs.Recorder.{shows};
 
 use crate::record::{Published, PublishedKey};
 use dnssec_keyset::{Error, Key, KeySet, KeyType};
@@ -192,7 +193,8 @@ fn kept_or_new(
 
 /// The keys of a set with their references, in the order of these.
 fn in_order(alloc: Global, keys: &HashMap<String, Key>) -> Result<Vec<(&String, &Key)>, Error>
-    ensures ok { IfOk result (λ entries. AreFound (hash.get_by_text keys.now) entries.items) }
+    ensures ok { IfOk result (λ entries. AreInOrder keys.now entries.items) }
+    ensures found { IfOk result (λ entries. AreFound (hash.get_by_text keys.now) entries.items) }
     ensures err { IfErr result (λ e. e ≡ OutOfMemory) }
 {
     let Ok(mut entries) = keys.iter().collect::<Vec<_>>(alloc) else {
@@ -219,9 +221,9 @@ fn key_at<'a>(
     }
 }
 
-/// What is published of a key set, with the positions of its keys: one walk in the order of the
-/// references. What was published before is used again.
-fn published(
+/// Reads what is published of a key set, with the positions of its keys: one walk in the order of
+/// the references. What was published before is used again.
+fn read_sets(
     alloc: Global,
     keyset: &KeySet,
     added: &BTreeMap<String, usize>,
@@ -269,7 +271,7 @@ pub(crate) fn renew(
 {
     if may_publish {
         let before = mem::replace(sets, Published::none(alloc));
-        *sets = published(alloc, keyset, added, before)?;
+        *sets = read_sets(alloc, keyset, added, before)?;
     }
     Ok(())
 }

@@ -1,6 +1,6 @@
 //! What an operator reads of the state of a key: its flags, and the part that such a key plays in a
 //! roll.
-use courses::Call::{Add, SetAtParent, SetPresent, SetSigner, SetStale};
+use courses::CourseCall::{Add, SetAtParent, SetPresent, SetSigner, SetStale};
 use courses::Kind::Ksk;
 use courses::Step::{At, Shown};
 use courses::Told::Accepted;

@@ -1,6 +1,8 @@
 //! When a wait is over, as a tool asks that sleeps until then. Besides, the walk compares the end
 //! of each wait with what waits are told, after each step of every course.
-use courses::Call::{Add, Finish, Report1, Report2, SetPresent, SetVisible, Start, Wait1, Wait2};
+use courses::CourseCall::{
+    Add, Finish, Report1, Report2, SetPresent, SetVisible, Start, Wait1, Wait2,
+};
 use courses::Kind::{Ksk, Zsk};
 use courses::Step::{At, WaitEnds};
 use courses::Told::{Accepted, Refused, Wait};

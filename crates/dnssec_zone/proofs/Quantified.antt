@@ -52,57 +52,7 @@ below_found x q v (e ∷ es) b f = elim (cases_Bool (is_eq (slice_cmp nat_cmp q 
       (sym (ap (λ c. cond c (Some e.1) (find (slice_cmp nat_cmp) q es)) h) ∙ f)
 ]
 
-module _ (p : KeyParts → Bool) where
-  key_found : (es : List (List ℕ × KeyParts)) → T (is_sorted (slice_cmp nat_cmp) es)
-      → list_any p (map (λ e. e.1) es) ≡ true → (q : List ℕ) × (k : KeyParts)
-      × (find (slice_cmp nat_cmp) q es ≡ Some k) × (p k ≡ true)
-  key_found [] s h = cc
-  key_found (e ∷ es) s h = elim (cases_Bool (p e.1)) [
-    | inl passes ↦ (
-      e.0,
-      e.1,
-      ap (λ c. cond c (Some e.1) (find (slice_cmp nat_cmp) e.0 es))
-          (itself e.0),
-      passes,
-    )
-    | inr fails ↦
-        let rest = key_found es (second _ _ s)
-        (sym (ap (λ b. b || list_any p (map (λ (x : List ℕ × KeyParts). x.1) es)) fails) ∙ h) in (
-          rest.0,
-          rest.1,
-          ap (λ c. cond c (Some e.1) (find (slice_cmp nat_cmp) rest.0 es))
-              (apart e.0 rest.0 (below_found e.0 rest.0 rest.1 es (first _ _ s) rest.2))
-              ∙ rest.2,
-          rest.3,
-        )
-  ]
-
-  no_entry : (es : List (List ℕ × KeyParts)) (q : List ℕ) (k : KeyParts)
-      → list_any p (map (λ e. e.1) es) ≡ false → find (slice_cmp nat_cmp) q es ≡ Some k → p k
-      ≡ false
-  no_entry [] q k h f = cc
-  no_entry (e ∷ es) q k h f = elim (cases_Bool (is_eq (slice_cmp nat_cmp q e.0))) [
-    | inl tied ↦
-        let one : Some e.1 ≡ Some k = sym
-        (ap (λ c. cond c (Some e.1) (find (slice_cmp nat_cmp) q es)) tied) ∙ f in
-        let same : e.1 ≡ k = cc in
-        sym (ap p same) ∙ (or_parts _ _ h).0
-    | inr other ↦ no_entry es q k (or_parts _ _ h).1
-        (sym (ap (λ c. cond c (Some e.1) (find (slice_cmp nat_cmp) q es)) other) ∙ f)
-  ]
-
-  -- where some key passes, a look-up finds one
-  pub some_key-found : (keys : Keys) → some_key p keys ≡ true → (q : List ℕ) × (k : KeyParts)
-      × (get keys q ≡ Some k) × (p k ≡ true)
-  some_key-found keys h = let e = key_found (entries keys) (entries_sorted keys) h in
-      (e.0, e.1, get-entries keys e.0 ∙ e.2, e.3)
-
-  -- where no key passes, none that a look-up finds does
-  pub some_key-none : (keys : Keys) (q : List ℕ) (k : KeyParts) → some_key p keys ≡ false
-      → get keys q ≡ Some k → p k ≡ false
-  some_key-none keys q k h f = no_entry (entries keys) q k h (sym (get-entries keys q) ∙ f)
-
--- ---- the same of a test that reads the reference too
+-- ---- a test that reads the reference too
 
 module _ (p : List ℕ → KeyParts → Bool) where
   one_entry : (es : List (List ℕ × KeyParts)) → T (is_sorted (slice_cmp nat_cmp) es)
@@ -151,3 +101,22 @@ module _ (p : List ℕ → KeyParts → Bool) where
   pub some_entry-none : (keys : Keys) (q : List ℕ) (k : KeyParts) → some_entry p keys ≡ false
       → get keys q ≡ Some k → p q k ≡ false
   some_entry-none keys q k h f = none_entry (entries keys) q k h (sym (get-entries keys q) ∙ f)
+
+-- ---- a test of the key alone is one that doesn't read the reference
+
+any_key : (p : KeyParts → Bool) (es : List (List ℕ × KeyParts))
+    → list_any (λ (e : List ℕ × KeyParts). p e.1) es
+    ≡ list_any p (map (λ (e : List ℕ × KeyParts). e.1) es)
+any_key p [] = refl
+any_key p (e ∷ es) = ap (λ b. p e.1 || b) (any_key p es)
+
+module _ (p : KeyParts → Bool) where
+  -- where some key passes, a look-up finds one
+  pub some_key-found : (keys : Keys) → some_key p keys ≡ true → (q : List ℕ) × (k : KeyParts)
+      × (get keys q ≡ Some k) × (p k ≡ true)
+  some_key-found keys h = some_entry-found (λ q. p) keys (any_key p (entries keys) ∙ h)
+
+  -- where no key passes, none that a look-up finds does
+  pub some_key-none : (keys : Keys) (q : List ℕ) (k : KeyParts) → some_key p keys ≡ false
+      → get keys q ≡ Some k → p k ≡ false
+  some_key-none keys q k h = some_entry-none (λ q. p) keys q k (any_key p (entries keys) ∙ h)

@@ -37,16 +37,6 @@ module _ {Y : Type 0} where
     get-keys_shown m q = get-from_entries nat_list_cmp_total (entries_by_bytes m) q
         ∙ find_by_bytes m.entries q
 
-    -- two hash maps that answer alike show one finite map
-    pub keys_shown-same : (m n : HashMap (String Y) KeyParts S) →
-        ((q : List ℕ) → get_by_text m q ≡ get_by_text n q) → keys_in_map m ≡ keys_in_map n
-    keys_shown-same m n same =
-        same_keys _ _ (λ q. get-keys_shown m q ∙ same q ∙ sym (get-keys_shown n q))
-      where
-        same_keys : (a b : Keys) → ((q : List ℕ) → fin.get a q ≡ fin.get b q) → a ≡ b
-        same_keys a b h =
-            same_map nat_list_cmp_total (slice_cmp-IsAntisymmetric nat_cmp-IsAntisymmetric) a b h
-
 -- maps that answer alike are equal
 pub same_keys : (a b : Keys) → ((q : List ℕ) → fin.get a q ≡ fin.get b q) → a ≡ b
 same_keys a b h = same_map nat_list_cmp_total (slice_cmp-IsAntisymmetric nat_cmp-IsAntisymmetric)

@@ -107,5 +107,3 @@ module _ {Y : Type 0} where
 pub some_key-view : (p : KeyParts → Bool) (i : Inside) (v : Keys) → the_view i ≡ v →
     IsUnique string_eq i.map → some_key p v ≡ list_any p (values i.map)
 some_key-view p i v e unique = sym (ap (some_key p) e) ∙ some_key-shown p i.map unique
-
-pub ruleset walked = (some_key-view, some_key-shown)

@@ -1,7 +1,7 @@
 //! Copies of keys and of key sets.
 use crate::rolls::{FIRST_KEYS, FIRST_ROLL_GOES_ON, REPORTED, STARTED, TURNED_BACK};
 use crate::wrong::Wrong;
-use courses::Call::Add;
+use courses::CourseCall::Add;
 use courses::Kind::Ksk;
 use courses::Step::At;
 use courses::Told::Accepted;

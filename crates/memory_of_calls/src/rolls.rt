@@ -1,6 +1,6 @@
 //! The rolls of a zone.
 use crate::wrong::Wrong;
-use courses::Call::{
+use courses::CourseCall::{
     Abort, Add, Delete, Finish, Report1, Report2, SetPresent, Start, Wait1, Wait2,
 };
 use courses::Kind::{Csk, Ksk, Public, Zsk};

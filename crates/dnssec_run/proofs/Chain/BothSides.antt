@@ -77,16 +77,18 @@ map_less : (p : KeyType → Bool) (f : Key → Key) → ((k : Key) → p (f k).k
 map_less p f h None e = e
 map_less p f h (Some k) e = sym (h k) ∙ e
 
+-- where a key is in use on the side of keys, DS records have been published
+pub born : (tale : Tale) (n : ℕ) → n ≤ length tale.es → Alive tale Keys n → NoDs tale.es n → ⊥
+born tale n le a d =
+    let c : Contains (position_at tale.es n).ds a.0 =
+    shows_ds tale n le a.0
+    (some_weaker (in_use Keys) in_ds (λ k e. (and_parts (in_keys Keys k) (in_other Keys k) e).1)
+    (found (world_at tale n) a.0) a.1) in
+    not_in_empty a.0 (subst (λ l. Contains l a.0) (d n (omega arith)) c)
+
 -- ---- one step
 
 module _ (tale : Tale) (n : ℕ) (here : suc n ≤ length tale.es) where
-  pub born : Alive tale Keys n → NoDs tale.es n → ⊥
-  born a d = let c : Contains (position_at tale.es n).ds a.0 =
-      shows_ds tale n (omega arith) a.0
-      (some_weaker (in_use Keys) in_ds (λ k e. (and_parts (in_keys Keys k) (in_other Keys k) e).1)
-      (found (world_at tale n) a.0) a.1) in
-      not_in_empty a.0 (subst (λ l. Contains l a.0) (d n (omega arith)) c)
-
   pub unpassed-next : (PassesAt tale n → ⊥) → Unpassed tale n → Unpassed tale (suc n)
   unpassed-next none h m lt s = elim (cases_lt m n) [
     | inl before ↦ h m before s

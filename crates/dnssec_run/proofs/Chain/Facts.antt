@@ -259,12 +259,7 @@ timer CskRoll = Zone
 timer _ = Keys
 
 pub timer-affects : (r : RollType) → affects (timer r) r ≡ true
-timer-affects KskRoll = refl
-timer-affects KskDoubleDsRoll = refl
-timer-affects ZskRoll = refl
-timer-affects ZskDoubleSignatureRoll = refl
-timer-affects CskRoll = refl
-timer-affects AlgorithmRoll = refl
+timer-affects r = each_roll-at (λ r. affects (timer r) r) refl r
 
 stays_start_table : RollType → Bool → Bool → KeyType → Bool
 stays_start_table r o i k = (may_start r o i k && fits (timer r) Quiet k

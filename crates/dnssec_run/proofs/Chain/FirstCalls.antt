@@ -1,7 +1,7 @@
 -- A start and a first wait keep the invariant of both sides.
 use Rattle.std.proofs.Common.{◌≡◌, ◌&&◌, ℕ, suc, ◌≤◌, ◌⊎◌, inl, inr, Bool, true, false, refl, sym}
-use Rattle.std.proofs.Common.{◌∙◌, ap, subst, List, length, Option, None, Some}
-use Rattle.std.proofs.lemmas.Bool.{true≢false}
+use Rattle.std.proofs.Common.{◌∙◌, ap, subst, arith, List, length, Option, None, Some}
+use Rattle.std.proofs.lemmas.Bool.{true≢false, true_from_ne_false}
 use Rattle.std.proofs.lemmas.Option.{none-some}
 use Rattle.dnssec_key.specs.declared.roll.RollType.{RollType}
 use Rattle.dnssec_key.specs.declared.roll.RollType.TheVariants.{AlgorithmRoll}
@@ -44,6 +44,14 @@ abbrev pub Moved : Tale → SideOf → RollType → Stage → Stage → ℕ → 
 Moved tale sd r st to n = (st' : Stage) × At tale sd st' (suc n) × (affects sd r ≡ true → st' ≡ to)
     × (affects sd r ≡ false → st' ≡ st)
 
+-- a side that the roll takes on, and one that it leaves where it is
+module _ (tale : Tale) (n : ℕ) (sd : SideOf) (r : RollType) (st to : Stage) where
+  pub goes-on : affects sd r ≡ true → At tale sd to (suc n) → Moved tale sd r st to n
+  goes-on own h = (to, h, λ e. refl, λ e. absurd (true≢false (sym own ∙ e)))
+
+  pub stays-put : affects sd r ≡ false → At tale sd st (suc n) → Moved tale sd r st to n
+  stays-put out h = (st, h, λ e. absurd (true≢false (sym e ∙ out)), λ e. refl)
+
 module _ (tale : Tale) (n : ℕ) (here : suc n ≤ length tale.es) where
   -- a start
   module _ (r : RollType) (now : ℕ) (old new : List (List ℕ))
@@ -76,26 +84,22 @@ module _ (tale : Tale) (n : ℕ) (here : suc n ≤ length tale.es) where
         by : (b : Bool) → affects sd r ≡ b → (moved : Moved tale sd r st (Early r) n)
             × (Alive tale sd n → Alive tale sd (suc n))
         by true own = let q = quiet_now sd st own h in (
-          (
-            Early r,
-            at-start tale n here sd r own now old new m can mark olds news tied life q,
-            λ e. refl,
-            λ e. absurd (true≢false (sym own ∙ e)),
-          ),
+          goes-on tale n sd r st (Early r) own
+              (at-start tale n here sd r own now old new m can mark olds news tied life q),
           alive-start tale n here sd r own
               now old new m can mark olds news tied q,
         )
         by false out = let g = gentle-start tale n sd st h.rolls h.flags dead (lists sd out) r now
             old new out m (may_at r (world_at tale n) old new can) mark in (
-              (
-                st,
-                at-gentle tale n here sd st g h,
-                λ e. absurd (true≢false (sym e ∙ out)),
-                λ e.
-                    refl,
-              ),
+              stays-put tale n sd r st (Early r) out (at-gentle tale n here sd st g h),
               alive-gentle tale n here sd st g,
             )
+
+    -- the rolls in progress go together with it
+    beside : (q : RollType) (x : RollState) → (world_at tale n).roll q ≡ Some x
+        → tolerates r q ≡ true
+    beside q x e = true_from_ne_false (tolerates r q)
+        (λ f. none-some x (sym (can.alone q f) ∙ e))
 
     start_pairs : Pairs tale n → Pairs tale (suc n)
     start_pairs h a b x y ax by d = at_a (same_roll r a) refl
@@ -105,43 +109,27 @@ module _ (tale : Tale) (n : ℕ) (here : suc n ≤ length tale.es) where
         was q x t e = sym (put-other (world_at tale n).roll r (Some Propagation1) q t)
             ∙ sym (m.rolls q) ∙ e
 
-        alone : (q : RollType) (x : RollState) → (world_at tale n).roll q ≡ Some x → tolerates r q
-            ≡ true
-        alone q x e = at_tol (tolerates r q) refl
-          where
-            at_tol : (t : Bool) → tolerates r q ≡ t → t ≡ true
-            at_tol true f = refl
-            at_tol false f = absurd (none-some x (sym (can.alone q f) ∙ e))
-
         at_a : (t : Bool) → same_roll r a ≡ t → tolerates a b ≡ true
         at_a true t = let eq = same-is r a t in
             subst (λ a. tolerates a b ≡ true) eq
-            (alone b y (was b y (ap (λ a. same_roll a b) eq ∙ d) by))
+            (beside b y (was b y (ap (λ a. same_roll a b) eq ∙ d) by))
         at_a false t = at_b (same_roll r b) refl
           where
             at_b : (u : Bool) → same_roll r b ≡ u → tolerates a b ≡ true
             at_b true u = let eq = same-is r b u in tolerates-sym a b
-                ∙ subst (λ b. tolerates b a ≡ true) eq (alone a x (was a x t ax))
+                ∙ subst (λ b. tolerates b a ≡ true) eq (beside a x (was a x t ax))
             at_b false u = h a b x y (was a x t ax) (was b y u by) d
 
     start_phases : Inv tale n → Phases tale (suc n)
     start_phases h = phases-on tale n here r Propagation1 m.rolls
         (reads-start tale n r now old new m can (timer_flags (timer r) (timer-affects r)))
-        (λ q x e d. aside-start tale n r now old new q m can (alone q x e)
+        (λ q x e d. aside-start tale n r now old new q m can (beside q x e)
         (step_other tale n here r q d mark)) h.phases
       where
         timer_flags : (sd : SideOf) → affects sd r ≡ true → (id : Id)
             → all_ok (fits sd Quiet) (found (world_at tale n) id) ≡ true
         timer_flags Keys own = (quiet_now Keys h.ks own h.keys).flags
         timer_flags Zone own = (quiet_now Zone h.zs own h.zone).flags
-
-        alone : (q : RollType) (x : RollState) → (world_at tale n).roll q ≡ Some x → tolerates r q
-            ≡ true
-        alone q x e = at_tol (tolerates r q) refl
-          where
-            at_tol : (t : Bool) → tolerates r q ≡ t → t ≡ true
-            at_tol true f = refl
-            at_tol false f = absurd (none-some x (sym (can.alone q f) ∙ e))
 
     -- from no DS at all
     start_unborn : needs_algorithm_roll r ≡ false → Unpassed tale (suc n) → NoDs tale.es n
@@ -181,7 +169,7 @@ module _ (tale : Tale) (n : ℕ) (here : suc n ≤ length tale.es) where
     start starts none h = elim (h.life) [
       | inl a ↦
           let dead = λ (d : NoDs tale.es n). absurd {A = NoDs tale.es (suc n)}
-          (born tale n here a.0 d) in
+          (born tale n (omega arith) a.0 d) in
           let x = start_side (ties h) Keys h.ks h.keys dead (inr a.0) in
           let y = start_side (ties h) Zone h.zs h.zone dead (inr a.1) in
           record {
@@ -236,27 +224,15 @@ module _ (tale : Tale) (n : ℕ) (here : suc n ≤ length tale.es) where
             let e = subst (λ s. At tale sd s n) (early_stage sd st own h) h in
             let p = phases r (CacheExpire1 ttl) phase in
             let g = gone tale n r false ttl now (timed_first r) p.0 p.1 over moment in (
-              (
-                Late r,
-                at-wait1 tale n here sd r own now m mark g (first-retires sd r own)
-                    (second-retires sd r own) (life own) e,
-                λ e. refl,
-                λ f. absurd
-                    (true≢false (sym own ∙ f)),
-              ),
+              goes-on tale n sd r st (Late r) own (at-wait1 tale n here sd r own now m mark g
+                  (first-retires sd r own) (second-retires sd r own) (life own) e),
               λ f. alive-wait1 tale n here sd r own now m mark g (first-retires sd r own)
                   (second-retires sd r own) e,
               λ f. absurd (true≢false (sym own ∙ f)),
             )
         by false out = let g = gentle-wait1 tale n sd st h.rolls h.flags (dead out) (lists sd) r now
             out m mark in (
-              (
-                st,
-                at-gentle tale n here sd st g h,
-                λ e. absurd (true≢false (sym e ∙ out)),
-                λ e.
-                    refl,
-              ),
+              stays-put tale n sd r st (Late r) out (at-gentle tale n here sd st g h),
               λ e. absurd (true≢false (sym e ∙ out)),
               λ e. alive-gentle tale n here sd st
                   g,
@@ -333,7 +309,7 @@ module _ (tale : Tale) (n : ℕ) (here : suc n ≤ length tale.es) where
     wait1 only h = elim (h.life) [
       | inl a ↦
           let dead = λ (d : NoDs tale.es n). absurd {A = NoDs tale.es (suc n)}
-          (born tale n here a.0 d) in
+          (born tale n (omega arith) a.0 d) in
           let x = wait1_side Keys h.ks h.phases h.keys (λ _. dead) (λ own w. inl a.0) in
           let y = wait1_side Zone h.zs h.phases h.zone (λ _. dead) (λ own w. inl a.1) in
           record {

@@ -1,13 +1,11 @@
 -- Positions of a record: time, retirement, bases; and the side of the key chain.
-use Rattle.std.proofs.Common.{[], ◌≡◌, ℕ, zero, suc, ◌≤◌, ◌⊎◌, inl, inr, true, false, refl, sym}
-use Rattle.std.proofs.Common.{subst, arith, List, ◌∷◌, Some}
+use Rattle.std.proofs.Common.{[], ◌≡◌, ℕ, zero, suc, ◌≤◌, ◌⊎◌, inl, inr, refl, sym}
+use Rattle.std.proofs.Common.{Bool, true, false, ◌&&◌, subst, arith, List, ◌∷◌, Some}
 use Rattle.std.specs.List.{Contains}
-use Rattle.std.proofs.lemmas.Bool.{cases_lt, true≢false}
+use Rattle.std.proofs.lemmas.Bool.{and_parts, cases_lt}
 use Rattle.dnssec_key.specs.declared.roll.RollType.{RollType}
-use Rattle.dnssec_key.specs.declared.roll.RollType.TheVariants.{KskRoll, KskDoubleDsRoll}
-use Rattle.dnssec_key.specs.declared.roll.RollType.TheVariants.{ZskRoll, ZskDoubleSignatureRoll}
-use Rattle.dnssec_key.specs.declared.roll.RollType.TheVariants.{CskRoll, AlgorithmRoll}
 use Rattle.dnssec_zone.proofs.Flags.{SideOf, Keys, Zone, affects}
+use Rattle.dnssec_zone.proofs.Tests.{each_roll, each_roll-at, mp, ◌⇒◌}
 use Rattle.dnssec_run.specs.declared.record.Entry.{Entry}
 use Rattle.dnssec_run.specs.Published.{Id}
 use Rattle.dnssec_run.specs.Safe.{SetKind, Ds, Dnskey, ZoneSigners, position_at, base_below}
@@ -72,36 +70,30 @@ Serving Zone es Ds q k = Unit {0}
 Serving Zone es Dnskey q k = Contains (position_at es q).dnskey k
 Serving Zone es ZoneSigners q k = Contains (position_at es q).zone k
 
+-- where the second set changes at the first wait, the second report retires it; else the first does
+retires_table : SideOf → RollType → Bool
+retires_table sd r = affects sd r
+    ⇒ (retires r false (first_kind sd r) && retires r (switches sd r) (second_kind sd r))
+
+retires_all : (sd : SideOf) → each_roll (retires_table sd) ≡ true
+unfolding retires_table
+retires_all Keys = refl
+retires_all Zone = refl
+
+both_retire : (sd : SideOf) (r : RollType) → affects sd r ≡ true
+    → (retires r false (first_kind sd r) ≡ true)
+    × (retires r (switches sd r) (second_kind sd r) ≡ true)
+unfolding retires_table
+both_retire sd r own = and_parts _ _
+    (mp _ _ (each_roll-at (retires_table sd) (retires_all sd) r) own)
+
 pub first-retires : (sd : SideOf) (r : RollType) → affects sd r ≡ true
     → retires r false (first_kind sd r) ≡ true
-first-retires Keys KskRoll e = refl
-first-retires Keys KskDoubleDsRoll e = refl
-first-retires Keys ZskRoll e = absurd (true≢false (sym e))
-first-retires Keys ZskDoubleSignatureRoll e = absurd (true≢false (sym e))
-first-retires Keys CskRoll e = refl
-first-retires Keys AlgorithmRoll e = refl
-first-retires Zone KskRoll e = absurd (true≢false (sym e))
-first-retires Zone KskDoubleDsRoll e = absurd (true≢false (sym e))
-first-retires Zone ZskRoll e = refl
-first-retires Zone ZskDoubleSignatureRoll e = refl
-first-retires Zone CskRoll e = refl
-first-retires Zone AlgorithmRoll e = refl
+first-retires sd r own = (both_retire sd r own).0
 
--- where the second set changes at the first wait, the second report retires it; else the first does
 pub second-retires : (sd : SideOf) (r : RollType) → affects sd r ≡ true
     → retires r (switches sd r) (second_kind sd r) ≡ true
-second-retires Keys KskRoll e = refl
-second-retires Keys KskDoubleDsRoll e = refl
-second-retires Keys ZskRoll e = absurd (true≢false (sym e))
-second-retires Keys ZskDoubleSignatureRoll e = absurd (true≢false (sym e))
-second-retires Keys CskRoll e = refl
-second-retires Keys AlgorithmRoll e = refl
-second-retires Zone KskRoll e = absurd (true≢false (sym e))
-second-retires Zone KskDoubleDsRoll e = absurd (true≢false (sym e))
-second-retires Zone ZskRoll e = refl
-second-retires Zone ZskDoubleSignatureRoll e = refl
-second-retires Zone CskRoll e = refl
-second-retires Zone AlgorithmRoll e = refl
+second-retires sd r own = (both_retire sd r own).1
 
 pub nothing_in : {A : Type 0} (xs : List A) → ((x : A) → Contains xs x → ⊥) → xs ≡ []
 nothing_in [] h = refl

@@ -65,23 +65,14 @@ waited2_ds r out k = alike-same _ _
     r) out) k)
 
 pub alone_first : (r : RollType) → tolerates r AlgorithmRoll ≡ false
-alone_first KskRoll = refl
-alone_first KskDoubleDsRoll = refl
-alone_first ZskRoll = refl
-alone_first ZskDoubleSignatureRoll = refl
-alone_first CskRoll = refl
-alone_first AlgorithmRoll = refl
+alone_first r = alike-same _ _
+    (each_roll-at (λ r. alike (tolerates r AlgorithmRoll) false) refl r)
 
 pub tolerates-sym : (r q : RollType) → tolerates r q ≡ tolerates q r
 tolerates-sym r q = apart-sym (side_of r) (side_of q)
 
 pub some_side : (r : RollType) → affects Keys r ≡ false → affects Zone r ≡ true
-some_side KskRoll e = absurd (true≢false e)
-some_side KskDoubleDsRoll e = absurd (true≢false e)
-some_side ZskRoll e = refl
-some_side ZskDoubleSignatureRoll e = refl
-some_side CskRoll e = refl
-some_side AlgorithmRoll e = refl
+some_side r e = or_second _ _ (each_roll-at (λ r. affects Keys r || affects Zone r) refl r) e
 
 switch_table : SideOf → RollType → Bool
 switch_table sd r = (affects sd r && switches sd r) ⇒ timed r true
@@ -107,12 +98,7 @@ first_or CskRoll e = absurd (true≢false e)
 first_or AlgorithmRoll e = inl refl
 
 pub timed_first : (r : RollType) → timed r false ≡ true
-timed_first KskRoll = refl
-timed_first KskDoubleDsRoll = refl
-timed_first ZskRoll = refl
-timed_first ZskDoubleSignatureRoll = refl
-timed_first CskRoll = refl
-timed_first AlgorithmRoll = refl
+timed_first r = each_roll-at (λ r. timed r false) refl r
 
 pub quiet-early : (r : RollType) → Quiet ≡ Early r → ⊥
 quiet-early r e = cc

@@ -4,9 +4,6 @@ use Rattle.std.proofs.Common.{◌&&◌}
 use Rattle.std.specs.Prelude.{if◌then◌else◌}
 use Rattle.std.proofs.lemmas.Bool.{true≢false, not-true}
 use Rattle.dnssec_key.specs.declared.roll.RollType.{RollType}
-use Rattle.dnssec_key.specs.declared.roll.RollType.TheVariants.{KskRoll, KskDoubleDsRoll}
-use Rattle.dnssec_key.specs.declared.roll.RollType.TheVariants.{ZskRoll, ZskDoubleSignatureRoll}
-use Rattle.dnssec_key.specs.declared.roll.RollType.TheVariants.{CskRoll, AlgorithmRoll}
 use Rattle.dnssec_key.specs.declared.roll.RollState.{RollState}
 use Rattle.dnssec_key.specs.declared.roll.RollState.TheVariants.{Propagation1, CacheExpire1}
 use Rattle.dnssec_key.specs.declared.roll.RollState.TheVariants.{Propagation2, CacheExpire2}
@@ -38,12 +35,7 @@ stage_own sd (Early r) = affects sd r
 stage_own sd (Late r) = affects sd r
 
 pub same-same : (r : RollType) → same_roll r r ≡ true
-same-same KskRoll = refl
-same-same KskDoubleDsRoll = refl
-same-same ZskRoll = refl
-same-same ZskDoubleSignatureRoll = refl
-same-same CskRoll = refl
-same-same AlgorithmRoll = refl
+same-same r = each_roll-at (λ r. same_roll r r) refl r
 
 same-table : RollType → RollType → Bool
 same-table r q = alike (same_roll r q) (same_roll q r)

@@ -1,17 +1,14 @@
 -- What a setter of a plain list leaves as it was: all but another signer's key.
 use Rattle.std.proofs.Common.{◌≡◌, ℕ, ◌⊎◌, inl, inr, Bool, true, false, refl, sym, ◌∙◌, ap, List}
-use Rattle.std.proofs.Common.{Option, None, Some}
+use Rattle.std.proofs.Common.{Option, None, Some, not}
 use Rattle.std.specs.Prelude.{if◌then◌else◌}
 use Rattle.std.specs.Str.{bytes_eq}
 use Rattle.std.specs.Cmp.Lexicographic.{bytes_decides}
 use Rattle.std.specs.FinMap.{get}
 use Rattle.std.specs.Option.{option_map}
-use Rattle.std.proofs.lemmas.Bool.{true≢false}
+use Rattle.std.proofs.lemmas.Bool.{true≢false, not-true}
 use Rattle.std.proofs.lemmas.Option.{same_Some}
 use Rattle.dnssec_key.specs.declared.roll.RollType.{RollType}
-use Rattle.dnssec_key.specs.declared.roll.RollType.TheVariants.{KskRoll, KskDoubleDsRoll}
-use Rattle.dnssec_key.specs.declared.roll.RollType.TheVariants.{ZskRoll, ZskDoubleSignatureRoll}
-use Rattle.dnssec_key.specs.declared.roll.RollType.TheVariants.{CskRoll, AlgorithmRoll}
 use Rattle.dnssec_key.specs.declared.kind.KeyType.{KeyType}
 use Rattle.dnssec_key.specs.declared.kind.KeyType.TheVariants.{Ksk, Zsk, Csk, Include}
 use Rattle.dnssec_key.specs.Key.{KeyParts}
@@ -20,6 +17,7 @@ use Rattle.dnssec_key.specs.Setters.{VisibleAt, DsVisibleAt, RrsigVisibleAt, set
 use Rattle.dnssec_key.specs.Setters.{at_each_state, with_present}
 use Rattle.dnssec_keyset.specs.KeySet.{KeySetParts}
 use Rattle.dnssec_zone.proofs.Flags.{SideOf, Keys, Zone, has_role, is_idle, may_list}
+use Rattle.dnssec_zone.proofs.Tests.{each_in_roll, each_in_roll-at, each_key, each_key-at, mp, ◌⇒◌}
 use Rattle.dnssec_run.specs.Plain.{is_another_signers, is_plain_setting}
 use Rattle.dnssec_run.proofs.Chain.Tables.{Stamp, Visible, DsVisible, RrsigVisible}
 use Rattle.dnssec_run.proofs.Chain.Tale.{stamp_of}
@@ -35,22 +33,12 @@ others-role Keys (Include s) e = refl
 others-role Zone (Include s) e = refl
 
 pub others-idle : (k : KeyType) → is_another_signers k ≡ true → is_idle k ≡ true
-others-idle (Ksk s) e = absurd (true≢false (sym e))
-others-idle (Zsk s) e = absurd (true≢false (sym e))
-others-idle (Csk s t) e = absurd (true≢false (sym e))
-others-idle (Include s) e = refl
+others-idle k = mp _ _ (each_key-at (λ k. is_another_signers k ⇒ is_idle k) (λ a b. refl) k)
 
 pub others-unlisted : (r : RollType) (k : KeyType) → is_another_signers k ≡ true
     → may_list r k ≡ false
-others-unlisted r (Ksk s) e = absurd (true≢false (sym e))
-others-unlisted r (Zsk s) e = absurd (true≢false (sym e))
-others-unlisted r (Csk s t) e = absurd (true≢false (sym e))
-others-unlisted KskRoll (Include s) e = refl
-others-unlisted KskDoubleDsRoll (Include s) e = refl
-others-unlisted ZskRoll (Include s) e = refl
-others-unlisted ZskDoubleSignatureRoll (Include s) e = refl
-others-unlisted CskRoll (Include s) e = refl
-others-unlisted AlgorithmRoll (Include s) e = refl
+others-unlisted r k e = not-true _ (mp _ _
+    (each_in_roll-at (λ r k. is_another_signers k ⇒ not (may_list r k)) (λ a b. refl) r k) e)
 
 -- ---- a key before and after a setter
 

@@ -3,8 +3,7 @@
 use Rattle.std.proofs.Common.{◌≡◌, ℕ, suc, ◌≤◌, ◌⊎◌, inl, inr, Bool, true, false, refl, sym, ◌∙◌}
 use Rattle.std.proofs.Common.{ap, subst, arith, length, Option, None, Some}
 use Rattle.std.specs.Option.{option_map}
-use Rattle.std.specs.List.{Contains}
-use Rattle.std.proofs.lemmas.Bool.{true≢false, and_parts}
+use Rattle.std.proofs.lemmas.Bool.{true≢false}
 use Rattle.dnssec_key.specs.declared.roll.RollType.{RollType}
 use Rattle.dnssec_key.specs.declared.roll.RollType.TheVariants.{AlgorithmRoll}
 use Rattle.dnssec_key.specs.declared.roll.RollState.TheVariants.{Propagation1, CacheExpire2, Done}
@@ -13,10 +12,10 @@ use Rattle.dnssec_run.specs.Published.{Id, in_ds}
 use Rattle.dnssec_run.specs.Safe.{SetKind, Ds, position_at, is_step, IsSafe}
 use Rattle.dnssec_zone.proofs.Flags.{SideOf, Keys, Zone, affects, Stage, Quiet, Early, Late}
 use Rattle.dnssec_run.proofs.Chain.Tale.{Tale, Key, found, if_some, world_at, wait2_key, IsOver}
-use Rattle.dnssec_run.proofs.Chain.Flags.{in_use, in_other, in_keys, switches}
+use Rattle.dnssec_run.proofs.Chain.Flags.{switches}
 use Rattle.dnssec_run.proofs.Chain.Rolls.{stage_fits, same-same, stage_early, stage_late}
-use Rattle.dnssec_run.proofs.Chain.History.{second-retires, not_in_empty}
-use Rattle.dnssec_run.proofs.Chain.Places.{NoDs, no_ds-next, shows_ds, some_weaker}
+use Rattle.dnssec_run.proofs.Chain.History.{second-retires}
+use Rattle.dnssec_run.proofs.Chain.Places.{NoDs, no_ds-next}
 use Rattle.dnssec_run.proofs.Chain.EarlyEnds.{ended-less}
 use Rattle.dnssec_run.proofs.Chain.Returns.{KeepsLists, early_end_key}
 use Rattle.dnssec_run.proofs.Chain.Invariant.{At, Alive, at-gentle, alive-gentle, at-common}
@@ -28,7 +27,7 @@ use Rattle.dnssec_run.proofs.Chain.RollFacts.{early-late, early-same, quiet-late
 use Rattle.dnssec_run.proofs.Chain.RollFacts.{switch_timed, waited2_ds}
 use Rattle.dnssec_run.proofs.Chain.BothSides.{Inv, Pairs, PassesAt, Unpassed, born, ds_less}
 use Rattle.dnssec_run.proofs.Chain.BothSides.{pairs-on, phases-on, unpassed-next, was-rolling}
-use Rattle.dnssec_run.proofs.Chain.FirstCalls.{Moved}
+use Rattle.dnssec_run.proofs.Chain.FirstCalls.{Moved, goes-on, stays-put}
 
 module _ (tale : Tale) (n : ℕ) (here : suc n ≤ length tale.es) where
   module _ (r : RollType) (ttl now : ℕ) (m : Mapped tale n (λ q. wait2_key r now) r (Some Done))
@@ -53,24 +52,14 @@ module _ (tale : Tale) (n : ℕ) (here : suc n ≤ length tale.es) where
             let p = phases r (CacheExpire2 ttl) phase in
             let g = λ (kind : SetKind) (w : switches sd r ≡ true). gone tale n r true ttl now
             (switch_timed sd r own w) p.0 p.1 over moment kind in (
-              (
-                Quiet,
-                at-wait2 tale n here sd r own now m g (second-retires sd r own) e,
-                λ e. refl,
-                λ f. absurd (true≢false (sym own ∙ f)),
-              ),
+              goes-on tale n sd r st Quiet own
+                  (at-wait2 tale n here sd r own now m g (second-retires sd r own) e),
               λ a. alive-wait2 tale n here sd r own now m
                   g (second-retires sd r own) e,
             )
         by false out = let g = gentle-wait2 tale n sd st h.rolls h.flags dead (lists sd) r now out m
             mark in (
-              (
-                st,
-                at-gentle tale n here sd st g h,
-                λ e. absurd (true≢false (sym e ∙ out)),
-                λ e.
-                    refl,
-              ),
+              stays-put tale n sd r st Quiet out (at-gentle tale n here sd st g h),
               alive-gentle tale n here sd st g,
             )
 
@@ -104,7 +93,7 @@ module _ (tale : Tale) (n : ℕ) (here : suc n ≤ length tale.es) where
     wait2 none h = elim (h.life) [
       | inl a ↦
           let dead = λ (d : NoDs tale.es n). absurd {A = NoDs tale.es (suc n)}
-          (born tale n here a.0 d) in
+          (born tale n (omega arith) a.0 d) in
           let x = wait2_side Keys h.ks h.phases h.keys dead in
           let y = wait2_side Zone h.zs h.phases h.zone dead in
           record {
@@ -155,24 +144,13 @@ module _ (tale : Tale) (n : ℕ) (here : suc n ≤ length tale.es) where
             × ((NoDs tale.es n → ⊥) → Alive tale sd n → Alive tale sd (suc n))
         by true own =
             let e = subst (λ s. At tale sd s n) (spread_stage sd st own h) h in (
-              (
-                Quiet,
-                at-early-end tale n here sd r own m (e.back phase) e,
-                λ f. refl,
-                λ f. absurd
-                    (true≢false (sym own ∙ f)),
-              ),
+              goes-on tale n sd r st Quiet own
+                  (at-early-end tale n here sd r own m (e.back phase) e),
               λ born a. alive-early-end tale n here sd r own m (e.back phase) born,
             )
         by false out = let g = gentle-early-end tale n sd st h.rolls h.flags dead (lists sd) r out m
             mark in (
-              (
-                st,
-                at-gentle tale n here sd st g h,
-                λ e. absurd (true≢false (sym e ∙ out)),
-                λ e.
-                    refl,
-              ),
+              stays-put tale n sd r st Quiet out (at-gentle tale n here sd st g h),
               λ born. alive-gentle tale n here sd st g,
             )
 
@@ -206,7 +184,7 @@ module _ (tale : Tale) (n : ℕ) (here : suc n ≤ length tale.es) where
               (h.pairs r q Propagation1 s phase was.1 was.0) (ap (is_step q) mark))
               (h.phases q s was.1);
           life = elim (h.life) [
-            | inl a ↦ let born = born tale n here a.0 in inl (x.1 born a.0, y.1 born a.1)
+            | inl a ↦ let born = born tale n (omega arith) a.0 in inl (x.1 born a.0, y.1 born a.1)
             | inr d ↦ inr (
               end_dead d.0,
               (
@@ -232,7 +210,7 @@ module _ (tale : Tale) (n : ℕ) (here : suc n ≤ length tale.es) where
 pub safe_of : (tale : Tale) (n : ℕ) → n ≤ length tale.es → Inv tale n → IsSafe tale.es n
 safe_of tale n le h p q z up uq uz = elim (h.life) [
   | inl a ↦
-      let none = alive_not_dead a.0 in
+      let none = born tale n le a.0 in
       let k = at-common tale n Keys h.ks none a.0 h.keys p q up.0 up.1 uq.0 uq.1 in
       let w = at-common tale n Zone h.zs none a.1 h.zone q z uq.0 uq.1 uz.0 uz.1 in
       elim (k.1) [
@@ -242,10 +220,3 @@ safe_of tale n le h p q z up uq uz = elim (h.life) [
       ]
   | inr d ↦ inl (d.0 p up.0)
 ]
-  where
-    alive_not_dead : Alive tale Keys n → NoDs tale.es n → ⊥
-    alive_not_dead a d = let c : Contains (position_at tale.es n).ds a.0 =
-        shows_ds tale n le a.0 (some_weaker (in_use Keys) in_ds
-        (λ k e. (and_parts (in_keys Keys k) (in_other Keys k) e).1) (found (world_at tale n) a.0)
-        a.1) in
-        not_in_empty a.0 (subst (λ l. Contains l a.0) (d n (omega arith)) c)

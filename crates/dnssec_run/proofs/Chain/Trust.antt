@@ -12,10 +12,9 @@ use Rattle.std.specs.Ordering.{nat_cmp}
 use Rattle.std.specs.Cmp.Lexicographic.{slice_cmp, bytes_decides}
 use Rattle.std.proofs.lemmas.Bool.{true≢false}
 use Rattle.std.proofs.lemmas.Option.{same_Some, none-some}
+use Rattle.std.proofs.lemmas.Iterator.Adapters.{option_map_id}
 use Rattle.dnssec_key.specs.declared.roll.RollType.{RollType}
-use Rattle.dnssec_key.specs.declared.roll.RollType.TheVariants.{KskRoll, KskDoubleDsRoll}
-use Rattle.dnssec_key.specs.declared.roll.RollType.TheVariants.{ZskRoll, ZskDoubleSignatureRoll}
-use Rattle.dnssec_key.specs.declared.roll.RollType.TheVariants.{CskRoll, AlgorithmRoll}
+use Rattle.dnssec_key.specs.declared.roll.RollType.TheVariants.{AlgorithmRoll}
 use Rattle.dnssec_key.specs.declared.roll.RollState.{RollState}
 use Rattle.dnssec_key.specs.declared.roll.RollState.TheVariants.{Propagation1, CacheExpire1}
 use Rattle.dnssec_key.specs.declared.roll.RollState.TheVariants.{Propagation2, CacheExpire2}
@@ -24,7 +23,8 @@ use Rattle.dnssec_key.specs.declared.kind.KeyType.{KeyType}
 use Rattle.dnssec_zone.specs.Lists.{Listed, listed_by, nothing_listed, Lists}
 use Rattle.dnssec_keyset.specs.KeySet.{ChangesKey}
 use Rattle.dnssec_keyset.specs.KeySet.{KeySetParts, MovesOn}
-use Rattle.dnssec_zone.specs.Rolls.{Rolls, phase_of, with_phase}
+use Rattle.dnssec_zone.specs.Rolls.{phase_of, with_phase}
+use Rattle.dnssec_zone.proofs.Phases.{phase_of-with_phase}
 use Rattle.dnssec_key.specs.RollTable.{First, Second}
 use Rattle.dnssec_key.specs.Setters.{Setting, Decoupled, Present, Signer, AtParent, Stale}
 use Rattle.dnssec_key.specs.Setters.{VisibleAt, DsVisibleAt, RrsigVisibleAt}
@@ -124,23 +124,10 @@ plainly (call.AbortRoll a) = record { mark_is = refl; moment_is = refl; blank = 
 
 -- ---- worlds
 
-phase_with : (rolls : Rolls) (r : RollType) (o : Option RollState) (q : RollType)
-    → phase_of (with_phase rolls r o) q ≡ put_roll (phase_of rolls) r o q
-phase_with rolls r o KskRoll = refl
-phase_with rolls r o KskDoubleDsRoll = refl
-phase_with rolls r o ZskRoll = refl
-phase_with rolls r o ZskDoubleSignatureRoll = refl
-phase_with rolls r o CskRoll = refl
-phase_with rolls r o AlgorithmRoll = refl
-
 map_by : (f g : Key → Key) → ((k : Key) → f k ≡ g k) → (o : Option Key) → option_map f o
     ≡ option_map g o
 map_by f g same None = refl
 map_by f g same (Some k) = ap Some (same k)
-
-map_id : (o : Option Key) → option_map (λ k. k) o ≡ o
-map_id None = refl
-map_id (Some k) = refl
 
 -- a world is what its parts are
 worlds : (w v : World) → ((q : List ℕ) → w.key q ≡ v.key q) → ((q : List ℕ) → w.added q ≡ v.added q)
@@ -163,7 +150,7 @@ module _ (tale : Tale) (n : ℕ) (here : suc n ≤ length tale.es) where
       → world_at tale (suc n) ≡ rolled (world_at tale n) g r o
   moved f g r o h same added = worlds (world_at tale (suc n)) (rolled (world_at tale n) g r o)
       (λ q. h.keys q ∙ map_by (f q) (g q) (same q) (get before.keys q)) added
-      (λ q. ap (λ rolls. phase_of rolls q) h.rolls ∙ phase_with before.rolls r o q)
+      (λ q. ap (λ rolls. phase_of rolls q) h.rolls ∙ phase_of-with_phase before.rolls r o q)
 
   -- a setter of a plain list takes from the lists another signer's key at most
   set_lists : (x : List ℕ) (s : Setting) → is_plain_setting s (get before.keys x) ≡ true
@@ -291,9 +278,9 @@ module _ (tale : Tale) (n : ℕ) (here : suc n ≤ length tale.es) where
       (λ q d. ap (λ l. listed_by l q) h.lists ∙ listed-other before.lists r nothing_listed q d))
       (λ s. none-some AlgorithmRoll (only s)) inv
   accepted (keyset.RollDone r) v h plain blank added m t only some inv =
-      let keys = λ (q : List ℕ). h.keys q ∙ map_id (get before.keys q) in
+      let keys = λ (q : List ℕ). h.keys q ∙ option_map_id (get before.keys q) in
       let rolls = λ (q : RollType). ap (λ rolls. phase_of rolls q) h.rolls
-      ∙ phase_with before.rolls r None q in
+      ∙ phase_of-with_phase before.rolls r None q in
       done tale n here r keys (λ id. λ i. if added id.0 i == id.1 then keys id.0 i else None)
       rolls (finishes _ (no_cause _ v)) m (λ s. none-some AlgorithmRoll (only s))
       (keeps-on tale n r None (λ e. none-some Propagation1 e) rolls

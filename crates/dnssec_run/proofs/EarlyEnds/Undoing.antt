@@ -7,7 +7,7 @@ use Rattle.std.specs.Option.{option_map, option_map_or}
 use Rattle.std.specs.FinMap.{get}
 use Rattle.std.proofs.lemmas.Bool.{true≢false, and_parts, cases_lt, cases_Bool, not-true, or_left}
 use Rattle.std.proofs.lemmas.Bool.{or_right}
-use Rattle.std.proofs.lemmas.Option.{same_Some, none-some, slice_get_cases}
+use Rattle.std.proofs.lemmas.Option.{same_Some, slice_get_cases, slice_get_within}
 use Rattle.dnssec_key.specs.declared.kind.KeyType.{KeyType}
 use Rattle.dnssec_key.specs.declared.roll.RollType.{RollType}
 use Rattle.dnssec_key.specs.declared.roll.RollState.TheVariants.{Propagation1}
@@ -320,11 +320,7 @@ module _ (name : List ℕ) (calls : List Call) (entries : List Entry)
       stands q = standing q n later within none (ends_early _ (no_cause _ ended_so.0))
         where
           within : n ≤ length entries
-          within = elim ((slice_get_cases entries n).1) [
-            | inl x ↦ let lt = x.1 in
-                omega arith
-            | inr x ↦ absurd (none-some _ (sym x.1 ∙ end.0.entry_is))
-          ]
+          within = let lt = slice_get_within entries n end.0.entry end.0.entry_is in omega arith
 
       undoes-start : Undoes roll Own (at s) (at n) (at (suc n))
       undoes-start = record {

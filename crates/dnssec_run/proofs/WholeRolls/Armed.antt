@@ -1,6 +1,6 @@
 -- What the keys of a set tell of the wait to come, by the moment it counts from: for `waits`.
 use Rattle.std.proofs.Common.{◌≡◌, ℕ, ◌≤◌, ◌⊎◌, inl, inr, Bool, true, false, not, ◌&&◌, refl, sym}
-use Rattle.std.proofs.Common.{◌∙◌, ap, arith, List, Option, None, Some}
+use Rattle.std.proofs.Common.{◌∙◌, ◌||◌, ap, arith, List, Option, None, Some}
 use Rattle.std.specs.Prelude.{if◌then◌else◌}
 use Rattle.std.specs.Option.{option_map}
 use Rattle.std.specs.FinMap.{get}
@@ -9,9 +9,7 @@ use Rattle.std.specs.Str.{bytes_eq}
 use Rattle.std.proofs.lemmas.Bool.{true≢false, and_parts, not-true}
 use Rattle.std.proofs.lemmas.Option.{same_Some, none-some}
 use Rattle.dnssec_key.specs.declared.roll.RollType.{RollType}
-use Rattle.dnssec_key.specs.declared.roll.RollType.TheVariants.{KskRoll, KskDoubleDsRoll}
-use Rattle.dnssec_key.specs.declared.roll.RollType.TheVariants.{ZskRoll, ZskDoubleSignatureRoll}
-use Rattle.dnssec_key.specs.declared.roll.RollType.TheVariants.{CskRoll, AlgorithmRoll}
+use Rattle.dnssec_key.specs.declared.roll.RollType.TheVariants.{ZskDoubleSignatureRoll}
 use Rattle.dnssec_key.specs.declared.kind.KeyType.{KeyType}
 use Rattle.dnssec_key.specs.declared.kind.KeyType.TheVariants.{Ksk, Zsk, Csk, Include}
 use Rattle.dnssec_key.specs.Key.{KeyParts}
@@ -26,7 +24,7 @@ use Rattle.dnssec_run.proofs.Chain.Tables.{checked}
 use Rattle.dnssec_run.proofs.Chain.Tale.{stamp_of}
 use Rattle.dnssec_run.proofs.Chain.Setters.{Harmless, harmless-alike, harmless-busy, others-idle}
 use Rattle.dnssec_zone.proofs.Tests.{each_key, each_key-at, ◌⇒◌, mp, and-both, each_in_half}
-use Rattle.dnssec_zone.proofs.Tests.{each_in_half-at, alike}
+use Rattle.dnssec_zone.proofs.Tests.{each_in_half-at, alike, each_roll, each_roll-at, or_second}
 use Rattle.dnssec_run.proofs.Chain.Facts.{stays, timed, stays_facts, timer, other, stays_wait}
 use Rattle.dnssec_run.proofs.Chain.Phases.{wait_stamps}
 use Rattle.dnssec_run.proofs.WholeRolls.OrderedKeys.{back}
@@ -263,12 +261,7 @@ NoneLater t set = (q : List ℕ) (k : KeyParts) (s : Stamp) (x : ℕ) → get se
     → stamp_of s k ≡ Some x → x ≤ t
 
 pub timed_second : (r : RollType) → is_zds r ≡ false → timed r true ≡ true
-timed_second KskRoll e = refl
-timed_second KskDoubleDsRoll e = refl
-timed_second ZskRoll e = refl
-timed_second ZskDoubleSignatureRoll e = absurd (true≢false e)
-timed_second CskRoll e = refl
-timed_second AlgorithmRoll e = refl
+timed_second r e = or_second _ _ (each_roll-at (λ r. is_zds r || timed r true) refl r) e
 
 module _ (r : RollType) (now : ℕ) (old new : KeySetParts) where
   -- its first report
@@ -300,6 +293,13 @@ module _ (r : RollType) (now : ℕ) (old new : KeySetParts) where
   }
 
 -- a Double-Signature ZSK roll reads the stamps of its first report in both waits
+zsk_halves : (k : KeyType) → stays ZskDoubleSignatureRoll false k
+    ≡ stays ZskDoubleSignatureRoll true k
+zsk_halves (Ksk s) = refl
+zsk_halves (Zsk s) = refl
+zsk_halves (Csk s t) = refl
+zsk_halves (Include s) = refl
+
 module _ (now : ℕ) (old new : KeySetParts) where
   pub armed-both : ((q : List ℕ)
       → get new.keys q ≡ option_map (after_report ZskDoubleSignatureRoll First now)
@@ -310,17 +310,10 @@ module _ (now : ℕ) (old new : KeySetParts) where
     key = h.0;
     parts = after_report ZskDoubleSignatureRoll First now h.1;
     there = keys h.0 ∙ ap (option_map (after_report ZskDoubleSignatureRoll First now)) h.2;
-    goes_on = both_halves h.1.keytype h.3;
+    goes_on = sym (zsk_halves h.1.keytype) ∙ h.3;
     has_it = stamp-written RrsigVisible ZskDoubleSignatureRoll now h.1
         (zsk_facts h.1.keytype h.3).0;
   }
-    where
-      both_halves : (k : KeyType) → stays ZskDoubleSignatureRoll false k ≡ true
-          → stays ZskDoubleSignatureRoll true k ≡ true
-      both_halves (Ksk s) e = e
-      both_halves (Zsk s) e = e
-      both_halves (Csk s t) e = e
-      both_halves (Include s) e = e
 
   pub armed-between : (m : ℕ) → ((q : List ℕ)
       → get new.keys q ≡ option_map (after_wait ZskDoubleSignatureRoll First now) (get old.keys q))
@@ -336,16 +329,9 @@ module _ (now : ℕ) (old new : KeySetParts) where
     key = h.key;
     parts = after_wait ZskDoubleSignatureRoll First now h.parts;
     there = keys h.key ∙ ap (option_map (after_wait ZskDoubleSignatureRoll First now)) h.there;
-    goes_on = (zsk_facts h.parts.keytype (first_half h.parts.keytype h.goes_on)).1;
+    goes_on = (zsk_facts h.parts.keytype (zsk_halves h.parts.keytype ∙ h.goes_on)).1;
     has_it = sym (wait_stamps ZskDoubleSignatureRoll false now h.parts RrsigVisible) ∙ h.has_it;
   }
-    where
-      first_half : (k : KeyType) → stays ZskDoubleSignatureRoll true k ≡ true
-          → stays ZskDoubleSignatureRoll false k ≡ true
-      first_half (Ksk s) e = e
-      first_half (Zsk s) e = e
-      first_half (Csk s t) e = e
-      first_half (Include s) e = e
 
 -- its first wait
 pub reads-waited : (r : RollType) (now : ℕ) (old new : KeySetParts)

@@ -7,7 +7,8 @@ use Rattle.std.specs.Str.{bytes_eq}
 use Rattle.std.specs.Cmp.Lexicographic.{bytes_decides}
 use Rattle.std.specs.FinMap.{get}
 use Rattle.std.proofs.lemmas.Bool.{true≢false, cases_lt}
-use Rattle.std.proofs.lemmas.Option.{same_Some, none-some, slice_get_cases}
+use Rattle.std.proofs.lemmas.Option.{same_Some, slice_get_cases, slice_get_within}
+use Rattle.std.proofs.lemmas.Iterator.Adapters.{option_map_id}
 use Rattle.dnssec_key.specs.declared.roll.RollType.{RollType}
 use Rattle.dnssec_key.specs.declared.roll.RollState.{RollState}
 use Rattle.dnssec_key.specs.declared.roll.RollState.TheVariants.{Propagation1, Done}
@@ -343,7 +344,7 @@ module _ (name : List ℕ) (calls : List Call) (entries : List Entry) (run : IsR
         (keyset.RollDone roll) ends.0.entry.reply ends.1 step in
         let done = finishes _ (no_cause _ ok.0) in
         let h = lasting st n later within none in
-        let keys = λ (q : List ℕ). ok.1.keys q ∙ unmapped (get old.keys q) in
+        let keys = λ (q : List ℕ). ok.1.keys q ∙ option_map_id (get old.keys q) in
         let facts = λ (q : List ℕ) (k : KeyParts) (e : get old.keys q ≡ Some k).
         over_facts roll k.keytype (is_some k.timestamps.visible)
         (is_some k.timestamps.ds_visible) (is_some k.timestamps.rrsig_visible)
@@ -365,15 +366,7 @@ module _ (name : List ℕ) (calls : List Call) (entries : List Entry) (run : IsR
         )
       where
         within : n ≤ length entries
-        within = elim ((slice_get_cases entries n).1) [
-          | inl x ↦ let lt = x.1 in
-              omega arith
-          | inr x ↦ absurd (none-some _ (sym x.1 ∙ ends.0.entry_is))
-        ]
-
-        unmapped : (o : Option KeyParts) → option_map (λ (k : KeyParts). k) o ≡ o
-        unmapped None = refl
-        unmapped (Some k) = refl
+        within = let lt = slice_get_within entries n ends.0.entry ends.0.entry_is in omega arith
 
         side_over : (sd : SideOf) → roll_now (at n).set roll ≡ Some Done
             → (q : List ℕ) (k : KeyParts) → get (at n).set.keys q ≡ Some k

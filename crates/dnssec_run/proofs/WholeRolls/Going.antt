@@ -8,7 +8,7 @@ use Rattle.std.specs.Option.{option_map}
 use Rattle.std.specs.Str.{bytes_eq}
 use Rattle.std.specs.Cmp.Lexicographic.{bytes_decides}
 use Rattle.std.specs.FinMap.{get}
-use Rattle.std.proofs.lemmas.Bool.{and_parts, true≢false, cases_Bool}
+use Rattle.std.proofs.lemmas.Bool.{and_parts, true≢false, cases_Bool, true_from_ne_false}
 use Rattle.std.proofs.lemmas.Option.{none-some}
 use Rattle.dnssec_key.specs.declared.roll.RollType.{RollType}
 use Rattle.dnssec_key.specs.declared.roll.RollState.{RollState}
@@ -164,12 +164,8 @@ module _ (roll : RollType) (old new : KeySetParts) where
           by false t = (k, m.keys q ∙ ap (λ b. if b then None else get old.keys q) t ∙ e, w)
       new-step (keyset.StartRoll p olds news now) plain v m leaves not_end q k e w =
           let can = can_start (world_of old) p olds news (no_cause _ v) in
-          let together : tolerates p roll ≡ true =
-          elim (cases_Bool (tolerates p roll)) [
-            | inl t ↦ t
-            | inr t ↦ absurd
-                (none-some x (sym (can.alone roll t) ∙ going))
-          ] in (
+          let together : tolerates p roll ≡ true = true_from_ne_false (tolerates p roll)
+          (λ t. none-some x (sym (can.alone roll t) ∙ going)) in (
             k,
             leaves p q k refl e (other p roll k.keytype together
                 (new_facts roll k.keytype w).listed),

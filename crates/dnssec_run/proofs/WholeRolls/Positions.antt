@@ -21,6 +21,7 @@ use Rattle.dnssec_keyset.specs.Step as keyset
 use Rattle.dnssec_zone.specs.Wait as waits
 use Rattle.dnssec_zone.proofs.Quantified.{some_key-found}
 use Rattle.dnssec_zone.proofs.Longest.{left-unbarred}
+use Rattle.dnssec_keyset.proofs.Accepted.{no_some}
 use Rattle.dnssec_run.specs.WholeRolls.{NeverMissesStamp, SettlesBetweenRolls}
 use Rattle.dnssec_run.specs.declared.call.Call.{Call}
 use Rattle.dnssec_run.specs.declared.call.Call.TheVariants as call
@@ -89,14 +90,10 @@ module _ (name : List ℕ) (calls : List Call) (entries : List Entry) (run : IsR
 
 -- ---- between the rolls
 
-none_there : (o : Option RollState) → is_some o ≡ false → o ≡ None
-none_there None e = refl
-none_there (Some p) e = absurd (true≢false e)
-
 idle_now : (sd : SideOf) (set : KeySetParts) (h : Order sd set)
     → ((r : RollType) → in_progress set.rolls r ≡ false) → h.ph ≡ Idle
 idle_now sd set h none = idle_is sd h.ph h.own
-    (λ q e. ap (phase_fits h.ph q) (sym (none_there (phase_of set.rolls q) (none q))) ∙ h.rolls q e)
+    (λ q e. ap (phase_fits h.ph q) (sym (no_some (phase_of set.rolls q) (none q))) ∙ h.rolls q e)
 
 pub settles-between : (name : List ℕ) (calls : List Call) (entries : List Entry)
     → IsRun name calls entries → SettlesBetweenRolls name calls entries

@@ -6,7 +6,7 @@ use Rattle.std.specs.FinMap.{get-empty}
 use Rattle.std.specs.Ordering.{nat_cmp}
 use Rattle.std.specs.Cmp.Lexicographic.{slice_cmp}
 use Rattle.std.proofs.lemmas.Bool.{true≢false, cases_Bool}
-use Rattle.std.proofs.lemmas.Option.{none-some, slice_get_cases}
+use Rattle.std.proofs.lemmas.Option.{none-some, slice_get_cases, slice_get_within}
 use Rattle.dnssec_key.specs.declared.roll.RollType.{RollType}
 use Rattle.dnssec_key.specs.declared.roll.RollType.TheVariants.{KskRoll, KskDoubleDsRoll}
 use Rattle.dnssec_key.specs.declared.roll.RollType.TheVariants.{ZskRoll, ZskDoubleSignatureRoll}
@@ -227,11 +227,7 @@ module _ (name : List ℕ) (calls : List Call) (entries : List Entry) (run : IsR
   exactly n r h now ttl wait phase = by h wait phase
     where
       within : n ≤ length entries
-      within = elim ((slice_get_cases entries n).1) [
-        | inl x ↦ let lt = x.1 in
-            omega arith
-        | inr x ↦ absurd (none-some _ (sym x.1 ∙ wait.entry_is))
-      ]
+      within = let lt = slice_get_within entries n wait.entry wait.entry_is in omega arith
 
       mo : (h : Half) → (wait : IsMade calls entries n (keyset.Wait r h now))
           → call_moment wait.made ≡ Some now

@@ -34,5 +34,6 @@ returns c script is =
     at.invariant)
     c.verdict.ensures
     (c.in_ok-push_published.ensures
-    ∙ ap (λ (sets : Published). string_bytes at.text ++ published_text sets) c.published.ensures)
+    ∙ ap (λ (sets : Published). string_bytes at.text ++ published_text sets)
+    c.published.ensures)
     c.in_ok-push_chain_line.ensures

@@ -24,10 +24,10 @@ returns-clause-next c w agrees =
           (sym c.is_accepted.ensures ∙ b.if-is_accepted.true) agrees step
           (λ q. ap (λ m. tree.get_by_text m q) b.added-is ∙ b.in_ok-note.ensures.ok q
           ∙ ap (λ put. positions_after a.at put
-          (option_map (λ (r : Bor (List ℕ)). r.now) c.deleted-taken.result)
+          (option_map (λ (r : Bor (List ℕ)). r.now) c.reference_deleted-taken.result)
           (tree.get_by_text a.added.now) q) c.in_ok-put.ensures.ok
           ∙ ap (λ taken. positions_after a.at (reference_added (call_of a.call)) taken
-          (tree.get_by_text a.added.now) q) c.deleted-taken.ensures)
+          (tree.get_by_text a.added.now) q) c.reference_deleted-taken.ensures)
       | else-is_accepted b ↦
           subst (λ m. Agrees set (tree.get_by_text m) (world_after a.at w a.call r))
           (sym b.added-is)
@@ -56,6 +56,6 @@ returns-clause-outcome c w agrees =
       mark = mark;
       moment = c.moment-moment.ensures;
       kept = λ no. unasked a.at w (world_after a.at w a.call r) a.call r step refl
-          (λ t. let calm = c.may_publish-may_publish.ensures no t in
+          (λ t. let calm = c.may_publish-may_publish.ensures.0 no t in
           (sym c.sets_flag-sets_flag.ensures ∙ calm.0, calm.1));
     }

@@ -3,7 +3,7 @@ use Rattle.std.proofs.Common.{◌≡◌, map, ◌++◌}
 use Rattle.std.specs.HashMap as hash
 use Rattle.dnssec_run.specs.Published.{id_of, in_ds, in_dnskey, signs_dnskey, signs_zone}
 use Rattle.dnssec_run.specs.Recorder.{passing}
-use Rattle.dnssec_run.proofs.sets.published.Given as goal
+use Rattle.dnssec_run.proofs.sets.read_sets.Given as goal
 
 abbrev pub invariant-loop-reference : goal.invariant-loop-reference
 invariant-loop-reference l = record {

@@ -8,7 +8,7 @@ use Rattle.std.proofs.lemmas.Iterator.{YieldsList-from_slice}
 use Rattle.std.proofs.lemmas.Iterator.Search.{find_from_yields_List}
 use Rattle.dnssec_record.specs.Script.{word_named, words}
 use Rattle.dnssec_record.specs.declared.words.Word.{Word}
-use Rattle.dnssec_record.proofs.words.Word.named.Goals as goal
+use Rattle.dnssec_record.proofs.words.Word.from_name.Goals as goal
 
 -- a row of the reader's table, and the row of the format that it shows
 abbrev Row : Type 0

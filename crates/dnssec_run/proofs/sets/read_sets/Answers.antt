@@ -3,7 +3,7 @@ use Rattle.std.proofs.Common.{◌∙◌}
 use Rattle.std.specs.HashMap as hash
 use Rattle.dnssec_run.specs.Published.{in_ds, in_dnskey, signs_dnskey, signs_zone}
 use Rattle.dnssec_run.proofs.Positions.{passing-shown, shows-next, shows-all}
-use Rattle.dnssec_run.proofs.sets.published.Goals as goal
+use Rattle.dnssec_run.proofs.sets.read_sets.Goals as goal
 
 pub loop-reference-preserved : goal.loop-reference-preserved
 loop-reference-preserved c =
