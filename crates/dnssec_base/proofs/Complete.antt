@@ -5,7 +5,7 @@ use Rattle.std.proofs.lemmas.Bool.{cases_eq, cases_lt}
 use Rattle.dnssec_base.specs.WireName.{wire_label}
 use Rattle.dnssec_base.specs.NameText.{Spells, is_root, StandsFirst, HasNoFault}
 use Rattle.dnssec_base.specs.NameText.{IsSymbol, plain, escaped, decimal, BeginsWithSymbol, IsDigit}
-use Rattle.dnssec_base.specs.NameText.{dot, backslash, decimal_of, root_text, root_name, ended}
+use Rattle.dnssec_base.specs.NameText.{dot, backslash, decimal_of, root_text, root_name, wire_end}
 use Rattle.dnssec_base.specs.NameLaws.{SpellsUnlessFault}
 use Rattle.dnssec_base.specs.Inner.DraftName.{DraftName}
 use Rattle.dnssec_base.specs.Inner.Pieces.{IsDecimal, IsPiece, IsBadPiece}
@@ -231,8 +231,8 @@ at_symbol n text d rest small other faultless r on front =
 -- from a place on, with at most n bytes of text after it
 walk : (n : ℕ) (text : List ℕ) → text ≢ [] → text ≢ root_text → HasNoFault text → ReadsOn text n
 walk n text some other faultless d [] small r = (
-  d.labels ++ ended d.label,
-  read_spells text (d.labels ++ ended d.label) d some
+  d.labels ++ wire_end d.label,
+  read_spells text (d.labels ++ wire_end d.label) d some
       (reads_end text d [] some refl r) refl,
 )
 walk zero text some other faultless d (c ∷ rest) small r = absurd (omega arith)

@@ -3,8 +3,8 @@ use Rattle.std.proofs.Common.{ℕ, ◌≡◌, ◌⊎◌, ◌≢◌, ◌<◌, ref
 use Rattle.std.proofs.Common.{List, [], ◌∷◌, ◌++◌, append_assoc, append-nil, length, length-append}
 use Rattle.std.proofs.Common.{arith}
 use Rattle.dnssec_base.specs.WireName.{AreLabels, IsWireName, wire_label}
-use Rattle.dnssec_base.specs.NameText.{Place, at_start, after_symbol, after_dot, is_root}
-use Rattle.dnssec_base.specs.NameText.{Spells, Stands, has_labels, ended, dot, backslash, root_name}
+use Rattle.dnssec_base.specs.NameText.{Place, at_start, after_symbol, after_dot, is_root, Spells}
+use Rattle.dnssec_base.specs.NameText.{Stands, has_labels, wire_end, dot, backslash, root_name}
 use Rattle.dnssec_base.specs.NameText.{IsSymbol, IsFault, BeginsWith, BeginsWithSymbol, IsVisible}
 use Rattle.dnssec_base.specs.NameLaws.{SpellsNoFault}
 use Rattle.dnssec_base.specs.declared.name.error.NameError.{NameError}
@@ -48,16 +48,16 @@ no_dot_symbol after s r b e is dotted =
 
 -- the tail of the name at a place
 tail_at : (before last ls l t : List ℕ) → Ahead before last [] ls l t
-    → Tail (before ++ ended last) ls l t
+    → Tail (before ++ wire_end last) ls l t
 tail_at before last ls [] t (here x y z same) = record {
   tail = root_name;
-  name_is = cc (same.labels_same, ap ended same.label_same);
+  name_is = cc (same.labels_same, ap wire_end same.label_same);
   tail_some = omega arith;
   goes_on = inl (refl, sym same.after_same, refl);
 }
 tail_at before last ls (c ∷ l) t (here x y z same) = record {
   tail = wire_label (c ∷ l) ++ root_name;
-  name_is = cc (same.labels_same, ap ended same.label_same);
+  name_is = cc (same.labels_same, ap wire_end same.label_same);
   tail_some = omega arith;
   goes_on = inr (record {
     more = [];
@@ -70,7 +70,7 @@ tail_at before last ls (c ∷ l) t (here x y z same) = record {
   });
 }
 tail_at before last ls l t (by_symbol x y z s r b is e rest) =
-    let next : Tail (before ++ ended last) ls (l ++ b ∷ []) r =
+    let next : Tail (before ++ wire_end last) ls (l ++ b ∷ []) r =
     tail_at before last ls (l ++ b ∷ []) r rest in
     record {
       tail = next.tail;
@@ -91,7 +91,7 @@ tail_at before last ls l t (by_symbol x y z s r b is e rest) =
           next.goes_on);
     }
 tail_at before last ls l t (by_dot x y z r e rest) =
-    let next : Tail (before ++ ended last) (ls ++ wire_label l) [] r =
+    let next : Tail (before ++ wire_end last) (ls ++ wire_label l) [] r =
     tail_at before last (ls ++ wire_label l) [] r rest in
     record {
       tail = wire_label l ++ next.tail;
@@ -194,13 +194,13 @@ go_fault text name labels label after tail error some place name_is tail_some wi
 
 -- a fault at a place of a text that spells a name
 place_fault : (text name before last labels label after : List ℕ) (error : NameError) → text ≢ []
-    → Place text before last [] → name ≡ before ++ ended last → IsWireName name
+    → Place text before last [] → name ≡ before ++ wire_end last → IsWireName name
     → Place text labels label after → IsFault error labels label after → ⊥
 place_fault text name before last labels label after error some end name_is wire place fault =
     let ahead : Ahead before last [] labels label after =
     later_ahead before last [] labels label after [] [] text (omega arith)
     (ahead_start text labels label after place) (ahead_start text before last [] end) in
-    let at : Tail (before ++ ended last) labels label after =
+    let at : Tail (before ++ wire_end last) labels label after =
     tail_at before last labels label after ahead in
     ⊎_elim
     (λ final.

@@ -3,7 +3,7 @@ use Rattle.std.proofs.Common.{ℕ, ◌≡◌, refl, ap, subst, ◌∙◌, sym, L
 use Rattle.std.proofs.Common.{length, flat_map, arith}
 use Rattle.dnssec_base.specs.WireName.{AreLabels, IsLabel, wire_label}
 use Rattle.dnssec_base.proofs.WireLabels.{label_front}
-use Rattle.dnssec_base.specs.NameText.{printed, printed_after, printed_byte, dot}
+use Rattle.dnssec_base.specs.NameText.{name_text, printed_after, printed_byte, dot}
 
 -- the bytes that are left of a label, and the labels after it
 printed_left : (label rest : List ℕ)
@@ -15,11 +15,11 @@ printed_left (byte ∷ label) rest = rw (printed_left label rest, append_assoc)
 -- the first label of a name, and what is printed after it
 pub first_label : (name label rest : List ℕ) → AreLabels 0 name → IsLabel label
     → name ≡ wire_label label ++ rest
-    → AreLabels 0 rest × (flat_map printed_byte label ++ printed_after 0 rest ≡ printed name)
+    → AreLabels 0 rest × (flat_map printed_byte label ++ printed_after 0 rest ≡ name_text name)
 first_label name [] rest all some split = absurd (omega (arith, some.some))
 first_label name (byte ∷ label) rest all some split = (
   (label_front (byte ∷ label) rest some).0 (subst (AreLabels 0) split all),
-  sym (printed_left (byte ∷ label) rest) ∙ ap printed (sym split),
+  sym (printed_left (byte ∷ label) rest) ∙ ap name_text (sym split),
 )
 
 -- a further label, and what is printed after it

@@ -6,7 +6,7 @@ use Rattle.std.proofs.lemmas.Bool.{cases_eq, cases_lt}
 use Rattle.std.proofs.lemmas.Bool.Decides.{nat_tests}
 use Rattle.dnssec_base.specs.WireName.{AreLabels, wire_label}
 use Rattle.dnssec_base.specs.NameText.{Place, at_start, after_symbol, after_dot, is_root}
-use Rattle.dnssec_base.specs.NameText.{has_labels, ended, dot, backslash}
+use Rattle.dnssec_base.specs.NameText.{has_labels, wire_end, dot, backslash}
 use Rattle.dnssec_base.specs.NameText.{IsSymbol, plain, escaped, decimal, decimal_of, printed_after}
 use Rattle.dnssec_base.specs.NameText.{printed_byte}
 use Rattle.dnssec_base.specs.NameLaws.{PrintsItsSpelling}
@@ -71,7 +71,7 @@ record Ends (text name : List ℕ) : Type 0 where
   before : List ℕ
   last : List ℕ
   place : Place text before last []
-  name_is : name ≡ before ++ ended last
+  name_is : name ≡ before ++ wire_end last
 
 -- the bytes of a list are below 256, each and the rest
 all_first : (byte : ℕ) (bytes : List ℕ) → All (λ b. b < 256) (byte ∷ bytes) → byte < 256

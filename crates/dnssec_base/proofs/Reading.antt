@@ -4,7 +4,7 @@ use Rattle.std.proofs.Common.{◌++◌, length, arith}
 use Rattle.dnssec_base.specs.WireName.{IsWireName, wire_label}
 use Rattle.dnssec_base.specs.NameText.{Place, at_start, after_symbol, after_dot, dot, root_text}
 use Rattle.dnssec_base.specs.NameText.{IsFault, BeginsWith, BeginsWithSymbol, StandsFirst, Spells}
-use Rattle.dnssec_base.specs.NameText.{has_labels, ended}
+use Rattle.dnssec_base.specs.NameText.{has_labels, wire_end}
 use Rattle.dnssec_base.specs.Inner.Draft.{IsLimit, HasRoom, IsRead}
 use Rattle.dnssec_base.specs.Inner.Pieces.{IsPiece, IsBadPiece}
 use Rattle.dnssec_base.specs.Inner.DraftName.{DraftName}
@@ -143,7 +143,7 @@ empty_text (c ∷ text) e = absurd (omega (arith, e))
 
 -- what is read is what the text spells
 pub read_spells : (text name : List ℕ) (d : DraftName) → text ≢ [] → IsRead text d
-    → name ≡ d.labels ++ ended d.label
+    → name ≡ d.labels ++ wire_end d.label
     → Spells text name
 read_spells text name d some read e =
     has_labels d.labels d.label some read.end e (subst IsWireName (sym e) read.wire)

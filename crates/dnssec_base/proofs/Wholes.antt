@@ -3,7 +3,7 @@ use Rattle.std.proofs.Common.{ℕ, zero, suc, ◌≡◌, ◌+◌, ◌<◌, ◌�
 use Rattle.std.proofs.Common.{◌++◌, append_assoc, length, length-append, All, arith}
 use Rattle.std.proofs.lemmas.List.Elements.{All-append, All-cons, All-nil}
 use Rattle.dnssec_base.specs.WireName.{AreLabels, IsLabel, IsWireName, wire_label}
-use Rattle.dnssec_base.specs.NameText.{ended, root_name}
+use Rattle.dnssec_base.specs.NameText.{wire_end, root_name}
 use Rattle.dnssec_base.proofs.WireLabels.{label_front}
 
 -- whole labels, and behind them bytes of one more that fits with the root
@@ -12,7 +12,7 @@ pub record IsWhole (labels label : List ℕ) : Type 0 where
   pub labels_octets : All (λ byte. byte < 256) labels
   pub label_octets : All (λ byte. byte < 256) label
   pub label_fits : length label ≤ 63
-  pub name_fits : length (labels ++ ended label) ≤ 255
+  pub name_fits : length (labels ++ wire_end label) ≤ 255
 
 -- a number that is a byte
 abbrev IsOctet : ℕ → Type 0
@@ -33,12 +33,12 @@ labels_append zero (suc m ∷ xs) ys h more = (h.0, labels_append (suc m) xs ys 
 labels_append (suc n) (x ∷ xs) ys h more = labels_append n xs ys h more
 
 -- the last label and the root
-length-ended : (label : List ℕ) → length (ended label) ≤ length label + 2
+length-ended : (label : List ℕ) → length (wire_end label) ≤ length label + 2
 length-ended [] = omega arith
 length-ended (byte ∷ label) = omega (arith, length-append label root_name)
 
 -- a label with bytes, and the root
-ended-some : (label : List ℕ) → label ≢ [] → ended label ≡ wire_label label ++ root_name
+ended-some : (label : List ℕ) → label ≢ [] → wire_end label ≡ wire_label label ++ root_name
 ended-some [] some = absurd (some refl)
 ended-some (byte ∷ label) some = refl
 
@@ -68,7 +68,7 @@ whole_symbol labels label byte whole small room fits = record {
   label_fits = omega (arith, length-append label (byte ∷ []));
   name_fits = omega (
     arith,
-    length-append labels (ended (label ++ byte ∷ [])),
+    length-append labels (wire_end (label ++ byte ∷ [])),
     length-ended (label ++ byte ∷ []),
     length-append label (byte ∷ []),
     length-append labels (wire_label label),
@@ -108,12 +108,13 @@ whole_dotted labels whole = record {
 }
 
 -- at the end
-pub whole_end : (labels label : List ℕ) → IsWhole labels label → IsWireName (labels ++ ended label)
+pub whole_end : (labels label : List ℕ) → IsWhole labels label
+    → IsWireName (labels ++ wire_end label)
 whole_end labels [] whole = whole_dotted labels whole
 whole_end labels (byte ∷ label) whole =
     let dotted : IsWhole (labels ++ wire_label (byte ∷ label)) [] =
     whole_dot labels (byte ∷ label) whole (λ e. cc) in
-    let joined : (labels ++ wire_label (byte ∷ label)) ++ root_name ≡ labels ++ ended
+    let joined : (labels ++ wire_label (byte ∷ label)) ++ root_name ≡ labels ++ wire_end
     (byte ∷ label) =
     append_assoc labels (wire_label (byte ∷ label)) root_name in
     subst IsWireName joined (whole_dotted (labels ++ wire_label (byte ∷ label)) dotted)

@@ -1,7 +1,7 @@
 -- The laws of names and their texts, each promised by a function of this crate.
 use Rattle.std.specs.Prelude.{◌≡◌, List, ℕ}
 use Rattle.dnssec_base.specs.WireName.{IsWireName}
-use Rattle.dnssec_base.specs.NameText.{Spells, HasNoFault, StandsFirst, printed}
+use Rattle.dnssec_base.specs.NameText.{Spells, HasNoFault, StandsFirst, name_text}
 use Rattle.dnssec_base.specs.declared.name.error.NameError.{NameError}
 
 -- a text spells at most one name
@@ -23,4 +23,4 @@ OneFaultStandsFirst = (text : List ℕ) (fault other : NameError)
 
 -- the printed text of a name spells it
 abbrev pub PrintsItsSpelling : Type 0
-PrintsItsSpelling = (name : List ℕ) → IsWireName name → Spells (printed name) name
+PrintsItsSpelling = (name : List ℕ) → IsWireName name → Spells (name_text name) name

@@ -56,15 +56,15 @@ pub data Place (text : List ℕ) : List ℕ → List ℕ → List ℕ → Type 0
       → Place text (labels ++ wire_label label) [] after
 
 -- the last label and the root on the wire; after a final dot the root alone. RFC 1035, section 3.1
-abbrev pub ended : List ℕ → List ℕ
-ended [] = root_name
-ended (byte ∷ label) = wire_label (byte ∷ label) ++ root_name
+abbrev pub wire_end : List ℕ → List ℕ
+wire_end [] = root_name
+wire_end (byte ∷ label) = wire_label (byte ∷ label) ++ root_name
 
 -- the text is the root's dot, or symbols and dots that give a wire name. RFC 1035, section 5.1
 pub data Spells (text name : List ℕ) : Type 0 where
   is_root : text ≡ root_text → name ≡ root_name → Spells text name
   has_labels : (before last : List ℕ) → text ≢ [] → Place text before last []
-      → name ≡ before ++ ended last → IsWireName name → Spells text name
+      → name ≡ before ++ wire_end last → IsWireName name → Spells text name
 
 -- what is said of the first character of a text
 abbrev pub BeginsWith : (ℕ → Type 0) → List ℕ → Type 0
@@ -136,10 +136,10 @@ printed_after zero (zero ∷ bytes) = []
 printed_after zero (suc n ∷ bytes) = dot ∷ printed_after (suc n) bytes
 
 -- the printed text of a name: the root's dot, or labels with dots between. RFC 1035, section 5.1
-abbrev pub printed : List ℕ → List ℕ
-printed [] = []
-printed (zero ∷ bytes) = root_text
-printed (suc n ∷ bytes) = printed_after (suc n) bytes
+abbrev pub name_text : List ℕ → List ℕ
+name_text [] = []
+name_text (zero ∷ bytes) = root_text
+name_text (suc n ∷ bytes) = printed_after (suc n) bytes
 
 -- the printed text of a fault
 abbrev pub fault_text : NameError → List ℕ

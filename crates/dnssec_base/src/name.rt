@@ -2,7 +2,7 @@
 ghost use Rattle.std.specs.Prelude.{◌≡◌, ◌≢◌, ◌↔◌, Some};
 ghost use Rattle.std.specs.Prelude.{IfOk, IfErr, IsOk, IsErrOf, IsOkUnless};
 ghost use Rattle.dnssec_base.specs.WireName.{IsWireName};
-ghost use Rattle.dnssec_base.specs.NameText.{Spells, StandsFirst, HasNoFault, printed};
+ghost use Rattle.dnssec_base.specs.NameText.{Spells, StandsFirst, HasNoFault, name_text};
 
 mod draft;
 mod error;
@@ -130,7 +130,7 @@ impl Name<Vec<u8>> {
 /// label `.` and `\` have a `\` before them, other bytes from `!` to `~` print as themselves, and
 /// all others as `\DDD`.
 impl fmt::Display for Name<Vec<u8>> {
-    ghost output = { λ name. Some (printed name) };
+    ghost output = { λ name. Some (name_text name) };
 
     fn fmt<W: fmt::Write>(&self, f: &mut fmt::Formatter<W>) -> fmt::Result {
         let Some((first, mut rest)) = split_label(self.as_slice()) else {

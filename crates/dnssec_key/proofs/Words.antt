@@ -5,7 +5,7 @@ use Rattle.std.proofs.lemmas.Grind.{flat_map-append}
 use Rattle.std.proofs.lemmas.List.{map-append, take_more}
 use Rattle.std.proofs.lemmas.List.Elements.{filter-append}
 use Rattle.std.specs.List.{flat_map}
-use Rattle.dnssec_key.specs.Texts.{listed, set_words}
+use Rattle.dnssec_key.specs.Texts.{comma_list, set_words}
 use denote.Bor.{Bor}
 
 -- what goes before the next word
@@ -14,7 +14,7 @@ separator_after [] = []
 separator_after (w ∷ ws) = codes ", "
 
 listed_push : (ws : List (List ℕ)) (w : List ℕ)
-    → listed (ws ++ w ∷ []) ≡ listed ws ++ (separator_after ws ++ w)
+    → comma_list (ws ++ w ∷ []) ≡ comma_list ws ++ (separator_after ws ++ w)
 listed_push [] w = append-nil w
 listed_push (x ∷ xs) w =
     let after : List ℕ → List ℕ = λ y. codes ", " ++ y in
@@ -48,8 +48,8 @@ word_skipped flags i d h unset = words_more flags i d h ∙ rw unset (append-nil
 -- after a separator and flag i's word the words are one more, and have a separator to come
 pub record AddsWord (flags : List (Bool × Bor (List ℕ))) (i : ℕ) (separator word : List ℕ)
     : Type 0 where
-  pub text : listed (words_before flags i) ++ (separator ++ word)
-      ≡ listed (words_before flags (i + 1))
+  pub text : comma_list (words_before flags i) ++ (separator ++ word)
+      ≡ comma_list (words_before flags (i + 1))
   pub next : codes ", " ≡ separator_after (words_before flags (i + 1))
 
 pub word_added : (flags : List (Bool × Bor (List ℕ))) (i : ℕ) (d : Bool × Bor (List ℕ))

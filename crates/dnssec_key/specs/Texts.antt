@@ -40,8 +40,8 @@ abbrev pub set_words : List (Bool × List ℕ) → List (List ℕ)
 set_words flags = map (λ (f : Bool × List ℕ). f.1) (filter (λ f. f.0) flags)
 
 -- words with a comma and a space between each two
-abbrev pub listed : List (List ℕ) → List ℕ
-listed words = join_by (λ w. w) (codes ", ") words
+abbrev pub comma_list : List (List ℕ) → List ℕ
+comma_list words = join_by (λ w. w) (codes ", ") words
 
 -- what stands at the end, by the flags old, signer and present
 abbrev pub ending : Bool → Bool → Bool → List ℕ
@@ -55,4 +55,4 @@ ending _ true false = []
 
 -- the words of the flags that are set, and then the ending
 abbrev pub state_text : Flags → List ℕ
-state_text s = listed (set_words (named_flags s)) ++ ending s.old s.signer s.present
+state_text s = comma_list (set_words (named_flags s)) ++ ending s.old s.signer s.present

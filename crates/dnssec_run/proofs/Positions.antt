@@ -24,7 +24,7 @@ use Rattle.dnssec_keyset.specs.KeySet.{KeySetParts, new_set}
 use Rattle.dnssec_zone.proofs.Quantified.{apart, first, itself, same_key, second}
 use Rattle.dnssec_run.specs.Published.{Id, World, keys_where}
 use Rattle.dnssec_run.specs.Record.{new_world}
-use Rattle.dnssec_run.specs.Recorder.{Agrees, passing, shown_once}
+use Rattle.dnssec_run.specs.Recorder.{Agrees, ids_where, shown_once}
 
 both : (a b : Bool) → T a → T b → T (a && b)
 both true b p q = q
@@ -163,14 +163,14 @@ found_by f g same (e ∷ es) h = (same e.0 ∙ h.0, found_by f g same es h.1)
 
 module _ {Y : Type 0} (p : KeyType → Bool) (key : List ℕ → Option KeyParts) where
   passing-by_bytes : (es : List (String Y × ℕ))
-      → passing p key es ≡ filter (test p key) (by_bytes es)
+      → ids_where p key es ≡ filter (test p key) (by_bytes es)
   unfolding by_bytes test
   passing-by_bytes [] = refl
   passing-by_bytes (e ∷ es) = at
       (option_map_or (λ (k : KeyParts). p k.keytype) (key (string_bytes e.0)) false)
       (passing-by_bytes es)
     where
-      at : (b : Bool) → passing p key es ≡ filter (test p key) (by_bytes es)
+      at : (b : Bool) → ids_where p key es ≡ filter (test p key) (by_bytes es)
           → map (λ (e : String Y × ℕ). (string_bytes e.0, e.1))
           (cond b (e ∷ filter (λ (e : String Y × ℕ).
           option_map_or (λ (k : KeyParts). p k.keytype) (key (string_bytes e.0)) false) es)
@@ -185,8 +185,8 @@ module _ {Y : Type 0} (p : KeyType → Bool) (key : List ℕ → Option KeyParts
   ids = map (λ (e : String Y × ℕ). (string_bytes e.0, e.1))
 
   -- the first entry's key is keys_where, and then those of the others
-  passing-first : (e : String Y × ℕ) (es : List (String Y × ℕ)) → passing p key (e ∷ es)
-      ≡ shown_once p (key (string_bytes e.0)) (string_bytes e.0, e.1) ++ passing p key es
+  passing-first : (e : String Y × ℕ) (es : List (String Y × ℕ)) → ids_where p key (e ∷ es)
+      ≡ shown_once p (key (string_bytes e.0)) (string_bytes e.0, e.1) ++ ids_where p key es
   passing-first e es = at (key (string_bytes e.0))
       (filter (λ (e : String Y × ℕ). option_map_or (λ (k : KeyParts). p k.keytype)
       (key (string_bytes e.0)) false) es)
@@ -206,24 +206,24 @@ module _ {Y : Type 0} (p : KeyType → Bool) (key : List ℕ → Option KeyParts
   pub shows-next : (old new whole : List Id) (left : List (String Y × ℕ)) (e : String Y × ℕ)
       (es : List (String Y × ℕ)) (o : Option KeyParts) → left ≡ e ∷ es
       → o ≡ key (string_bytes e.0) → new ≡ old ++ shown_once p o (string_bytes e.0, e.1)
-      → old ++ passing p key left ≡ whole → new ++ passing p key es ≡ whole
+      → old ++ ids_where p key left ≡ whole → new ++ ids_where p key es ≡ whole
   shows-next old new whole left e es o steps found more so =
-      ap (λ l. l ++ passing p key es)
+      ap (λ l. l ++ ids_where p key es)
       (more ∙ ap (λ o. old ++ shown_once p o (string_bytes e.0, e.1)) found)
       ∙ append_assoc old (shown_once p (key (string_bytes e.0)) (string_bytes e.0, e.1))
-      (passing p key es)
+      (ids_where p key es)
       ∙ ap (λ l. old ++ l) (sym (passing-first e es))
-      ∙ ap (λ l. old ++ passing p key l) (sym steps) ∙ so
+      ∙ ap (λ l. old ++ ids_where p key l) (sym steps) ∙ so
 
   -- behind the whole walk
   pub shows-all : (all whole : List Id) (left : List (String Y × ℕ)) → left ≡ []
-      → all ++ passing p key left ≡ whole → all ≡ whole
+      → all ++ ids_where p key left ≡ whole → all ≡ whole
   shows-all all whole left none so =
-      sym (append-nil all) ∙ ap (λ l. all ++ passing p key l) (sym none) ∙ so
+      sym (append-nil all) ∙ ap (λ l. all ++ ids_where p key l) (sym none) ∙ so
 
   pub passing-shown : (m : BTreeMap (String Y) ℕ) (set : KeySetParts) (w : World)
       → IsOrdered string_cmp m → Agrees set (tree.get_by_text m) w
-      → ((q : List ℕ) → key q ≡ get set.keys q) → passing p key m.entries ≡ keys_where p w
+      → ((q : List ℕ) → key q ≡ get set.keys q) → ids_where p key m.entries ≡ keys_where p w
   unfolding placed
   passing-shown m set w ordered agrees keys =
       let es = entries w.set.keys in

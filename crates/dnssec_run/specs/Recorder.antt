@@ -54,9 +54,9 @@ pub record Agrees (set : KeySetParts) (at : List ℕ → Option ℕ) (w : World)
   pub positions : (q : List ℕ) → at q ≡ option_map (λ k. w.added q) (get w.set.keys q)
 
 -- the entries whose key passes, as keys of a record
-abbrev pub passing : {Y : Type 0} → (KeyType → Bool) → (List ℕ → Option KeyParts)
+abbrev pub ids_where : {Y : Type 0} → (KeyType → Bool) → (List ℕ → Option KeyParts)
     → List (String Y × ℕ) → List Id
-passing {Y} p key es =
+ids_where {Y} p key es =
     map (λ (e : String Y × ℕ). (string_bytes e.0, e.1))
     (filter (λ (e : String Y × ℕ). option_map_or (λ (k : KeyParts). p k.keytype)
     (key (string_bytes e.0)) false) es)

@@ -135,15 +135,15 @@ WaitsExactly name calls entries = SetsNothing name calls entries → NeverFalls 
 -- ---- whole rolls
 
 -- the phase in which a change spreads, until it is reported
-abbrev pub spreading : Half → RollState
-spreading First = Propagation1
-spreading Second = Propagation2
+abbrev pub propagation : Half → RollState
+propagation First = Propagation1
+propagation Second = Propagation2
 
 -- a report while its change spreads, and the end of a roll in its last phase, are accepted
 pub record GoesOn (name : List ℕ) (calls : List Call) (entries : List Entry) : Type 0 where
   pub reports : (n : ℕ) (roll : RollType) (half : Half) (ttl now : ℕ)
       (report : IsMade calls entries n (keyset.Report roll half ttl now)) →
-      phase_of (world_at name calls entries n).set.rolls roll ≡ Some (spreading half) →
+      phase_of (world_at name calls entries n).set.rolls roll ≡ Some (propagation half) →
       is_accepted report.entry.reply ≡ true
   pub ends : (n : ℕ) (roll : RollType) (end : IsMade calls entries n (keyset.RollDone roll)) →
       phase_of (world_at name calls entries n).set.rolls roll ≡ Some Done →

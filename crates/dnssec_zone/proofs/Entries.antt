@@ -10,7 +10,7 @@ use Rattle.dnssec_key.specs.declared.kind.KeyType.{KeyType}
 use Rattle.dnssec_key.specs.declared.roll.RollType.{RollType}
 use Rattle.dnssec_key.specs.Key.{KeyParts}
 use Rattle.dnssec_zone.specs.Inner.Bits.{is_set}
-use Rattle.dnssec_zone.specs.Inner.Counts.{bit, count_in, listed}
+use Rattle.dnssec_zone.specs.Inner.Counts.{bit, count_in, listed_passes}
 use Rattle.dnssec_zone.specs.Inner.Tags.{HasListed, has_its_tag}
 use Rattle.dnssec_zone.specs.Keys.{Keys}
 use Rattle.dnssec_zone.specs.Start.{texts, is_listed, new_entry_fault, new_fault}
@@ -74,8 +74,8 @@ pub counted-more : (p : KeyType → Bool) (keys : Keys) (olds : List (Bor (List 
     → b ≡ option_map_or (λ (k : KeyParts). p k.keytype
     && not (is_listed (texts (take i olds)) (get_or olds i d).now))
     (get keys (get_or olds i d).now) false → (n m : ℕ)
-    → n ≡ count_in (listed p (texts (take i olds))) keys → m ≡ n + bit b
-    → m ≡ count_in (listed p (texts (take (i + 1) olds))) keys
+    → n ≡ count_in (listed_passes p (texts (take i olds))) keys → m ≡ n + bit b
+    → m ≡ count_in (listed_passes p (texts (take (i + 1) olds))) keys
 counted-more p keys olds i d within b first n m before more = more
     ∙ (λ j. before j + bit (first j))
     ∙ sym (count-listed p (texts (take i olds)) (texts (take (i + 1) olds)) (get_or olds i d).now
@@ -87,8 +87,8 @@ pub counted-behind : (p : KeyType → Bool) (keys : Keys) (olds : List (Bor (Lis
     → HasListed tags keys (is_listed (texts (take i olds))) → (b : Bool)
     → b ≡ option_map_or (λ (k : KeyParts). p k.keytype && not (is_set tags k.key_tag))
     (get keys (get_or olds i d).now) false → (n m : ℕ)
-    → n ≡ count_in (listed p (texts (take i olds))) keys → m ≡ n + bit b
-    → m ≡ count_in (listed p (texts (take (i + 1) olds))) keys
+    → n ≡ count_in (listed_passes p (texts (take i olds))) keys → m ≡ n + bit b
+    → m ≡ count_in (listed_passes p (texts (take (i + 1) olds))) keys
 counted-behind p keys olds tags i d within has b first = counted-more p keys olds i d within b
     (first ∙ first-listed p keys tags (is_listed (texts (take i olds))) (get_or olds i d).now has)
 

@@ -7,7 +7,7 @@ ghost use Rattle.std.specs.Str.{bytes_eq};
 ghost use Rattle.std.specs.FinMap as map;
 ghost use Rattle.dnssec_zone.specs.Inner.Bits.{is_set};
 ghost use Rattle.dnssec_zone.specs.Inner.Code.{as_want};
-ghost use Rattle.dnssec_zone.specs.Inner.Counts.{count_in, listed};
+ghost use Rattle.dnssec_zone.specs.Inner.Counts.{count_in, listed_passes};
 ghost use Rattle.dnssec_zone.specs.Inner.Tags.{HasListed, has_its_tag};
 ghost use Rattle.dnssec_zone.specs.Start.{texts, is_listed, old_entry_fault, old_fault};
 ghost use Rattle.dnssec_zone.specs.Start.{new_entry_fault, new_fault, has_algorithm};
@@ -250,7 +250,7 @@ impl Keys {
     /// How many keys of a list serve, if they aren't listed as old: each is counted once.
     fn count_listed(&self, want: Want, old: &[&str]) -> usize
         ensures { result ≡
-            count_in (listed (serves_as_kept (as_want want)) (texts old.now)) self.now }
+            count_in (listed_passes (serves_as_kept (as_want want)) (texts old.now)) self.now }
     {
         if old.len() <= FEW {
             self.count_few_listed(want, old)
@@ -261,7 +261,7 @@ impl Keys {
 
     fn count_few_listed(&self, want: Want, old: &[&str]) -> usize
         ensures { result ≡
-            count_in (listed (serves_as_kept (as_want want)) (texts old.now)) self.now }
+            count_in (listed_passes (serves_as_kept (as_want want)) (texts old.now)) self.now }
     {
         let mut count = 0;
         for (i, reference) in old.iter().enumerate() {
@@ -275,7 +275,7 @@ impl Keys {
     #[inline(never)]
     fn count_many_listed(&self, want: Want, old: &[&str]) -> usize
         ensures { result ≡
-            count_in (listed (serves_as_kept (as_want want)) (texts old.now)) self.now }
+            count_in (listed_passes (serves_as_kept (as_want want)) (texts old.now)) self.now }
     {
         let mut earlier = [0; 1024];
         let mut count = 0;

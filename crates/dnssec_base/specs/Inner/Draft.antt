@@ -3,7 +3,7 @@
 use Rattle.std.specs.Prelude.{◌≡◌, ◌⊎◌, ℕ, ◌+◌, ◌-◌, ◌<◌, ◌≤◌}
 use Rattle.std.specs.Prelude.{List, [], ◌++◌, take, drop, slice_index, length}
 use Rattle.dnssec_base.specs.Inner.DraftName.{DraftName}
-use Rattle.dnssec_base.specs.NameText.{Place, HasNoFault, ended}
+use Rattle.dnssec_base.specs.NameText.{Place, HasNoFault, wire_end}
 use Rattle.dnssec_base.specs.WireName.{IsWireName, wire_label}
 use Rattle.dnssec_base.specs.declared.name.draft.Draft.TheInside.{Inside}
 use Rattle.dnssec_base.specs.declared.name.error.NameError.{NameError}
@@ -40,5 +40,5 @@ IsLimit error d =
 -- the whole text is read into this draft, and no fault stands in it
 pub record IsRead (text : List ℕ) (d : DraftName) : Type 0 where
   pub end : Place text d.labels d.label []
-  pub wire : IsWireName (d.labels ++ ended d.label)
+  pub wire : IsWireName (d.labels ++ wire_end d.label)
   pub faultless : HasNoFault text

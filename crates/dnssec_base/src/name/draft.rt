@@ -2,7 +2,7 @@
 //! lack of memory is no answer to a text with a fault.
 ghost use Rattle.std.specs.Prelude.{◌≡◌, ◌≢◌, [], ◌∷◌, ◌++◌, length, OnOk, IfErr};
 ghost use Rattle.dnssec_base.specs.Inner.Draft.{HasRoom, IsLimit};
-ghost use Rattle.dnssec_base.specs.NameText.{ended};
+ghost use Rattle.dnssec_base.specs.NameText.{wire_end};
 ghost use Rattle.dnssec_base.specs.WireName.{wire_label};
 
 use super::NameError;
@@ -84,7 +84,7 @@ impl Draft {
 
     /// The wire bytes: the labels, the last one unless it is empty, and the root.
     pub fn finish(&mut self) -> &[u8]
-        ensures { result.now ≡ self.old.labels ++ ended self.old.label }
+        ensures { result.now ≡ self.old.labels ++ wire_end self.old.label }
     {
         if self.label_len() > 0 {
             self.end_label();

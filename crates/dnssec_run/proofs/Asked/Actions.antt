@@ -9,7 +9,7 @@ use Rattle.dnssec_key.specs.declared.roll.RollType.{RollType}
 use Rattle.dnssec_key.specs.declared.kind.KeyType.{KeyType}
 use Rattle.dnssec_key.specs.RollTable.{column, half_of, behind, actions_of}
 use Rattle.dnssec_run.specs.Asked.{update_of, report_of}
-use Rattle.dnssec_run.specs.WholeRolls.{spreading}
+use Rattle.dnssec_run.specs.WholeRolls.{propagation}
 use Rattle.dnssec_run.specs.Published.{in_ds, in_dnskey, signs_dnskey, signs_zone}
 use Rattle.dnssec_run.specs.Safe.{SetKind, Ds, Dnskey, ZoneSigners, retires}
 use Rattle.dnssec_zone.proofs.Flags.{started, ended, is_blank, is_stale}
@@ -100,14 +100,15 @@ each_kind-at p e ZoneSigners = (and_parts (p Ds && p Dnskey) (p ZoneSigners) e).
 
 retires_table : RollType → Bool → SetKind → Bool
 retires_table r second kind =
-    alike (list_any (reports kind) (actions_of r (spreading (half second)))) (retires r second kind)
+    alike (list_any (reports kind) (actions_of r (propagation (half second))))
+    (retires r second kind)
 
 retires_all : each_roll (λ r. both (λ second. each_kind (retires_table r second))) ≡ true
 unfolding retires_table column
 retires_all = refl
 
 pub retires-asked : (r : RollType) (second : Bool) (kind : SetKind)
-    → list_any (reports kind) (actions_of r (spreading (half second))) ≡ retires r second kind
+    → list_any (reports kind) (actions_of r (propagation (half second))) ≡ retires r second kind
 unfolding retires_table column
 retires-asked r second kind = alike-same _ _
     (each_kind-at (retires_table r second)

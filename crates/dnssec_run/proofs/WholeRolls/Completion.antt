@@ -24,7 +24,7 @@ use Rattle.dnssec_zone.specs.Refusals as refusals
 use Rattle.dnssec_keyset.proofs.Sides.{leaves-others}
 use Rattle.dnssec_run.specs.Plain.{DoesAt, SetsNothing}
 use Rattle.dnssec_run.specs.WholeRolls.{GoesOn, IsAccepted, HasLeft, IsAtWork, end_of}
-use Rattle.dnssec_run.specs.WholeRolls.{RollsFinish, spreading}
+use Rattle.dnssec_run.specs.WholeRolls.{RollsFinish, propagation}
 use Rattle.dnssec_run.specs.declared.call.Call.{Call}
 use Rattle.dnssec_run.specs.declared.record.Entry.{Entry}
 use Rattle.dnssec_run.specs.declared.record.Reply.{Reply}
@@ -52,7 +52,7 @@ use Rattle.dnssec_keyset.proofs.Laws.{no_cause}
 
 -- ---- the run
 
-accepted_report : (o : Option RollState) (half : Half) → o ≡ Some (spreading half)
+accepted_report : (o : Option RollState) (half : Half) → o ≡ Some (propagation half)
     → refusals.report_refusal half o ≡ None
 accepted_report o First e = ap (refusals.report_refusal First) e
 accepted_report o Second e = ap (refusals.report_refusal Second) e

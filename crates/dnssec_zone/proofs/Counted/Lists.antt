@@ -23,7 +23,8 @@ use Rattle.dnssec_key.specs.declared.kind.KeyType.{KeyType}
 use Rattle.dnssec_key.specs.Key.{KeyParts}
 use Rattle.dnssec_zone.specs.Keys.{Keys, keys_in_map, entries_by_bytes}
 use Rattle.dnssec_zone.specs.Start.{is_listed, some_kept}
-use Rattle.dnssec_zone.specs.Inner.Counts.{bit, count, count_in, share, kept, listed, passes}
+use Rattle.dnssec_zone.specs.Inner.Counts.{bit, count, count_in, share, unlisted_passes}
+use Rattle.dnssec_zone.specs.Inner.Counts.{listed_passes, passes}
 use Rattle.dnssec_zone.proofs.Quantified.{first, second, itself, apart, below_found}
 use Rattle.dnssec_zone.proofs.Shown.{same_keys}
 use Rattle.dnssec_zone.proofs.Walks.{AreApart, apart_by_bytes, none_of_length}
@@ -138,15 +139,22 @@ module _ (p : KeyType → Bool) where
   -- one more listed key: it counts where it passes and wasn't listed
   pub count-listed : (qs more : List (List ℕ)) (x : List ℕ) (m : Keys)
       → ((q : List ℕ) → is_listed more q ≡ (is_listed qs q || bytes_eq x q))
-      → count_in (listed p more) m ≡ count_in (listed p qs) m
+      → count_in (listed_passes p more) m ≡ count_in (listed_passes p qs) m
       + bit (option_map_or (λ k. p k.keytype && not (is_listed qs x)) (get m x) false)
   count-listed qs more x m grown =
-      let rest : count_in (listed p more) (remove m x) ≡ count_in (listed p qs) (remove m x) =
-      count-same (listed p more) (listed p qs) (remove m x) other in
-      omega (arith, rest, one (get m x), count-at (listed p more) m x, count-at (listed p qs) m x)
+      let rest : count_in (listed_passes p more) (remove m x)
+      ≡ count_in (listed_passes p qs) (remove m x) =
+      count-same (listed_passes p more) (listed_passes p qs) (remove m x) other in
+      omega (
+        arith,
+        rest,
+        one (get m x),
+        count-at (listed_passes p more) m x,
+        count-at (listed_passes p qs) m x,
+      )
     where
       other : (q : List ℕ) (k : KeyParts) → get (remove m x) q ≡ Some k →
-          listed p more q k ≡ listed p qs q k
+          listed_passes p more q k ≡ listed_passes p qs q k
       other q k f = ap (λ b. p k.keytype && b) (grown q) ∙ at (bytes_eq x q) refl
         where
           at : (b : Bool) → bytes_eq x q ≡ b →
@@ -161,33 +169,35 @@ module _ (p : KeyType → Bool) where
       one_key false true = refl
       one_key false false = refl
 
-      one : (o : Option KeyParts) → share (listed p more) x o ≡ share (listed p qs) x o
+      one : (o : Option KeyParts) → share (listed_passes p more) x o
+          ≡ share (listed_passes p qs) x o
           + bit (option_map_or (λ k. p k.keytype && not (is_listed qs x)) o false)
       one None = refl
       one (Some k) = ap (λ b. bit (p k.keytype && b))
           (grown x ∙ ap (λ b. is_listed qs x || b) (same_itself x))
           ∙ one_key (p k.keytype) (is_listed qs x)
 
-  pub none_listed : (m : Keys) → count_in (listed p []) m ≡ 0
+  pub none_listed : (m : Keys) → count_in (listed_passes p []) m ≡ 0
   none_listed m = at (entries m)
     where
-      at : (es : List (List ℕ × KeyParts)) → count (listed p []) es ≡ 0
+      at : (es : List (List ℕ × KeyParts)) → count (listed_passes p []) es ≡ 0
       at [] = refl
       at (e ∷ es) = by (p e.1.keytype) (at es)
         where
-          by : (b : Bool) → count (listed p []) es ≡ 0 →
-              bit (b && false) + count (listed p []) es ≡ 0
+          by : (b : Bool) → count (listed_passes p []) es ≡ 0 →
+              bit (b && false) + count (listed_passes p []) es ≡ 0
           by true h = omega (arith, h)
           by false h = omega (arith, h)
 
   counted_apart : (qs : List (List ℕ)) (es : List (List ℕ × KeyParts)) → count (passes p) es
-      ≡ count (listed p qs) es + count (kept p qs) es
+      ≡ count (listed_passes p qs) es + count (unlisted_passes p qs) es
   counted_apart qs [] = refl
   counted_apart qs (e ∷ es) = at (p e.1.keytype) (is_listed qs e.0) (counted_apart qs es)
     where
-      at : (k b : Bool) → count (passes p) es ≡ count (listed p qs) es + count (kept p qs) es
-          → bit k + count (passes p) es ≡ (bit (k && b) + count (listed p qs) es)
-          + (bit (k && not b) + count (kept p qs) es)
+      at : (k b : Bool) → count (passes p) es
+          ≡ count (listed_passes p qs) es + count (unlisted_passes p qs) es
+          → bit k + count (passes p) es ≡ (bit (k && b) + count (listed_passes p qs) es)
+          + (bit (k && not b) + count (unlisted_passes p qs) es)
       at true true h = omega (arith, h)
       at true false h = omega (arith, h)
       at false true h = omega (arith, h)
@@ -208,9 +218,9 @@ less_more a b c e = grind (arith, nat_tests)
 
 -- a key passes that isn't listed where more keys pass than those of the list
 pub some_kept-counted : (p : KeyType → Bool) (keys : Keys) (qs : List (List ℕ)) →
-    some_kept p keys qs ≡ nat_lt (count_in (listed p qs) keys) (count_in (passes p) keys)
-some_kept-counted p keys qs = some_counted (kept p qs) (entries keys)
-    ∙ less_more (count_in (listed p qs) keys) (count (kept p qs) (entries keys))
+    some_kept p keys qs ≡ nat_lt (count_in (listed_passes p qs) keys) (count_in (passes p) keys)
+some_kept-counted p keys qs = some_counted (unlisted_passes p qs) (entries keys)
+    ∙ less_more (count_in (listed_passes p qs) keys) (count (unlisted_passes p qs) (entries keys))
     (count_in (passes p) keys) (counted_apart p qs (entries keys))
 
 -- ---- a walk over the hash map counts the same

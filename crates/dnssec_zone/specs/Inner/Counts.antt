@@ -33,12 +33,12 @@ share p r (Some k) = bit (p r k)
 
 module _ (p : KeyType → Bool) where
   -- a key that isn't listed passes
-  abbrev pub kept : List (List ℕ) → List ℕ → KeyParts → Bool
-  kept qs q k = p k.keytype && not (is_listed qs q)
+  abbrev pub unlisted_passes : List (List ℕ) → List ℕ → KeyParts → Bool
+  unlisted_passes qs q k = p k.keytype && not (is_listed qs q)
 
   -- a listed key passes
-  abbrev pub listed : List (List ℕ) → List ℕ → KeyParts → Bool
-  listed qs q k = p k.keytype && is_listed qs q
+  abbrev pub listed_passes : List (List ℕ) → List ℕ → KeyParts → Bool
+  listed_passes qs q k = p k.keytype && is_listed qs q
 
   -- a key passes, whether it is listed or not
   abbrev pub passes : List ℕ → KeyParts → Bool

@@ -1,7 +1,7 @@
 -- Each turn writes a word where its flag is set, and nothing else.
 use Rattle.std.proofs.Common.{rules, sym, ap}
 use Rattle.std.proofs.Output.{has_written_append, has_written_of_eq, has_written_to_eq}
-use Rattle.dnssec_key.specs.Texts.{listed}
+use Rattle.dnssec_key.specs.Texts.{comma_list}
 use Rattle.dnssec_key.proofs.Words.{word_added, word_skipped}
 use Rattle.dnssec_key.proofs.state.KeyStateDisplay.fmt.Goals as goal
 use Rattle.dnssec_key.proofs.state.KeyStateDisplay.fmt.Goals.{then-is_set+in_ok-write, else-is_set}
@@ -22,6 +22,6 @@ loop-is_set-preserved g c =
             rw w.separator-is utf8,
             rw (w.separator-is, skipped) separator,
             λ plain. has_written_to_eq _ _ _ _ _ w.f-is
-                (has_written_of_eq _ _ _ _ _ (ap listed (sym skipped)) (wrote plain)),
+                (has_written_of_eq _ _ _ _ _ (ap comma_list (sym skipped)) (wrote plain)),
           )
     ]

@@ -3,7 +3,7 @@ use Rattle.std.proofs.Common.{◌≡◌}
 use denote.Text.{Utf8}
 use denote.Shadow.{shadow}
 use Rattle.std.specs.Fmt.{HasWritten, IsPlainFormatter}
-use Rattle.dnssec_key.specs.Texts.{listed}
+use Rattle.dnssec_key.specs.Texts.{comma_list}
 use Rattle.dnssec_key.proofs.Words.{separator_after, words_before}
 use Rattle.dnssec_key.proofs.state.KeyStateDisplay.fmt.Given as goal
 
@@ -12,4 +12,4 @@ invariant-loop-is_set g l =
     let words = words_before l.is_set-items l.is_set-index in
     shadow (Utf8 l.separator) × (l.separator ≡ separator_after words)
     × (IsPlainFormatter l.initial.f
-    → HasWritten g.W.Write.write_str_gives l.initial.f (listed words) l.f)
+    → HasWritten g.W.Write.write_str_gives l.initial.f (comma_list words) l.f)
