@@ -48,7 +48,7 @@ start_refusal roll set olds news = first_of_causes (
     ∷ suitability_fault roll set.keys olds news
     ∷ [])
 
--- the same in the phase that its roll is in
+-- what bars the wait of a roll, or clears it, in the phase that the roll is in
 abbrev pub wait_clearance : RollType → Half → ℕ → KeySetParts → Clearance
 wait_clearance roll half now set =
     wait_in_phase roll half (ttl_in half (phase_of set.rolls roll)) now set.keys
