@@ -19,64 +19,34 @@ Then come operators who don't follow the guide in one point. Each point has to b
 `-v` it is told how many.
 """
 
-import heapq
 import random
-import re
 import sys
 import time
 from collections import Counter
-from itertools import count, permutations, product
-from math import inf
+from itertools import count, permutations
 from pathlib import Path
-from typing import NamedTuple
 
 sys.dont_write_bytecode = True
 TOP = Path(__file__).resolve().parent.parent
 sys.path.insert(0, str(TOP / "replay"))
 
-from judge import chain_line, has_chain  # noqa: E402
+from judge import chain_line  # noqa: E402
 from tables import ROLLS, SETS, KeySet  # noqa: E402
 
-BOOK = TOP / "docs" / "RUNBOOKS.md"
-FIRST_KEYS, EARLY_END = "The first keys", "Ending a roll early"
-BESIDE, GONE = "beside", "unsigned"
-DOUBLE_DS, CSK, ALGORITHM = "ksk-double-ds-roll", "csk-roll", "algorithm-roll"
+from game.book import BOOK, EARLY_END, FIRST_KEYS, UNSIGNED, Step, Wrong, runbooks  # noqa: E402
+from game.points import (  # noqa: E402
+    ALGORITHM, BEFORE_START, CDS_BY_ZSK, CDS_LEFT, CSK, CSK_FIRST, DOUBLE_DS, EARLY, KSK_FIRST,
+    LOWERED, MIXED, NOT_KEPT, NO_MARGIN, NO_SUM, ONE_SIDE, ORDERS, PARENT_FIRST, POINTS, RAISED,
+    ROUNDED, SAME_KEY, SKIPPED, TTL_OF_0,
+)
+from game.zone import SECOND, Broken, World  # noqa: E402
 
-# So many instants are in a second.
-SECOND = 8
-BEGIN = 1000 * SECOND
+BESIDE, GONE = "beside", "unsigned"
+
 # So many seconds after its last step a roll that doesn't go on is stuck.
 STUCK = 200
 ALGORITHMS = (8, 13, 14, 15)
 
-# What the cells of the tables say. A cell that says something else has to be taught here.
-DOES = {
-    "dnskey": r"\bpublish the DNSKEY set\b",
-    "zone": r"\bthe zone (signed by|without their signatures)\b",
-    "cds": r"\bpublish CDS and CDNSKEY\b",
-    "no cds": r"\b(no|without) CDS and CDNSKEY\b",
-    "ds": r"\bhave the parent('s DS set changed| set its DS)\b",
-}
-WATCHES = {
-    "": "",
-    "the DNSKEY set": "dnskey",
-    "all signatures": "zone",
-    "both": "dnskey zone",
-    "the DS set": "ds",
-    "the DS set at the parent, and all signatures": "ds zone",
-    "CDS and CDNSKEY, and the DS set": "ds version",
-    "this version": "version",
-}
-REPORTS = {
-    "the DNSKEY TTL": (max, ["dnskey"]),
-    "the zone's TTL": (max, ["zone"]),
-    "the DS TTL": (max, ["ds"]),
-    "the higher of the DNSKEY TTL and the zone's TTL": (max, ["dnskey", "zone"]),
-    "the higher of both": (max, ["dnskey", "zone"]),
-    "the higher of the DS TTL and the zone's TTL": (max, ["ds", "zone"]),
-    "the **sum** of the DS TTL and the DNSKEY TTL": (sum, ["ds", "dnskey"]),
-    "the highest TTL that the unsigned zone had": (max, ["dnskey", "zone"]),
-}
 # The actions of the key set in the same words.
 ASKS = {
     "UpdateDnskeyRrset": "dnskey",
@@ -91,264 +61,9 @@ WATCHED = {
     for record, kind in (("Dnskey", "dnskey"), ("Rrsig", "zone"), ("Ds", "ds"))
 }
 
-# The points in which the others don't follow the guide.
-POINTS = (
-    LOWERED := "reports give the TTL of now, not the highest that caches may hold",
-    TTL_OF_0 := "reports give a TTL of 0",
-    SKIPPED := "waits are skipped, by a moment ahead of the clock",
-    EARLY := "reports are made when the first server has it",
-    ROUNDED := "moments are rounded the other way",
-    NO_MARGIN := "no margin for clocks that differ",
-    BEFORE_START := "the moment of a report lies before its start",
-    NOT_KEPT := "TTLs are reported that some caches don't keep",
-    PARENT_FIRST := "the parent changes before the first report",
-    SAME_KEY := "the key of a double-DS roll that was ended early comes again",
-    CDS_LEFT := "nobody watches until CDS is out",
-    CDS_BY_ZSK := "CDS is signed by the ZSK alone",
-    KSK_FIRST := "a KSK roll before the first algorithm roll",
-    CSK_FIRST := "a CSK roll before the first algorithm roll",
-    NO_SUM := "the DS TTL alone, where the sum is due",
-    RAISED := "the DNSKEY TTL rises where it must not",
-    MIXED := "a KSK of one algorithm with a ZSK of another",
-    ONE_SIDE := "an algorithm roll of the KSKs alone",
-)
-# What some of them need to break soon: which rolls, and which world.
-ORDERS = {
-    SAME_KEY: [DOUBLE_DS] * 8,
-    CDS_LEFT: [DOUBLE_DS] * 8,
-    RAISED: [ALGORITHM] * 8,
-}
-WORLDS = {
-    NOT_KEPT: {"least": 4},
-    CDS_LEFT: {"slow": 0.5, "takes_cds": True},
-    CDS_BY_ZSK: {"takes_cds": True},
-}
-
-
-class Wrong(Exception):
-    """The runbook says what the game doesn't know, or what the key set doesn't ask."""
-
-
-class Broken(Exception):
-    """Some caches hold sets that a validator refuses."""
-
 
 class Stuck(Exception):
     """A step never comes to its end."""
-
-
-class Step(NamedTuple):
-    """A row of a runbook: what to do, what to watch, which TTL to report, if any, whether the
-    DNSKEY TTL must not rise then, and whether CDS has to come out behind it all."""
-
-    does: set
-    watches: set
-    report: tuple
-    is_steady: bool
-    takes_cds_out: bool
-
-
-def known(table, cell):
-    if cell not in table:
-        raise Wrong(f"{BOOK.name}: {cell!r} is not known here")
-    return table[cell]
-
-
-def step_of(does, watches, then):
-    report = re.search(r"`report[12]`: ([^;]*)", then)
-    return Step(
-        {part for part, words in DOES.items() if re.search(words, does)},
-        set(known(WATCHES, watches).split()),
-        known(REPORTS, report[1]) if report else None,
-        "don't raise the DNSKEY TTL" in then,
-        "take CDS and CDNSKEY out" in then,
-    )
-
-
-def runbooks():
-    """The steps of each roll and of the first keys, by the headings; early ends by the rolls."""
-    book, heading = {EARLY_END: {}}, None
-    for line in BOOK.read_text().splitlines():
-        cells = [cell.strip() for cell in line.split("|")[1:-1]]
-        if line.startswith("## "):
-            heading = line.removeprefix("## ")
-        elif len(cells) == 4 and cells[0].startswith("`"):
-            step, names = step_of(*cells[1:]), re.findall(r"`(\S+)`", cells[0])
-            if heading == EARLY_END:
-                book[EARLY_END].update({roll: step for roll in names})
-            else:
-                book.setdefault(heading, []).append(step)
-    missing = {FIRST_KEYS, *ROLLS} - {name for name, steps in book.items() if len(steps) == 3}
-    if missing or set(book[EARLY_END]) != set(ROLLS):
-        raise Wrong(f"{BOOK.name}: rows are missing, of {sorted(missing) or EARLY_END}")
-    return book
-
-
-# What docs/EMERGENCY.md says behind the two waits of going unsigned.
-UNSIGNED = (
-    Step({"cds", "ds"}, {"ds"}, (sum, ["ds", "dnskey"]), True, False),
-    Step({"no cds", "dnskey", "zone"}, {"dnskey", "zone"}, None, False, False),
-)
-
-
-class Kept:
-    """A set of one kind as servers give it, with the time for which caches keep it."""
-
-    def __init__(self, value, ttl, time):
-        self.value, self.ttl, self.time = value, ttl, time
-        self.givers, self.left, self.last = 0, None, 0
-
-    def end(self):
-        """When it has left all caches, as far as is known."""
-        return inf if self.givers else self.left + self.time
-
-
-class Servers:
-    """Servers that are reached one by one. `versions` are those published so far, and `at` says
-    which of them each server gives. A version has its sets by their kinds; a zone's has CDS too,
-    with who signs it."""
-
-    def __init__(self, world, number, version):
-        self.world, self.versions, self.at = world, [version], [0] * number
-        for kind, kept in self.sets(0):
-            kept.givers = number
-            world.held[kind].append(kept)
-
-    def sets(self, number):
-        return [pair for pair in self.versions[number].items() if isinstance(pair[1], Kept)]
-
-    def publish(self, **changed):
-        """Publishes a version, and gives its number."""
-        self.versions.append({**self.versions[-1], **changed})
-        number = len(self.versions) - 1
-        for _, kept in self.sets(number):
-            kept.last = number
-        for server in range(len(self.at)):
-            self.world.later(self.world.delay(), self.arrive, server, number)
-        return number
-
-    def arrive(self, server, number):
-        if number <= self.at[server]:
-            return
-        before, self.at[server] = self.versions[self.at[server]], number
-        for kind, kept in self.sets(number):
-            old = before[kind]
-            if kept is not old:
-                old.givers -= 1
-                if not old.givers:
-                    old.left = self.world.now
-                kept.givers += 1
-                self.world.holds(kind, kept)
-
-
-class World:
-    """The zone, its parent, and what caches may hold."""
-
-    def __init__(self, dice, keyset, point):
-        self.dice, self.keyset = dice, keyset
-        self.now, self.queue, self.order = BEGIN, [], count()
-        self.held, self.pairs = {"ds": [], "dnskey": [], "zone": []}, []
-        self.is_new, self.judged, self.told_at = True, {}, BEGIN
-        # Some caches keep all for a least time, or for a time of their own behind the TTL.
-        self.least, self.more = dice.choice(((0, 0), (0, 0), (4, 0), (0, 3)))
-        # How often a server takes long; whether the parent reads CDS.
-        self.slow, self.takes_cds = dice.choice((0, 0.1, 0.4)), dice.random() < 0.6
-        vars(self).update(WORLDS.get(point, {}))
-        nothing = frozenset()
-        unsigned = {"dnskey": self.kept((nothing, nothing)), "zone": self.kept(nothing)}
-        self.zone = Servers(self, dice.randint(2, 4), {**unsigned, "cds": None})
-        self.parent = Servers(self, dice.randint(1, 3), {"ds": self.kept(nothing)})
-        self.later(0, self.scan)
-        self.later(0, self.another_ttl)
-        self.instants = self.choices = 0
-
-    def kept(self, value):
-        ttl = self.dice.choice((1, 2, 2, 3, 5, 8))
-        return Kept(value, ttl, self.keeps(ttl) * SECOND)
-
-    def keeps(self, ttl):
-        """For how long some cache keeps what has this TTL."""
-        return max(ttl, self.least) + self.more
-
-    def delay(self):
-        """How long a server takes to get a version: now and then, long."""
-        return self.dice.randint(0, 2 * SECOND if self.dice.random() > self.slow else 16 * SECOND)
-
-    def later(self, delay, call, *arguments):
-        heapq.heappush(self.queue, (self.now + delay, next(self.order), call, arguments))
-
-    def scan(self):
-        """The parent reads the CDS of one server. It takes it where a key signs it that is in the
-        DS set and in the DNSKEY set, and where the zone doesn't break by it."""
-        version = self.zone.versions[self.dice.choice(self.zone.at)]
-        if self.takes_cds and version["cds"]:
-            keys, signers = version["cds"]
-            signing = signers & version["dnskey"].value[0]
-            present = self.parent.versions[-1]["ds"].value
-            if keys != present and signing & present and (keys & signing or not keys):
-                self.parent.publish(ds=self.kept(keys))
-        self.later(self.dice.randint(1, 3 * SECOND), self.scan)
-
-    def tell(self, keys):
-        """Tells the parent its DS set by another way than CDS."""
-        self.told_at = max(self.told_at, self.now + self.dice.randint(0, 12 * SECOND))
-        self.later(self.told_at - self.now, lambda: self.parent.publish(ds=self.kept(keys)))
-
-    def another_ttl(self):
-        if self.now > BEGIN:
-            self.parent.publish(ds=self.kept(self.parent.versions[-1]["ds"].value))
-        self.later(self.dice.randint(1, 60 * SECOND), self.another_ttl)
-
-    def holds(self, kind, kept):
-        if kept not in self.held[kind]:
-            self.held[kind].append(kept)
-        self.is_new = True
-
-    def tick(self):
-        self.now += 1
-        while self.queue[0][0] <= self.now:
-            _, _, call, arguments = heapq.heappop(self.queue)
-            call(*arguments)
-        # (Between two changes sets leave caches, and none comes in.)
-        if self.is_new:
-            self.is_new = False
-            self.look()
-
-    def look(self):
-        """Looks at each choice of sets that some cache may hold now."""
-        for kind, sets in self.held.items():
-            self.held[kind] = [kept for kept in sets if self.now < kept.end()]
-        checked = product(self.held["ds"], self.held["dnskey"])
-        self.pairs = [
-            (ds, dnskey)
-            for ds, dnskey in dict.fromkeys([*self.pairs, *checked])
-            if self.now < min(dnskey.end(), ds.end() + dnskey.time)
-        ]
-        self.instants += 1
-        for (ds, dnskey), zone in product(self.pairs, self.held["zone"]):
-            self.choices += 1
-            values = ds.value, dnskey.value, zone.value
-            if values not in self.judged:
-                self.judged[values] = self.lacks(*values)
-            if self.judged[values]:
-                raise Broken(self.judged[values])
-
-    def lacks(self, ds, dnskey, zone):
-        """What a validator misses in these sets, if anything."""
-        keys, signers = dnskey
-        if not has_chain(ds, keys, signers, zone):
-            return f"no chain: {self.told(ds, keys, signers, zone)}"
-        entry, signing = self.algorithms(ds & keys & signers), self.algorithms(keys & zone)
-        if self.algorithms(ds) - (entry & signing):
-            return f"not every algorithm: {self.told(ds, keys, signers, zone)}"
-        return None
-
-    def algorithms(self, names):
-        return {self.keyset.algorithms[name] for name in names}
-
-    def told(self, *sets):
-        named = (",".join(sorted(names)) or "-" for names in sets)
-        return " ".join(f"{label}={names}" for label, names in zip(SETS, named))
 
 
 class Operator:
