@@ -96,10 +96,10 @@ pub no-wait-half : (roll : RollType) (set : KeySetParts) (half : Half) (ttl : �
     phase_of set.rolls roll ≡ Some (cache_expire half ttl)
     → LacksStamp roll half ttl set.keys → HasNoWait roll set
 no-wait-half roll set half ttl is lacks =
-    no-wait roll set (Some (expiring half ttl)) is (at half lacks)
+    no-wait roll set (Some (cache_expire half ttl)) is (at half lacks)
   where
     at : (h : Half) → LacksStamp roll h ttl set.keys → (half : Half) (t : ℕ)
-        → ttl_in half (Some (expiring h ttl)) ≡ Some t → LacksStamp roll half t set.keys
+        → ttl_in half (Some (cache_expire h ttl)) ≡ Some t → LacksStamp roll half t set.keys
     at First lacks First t e = let same : ttl ≡ t = cc in
         subst (λ x. LacksStamp roll First x set.keys) same lacks
     at First lacks Second t e = cc
