@@ -23,7 +23,7 @@ use Rattle.dnssec_key.specs.declared.kind.KeyType.{KeyType}
 use Rattle.dnssec_zone.specs.Lists.{Listed, listed_by, nothing_listed, Lists}
 use Rattle.dnssec_keyset.specs.KeySet.{ChangesKey}
 use Rattle.dnssec_keyset.specs.KeySet.{KeySetParts, MovesOn}
-use Rattle.dnssec_zone.specs.Rolls.{phase_of, with_phase}
+use Rattle.dnssec_zone.specs.Rolls.{phase_of}
 use Rattle.dnssec_zone.proofs.Phases.{phase_of-with_phase}
 use Rattle.dnssec_key.specs.RollTable.{First, Second}
 use Rattle.dnssec_key.specs.Setters.{Setting, Decoupled, Present, Signer, AtParent, Stale}
@@ -45,7 +45,7 @@ use Rattle.dnssec_run.specs.Plain.{DoesAt, StaysSafe, start_of, first_wait_of, s
 use Rattle.dnssec_run.specs.Plain.{is_plain_setting}
 use Rattle.dnssec_zone.proofs.Flags.{SideOf, Keys, Zone, is_blank, Quiet, fits, stale-idle}
 use Rattle.dnssec_zone.proofs.Flags.{blank-idle}
-use Rattle.dnssec_run.proofs.Chain.Tale.{Tale, World, Key, world_at, put_roll, rolled, start_key}
+use Rattle.dnssec_run.proofs.Chain.Tale.{Tale, World, Key, world_at, rolled, start_key}
 use Rattle.dnssec_run.proofs.Chain.Tale.{early-end-parts, start-parts, report_key, wait1_key}
 use Rattle.dnssec_run.proofs.Chain.Tale.{wait2_key, is_listed}
 use Rattle.dnssec_run.proofs.Chain.Setters.{harmless, others-role, present_others}

@@ -24,7 +24,7 @@ use Rattle.dnssec_run.proofs.Chain.Tables.{checked}
 use Rattle.dnssec_run.proofs.Chain.Tale.{stamp_of}
 use Rattle.dnssec_run.proofs.Chain.Setters.{Harmless, harmless-alike, harmless-busy, others-idle}
 use Rattle.dnssec_zone.proofs.Tests.{each_key, each_key-at, ◌⇒◌, mp, and-both, each_in_half}
-use Rattle.dnssec_zone.proofs.Tests.{each_in_half-at, alike, each_roll, each_roll-at, or_second}
+use Rattle.dnssec_zone.proofs.Tests.{each_in_half-at, alike, each_roll-at, or_second}
 use Rattle.dnssec_run.proofs.Chain.Facts.{stays, timed, stays_facts, timer, other, stays_wait}
 use Rattle.dnssec_run.proofs.Chain.Phases.{wait_stamps}
 use Rattle.dnssec_run.proofs.WholeRolls.OrderedKeys.{back}
