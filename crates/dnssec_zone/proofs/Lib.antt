@@ -22,6 +22,7 @@ pub mod Phases
 pub mod Quantified
 pub mod Words
 pub mod Tags
+pub mod Listing
 pub mod Counted
 pub mod TwoLists
 pub mod Algorithms

@@ -77,7 +77,7 @@ phase_of-by f AlgorithmRoll = refl
 
 -- ---- rolls by their numbers
 
-same-itself : (a : RollType) → same_roll a a ≡ true
+pub same-itself : (a : RollType) → same_roll a a ≡ true
 same-itself KskRoll = refl
 same-itself KskDoubleDsRoll = refl
 same-itself ZskRoll = refl

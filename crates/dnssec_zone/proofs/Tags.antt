@@ -8,12 +8,12 @@ use Rattle.std.proofs.lemmas.Bool.Decides.{nat_tests}
 use Rattle.std.specs.Option.{option_map, option_map_or}
 use Rattle.std.specs.FinMap.{get}
 use Rattle.dnssec_key.specs.Key.{KeyParts}
+use Rattle.dnssec_key.specs.RollTable.{after_early_end}
 use Rattle.dnssec_zone.specs.Keys.{Keys, has_tag, TagsApart}
 use Rattle.dnssec_key.specs.Setters.{Setting, Decoupled, Present, Signer, AtParent, Stale}
 use Rattle.dnssec_key.specs.Setters.{VisibleAt, DsVisibleAt, RrsigVisibleAt, set_by}
 use Rattle.dnssec_zone.specs.declared.keys.Change.{Change}
-use Rattle.dnssec_zone.specs.declared.keys.Change.TheVariants.{MarkOld, MarkNew, UnmarkOld}
-use Rattle.dnssec_zone.specs.declared.keys.Change.TheVariants.{UnmarkNew}
+use Rattle.dnssec_zone.specs.declared.keys.Change.TheVariants.{MarkOld, MarkNew}
 use Rattle.dnssec_zone.specs.Inner.Change.{makes}
 use Rattle.dnssec_key.specs.declared.kind.KeyType.{KeyType}
 use Rattle.dnssec_key.specs.declared.roll.RollType.{RollType}
@@ -43,8 +43,13 @@ kept_set (RrsigVisibleAt time) k = refl
 pub kept_made : (change : Change) (k : KeyParts) → (makes change k).key_tag ≡ k.key_tag
 kept_made MarkOld k = refl
 kept_made (MarkNew roll now) k = refl
-kept_made (UnmarkOld roll) k = refl
-kept_made (UnmarkNew roll) k = refl
+
+pub kept_unmarked : (roll : RollType) (as_old as_new : Bool) (k : KeyParts)
+    → (after_early_end roll as_old as_new k).key_tag ≡ k.key_tag
+kept_unmarked roll true true k = refl
+kept_unmarked roll true false k = refl
+kept_unmarked roll false true k = refl
+kept_unmarked roll false false k = refl
 
 -- a value that f gives of what was there
 pub mapped : (o : Option KeyParts) (f : KeyParts → KeyParts) (l : KeyParts)

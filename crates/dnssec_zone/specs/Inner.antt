@@ -3,5 +3,6 @@ pub mod Bits
 pub mod Code
 pub mod Change
 pub mod Tags
+pub mod Entries
 pub mod Counts
 pub mod Over

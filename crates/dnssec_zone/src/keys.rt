@@ -11,9 +11,9 @@ ghost use Rattle.std.specs.HashMap as hash;
 ghost use Rattle.std.specs.HashSet.{contains, spare};
 ghost use Rattle.dnssec_base.specs.declared.error.Error.TheVariants.{OutOfMemory};
 ghost use Rattle.dnssec_key.specs.RollTable.{which, after_report, after_wait, new_at_start};
-ghost use Rattle.dnssec_key.specs.RollTable.{after_early_end, old_at_start, new_at_early_end};
-ghost use Rattle.dnssec_key.specs.RollTable.{old_at_early_end};
+ghost use Rattle.dnssec_key.specs.RollTable.{after_early_end, old_at_start};
 ghost use Rattle.dnssec_key.specs.Setters.{setting_of, set_by};
+ghost use Rattle.dnssec_zone.specs.Inner.Bits.{is_set};
 ghost use Rattle.dnssec_zone.specs.Inner.Change.{makes};
 ghost use Rattle.dnssec_zone.specs.Inner.Code.{as_want};
 ghost use Rattle.dnssec_zone.specs.Inner.Counts.{CountsAgree, count_in, no_counts, passes};
@@ -22,12 +22,11 @@ ghost use Rattle.dnssec_zone.specs.Keys.{TagsApart, keys_in_map, has_tag};
 ghost use Rattle.dnssec_zone.specs.Start.{is_listed, serves_as_kept, texts};
 ghost use Rattle.dnssec_zone.specs.Refusals.{Answers, AnswersExactly, add_refusal};
 ghost use Rattle.dnssec_zone.specs.Refusals.{deletion_refusal, setting_refusal};
-ghost use Rattle.dnssec_zone.specs.Lists.{has_kept_key, listed_at_start};
 ghost use Rattle.dnssec_zone.specs.Inner.Over.{over_at};
 ghost use Rattle.dnssec_zone.specs.Wait.{IsOverFrom, LacksStamp};
 
+use crate::bits::{TagSet, is_set};
 use crate::counts::{Counts, wait_moves_counts};
-use crate::listed::{Listed, copy_list, push_copy};
 use crate::side::Want;
 use dnssec_key::{Error, Half, Key, RollType, Setting, UnixTime};
 use std::alloc::Global;
@@ -68,8 +67,6 @@ impl Model for Keys {
 pub(crate) enum Change {
     MarkOld,
     MarkNew(RollType, UnixTime),
-    UnmarkOld(RollType),
-    UnmarkNew(RollType),
 }
 
 impl Change {
@@ -79,8 +76,6 @@ impl Change {
         match self {
             Change::MarkOld => key.mark_old(),
             Change::MarkNew(roll, now) => key.mark_new(roll, now),
-            Change::UnmarkOld(roll) => key.unmark_old(roll),
-            Change::UnmarkNew(roll) => key.unmark_new(roll),
         }
     }
 }
@@ -170,10 +165,12 @@ impl Keys {
         Ok(())
     }
 
-    /// Takes out the key at a reference, if it is stale: such a key is in no count.
+    /// Takes out the key at a reference, if it is stale: such a key is in no count. Answers its tag.
     #[tactic(auto, using(crate::proofs::Shown::shown))]
-    pub fn delete(&mut self, pubref: &str) -> Result<(), Error>
+    pub fn delete(&mut self, pubref: &str) -> Result<u16, Error>
         ensures reply { AnswersExactly (deletion_refusal (map.get self.old pubref.now)) result }
+        ensures tag { IfOk result (λ tag.
+            option_map (λ k. k.key_tag) (map.get self.old pubref.now) ≡ Some tag) }
         ensures ok { OnOk result ((q : List ℕ) → map.get self.new q
             ≡ (if bytes_eq pubref.now q then None else map.get self.old q)) }
         ensures err { OnErr result (self.new ≡ self.old) }
@@ -187,14 +184,16 @@ impl Keys {
         let key_tag = key.key_tag();
         self.map.remove(pubref);
         self.tags.remove(&key_tag);
-        Ok(())
+        Ok(key_tag)
     }
 
-    /// Sets something of the key at a reference.
+    /// Sets something of the key at a reference. Answers its tag.
     #[tactic(auto, using(crate::proofs::Shown::shown))]
-    pub fn set(&mut self, pubref: &str, setting: Setting) -> Result<(), Error>
+    pub fn set(&mut self, pubref: &str, setting: Setting) -> Result<u16, Error>
         ensures reply { AnswersExactly
             (setting_refusal (setting_of setting) (map.get self.old pubref.now)) result }
+        ensures tag { IfOk result (λ tag.
+            option_map (λ k. k.key_tag) (map.get self.old pubref.now) ≡ Some tag) }
         ensures ok { OnOk result ((q : List ℕ) → map.get self.new q ≡ option_map
             (λ k. if bytes_eq pubref.now q then set_by (setting_of setting) k else k)
             (map.get self.old q)) }
@@ -203,6 +202,7 @@ impl Keys {
         let Some(key) = self.map.get_mut(pubref) else {
             return Err(Error::KeyNotFound);
         };
+        let key_tag = key.key_tag();
         let before = key.keytype();
         if !before.suits(&setting) {
             return Err(Error::WrongKeyType);
@@ -211,7 +211,7 @@ impl Keys {
         let after = key.keytype();
         self.counts.follow(&setting, &before, &after);
         is_sound(&self.map);
-        Ok(())
+        Ok(key_tag)
     }
 
     /// Marks the keys that a start lists as old.
@@ -236,72 +236,16 @@ impl Keys {
         }
     }
 
-    /// Makes keys old no more, as their roll is ended early.
-    fn unmark_old(&mut self, roll: RollType, references: &[String])
-        ensures { (q : List ℕ) → map.get self.new q ≡ option_map
-            (λ k. if is_listed (list_map string_bytes references.now) q
-            then old_at_early_end roll k else k) (map.get self.old q) }
+    /// Undoes a start on the keys that it listed as old, or as new, by their tags.
+    pub(crate) fn unmark(&mut self, roll: RollType, olds: &TagSet, news: &TagSet)
+        ensures { (q : List ℕ) → map.get self.new q ≡ option_map (λ k. after_early_end roll
+            (is_set olds.now k.key_tag) (is_set news.now k.key_tag) k) (map.get self.old q) }
     {
-        for reference in references {
-            self.change_at(reference.as_str(), Change::UnmarkOld(roll));
-        }
-    }
-
-    /// Takes from keys what the start put on them, as their roll is ended early.
-    fn unmark_new(&mut self, roll: RollType, references: &[String])
-        ensures { (q : List ℕ) → map.get self.new q ≡ option_map
-            (λ k. if is_listed (list_map string_bytes references.now) q
-            then new_at_early_end roll k else k) (map.get self.old q) }
-    {
-        for reference in references {
-            self.change_at(reference.as_str(), Change::UnmarkNew(roll));
-        }
-    }
-
-    /// Undoes a start on the keys that are kept of it.
-    pub fn unmark(&mut self, roll: RollType, listed: &Listed)
-        ensures { (q : List ℕ) → map.get self.new q ≡ option_map
-            (after_early_end roll (is_listed listed.now.olds q) (is_listed listed.now.news q))
-            (map.get self.old q) }
-    {
-        self.unmark_old(roll, listed.olds.as_slice());
-        self.unmark_new(roll, listed.news.as_slice());
-    }
-
-    /// What is kept of a start while its roll may be ended early.
-    pub fn list(&self, alloc: Global, old: &[&str], new: &[&str]) -> Result<Listed, Error>
-        ensures ok { IfOk result (λ listed.
-            listed ≡ listed_at_start self.now (texts old.now) (texts new.now)) }
-        ensures err { IfErr result (λ e. e ≡ OutOfMemory) }
-    {
-        Ok(Listed {
-            olds: self.copy_kept(alloc, old)?,
-            news: copy_list(alloc, new)?,
-        })
-    }
-
-    /// Copies of the references whose keys are not old.
-    fn copy_kept(&self, alloc: Global, references: &[&str]) -> Result<Vec<String>, Error>
-        ensures ok { IfOk result (λ list. list_map string_bytes list.items
-            ≡ filter (has_kept_key self.now) (texts references.now)) }
-        ensures err { IfErr result (λ e. e ≡ OutOfMemory) }
-    {
-        let mut list = Vec::new(alloc);
-        for reference in references {
-            if self.is_kept(reference) {
-                push_copy(alloc, &mut list, reference)?;
-            }
-        }
-        Ok(list)
-    }
-
-    fn is_kept(&self, reference: &str) -> bool
-        ensures { result ≡ has_kept_key self.now reference.now }
-    {
-        match self.get(reference) {
-            None => false,
-            Some(key) => key.is_kept(),
-        }
+        self.map.retain(|_, key| {
+            unmark_key(roll, olds, news, key);
+            true
+        });
+        self.counts = recount(&self.map);
     }
 
     /// Changes the key at a reference, where there is one.
@@ -397,6 +341,20 @@ fn put_tag(tags: &mut HashSet<u16>, key_tag: u16)
     match tags.insert(key_tag) {
         Ok(_) => {}
         Err(_) => {}
+    }
+}
+
+/// Undoes a start on a key that it listed as old, or as new.
+fn unmark_key(roll: RollType, olds: &TagSet, news: &TagSet, key: &mut Key)
+    ensures { key.new ≡ after_early_end roll
+        (is_set olds.now key.old.key_tag) (is_set news.now key.old.key_tag) key.old }
+{
+    let key_tag = key.key_tag();
+    if is_set(olds, key_tag) {
+        key.unmark_old(roll);
+    }
+    if is_set(news, key_tag) {
+        key.unmark_new(roll);
     }
 }
 

@@ -15,5 +15,5 @@ mod side;
 pub use bits::AlgorithmSet;
 pub use check::may_go_over;
 pub use keys::Keys;
-pub use listed::{Listed, Lists};
+pub use listed::Lists;
 pub use rolls::Rolls;

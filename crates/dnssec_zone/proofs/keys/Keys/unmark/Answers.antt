@@ -1,0 +1,33 @@
+-- The walk undoes the start on each key that is listed; all are counted again.
+use Rattle.std.proofs.Common.{ℕ, refl, rules, subst, sym}
+use Rattle.std.specs.Prelude.{nat_eq}
+use Rattle.std.specs.HashSet.{contains}
+use Rattle.std.proofs.lemmas.Map.Made.{map_same_pairs}
+use Rattle.dnssec_key.specs.Key.{KeyParts}
+use Rattle.dnssec_key.specs.RollTable.{after_early_end}
+use Rattle.dnssec_zone.specs.Inner.Bits.{is_set}
+use Rattle.dnssec_zone.specs.Inner.Counts.{CountsAgree}
+use Rattle.dnssec_zone.specs.Keys.{keys_in_map}
+use Rattle.dnssec_zone.proofs.Shown.{get-walked}
+use Rattle.dnssec_zone.proofs.Tags.{TagsAgree-mapped, kept_unmarked}
+use Rattle.dnssec_zone.proofs.keys.Keys.unmark.Goals as goal
+
+pub returns : goal.returns
+returns c =
+    let step : KeyParts → KeyParts = λ k. after_early_end c.args.roll
+    (is_set c.args.olds.now k.key_tag) (is_set c.args.news.now k.key_tag) k in
+    let e = map_same_pairs _ step _ (λ k v b w f t. search rules) _ _ c.retain.ensures.filtered in
+    get-walked step c.self.inside.map c.retain.new.self c.args.self.now c.self.view_is e
+
+pub invariant_of-self : goal.invariant_of-self
+invariant_of-self c =
+    let i = c.self.inside in
+    let n = c.retain.new.self in
+    let step : KeyParts → KeyParts = λ k. after_early_end c.args.roll
+    (is_set c.args.olds.now k.key_tag) (is_set c.args.news.now k.key_tag) k in
+    let e = map_same_pairs _ step _ (λ k v b w f t. search rules) _ _ c.retain.ensures.filtered in (
+      TagsAgree-mapped (contains nat_eq i.tags) (keys_in_map i.map) (keys_in_map n) (λ q. step)
+          (λ q k. kept_unmarked c.args.roll _ _ k) (get-walked step i.map n _ refl e)
+          c.self.invariant.0,
+      c.recount-self-inside.ensures,
+    )
