@@ -3,7 +3,7 @@ use Rattle.std.proofs.Common.{◌++◌, ◌∙◌, ap, sym}
 use Rattle.std.proofs.lemmas.List.{append-nil, take_all}
 use Rattle.dnssec_zone.specs.Start.{texts}
 use Rattle.dnssec_zone.specs.Inner.Entries.{entries_of}
-use Rattle.dnssec_zone.proofs.Listing.{list-more}
+use Rattle.dnssec_zone.proofs.Listing.References.{list-more}
 use Rattle.dnssec_zone.proofs.listed.Lists.list.Goals as goal
 
 pub loop-reference-init : goal.loop-reference-init

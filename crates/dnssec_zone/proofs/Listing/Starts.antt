@@ -1,0 +1,305 @@
+-- What a start lists, and what a report or an early end takes back.
+use Rattle.std.proofs.Common.{◌≡◌, ℕ, Bool, true, false, not, ◌&&◌, List, [], ◌∷◌, ◌++◌, map}
+use Rattle.std.proofs.Common.{Some, None, refl, sym, ap, subst, ◌∙◌, cond}
+use Rattle.std.specs.Prelude.{Option, filter, if◌then◌else◌}
+use Rattle.std.specs.Option.{option_map_or}
+use Rattle.std.specs.FinMap.{get}
+use Rattle.std.proofs.lemmas.List.{append-nil, map-append}
+use Rattle.std.proofs.lemmas.List.Elements.{filter-append}
+use Rattle.dnssec_key.specs.declared.roll.RollType.{RollType}
+use Rattle.dnssec_key.specs.State.{is_kept}
+use Rattle.dnssec_key.specs.Key.{KeyParts, all_states}
+use Rattle.dnssec_key.specs.RollTable.{Half, First, Second}
+use Rattle.dnssec_zone.specs.declared.listed.Entry.{Entry}
+use Rattle.dnssec_zone.specs.declared.listed.Part.{Part}
+use Rattle.dnssec_zone.specs.declared.listed.Part.TheVariants.{Old, New}
+use Rattle.dnssec_zone.specs.Inner.Entries.{is_of, is_of_roll, same_part, without_roll}
+use Rattle.dnssec_zone.specs.Inner.Entries.{entry_of, entries_of, entries_at_start}
+use Rattle.dnssec_zone.specs.Inner.Entries.{entries_after_report}
+use Rattle.dnssec_zone.specs.Inner.Entries.{reference_of, references_of, lists_of}
+use Rattle.dnssec_zone.specs.Inner.Entries.{AreThere}
+use Rattle.dnssec_zone.specs.Keys.{Keys, TagsApart}
+use Rattle.dnssec_zone.specs.Lists.{Listed, listed_by, with_listed, others}
+use Rattle.dnssec_zone.specs.Lists.{nothing_listed, has_kept_key, listed_at_start}
+use Rattle.dnssec_zone.specs.Lists.{lists_after_report}
+use Rattle.dnssec_zone.specs.Rolls.{same_roll}
+use Rattle.dnssec_zone.proofs.Phases.{same_lists, listed_by-with_listed}
+use Rattle.dnssec_zone.proofs.Phases.{same_roll-is, same-itself}
+use Rattle.dnssec_zone.proofs.Listing.References.{listed_by-of, reference_of-is, there-append}
+use Rattle.dnssec_zone.proofs.Listing.References.{there-filter}
+use Rattle.dnssec_base.specs.declared.error.Error.{Error}
+use Rattle.dnssec_base.specs.declared.error.Error.TheVariants.{WrongKeyType, WrongKeyState}
+use Rattle.dnssec_key.specs.declared.kind.KeyType.{KeyType}
+use Rattle.dnssec_key.specs.State.{is_fresh}
+use Rattle.dnssec_zone.specs.Start.{new_entry_fault, new_fault, lists_kind, side_of}
+use Rattle.dnssec_zone.proofs.Tests.{each_key, each_key-at, mp, ◌⇒◌}
+use Rattle.std.specs.Option.{option_or}
+
+-- ---- the entries of one roll
+
+-- those of another roll are the same
+module _ (roll other : RollType) (apart : same_roll roll other ≡ false) where
+  not_of : (part : Part) (e : Entry) → is_of_roll roll e ≡ true → is_of other part e ≡ false
+  not_of part e is =
+      at (same_roll other e.roll) refl
+    where
+      at : (b : Bool) → same_roll other e.roll ≡ b
+          → (same_roll other e.roll && same_part part e.part) ≡ false
+      at true t =
+          let tied : same_roll roll other ≡ true =
+          subst (λ r. same_roll roll r ≡ true) (sym (same_roll-is other e.roll t)) is in cc
+      at false t = ap (λ b. b && same_part part e.part) t
+
+  without_other : (part : Part) (es : List Entry)
+      → filter (is_of other part) (without_roll roll es) ≡ filter (is_of other part) es
+  without_other part [] = refl
+  without_other part (e ∷ es) =
+      at (is_of_roll roll e) refl (without_other part es)
+    where
+      at : (b : Bool) → is_of_roll roll e ≡ b
+          → filter (is_of other part) (without_roll roll es) ≡ filter (is_of other part) es
+          → filter (is_of other part) (cond (not b) (e ∷ without_roll roll es)
+          (without_roll roll es)) ≡ filter (is_of other part) (e ∷ es)
+      at true t rest = rest
+          ∙ ap (λ b. cond b (e ∷ filter (is_of other part) es) (filter (is_of other part) es))
+          (sym (not_of part e t))
+      at false t rest =
+          ap (λ es. cond (is_of other part e) (e ∷ es) es) rest
+
+  none_of_other : (keys : Keys) (of part : Part) (qs : List (List ℕ))
+      → filter (is_of other part) (entries_of keys roll of qs) ≡ []
+  none_of_other keys of part [] = refl
+  none_of_other keys of part (q ∷ qs) =
+      filter-append (is_of other part) (entry_of roll of (get keys q))
+      (entries_of keys roll of qs)
+      ∙ (λ i. one (get keys q) i ++ none_of_other keys of part qs i)
+    where
+      kept : (k : KeyParts) (b : Bool) → filter (is_of other part)
+          (cond b (record { roll = roll; part = of; key_tag = k.key_tag } ∷ []) []) ≡ []
+      kept k true = ap (λ b. cond b (record { roll = roll; part = of; key_tag = k.key_tag } ∷ [])
+          []) (not_of part record { roll = roll; part = of; key_tag = k.key_tag }
+          (same-itself roll))
+      kept k false = refl
+
+      one : (o : Option KeyParts) → filter (is_of other part) (entry_of roll of o) ≡ []
+      one None = refl
+      one (Some k) = kept k (all_states is_kept k.keytype)
+
+-- ---- a roll's own entries
+
+none_of_same : (roll : RollType) (part : Part) (es : List Entry)
+    → filter (is_of roll part) (without_roll roll es) ≡ []
+none_of_same roll part [] = refl
+none_of_same roll part (e ∷ es) = at (is_of_roll roll e) refl (none_of_same roll part es)
+  where
+    at : (b : Bool) → is_of_roll roll e ≡ b
+        → filter (is_of roll part) (without_roll roll es) ≡ []
+        → filter (is_of roll part) (cond (not b) (e ∷ without_roll roll es)
+        (without_roll roll es)) ≡ []
+    at true t rest = rest
+    at false t rest = ap (λ b. cond (b && same_part part e.part)
+        (e ∷ filter (is_of roll part) (without_roll roll es))
+        (filter (is_of roll part) (without_roll roll es))) t ∙ rest
+
+-- what a start lists as one part isn't of the other
+none_of_part : (keys : Keys) (roll : RollType) (of part : Part) → same_part part of ≡ false
+    → (qs : List (List ℕ)) → filter (is_of roll part) (entries_of keys roll of qs) ≡ []
+none_of_part keys roll of part differs [] = refl
+none_of_part keys roll of part differs (q ∷ qs) =
+    filter-append (is_of roll part) (entry_of roll of (get keys q)) (entries_of keys roll of qs)
+    ∙ (λ i. one (get keys q) i ++ none_of_part keys roll of part differs qs i)
+  where
+    out : (b : Bool) → (b && false) ≡ false
+    out true = refl
+    out false = refl
+
+    kept : (k : KeyParts) (b : Bool) → filter (is_of roll part)
+        (cond b (record { roll = roll; part = of; key_tag = k.key_tag } ∷ []) []) ≡ []
+    kept k true = ap (λ b. cond (same_roll roll roll && b)
+        (record { roll = roll; part = of; key_tag = k.key_tag } ∷ []) []) differs
+        ∙ ap (λ b. cond b (record { roll = roll; part = of; key_tag = k.key_tag } ∷ []) [])
+        (out (same_roll roll roll))
+    kept k false = refl
+
+    one : (o : Option KeyParts) → filter (is_of roll part) (entry_of roll of o) ≡ []
+    one None = refl
+    one (Some k) = kept k (all_states is_kept k.keytype)
+
+module _ (keys : Keys) (differ : TagsApart keys) (roll : RollType) (part : Part)
+    (itself : same_part part part ≡ true) where
+  -- what a start lists are the references whose keys are not old
+  references_of-listed : (qs : List (List ℕ))
+      → references_of keys roll part (entries_of keys roll part qs)
+      ≡ filter (has_kept_key keys) qs
+  references_of-listed [] = refl
+  references_of-listed (q ∷ qs) =
+      ap names (filter-append (is_of roll part) (entry_of roll part (get keys q))
+      (entries_of keys roll part qs))
+      ∙ map-append (λ (e : Entry). reference_of keys e.key_tag) _ _
+      ∙ at (get keys q) refl (references_of-listed qs)
+    where
+      names : List Entry → List (List ℕ)
+      names = map (λ (e : Entry). reference_of keys e.key_tag)
+
+      rest : List (List ℕ)
+      rest = names (filter (is_of roll part) (entries_of keys roll part qs))
+
+      own : (k : KeyParts) → get keys q ≡ Some k → rest ≡ filter (has_kept_key keys) qs
+          → (b : Bool) → names (filter (is_of roll part)
+          (cond b (record { roll = roll; part = part; key_tag = k.key_tag } ∷ []) [])) ++ rest
+          ≡ cond b (q ∷ filter (has_kept_key keys) qs) (filter (has_kept_key keys) qs)
+      own k is same true =
+          (λ i. names (cond (same-itself roll i && itself i)
+          (record { roll = roll; part = part; key_tag = k.key_tag } ∷ []) []) ++ rest)
+          ∙ (λ i. reference_of-is keys differ q k is i ∷ same i)
+      own k is same false = same
+
+      at : (o : Option KeyParts) → get keys q ≡ o → rest ≡ filter (has_kept_key keys) qs
+          → names (filter (is_of roll part) (entry_of roll part o)) ++ rest
+          ≡ cond (option_map_or (λ (k : KeyParts). all_states is_kept k.keytype) o false)
+          (q ∷ filter (has_kept_key keys) qs) (filter (has_kept_key keys) qs)
+      at None is same = same
+      at (Some k) is same = own k is same (all_states is_kept k.keytype)
+
+there-listed : (keys : Keys) (roll : RollType) (part : Part) (qs : List (List ℕ))
+    → AreThere keys (entries_of keys roll part qs)
+there-listed keys roll part [] = tt
+there-listed keys roll part (q ∷ qs) = there-append keys (entry_of roll part (get keys q))
+    (entries_of keys roll part qs) (at (get keys q) refl) (there-listed keys roll part qs)
+  where
+    kept : (k : KeyParts) → get keys q ≡ Some k → (b : Bool)
+        → AreThere keys (cond b (record { roll = roll; part = part; key_tag = k.key_tag } ∷ []) [])
+    kept k is true = ((q, k, is, refl), tt)
+    kept k is false = tt
+
+    at : (o : Option KeyParts) → get keys q ≡ o → AreThere keys (entry_of roll part o)
+    at None is = tt
+    at (Some k) is = kept k is (all_states is_kept k.keytype)
+
+-- ---- a start, and what takes it back
+
+module _ (keys : Keys) (roll : RollType) where
+  lists_of-put : (es fs : List Entry) (listed : Listed)
+      → references_of keys roll Old fs ≡ listed.olds
+      → references_of keys roll New fs ≡ listed.news
+      → ((other : RollType) → same_roll roll other ≡ false → (part : Part)
+      → filter (is_of other part) fs ≡ filter (is_of other part) es)
+      → lists_of keys fs ≡ with_listed (lists_of keys es) roll listed
+  lists_of-put es fs listed olds news others = same_lists _ _ (λ other.
+      listed_by-of keys fs other ∙ at other (same_roll roll other) refl
+      ∙ sym (listed_by-with_listed (lists_of keys es) roll listed other))
+    where
+      at : (other : RollType) (b : Bool) → same_roll roll other ≡ b
+          → record {
+            olds = references_of keys other Old fs;
+            news = references_of keys other New fs;
+          } ≡ (if same_roll roll other then listed else listed_by (lists_of keys es) other)
+      at other true t =
+          ap (λ (r : RollType). record {
+            olds = references_of keys r Old fs;
+            news = references_of keys r New fs;
+          }) (sym (same_roll-is roll other t))
+          ∙ (λ i. record { olds = olds i; news = news i })
+          ∙ ap (λ (b : Bool). if b then listed else listed_by (lists_of keys es) other) (sym t)
+      at other false t =
+          (λ i. record {
+            olds = map (λ (e : Entry). reference_of keys e.key_tag) (others other t Old i);
+            news = map (λ (e : Entry). reference_of keys e.key_tag) (others other t New i);
+          })
+          ∙ sym (listed_by-of keys es other)
+          ∙ ap (λ (b : Bool). if b then listed else listed_by (lists_of keys es) other) (sym t)
+
+  -- nothing is kept for the roll any more
+  pub lists_of-taken_out : (es : List Entry) → lists_of keys (without_roll roll es)
+      ≡ with_listed (lists_of keys es) roll nothing_listed
+  lists_of-taken_out es = lists_of-put es (without_roll roll es) nothing_listed
+      (ap (map (λ (e : Entry). reference_of keys e.key_tag)) (none_of_same roll Old es))
+      (ap (map (λ (e : Entry). reference_of keys e.key_tag)) (none_of_same roll New es))
+      (λ other t part. without_other roll other t part es)
+
+  -- what a report leaves
+  pub lists_of-reported : (half : Half) (es : List Entry)
+      → lists_of keys (entries_after_report roll half es)
+      ≡ lists_after_report roll half (lists_of keys es)
+  lists_of-reported First es = lists_of-taken_out es
+  lists_of-reported Second es = refl
+
+  module _ (olds news : List (List ℕ)) where
+    filter-start : (p : Entry → Bool) (es : List Entry)
+        → filter p (entries_at_start keys roll olds news es)
+        ≡ (filter p (without_roll roll es) ++ filter p (entries_of keys roll Old olds))
+        ++ filter p (entries_of keys roll New news)
+    filter-start p es = filter-append p (without_roll roll es ++ entries_of keys roll Old olds)
+        (entries_of keys roll New news)
+        ∙ ap (λ fs. fs ++ filter p (entries_of keys roll New news))
+        (filter-append p (without_roll roll es) (entries_of keys roll Old olds))
+
+    -- what a start lists, each new key being one that is not old
+    pub lists_of-started : TagsApart keys → filter (has_kept_key keys) news ≡ news
+        → (es : List Entry) → lists_of keys (entries_at_start keys roll olds news es)
+        ≡ with_listed (lists_of keys es) roll (listed_at_start keys olds news)
+    lists_of-started differ fresh es = lists_of-put es _ (listed_at_start keys olds news)
+        (ap names (filter-start (is_of roll Old) es
+        ∙ (λ i. (none_of_same roll Old es i ++ filter (is_of roll Old)
+        (entries_of keys roll Old olds)) ++ none_of_part keys roll New Old refl news i)
+        ∙ append-nil _) ∙ references_of-listed keys differ roll Old refl olds)
+        (ap names (filter-start (is_of roll New) es
+        ∙ (λ i. (none_of_same roll New es i ++ none_of_part keys roll Old New refl olds i)
+        ++ filter (is_of roll New) (entries_of keys roll New news)))
+        ∙ references_of-listed keys differ roll New refl news ∙ fresh)
+        (λ other t part. filter-start (is_of other part) es
+        ∙ (λ i. (without_other roll other t part es i
+        ++ none_of_other roll other t keys Old part olds i)
+        ++ none_of_other roll other t keys New part news i)
+        ∙ append-nil _ ∙ append-nil _)
+      where
+        names : List Entry → List (List ℕ)
+        names = map (λ (e : Entry). reference_of keys e.key_tag)
+
+    pub there-started : (es : List Entry) → AreThere keys es
+        → AreThere keys (entries_at_start keys roll olds news es)
+    there-started es there = there-append keys _ _
+        (there-append keys _ _ (there-filter keys (λ e. not (is_of_roll roll e)) es there)
+        (there-listed keys roll Old olds)) (there-listed keys roll New news)
+
+-- ---- the new keys of a start are not old
+
+fresh-kept : (t : KeyType) → all_states is_fresh t ≡ true → all_states is_kept t ≡ true
+fresh-kept t = mp (all_states is_fresh t) (all_states is_kept t) (each_key-at passes tested t)
+  where
+    passes : KeyType → Bool
+    passes t = all_states is_fresh t ⇒ all_states is_kept t
+
+    tested : (a b : Bool) → each_key a b passes ≡ true
+    tested true true = refl
+    tested true false = refl
+    tested false true = refl
+    tested false false = refl
+
+module _ (roll : RollType) (keys : Keys) (olds : List (List ℕ)) where
+  none_of_both : (a b : Option Error) → option_or a b ≡ None → (a ≡ None) × (b ≡ None)
+  none_of_both None b h = (refl, h)
+  none_of_both (Some x) b h = cc
+
+  accepted-kept : (o : Option KeyParts) (taken : Bool) → new_entry_fault roll o taken ≡ None
+      → option_map_or (λ (k : KeyParts). all_states is_kept k.keytype) o false ≡ true
+  accepted-kept None taken h = cc
+  accepted-kept (Some k) taken h =
+      at (lists_kind (side_of roll) k.keytype) (all_states is_fresh k.keytype) refl h
+    where
+      at : (a b : Bool) → all_states is_fresh k.keytype ≡ b
+          → (if a then (if b && not taken then None else Some WrongKeyState)
+          else Some WrongKeyType) ≡ None → all_states is_kept k.keytype ≡ true
+      at true true is h = fresh-kept k.keytype is
+      at true false is h = cc
+      at false b is h = cc
+
+  pub news-kept : (earlier news : List (List ℕ))
+      → new_fault roll (get keys) olds earlier news ≡ None
+      → filter (has_kept_key keys) news ≡ news
+  news-kept earlier [] none = refl
+  news-kept earlier (q ∷ qs) none =
+      let both = none_of_both _ _ none in
+      ap (λ b. cond b (q ∷ filter (has_kept_key keys) qs) (filter (has_kept_key keys) qs))
+      (accepted-kept (get keys q) _ both.0)
+      ∙ ap (λ rest. q ∷ rest) (news-kept (earlier ++ q ∷ []) qs both.1)
