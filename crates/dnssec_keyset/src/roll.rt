@@ -59,10 +59,10 @@ impl KeySet {
     {
         self.check_start(rolltype, old, new)?;
         let actions = list_actions(self.alloc, rolltype, RollState::Propagation1)?;
-        let listed = self.keys.list(self.alloc, old, new)?;
+        let lists = self.lists.with_start(&self.keys, rolltype, old, new)?;
         // The last growth is the first write: what comes behind it can't fail.
         self.rolls.put_in(rolltype, RollState::Propagation1)?;
-        self.lists.put(rolltype, listed);
+        self.lists = lists;
         self.keys.mark_old(old);
         self.keys.mark_new(rolltype, new, *now);
         Ok(actions)
@@ -232,8 +232,8 @@ impl KeySet {
     {
         self.rolls.check_early_end(rolltype)?;
         let actions = copy_actions(self.alloc, rolltype.asks_at_early_end())?;
-        let listed = self.lists.take(self.alloc, rolltype);
-        self.keys.unmark(rolltype, &listed);
+        self.lists.unmark(rolltype, &mut self.keys);
+        self.lists.take_out(rolltype);
         self.rolls.take_out(rolltype);
         Ok(actions)
     }
@@ -277,7 +277,7 @@ impl KeySet {
         // It takes no memory, so its check is its first write at once.
         self.rolls.take_report(rolltype, half, ttl)?;
         self.keys.report_all(rolltype, half, *now);
-        self.lists.report(self.alloc, rolltype, half);
+        self.lists.report(rolltype, half);
         Ok(Vec::new(self.alloc))
     }
 

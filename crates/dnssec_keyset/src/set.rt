@@ -62,6 +62,7 @@ impl Model for KeySet {
     ghost use Rattle.std.specs.Coded.{codes};
     ghost use Rattle.dnssec_keyset.specs.KeySet.{KeySetParts};
     ghost use Rattle.dnssec_zone.specs.Keys.{keys_code};
+    ghost use Rattle.dnssec_zone.specs.Inner.Entries.{AreThere, lists_of};
 
     ghost Value = { KeySetParts };
 
@@ -71,8 +72,10 @@ impl Model for KeySet {
       name = s.name;
       keys = s.keys;
       rolls = s.rolls;
-      lists = s.lists;
+      lists = lists_of s.keys s.lists.entries.items;
     } };
+
+    ghost invariant = { λ s. AreThere s.keys s.lists.entries.items };
 }
 
 impl KeySet {
@@ -392,8 +395,8 @@ impl KeySet {
         ensures ok { OnOk result (Changes self.old (DeleteKey pubref.now) self.new) }
         ensures err { OnErr result (self.new ≡ self.old) }
     {
-        self.keys.delete(pubref)?;
-        self.lists.forget(pubref);
+        let key_tag = self.keys.delete(pubref)?;
+        self.lists.forget(key_tag);
         Ok(())
     }
 
@@ -404,9 +407,9 @@ impl KeySet {
         ensures ok { OnOk result (Changes self.old (Set pubref.now (setting_of setting)) self.new) }
         ensures err { OnErr result (self.new ≡ self.old) }
     {
-        self.keys.set(pubref, setting)?;
+        let key_tag = self.keys.set(pubref, setting)?;
         if setting.sets_flag() {
-            self.lists.forget(pubref);
+            self.lists.forget(key_tag);
         }
         Ok(())
     }

@@ -58,6 +58,65 @@ pub mapped : (o : Option KeyParts) (f : KeyParts → KeyParts) (l : KeyParts)
 mapped None f l e = cc
 mapped (Some k) f l e = (k, refl, cc)
 
+-- tags are apart where keys are changed and keep theirs,
+pub apart-mapped : (m n : Keys) (f : List ℕ → KeyParts → KeyParts) →
+    ((q : List ℕ) (k : KeyParts) → (f q k).key_tag ≡ k.key_tag)
+    → ((q : List ℕ) → get n q ≡ option_map (f q) (get m q)) → TagsApart m → TagsApart n
+apart-mapped m n f keeps is old q r k l e d same =
+    let b = mapped _ (f q) k (sym (is q) ∙ e) in
+    let c = mapped _ (f r) l (sym (is r) ∙ d) in
+    old q r b.0 c.0 b.1 c.1 (sym (keeps q b.0) ∙ ap (λ (x : KeyParts). x.key_tag) b.2
+    ∙ same ∙ sym (ap (λ (x : KeyParts). x.key_tag) c.2) ∙ keeps r c.0)
+
+-- or one of them goes,
+pub apart-removed : (m n : Keys) (r : List ℕ)
+    → ((q : List ℕ) → get n q ≡ (if bytes_eq r q then None else get m q))
+    → TagsApart m → TagsApart n
+apart-removed m n r is old q s k l e d same = old q s k l (kept q k e) (kept s l d) same
+  where
+    kept : (q : List ℕ) (k : KeyParts) → get n q ≡ Some k → get m q ≡ Some k
+    kept q k e = elim (cases_Bool (bytes_eq r q)) [
+      | inl h ↦ let f : None ≡ Some k = sym (ap (λ (b : Bool). if b then None else get m q) h)
+          ∙ sym (is q) ∙ e in cc
+      | inr h ↦ sym (ap (λ (b : Bool). if b then None else get m q) h) ∙ sym (is q) ∙ e
+    ]
+
+-- a key that is there behind an add is the added one, or was there
+came : (m n : Keys) (r : List ℕ) (x : KeyParts)
+    → ((q : List ℕ) → get n q ≡ (if bytes_eq r q then Some x else get m q)) → (q : List ℕ)
+    (k : KeyParts) → get n q ≡ Some k → ((r ≡ q) × (x ≡ k)) ⊎ (get m q ≡ Some k)
+came m n r x is q k e = elim (cases_Bool (bytes_eq r q)) [
+  | inl h ↦ let f : Some x ≡ Some k = sym (ap (λ (b : Bool). if b then Some x else get m q) h)
+      ∙ sym (is q) ∙ e in inl ((bytes_decides r q).0 h, cc)
+  | inr h ↦ inr (sym (ap (λ (b : Bool). if b then Some x else get m q) h) ∙ sym (is q) ∙ e)
+]
+
+-- or one comes in whose tag no key has
+pub apart-added : (m n : Keys) (r : List ℕ) (x : KeyParts) → get m r ≡ None
+    → has_tag x.key_tag m ≡ false
+    → ((q : List ℕ) → get n q ≡ (if bytes_eq r q then Some x else get m q))
+    → TagsApart m → TagsApart n
+apart-added m n r x absent free is old q s k l e d same = elim (came m n r x is q k e) [
+  | inl h ↦ elim (came m n r x is s l d) [
+    | inl g ↦ sym h.0 ∙ g.0
+    | inr g ↦
+        let tag : l.key_tag ≡ x.key_tag =
+        sym (ap (λ (z : KeyParts). z.key_tag) h.1 ∙ same) in
+        let no : nat_eq l.key_tag x.key_tag ≡ false =
+        some_key-none (λ k. nat_eq k.key_tag x.key_tag) m s l free g in
+        absurd (grind (arith, nat_tests))
+  ]
+  | inr h ↦ elim (came m n r x is s l d) [
+    | inl g ↦
+        let tag : k.key_tag ≡ x.key_tag =
+        same ∙ sym (ap (λ (z : KeyParts). z.key_tag) g.1) in
+        let no : nat_eq k.key_tag x.key_tag ≡ false =
+        some_key-none (λ k. nat_eq k.key_tag x.key_tag) m q k free h in
+        absurd (grind (arith, nat_tests))
+    | inr g ↦ old q s k l h g same
+  ]
+]
+
 -- a change of the keys that keeps their tags
 pub TagsAgree-mapped : (has : ℕ → Bool) (m n : Keys) (f : List ℕ → KeyParts → KeyParts) →
     ((q : List ℕ) (k : KeyParts) → (f q k).key_tag ≡ k.key_tag)
@@ -68,11 +127,7 @@ TagsAgree-mapped has m n f keeps is old = record {
       (old.covers q b.0 b.1);
   owned = λ t h. let o = old.owned t h in
       (o.0, f o.0 o.1, is o.0 ∙ ap (option_map (f o.0)) o.2, keeps o.0 o.1 ∙ o.3);
-  apart = λ q r k l e d same.
-      let b = mapped _ (f q) k (sym (is q) ∙ e) in
-      let c = mapped _ (f r) l (sym (is r) ∙ d) in
-      old.apart q r b.0 c.0 b.1 c.1 (sym (keeps q b.0) ∙ ap (λ (x : KeyParts). x.key_tag) b.2
-      ∙ same ∙ sym (ap (λ (x : KeyParts). x.key_tag) c.2) ∙ keeps r c.0);
+  apart = apart-mapped m n f keeps is old.apart;
 }
 
 -- a key is gone, and its tag
@@ -119,15 +174,30 @@ TagsAgree-removed has left m n r x found is gone old = record {
           )
         ]
   ];
-  apart = λ q s k l e d same. old.apart q s k l (kept q k e) (kept s l d) same;
+  apart = apart-removed m n r is old.apart;
 }
-  where
-    kept : (q : List ℕ) (k : KeyParts) → get n q ≡ Some k → get m q ≡ Some k
-    kept q k e = elim (cases_Bool (bytes_eq r q)) [
-      | inl h ↦ let f : None ≡ Some k = sym (ap (λ (b : Bool). if b then None else get m q) h)
-          ∙ sym (is q) ∙ e in cc
-      | inr h ↦ sym (ap (λ (b : Bool). if b then None else get m q) h) ∙ sym (is q) ∙ e
-    ]
+
+-- the index answers whether some key has the tag
+pub tags-has_tag : (has : ℕ → Bool) (v : Keys) (t : ℕ) → TagsAgree has v → has t ≡ has_tag t v
+tags-has_tag has v t agree = elim (cases_Bool (has t)) [
+  | inl h ↦ elim (cases_Bool (has_tag t v)) [
+    | inl g ↦ h ∙ sym g
+    | inr g ↦
+        let o = agree.owned t h in
+        let apart : nat_eq o.1.key_tag t ≡ false = some_key-none (λ k. nat_eq k.key_tag t) v o.0
+        o.1 g o.2 in
+        let tag : o.1.key_tag ≡ t = o.3 in
+        absurd (grind (arith, nat_tests))
+  ]
+  | inr h ↦ elim (cases_Bool (has_tag t v)) [
+    | inl g ↦
+        let o = some_key-found (λ k. nat_eq k.key_tag t) v g in
+        let same : nat_eq o.1.key_tag t ≡ true = o.3 in
+        let tag : o.1.key_tag ≡ t = grind (arith, nat_tests) in
+        let found : has t ≡ true = subst (λ n. has n ≡ true) tag (agree.covers o.0 o.1 o.2) in cc
+    | inr g ↦ h ∙ sym g
+  ]
+]
 
 -- a key is new, and its tag
 pub TagsAgree-added : (has more : ℕ → Bool) (m n : Keys) (r : List ℕ) (x : KeyParts) → get m r
@@ -139,7 +209,7 @@ TagsAgree-added has more m n r x absent free is gains old = record {
   covers = λ q k e. elim (cases_Bool (nat_eq x.key_tag k.key_tag)) [
     | inl same ↦ gains k.key_tag ∙ ap (λ (b : Bool). if b then true else has k.key_tag) same
     | inr differs ↦ gains k.key_tag ∙ ap (λ (b : Bool). if b then true else has k.key_tag) differs
-        ∙ elim (there q k e) [
+        ∙ elim (came m n r x is q k e) [
           | inl h ↦ let tag : x.key_tag ≡ k.key_tag = ap (λ (z : KeyParts). z.key_tag) h.1 in
               absurd (grind (arith, nat_tests))
           | inr h ↦ old.covers q k h
@@ -169,31 +239,8 @@ TagsAgree-added has more m n r x absent free is gains old = record {
           )
         ]
   ];
-  apart = λ q s k l e d same. elim (there q k e) [
-    | inl h ↦ elim (there s l d) [
-      | inl g ↦ sym h.0 ∙ g.0
-      | inr g ↦
-          let tag : has x.key_tag ≡ true =
-          subst (λ t. has t ≡ true) (sym (ap (λ (z : KeyParts). z.key_tag) h.1 ∙ same))
-          (old.covers s l g) in cc
-    ]
-    | inr h ↦ elim (there s l d) [
-      | inl g ↦
-          let tag : has x.key_tag ≡ true =
-          subst (λ t. has t ≡ true) (same ∙ sym (ap (λ (z : KeyParts). z.key_tag) g.1))
-          (old.covers q k h) in cc
-      | inr g ↦ old.apart q s k l h g same
-    ]
-  ];
+  apart = apart-added m n r x absent (sym (tags-has_tag has m x.key_tag old) ∙ free) is old.apart;
 }
-  where
-    there : (q : List ℕ) (k : KeyParts) → get n q ≡ Some k → ((r ≡ q) × (x ≡ k))
-        ⊎ (get m q ≡ Some k)
-    there q k e = elim (cases_Bool (bytes_eq r q)) [
-      | inl h ↦ let f : Some x ≡ Some k = sym (ap (λ (b : Bool). if b then Some x else get m q) h)
-          ∙ sym (is q) ∙ e in inl ((bytes_decides r q).0 h, cc)
-      | inr h ↦ inr (sym (ap (λ (b : Bool). if b then Some x else get m q) h) ∙ sym (is q) ∙ e)
-    ]
 
 -- no tags and no keys
 pub TagsAgree-none : (has : ℕ → Bool) (m : Keys) → ((t : ℕ) → has t ≡ false) →
@@ -212,28 +259,6 @@ TagsAgree-same has more m same old = record {
   owned = λ t e. old.owned t (sym (same t) ∙ e);
   apart = old.apart;
 }
-
--- the index answers whether some key has the tag
-pub tags-has_tag : (has : ℕ → Bool) (v : Keys) (t : ℕ) → TagsAgree has v → has t ≡ has_tag t v
-tags-has_tag has v t agree = elim (cases_Bool (has t)) [
-  | inl h ↦ elim (cases_Bool (has_tag t v)) [
-    | inl g ↦ h ∙ sym g
-    | inr g ↦
-        let o = agree.owned t h in
-        let apart : nat_eq o.1.key_tag t ≡ false = some_key-none (λ k. nat_eq k.key_tag t) v o.0
-        o.1 g o.2 in
-        let tag : o.1.key_tag ≡ t = o.3 in
-        absurd (grind (arith, nat_tests))
-  ]
-  | inr h ↦ elim (cases_Bool (has_tag t v)) [
-    | inl g ↦
-        let o = some_key-found (λ k. nat_eq k.key_tag t) v g in
-        let same : nat_eq o.1.key_tag t ≡ true = o.3 in
-        let tag : o.1.key_tag ≡ t = grind (arith, nat_tests) in
-        let found : has t ≡ true = subst (λ n. has n ≡ true) tag (agree.covers o.0 o.1 o.2) in cc
-    | inr g ↦ h ∙ sym g
-  ]
-]
 
 -- ---- sets of the tags of listed keys
 

@@ -23,11 +23,12 @@ use Rattle.dnssec_zone.specs.declared.listed.Part.TheVariants.{Old, New}
 use Rattle.dnssec_zone.specs.Inner.Entries.{is_of, has_entry}
 use Rattle.dnssec_zone.specs.Inner.Entries.{without_tag, entry_of, entries_of}
 use Rattle.dnssec_zone.specs.Inner.Entries.{first_with, reference_of, references_of, lists_of}
-use Rattle.dnssec_zone.specs.Inner.Entries.{IsThere, AreThere}
-use Rattle.dnssec_zone.specs.Keys.{Keys, TagsApart}
+use Rattle.dnssec_zone.specs.Inner.Entries.{IsThere, AreThere, EntriesAgree}
+use Rattle.dnssec_zone.specs.Keys.{Keys, TagsApart, has_tag}
 use Rattle.dnssec_zone.specs.Lists.{Listed, lists_by, listed_by, without, others}
 use Rattle.dnssec_zone.specs.Start.{is_listed, texts}
 use Rattle.dnssec_zone.proofs.Phases.{same_lists, listed_by-without}
+use Rattle.dnssec_zone.proofs.Tags.{apart-mapped, apart-added, apart-removed}
 use Rattle.dnssec_zone.proofs.TwoLists.{texts-more}
 use Rattle.dnssec_zone.proofs.Quantified.{first, second, itself, apart, below_found}
 
@@ -210,35 +211,36 @@ pub there-append : (keys : Keys) (es fs : List Entry) → AreThere keys es → A
 there-append keys [] fs one two = two
 there-append keys (e ∷ es) fs one two = (one.0, there-append keys es fs one.1 two)
 
--- keys that stay, with their tags
-module _ (old new : Keys) (differ : TagsApart old) (apart : TagsApart new)
-    (stays : (q : List ℕ) (k : KeyParts) → get old q ≡ Some k
-    → (l : KeyParts) × (get new q ≡ Some l) × (l.key_tag ≡ k.key_tag)) where
-  there-stays : (tag : ℕ) → IsThere old tag → IsThere new tag
-  there-stays tag there = let l = stays there.0 there.1 there.2 in
-      (there.0, l.0, l.1, l.2 ∙ there.3)
+-- a key has the tag before and afterwards, under one reference
+abbrev IsBoth : Keys → Keys → ℕ → Type 0
+IsBoth old new tag = (q : List ℕ) × (k : KeyParts) × (l : KeyParts) × (get old q ≡ Some k)
+    × (get new q ≡ Some l) × (k.key_tag ≡ tag) × (l.key_tag ≡ tag)
 
-  reference_of-stays : (tag : ℕ) → IsThere old tag → reference_of new tag ≡ reference_of old tag
-  reference_of-stays tag there =
-      let l = stays there.0 there.1 there.2 in
-      ap (reference_of new) (sym (l.2 ∙ there.3)) ∙ reference_of-is new apart there.0 l.0 l.1
-      ∙ sym (reference_of-is old differ there.0 there.1 there.2)
-      ∙ ap (reference_of old) there.3
+-- each entry is of such a key
+abbrev AreBoth : Keys → Keys → List Entry → Type 0
+AreBoth old new [] = Unit {0}
+AreBoth old new (e ∷ es) = IsBoth old new e.key_tag × AreBoth old new es
 
-  pub are_there-stays : (es : List Entry) → AreThere old es → AreThere new es
-  are_there-stays [] there = tt
-  are_there-stays (e ∷ es) there =
-      (there-stays e.key_tag there.0, are_there-stays es there.1)
+module _ (old new : Keys) (differ : TagsApart old) (apart : TagsApart new) where
+  there-both : (es : List Entry) → AreBoth old new es → AreThere new es
+  there-both [] both = tt
+  there-both (e ∷ es) both =
+      ((both.0.0, both.0.2, both.0.4, both.0.6), there-both es both.1)
 
-  pub lists_of-stays : (es : List Entry) → AreThere old es → lists_of new es ≡ lists_of old es
-  lists_of-stays es there = same_entries new old es es (λ roll part. same (is_of roll part) es there)
+  reference_of-both : (tag : ℕ) → IsBoth old new tag → reference_of new tag ≡ reference_of old tag
+  reference_of-both tag both =
+      ap (reference_of new) (sym both.6) ∙ reference_of-is new apart both.0 both.2 both.4
+      ∙ sym (reference_of-is old differ both.0 both.1 both.3) ∙ ap (reference_of old) both.5
+
+  lists_of-both : (es : List Entry) → AreBoth old new es → lists_of new es ≡ lists_of old es
+  lists_of-both es both = same_entries new old es es (λ roll part. same (is_of roll part) es both)
     where
-      same : (p : Entry → Bool) (es : List Entry) → AreThere old es
+      same : (p : Entry → Bool) (es : List Entry) → AreBoth old new es
           → map (λ (e : Entry). reference_of new e.key_tag) (filter p es)
           ≡ map (λ (e : Entry). reference_of old e.key_tag) (filter p es)
-      same p [] there = refl
-      same p (e ∷ es) there =
-          at (p e) (reference_of-stays e.key_tag there.0) (same p es there.1)
+      same p [] both = refl
+      same p (e ∷ es) both =
+          at (p e) (reference_of-both e.key_tag both.0) (same p es both.1)
         where
           at : (b : Bool) → reference_of new e.key_tag ≡ reference_of old e.key_tag
               → map (λ (e : Entry). reference_of new e.key_tag) (filter p es)
@@ -250,37 +252,134 @@ module _ (old new : Keys) (differ : TagsApart old) (apart : TagsApart new)
           at true is rest = λ i. is i ∷ rest i
           at false is rest = rest
 
--- keys that are changed, and keep their tags
-pub stays-mapped : (f : List ℕ → KeyParts → KeyParts) → ((q : List ℕ) (k : KeyParts)
+-- what is kept afterwards, and means the same
+abbrev pub MeansTheSame : Keys → Keys → List Entry → Type 0
+MeansTheSame old new es = EntriesAgree new es × (lists_of new es ≡ lists_of old es)
+
+-- keys are changed, and keep their tags
+pub means-mapped : (f : List ℕ → KeyParts → KeyParts) → ((q : List ℕ) (k : KeyParts)
     → (f q k).key_tag ≡ k.key_tag) → (old new : Keys)
-    → ((q : List ℕ) → get new q ≡ option_map (f q) (get old q)) → (q : List ℕ) (k : KeyParts)
-    → get old q ≡ Some k → (l : KeyParts) × (get new q ≡ Some l) × (l.key_tag ≡ k.key_tag)
-stays-mapped f keeps old new is q k found =
-    (f q k, is q ∙ ap (option_map (f q)) found, keeps q k)
+    → ((q : List ℕ) → get new q ≡ option_map (f q) (get old q)) → (es : List Entry)
+    → EntriesAgree old es → MeansTheSame old new es
+means-mapped f keeps old new is es agree =
+    let apart : TagsApart new = apart-mapped old new f keeps is agree.apart in
+    let kept = both es agree.there in (
+      record { apart = apart; there = there-both old new agree.apart apart es kept },
+      lists_of-both old new agree.apart apart es kept,
+    )
+  where
+    both : (es : List Entry) → AreThere old es → AreBoth old new es
+    both [] there = tt
+    both (e ∷ es) there = (
+      (
+        there.0.0,
+        there.0.1,
+        f there.0.0 there.0.1,
+        there.0.2,
+        is there.0.0 ∙ ap (option_map (f there.0.0)) there.0.2,
+        there.0.3,
+        keeps there.0.0 there.0.1 ∙ there.0.3,
+      ),
+      both es there.1,
+    )
 
--- another key comes in
-pub stays-added : (old new : Keys) (r : List ℕ) (x : KeyParts) → get old r ≡ None
-    → ((q : List ℕ) → get new q ≡ (if bytes_eq r q then Some x else get old q)) → (q : List ℕ)
-    (k : KeyParts) → get old q ≡ Some k
-    → (l : KeyParts) × (get new q ≡ Some l) × (l.key_tag ≡ k.key_tag)
-stays-added old new r x absent is q k found = elim (cases_Bool (bytes_eq r q)) [
-  | inl same ↦
-      let there : None ≡ Some k = sym absent ∙ ap (get old) ((bytes_decides r q).0 same) ∙ found in
-      cc
-  | inr other ↦
-      (k, is q ∙ ap (λ (b : Bool). if b then Some x else get old q) other ∙ found, refl)
-]
+-- another key comes in, with another tag
+pub means-added : (old new : Keys) (r : List ℕ) (x : KeyParts) → get old r ≡ None
+    → has_tag x.key_tag old ≡ false
+    → ((q : List ℕ) → get new q ≡ (if bytes_eq r q then Some x else get old q))
+    → (es : List Entry) → EntriesAgree old es → MeansTheSame old new es
+means-added old new r x absent free is es agree =
+    let apart : TagsApart new = apart-added old new r x absent free is agree.apart in
+    let kept = both es agree.there in (
+      record { apart = apart; there = there-both old new agree.apart apart es kept },
+      lists_of-both old new agree.apart apart es kept,
+    )
+  where
+    stays : (q : List ℕ) (k : KeyParts) → get old q ≡ Some k → get new q ≡ Some k
+    stays q k found = elim (cases_Bool (bytes_eq r q)) [
+      | inl same ↦ let there : None ≡ Some k =
+          sym absent ∙ ap (get old) ((bytes_decides r q).0 same) ∙ found in cc
+      | inr other ↦ is q ∙ ap (λ (b : Bool). if b then Some x else get old q) other ∙ found
+    ]
 
--- the key at r, with its tag, is forgotten
-module _ (keys : Keys) (differ : TagsApart keys) (r : List ℕ) (x : KeyParts)
-    (found : get keys r ≡ Some x) where
-  pub lists_of-forgotten : (es : List Entry) → AreThere keys es
-      → lists_of keys (without_tag x.key_tag es) ≡ without r (lists_of keys es)
-  lists_of-forgotten es there = same_lists _ _ (λ roll.
+    both : (es : List Entry) → AreThere old es → AreBoth old new es
+    both [] there = tt
+    both (e ∷ es) there = (
+      (
+        there.0.0,
+        there.0.1,
+        there.0.1,
+        there.0.2,
+        stays there.0.0 there.0.1 there.0.2,
+        there.0.3,
+        there.0.3,
+      ),
+      both es there.1,
+    )
+
+-- the key at r is forgotten
+module _ (keys : Keys) (es : List Entry) (agree : EntriesAgree keys es) (r : List ℕ)
+    (x : KeyParts) (found : get keys r ≡ Some x) where
+  lists_of-forgotten : lists_of keys (without_tag x.key_tag es) ≡ without r (lists_of keys es)
+  lists_of-forgotten = same_lists _ _ (λ roll.
       listed_by-of keys (without_tag x.key_tag es) roll
       ∙ (λ i. record {
-        olds = others-is keys differ r x found (is_of roll Old) es there i;
-        news = others-is keys differ r x found (is_of roll New) es there i;
+        olds = others-is keys agree.apart r x found (is_of roll Old) es agree.there i;
+        news = others-is keys agree.apart r x found (is_of roll New) es agree.there i;
       })
       ∙ sym (ap (λ (l : Listed). record { olds = others r l.olds; news = others r l.news })
       (listed_by-of keys es roll)) ∙ sym (listed_by-without r (lists_of keys es) roll))
+
+  -- though it stays
+  pub forgotten : EntriesAgree keys (without_tag x.key_tag es)
+      × (lists_of keys (without_tag x.key_tag es) ≡ without r (lists_of keys es))
+  forgotten = (
+    record {
+      apart = agree.apart;
+      there = there-filter keys (λ e. not (nat_eq e.key_tag x.key_tag)) es agree.there;
+    },
+    lists_of-forgotten,
+  )
+
+  -- as it is gone
+  pub means-removed : (new : Keys)
+      → ((q : List ℕ) → get new q ≡ (if bytes_eq r q then None else get keys q))
+      → EntriesAgree new (without_tag x.key_tag es)
+      × (lists_of new (without_tag x.key_tag es) ≡ without r (lists_of keys es))
+  means-removed new is =
+      let apart : TagsApart new = apart-removed keys new r is agree.apart in
+      let kept = both es agree.there in (
+        record { apart = apart; there = there-both keys new agree.apart apart _ kept },
+        lists_of-both keys new agree.apart apart _ kept ∙ lists_of-forgotten,
+      )
+    where
+      stays : (tag : ℕ) → nat_eq tag x.key_tag ≡ false → IsThere keys tag → IsBoth keys new tag
+      stays tag differs there = elim (cases_Bool (bytes_eq r there.0)) [
+        | inl same ↦
+            let key : Some x ≡ Some there.1 =
+            sym found ∙ ap (get keys) ((bytes_decides r there.0).0 same) ∙ there.2 in
+            let tied : x ≡ there.1 = cc in
+            let tag_is : x.key_tag ≡ tag =
+            ap (λ (k : KeyParts). k.key_tag) tied ∙ there.3 in
+            absurd (grind (arith, nat_tests))
+        | inr other ↦ (
+          there.0,
+          there.1,
+          there.1,
+          there.2,
+          is there.0 ∙ ap (λ (b : Bool). if b then None else get keys there.0) other ∙ there.2,
+          there.3,
+          there.3,
+        )
+      ]
+
+      both : (es : List Entry) → AreThere keys es → AreBoth keys new (without_tag x.key_tag es)
+      both [] there = tt
+      both (e ∷ es) there = at (nat_eq e.key_tag x.key_tag) refl (both es there.1)
+        where
+          at : (b : Bool) → nat_eq e.key_tag x.key_tag ≡ b
+              → AreBoth keys new (without_tag x.key_tag es)
+              → AreBoth keys new (cond (not b) (e ∷ without_tag x.key_tag es)
+              (without_tag x.key_tag es))
+          at true t rest = rest
+          at false t rest = (stays e.key_tag t there.0, rest)

@@ -11,7 +11,7 @@ use Rattle.dnssec_key.specs.RollTable.{Half, First, Second}
 use Rattle.dnssec_zone.specs.declared.listed.Entry.{Entry}
 use Rattle.dnssec_zone.specs.declared.listed.Part.{Part}
 use Rattle.dnssec_zone.specs.declared.listed.Part.TheVariants.{Old, New}
-use Rattle.dnssec_zone.specs.Keys.{Keys}
+use Rattle.dnssec_zone.specs.Keys.{Keys, TagsApart}
 use Rattle.dnssec_zone.specs.Lists.{Lists, lists_by}
 use Rattle.dnssec_zone.specs.Rolls.{same_roll}
 
@@ -91,3 +91,8 @@ IsThere keys tag =
 abbrev pub AreThere : Keys → List Entry → Type 0
 AreThere keys [] = Unit {0}
 AreThere keys (e ∷ es) = IsThere keys e.key_tag × AreThere keys es
+
+-- no two keys have one tag, and each entry is of a key
+pub record EntriesAgree (keys : Keys) (es : List Entry) : Type 0 where
+  pub apart : TagsApart keys
+  pub there : AreThere keys es
