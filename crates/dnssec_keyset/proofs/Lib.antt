@@ -11,6 +11,7 @@
 -- | `Call::make`                   | `done_exactly` and the like    | Allowed              |
 --
 -- `Accepted` says what an accepted call found: for the laws of runs.
+pub mod Listing
 pub mod WaitReplies
 pub mod StartReplies
 pub mod Steps

@@ -1,10 +1,9 @@
 -- What a wait answers at any moment, from the end that the walk over the keys finds.
 use Rattle.std.proofs.Common.{◌≡◌, ℕ, ◌<◌, ◌≤◌, List, [], ◌∷◌, Some, None, Ok, Err, refl, sym, ap}
-use Rattle.std.proofs.Common.{subst, ◌∙◌, min, arith}
+use Rattle.std.proofs.Common.{subst, ◌∙◌, min}
 use Rattle.std.specs.Prelude.{Option, Result, IsOk, ◌⊎◌, ◌*◌, ◌-◌}
 use Rattle.std.specs.Duration.{as_nanos}
 use Rattle.std.specs.declared.time.Duration.{Duration}
-use Rattle.std.proofs.lemmas.Bool.Decides.{nat_tests}
 use Rattle.dnssec_key.specs.RollTable.{Half, First, Second, cache_expire}
 use Rattle.dnssec_key.specs.declared.roll.RollType.{RollType}
 use Rattle.dnssec_key.specs.declared.roll.Action.{Action}

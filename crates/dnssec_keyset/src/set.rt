@@ -62,7 +62,7 @@ impl Model for KeySet {
     ghost use Rattle.std.specs.Coded.{codes};
     ghost use Rattle.dnssec_keyset.specs.KeySet.{KeySetParts};
     ghost use Rattle.dnssec_zone.specs.Keys.{keys_code};
-    ghost use Rattle.dnssec_zone.specs.Inner.Entries.{AreThere, lists_of};
+    ghost use Rattle.dnssec_zone.specs.Inner.Entries.{EntriesAgree, lists_of};
 
     ghost Value = { KeySetParts };
 
@@ -75,7 +75,7 @@ impl Model for KeySet {
       lists = lists_of s.keys s.lists.entries.items;
     } };
 
-    ghost invariant = { λ s. AreThere s.keys s.lists.entries.items };
+    ghost invariant = { λ s. EntriesAgree s.keys s.lists.entries.items };
 }
 
 impl KeySet {
@@ -165,7 +165,7 @@ impl KeySet {
     {
         let keytype = KeyType::Ksk(KeyState::new(available));
         let key = Key::new(privref, keytype, algorithm, key_tag, creation_ts);
-        self.keys.add(pubref, key)
+        self.add(pubref, key)
     }
 
     /// Adds a ZSK, as `add_key_ksk` adds a KSK.
@@ -190,7 +190,7 @@ impl KeySet {
     {
         let keytype = KeyType::Zsk(KeyState::new(available));
         let key = Key::new(privref, keytype, algorithm, key_tag, creation_ts);
-        self.keys.add(pubref, key)
+        self.add(pubref, key)
     }
 
     /// Adds a CSK, as `add_key_ksk` adds a KSK. Both its roles are new.
@@ -222,7 +222,7 @@ impl KeySet {
             key_tag,
             creation_ts,
         );
-        self.keys.add(pubref, key)
+        self.add(pubref, key)
     }
 
     /// Adds a key of another signer, which may be published beside those of the set. It has no
@@ -252,7 +252,7 @@ impl KeySet {
         };
         let keytype = KeyType::Include(KeyState::new(available));
         let key = Key::new(None, keytype, algorithm, key_tag, creation_ts);
-        self.keys.add(pubref, key)
+        self.add(pubref, key)
     }
 
     /// Sets whether a key is decoupled from the caller's storage of keys. No memory is taken.
@@ -398,6 +398,17 @@ impl KeySet {
         let key_tag = self.keys.delete(pubref)?;
         self.lists.forget(key_tag);
         Ok(())
+    }
+
+    /// Adds a key.
+    fn add(&mut self, pubref: String, key: Key) -> Result<(), Error>
+        ensures reply { Answers
+            (add_refusal self.old.keys (string_bytes pubref) key.key_tag) result }
+        ensures ok { OnOk result
+            (Changes self.old (AddKey (string_bytes pubref) key) self.new) }
+        ensures err { OnErr result (self.new ≡ self.old) }
+    {
+        self.keys.add(pubref, key)
     }
 
     /// Sets something of a key. A key whose flag is set by hand is left alone by an early end.

@@ -276,11 +276,12 @@ fresh-kept t = mp (all_states is_fresh t) (all_states is_kept t) (each_key-at pa
     tested false true = refl
     tested false false = refl
 
-module _ (roll : RollType) (keys : Keys) (olds : List (List ℕ)) where
-  none_of_both : (a b : Option Error) → option_or a b ≡ None → (a ≡ None) × (b ≡ None)
-  none_of_both None b h = (refl, h)
-  none_of_both (Some x) b h = cc
+-- where no cause of two stands, neither does
+pub none_of_both : (a b : Option Error) → option_or a b ≡ None → (a ≡ None) × (b ≡ None)
+none_of_both None b h = (refl, h)
+none_of_both (Some x) b h = cc
 
+module _ (roll : RollType) (keys : Keys) (olds : List (List ℕ)) where
   accepted-kept : (o : Option KeyParts) (taken : Bool) → new_entry_fault roll o taken ≡ None
       → option_map_or (λ (k : KeyParts). all_states is_kept k.keytype) o false ≡ true
   accepted-kept None taken h = cc
