@@ -4,4 +4,5 @@ pub mod Code
 pub mod Change
 pub mod Tags
 pub mod Counts
+pub mod Kinds
 pub mod Over
