@@ -21,9 +21,9 @@ impl KeySet {
         self.rolls.check_conflict(rolltype)?;
         let of_old = self.keys.check_old(rolltype, old)?;
         let of_new = self.keys.check_new(rolltype, old, new)?;
-        if !may_go_over(rolltype, &of_old, &of_new) {
+        if !may_go_over(rolltype, &of_old, &of_new.algorithms) {
             return Err(Error::AlgorithmSetsMismatch);
         }
-        self.keys.check_suitability(rolltype, old, new)
+        self.keys.check_suitability(rolltype, old, of_new.kinds)
     }
 }

@@ -42,12 +42,12 @@ module _ (roll : RollType) (keys : Keys) (olds : List (List ℕ)) (news : List (
       ∙ ap (λ o. option_or o behind) (sym (fault-listed roll keys tags _ (get_or news i d).now has))
 
   -- the new entry at i is refused
-  pub fault-found : (fault : Error) → {found : Option Error} → Some fault ≡ found
+  pub fault-found : (T : Type 0) (fault : Error) → {found : Option Error} → Some fault ≡ found
       → found ≡ new_entry_fault roll (get keys (get_or news i d).now)
       (has_its_tag tags (get keys (get_or news i d).now))
-      → AnswersExactly {T = List ℕ} all (Err fault)
+      → AnswersExactly {T = T} all (Err fault)
   unfolding here behind
-  fault-found fault is there =
+  fault-found T fault is there =
       let e : all ≡ Some fault = apart ∙ ap (λ o. option_or o behind) (sym (is ∙ there)) in
       rw e refl
 

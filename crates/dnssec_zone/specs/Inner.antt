@@ -5,4 +5,5 @@ pub mod Change
 pub mod Tags
 pub mod Entries
 pub mod Counts
+pub mod Kinds
 pub mod Over

@@ -1,27 +1,60 @@
 //! What a start is refused for, of the keys. Nothing is changed here.
 ghost use Rattle.std.specs.Prelude.{◌≡◌, ℕ, Bool, List, [], false, not, ◌&&◌, ◌||◌, length, None};
-ghost use Rattle.std.specs.Prelude.{Some, IfOk, IfErr};
+ghost use Rattle.std.specs.Prelude.{Some, IfOk, IfErr, Option, nat_eq};
 ghost use Rattle.std.specs.List.{list_any, list_all};
 ghost use Rattle.std.specs.Option.{option_map_or};
 ghost use Rattle.std.specs.Str.{bytes_eq};
 ghost use Rattle.std.specs.FinMap as map;
+ghost use Rattle.dnssec_key.specs.Key.{KeyParts};
 ghost use Rattle.dnssec_zone.specs.Inner.Bits.{is_set};
 ghost use Rattle.dnssec_zone.specs.Inner.Code.{as_want};
 ghost use Rattle.dnssec_zone.specs.Inner.Counts.{count_in, listed_passes};
+ghost use Rattle.dnssec_zone.specs.Inner.Kinds.{AreOf, is_met_among, some_serves};
 ghost use Rattle.dnssec_zone.specs.Inner.Tags.{HasListed, has_its_tag};
 ghost use Rattle.dnssec_zone.specs.Start.{texts, is_listed, old_entry_fault, old_fault};
 ghost use Rattle.dnssec_zone.specs.Start.{new_entry_fault, new_fault, has_algorithm};
-ghost use Rattle.dnssec_zone.specs.Start.{may_change_algorithms, serves_as_new, serves_as_kept};
-ghost use Rattle.dnssec_zone.specs.Start.{some_listed, some_kept, is_met, suitability_fault};
+ghost use Rattle.dnssec_zone.specs.Start.{algorithms_within, may_change_algorithms};
+ghost use Rattle.dnssec_zone.specs.Start.{serves_as_new, serves_as_kept, some_kept};
+ghost use Rattle.dnssec_zone.specs.Start.{suitability_fault, Want as WantOfStart};
 ghost use Rattle.dnssec_zone.specs.Refusals.{AnswersExactly};
 
 use crate::bits::{AlgorithmSet, TagSet, is_set, set};
 use crate::keys::Keys;
-use crate::side::{Want, may_change_algorithms, side_of, wants};
+use crate::side::{Kinds, Want, may_change_algorithms, side_of, wants};
 use dnssec_key::{Error, Key, RollType};
 
 /// A list of more entries is long.
 const FEW: usize = 4;
+
+/// What a start asks of its new keys together.
+#[derive(Clone, Copy)]
+pub struct NewKeys {
+    pub algorithms: AlgorithmSet,
+    pub kinds: Kinds,
+}
+
+impl NewKeys {
+    /// That of no keys.
+    fn none() -> NewKeys
+        ensures algorithms { (a : ℕ) → is_set result.algorithms a ≡ false }
+        ensures kinds { (w : WantOfStart) → some_serves result.kinds w ≡ false }
+    {
+        NewKeys {
+            algorithms: [0; 4],
+            kinds: Kinds::none(),
+        }
+    }
+
+    fn add(&mut self, key: &Key)
+        ensures algorithms { (a : ℕ) → is_set self.new.algorithms a
+            ≡ (is_set self.old.algorithms a || nat_eq key.now.algorithm a) }
+        ensures kinds { (w : WantOfStart) → some_serves self.new.kinds w
+            ≡ (some_serves self.old.kinds w || serves_as_new w key.now.keytype) }
+    {
+        set(&mut self.algorithms, u16::from(key.algorithm().to_int()));
+        self.kinds.add(key.keytype());
+    }
+}
 
 fn is_listed(references: &[&str], reference: &str) -> bool
     ensures { result ≡ list_any (λ r. bytes_eq reference.now r.now) references.now }
@@ -53,7 +86,12 @@ fn new_key_fault(roll: RollType, key: &Key, is_taken: bool) -> Option<Error>
 
 /// Whether a roll may go from keys of some algorithms to keys of others.
 pub fn may_go_over(roll: RollType, old: &AlgorithmSet, new: &AlgorithmSet) -> bool
-    ensures { result ≡ (may_change_algorithms roll || bytes_eq old.now new.now) }
+    ensures same { result ≡ (may_change_algorithms roll || bytes_eq old.now new.now) }
+    ensures within { (at : List ℕ → Option KeyParts) (olds news : List (List ℕ))
+        → ((a : ℕ) → is_set old.now a ≡ has_algorithm at olds a)
+        → ((a : ℕ) → is_set new.now a ≡ has_algorithm at news a)
+        → result ≡ (may_change_algorithms roll
+        || (algorithms_within at olds news && algorithms_within at news olds)) }
 {
     may_change_algorithms(roll) || *old == *new
 }
@@ -130,20 +168,16 @@ impl Keys {
         Ok(algorithms)
     }
 
-    /// Refuses the first new entry that has a fault, or answers the algorithms of the new keys.
+    /// Refuses the first new entry that has a fault, or answers what a start asks of the new keys.
     /// What is listed before an entry is looked through where the lists are short, and asked of a
     /// set of tags where they are long: to clear the set costs more than to look through a few
     /// entries.
-    pub fn check_new(
-        &self,
-        roll: RollType,
-        old: &[&str],
-        new: &[&str],
-    ) -> Result<AlgorithmSet, Error>
+    pub fn check_new(&self, roll: RollType, old: &[&str], new: &[&str]) -> Result<NewKeys, Error>
         ensures fault { AnswersExactly
             (new_fault roll (map.get self.now) (texts old.now) [] (texts new.now)) result }
-        ensures algorithms { IfOk result (λ algorithms. (a : ℕ) →
-            is_set algorithms a ≡ has_algorithm (map.get self.now) (texts new.now) a) }
+        ensures algorithms { IfOk result (λ keys. (a : ℕ) →
+            is_set keys.algorithms a ≡ has_algorithm (map.get self.now) (texts new.now) a) }
+        ensures kinds { IfOk result (λ keys. AreOf (map.get self.now) (texts new.now) keys.kinds) }
     {
         if old.len() <= FEW && new.len() <= FEW {
             self.check_few_new(roll, old, new)
@@ -153,39 +187,30 @@ impl Keys {
     }
 
     #[tactic(auto, using(crate::proofs::TwoLists::lists))]
-    fn check_few_new(
-        &self,
-        roll: RollType,
-        old: &[&str],
-        new: &[&str],
-    ) -> Result<AlgorithmSet, Error>
+    fn check_few_new(&self, roll: RollType, old: &[&str], new: &[&str]) -> Result<NewKeys, Error>
         ensures fault { AnswersExactly
             (new_fault roll (map.get self.now) (texts old.now) [] (texts new.now)) result }
-        ensures algorithms { IfOk result (λ algorithms. (a : ℕ) →
-            is_set algorithms a ≡ has_algorithm (map.get self.now) (texts new.now) a) }
+        ensures algorithms { IfOk result (λ keys. (a : ℕ) →
+            is_set keys.algorithms a ≡ has_algorithm (map.get self.now) (texts new.now) a) }
+        ensures kinds { IfOk result (λ keys. AreOf (map.get self.now) (texts new.now) keys.kinds) }
     {
-        let mut algorithms = [0; 4];
+        let mut keys = NewKeys::none();
         for (i, reference) in new.iter().enumerate() {
             let is_taken = is_taken(old, &new[..i], reference);
-            let key = self.new_key(roll, reference, is_taken)?;
-            set(&mut algorithms, u16::from(key.algorithm().to_int()));
+            keys.add(self.new_key(roll, reference, is_taken)?);
         }
-        Ok(algorithms)
+        Ok(keys)
     }
 
     // Out of line, so that a start with short lists doesn't pay for the place of the set.
     #[inline(never)]
     #[tactic(auto, using(crate::proofs::TwoLists::lists))]
-    fn check_many_new(
-        &self,
-        roll: RollType,
-        old: &[&str],
-        new: &[&str],
-    ) -> Result<AlgorithmSet, Error>
+    fn check_many_new(&self, roll: RollType, old: &[&str], new: &[&str]) -> Result<NewKeys, Error>
         ensures fault { AnswersExactly
             (new_fault roll (map.get self.now) (texts old.now) [] (texts new.now)) result }
-        ensures algorithms { IfOk result (λ algorithms. (a : ℕ) →
-            is_set algorithms a ≡ has_algorithm (map.get self.now) (texts new.now) a) }
+        ensures algorithms { IfOk result (λ keys. (a : ℕ) →
+            is_set keys.algorithms a ≡ has_algorithm (map.get self.now) (texts new.now) a) }
+        ensures kinds { IfOk result (λ keys. AreOf (map.get self.now) (texts new.now) keys.kinds) }
     {
         let mut taken = [0; 1024];
         for entry in old {
@@ -197,27 +222,28 @@ impl Keys {
             }
             self.add_tag(&mut taken, reference);
         }
-        Ok(self.algorithms_of(new))
+        Ok(self.of_all(new))
     }
 
-    /// The algorithms of the keys that a list names.
-    fn algorithms_of(&self, references: &[&str]) -> AlgorithmSet
-        ensures { (a : ℕ) →
-            is_set result a ≡ has_algorithm (map.get self.now) (texts references.now) a }
+    /// What a start asks of the keys that a list of new ones names.
+    fn of_all(&self, new: &[&str]) -> NewKeys
+        ensures algorithms { (a : ℕ) →
+            is_set result.algorithms a ≡ has_algorithm (map.get self.now) (texts new.now) a }
+        ensures kinds { AreOf (map.get self.now) (texts new.now) result.kinds }
     {
-        let mut algorithms = [0; 4];
-        for reference in references {
+        let mut keys = NewKeys::none();
+        for reference in new {
             if let Some(key) = self.get(reference) {
-                set(&mut algorithms, u16::from(key.algorithm().to_int()));
+                keys.add(key);
             }
         }
-        algorithms
+        keys
     }
 
-    /// Refuses a start that leaves no key to go on with.
-    pub fn check_suitability(&self, roll: RollType, old: &[&str], new: &[&str]) -> Result<(), Error>
-        ensures { AnswersExactly
-            (suitability_fault roll self.now (texts old.now) (texts new.now)) result }
+    /// Refuses a start that leaves no key to go on with, where the new keys are of these kinds.
+    pub fn check_suitability(&self, roll: RollType, old: &[&str], new: Kinds) -> Result<(), Error>
+        ensures { (news : List (List ℕ)) → AreOf (map.get self.now) news new
+            → AnswersExactly (suitability_fault roll self.now (texts old.now) news) result }
     {
         if self.are_met(wants(roll), old, new) {
             Ok(())
@@ -226,17 +252,17 @@ impl Keys {
         }
     }
 
-    fn are_met(&self, wants: &[Want], old: &[&str], new: &[&str]) -> bool
+    fn are_met(&self, wants: &[Want], old: &[&str], new: Kinds) -> bool
         ensures { result ≡
-            list_all (λ w. is_met self.now (texts old.now) (texts new.now) (as_want w)) wants.now }
+            list_all (λ w. is_met_among self.now (texts old.now) new (as_want w)) wants.now }
     {
         wants.iter().all(|want| self.is_met(*want, old, new))
     }
 
-    fn is_met(&self, want: Want, old: &[&str], new: &[&str]) -> bool
-        ensures { result ≡ is_met self.now (texts old.now) (texts new.now) (as_want want) }
+    fn is_met(&self, want: Want, old: &[&str], new: Kinds) -> bool
+        ensures { result ≡ is_met_among self.now (texts old.now) new (as_want want) }
     {
-        self.has_new(want, new) || self.has_kept(want, old)
+        new.meet(want) || self.has_kept(want, old)
     }
 
     /// Whether a key that isn't listed as old serves: more serve than the list has of them.
@@ -309,33 +335,6 @@ impl Keys {
         match self.get(reference) {
             None => false,
             Some(key) => { want.is_met_by_kept(key.keytype()) && !is_set(earlier, key.key_tag()) }
-        }
-    }
-
-    #[tactic(auto, using(crate::proofs::Starts::starts))]
-    fn has_new(&self, want: Want, new: &[&str]) -> bool
-        ensures { result ≡
-            some_listed (serves_as_new (as_want want)) (map.get self.now) (texts new.now) }
-    {
-        self.any_serves_as_new(want, new)
-    }
-
-    fn any_serves_as_new(&self, want: Want, new: &[&str]) -> bool
-        ensures { result ≡
-            list_any (λ r. option_map_or (λ k. serves_as_new (as_want want) k.keytype)
-            (map.get self.now r.now) false) new.now }
-    {
-        new.iter()
-            .any(|reference| self.serves_as_new(want, reference))
-    }
-
-    fn serves_as_new(&self, want: Want, reference: &str) -> bool
-        ensures { result ≡ option_map_or (λ k. serves_as_new (as_want want) k.keytype)
-            (map.get self.now reference.now) false }
-    {
-        match self.get(reference) {
-            None => false,
-            Some(key) => want.is_met_by_new(key.keytype()),
         }
     }
 }

@@ -13,7 +13,8 @@ mod rolls;
 mod side;
 
 pub use bits::AlgorithmSet;
-pub use check::may_go_over;
+pub use check::{NewKeys, may_go_over};
 pub use keys::Keys;
 pub use listed::Lists;
 pub use rolls::Rolls;
+pub use side::Kinds;

@@ -1,9 +1,10 @@
 //! Which keys a roll changes, and what its start has to leave.
-ghost use Rattle.std.specs.Prelude.{◌≡◌, map};
+ghost use Rattle.std.specs.Prelude.{◌≡◌, ◌||◌, false, map};
 ghost use Rattle.dnssec_zone.specs.Inner.Code.{as_side, as_want};
+ghost use Rattle.dnssec_zone.specs.Inner.Kinds.{some_serves};
 ghost use Rattle.dnssec_zone.specs.Start.{side_of, are_apart, together, lists_kind};
 ghost use Rattle.dnssec_zone.specs.Start.{may_change_algorithms, wants, serves_as_new};
-ghost use Rattle.dnssec_zone.specs.Start.{serves_as_kept};
+ghost use Rattle.dnssec_zone.specs.Start.{serves_as_kept, Want as WantOfStart};
 
 use dnssec_key::{KeyType, RollType, is_kept_at_parent, is_kept_present};
 
@@ -30,19 +31,53 @@ pub(crate) enum Want {
     PresentZskRole,
 }
 
-impl Want {
-    /// Whether a new key serves, as soon as it comes in.
-    pub(crate) fn is_met_by_new(self, keytype: KeyType) -> bool
-        ensures { result ≡ serves_as_new (as_want self) keytype }
+/// Of which kinds some keys are.
+#[derive(Clone, Copy)]
+pub struct Kinds {
+    ksk: bool,
+    zsk: bool,
+    csk: bool,
+}
+
+impl Kinds {
+    /// Those of no keys.
+    pub(crate) fn none() -> Kinds
+        ensures { (w : WantOfStart) → some_serves result w ≡ false }
     {
-        match self {
-            Want::PresentKsk | Want::KskAtParent => keytype.ksk().is_some(),
-            Want::PresentZsk => keytype.zsk().is_some(),
-            Want::PresentKskRole => keytype.ksk_role().is_some(),
-            Want::PresentZskRole => keytype.zsk_role().is_some(),
+        Kinds {
+            ksk: false,
+            zsk: false,
+            csk: false,
         }
     }
 
+    /// Adds the kind of a key.
+    pub(crate) fn add(&mut self, keytype: KeyType)
+        ensures { (w : WantOfStart) → some_serves self.new w
+            ≡ (some_serves self.old w || serves_as_new w keytype) }
+    {
+        match keytype {
+            KeyType::Ksk(_) => self.ksk = true,
+            KeyType::Zsk(_) => self.zsk = true,
+            KeyType::Csk(_, _) => self.csk = true,
+            KeyType::Include(_) => (),
+        }
+    }
+
+    /// Whether a new key of these kinds serves, as soon as it comes in.
+    pub(crate) fn meet(self, want: Want) -> bool
+        ensures { result ≡ some_serves self (as_want want) }
+    {
+        match want {
+            Want::PresentKsk | Want::KskAtParent => self.ksk,
+            Want::PresentZsk => self.zsk,
+            Want::PresentKskRole => self.ksk || self.csk,
+            Want::PresentZskRole => self.zsk || self.csk,
+        }
+    }
+}
+
+impl Want {
     /// Whether a key serves in its state, where it isn't listed as old.
     pub(crate) fn is_met_by_kept(self, keytype: KeyType) -> bool
         ensures { result ≡ serves_as_kept (as_want self) keytype }

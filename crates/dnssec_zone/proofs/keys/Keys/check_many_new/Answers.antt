@@ -38,7 +38,7 @@ pub returns-in-Some-clause-fault : goal.returns-in-Some-clause-fault
 returns-in-Some-clause-fault c =
     let l = c.loop-reference in
     fault-found c.args.roll c.args.self.now (texts c.args.old.now) c.args.new.now l.taken
-    l.reference-index _ c.loop-reference-test.true l.invariant.2 _ l.invariant.0
+    l.reference-index _ c.loop-reference-test.true l.invariant.2 _ l.invariant.0 _
     c.in-Some.fault (sym c.in-Some.is) c.new_entry_fault.ensures
 
 pub loop-reference-preserved : goal.loop-reference-preserved
