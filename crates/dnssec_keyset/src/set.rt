@@ -104,7 +104,7 @@ impl KeySet {
     {
         Ok(KeySet {
             name: clone_name(&self.name)?,
-            keys: self.keys.try_clone()?,
+            keys: self.keys.try_clone(self.alloc)?,
             rolls: self.rolls.try_clone()?,
             lists: self.lists.try_clone()?,
             alloc: self.alloc,
@@ -408,7 +408,7 @@ impl KeySet {
             (Changes self.old (AddKey (string_bytes pubref) key) self.new) }
         ensures err { OnErr result (self.new ≡ self.old) }
     {
-        self.keys.add(pubref, key)
+        self.keys.add(self.alloc, pubref, key)
     }
 
     /// Sets something of a key. A key whose flag is set by hand is left alone by an early end.

@@ -1,5 +1,6 @@
 //! Sets of numbers as bits in words of 64, which take no memory of the allocator.
-ghost use Rattle.std.specs.Prelude.{◌≡◌, ◌<◌, ◌/◌, ℕ, length, nat_eq, true, if◌then◌else◌};
+ghost use Rattle.std.specs.Prelude.{◌≡◌, ◌<◌, ◌/◌, ℕ, length, nat_eq, true, false};
+ghost use Rattle.std.specs.Prelude.{if◌then◌else◌};
 ghost use Rattle.dnssec_zone.specs.Inner.Bits.{is_set};
 
 /// A bit for each key tag.
@@ -27,4 +28,15 @@ pub(crate) fn set(words: &mut [u64], number: u16)
 {
     let at = usize::from(number / 64);
     words[at] |= 1u64 << (number % 64);
+}
+
+/// Takes a number out of a set that has a bit for it.
+pub(crate) fn clear(words: &mut [u64], number: u16)
+    requires { number / 64 < length words.old }
+    ensures len { length words.new ≡ length words.old }
+    ensures out { (n : ℕ) → is_set words.new n
+        ≡ (if nat_eq number n then false else is_set words.old n) }
+{
+    let at = usize::from(number / 64);
+    words[at] &= !(1u64 << (number % 64));
 }

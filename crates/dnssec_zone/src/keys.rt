@@ -8,7 +8,6 @@ ghost use Rattle.std.specs.Str.{bytes_eq};
 ghost use Rattle.std.specs.String.{string_eq};
 ghost use Rattle.std.specs.FinMap as map;
 ghost use Rattle.std.specs.HashMap as hash;
-ghost use Rattle.std.specs.HashSet.{contains, spare};
 ghost use Rattle.dnssec_base.specs.declared.error.Error.TheVariants.{OutOfMemory};
 ghost use Rattle.dnssec_key.specs.RollTable.{which, after_report, after_wait, new_at_start};
 ghost use Rattle.dnssec_key.specs.RollTable.{after_early_end, old_at_start};
@@ -28,9 +27,10 @@ ghost use Rattle.dnssec_zone.specs.Wait.{IsOverFrom, LacksStamp};
 use crate::bits::{TagSet, is_set};
 use crate::counts::{Counts, wait_moves_counts};
 use crate::side::Want;
+use crate::tag_index::TagIndex;
 use dnssec_key::{Error, Half, Key, RollType, Setting, UnixTime};
 use std::alloc::Global;
-use std::collections::{HashMap, HashSet};
+use std::collections::HashMap;
 use std::marker::Model;
 use std::time::Duration;
 
@@ -39,17 +39,15 @@ use std::time::Duration;
 pub struct Keys {
     map: HashMap<String, Key>,
     /// The tags of the keys.
-    tags: HashSet<u16>,
+    tags: TagIndex,
     /// How many keys a start could go on with.
     counts: Counts,
 }
 
 impl Model for Keys {
-    ghost use Rattle.std.specs.Prelude.{nat_eq};
     ghost use Rattle.std.specs.Coded.{codes};
-    ghost use Rattle.std.specs.HashSet.{contains};
     ghost use Rattle.dnssec_zone.specs.Inner.Counts.{CountsAgree};
-    ghost use Rattle.dnssec_zone.specs.Inner.Tags.{TagsAgree};
+    ghost use Rattle.dnssec_zone.specs.Inner.Tags.{TagsAgree, has};
     ghost use Rattle.dnssec_zone.specs.Keys.{Keys as ByReference, keys_code, keys_in_map};
 
     ghost Value = { ByReference };
@@ -58,7 +56,7 @@ impl Model for Keys {
 
     ghost view = { λ s. keys_in_map s.map };
 
-    ghost invariant = { λ s. TagsAgree (contains nat_eq s.tags) (keys_in_map s.map)
+    ghost invariant = { λ s. TagsAgree (has s.tags) (keys_in_map s.map)
         × CountsAgree s.counts (keys_in_map s.map) };
 }
 
@@ -86,18 +84,18 @@ impl Keys {
     {
         Keys {
             map: HashMap::new(alloc),
-            tags: HashSet::new(alloc),
+            tags: TagIndex::new(alloc),
             counts: Counts::none(),
         }
     }
 
-    pub fn try_clone(&self) -> Result<Keys, Error>
+    pub fn try_clone(&self, alloc: Global) -> Result<Keys, Error>
         ensures same { IfOk result (λ keys. keys ≡ self.now) }
         ensures err { IfErr result (λ e. e ≡ OutOfMemory) }
     {
         Ok(Keys {
             map: clone_map(&self.map)?,
-            tags: clone_tags(&self.tags)?,
+            tags: self.tags.try_clone(alloc)?,
             counts: self.counts,
         })
     }
@@ -129,7 +127,7 @@ impl Keys {
     fn has_tag(&self, key_tag: u16) -> bool
         ensures { result ≡ has_tag key_tag self.now }
     {
-        self.tags.contains(&key_tag)
+        self.tags.has(key_tag)
     }
 
     /// How many keys meet a want in their state, whether a start lists them as old or not.
@@ -141,7 +139,7 @@ impl Keys {
 
     /// Adds a key. Its tag is looked for first, then its reference.
     #[tactic(auto, using(crate::proofs::Shown::shown))]
-    pub fn add(&mut self, pubref: String, key: Key) -> Result<(), Error>
+    pub fn add(&mut self, alloc: Global, pubref: String, key: Key) -> Result<(), Error>
         ensures reply { Answers (add_refusal self.old (string_bytes pubref) key.key_tag) result }
         ensures ok { OnOk result ((q : List ℕ) → map.get self.new q
             ≡ (if bytes_eq (string_bytes pubref) q then Some key else map.get self.old q)) }
@@ -155,11 +153,11 @@ impl Keys {
         }
         let key_tag = key.key_tag();
         let keytype = key.keytype();
-        reserve_tag(&mut self.tags)?;
+        self.tags.reserve(alloc)?;
         let Ok(_) = self.map.insert(pubref, key) else {
             return Err(Error::OutOfMemory);
         };
-        put_tag(&mut self.tags, key_tag);
+        self.tags.put(key_tag);
         self.counts = self.counts.with(&keytype);
         is_sound(&self.map);
         Ok(())
@@ -183,7 +181,7 @@ impl Keys {
         }
         let key_tag = key.key_tag();
         self.map.remove(pubref);
-        self.tags.remove(&key_tag);
+        self.tags.remove(key_tag);
         Ok(key_tag)
     }
 
@@ -306,41 +304,6 @@ fn clone_map(map: &HashMap<String, Key>) -> Result<HashMap<String, Key>, Error>
     match map.clone() {
         Ok(made) => Ok(made),
         Err(_) => Err(Error::OutOfMemory),
-    }
-}
-
-fn clone_tags(tags: &HashSet<u16>) -> Result<HashSet<u16>, Error>
-    ensures same { IfOk result (λ makes. (t : ℕ) →
-        contains nat_eq makes t ≡ contains nat_eq tags.now t) }
-    ensures err { IfErr result (λ e. e ≡ OutOfMemory) }
-{
-    match tags.clone() {
-        Ok(made) => Ok(made),
-        Err(_) => Err(Error::OutOfMemory),
-    }
-}
-
-/// Makes room for one more tag.
-fn reserve_tag(tags: &mut HashSet<u16>) -> Result<(), Error>
-    ensures same { (t : ℕ) → contains nat_eq tags.new t ≡ contains nat_eq tags.old t }
-    ensures room { OnOk result (0 < spare tags.new) }
-    ensures err { IfErr result (λ e. e ≡ OutOfMemory) }
-{
-    match tags.reserve(1) {
-        Ok(()) => Ok(()),
-        Err(_) => Err(Error::OutOfMemory),
-    }
-}
-
-/// Puts a tag in, where there is room for it.
-fn put_tag(tags: &mut HashSet<u16>, key_tag: u16)
-    requires { 0 < spare tags.old }
-    ensures { (t : ℕ) → contains nat_eq tags.new t
-        ≡ (if nat_eq key_tag t then true else contains nat_eq tags.old t) }
-{
-    match tags.insert(key_tag) {
-        Ok(_) => {}
-        Err(_) => {}
     }
 }
 

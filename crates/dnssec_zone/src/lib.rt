@@ -11,6 +11,7 @@ mod keys;
 mod listed;
 mod rolls;
 mod side;
+mod tag_index;
 
 pub use bits::AlgorithmSet;
 pub use check::{NewKeys, may_go_over};

@@ -1,8 +1,7 @@
 -- The new key's tag comes into the index with it, and it is counted.
 use Rattle.std.proofs.Common.{◌≡◌, false, None, Some, string_bytes, rules, ap, ◌∙◌}
-use Rattle.std.specs.Prelude.{nat_eq}
 use Rattle.std.specs.FinMap.{get}
-use Rattle.std.specs.HashSet.{contains}
+use Rattle.dnssec_zone.specs.Inner.Tags.{has}
 use Rattle.std.proofs.lemmas.Map.Text.{hash_map_updates_text}
 use Rattle.dnssec_zone.specs.Keys.{keys_in_map, has_tag}
 use Rattle.dnssec_zone.proofs.Counted.Kept.{counts-added, fits-shown}
@@ -17,12 +16,12 @@ invariant_of-self-2 c =
     let x = c.args.key in
     let n = keys_in_map c.insert.new.self in
     let absent : get (keys_in_map i.map) r ≡ None = search (rules, shown) in
-    let free : contains nat_eq i.tags x.key_tag ≡ false =
-    tags-has_tag (contains nat_eq i.tags) _ x.key_tag c.self.invariant.0
+    let free : has i.tags x.key_tag ≡ false =
+    tags-has_tag (has i.tags) _ x.key_tag c.self.invariant.0
     ∙ ap (has_tag x.key_tag) c.self.view_is ∙ search rules in
     let is = get-updated i.map c.insert.new.self r (Some x)
     (hash_map_updates_text r i.map c.insert.new.self (Some x) c.in-Ok.ensures.updates) in (
-      TagsAgree-added (contains nat_eq i.tags) (contains nat_eq c.put_tag.new.tags)
+      TagsAgree-added (has i.tags) (has c.put.new.self)
           (keys_in_map i.map) n r x absent free is (λ t. search rules) c.self.invariant.0,
       rw (c.with-self-inside.ensures, c.keytype-keytype.ensures)
           (counts-added i.counts (keys_in_map i.map) n r x

@@ -1,7 +1,7 @@
 -- Where no key has the reference, nothing is changed; else one key is, and is counted anew.
 use Rattle.std.proofs.Common.{◌≡◌, ℕ, List, None, Some, rules, sym, ap, subst, ◌∙◌}
-use Rattle.std.specs.Prelude.{nat_eq, if◌then◌else◌}
-use Rattle.std.specs.HashSet.{contains}
+use Rattle.std.specs.Prelude.{if◌then◌else◌}
+use Rattle.dnssec_zone.specs.Inner.Tags.{has}
 use Rattle.std.specs.Str.{bytes_eq}
 use Rattle.std.specs.Option.{option_map}
 use Rattle.std.specs.FinMap as map
@@ -40,7 +40,7 @@ invariant_of-self-2 c =
     c.with-self-inside.ensures ∙ ap (λ t. with_key t c.without.result) after
     ∙ ap (with_key (f k).keytype) (c.without.ensures
     ∙ ap (λ t. without_key t i.counts) c.keytype-before.ensures) in (
-      TagsAgree-mapped (contains nat_eq i.tags) (keys_in_map i.map) (keys_in_map n)
+      TagsAgree-mapped (has i.tags) (keys_in_map i.map) (keys_in_map n)
           (λ q k. if bytes_eq r q then f k else k)
           (λ q k. kept_at f (kept_made c.args.change) _ k) is c.self.invariant.0,
       subst (λ counts. CountsAgree counts (keys_in_map n)) (sym counts)

@@ -1,8 +1,7 @@
 -- The key's tag leaves the index with it; a stale key was in no count.
 use Rattle.std.proofs.Common.{◌≡◌, true, None, Some, rules}
-use Rattle.std.specs.Prelude.{nat_eq}
 use Rattle.std.specs.FinMap.{get}
-use Rattle.std.specs.HashSet.{contains}
+use Rattle.dnssec_zone.specs.Inner.Tags.{has}
 use Rattle.std.proofs.lemmas.Map.Text.{hash_map_updates_text}
 use Rattle.dnssec_key.specs.State.{is_stale}
 use Rattle.dnssec_key.specs.Key.{all_states}
@@ -23,9 +22,9 @@ invariant_of-self c =
     let found : get (keys_in_map i.map) r ≡ Some x = search (rules, shown) in
     let is = get-updated i.map c.remove.new.self r None
     (hash_map_updates_text r i.map c.remove.new.self _ c.remove.ensures.updates) in (
-      TagsAgree-removed (contains nat_eq i.tags) (contains nat_eq c.remove-3.new.self)
+      TagsAgree-removed (has i.tags) (has c.remove-3.new.self)
           (keys_in_map i.map) n r x found is
-          (λ t. rw (← c.key_tag-key_tag.ensures) (c.remove-3.ensures.updates.0 t))
+          (λ t. rw (← c.key_tag-key_tag.ensures) (c.remove-3.ensures t))
           c.self.invariant.0,
       counts-removed i.counts (keys_in_map i.map) n r x found is
           (stale-serves x.keytype stale) c.self.invariant.1,

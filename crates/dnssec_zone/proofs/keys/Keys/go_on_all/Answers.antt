@@ -1,7 +1,6 @@
 -- The walk moves each key as an accepted wait does; where that may move a count, all are counted.
 use Rattle.std.proofs.Common.{refl, rules}
-use Rattle.std.specs.Prelude.{nat_eq}
-use Rattle.std.specs.HashSet.{contains}
+use Rattle.dnssec_zone.specs.Inner.Tags.{has}
 use Rattle.std.proofs.lemmas.Map.Made.{map_same_pairs}
 use Rattle.dnssec_key.specs.RollTable.{which, after_wait}
 use Rattle.dnssec_zone.specs.Keys.{keys_in_map}
@@ -23,7 +22,7 @@ invariant_of-self c =
     let counted = c.counts_after_wait-self-inside in
     let step = after_wait c.args.roll (which c.args.half) c.args.now in
     let e = map_same_pairs _ step _ (λ k v b w f t. search rules) _ _ c.retain.ensures.filtered in (
-      TagsAgree-mapped (contains nat_eq i.tags) (keys_in_map i.map) (keys_in_map n) (λ q. step)
+      TagsAgree-mapped (has i.tags) (keys_in_map i.map) (keys_in_map n) (λ q. step)
           (λ q k. refl) (get-walked step i.map n _ refl e) c.self.invariant.0,
       counts-waited c.args.roll (which c.args.half) c.args.now i.counts counted.result
           i.map n c.retain.ensures.was_unique c.retain.ensures.unique e c.self.invariant.1

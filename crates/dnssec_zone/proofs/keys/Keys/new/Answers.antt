@@ -1,7 +1,6 @@
 -- No keys: no tags, and nothing to count.
 use Rattle.std.proofs.Common.{rules}
-use Rattle.std.specs.Prelude.{nat_eq}
-use Rattle.std.specs.HashSet.{contains}
+use Rattle.dnssec_zone.specs.Inner.Tags.{has}
 use Rattle.dnssec_zone.specs.Keys.{keys_in_map}
 use Rattle.dnssec_zone.proofs.Counted.Kept.{counts-none}
 use Rattle.dnssec_zone.proofs.Shown.{shown}
@@ -10,7 +9,7 @@ use Rattle.dnssec_zone.proofs.keys.Keys.new.Goals as goal
 
 pub invariant_of-result : goal.invariant_of-result
 invariant_of-result c = (
-  TagsAgree-none (contains nat_eq c.new-2.result) (keys_in_map c.new.result) (λ t. search rules)
+  TagsAgree-none (has c.new-2.result) (keys_in_map c.new.result) (λ t. search rules)
       (λ q. search (rules, shown)),
   rw c.none.ensures (counts-none (keys_in_map c.new.result) (λ q. search (rules, shown))),
 )

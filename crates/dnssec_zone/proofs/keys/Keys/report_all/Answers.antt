@@ -1,7 +1,6 @@
 -- The walk stamps each key as a report does, and leaves tags, kinds and flags.
 use Rattle.std.proofs.Common.{refl, rules}
-use Rattle.std.specs.Prelude.{nat_eq}
-use Rattle.std.specs.HashSet.{contains}
+use Rattle.dnssec_zone.specs.Inner.Tags.{has}
 use Rattle.std.proofs.lemmas.Map.Made.{map_same_pairs}
 use Rattle.dnssec_key.specs.RollTable.{which, after_report}
 use Rattle.dnssec_zone.specs.Keys.{keys_in_map}
@@ -22,7 +21,7 @@ invariant_of-self c =
     let n = c.retain.new.self in
     let step = after_report c.args.roll (which c.args.half) c.args.now in
     let e = map_same_pairs _ step _ (λ k v b w f t. search rules) _ _ c.retain.ensures.filtered in (
-      TagsAgree-mapped (contains nat_eq i.tags) (keys_in_map i.map) (keys_in_map n) (λ q. step)
+      TagsAgree-mapped (has i.tags) (keys_in_map i.map) (keys_in_map n) (λ q. step)
           (λ q k. refl) (get-walked step i.map n _ refl e) c.self.invariant.0,
       counts-kept step (λ w k. refl) i.counts i.map n c.retain.ensures.was_unique
           c.retain.ensures.unique e c.self.invariant.1,

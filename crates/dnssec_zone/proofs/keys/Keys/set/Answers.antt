@@ -1,7 +1,7 @@
 -- A key that a setter doesn't suit is written back as it was; else one key is changed.
 use Rattle.std.proofs.Common.{◌≡◌, ℕ, List, Some, rules, sym, ap, subst, ◌∙◌}
-use Rattle.std.specs.Prelude.{nat_eq, if◌then◌else◌}
-use Rattle.std.specs.HashSet.{contains}
+use Rattle.std.specs.Prelude.{if◌then◌else◌}
+use Rattle.dnssec_zone.specs.Inner.Tags.{has}
 use Rattle.std.specs.Str.{bytes_eq}
 use Rattle.std.specs.Option.{option_map}
 use Rattle.std.specs.FinMap as map
@@ -23,7 +23,7 @@ invariant_of-self-then-not-suits c =
     let found : map.get (keys_in_map i.map) r ≡ Some k = search (rules, shown) in
     let same = same-written (keys_in_map i.map) (keys_in_map (c.get_mut.follows.lender k)) r k found
     (λ q. search (rules, shown)) in
-    subst (λ keys. TagsAgree (contains nat_eq i.tags) keys × CountsAgree i.counts keys) (sym same)
+    subst (λ keys. TagsAgree (has i.tags) keys × CountsAgree i.counts keys) (sym same)
     c.self.invariant
 
 pub returns-then-not-suits-clause-err : goal.returns-then-not-suits-clause-err
@@ -54,7 +54,7 @@ invariant_of-self-2 c =
     c.follow.ensures
     ∙ (λ j. if moves_counts setting
     then with_key (after j) (without_key (c.keytype-before.ensures j) i.counts) else i.counts) in (
-      TagsAgree-mapped (contains nat_eq i.tags) (keys_in_map i.map) (keys_in_map n)
+      TagsAgree-mapped (has i.tags) (keys_in_map i.map) (keys_in_map n)
           (λ q k. if bytes_eq r q then f k else k)
           (λ q k. kept_at f (kept_set setting) _ k) is c.self.invariant.0,
       subst (λ counts. CountsAgree counts (keys_in_map n)) (sym counts)

@@ -1,7 +1,6 @@
 -- The walk undoes the start on each key that is listed; all are counted again.
 use Rattle.std.proofs.Common.{refl, rules}
-use Rattle.std.specs.Prelude.{nat_eq}
-use Rattle.std.specs.HashSet.{contains}
+use Rattle.dnssec_zone.specs.Inner.Tags.{has}
 use Rattle.std.proofs.lemmas.Map.Made.{map_same_pairs}
 use Rattle.dnssec_key.specs.Key.{KeyParts}
 use Rattle.dnssec_key.specs.RollTable.{after_early_end}
@@ -25,7 +24,7 @@ invariant_of-self c =
     let step : KeyParts → KeyParts = λ k. after_early_end c.args.roll
     (is_set c.args.olds.now k.key_tag) (is_set c.args.news.now k.key_tag) k in
     let e = map_same_pairs _ step _ (λ k v b w f t. search rules) _ _ c.retain.ensures.filtered in (
-      TagsAgree-mapped (contains nat_eq i.tags) (keys_in_map i.map) (keys_in_map n) (λ q. step)
+      TagsAgree-mapped (has i.tags) (keys_in_map i.map) (keys_in_map n) (λ q. step)
           (λ q k. kept_unmarked c.args.roll _ _ k) (get-walked step i.map n _ refl e)
           c.self.invariant.0,
       c.recount-self-inside.ensures,
