@@ -169,26 +169,24 @@ impl KeyTimestamps {
         }
     }
 
-    /// These stamps, with those that are written at `now`.
-    pub fn with(self, stamped: Stamped, now: UnixTime) -> KeyTimestamps
-        ensures { result ≡ stamps_with stamped now self }
+    /// Writes these stamps at `now`.
+    pub fn write(&mut self, stamped: Stamped, now: UnixTime)
+        ensures { self.new ≡ stamps_with stamped now self.old }
     {
-        let mut stamps = self;
         if stamped.published {
-            stamps.published = Some(now);
+            self.published = Some(now);
         }
         if stamped.visible {
-            stamps.visible = Some(now);
+            self.visible = Some(now);
         }
         if stamped.ds_visible {
-            stamps.ds_visible = Some(now);
+            self.ds_visible = Some(now);
         }
         if stamped.rrsig_visible {
-            stamps.rrsig_visible = Some(now);
+            self.rrsig_visible = Some(now);
         }
         if stamped.withdrawn {
-            stamps.withdrawn = Some(now);
+            self.withdrawn = Some(now);
         }
-        stamps
     }
 }

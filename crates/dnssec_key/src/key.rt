@@ -214,7 +214,7 @@ impl Key {
     pub fn mark_old(&mut self)
         ensures { self.new ≡ old_at_start self.old }
     {
-        self.keytype = self.keytype.after_start_as_old();
+        self.keytype.start_as_old();
     }
 
     /// A start lists the key as new.
@@ -222,22 +222,22 @@ impl Key {
         ensures { self.new ≡ new_at_start roll now self.old }
     {
         let stamped = self.keytype.stamps_at_start(roll);
-        self.keytype = self.keytype.after_start_as_new(roll);
-        self.timestamps = self.timestamps.with(stamped, now);
+        self.keytype.start_as_new(roll);
+        self.timestamps.write(stamped, now);
     }
 
     /// A roll that listed the key as old is ended early.
     pub fn unmark_old(&mut self, roll: RollType)
         ensures { self.new ≡ old_at_early_end roll self.old }
     {
-        self.keytype = self.keytype.after_early_end_as_old(roll);
+        self.keytype.end_early_as_old(roll);
     }
 
     /// A roll that listed the key as new is ended early.
     pub fn unmark_new(&mut self, roll: RollType)
         ensures { self.new ≡ new_at_early_end roll self.old }
     {
-        self.keytype = self.keytype.after_early_end_as_new(roll);
+        self.keytype.end_early_as_new(roll);
     }
 
     /// A report of a roll is made.
@@ -245,15 +245,14 @@ impl Key {
         ensures { self.new ≡ after_report roll (which half) now self.old }
     {
         let stamped = self.keytype.stamps_by_report(roll, half);
-        self.timestamps = self.timestamps.with(stamped, now);
+        self.timestamps.write(stamped, now);
     }
 
     /// A wait of a roll is over.
     pub fn go_on(&mut self, roll: RollType, half: Half, now: UnixTime)
         ensures { self.new ≡ after_wait roll (which half) now self.old }
     {
-        let stamped = self.keytype.stamps_by_wait(roll, half);
-        self.keytype = self.keytype.after_wait(roll, half);
-        self.timestamps = self.timestamps.with(stamped, now);
+        let stamped = self.keytype.go_on(roll, half);
+        self.timestamps.write(stamped, now);
     }
 }
