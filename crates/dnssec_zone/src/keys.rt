@@ -313,10 +313,9 @@ impl Keys {
         let Some(key) = self.map.get_mut(reference) else {
             return;
         };
-        let before = key.keytype();
+        self.counts.take_out(&key.keytype());
         change.make(key);
-        let after = key.keytype();
-        self.counts = self.counts.without(&before).with(&after);
+        self.counts.put_in(&key.keytype());
         is_sound(&self.map);
     }
 
