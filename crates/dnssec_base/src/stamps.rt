@@ -119,13 +119,14 @@ impl KeyTimestamps {
     pub fn at(&self, stamp: Stamp) -> Option<UnixTime>
         ensures { result ≡ stamp_named stamp self.now }
     {
-        match stamp {
-            Stamp::Published => self.published,
-            Stamp::Visible => self.visible,
-            Stamp::DsVisible => self.ds_visible,
-            Stamp::RrsigVisible => self.rrsig_visible,
-            Stamp::Withdrawn => self.withdrawn,
-        }
+        let moment = match stamp {
+            Stamp::Published => &self.published,
+            Stamp::Visible => &self.visible,
+            Stamp::DsVisible => &self.ds_visible,
+            Stamp::RrsigVisible => &self.rrsig_visible,
+            Stamp::Withdrawn => &self.withdrawn,
+        };
+        *moment
     }
 
     pub fn with_visible(self, time: UnixTime) -> KeyTimestamps

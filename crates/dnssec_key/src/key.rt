@@ -3,7 +3,7 @@ ghost use Rattle.std.specs.Prelude.{◌≡◌, IfOk, IfErr, string_bytes};
 ghost use Rattle.std.specs.Option.{option_map};
 ghost use Rattle.dnssec_key.specs.State.{is_stale, is_fresh, is_kept};
 ghost use Rattle.dnssec_key.specs.Key.{all_states, new_key};
-ghost use Rattle.dnssec_key.specs.RollTable.{which, after_report, after_wait, new_at_start};
+ghost use Rattle.dnssec_key.specs.RollTable.{which, after_report, after_wait, half_of, new_at_start};
 ghost use Rattle.dnssec_key.specs.RollTable.{old_at_start, new_at_early_end, old_at_early_end};
 ghost use Rattle.dnssec_base.specs.declared.error.Error.TheVariants.{OutOfMemory};
 ghost use Rattle.dnssec_key.specs.Setters.{setting_of, set_by};
@@ -169,6 +169,13 @@ impl Key {
             KeyType::Ksk(state) | KeyType::Zsk(state) | KeyType::Include(state) => !state.old,
             KeyType::Csk(ksk, zsk) => !ksk.old && !zsk.old,
         }
+    }
+
+    /// Whether a wait checks the key.
+    pub fn is_checked(&self, roll: RollType, half: Half) -> bool
+        ensures { result ≡ (half_of roll (which half)).checks self.now.keytype }
+    {
+        self.keytype.is_checked(roll, half)
     }
 
     /// Sets what is set, whatever the kind of the key.

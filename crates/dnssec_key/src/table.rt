@@ -183,7 +183,7 @@ impl KeyType {
     }
 
     /// Whether a wait checks the key.
-    pub fn is_checked(&self, roll: RollType, half: Half) -> bool
+    pub(crate) fn is_checked(&self, roll: RollType, half: Half) -> bool
         ensures { result ≡ (half_of roll (which half)).checks self.now }
     {
         match (roll, half) {
