@@ -305,7 +305,8 @@ impl Keys {
         }
     }
 
-    /// Changes the key at a reference, where there is one.
+    /// Changes the key at a reference, where there is one. Each caller has one change.
+    #[inline(always)]
     #[tactic(auto, using(crate::proofs::Shown::shown))]
     fn change_at(&mut self, reference: &str, change: Change)
         ensures { (q : List ℕ) → map.get self.new q ≡ option_map
