@@ -119,13 +119,14 @@ impl KeyTimestamps {
     pub fn at(&self, stamp: Stamp) -> Option<UnixTime>
         ensures { result ≡ stamp_named stamp self.now }
     {
-        match stamp {
-            Stamp::Published => self.published,
-            Stamp::Visible => self.visible,
-            Stamp::DsVisible => self.ds_visible,
-            Stamp::RrsigVisible => self.rrsig_visible,
-            Stamp::Withdrawn => self.withdrawn,
-        }
+        let moment = match stamp {
+            Stamp::Published => &self.published,
+            Stamp::Visible => &self.visible,
+            Stamp::DsVisible => &self.ds_visible,
+            Stamp::RrsigVisible => &self.rrsig_visible,
+            Stamp::Withdrawn => &self.withdrawn,
+        };
+        *moment
     }
 
     pub fn with_visible(self, time: UnixTime) -> KeyTimestamps
@@ -169,26 +170,24 @@ impl KeyTimestamps {
         }
     }
 
-    /// These stamps, with those that are written at `now`.
-    pub fn with(self, stamped: Stamped, now: UnixTime) -> KeyTimestamps
-        ensures { result ≡ stamps_with stamped now self }
+    /// Writes these stamps at `now`.
+    pub fn write(&mut self, stamped: Stamped, now: UnixTime)
+        ensures { self.new ≡ stamps_with stamped now self.old }
     {
-        let mut stamps = self;
         if stamped.published {
-            stamps.published = Some(now);
+            self.published = Some(now);
         }
         if stamped.visible {
-            stamps.visible = Some(now);
+            self.visible = Some(now);
         }
         if stamped.ds_visible {
-            stamps.ds_visible = Some(now);
+            self.ds_visible = Some(now);
         }
         if stamped.rrsig_visible {
-            stamps.rrsig_visible = Some(now);
+            self.rrsig_visible = Some(now);
         }
         if stamped.withdrawn {
-            stamps.withdrawn = Some(now);
+            self.withdrawn = Some(now);
         }
-        stamps
     }
 }

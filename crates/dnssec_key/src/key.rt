@@ -3,7 +3,7 @@ ghost use Rattle.std.specs.Prelude.{◌≡◌, IfOk, IfErr, string_bytes};
 ghost use Rattle.std.specs.Option.{option_map};
 ghost use Rattle.dnssec_key.specs.State.{is_stale, is_fresh, is_kept};
 ghost use Rattle.dnssec_key.specs.Key.{all_states, new_key};
-ghost use Rattle.dnssec_key.specs.RollTable.{which, after_report, after_wait, new_at_start};
+ghost use Rattle.dnssec_key.specs.RollTable.{which, after_report, after_wait, half_of, new_at_start};
 ghost use Rattle.dnssec_key.specs.RollTable.{old_at_start, new_at_early_end, old_at_early_end};
 ghost use Rattle.dnssec_base.specs.declared.error.Error.TheVariants.{OutOfMemory};
 ghost use Rattle.dnssec_key.specs.Setters.{setting_of, set_by};
@@ -171,6 +171,13 @@ impl Key {
         }
     }
 
+    /// Whether a wait checks the key.
+    pub fn is_checked(&self, roll: RollType, half: Half) -> bool
+        ensures { result ≡ (half_of roll (which half)).checks self.now.keytype }
+    {
+        self.keytype.is_checked(roll, half)
+    }
+
     /// Sets what is set, whatever the kind of the key.
     pub fn set(&mut self, setting: Setting)
         ensures { self.new ≡ set_by (setting_of setting) self.old }
@@ -214,7 +221,7 @@ impl Key {
     pub fn mark_old(&mut self)
         ensures { self.new ≡ old_at_start self.old }
     {
-        self.keytype = self.keytype.after_start_as_old();
+        self.keytype.start_as_old();
     }
 
     /// A start lists the key as new.
@@ -222,22 +229,22 @@ impl Key {
         ensures { self.new ≡ new_at_start roll now self.old }
     {
         let stamped = self.keytype.stamps_at_start(roll);
-        self.keytype = self.keytype.after_start_as_new(roll);
-        self.timestamps = self.timestamps.with(stamped, now);
+        self.keytype.start_as_new(roll);
+        self.timestamps.write(stamped, now);
     }
 
     /// A roll that listed the key as old is ended early.
     pub fn unmark_old(&mut self, roll: RollType)
         ensures { self.new ≡ old_at_early_end roll self.old }
     {
-        self.keytype = self.keytype.after_early_end_as_old(roll);
+        self.keytype.end_early_as_old(roll);
     }
 
     /// A roll that listed the key as new is ended early.
     pub fn unmark_new(&mut self, roll: RollType)
         ensures { self.new ≡ new_at_early_end roll self.old }
     {
-        self.keytype = self.keytype.after_early_end_as_new(roll);
+        self.keytype.end_early_as_new(roll);
     }
 
     /// A report of a roll is made.
@@ -245,15 +252,14 @@ impl Key {
         ensures { self.new ≡ after_report roll (which half) now self.old }
     {
         let stamped = self.keytype.stamps_by_report(roll, half);
-        self.timestamps = self.timestamps.with(stamped, now);
+        self.timestamps.write(stamped, now);
     }
 
     /// A wait of a roll is over.
     pub fn go_on(&mut self, roll: RollType, half: Half, now: UnixTime)
         ensures { self.new ≡ after_wait roll (which half) now self.old }
     {
-        let stamped = self.keytype.stamps_by_wait(roll, half);
-        self.keytype = self.keytype.after_wait(roll, half);
-        self.timestamps = self.timestamps.with(stamped, now);
+        let stamped = self.keytype.go_on(roll, half);
+        self.timestamps.write(stamped, now);
     }
 }

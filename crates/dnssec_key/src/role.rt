@@ -12,164 +12,139 @@ use crate::state::KeyState;
 
 /// What happens to one role.
 impl KeyState {
-    pub(crate) fn turns_old(self) -> KeyState
-        ensures { result ≡ turns_old self }
+    pub(crate) fn turns_old(&mut self)
+        ensures { self.exit.now ≡ turns_old self.entry.now }
     {
-        KeyState { old: true, ..self }
+        self.old = true;
     }
 
-    pub(crate) fn turns_back(self) -> KeyState
-        ensures { result ≡ turns_back self }
+    pub(crate) fn turns_back(&mut self)
+        ensures { self.exit.now ≡ turns_back self.entry.now }
     {
-        KeyState { old: false, ..self }
+        self.old = false;
     }
 
     /// Goes into the DNSKEY set.
-    pub(crate) fn comes_in(self) -> KeyState
-        ensures { result ≡ comes_in self }
+    pub(crate) fn comes_in(&mut self)
+        ensures { self.exit.now ≡ comes_in self.entry.now }
     {
-        KeyState {
-            present: true,
-            ..self
-        }
+        self.present = true;
     }
 
     /// Goes into the DNSKEY set, and signs.
-    pub(crate) fn comes_in_signing(self) -> KeyState
-        ensures { result ≡ comes_in_signing self }
+    pub(crate) fn comes_in_signing(&mut self)
+        ensures { self.exit.now ≡ comes_in_signing self.entry.now }
     {
-        KeyState {
-            present: true,
-            signer: true,
-            ..self
-        }
+        self.present = true;
+        self.signer = true;
     }
 
     /// Its DS goes to the parent, ahead of the key.
-    pub(crate) fn ds_comes_in(self) -> KeyState
-        ensures { result ≡ ds_comes_in self }
+    pub(crate) fn ds_comes_in(&mut self)
+        ensures { self.exit.now ≡ ds_comes_in self.entry.now }
     {
-        KeyState {
-            at_parent: true,
-            ..self
-        }
+        self.at_parent = true;
     }
 
     /// In the DNSKEY set, what stays has a DS from now on, and what leaves has none.
-    pub(crate) fn ds_follows(self) -> KeyState
-        ensures { result ≡ ds_follows self }
+    pub(crate) fn ds_follows(&mut self)
+        ensures { self.exit.now ≡ ds_follows self.entry.now }
     {
         if self.present {
-            KeyState {
-                at_parent: !self.old,
-                ..self
-            }
-        } else {
-            self
+            self.at_parent = !self.old;
         }
     }
 
-    /// What leaves drops out of the DNSKEY set, and what stays comes in for it by its DS.
-    pub(crate) fn changes_places(self) -> KeyState
-        ensures { result ≡ keys_change_places self }
+    /// What leaves drops out of the DNSKEY set, and what stays comes in for it by its DS. Tells
+    /// whether it came in.
+    pub(crate) fn changes_places(&mut self) -> bool
+        ensures moved { self.exit.now ≡ keys_change_places self.entry.now }
+        ensures came { result ≡ kept_at_parent self.entry.now }
     {
-        if self.old && self.present {
-            self.leaves_dnskey()
-        } else if !self.old && self.at_parent {
-            self.comes_in_signing()
-        } else {
-            self
+        let comes = !self.old && self.at_parent;
+        if comes {
+            self.comes_in_signing();
+        } else if self.old && self.present {
+            self.leaves_dnskey();
         }
+        comes
     }
 
     /// In the DNSKEY set, what stays signs the zone from now on, and what leaves doesn't.
-    pub(crate) fn signatures_follow(self) -> KeyState
-        ensures { result ≡ signatures_follow self }
+    pub(crate) fn signatures_follow(&mut self)
+        ensures { self.exit.now ≡ signatures_follow self.entry.now }
     {
-        if !self.old && self.present {
-            KeyState {
-                signer: true,
-                ..self
-            }
-        } else if self.old {
-            KeyState {
-                signer: false,
-                ..self
-            }
-        } else {
-            self
+        if self.old {
+            self.signer = false;
+        } else if self.present {
+            self.signer = true;
         }
     }
 
-    pub(crate) fn leaves_dnskey(self) -> KeyState
-        ensures { result ≡ leaves_dnskey self }
+    pub(crate) fn leaves_dnskey(&mut self)
+        ensures { self.exit.now ≡ leaves_dnskey self.entry.now }
     {
-        KeyState {
-            present: false,
-            signer: false,
-            ..self
-        }
+        self.present = false;
+        self.signer = false;
     }
 
-    pub(crate) fn leaves_dnskey_if_old(self) -> KeyState
-        ensures { result ≡ only is_old leaves_dnskey self }
+    pub(crate) fn leaves_silently(&mut self)
+        ensures { self.exit.now ≡ leaves_silently self.entry.now }
     {
-        if self.old { self.leaves_dnskey() } else { self }
+        self.present = false;
     }
 
-    pub(crate) fn leaves_dnskey_if_present(self) -> KeyState
-        ensures { result ≡ only old_present leaves_dnskey self }
+    pub(crate) fn loses_ds(&mut self)
+        ensures { self.exit.now ≡ leaves_parent self.entry.now }
     {
-        if self.old && self.present {
-            self.leaves_dnskey()
-        } else {
-            self
-        }
-    }
-
-    pub(crate) fn leaves_silently(self) -> KeyState
-        ensures { result ≡ leaves_silently self }
-    {
-        KeyState {
-            present: false,
-            ..self
-        }
-    }
-
-    pub(crate) fn leaves_dnskey_if_silent(self) -> KeyState
-        ensures { result ≡ only old_silent leaves_silently self }
-    {
-        if self.old && !self.signer {
-            self.leaves_silently()
-        } else {
-            self
-        }
-    }
-
-    pub(crate) fn loses_ds(self) -> KeyState
-        ensures { result ≡ leaves_parent self }
-    {
-        KeyState {
-            at_parent: false,
-            ..self
-        }
-    }
-
-    pub(crate) fn leaves_parent(self) -> KeyState
-        ensures { result ≡ only old_at_parent leaves_parent self }
-    {
-        if self.old && self.at_parent {
-            self.loses_ds()
-        } else {
-            self
-        }
+        self.at_parent = false;
     }
 }
 
-pub(crate) fn is_old(role: Option<KeyState>) -> bool
-    ensures { result ≡ option_map_or is_old role false }
-{
-    role.is_some_and(|state| state.old)
+/// What happens to one role if it is old. Each tells whether it happened.
+impl KeyState {
+    pub(crate) fn leaves_dnskey_if_old(&mut self) -> bool
+        ensures moved { self.exit.now ≡ only is_old leaves_dnskey self.entry.now }
+        ensures left { result ≡ is_old self.entry.now }
+    {
+        if self.old {
+            self.leaves_dnskey();
+        }
+        self.old
+    }
+
+    pub(crate) fn leaves_dnskey_if_present(&mut self) -> bool
+        ensures moved { self.exit.now ≡ only old_present leaves_dnskey self.entry.now }
+        ensures left { result ≡ old_present self.entry.now }
+    {
+        let leaves = self.old && self.present;
+        if leaves {
+            self.leaves_dnskey();
+        }
+        leaves
+    }
+
+    pub(crate) fn leaves_dnskey_if_silent(&mut self) -> bool
+        ensures moved { self.exit.now ≡ only old_silent leaves_silently self.entry.now }
+        ensures left { result ≡ old_silent self.entry.now }
+    {
+        let leaves = self.old && !self.signer;
+        if leaves {
+            self.leaves_silently();
+        }
+        leaves
+    }
+
+    pub(crate) fn leaves_parent(&mut self) -> bool
+        ensures moved { self.exit.now ≡ only old_at_parent leaves_parent self.entry.now }
+        ensures left { result ≡ old_at_parent self.entry.now }
+    {
+        let leaves = self.old && self.at_parent;
+        if leaves {
+            self.loses_ds();
+        }
+        leaves
+    }
 }
 
 pub(crate) fn is_leaving(role: Option<KeyState>) -> bool
@@ -196,22 +171,4 @@ pub fn is_kept_at_parent(role: Option<KeyState>) -> bool
     ensures { result ≡ option_map_or kept_at_parent role false }
 {
     role.is_some_and(|state| !state.old && state.at_parent)
-}
-
-pub(crate) fn is_old_present(role: Option<KeyState>) -> bool
-    ensures { result ≡ option_map_or old_present role false }
-{
-    role.is_some_and(|state| state.old && state.present)
-}
-
-pub(crate) fn is_old_at_parent(role: Option<KeyState>) -> bool
-    ensures { result ≡ option_map_or old_at_parent role false }
-{
-    role.is_some_and(|state| state.old && state.at_parent)
-}
-
-pub(crate) fn is_old_silent(role: Option<KeyState>) -> bool
-    ensures { result ≡ option_map_or old_silent role false }
-{
-    role.is_some_and(|state| state.old && !state.signer)
 }

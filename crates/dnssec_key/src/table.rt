@@ -2,16 +2,12 @@
 #![tactic(auto, unfolding(crate::specs::RollTable::column))]
 
 ghost use Rattle.std.specs.Prelude.{◌≡◌};
-ghost use Rattle.dnssec_key.specs.declared.kind.KeyType.TheVariants.{Csk};
 ghost use Rattle.dnssec_key.specs.RollTable.{which, column, half_of, at_each_role, turns_old};
 ghost use Rattle.dnssec_key.specs.RollTable.{leaves_dnskey};
 ghost use Rattle.dnssec_key.specs.Inner.Stamped.{stamped_on};
 
 use crate::kind::KeyType;
-use crate::role::{
-    is_kept_at_parent, is_kept_present, is_kept_signing, is_leaving, is_old, is_old_at_parent,
-    is_old_present, is_old_silent,
-};
+use crate::role::{is_kept_at_parent, is_kept_present, is_kept_signing, is_leaving};
 use crate::roll::Half::{First, Second};
 use crate::roll::RollType::{
     AlgorithmRoll, CskRoll, KskDoubleDsRoll, KskRoll, ZskDoubleSignatureRoll, ZskRoll,
@@ -20,93 +16,110 @@ use crate::roll::{Half, RollType};
 use crate::state::KeyState;
 use dnssec_base::{Stamp, Stamped};
 
-/// A CSK that leaves the DNSKEY set in both its roles.
-fn leaving_csk(ksk: KeyState, zsk: KeyState) -> KeyType
-    ensures { result ≡ Csk (leaves_dnskey ksk) (leaves_dnskey zsk) }
+/// A CSK leaves the DNSKEY set in both its roles.
+fn csk_leaves_dnskey(ksk: &mut KeyState, zsk: &mut KeyState)
+    ensures ksk { ksk.exit.now ≡ leaves_dnskey ksk.entry.now }
+    ensures zsk { zsk.exit.now ≡ leaves_dnskey zsk.entry.now }
 {
-    KeyType::Csk(ksk.leaves_dnskey(), zsk.leaves_dnskey())
+    ksk.leaves_dnskey();
+    zsk.leaves_dnskey();
 }
 
 /// The rows.
 impl KeyType {
     /// A start lists the key as old.
-    pub(crate) fn after_start_as_old(&self) -> KeyType
-        ensures { result ≡ at_each_role turns_old self.now }
+    pub(crate) fn start_as_old(&mut self)
+        ensures { self.new ≡ at_each_role turns_old self.old }
     {
-        match *self {
-            KeyType::Ksk(state) => KeyType::Ksk(state.turns_old()),
-            KeyType::Zsk(state) => KeyType::Zsk(state.turns_old()),
-            KeyType::Csk(ksk, zsk) => KeyType::Csk(ksk.turns_old(), zsk.turns_old()),
-            KeyType::Include(state) => KeyType::Include(state),
+        match self {
+            KeyType::Ksk(state) => state.turns_old(),
+            KeyType::Zsk(state) => state.turns_old(),
+            KeyType::Csk(ksk, zsk) => {
+                ksk.turns_old();
+                zsk.turns_old();
+            }
+            KeyType::Include(_) => {}
         }
     }
 
     /// What a start puts on a new key.
-    pub(crate) fn after_start_as_new(&self, roll: RollType) -> KeyType
-        ensures { result ≡ (column roll).comes self.now }
+    pub(crate) fn start_as_new(&mut self, roll: RollType)
+        ensures { self.new ≡ (column roll).comes self.old }
     {
-        match *self {
-            KeyType::Ksk(state) => KeyType::Ksk(match roll {
+        match self {
+            KeyType::Ksk(state) => match roll {
                 KskRoll | CskRoll | AlgorithmRoll => state.comes_in_signing(),
                 KskDoubleDsRoll => state.ds_comes_in(),
-                ZskRoll | ZskDoubleSignatureRoll => state,
-            }),
-            KeyType::Zsk(state) => KeyType::Zsk(match roll {
+                ZskRoll | ZskDoubleSignatureRoll => {}
+            },
+            KeyType::Zsk(state) => match roll {
                 ZskRoll | CskRoll => state.comes_in(),
                 ZskDoubleSignatureRoll | AlgorithmRoll => state.comes_in_signing(),
-                KskRoll | KskDoubleDsRoll => state,
-            }),
-            KeyType::Csk(ksk, zsk) => match roll {
-                CskRoll => KeyType::Csk(ksk.comes_in_signing(), zsk.comes_in()),
-                AlgorithmRoll => KeyType::Csk(ksk.comes_in_signing(), zsk.comes_in_signing()),
-                _ => *self,
+                KskRoll | KskDoubleDsRoll => {}
             },
-            KeyType::Include(_) => *self,
+            KeyType::Csk(ksk, zsk) => match roll {
+                CskRoll => {
+                    ksk.comes_in_signing();
+                    zsk.comes_in();
+                }
+                AlgorithmRoll => {
+                    ksk.comes_in_signing();
+                    zsk.comes_in_signing();
+                }
+                _ => {}
+            },
+            KeyType::Include(_) => {}
         }
     }
 
     /// What an early end takes from a new key: what its start put on it.
-    pub(crate) fn after_early_end_as_new(&self, roll: RollType) -> KeyType
-        ensures { result ≡ (column roll).goes self.now }
+    pub(crate) fn end_early_as_new(&mut self, roll: RollType)
+        ensures { self.new ≡ (column roll).goes self.old }
     {
-        match *self {
-            KeyType::Ksk(state) => KeyType::Ksk(match roll {
+        match self {
+            KeyType::Ksk(state) => match roll {
                 KskRoll | CskRoll | AlgorithmRoll => state.leaves_dnskey(),
                 KskDoubleDsRoll => state.loses_ds(),
-                ZskRoll | ZskDoubleSignatureRoll => state,
-            }),
-            KeyType::Zsk(state) => KeyType::Zsk(match roll {
+                ZskRoll | ZskDoubleSignatureRoll => {}
+            },
+            KeyType::Zsk(state) => match roll {
                 ZskRoll | CskRoll => state.leaves_silently(),
                 ZskDoubleSignatureRoll | AlgorithmRoll => state.leaves_dnskey(),
-                KskRoll | KskDoubleDsRoll => state,
-            }),
-            KeyType::Csk(ksk, zsk) => match roll {
-                CskRoll => KeyType::Csk(ksk.leaves_dnskey(), zsk.leaves_silently()),
-                AlgorithmRoll => leaving_csk(ksk, zsk),
-                _ => *self,
+                KskRoll | KskDoubleDsRoll => {}
             },
-            KeyType::Include(_) => *self,
+            KeyType::Csk(ksk, zsk) => match roll {
+                CskRoll => {
+                    ksk.leaves_dnskey();
+                    zsk.leaves_silently();
+                }
+                AlgorithmRoll => csk_leaves_dnskey(ksk, zsk),
+                _ => {}
+            },
+            KeyType::Include(_) => {}
         }
     }
 
     /// What an early end leaves of an old key: it is old no more.
-    pub(crate) fn after_early_end_as_old(&self, roll: RollType) -> KeyType
-        ensures { result ≡ (column roll).returns self.now }
+    pub(crate) fn end_early_as_old(&mut self, roll: RollType)
+        ensures { self.new ≡ (column roll).returns self.old }
     {
-        match *self {
-            KeyType::Ksk(state) => KeyType::Ksk(match roll {
+        match self {
+            KeyType::Ksk(state) => match roll {
                 KskRoll | KskDoubleDsRoll | CskRoll | AlgorithmRoll => state.turns_back(),
-                ZskRoll | ZskDoubleSignatureRoll => state,
-            }),
-            KeyType::Zsk(state) => KeyType::Zsk(match roll {
-                ZskRoll | ZskDoubleSignatureRoll | CskRoll | AlgorithmRoll => state.turns_back(),
-                KskRoll | KskDoubleDsRoll => state,
-            }),
-            KeyType::Csk(ksk, zsk) => match roll {
-                CskRoll | AlgorithmRoll => KeyType::Csk(ksk.turns_back(), zsk.turns_back()),
-                _ => *self,
+                ZskRoll | ZskDoubleSignatureRoll => {}
             },
-            KeyType::Include(_) => *self,
+            KeyType::Zsk(state) => match roll {
+                ZskRoll | ZskDoubleSignatureRoll | CskRoll | AlgorithmRoll => state.turns_back(),
+                KskRoll | KskDoubleDsRoll => {}
+            },
+            KeyType::Csk(ksk, zsk) => match roll {
+                CskRoll | AlgorithmRoll => {
+                    ksk.turns_back();
+                    zsk.turns_back();
+                }
+                _ => {}
+            },
+            KeyType::Include(_) => {}
         }
     }
 
@@ -170,7 +183,7 @@ impl KeyType {
     }
 
     /// Whether a wait checks the key.
-    pub fn is_checked(&self, roll: RollType, half: Half) -> bool
+    pub(crate) fn is_checked(&self, roll: RollType, half: Half) -> bool
         ensures { result ≡ (half_of roll (which half)).checks self.now }
     {
         match (roll, half) {
@@ -186,102 +199,81 @@ impl KeyType {
         }
     }
 
-    /// What happens to the key once a wait is over.
-    pub(crate) fn after_wait(&self, roll: RollType, half: Half) -> KeyType
-        ensures { result ≡ (half_of roll (which half)).moves self.now }
+    /// What happens to the key once a wait is over, and what is stamped then.
+    pub(crate) fn go_on(&mut self, roll: RollType, half: Half) -> Stamped
+        ensures moved { self.new ≡ (half_of roll (which half)).moves self.old }
+        ensures stamped { result ≡ stamped_on (half_of roll (which half)).writes self.old }
     {
         match half {
-            First => self.after_first_wait(roll),
-            Second => self.after_second_wait(roll),
+            First => self.go_on_first(roll),
+            Second => self.go_on_second(roll),
         }
     }
 
-    fn after_first_wait(&self, roll: RollType) -> KeyType
-        ensures { result ≡ (column roll).first.moves self.now }
+    fn go_on_first(&mut self, roll: RollType) -> Stamped
+        ensures moved { self.new ≡ (column roll).first.moves self.old }
+        ensures stamped { result ≡ stamped_on (column roll).first.writes self.old }
     {
-        match *self {
-            KeyType::Ksk(state) => KeyType::Ksk(match roll {
+        let mut stamped = Stamped::default();
+        match self {
+            KeyType::Ksk(state) => match roll {
                 KskRoll | CskRoll | AlgorithmRoll => state.ds_follows(),
-                KskDoubleDsRoll => state.changes_places(),
-                ZskRoll | ZskDoubleSignatureRoll => state,
-            }),
-            KeyType::Zsk(state) => KeyType::Zsk(match roll {
-                ZskRoll | CskRoll => state.signatures_follow(),
-                ZskDoubleSignatureRoll => state.leaves_dnskey_if_old(),
-                KskRoll | KskDoubleDsRoll | AlgorithmRoll => state,
-            }),
-            KeyType::Csk(ksk, zsk) => match roll {
-                CskRoll => KeyType::Csk(ksk.ds_follows(), zsk.signatures_follow()),
-                AlgorithmRoll => KeyType::Csk(ksk.ds_follows(), zsk),
-                _ => *self,
+                KskDoubleDsRoll => stamped.published = state.changes_places(),
+                ZskRoll | ZskDoubleSignatureRoll => {}
             },
-            KeyType::Include(_) => *self,
-        }
-    }
-
-    fn after_second_wait(&self, roll: RollType) -> KeyType
-        ensures { result ≡ (column roll).second.moves self.now }
-    {
-        match *self {
-            KeyType::Ksk(state) => KeyType::Ksk(match roll {
-                KskRoll | CskRoll | AlgorithmRoll => state.leaves_dnskey_if_present(),
-                KskDoubleDsRoll => state.leaves_parent(),
-                ZskRoll | ZskDoubleSignatureRoll => state,
-            }),
-            KeyType::Zsk(state) => KeyType::Zsk(match roll {
-                ZskRoll | CskRoll => state.leaves_dnskey_if_silent(),
-                AlgorithmRoll => state.leaves_dnskey_if_present(),
-                KskRoll | KskDoubleDsRoll | ZskDoubleSignatureRoll => state,
-            }),
+            KeyType::Zsk(state) => match roll {
+                ZskRoll | CskRoll => state.signatures_follow(),
+                ZskDoubleSignatureRoll => stamped.withdrawn = state.leaves_dnskey_if_old(),
+                KskRoll | KskDoubleDsRoll | AlgorithmRoll => {}
+            },
             KeyType::Csk(ksk, zsk) => match roll {
                 CskRoll => {
-                    KeyType::Csk(
-                        ksk.leaves_dnskey_if_present(),
-                        zsk.leaves_dnskey_if_silent(),
-                    )
+                    ksk.ds_follows();
+                    zsk.signatures_follow();
                 }
-                AlgorithmRoll if ksk.old && ksk.present => leaving_csk(ksk, zsk),
-                _ => *self,
+                AlgorithmRoll => ksk.ds_follows(),
+                _ => {}
             },
-            KeyType::Include(_) => *self,
+            KeyType::Include(_) => {}
         }
+        stamped
     }
 
-    /// What is stamped once a wait is over.
-    pub(crate) fn stamps_by_wait(&self, roll: RollType, half: Half) -> Stamped
-        ensures { result ≡ stamped_on (half_of roll (which half)).writes self.now }
+    fn go_on_second(&mut self, roll: RollType) -> Stamped
+        ensures moved { self.new ≡ (column roll).second.moves self.old }
+        ensures stamped { result ≡ stamped_on (column roll).second.writes self.old }
     {
-        let none = Stamped::default();
-        match (roll, half) {
-            (KskDoubleDsRoll, First) => Stamped {
-                published: is_kept_at_parent(self.ksk()),
-                ..none
+        let withdrawn = match self {
+            KeyType::Ksk(state) => match roll {
+                KskRoll | CskRoll | AlgorithmRoll => state.leaves_dnskey_if_present(),
+                KskDoubleDsRoll => state.leaves_parent(),
+                ZskRoll | ZskDoubleSignatureRoll => false,
             },
-            (ZskDoubleSignatureRoll, First) => Stamped {
-                withdrawn: is_old(self.zsk()),
-                ..none
+            KeyType::Zsk(state) => match roll {
+                ZskRoll | CskRoll => state.leaves_dnskey_if_silent(),
+                AlgorithmRoll => state.leaves_dnskey_if_present(),
+                KskRoll | KskDoubleDsRoll | ZskDoubleSignatureRoll => false,
             },
-            (_, First) | (ZskDoubleSignatureRoll, Second) => none,
-            (KskRoll, Second) => Stamped {
-                withdrawn: is_old_present(self.ksk()),
-                ..none
+            KeyType::Csk(ksk, zsk) => match roll {
+                CskRoll => {
+                    let by_ksk = ksk.leaves_dnskey_if_present();
+                    let by_zsk = zsk.leaves_dnskey_if_silent();
+                    by_ksk || by_zsk
+                }
+                AlgorithmRoll => {
+                    let leaves = ksk.old && ksk.present;
+                    if leaves {
+                        csk_leaves_dnskey(ksk, zsk);
+                    }
+                    leaves
+                }
+                _ => false,
             },
-            (KskDoubleDsRoll, Second) => Stamped {
-                withdrawn: is_old_at_parent(self.ksk()),
-                ..none
-            },
-            (ZskRoll, Second) => Stamped {
-                withdrawn: is_old_silent(self.zsk()),
-                ..none
-            },
-            (CskRoll, Second) => Stamped {
-                withdrawn: is_old_present(self.ksk_role()) || is_old_silent(self.zsk_role()),
-                ..none
-            },
-            (AlgorithmRoll, Second) => Stamped {
-                withdrawn: is_old_present(self.any()),
-                ..none
-            },
+            KeyType::Include(_) => false,
+        };
+        Stamped {
+            withdrawn,
+            ..Stamped::default()
         }
     }
 }

@@ -12,6 +12,7 @@
 -- | `go_on_all`, `delete`            | `counts-waited` and the like   | Counted, Tests           |
 -- | `search_and_drop`                | `filtered`                     | Retained                 |
 -- | the phases of rolls              | ruleset `phases`               | Phases                   |
+-- | `latest_over`                    | `walk-lost`                    | Waits                    |
 -- | `over_from`                      | `walk-lacks`, `walk-over`      | Waits                    |
 --
 -- `Tests` computes tables over all rolls and keys; `Flags` says by it what flags a key may have on

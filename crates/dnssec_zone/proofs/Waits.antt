@@ -18,7 +18,7 @@ use Rattle.dnssec_key.specs.Key.{KeyParts}
 use Rattle.dnssec_zone.specs.Keys.{Keys, some_key}
 use Rattle.dnssec_zone.specs.Wait.{lacks_stamp, time_left, longest_left, left_since, stamp_read}
 use Rattle.dnssec_zone.specs.Wait.{Barred, early_by, wait_in_phase, IsOverFrom, LacksStamp}
-use Rattle.dnssec_zone.specs.Inner.Over.{over_at, over_since}
+use Rattle.dnssec_zone.specs.Inner.Over.{over_at, over_since, over_with}
 use Rattle.dnssec_zone.proofs.Walks.{some_key-view}
 use Rattle.dnssec_zone.proofs.Quantified.{some_key-found, some_key-none}
 use Rattle.dnssec_zone.proofs.Longest.{longest-most, longest-is, none-left, some-left}
@@ -105,6 +105,17 @@ module _ (f : KeyParts → Option ℕ) where
       at None is on = or_left _ _ (missing-test k None is)
       at (Some m) is on = or_right _ _
           (on (max a m) (ap (λ o. fold further (option_map (λ y. max a y) o) ks) (sym is) ∙ e))
+
+-- a walk that finds a key without its stamp
+pub walk-lost : (roll : RollType) (half : Half) (ttl a : ℕ) (k : KeyParts) (ks : List KeyParts)
+    → (half_of roll half).checks k.keytype ≡ true → stamp_read roll half k ≡ None
+    → fold (over_with roll half ttl) (Some a) (k ∷ ks) ≡ None
+unfolding further
+walk-lost roll half ttl a k ks checked absent =
+    ap (λ o. fold (over_with roll half ttl) (option_map (λ y. max a y) o) ks)
+    (ap (λ b. if b then option_map (over_since ttl) (stamp_read roll half k) else Some 0) checked
+    ∙ ap (option_map (over_since ttl)) absent)
+    ∙ lost (over_at roll half ttl) ks
 
 module _ (f : KeyParts → Option ℕ) where
   is_there : (k : KeyParts) (n : ℕ) → is_just f n k ≡ true → f k ≡ Some n
@@ -212,9 +223,7 @@ module _ (roll : RollType) (half : Half) (ttl : ℕ) (i : Inside) (v : Keys)
   lacks = (λ j. some_key (λ k. missing-same roll half ttl k j) v) ∙ seen (is_missing over)
 
   -- a walk that finds a stamp missing
-  pub walk-lacks : None
-      ≡ fold (λ a k. option_and_then (λ x. option_map (λ y. max x y) (over_at roll half ttl k)) a)
-      (Some 0) (hash_values i.map)
+  pub walk-lacks : None ≡ fold (over_with roll half ttl) (Some 0) (hash_values i.map)
       → LacksStamp roll half ttl v
   unfolding over ks further
   walk-lacks walk now =
@@ -228,9 +237,7 @@ module _ (roll : RollType) (half : Half) (ttl : ℕ) (i : Inside) (v : Keys)
       (lacks ∙ none)
 
   -- a walk that finds from when on the wait is over
-  pub walk-over : (end : ℕ) →
-      Some end ≡ fold (λ a k. option_and_then
-      (λ x. option_map (λ y. max x y) (over_at roll half ttl k)) a) (Some 0) (hash_values i.map)
+  pub walk-over : (end : ℕ) → Some end ≡ fold (over_with roll half ttl) (Some 0) (hash_values i.map)
       → IsOverFrom roll half ttl v end
   unfolding over ks further is_above left_of
   walk-over end walk = record {

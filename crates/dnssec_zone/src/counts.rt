@@ -3,12 +3,12 @@ ghost use Rattle.std.specs.Prelude.{◌≡◌, if◌then◌else◌};
 ghost use Rattle.dnssec_key.specs.RollTable.{which};
 ghost use Rattle.dnssec_key.specs.Setters.{setting_of};
 ghost use Rattle.dnssec_zone.specs.Inner.Code.{as_want};
-ghost use Rattle.dnssec_zone.specs.Inner.Counts.{count_of, moves_counts, no_counts, one_less};
-ghost use Rattle.dnssec_zone.specs.Inner.Counts.{one_more, wait_moves_counts, with_key};
+ghost use Rattle.dnssec_zone.specs.Inner.Counts.{count_of, counts_stepped, moves_counts, no_counts};
+ghost use Rattle.dnssec_zone.specs.Inner.Counts.{one_step, wait_moves_counts, with_key};
 ghost use Rattle.dnssec_zone.specs.Inner.Counts.{without_key};
 
 use crate::side::Want;
-use dnssec_key::{Half, KeyType, RollType, Setting};
+use dnssec_key::{Half, KeyType, RollType, Setting, is_kept_at_parent, is_kept_present};
 
 /// For each want, how many keys meet it in their state, whether a start lists them as old or not.
 #[derive(Clone, Copy)]
@@ -20,25 +20,24 @@ pub(crate) struct Counts {
     present_zsk_role: usize,
 }
 
-/// A count, and one more where a key serves.
-fn more(count: usize, serves: bool) -> usize
-    ensures { result ≡ one_more serves count }
-{
-    if serves {
-        count.saturating_add(1)
-    } else {
-        count
-    }
+/// Whether a key comes into the counts, or goes out of them.
+#[derive(Clone, Copy)]
+enum Step {
+    In,
+    Out,
 }
 
-/// A count, and one less where a key serves.
-fn less(count: usize, serves: bool) -> usize
-    ensures { result ≡ one_less serves count }
-{
-    if serves {
-        count.saturating_sub(1)
-    } else {
-        count
+impl Step {
+    /// Moves a count, where the key serves.
+    fn take(self, count: &mut usize, serves: bool)
+        ensures { count.new ≡ one_step serves self count.old }
+    {
+        if serves {
+            *count = match self {
+                Step::In => count.saturating_add(1),
+                Step::Out => count.saturating_sub(1),
+            };
+        }
     }
 }
 
@@ -82,46 +81,48 @@ impl Counts {
     }
 
     /// Those with one key more.
-    pub(crate) fn with(self, keytype: &KeyType) -> Counts
+    pub(crate) fn with(mut self, keytype: &KeyType) -> Counts
         ensures { result ≡ with_key keytype.now self }
     {
-        Counts {
-            present_ksk: more(self.present_ksk, Want::PresentKsk.is_met_by_kept(*keytype)),
-            ksk_at_parent: more(
-                self.ksk_at_parent,
-                Want::KskAtParent.is_met_by_kept(*keytype),
-            ),
-            present_zsk: more(self.present_zsk, Want::PresentZsk.is_met_by_kept(*keytype)),
-            present_ksk_role: more(
-                self.present_ksk_role,
-                Want::PresentKskRole.is_met_by_kept(*keytype),
-            ),
-            present_zsk_role: more(
-                self.present_zsk_role,
-                Want::PresentZskRole.is_met_by_kept(*keytype),
-            ),
-        }
+        self.put_in(keytype);
+        self
     }
 
-    /// Those with one key less.
-    pub(crate) fn without(self, keytype: &KeyType) -> Counts
-        ensures { result ≡ without_key keytype.now self }
+    /// Counts a key.
+    pub(crate) fn put_in(&mut self, keytype: &KeyType)
+        ensures { self.new ≡ with_key keytype.now self.old }
     {
-        Counts {
-            present_ksk: less(self.present_ksk, Want::PresentKsk.is_met_by_kept(*keytype)),
-            ksk_at_parent: less(
-                self.ksk_at_parent,
-                Want::KskAtParent.is_met_by_kept(*keytype),
-            ),
-            present_zsk: less(self.present_zsk, Want::PresentZsk.is_met_by_kept(*keytype)),
-            present_ksk_role: less(
-                self.present_ksk_role,
-                Want::PresentKskRole.is_met_by_kept(*keytype),
-            ),
-            present_zsk_role: less(
-                self.present_zsk_role,
-                Want::PresentZskRole.is_met_by_kept(*keytype),
-            ),
+        self.step(keytype, Step::In);
+    }
+
+    /// Counts a key no more.
+    pub(crate) fn take_out(&mut self, keytype: &KeyType)
+        ensures { self.new ≡ without_key keytype.now self.old }
+    {
+        self.step(keytype, Step::Out);
+    }
+
+    /// Moves the counts that the key is in.
+    fn step(&mut self, keytype: &KeyType, step: Step)
+        ensures { self.new ≡ counts_stepped step keytype.now self.old }
+    {
+        match *keytype {
+            KeyType::Ksk(ksk) => {
+                let present = is_kept_present(Some(ksk));
+                step.take(&mut self.present_ksk, present);
+                step.take(&mut self.present_ksk_role, present);
+                step.take(&mut self.ksk_at_parent, is_kept_at_parent(Some(ksk)));
+            }
+            KeyType::Zsk(zsk) => {
+                let present = is_kept_present(Some(zsk));
+                step.take(&mut self.present_zsk, present);
+                step.take(&mut self.present_zsk_role, present);
+            }
+            KeyType::Csk(ksk, zsk) => {
+                step.take(&mut self.present_ksk_role, is_kept_present(Some(ksk)));
+                step.take(&mut self.present_zsk_role, is_kept_present(Some(zsk)));
+            }
+            KeyType::Include(_) => {}
         }
     }
 
@@ -134,7 +135,8 @@ impl Counts {
             setting,
             Setting::Present(_, _) | Setting::AtParent(_) | Setting::Stale
         ) {
-            *self = self.without(before).with(after);
+            self.take_out(before);
+            self.put_in(after);
         }
     }
 }

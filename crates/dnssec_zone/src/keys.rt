@@ -2,8 +2,9 @@
 ghost use Rattle.std.specs.Prelude.{◌≡◌, ◌<◌, ℕ, List, None, Some, true, false, max, nat_eq};
 ghost use Rattle.std.specs.Prelude.{string_bytes, IfOk, IfErr, IfSome, IfNone, OnOk, OnErr};
 ghost use Rattle.std.specs.Prelude.{if◌then◌else◌, filter, length, ◌≤◌, map as list_map};
+ghost use Rattle.std.specs.Prelude.{unwrap_or};
 ghost use Rattle.std.specs.List.{fold};
-ghost use Rattle.std.specs.Option.{option_map, option_and_then};
+ghost use Rattle.std.specs.Option.{option_map};
 ghost use Rattle.std.specs.Str.{bytes_eq};
 ghost use Rattle.std.specs.String.{string_eq};
 ghost use Rattle.std.specs.FinMap as map;
@@ -21,7 +22,7 @@ ghost use Rattle.dnssec_zone.specs.Keys.{TagsApart, keys_in_map, has_tag};
 ghost use Rattle.dnssec_zone.specs.Start.{is_listed, serves_as_kept, texts};
 ghost use Rattle.dnssec_zone.specs.Refusals.{Answers, AnswersExactly, add_refusal};
 ghost use Rattle.dnssec_zone.specs.Refusals.{deletion_refusal, setting_refusal};
-ghost use Rattle.dnssec_zone.specs.Inner.Over.{over_at};
+ghost use Rattle.dnssec_zone.specs.Inner.Over.{over_by, over_with};
 ghost use Rattle.dnssec_zone.specs.Wait.{IsOverFrom, LacksStamp};
 
 use crate::bits::{TagSet, is_set};
@@ -246,7 +247,8 @@ impl Keys {
         self.counts = recount(&self.map);
     }
 
-    /// Changes the key at a reference, where there is one.
+    /// Changes the key at a reference, where there is one. Each caller has one change.
+    #[inline(always)]
     #[tactic(auto, using(crate::proofs::Shown::shown))]
     fn change_at(&mut self, reference: &str, change: Change)
         ensures { (q : List ℕ) → map.get self.new q ≡ option_map
@@ -255,10 +257,9 @@ impl Keys {
         let Some(key) = self.map.get_mut(reference) else {
             return;
         };
-        let before = key.keytype();
+        self.counts.take_out(&key.keytype());
         change.make(key);
-        let after = key.keytype();
-        self.counts = self.counts.without(&before).with(&after);
+        self.counts.put_in(&key.keytype());
         is_sound(&self.map);
     }
 
@@ -362,41 +363,42 @@ fn is_sound(keys: &HashMap<String, Key>)
     keys.len();
 }
 
-/// The nanosecond since 1970 from which a wait is over for a key, or `None` where its stamp is
-/// missing.
-fn over_at(key: &Key, roll: RollType, half: Half, ttl: u32) -> Option<u128>
-    ensures { result ≡ over_at roll (which half) ttl key.now }
+/// The later of two moments, the first of which may not be known.
+fn later(latest: Option<UnixTime>, moment: UnixTime) -> UnixTime
+    ensures { result ≡ max (unwrap_or latest 0) moment }
 {
-    if !key.keytype().is_checked(roll, half) {
-        return Some(0);
+    match latest {
+        Some(latest) if moment <= latest => latest,
+        _ => moment,
     }
-    let stamp = key.timestamps().at(roll.stamp_read(half))?;
-    if ttl == 0 {
-        return Some(0);
-    }
-    Some(Duration::from(stamp).as_nanos() + u128::from(ttl) * 1_000_000_000)
 }
 
-/// The later of two moments, where both are known.
-fn later(a: Option<u128>, b: Option<u128>) -> Option<u128>
-    ensures { result ≡ option_and_then (λ x. option_map (λ y. max x y) b) a }
+/// The nanosecond since 1970 from which a wait is over, by the latest stamp of the keys that it
+/// checks: the first of all where it checks none.
+fn over_by(latest: Option<UnixTime>, ttl: u32) -> u128
+    ensures { result ≡ over_by ttl latest }
 {
-    match (a, b) {
-        (Some(a), Some(b)) => Some(a.max(b)),
-        _ => None,
+    match latest {
+        Some(stamp) if ttl > 0 => {
+            Duration::from(stamp).as_nanos() + u128::from(ttl) * 1_000_000_000
+        }
+        _ => 0,
     }
 }
 
 /// The last of the moments from which a wait is over for a key, or `None` where a stamp is missing.
 fn latest_over(keys: &HashMap<String, Key>, roll: RollType, half: Half, ttl: u32) -> Option<u128>
-    ensures latest { result ≡ fold
-        (λ a k. option_and_then (λ x. option_map (λ y. max x y)
-        (over_at roll (which half) ttl k)) a)
-        (Some 0) (hash.values keys.now) }
+    ensures latest { result ≡ fold (over_with roll (which half) ttl) (Some 0)
+        (hash.values keys.now) }
     ensures unique { hash.IsUnique string_eq keys.now }
 {
-    keys.values().fold(
-        Some(0),
-        |latest, key| later(latest, over_at(key, roll, half, ttl)),
-    )
+    is_sound(keys);
+    let read = roll.stamp_read(half);
+    let mut latest = None;
+    for key in keys.values() {
+        if key.is_checked(roll, half) {
+            latest = Some(later(latest, key.timestamps().at(read)?));
+        }
+    }
+    Some(over_by(latest, ttl))
 }

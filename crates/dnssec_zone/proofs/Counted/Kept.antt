@@ -1,5 +1,5 @@
 -- The counts that a key set keeps, as its keys change.
-use Rattle.std.proofs.Common.{◌≡◌, ℕ, suc, min, ◌+◌, ◌-◌, ◌≤◌, Bool, true, false, cond, List, []}
+use Rattle.std.proofs.Common.{◌≡◌, ℕ, suc, ◌+◌, ◌-◌, ◌≤◌, Bool, true, false, cond, List, []}
 use Rattle.std.proofs.Common.{◌∷◌, Some, None, refl, sym, ap, ◌∙◌, arith, map, length, filter}
 use Rattle.std.proofs.Common.{string_bytes}
 use Rattle.std.specs.Prelude.{Option, if◌then◌else◌}
@@ -25,6 +25,9 @@ use Rattle.dnssec_zone.specs.Start.{serves_as_kept, Want, PresentKsk, KskAtParen
 use Rattle.dnssec_zone.specs.Start.{PresentKskRole, PresentZskRole}
 use Rattle.dnssec_zone.specs.Inner.Counts.{bit, count, count_in, share, passes, CountsAgree}
 use Rattle.dnssec_zone.specs.Inner.Counts.{moves_counts, count_of, no_counts, with_key, without_key}
+use Rattle.dnssec_zone.specs.Inner.Counts.{counts_stepped, one_step}
+use Rattle.dnssec_zone.specs.declared.counts.Step.{Step}
+use Rattle.dnssec_zone.specs.declared.counts.Step.TheVariants.{In, Out}
 use Rattle.dnssec_zone.proofs.Shown.{same_keys}
 use Rattle.dnssec_zone.proofs.Walks.{AreApart, apart_by_bytes}
 use Rattle.dnssec_zone.proofs.Counted.Lists.{count-at, count-changed, count-entries, count-shown}
@@ -65,21 +68,32 @@ module _ {Y S : Type 0} where
       let some = at_most p (entries_by_bytes m) in
       omega (arith, fits, all, some, length-by_bytes m.entries)
 
-with-of : (t : KeyType) (c : Counts) (w : Want) → count_of (with_key t c) w
-    ≡ min 18446744073709551615 (count_of c w + bit (serves_as_kept w t))
-with-of t c PresentKsk = refl
-with-of t c KskAtParent = refl
-with-of t c PresentZsk = refl
-with-of t c PresentKskRole = refl
-with-of t c PresentZskRole = refl
+-- where the keys can be counted, one more is one more
+in-one : (serves : Bool) (n : ℕ) → n + bit serves ≤ 18446744073709551615
+    → one_step serves In n ≡ n + bit serves
+in-one true n fits = omega (arith, fits)
+in-one false n fits = omega arith
+
+out-one : (serves : Bool) (n : ℕ) → one_step serves Out n ≡ n - bit serves
+out-one true n = refl
+out-one false n = omega arith
+
+step-of : (step : Step) (t : KeyType) (c : Counts) (w : Want)
+    → count_of (counts_stepped step t c) w ≡ one_step (serves_as_kept w t) step (count_of c w)
+step-of step t c PresentKsk = refl
+step-of step t c KskAtParent = refl
+step-of step t c PresentZsk = refl
+step-of step t c PresentKskRole = refl
+step-of step t c PresentZskRole = refl
+
+with-of : (t : KeyType) (c : Counts) (w : Want)
+    → count_of c w + bit (serves_as_kept w t) ≤ 18446744073709551615
+    → count_of (with_key t c) w ≡ count_of c w + bit (serves_as_kept w t)
+with-of t c w fits = step-of In t c w ∙ in-one (serves_as_kept w t) (count_of c w) fits
 
 without-of : (t : KeyType) (c : Counts) (w : Want) →
     count_of (without_key t c) w ≡ count_of c w - bit (serves_as_kept w t)
-without-of t c PresentKsk = refl
-without-of t c KskAtParent = refl
-without-of t c PresentZsk = refl
-without-of t c PresentKskRole = refl
-without-of t c PresentZskRole = refl
+without-of t c w = step-of Out t c w ∙ out-one (serves_as_kept w t) (count_of c w)
 
 -- no more keys meet a want than can be counted
 pub Fits : Keys → Type 0
@@ -107,7 +121,8 @@ counts-added c m n r x absent is fits old w =
     let gone : share p r (get m r) ≡ 0 = ap (share p r) absent in
     let change = count-changed p m n r (λ q h. is q
     ∙ ap (λ b. if b then Some x else get m q) h) in
-    with-of x.keytype c w ∙ omega (arith, here, gone, change, old w, fits w)
+    with-of x.keytype c w (omega (arith, here, gone, change, old w, fits w))
+    ∙ omega (arith, here, gone, change, old w)
 
 -- a key that served for nothing is gone
 pub counts-removed : (c : Counts) (m n : Keys) (r : List ℕ) (x : KeyParts) → get m r ≡ Some x
@@ -133,8 +148,11 @@ counts-changed c m n r k l before after others fits old w =
     let there : share p r (get m r) ≡ bit (serves_as_kept w k.keytype) = ap (share p r) before in
     let here : share p r (get n r) ≡ bit (serves_as_kept w l.keytype) = ap (share p r) after in
     let change = count-changed p m n r others in
+    let less = without-of k.keytype c w in
+    let most = count-at p m r in
     with-of l.keytype (without_key k.keytype c) w
-    ∙ omega (arith, there, here, change, old w, fits w, without-of k.keytype c w, count-at p m r)
+    (omega (arith, there, here, change, old w, fits w, less, most))
+    ∙ omega (arith, there, here, change, old w, less, most)
 
 -- the key at a reference is changed
 module _ (f : KeyParts → KeyParts) (c : Counts) (m n : Keys) (r : List ℕ) (k : KeyParts)
@@ -261,24 +279,22 @@ module _ (step : KeyParts → KeyParts)
           ∙ ap (λ es. length (filter (served w) (map (λ (e : String Y × KeyParts). e.1) es)))
           (sym is) ∙ count-shown (serves_as_kept w) n two
 
-folded : (w : Want) (ks : List KeyParts) (c : Counts) → count_of c w ≤ 18446744073709551615 →
-    count_of (fold (λ c k. with_key k.keytype c) c ks) w ≡ min 18446744073709551615
-    (count_of c w + length (filter (λ (k : KeyParts). serves_as_kept w k.keytype) ks))
-folded w [] c low = omega (arith, low)
-folded w (k ∷ ks) c low =
-    let one = with-of k.keytype c w in
-    folded w ks (with_key k.keytype c) (omega (arith, one))
-    ∙ at (serves_as_kept w k.keytype) one
+folded : (w : Want) (ks : List KeyParts) (c : Counts) → count_of c w
+    + length (filter (λ (k : KeyParts). serves_as_kept w k.keytype) ks) ≤ 18446744073709551615 →
+    count_of (fold (λ c k. with_key k.keytype c) c ks) w
+    ≡ count_of c w + length (filter (λ (k : KeyParts). serves_as_kept w k.keytype) ks)
+folded w [] c fits = omega arith
+folded w (k ∷ ks) c fits =
+    let here = at (serves_as_kept w k.keytype) in
+    let one = with-of k.keytype c w (omega (arith, here, fits)) in
+    folded w ks (with_key k.keytype c) (omega (arith, one, here, fits)) ∙ omega (arith, one, here)
   where
     rest : List KeyParts
     rest = filter (λ (k : KeyParts). serves_as_kept w k.keytype) ks
 
-    at : (b : Bool) → count_of (with_key k.keytype c) w
-        ≡ min 18446744073709551615 (count_of c w + bit b) → min 18446744073709551615
-        (count_of (with_key k.keytype c) w + length rest)
-        ≡ min 18446744073709551615 (count_of c w + length (cond b (k ∷ rest) rest))
-    at true h = omega (arith, h)
-    at false h = omega (arith, h)
+    at : (b : Bool) → length (cond b (k ∷ rest) rest) ≡ bit b + length rest
+    at true = omega arith
+    at false = omega arith
 
 module _ {Y S : Type 0} where
   -- the counts by a walk
@@ -286,10 +302,8 @@ module _ {Y S : Type 0} where
       length m.entries ≤ 18446744073709551615 →
       CountsAgree (fold (λ c k. with_key k.keytype c) no_counts (values m)) (keys_in_map m)
   counts-walked m unique fits w =
-      let all = folded w (values m) no_counts (zero_at w) in
       let these = count-shown (serves_as_kept w) m unique in
       let some = count-fits (passes (serves_as_kept w)) m unique fits in
-      all ∙ omega (arith, none-of w, these, some)
-    where
-      zero_at : (w : Want) → count_of no_counts w ≤ 18446744073709551615
-      zero_at w = let zero = none-of w in omega (arith, zero)
+      let zero = none-of w in
+      folded w (values m) no_counts (omega (arith, zero, these, some))
+      ∙ omega (arith, zero, these)

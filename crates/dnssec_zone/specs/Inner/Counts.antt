@@ -11,6 +11,8 @@ use Rattle.dnssec_key.specs.RollTable.{Half, First}
 use Rattle.dnssec_key.specs.Setters.{Setting, Present, AtParent, Stale}
 use Rattle.dnssec_zone.specs.Keys.{Keys}
 use Rattle.dnssec_zone.specs.declared.counts.Counts.{Counts}
+use Rattle.dnssec_zone.specs.declared.counts.Step.{Step}
+use Rattle.dnssec_zone.specs.declared.counts.Step.TheVariants.{In, Out}
 use Rattle.dnssec_zone.specs.Start.{is_listed, serves_as_kept, Want, PresentKsk, KskAtParent}
 use Rattle.dnssec_zone.specs.Start.{PresentZsk, PresentKskRole, PresentZskRole}
 
@@ -67,21 +69,24 @@ counts_by f = record {
 abbrev pub no_counts : Counts
 no_counts = counts_by (λ w. 0)
 
--- one more, up to the greatest number that is kept, where a key serves
-abbrev pub one_more : Bool → ℕ → ℕ
-one_more serves n = min 18446744073709551615 (n + bit serves)
+-- where a key serves, one more as it comes in, up to the greatest number that is kept, and one less
+-- as it goes out
+abbrev pub one_step : Bool → Step → ℕ → ℕ
+one_step false step n = n
+one_step true In n = min 18446744073709551615 (n + 1)
+one_step true Out n = n - 1
 
--- one less where a key serves
-abbrev pub one_less : Bool → ℕ → ℕ
-one_less serves n = n - bit serves
+-- the counts once a key has come in, or gone out
+abbrev pub counts_stepped : Step → KeyType → Counts → Counts
+counts_stepped step t c = counts_by (λ w. one_step (serves_as_kept w t) step (count_of c w))
 
 -- those with one key more
 abbrev pub with_key : KeyType → Counts → Counts
-with_key t c = counts_by (λ w. one_more (serves_as_kept w t) (count_of c w))
+with_key = counts_stepped In
 
 -- those with one key less
 abbrev pub without_key : KeyType → Counts → Counts
-without_key t c = counts_by (λ w. one_less (serves_as_kept w t) (count_of c w))
+without_key = counts_stepped Out
 
 -- a setter may move them: none of them asks whether a key signs
 abbrev pub moves_counts : Setting → Bool

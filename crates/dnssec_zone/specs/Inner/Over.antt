@@ -1,6 +1,6 @@
--- From when on a wait is over for one key.
-use Rattle.std.specs.Prelude.{ℕ, ◌+◌, ◌*◌, Option, Some, if◌then◌else◌, nat_eq}
-use Rattle.std.specs.Option.{option_map}
+-- From when on a wait is over, for one key and for all.
+use Rattle.std.specs.Prelude.{ℕ, ◌+◌, ◌*◌, Option, Some, if◌then◌else◌, max, nat_eq}
+use Rattle.std.specs.Option.{option_and_then, option_map, option_map_or}
 use Rattle.dnssec_key.specs.declared.roll.RollType.{RollType}
 use Rattle.dnssec_key.specs.Key.{KeyParts}
 use Rattle.dnssec_key.specs.RollTable.{Half, half_of}
@@ -18,3 +18,12 @@ over_at roll half ttl k =
     if (half_of roll half).checks k.keytype
     then option_map (over_since ttl) (stamp_read roll half k)
     else Some 0
+
+-- the later of the moment so far and of a key's, where both are known
+abbrev pub over_with : RollType → Half → ℕ → Option ℕ → KeyParts → Option ℕ
+over_with roll half ttl a k =
+    option_and_then (λ x. option_map (λ y. max x y) (over_at roll half ttl k)) a
+
+-- the last of these moments, by the latest stamp of the keys that the wait checks
+abbrev pub over_by : ℕ → Option ℕ → ℕ
+over_by ttl latest = option_map_or (over_since ttl) latest 0

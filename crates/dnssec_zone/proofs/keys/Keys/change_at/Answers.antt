@@ -33,13 +33,12 @@ invariant_of-self-2 c =
     let is : (q : List ℕ) → map.get (keys_in_map n) q
     ≡ option_map (λ k. if bytes_eq r q then f k else k) (map.get (keys_in_map i.map) q) =
     λ q. search (rules, shown) in
-    let after : c.keytype-after.result ≡ (f k).keytype = c.keytype-after.ensures
+    let after : c.keytype-2.result ≡ (f k).keytype = c.keytype-2.ensures
     ∙ ap (λ (x : KeyParts). x.keytype) c.make.ensures in
-    let counts : c.with-self-inside.result
-    ≡ with_key (f k).keytype (without_key k.keytype i.counts) =
-    c.with-self-inside.ensures ∙ ap (λ t. with_key t c.without.result) after
-    ∙ ap (with_key (f k).keytype) (c.without.ensures
-    ∙ ap (λ t. without_key t i.counts) c.keytype-before.ensures) in (
+    let counts : c.put_in.new.self ≡ with_key (f k).keytype (without_key k.keytype i.counts) =
+    c.put_in.ensures ∙ ap (λ t. with_key t c.take_out.new.self) after
+    ∙ ap (with_key (f k).keytype) (c.take_out.ensures
+    ∙ ap (λ t. without_key t i.counts) c.keytype.ensures) in (
       TagsAgree-mapped (has i.tags) (keys_in_map i.map) (keys_in_map n)
           (λ q k. if bytes_eq r q then f k else k)
           (λ q k. kept_at f (kept_made c.args.change) _ k) is c.self.invariant.0,
