@@ -3,8 +3,9 @@ ghost use Rattle.std.specs.Prelude.{◌≡◌, IfOk, IfErr, string_bytes};
 ghost use Rattle.std.specs.Option.{option_map};
 ghost use Rattle.dnssec_key.specs.State.{is_stale, is_fresh, is_kept};
 ghost use Rattle.dnssec_key.specs.Key.{all_states, new_key};
-ghost use Rattle.dnssec_key.specs.RollTable.{which, after_report, after_wait, half_of, new_at_start};
-ghost use Rattle.dnssec_key.specs.RollTable.{old_at_start, new_at_early_end, old_at_early_end};
+ghost use Rattle.dnssec_key.specs.RollTable.{which, half_of, after_report, after_wait};
+ghost use Rattle.dnssec_key.specs.RollTable.{new_at_start, old_at_start, new_at_early_end};
+ghost use Rattle.dnssec_key.specs.RollTable.{old_at_early_end};
 ghost use Rattle.dnssec_base.specs.declared.error.Error.TheVariants.{OutOfMemory};
 ghost use Rattle.dnssec_key.specs.Setters.{setting_of, set_by};
 

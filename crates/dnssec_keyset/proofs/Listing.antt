@@ -1,6 +1,7 @@
--- What starts have listed, behind each call: the entries that are kept agree with the keys, and mean
--- the lists of the step.
-use Rattle.std.proofs.Common.{◌≡◌, ℕ, Bool, true, false, not, List, [], Some, None, Ok, Err, refl, sym}
+-- What starts have listed, behind each call: the entries that are kept agree with the keys, and
+-- mean the lists of the step.
+use Rattle.std.proofs.Common.{◌≡◌, ℕ, Bool, true, false, not, List, [], Some, None, Ok, Err, refl}
+use Rattle.std.proofs.Common.{sym}
 use Rattle.std.proofs.Common.{ap, subst, ◌∙◌}
 use Rattle.std.specs.Prelude.{Option, Result, OnOk, OnErr, if◌then◌else◌, is_some}
 use Rattle.std.specs.Option.{option_map}
@@ -23,7 +24,8 @@ use Rattle.dnssec_zone.specs.Lists.{Lists, listed_by, without, with_listed, list
 use Rattle.dnssec_zone.specs.Lists.{nothing_listed, lists_after_report}
 use Rattle.dnssec_zone.specs.Refusals.{Answers, add_refusal}
 use Rattle.dnssec_zone.specs.Start.{is_listed}
-use Rattle.dnssec_zone.proofs.Listing.References.{means-mapped, means-added, means-removed, forgotten}
+use Rattle.dnssec_zone.proofs.Listing.References.{means-mapped, means-added, means-removed}
+use Rattle.dnssec_zone.proofs.Listing.References.{forgotten}
 use Rattle.dnssec_zone.proofs.Listing.References.{has_entry-is, there-filter, listed_by-of}
 use Rattle.dnssec_zone.proofs.Listing.Starts.{lists_of-started, there-started, news-kept}
 use Rattle.dnssec_zone.proofs.Listing.Starts.{lists_of-reported, lists_of-taken_out}
@@ -110,7 +112,8 @@ module _ (old new : Keys) (es : List Entry) (agree : EntriesAgree old es) where
       → Listing new (entries_after_report roll half es)
       (lists_after_report roll half (lists_of old es))
   reported roll half now is =
-      let means = means-mapped (λ q. after_report roll half now) (λ q k. refl) old new is es agree in (
+      let means =
+      means-mapped (λ q. after_report roll half now) (λ q k. refl) old new is es agree in (
         kept half means.0,
         lists_of-reported new roll half es ∙ ap (lists_after_report roll half) means.1,
       )
@@ -131,7 +134,8 @@ module _ (old new : Keys) (es : List Entry) (agree : EntriesAgree old es) where
         (with_listed (lists_of old es) roll nothing_listed)
     undone =
         let means = means-mapped (λ q k. after_early_end roll (has_entry roll Old k.key_tag es)
-        (has_entry roll New k.key_tag es) k) (λ q k. kept_unmarked roll _ _ k) old new is es agree in (
+        (has_entry roll New k.key_tag es) k) (λ q k. kept_unmarked roll _ _ k) old new is es
+        agree in (
           record {
             apart = means.0.apart;
             there = there-filter new (λ e. not (is_of_roll roll e)) es means.0.there;

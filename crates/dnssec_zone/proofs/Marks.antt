@@ -77,34 +77,6 @@ marked_new-twice AlgorithmRoll now k = λ i. record (new_at_start AlgorithmRoll 
       i;
 }
 
-returns-twice : (roll : RollType) (t : KeyType)
-    → (column roll).returns ((column roll).returns t) ≡ (column roll).returns t
-unfolding column
-returns-twice KskRoll t = at_ksk-twice turns_back (λ s. refl) t
-returns-twice KskDoubleDsRoll t = at_ksk-twice turns_back (λ s. refl) t
-returns-twice ZskRoll t = at_zsk-twice turns_back (λ s. refl) t
-returns-twice ZskDoubleSignatureRoll t = at_zsk-twice turns_back (λ s. refl) t
-returns-twice CskRoll t = at_roles-twice turns_back turns_back (λ s. refl) (λ s. refl) t
-returns-twice AlgorithmRoll t = at_roles-twice turns_back turns_back (λ s. refl) (λ s. refl) t
-
-pub unmarked_old-twice : (roll : RollType) (k : KeyParts)
-    → old_at_early_end roll (old_at_early_end roll k) ≡ old_at_early_end roll k
-unmarked_old-twice roll k = λ i. record k { keytype = returns-twice roll k.keytype i }
-
-goes-twice : (roll : RollType) (t : KeyType)
-    → (column roll).goes ((column roll).goes t) ≡ (column roll).goes t
-unfolding column
-goes-twice KskRoll t = at_ksk-twice leaves_dnskey (λ s. refl) t
-goes-twice KskDoubleDsRoll t = at_ksk-twice leaves_parent (λ s. refl) t
-goes-twice ZskRoll t = at_zsk-twice leaves_silently (λ s. refl) t
-goes-twice ZskDoubleSignatureRoll t = at_zsk-twice leaves_dnskey (λ s. refl) t
-goes-twice CskRoll t = at_roles-twice leaves_dnskey leaves_silently (λ s. refl) (λ s. refl) t
-goes-twice AlgorithmRoll t = at_roles-twice leaves_dnskey leaves_dnskey (λ s. refl) (λ s. refl) t
-
-pub unmarked_new-twice : (roll : RollType) (k : KeyParts)
-    → new_at_early_end roll (new_at_early_end roll k) ≡ new_at_early_end roll k
-unmarked_new-twice roll k = λ i. record k { keytype = goes-twice roll k.keytype i }
-
 -- ---- a step of the loop
 
 or_false : (a b c : Bool) → b ≡ c → (a || (b || false)) ≡ (a || c)

@@ -164,7 +164,8 @@ impl Keys {
         Ok(())
     }
 
-    /// Takes out the key at a reference, if it is stale: such a key is in no count. Answers its tag.
+    /// Takes out the key at a reference, if it is stale: such a key is in no count. Answers its
+    /// tag.
     #[tactic(auto, using(crate::proofs::Shown::shown))]
     pub fn delete(&mut self, pubref: &str) -> Result<u16, Error>
         ensures reply { AnswersExactly (deletion_refusal (map.get self.old pubref.now)) result }

@@ -6,8 +6,8 @@ ghost use Rattle.dnssec_base.specs.declared.error.Error.TheVariants.{OutOfMemory
 ghost use Rattle.dnssec_key.specs.RollTable.{which, after_early_end};
 ghost use Rattle.dnssec_zone.specs.Inner.Bits.{is_set};
 ghost use Rattle.dnssec_zone.specs.Inner.Entries.{is_of, is_of_roll, entries_after_report};
-ghost use Rattle.dnssec_zone.specs.Inner.Entries.{entries_at_start, entries_of, entry_of, has_entry};
-ghost use Rattle.dnssec_zone.specs.Inner.Entries.{without_roll, without_tag};
+ghost use Rattle.dnssec_zone.specs.Inner.Entries.{entries_at_start, entries_of, entry_of};
+ghost use Rattle.dnssec_zone.specs.Inner.Entries.{has_entry, without_roll, without_tag};
 ghost use Rattle.dnssec_zone.specs.declared.listed.Part.TheVariants.{Old, New};
 ghost use Rattle.dnssec_zone.specs.Start.{texts};
 
@@ -90,8 +90,8 @@ impl Lists {
         old: &[&str],
         new: &[&str],
     ) -> Result<Lists, Error>
-        ensures ok { IfOk result (λ lists. lists.entries.items
-            ≡ entries_at_start keys.now roll (texts old.now) (texts new.now) self.now.entries.items) }
+        ensures ok { IfOk result (λ lists. lists.entries.items ≡ entries_at_start keys.now roll
+            (texts old.now) (texts new.now) self.now.entries.items) }
         ensures err { IfErr result (λ e. e ≡ OutOfMemory) }
     {
         let mut lists = self.try_clone()?;
