@@ -2,7 +2,7 @@
 --
 -- | Function or law                | Lemma                          | Files                |
 -- |--------------------------------|--------------------------------|----------------------|
--- | `check_start`                  | `same_algorithms`, `told-last` | StartReplies, Starts |
+-- | `check_start`                  | `algorithms-told`, `told-last` | StartReplies, Starts |
 -- | `check_wait`                   | `told-early`, `told-over`      | WaitReplies, Steps   |
 -- | `StaysSound`                   | `apart-step`, `together-step`  | Laws                 |
 -- | `KeepsSidesApart`              | `leaves-others`                | Sides, Laws          |

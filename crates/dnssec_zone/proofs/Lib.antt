@@ -8,6 +8,7 @@
 -- | `set` of bits                    | `written`                      | Words                    |
 -- | `check_many_new`                 | `fault-found`, `fault-behind`  | Entries, Marks, TwoLists |
 -- | `mark_old`, `mark_new` and back  | `mark_more`                    | Marks, TwoLists          |
+-- | `may_go_over`                    | `same_algorithms`              | Algorithms               |
 -- | `check_suitability`              | `all_met-walked`               | Starts                   |
 -- | `go_on_all`, `delete`            | `counts-waited` and the like   | Counted, Tests           |
 -- | `search_and_drop`                | `filtered`                     | Retained                 |

@@ -45,6 +45,7 @@ impl NewKeys {
         }
     }
 
+    /// Adds that of one key more.
     fn add(&mut self, key: &Key)
         ensures algorithms { (a : ℕ) → is_set self.new.algorithms a
             ≡ (is_set self.old.algorithms a || nat_eq key.now.algorithm a) }
@@ -222,11 +223,11 @@ impl Keys {
             }
             self.add_tag(&mut taken, reference);
         }
-        Ok(self.of_all(new))
+        Ok(self.new_keys(new))
     }
 
-    /// What a start asks of the keys that a list of new ones names.
-    fn of_all(&self, new: &[&str]) -> NewKeys
+    /// What a start asks of the keys that its new entries name.
+    fn new_keys(&self, new: &[&str]) -> NewKeys
         ensures algorithms { (a : ℕ) →
             is_set result.algorithms a ≡ has_algorithm (map.get self.now) (texts new.now) a }
         ensures kinds { AreOf (map.get self.now) (texts new.now) result.kinds }

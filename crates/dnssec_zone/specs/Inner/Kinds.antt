@@ -1,4 +1,4 @@
--- Of which kinds the new keys of a start are: on no more of them depends whether they serve.
+-- Of which kinds the new keys of a start are: whether one serves depends on no more.
 use Rattle.std.specs.Prelude.{◌≡◌, ℕ, Bool, ◌||◌, Option, List}
 use Rattle.dnssec_key.specs.Key.{KeyParts}
 use Rattle.dnssec_zone.specs.declared.side.Kinds.{Kinds}

@@ -3,7 +3,7 @@ use Rattle.std.specs.FinMap.{get}
 use Rattle.dnssec_zone.specs.Inner.Bits.{is_set}
 use Rattle.dnssec_zone.specs.Inner.Kinds.{AreOf}
 use Rattle.dnssec_zone.specs.Start.{texts, has_algorithm}
-use Rattle.dnssec_zone.proofs.keys.Keys.of_all.Given as goal
+use Rattle.dnssec_zone.proofs.keys.Keys.new_keys.Given as goal
 
 -- what is asked of the keys so far
 abbrev pub invariant-loop-reference : goal.invariant-loop-reference
