@@ -276,7 +276,7 @@ impl KeySet {
     {
         // It takes no memory, so its check is its first write at once.
         self.rolls.take_report(rolltype, half, ttl)?;
-        self.keys.report_all(rolltype, half, *now);
+        self.keys.report_all(rolltype, half, ttl, *now);
         self.lists.report(rolltype, half);
         Ok(Vec::new(self.alloc))
     }

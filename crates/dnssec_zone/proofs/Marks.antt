@@ -18,8 +18,6 @@ use Rattle.dnssec_key.specs.State.{Flags}
 use Rattle.dnssec_key.specs.Key.{KeyParts}
 use Rattle.dnssec_key.specs.RollTable.{column, at_ksk, at_zsk, at_roles, turns_old, comes_in}
 use Rattle.dnssec_key.specs.RollTable.{comes_in_signing, ds_comes_in, old_at_start, new_at_start}
-use Rattle.dnssec_key.specs.RollTable.{turns_back, leaves_dnskey, leaves_parent, leaves_silently}
-use Rattle.dnssec_key.specs.RollTable.{old_at_early_end, new_at_early_end}
 use Rattle.dnssec_zone.specs.Start.{is_listed}
 use Rattle.dnssec_zone.proofs.TwoLists.{map-push}
 

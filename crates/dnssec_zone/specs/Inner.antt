@@ -7,3 +7,4 @@ pub mod Entries
 pub mod Counts
 pub mod Kinds
 pub mod Over
+pub mod Begun

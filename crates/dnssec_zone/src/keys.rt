@@ -2,7 +2,7 @@
 ghost use Rattle.std.specs.Prelude.{◌≡◌, ◌<◌, ℕ, List, None, Some, true, false, max, nat_eq};
 ghost use Rattle.std.specs.Prelude.{string_bytes, IfOk, IfErr, IfSome, IfNone, OnOk, OnErr};
 ghost use Rattle.std.specs.Prelude.{if◌then◌else◌, filter, length, ◌≤◌, map as list_map};
-ghost use Rattle.std.specs.Prelude.{unwrap_or};
+ghost use Rattle.std.specs.Prelude.{unwrap_or, IsTrue};
 ghost use Rattle.std.specs.List.{fold};
 ghost use Rattle.std.specs.Option.{option_map};
 ghost use Rattle.std.specs.Str.{bytes_eq};
@@ -43,10 +43,13 @@ pub struct Keys {
     tags: TagIndex,
     /// How many keys a start could go on with.
     counts: Counts,
+    /// What is known of the wait that the last report began, as long as no key has changed since.
+    begun: Option<BegunWait>,
 }
 
 impl Model for Keys {
     ghost use Rattle.std.specs.Coded.{codes};
+    ghost use Rattle.dnssec_zone.specs.Inner.Begun.{IsKnown};
     ghost use Rattle.dnssec_zone.specs.Inner.Counts.{CountsAgree};
     ghost use Rattle.dnssec_zone.specs.Inner.Tags.{TagsAgree, has};
     ghost use Rattle.dnssec_zone.specs.Keys.{Keys as ByReference, keys_code, keys_in_map};
@@ -58,7 +61,26 @@ impl Model for Keys {
     ghost view = { λ s. keys_in_map s.map };
 
     ghost invariant = { λ s. TagsAgree (has s.tags) (keys_in_map s.map)
-        × CountsAgree s.counts (keys_in_map s.map) };
+        × CountsAgree s.counts (keys_in_map s.map) × IsKnown s.begun (keys_in_map s.map) };
+}
+
+/// A wait that a report has begun: from when on it is over, or that a key lacks its stamp.
+#[derive(Clone, Copy)]
+pub(crate) struct BegunWait {
+    roll: RollType,
+    half: Half,
+    ttl: u32,
+    over: Option<u128>,
+}
+
+impl BegunWait {
+    fn is_of(self, roll: RollType, half: Half, ttl: u32) -> bool
+        ensures roll { IsTrue result → self.roll ≡ roll }
+        ensures half { IsTrue result → self.half ≡ half }
+        ensures ttl { IsTrue result → self.ttl ≡ ttl }
+    {
+        self.roll == roll && self.half == half && self.ttl == ttl
+    }
 }
 
 /// A change of one key.
@@ -87,6 +109,7 @@ impl Keys {
             map: HashMap::new(alloc),
             tags: TagIndex::new(alloc),
             counts: Counts::none(),
+            begun: None,
         }
     }
 
@@ -98,6 +121,7 @@ impl Keys {
             map: clone_map(&self.map)?,
             tags: self.tags.try_clone(alloc)?,
             counts: self.counts,
+            begun: self.begun,
         })
     }
 
@@ -154,6 +178,7 @@ impl Keys {
         }
         let key_tag = key.key_tag();
         let keytype = key.keytype();
+        self.begun = None;
         self.tags.reserve(alloc)?;
         let Ok(_) = self.map.insert(pubref, key) else {
             return Err(Error::OutOfMemory);
@@ -182,6 +207,7 @@ impl Keys {
             return Err(Error::KeyNotOld);
         }
         let key_tag = key.key_tag();
+        self.begun = None;
         self.map.remove(pubref);
         self.tags.remove(key_tag);
         Ok(key_tag)
@@ -199,6 +225,7 @@ impl Keys {
             (map.get self.old q)) }
         ensures err { OnErr result (self.new ≡ self.old) }
     {
+        self.begun = None;
         let Some(key) = self.map.get_mut(pubref) else {
             return Err(Error::KeyNotFound);
         };
@@ -241,6 +268,7 @@ impl Keys {
         ensures { (q : List ℕ) → map.get self.new q ≡ option_map (λ k. after_early_end roll
             (is_set olds.now k.key_tag) (is_set news.now k.key_tag) k) (map.get self.old q) }
     {
+        self.begun = None;
         self.map.retain(|_, key| {
             unmark_key(roll, olds, news, key);
             true
@@ -255,6 +283,7 @@ impl Keys {
         ensures { (q : List ℕ) → map.get self.new q ≡ option_map
             (λ k. if bytes_eq reference.now q then makes change k else k) (map.get self.old q) }
     {
+        self.begun = None;
         let Some(key) = self.map.get_mut(reference) else {
             return;
         };
@@ -264,15 +293,24 @@ impl Keys {
         is_sound(&self.map);
     }
 
-    /// Stamps every key that a report speaks of.
-    pub fn report_all(&mut self, roll: RollType, half: Half, now: UnixTime)
+    /// Stamps every key that a report speaks of. Tools ask again and again for the wait that it
+    /// begins, so what a walk finds for this one is kept.
+    pub fn report_all(&mut self, roll: RollType, half: Half, ttl: u32, now: UnixTime)
         ensures { (q : List ℕ) → map.get self.new q
             ≡ option_map (after_report roll (which half) now) (map.get self.old q) }
     {
+        self.begun = None;
         // `retain` says of each key what is written there; it keeps them all.
         self.map.retain(|_, key| {
             key.report(roll, half, now);
             true
+        });
+        let over = self.walk_for_wait(roll, half, ttl);
+        self.begun = Some(BegunWait {
+            roll,
+            half,
+            ttl,
+            over,
         });
     }
 
@@ -281,6 +319,7 @@ impl Keys {
         ensures { (q : List ℕ) → map.get self.new q
             ≡ option_map (after_wait roll (which half) now) (map.get self.old q) }
     {
+        self.begun = None;
         self.map.retain(|_, key| {
             key.go_on(roll, half, now);
             true
@@ -291,6 +330,18 @@ impl Keys {
     /// The nanosecond since 1970 from which a wait of `ttl` seconds is over, or `None` where a
     /// stamp is missing.
     pub fn over_from(&self, roll: RollType, half: Half, ttl: u32) -> Option<u128>
+        ensures over { IfSome result (λ end.
+            IsOverFrom roll (which half) ttl self.now end) }
+        ensures missing { IfNone result (LacksStamp roll (which half) ttl self.now) }
+    {
+        match self.begun {
+            Some(wait) if wait.is_of(roll, half, ttl) => wait.over,
+            _ => self.walk_for_wait(roll, half, ttl),
+        }
+    }
+
+    /// The same, by a walk over the keys.
+    fn walk_for_wait(&self, roll: RollType, half: Half, ttl: u32) -> Option<u128>
         ensures over { IfSome result (λ end.
             IsOverFrom roll (which half) ttl self.now end) }
         ensures missing { IfNone result (LacksStamp roll (which half) ttl self.now) }

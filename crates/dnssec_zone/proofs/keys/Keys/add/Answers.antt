@@ -27,4 +27,5 @@ invariant_of-self-2 c =
           (counts-added i.counts (keys_in_map i.map) n r x
           absent is (fits-shown c.insert.new.self c.is_sound.ensures.unique
           c.is_sound.ensures.fits) c.self.invariant.1),
+      tt,
     )

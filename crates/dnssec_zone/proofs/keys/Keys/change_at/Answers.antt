@@ -45,4 +45,5 @@ invariant_of-self-2 c =
       subst (λ counts. CountsAgree counts (keys_in_map n)) (sym counts)
           (counts-at f i.counts (keys_in_map i.map) (keys_in_map n) r k found is
           (fits-shown n c.is_sound.ensures.unique c.is_sound.ensures.fits) c.self.invariant.1),
+      tt,
     )

@@ -28,4 +28,5 @@ invariant_of-self c =
           c.self.invariant.0,
       counts-removed i.counts (keys_in_map i.map) n r x found is
           (stale-serves x.keytype stale) c.self.invariant.1,
+      tt,
     )

@@ -27,4 +27,5 @@ invariant_of-self c =
       counts-waited c.args.roll (which c.args.half) c.args.now i.counts counted.result
           i.map n c.retain.ensures.was_unique c.retain.ensures.unique e c.self.invariant.1
           counted.ensures.moved counted.ensures.kept,
+      tt,
     )

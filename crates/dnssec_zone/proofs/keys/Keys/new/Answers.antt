@@ -12,4 +12,5 @@ invariant_of-result c = (
   TagsAgree-none (has c.new-2.result) (keys_in_map c.new.result) (λ t. search rules)
       (λ q. search (rules, shown)),
   rw c.none.ensures (counts-none (keys_in_map c.new.result) (λ q. search (rules, shown))),
+  tt,
 )

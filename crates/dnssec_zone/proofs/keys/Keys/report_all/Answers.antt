@@ -1,4 +1,5 @@
--- The walk stamps each key as a report does, and leaves tags, kinds and flags.
+-- The walk stamps each key as a report does, and leaves tags, kinds and flags. A second one tells of
+-- the wait.
 use Rattle.std.proofs.Common.{refl, rules}
 use Rattle.dnssec_zone.specs.Inner.Tags.{has}
 use Rattle.std.proofs.lemmas.Map.Made.{map_same_pairs}
@@ -25,4 +26,12 @@ invariant_of-self c =
           (λ q k. refl) (get-walked step i.map n _ refl e) c.self.invariant.0,
       counts-kept step (λ w k. refl) i.counts i.map n c.retain.ensures.was_unique
           c.retain.ensures.unique e c.self.invariant.1,
+      tt,
     )
+
+pub invariant_of-self-2 : goal.invariant_of-self-2
+invariant_of-self-2 c = let stamped = invariant_of-self c.before.before in (
+  stamped.0,
+  stamped.1,
+  (c.walk_for_wait-over.ensures.over, c.walk_for_wait-over.ensures.missing),
+)

@@ -23,8 +23,8 @@ invariant_of-self-then-not-suits c =
     let found : map.get (keys_in_map i.map) r ≡ Some k = search (rules, shown) in
     let same = same-written (keys_in_map i.map) (keys_in_map (c.get_mut.follows.lender k)) r k found
     (λ q. search (rules, shown)) in
-    subst (λ keys. TagsAgree (has i.tags) keys × CountsAgree i.counts keys) (sym same)
-    c.self.invariant
+    subst (λ keys. TagsAgree (has i.tags) keys × CountsAgree i.counts keys × Unit {0}) (sym same)
+    (c.self.invariant.0, c.self.invariant.1, tt)
 
 pub returns-then-not-suits-clause-err : goal.returns-then-not-suits-clause-err
 returns-then-not-suits-clause-err c =
@@ -60,4 +60,5 @@ invariant_of-self-2 c =
       subst (λ counts. CountsAgree counts (keys_in_map n)) (sym counts)
           (counts-set setting i.counts (keys_in_map i.map) (keys_in_map n) r k found is
           (fits-shown n c.is_sound.ensures.unique c.is_sound.ensures.fits) c.self.invariant.1),
+      tt,
     )

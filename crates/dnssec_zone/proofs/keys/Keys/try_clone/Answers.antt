@@ -9,4 +9,5 @@ invariant_of-result c = rw c.in_ok-clone_map.ensures.same (
   TagsAgree-same (has c.self.inside.tags) (has c.in_ok-try_clone.field-0)
       (keys_in_map c.self.inside.map) c.in_ok-try_clone.ensures.same c.self.invariant.0,
   c.self.invariant.1,
+  c.self.invariant.2,
 )

@@ -28,4 +28,5 @@ invariant_of-self c =
           (λ q k. kept_unmarked c.args.roll _ _ k) (get-walked step i.map n _ refl e)
           c.self.invariant.0,
       c.recount-self-inside.ensures,
+      tt,
     )

@@ -4,7 +4,7 @@ use Rattle.std.specs.Prelude.{Option, IfNone}
 use Rattle.dnssec_key.specs.RollTable.{which}
 use Rattle.dnssec_zone.specs.Wait.{IsOverFrom, LacksStamp}
 use Rattle.dnssec_zone.proofs.Waits.{walk-lacks, walk-over}
-use Rattle.dnssec_zone.proofs.keys.Keys.over_from.Goals as goal
+use Rattle.dnssec_zone.proofs.keys.Keys.walk_for_wait.Goals as goal
 
 pub returns-clause-over : goal.returns-clause-over
 returns-clause-over c = at c.latest_over.result refl
