@@ -5,5 +5,10 @@
 -- | `Display` of states    | `word_added`, `word_skipped` | Words |
 -- | `equal_states_are_one` | `alike_states`               | Alike |
 -- | `equal_kinds_are_one`  | `alike_kinds`                | Alike |
+-- | `set`, `clear` of bits | `written`                    | BitWords |
+-- | `TagIndex::remove`     | `filtered`, `others-have`    | Retained, OtherTags |
 pub mod Words
+pub mod BitWords
+pub mod Retained
+pub mod OtherTags
 pub mod Alike

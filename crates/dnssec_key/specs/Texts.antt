@@ -1,7 +1,7 @@
 -- The texts that a user reads of a roll, its name, and of the state of a role. How they read is no
 -- matter of an RFC.
 use Rattle.std.specs.Prelude.{ℕ, List, codes, ◌≡◌, ◌≢◌, Result, MatchResult, Bool, [], ◌∷◌, filter}
-use Rattle.std.specs.Prelude.{map, true, false, ◌+◌, ◌++◌}
+use Rattle.std.specs.Prelude.{map, true, false, ◌++◌}
 use Rattle.std.specs.List.{join_by}
 use Rattle.dnssec_base.specs.declared.error.Error.{Error}
 use Rattle.dnssec_base.specs.declared.error.Error.TheVariants.{UnknownRollType}

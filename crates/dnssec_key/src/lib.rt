@@ -1,10 +1,11 @@
 //! Keys of a zone, and what the steps of each roll do to one of them: the states of a key's roles,
-//! and the table of the six rolls.
+//! and the table of the six rolls. Beside them sets of key tags.
 //!
 //! `dnssec_keyset` re-exports what its callers name. What it needs besides, it finds here.
 #![tactic(auto)]
 
 mod actions;
+mod bits;
 mod comparisons;
 mod key;
 mod kind;
@@ -13,7 +14,9 @@ mod roll;
 mod setting;
 mod state;
 mod table;
+mod tag_index;
 
+pub use bits::{AlgorithmSet, TagSet, is_set, set};
 pub use comparisons::{
     default_states_are_unused, equal_kinds_are_one, equal_phases_are_one, equal_states_are_one,
 };
@@ -27,3 +30,4 @@ pub use role::{is_kept_at_parent, is_kept_present};
 pub use roll::{Action, Half, RollState, RollType};
 pub use setting::Setting;
 pub use state::{Available, KeyState};
+pub use tag_index::TagIndex;

@@ -11,7 +11,7 @@ use Rattle.std.proofs.lemmas.Bool.Decides.{nat_tests}
 use Rattle.std.proofs.lemmas.List.{ext_get_or}
 use Rattle.std.proofs.lemmas.Nat.Bits.{bit_at-lt, same_from_bits_below}
 use Rattle.dnssec_key.specs.Key.{KeyParts}
-use Rattle.dnssec_zone.specs.Inner.Bits.{is_set}
+use Rattle.dnssec_key.specs.Inner.Bits.{is_set}
 use Rattle.dnssec_zone.specs.Start.{has_algorithm, algorithms_within}
 use Rattle.std.proofs.lemmas.Bool.{cases_Bool, or_right, and_parts}
 

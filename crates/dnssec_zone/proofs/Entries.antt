@@ -9,7 +9,7 @@ use Rattle.dnssec_base.specs.declared.error.Error.{Error}
 use Rattle.dnssec_key.specs.declared.kind.KeyType.{KeyType}
 use Rattle.dnssec_key.specs.declared.roll.RollType.{RollType}
 use Rattle.dnssec_key.specs.Key.{KeyParts}
-use Rattle.dnssec_zone.specs.Inner.Bits.{is_set}
+use Rattle.dnssec_key.specs.Inner.Bits.{is_set}
 use Rattle.dnssec_zone.specs.Inner.Counts.{bit, count_in, listed_passes}
 use Rattle.dnssec_zone.specs.Inner.Tags.{HasListed, has_its_tag}
 use Rattle.dnssec_zone.specs.Keys.{Keys}

@@ -5,13 +5,12 @@
 -- | `Keys`: the map that it shows    | ruleset `shown`, `get-walked`  | Shown, Walks             |
 -- | `Keys`: the tags that it keeps   | `TagsAgree-added` and the like | Tags, Quantified         |
 -- | `Keys`: the counts that it keeps | `counts-added` and the like    | Counted, Walks           |
--- | `set` of bits                    | `written`                      | Words                    |
 -- | `check_many_new`                 | `fault-found`, `fault-behind`  | Entries, Marks, TwoLists |
 -- | `mark_old`, `mark_new` and back  | `mark_more`                    | Marks, TwoLists          |
 -- | `may_go_over`                    | `same_algorithms`              | Algorithms               |
 -- | `check_suitability`              | `all_met-walked`               | Starts                   |
 -- | `go_on_all`, `delete`            | `counts-waited` and the like   | Counted, Tests           |
--- | `search_and_drop`                | `filtered`                     | Retained                 |
+-- | `Lists`: the entries             | `list-more`, `filtered`        | Listing                  |
 -- | the phases of rolls              | ruleset `phases`               | Phases                   |
 -- | `latest_over`                    | `walk-lost`                    | Waits                    |
 -- | `over_from`                      | `walk-lacks`, `walk-over`      | Waits                    |
@@ -22,13 +21,11 @@ pub mod Shown
 pub mod Walks
 pub mod Phases
 pub mod Quantified
-pub mod Words
 pub mod Tags
 pub mod Listing
 pub mod Counted
 pub mod TwoLists
 pub mod Algorithms
-pub mod Retained
 pub mod Starts
 pub mod Marks
 pub mod Entries

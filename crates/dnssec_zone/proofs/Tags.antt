@@ -1,9 +1,7 @@
 -- What keeps the index of the tags, whatever its form: `has` tells whether a tag is in it.
 use Rattle.std.proofs.Common.{◌≡◌, ℕ, Bool, true, false, List, Some, None, refl, sym, ap, subst}
 use Rattle.std.proofs.Common.{◌∙◌, inl, inr, arith}
-use Rattle.std.specs.Prelude.{Option, nat_eq, if◌then◌else◌, ◌⊎◌, ◌||◌, ◌&&◌, not, filter}
-use Rattle.std.specs.List.{list_any}
-use Rattle.std.proofs.Common.{[], ◌∷◌, cond}
+use Rattle.std.specs.Prelude.{Option, nat_eq, if◌then◌else◌, ◌⊎◌, ◌||◌, ◌&&◌, not}
 use Rattle.std.specs.Str.{bytes_eq}
 use Rattle.std.specs.Cmp.Lexicographic.{bytes_decides}
 use Rattle.std.proofs.lemmas.Bool.Decides.{nat_tests}
@@ -19,7 +17,7 @@ use Rattle.dnssec_zone.specs.declared.keys.Change.TheVariants.{MarkOld, MarkNew}
 use Rattle.dnssec_zone.specs.Inner.Change.{makes}
 use Rattle.dnssec_key.specs.declared.kind.KeyType.{KeyType}
 use Rattle.dnssec_key.specs.declared.roll.RollType.{RollType}
-use Rattle.dnssec_zone.specs.Inner.Bits.{is_set}
+use Rattle.dnssec_key.specs.Inner.Bits.{is_set}
 use Rattle.dnssec_zone.specs.Inner.Tags.{TagsAgree, HasListed, has_its_tag}
 use Rattle.dnssec_zone.specs.Start.{new_entry_fault}
 use Rattle.dnssec_zone.proofs.Quantified.{some_key-found, some_key-none}
@@ -52,41 +50,6 @@ kept_unmarked roll true true k = refl
 kept_unmarked roll true false k = refl
 kept_unmarked roll false true k = refl
 kept_unmarked roll false false k = refl
-
--- a list of tags without one of them
-pub others-have : (out t : ℕ) (tags : List ℕ)
-    → list_any (λ tag. nat_eq tag t) (filter (λ tag. not (nat_eq tag out)) tags)
-    ≡ (if nat_eq out t then false else list_any (λ tag. nat_eq tag t) tags)
-others-have out t [] = at (nat_eq out t)
-  where
-    at : (b : Bool) → false ≡ (if b then false else false)
-    at true = refl
-    at false = refl
-others-have out t (x ∷ xs) =
-    at (nat_eq x out) refl (nat_eq out t) refl (nat_eq x t) refl (others-have out t xs)
-  where
-    rest : List ℕ
-    rest = filter (λ tag. not (nat_eq tag out)) xs
-
-    without : (b : Bool) → nat_eq out t ≡ b → list_any (λ tag. nat_eq tag t) rest
-        ≡ (if nat_eq out t then false else list_any (λ tag. nat_eq tag t) xs)
-        → list_any (λ tag. nat_eq tag t) rest
-        ≡ (if b then false else list_any (λ tag. nat_eq tag t) xs)
-    without b q e =
-        e ∙ ap (λ (b : Bool). if b then false else list_any (λ tag. nat_eq tag t) xs) q
-
-    at : (a : Bool) → nat_eq x out ≡ a → (b : Bool) → nat_eq out t ≡ b → (c : Bool)
-        → nat_eq x t ≡ c
-        → list_any (λ tag. nat_eq tag t) rest
-        ≡ (if nat_eq out t then false else list_any (λ tag. nat_eq tag t) xs)
-        → list_any (λ tag. nat_eq tag t) (cond (not a) (x ∷ rest) rest)
-        ≡ (if b then false else c || list_any (λ tag. nat_eq tag t) xs)
-    at true p true q c r e = without true q e
-    at true p false q true r e = absurd (grind (arith, nat_tests))
-    at true p false q false r e = without false q e
-    at false p true q true r e = absurd (grind (arith, nat_tests))
-    at false p true q false r e = (λ i. r i || without true q e i)
-    at false p false q c r e = (λ i. r i || without false q e i)
 
 -- a value that f gives of what was there
 pub mapped : (o : Option KeyParts) (f : KeyParts → KeyParts) (l : KeyParts)

@@ -1,5 +1,4 @@
 -- What only the inside of the crate needs: no contract of a public call names it.
-pub mod Bits
 pub mod Code
 pub mod Change
 pub mod Tags

@@ -6,7 +6,7 @@ ghost use Rattle.std.specs.Option.{option_map_or};
 ghost use Rattle.std.specs.Str.{bytes_eq};
 ghost use Rattle.std.specs.FinMap as map;
 ghost use Rattle.dnssec_key.specs.Key.{KeyParts};
-ghost use Rattle.dnssec_zone.specs.Inner.Bits.{is_set};
+ghost use Rattle.dnssec_key.specs.Inner.Bits.{is_set};
 ghost use Rattle.dnssec_zone.specs.Inner.Code.{as_want};
 ghost use Rattle.dnssec_zone.specs.Inner.Counts.{count_in, listed_passes};
 ghost use Rattle.dnssec_zone.specs.Inner.Kinds.{AreOf, is_met_among, some_serves};
@@ -18,10 +18,9 @@ ghost use Rattle.dnssec_zone.specs.Start.{serves_as_new, serves_as_kept, some_ke
 ghost use Rattle.dnssec_zone.specs.Start.{suitability_fault, Want as WantOfStart};
 ghost use Rattle.dnssec_zone.specs.Refusals.{AnswersExactly};
 
-use crate::bits::{AlgorithmSet, TagSet, is_set, set};
 use crate::keys::Keys;
 use crate::side::{Kinds, Want, may_change_algorithms, side_of, wants};
-use dnssec_key::{Error, Key, RollType};
+use dnssec_key::{AlgorithmSet, Error, Key, RollType, TagSet, is_set, set};
 
 /// A list of more entries is long.
 const FEW: usize = 4;

@@ -13,7 +13,7 @@ ghost use Rattle.dnssec_base.specs.declared.error.Error.TheVariants.{OutOfMemory
 ghost use Rattle.dnssec_key.specs.RollTable.{which, after_report, after_wait, new_at_start};
 ghost use Rattle.dnssec_key.specs.RollTable.{after_early_end, old_at_start};
 ghost use Rattle.dnssec_key.specs.Setters.{setting_of, set_by};
-ghost use Rattle.dnssec_zone.specs.Inner.Bits.{is_set};
+ghost use Rattle.dnssec_key.specs.Inner.Bits.{is_set};
 ghost use Rattle.dnssec_zone.specs.Inner.Change.{makes};
 ghost use Rattle.dnssec_zone.specs.Inner.Code.{as_want};
 ghost use Rattle.dnssec_zone.specs.Inner.Counts.{CountsAgree, count_in, no_counts, passes};
@@ -25,11 +25,9 @@ ghost use Rattle.dnssec_zone.specs.Refusals.{deletion_refusal, setting_refusal};
 ghost use Rattle.dnssec_zone.specs.Inner.Over.{over_by, over_with};
 ghost use Rattle.dnssec_zone.specs.Wait.{IsOverFrom, LacksStamp};
 
-use crate::bits::{TagSet, is_set};
 use crate::counts::{Counts, wait_moves_counts};
 use crate::side::Want;
-use crate::tag_index::TagIndex;
-use dnssec_key::{Error, Half, Key, RollType, Setting, UnixTime};
+use dnssec_key::{Error, Half, Key, RollType, Setting, TagIndex, TagSet, UnixTime, is_set};
 use std::alloc::Global;
 use std::collections::HashMap;
 use std::marker::Model;
@@ -51,7 +49,8 @@ impl Model for Keys {
     ghost use Rattle.std.specs.Coded.{codes};
     ghost use Rattle.dnssec_zone.specs.Inner.Begun.{IsKnown};
     ghost use Rattle.dnssec_zone.specs.Inner.Counts.{CountsAgree};
-    ghost use Rattle.dnssec_zone.specs.Inner.Tags.{TagsAgree, has};
+    ghost use Rattle.dnssec_key.specs.Inner.TagIndex.{has};
+    ghost use Rattle.dnssec_zone.specs.Inner.Tags.{TagsAgree};
     ghost use Rattle.dnssec_zone.specs.Keys.{Keys as ByReference, keys_code, keys_in_map};
 
     ghost Value = { ByReference };

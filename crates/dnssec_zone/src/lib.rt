@@ -4,16 +4,13 @@
 //! `dnssec_keyset` puts them together. Here each hash map is opened in one module.
 #![tactic(auto)]
 
-mod bits;
 mod check;
 mod counts;
 mod keys;
 mod listed;
 mod rolls;
 mod side;
-mod tag_index;
 
-pub use bits::AlgorithmSet;
 pub use check::{NewKeys, may_go_over};
 pub use keys::Keys;
 pub use listed::Lists;

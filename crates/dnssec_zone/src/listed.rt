@@ -4,16 +4,15 @@ ghost use Rattle.std.specs.Option.{option_map};
 ghost use Rattle.std.specs.FinMap as map;
 ghost use Rattle.dnssec_base.specs.declared.error.Error.TheVariants.{OutOfMemory};
 ghost use Rattle.dnssec_key.specs.RollTable.{which, after_early_end};
-ghost use Rattle.dnssec_zone.specs.Inner.Bits.{is_set};
+ghost use Rattle.dnssec_key.specs.Inner.Bits.{is_set};
 ghost use Rattle.dnssec_zone.specs.Inner.Entries.{is_of, is_of_roll, entries_after_report};
 ghost use Rattle.dnssec_zone.specs.Inner.Entries.{entries_at_start, entries_of, entry_of};
 ghost use Rattle.dnssec_zone.specs.Inner.Entries.{has_entry, without_roll, without_tag};
 ghost use Rattle.dnssec_zone.specs.declared.listed.Part.TheVariants.{Old, New};
 ghost use Rattle.dnssec_zone.specs.Start.{texts};
 
-use crate::bits::{TagSet, set};
 use crate::keys::Keys;
-use dnssec_key::{Error, Half, Key, RollType};
+use dnssec_key::{Error, Half, Key, RollType, TagSet, set};
 use std::alloc::Global;
 
 /// As what a start lists a key.

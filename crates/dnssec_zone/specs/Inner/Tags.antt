@@ -1,23 +1,9 @@
--- Sets of key tags: those in use, and those of listed keys.
-use Rattle.std.specs.Prelude.{◌≡◌, ◌<◌, ℕ, Bool, true, false, Option, None, Some, List, nat_eq}
-use Rattle.std.specs.List.{list_any}
-use Rattle.std.specs.Vec.{vec_len, vec_capacity}
+-- Sets of key tags: of those in use, and of listed keys.
+use Rattle.std.specs.Prelude.{◌≡◌, ℕ, Bool, true, false, Option, None, Some, List}
 use Rattle.std.specs.FinMap.{get}
 use Rattle.dnssec_key.specs.Key.{KeyParts}
-use Rattle.dnssec_zone.specs.Inner.Bits.{is_set}
+use Rattle.dnssec_key.specs.Inner.Bits.{is_set}
 use Rattle.dnssec_zone.specs.Keys.{Keys, TagsApart}
-use Rattle.dnssec_zone.specs.declared.tag_index.TagIndex.{TagIndex}
-use Rattle.dnssec_zone.specs.declared.tag_index.TagIndex.TheVariants.{Few, Many}
-
--- the index has a tag
-abbrev pub has : TagIndex → ℕ → Bool
-has (Few tags) t = list_any (λ tag. nat_eq tag t) tags.items
-has (Many bits) t = is_set bits.value t
-
--- there is room in it for one more
-abbrev pub HasRoom : TagIndex → Type 0
-HasRoom (Few tags) = vec_len tags < vec_capacity tags
-HasRoom (Many bits) = Unit {0}
 
 -- the index has the tags of the keys and no other, and no two keys have one tag
 pub record TagsAgree (has : ℕ → Bool) (keys : Keys) : Type 0 where

@@ -1,7 +1,7 @@
 -- The new key's tag comes into the index with it, and it is counted.
 use Rattle.std.proofs.Common.{◌≡◌, false, None, Some, string_bytes, rules, ap, ◌∙◌}
 use Rattle.std.specs.FinMap.{get}
-use Rattle.dnssec_zone.specs.Inner.Tags.{has}
+use Rattle.dnssec_key.specs.Inner.TagIndex.{has}
 use Rattle.std.proofs.lemmas.Map.Text.{hash_map_updates_text}
 use Rattle.dnssec_zone.specs.Keys.{keys_in_map, has_tag}
 use Rattle.dnssec_zone.proofs.Counted.Kept.{counts-added, fits-shown}

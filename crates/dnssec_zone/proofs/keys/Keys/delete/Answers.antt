@@ -1,7 +1,7 @@
 -- The key's tag leaves the index with it; a stale key was in no count.
 use Rattle.std.proofs.Common.{◌≡◌, true, None, Some, rules}
 use Rattle.std.specs.FinMap.{get}
-use Rattle.dnssec_zone.specs.Inner.Tags.{has}
+use Rattle.dnssec_key.specs.Inner.TagIndex.{has}
 use Rattle.std.proofs.lemmas.Map.Text.{hash_map_updates_text}
 use Rattle.dnssec_key.specs.State.{is_stale}
 use Rattle.dnssec_key.specs.Key.{all_states}

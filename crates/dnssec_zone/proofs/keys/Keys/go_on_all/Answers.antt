@@ -1,6 +1,6 @@
 -- The walk moves each key as an accepted wait does; where that may move a count, all are counted.
 use Rattle.std.proofs.Common.{refl, rules}
-use Rattle.dnssec_zone.specs.Inner.Tags.{has}
+use Rattle.dnssec_key.specs.Inner.TagIndex.{has}
 use Rattle.std.proofs.lemmas.Map.Made.{map_same_pairs}
 use Rattle.dnssec_key.specs.RollTable.{which, after_wait}
 use Rattle.dnssec_zone.specs.Keys.{keys_in_map}

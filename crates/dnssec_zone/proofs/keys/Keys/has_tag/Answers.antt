@@ -1,6 +1,6 @@
 -- The index answers for the keys.
 use Rattle.std.proofs.Common.{ap, ◌∙◌}
-use Rattle.dnssec_zone.specs.Inner.Tags.{has}
+use Rattle.dnssec_key.specs.Inner.TagIndex.{has}
 use Rattle.dnssec_zone.specs.Keys.{has_tag}
 use Rattle.dnssec_zone.proofs.Tags.{tags-has_tag}
 use Rattle.dnssec_zone.proofs.keys.Keys.has_tag.Goals as goal

@@ -1,6 +1,6 @@
 -- No keys: no tags, and nothing to count.
 use Rattle.std.proofs.Common.{rules}
-use Rattle.dnssec_zone.specs.Inner.Tags.{has}
+use Rattle.dnssec_key.specs.Inner.TagIndex.{has}
 use Rattle.dnssec_zone.specs.Keys.{keys_in_map}
 use Rattle.dnssec_zone.proofs.Counted.Kept.{counts-none}
 use Rattle.dnssec_zone.proofs.Shown.{shown}

@@ -1,7 +1,7 @@
 -- The walk stamps each key as a report does, and leaves tags, kinds and flags. A second one tells of
 -- the wait.
 use Rattle.std.proofs.Common.{refl, rules}
-use Rattle.dnssec_zone.specs.Inner.Tags.{has}
+use Rattle.dnssec_key.specs.Inner.TagIndex.{has}
 use Rattle.std.proofs.lemmas.Map.Made.{map_same_pairs}
 use Rattle.dnssec_key.specs.RollTable.{which, after_report}
 use Rattle.dnssec_zone.specs.Keys.{keys_in_map}

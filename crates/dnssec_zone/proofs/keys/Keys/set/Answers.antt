@@ -1,7 +1,7 @@
 -- A key that a setter doesn't suit is written back as it was; else one key is changed.
 use Rattle.std.proofs.Common.{◌≡◌, ℕ, List, Some, rules, sym, ap, subst, ◌∙◌}
 use Rattle.std.specs.Prelude.{if◌then◌else◌}
-use Rattle.dnssec_zone.specs.Inner.Tags.{has}
+use Rattle.dnssec_key.specs.Inner.TagIndex.{has}
 use Rattle.std.specs.Str.{bytes_eq}
 use Rattle.std.specs.Option.{option_map}
 use Rattle.std.specs.FinMap as map

@@ -1,5 +1,5 @@
 -- A clone of the index has the same tags, and the counts are the same.
-use Rattle.dnssec_zone.specs.Inner.Tags.{has}
+use Rattle.dnssec_key.specs.Inner.TagIndex.{has}
 use Rattle.dnssec_zone.specs.Keys.{keys_in_map}
 use Rattle.dnssec_zone.proofs.Tags.{TagsAgree-same}
 use Rattle.dnssec_zone.proofs.keys.Keys.try_clone.Goals as goal

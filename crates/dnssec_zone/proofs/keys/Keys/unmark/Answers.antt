@@ -1,10 +1,10 @@
 -- The walk undoes the start on each key that is listed; all are counted again.
 use Rattle.std.proofs.Common.{refl, rules}
-use Rattle.dnssec_zone.specs.Inner.Tags.{has}
+use Rattle.dnssec_key.specs.Inner.TagIndex.{has}
 use Rattle.std.proofs.lemmas.Map.Made.{map_same_pairs}
 use Rattle.dnssec_key.specs.Key.{KeyParts}
 use Rattle.dnssec_key.specs.RollTable.{after_early_end}
-use Rattle.dnssec_zone.specs.Inner.Bits.{is_set}
+use Rattle.dnssec_key.specs.Inner.Bits.{is_set}
 use Rattle.dnssec_zone.specs.Keys.{keys_in_map}
 use Rattle.dnssec_zone.proofs.Shown.{get-walked}
 use Rattle.dnssec_zone.proofs.Tags.{TagsAgree-mapped, kept_unmarked}

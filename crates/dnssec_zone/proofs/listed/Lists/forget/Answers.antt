@@ -2,7 +2,7 @@
 use Rattle.std.proofs.Common.{rules, tests}
 use Rattle.std.specs.Prelude.{not, nat_eq}
 use Rattle.dnssec_zone.specs.declared.listed.Entry.{Entry}
-use Rattle.dnssec_zone.proofs.Retained.{filtered}
+use Rattle.dnssec_key.proofs.Retained.{filtered}
 use Rattle.dnssec_zone.proofs.listed.Lists.forget.Goals as goal
 
 pub returns : goal.returns

@@ -1,5 +1,5 @@
 use Rattle.std.proofs.Common.{◌≡◌, ℕ, length, take}
-use Rattle.dnssec_zone.specs.Inner.Bits.{is_set}
+use Rattle.dnssec_key.specs.Inner.Bits.{is_set}
 use Rattle.dnssec_zone.specs.Inner.Entries.{has_entry}
 use Rattle.dnssec_zone.proofs.listed.Lists.tags.Given as goal
 

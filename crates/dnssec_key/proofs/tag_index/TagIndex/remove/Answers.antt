@@ -2,10 +2,10 @@
 use Rattle.std.proofs.Common.{◌∙◌, ap, sym, nat_eq, false, rules, tests}
 use Rattle.std.specs.Prelude.{not, if◌then◌else◌}
 use Rattle.std.specs.List.{list_any}
-use Rattle.dnssec_zone.specs.Inner.Tags.{has}
-use Rattle.dnssec_zone.proofs.Retained.{filtered}
-use Rattle.dnssec_zone.proofs.Tags.{others-have}
-use Rattle.dnssec_zone.proofs.tag_index.TagIndex.remove.Goals as goal
+use Rattle.dnssec_key.specs.Inner.TagIndex.{has}
+use Rattle.dnssec_key.proofs.Retained.{filtered}
+use Rattle.dnssec_key.proofs.OtherTags.{others-have}
+use Rattle.dnssec_key.proofs.tag_index.TagIndex.remove.Goals as goal
 
 pub returns-in-Few : goal.returns-in-Few
 returns-in-Few c t = ap (list_any (λ tag. nat_eq tag t)) (filtered _

@@ -6,7 +6,7 @@ use Rattle.std.specs.Int.{bit_at}
 use Rattle.std.proofs.lemmas.Nat.Bits.{bit_at-zero}
 use Rattle.std.proofs.lemmas.Bool.Decides.{nat_tests}
 use Rattle.std.proofs.lemmas.List.{get_or-set_same, get_or-set_other}
-use Rattle.dnssec_zone.specs.Inner.Bits.{is_set}
+use Rattle.dnssec_key.specs.Inner.Bits.{is_set}
 
 module _ (ws : List ℕ) (tag w : ℕ) (b : Bool) (room : tag / 64 < length ws)
     (here : nat_eq (bit_at w (tag % 64)) 1 ≡ b)

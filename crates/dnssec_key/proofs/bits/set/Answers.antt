@@ -3,8 +3,8 @@ use Rattle.std.proofs.Common.{◌/◌, ◌%◌, true, ap, arith, get_or}
 use Rattle.std.specs.Prelude.{nat_eq}
 use Rattle.std.specs.Int.{w64}
 use Rattle.std.proofs.lemmas.Nat.Bits.{bit_at_set_same, bit_at_set_other}
-use Rattle.dnssec_zone.proofs.Words.{written}
-use Rattle.dnssec_zone.proofs.bits.set.Goals as goal
+use Rattle.dnssec_key.proofs.BitWords.{written}
+use Rattle.dnssec_key.proofs.bits.set.Goals as goal
 
 pub returns-clause-put : goal.returns-clause-put
 returns-clause-put c =

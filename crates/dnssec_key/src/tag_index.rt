@@ -2,8 +2,8 @@
 ghost use Rattle.std.specs.Prelude.{◌≡◌, ℕ, false, true, nat_eq, if◌then◌else◌, IfOk, IfErr, OnOk};
 ghost use Rattle.std.specs.List.{list_any};
 ghost use Rattle.dnssec_base.specs.declared.error.Error.TheVariants.{OutOfMemory};
-ghost use Rattle.dnssec_zone.specs.Inner.Bits.{is_set};
-ghost use Rattle.dnssec_zone.specs.Inner.Tags.{has, HasRoom};
+ghost use Rattle.dnssec_key.specs.Inner.Bits.{is_set};
+ghost use Rattle.dnssec_key.specs.Inner.TagIndex.{has, HasRoom};
 
 use crate::bits::{TagSet, clear, is_set, set};
 use dnssec_base::Error;
@@ -15,19 +15,19 @@ const FEW: usize = 64;
 /// The tags in use: a list while they are few, so that a small zone takes little memory, and then a
 /// bit for each.
 #[derive(Drop)]
-pub(crate) enum TagIndex {
+pub enum TagIndex {
     Few(Vec<u16>),
     Many(Box<TagSet>),
 }
 
 impl TagIndex {
-    pub(crate) fn new(alloc: Global) -> TagIndex
+    pub fn new(alloc: Global) -> TagIndex
         ensures { (t : ℕ) → has result t ≡ false }
     {
         TagIndex::Few(Vec::new(alloc))
     }
 
-    pub(crate) fn try_clone(&self, alloc: Global) -> Result<TagIndex, Error>
+    pub fn try_clone(&self, alloc: Global) -> Result<TagIndex, Error>
         ensures same { IfOk result (λ index. (t : ℕ) → has index t ≡ has self.now t) }
         ensures err { IfErr result (λ e. e ≡ OutOfMemory) }
     {
@@ -43,7 +43,7 @@ impl TagIndex {
         }
     }
 
-    pub(crate) fn has(&self, key_tag: u16) -> bool
+    pub fn has(&self, key_tag: u16) -> bool
         ensures { result ≡ has self.now key_tag }
     {
         match self {
@@ -53,7 +53,7 @@ impl TagIndex {
     }
 
     /// Makes room for one more tag.
-    pub(crate) fn reserve(&mut self, alloc: Global) -> Result<(), Error>
+    pub fn reserve(&mut self, alloc: Global) -> Result<(), Error>
         ensures same { (t : ℕ) → has self.new t ≡ has self.old t }
         ensures room { OnOk result (HasRoom self.new) }
         ensures err { IfErr result (λ e. e ≡ OutOfMemory) }
@@ -77,7 +77,7 @@ impl TagIndex {
     }
 
     /// Puts a tag in, where there is room for it.
-    pub(crate) fn put(&mut self, key_tag: u16)
+    pub fn put(&mut self, key_tag: u16)
         requires { HasRoom self.old }
         ensures { (t : ℕ) → has self.new t
             ≡ (if nat_eq key_tag t then true else has self.old t) }
@@ -91,7 +91,7 @@ impl TagIndex {
         }
     }
 
-    pub(crate) fn remove(&mut self, key_tag: u16)
+    pub fn remove(&mut self, key_tag: u16)
         ensures { (t : ℕ) → has self.new t
             ≡ (if nat_eq key_tag t then false else has self.old t) }
     {

@@ -3,8 +3,8 @@ use Rattle.std.proofs.Common.{◌/◌, ◌%◌, false, ap, arith, get_or}
 use Rattle.std.specs.Prelude.{nat_eq}
 use Rattle.std.specs.Int.{w64}
 use Rattle.std.proofs.lemmas.Nat.Bits.{bit_at_clear_same, bit_at_clear_other}
-use Rattle.dnssec_zone.proofs.Words.{written}
-use Rattle.dnssec_zone.proofs.bits.clear.Goals as goal
+use Rattle.dnssec_key.proofs.BitWords.{written}
+use Rattle.dnssec_key.proofs.bits.clear.Goals as goal
 
 pub returns-clause-out : goal.returns-clause-out
 returns-clause-out c =

@@ -1,7 +1,7 @@
 use Rattle.std.proofs.Common.{◌≡◌, ℕ, nat_eq, length, take}
 use Rattle.std.specs.List.{list_any}
-use Rattle.dnssec_zone.specs.Inner.Bits.{is_set}
-use Rattle.dnssec_zone.proofs.tag_index.bits_of.Given as goal
+use Rattle.dnssec_key.specs.Inner.Bits.{is_set}
+use Rattle.dnssec_key.proofs.tag_index.bits_of.Given as goal
 
 -- the bits of the tags so far
 abbrev pub invariant-loop-tag : goal.invariant-loop-tag

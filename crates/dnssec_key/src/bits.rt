@@ -1,16 +1,16 @@
 //! Sets of numbers as bits in words of 64, which take no memory of the allocator.
 ghost use Rattle.std.specs.Prelude.{◌≡◌, ◌<◌, ◌/◌, ℕ, length, nat_eq, true, false};
 ghost use Rattle.std.specs.Prelude.{if◌then◌else◌};
-ghost use Rattle.dnssec_zone.specs.Inner.Bits.{is_set};
+ghost use Rattle.dnssec_key.specs.Inner.Bits.{is_set};
 
 /// A bit for each key tag.
-pub(crate) type TagSet = [u64; 1024];
+pub type TagSet = [u64; 1024];
 
 /// A bit for each algorithm.
 pub type AlgorithmSet = [u64; 4];
 
 /// Whether a number is in a set.
-pub(crate) fn is_set(words: &[u64], number: u16) -> bool
+pub fn is_set(words: &[u64], number: u16) -> bool
     ensures { result ≡ is_set words.now number }
 {
     match words.get(usize::from(number / 64)) {
@@ -20,7 +20,7 @@ pub(crate) fn is_set(words: &[u64], number: u16) -> bool
 }
 
 /// Puts a number into a set that has a bit for it.
-pub(crate) fn set(words: &mut [u64], number: u16)
+pub fn set(words: &mut [u64], number: u16)
     requires { number / 64 < length words.old }
     ensures len { length words.new ≡ length words.old }
     ensures put { (n : ℕ) → is_set words.new n
