@@ -136,7 +136,8 @@ fn make(course: &str, keys: usize, rounds: Rounds) -> Option<Answers> {
         "setters" => setters(keys, rounds),
         "waits" => waits(rounds),
         "early-waits" => early_waits(rounds),
-        "crowded-waits" => crowded_waits(keys, rounds),
+        "crowded-waits" => crowded_waits(keys, false, rounds),
+        "waits-behind-setters" => crowded_waits(keys, true, rounds),
         "start-of-zsks" => starts(Case::Zsks, keys, rounds),
         "start-of-csks" => starts(Case::Csks, keys, rounds),
         "start-of-two-algorithms" => starts(Case::TwoAlgorithms, keys, rounds),
@@ -247,7 +248,7 @@ fn early_waits(rounds: Rounds) -> Option<Answers> {
     Some(answers)
 }
 
-fn crowded_waits(keys: usize, rounds: Rounds) -> Option<Answers> {
+fn crowded_waits(keys: usize, has_setters: bool, rounds: Rounds) -> Option<Answers> {
     let mut answers = Answers::new();
     let references = references(CROWD);
     let names: Vec<&str> = references.iter().take(keys).map(String::as_str).collect();
@@ -256,6 +257,11 @@ fn crowded_waits(keys: usize, rounds: Rounds) -> Option<Answers> {
         sets.push(crowd(&names)?);
     }
     for _ in 0..rounds.number {
+        if has_setters {
+            for Waiting { set, .. } in &mut sets {
+                set.set_decoupled("K0", true).ok()?;
+            }
+        }
         if !rounds.are_idle {
             ask_early(&mut sets, &mut answers);
         }
