@@ -36,10 +36,10 @@ impl TagIndex {
                 Ok(tags) => Ok(TagIndex::Few(tags)),
                 Err(_) => Err(Error::OutOfMemory),
             },
-            TagIndex::Many(bits) => match Box::new(alloc, **bits) {
-                Ok(bits) => Ok(TagIndex::Many(bits)),
-                Err(_) => Err(Error::OutOfMemory),
-            },
+            TagIndex::Many(bits) => {
+                let bits = copy_bits(alloc, bits)?;
+                Ok(TagIndex::Many(bits))
+            }
         }
     }
 
@@ -66,9 +66,7 @@ impl TagIndex {
                         Err(_) => Err(Error::OutOfMemory),
                     };
                 }
-                let Ok(bits) = Box::new(alloc, bits_of(tags)) else {
-                    return Err(Error::OutOfMemory);
-                };
+                let bits = list_to_bits(alloc, tags)?;
                 *self = TagIndex::Many(bits);
                 Ok(())
             }
@@ -103,6 +101,30 @@ impl TagIndex {
 }
 
 /// A bit for each tag of a list.
+// Out of line, as the next: so other calls need no stack for the bits.
+#[inline(never)]
+fn copy_bits(alloc: Global, bits: &TagSet) -> Result<Box<TagSet>, Error>
+    ensures same { IfOk result (λ copy. copy.value ≡ bits.now) }
+    ensures err { IfErr result (λ e. e ≡ OutOfMemory) }
+{
+    match Box::new(alloc, *bits) {
+        Ok(copy) => Ok(copy),
+        Err(_) => Err(Error::OutOfMemory),
+    }
+}
+
+#[inline(never)]
+fn list_to_bits(alloc: Global, tags: &[u16]) -> Result<Box<TagSet>, Error>
+    ensures ok { IfOk result (λ bits. (t : ℕ) → is_set bits.value t
+        ≡ list_any (λ tag. nat_eq tag t) tags.now) }
+    ensures err { IfErr result (λ e. e ≡ OutOfMemory) }
+{
+    match Box::new(alloc, bits_of(tags)) {
+        Ok(bits) => Ok(bits),
+        Err(_) => Err(Error::OutOfMemory),
+    }
+}
+
 fn bits_of(tags: &[u16]) -> TagSet
     ensures { (t : ℕ) → is_set result t ≡ list_any (λ tag. nat_eq tag t) tags.now }
 {

@@ -77,6 +77,7 @@ impl BegunWait {
         ensures roll { IsTrue result → self.roll ≡ roll }
         ensures half { IsTrue result → self.half ≡ half }
         ensures ttl { IsTrue result → self.ttl ≡ ttl }
+        ensures same { self.roll ≡ roll → self.half ≡ half → self.ttl ≡ ttl → IsTrue result }
     {
         self.roll == roll && self.half == half && self.ttl == ttl
     }

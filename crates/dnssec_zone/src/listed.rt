@@ -165,6 +165,8 @@ impl Lists {
     }
 
     /// Undoes the start of a roll on the keys that it listed.
+    // Out of line, so that other calls need no stack for the two sets.
+    #[inline(never)]
     pub fn unmark(&self, roll: RollType, keys: &mut Keys)
         ensures { (q : List ℕ) → map.get keys.new q ≡ option_map (λ k. after_early_end roll
             (has_entry roll Old k.key_tag self.now.entries.items)
