@@ -2,9 +2,9 @@
 """Lets each request for memory fail in turn: of calls of a key set, of its copies, of names, of a
 script's record and of a judge. (Those of a script's answers fail in `tests/library.c`.)
 
-One program serves for it, built three times. It makes some requests before its work. So with the
-request at one fixed place failing, each number of such requests lets another one of the work fail.
-There is a case for each request of the work, and one for the request past its end.
+One program serves for it, built twice. It makes some requests before its work. So with the request
+at one fixed place failing, each number of such requests lets another one of the work fail. There is
+a case for each request of the work, and one for the request past its end.
 """
 
 import re
@@ -28,8 +28,9 @@ WORKS = {
     "v": "a record and its verdict",
 }
 
-# Three digits hold the number of requests before the work.
+# Three digits hold the number of requests before the work. So many are made to see that they add.
 MOST = 999
+BEFORE = 100
 
 ENDED = re.compile(r"case=(?P<name>\S+) run=ended status=(?P<status>\d+) ")
 # Only an interpreted run counts its requests.
@@ -95,34 +96,34 @@ def run(place, cases, is_counted=True):
     return found
 
 
+def requests_of_works():
+    """How many requests each work makes, with ample memory. Requests before it add to these."""
+    cases = {f"{before:03}{letter}": letter for letter in WORKS for before in (0, BEFORE)}
+    found = run(2 * MOST, {name: name for name in cases})
+    requests = {letter: found[f"000{letter}"].made for letter in WORKS}
+    for name, letter in cases.items():
+        outcome, made = found[name], int(name[:3]) + requests[letter]
+        if outcome != Outcome(["ample"], 0, made) or requests[letter] >= MOST:
+            raise Wrong(f"{WORKS[letter]}: it doesn't go well with ample memory: {outcome}")
+    return requests
+
+
 def in_turn():
     """Lets each request of each work fail."""
-    whole = run(MOST + 1, {letter: f"000{letter}" for letter in WORKS})
-    for letter, outcome in whole.items():
-        if outcome.written != ["ample"] or outcome.status != 0 or outcome.made >= MOST:
-            raise Wrong(f"{WORKS[letter]}: it doesn't go well with ample memory: {outcome}")
-    place = max(outcome.made for outcome in whole.values()) + 1
-    last, others = {}, {}
-    for letter, outcome in whole.items():
-        for request in range(1, outcome.made + 2):
-            # The last request and the one past the end show that the places are the right ones.
-            cases = last if request >= outcome.made else others
-            cases[f"{letter}.{request}"] = f"{place - request:03}{letter}"
-    found = run(place, last)
-    for name, outcome in found.items():
-        letter, request = name.split(".")
-        if (outcome.made >= place) != (int(request) <= whole[letter].made):
-            raise Wrong(f"{WORKS[letter]}: request {request} isn't the one that failed: {outcome}")
-    found |= run(place, others, is_counted=False)
+    requests = requests_of_works()
+    place = max(requests.values()) + 1
+    each = [(letter, it) for letter in WORKS for it in range(1, requests[letter] + 2)]
+    cases = {f"{letter}.{request}": f"{place - request:03}{letter}" for letter, request in each}
+    found = run(place, cases, is_counted=False)
     for letter, work in WORKS.items():
-        requests = whole[letter].made
         refused = 0
-        for request in range(1, requests + 2):
+        for request in range(1, requests[letter] + 2):
             where = f"{work}: request {request}"
-            refused += is_refused(where, request <= requests, found[f"{letter}.{request}"])
+            has_failed = request <= requests[letter]
+            refused += is_refused(where, has_failed, found[f"{letter}.{request}"])
         if refused == 0:
             raise Wrong(f"{work}: no call was refused for lack of memory")
-        yield f"{work}: {requests} requests for memory failed in turn, {refused} of a call"
+        yield f"{work}: {requests[letter]} requests for memory failed in turn, {refused} of a call"
 
 
 def is_refused(where, has_failed, outcome):

@@ -6,7 +6,8 @@
 -- | `equal_states_are_one` | `alike_states`               | Alike |
 -- | `equal_kinds_are_one`  | `alike_kinds`                | Alike |
 -- | `set`, `clear` of bits | `written`                    | BitWords |
--- | `TagIndex::remove`     | `filtered`, `others-have`    | Retained, OtherTags |
+-- | `take_out` of tags     | `others-stay`                | OtherTags |
+-- | `retain` in the crates above | `filtered`             | Retained |
 pub mod Words
 pub mod BitWords
 pub mod Retained

@@ -94,7 +94,7 @@ impl TagIndex {
             ≡ (if nat_eq key_tag t then false else has self.old t) }
     {
         match self {
-            TagIndex::Few(tags) => tags.retain(|tag| *tag != key_tag),
+            TagIndex::Few(tags) => take_out(tags, key_tag),
             TagIndex::Many(bits) => clear(&mut **bits, key_tag),
         }
     }
@@ -133,6 +133,22 @@ fn bits_of(tags: &[u16]) -> TagSet
         set(&mut bits, *tag);
     }
     bits
+}
+
+/// Takes a tag out of a list. The last one fills its place: the order says nothing.
+fn take_out(tags: &mut Vec<u16>, key_tag: u16)
+    ensures { (t : ℕ) → list_any (λ tag. nat_eq tag t) tags.new.items
+        ≡ (if nat_eq key_tag t then false
+        else list_any (λ tag. nat_eq tag t) tags.old.items) }
+{
+    let mut at = 0;
+    'places: while at < tags.len() {
+        if tags[at] == key_tag {
+            tags.swap_remove(at);
+        } else {
+            at += 1;
+        }
+    }
 }
 
 fn is_among(tags: &[u16], key_tag: u16) -> bool
