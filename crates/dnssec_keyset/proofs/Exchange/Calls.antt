@@ -73,7 +73,7 @@ MovesBy old call roll new =
 -- it is what the call changes
 moves-by : (old new : KeySetParts) (call : Call) (roll : RollType) → roll_of call ≡ Some roll
     → Changes old call new ≡ MovesBy old call roll new
-unfolding key_after phase_after listed_after MovesBy
+unfolding key_after phase_after listed_after
 moves-by old new (AddKey r key) roll on = cc
 moves-by old new (Set r setting) roll on = cc
 moves-by old new (DeleteKey r) roll on = cc

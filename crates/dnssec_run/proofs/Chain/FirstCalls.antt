@@ -35,7 +35,8 @@ use Rattle.dnssec_run.proofs.Chain.Phases.{reads-wait1}
 use Rattle.dnssec_run.proofs.Chain.RollFacts.{alone_first, early-same, first_or, quiet-early}
 use Rattle.dnssec_run.proofs.Chain.RollFacts.{some_side, still_ds, timed_first, tolerates-sym}
 use Rattle.dnssec_run.proofs.Chain.RollFacts.{waited1_ds}
-use Rattle.dnssec_run.proofs.Chain.BothSides.{Inv, Pairs, PassesAt, Unpassed, born, ds_less}
+use Rattle.dnssec_run.proofs.Chain.BothSides.{Inv, Life, Pairs, PassesAt, Unpassed, born}
+use Rattle.dnssec_run.proofs.Chain.BothSides.{ds_less}
 use Rattle.dnssec_run.proofs.Chain.BothSides.{pairs-on, phases-on, step_other, unpassed-next}
 use Rattle.dnssec_keyset.proofs.Laws.{same-is}
 
@@ -51,6 +52,20 @@ module _ (tale : Tale) (n : ℕ) (sd : SideOf) (r : RollType) (st to : Stage) wh
 
   pub stays-put : affects sd r ≡ false → At tale sd st (suc n) → Moved tale sd r st to n
   stays-put out h = (st, h, λ e. absurd (true≢false (sym e ∙ out)), λ e. refl)
+
+-- both sides after a call
+pub both : (tale : Tale) (n : ℕ) (r : RollType) {ks zs to : Stage} (a : Moved tale Keys r ks to n)
+    (b : Moved tale Zone r zs to n) → Pairs tale (suc n) → Phases tale (suc n)
+    → Life tale a.0 b.0 (suc n) → Inv tale (suc n)
+both tale n r a b pairs phases life = record {
+  ks = a.0;
+  zs = b.0;
+  keys = a.1;
+  zone = b.1;
+  pairs = pairs;
+  phases = phases;
+  life = life;
+}
 
 module _ (tale : Tale) (n : ℕ) (here : suc n ≤ length tale.es) where
   -- a start
@@ -141,28 +156,23 @@ module _ (tale : Tale) (n : ℕ) (here : suc n ≤ length tale.es) where
         (λ q k. still_ds r free (is_listed q old) (is_listed q new) k.keytype) d in
         let a = start_side (ties h) Keys h.ks h.keys (λ _. d') (inl d') in
         let b = start_side (ties h) Zone h.zs h.zone (λ _. d') (inl d') in
-        record {
-          ks = a.0.0;
-          zs = b.0.0;
-          keys = a.0.1;
-          zone = b.0.1;
-          pairs = start_pairs h.pairs;
-          phases = start_phases h;
-          life = inr (
-            d',
-            (
-              none,
-              elim (first_or r free) [
-                | inl first ↦ inr (
-                  a.0.2 (ap (affects Keys) first)
-                      ∙ ap Early first,
-                  b.0.2 (ap (affects Zone) first) ∙ ap Early first,
-                )
-                | inr out ↦ inl (a.0.3 out ∙ quiet)
-              ],
-            ),
-          );
-        }
+        both tale n r a.0 b.0
+        (start_pairs h.pairs)
+        (start_phases h)
+        (inr (
+          d',
+          (
+            none,
+            elim (first_or r free) [
+              | inl first ↦ inr (
+                a.0.2 (ap (affects Keys) first)
+                    ∙ ap Early first,
+                b.0.2 (ap (affects Zone) first) ∙ ap Early first,
+              )
+              | inr out ↦ inl (a.0.3 out ∙ quiet)
+            ],
+          ),
+        ))
 
     pub start : DoesAt start_of tale.calls tale.es n r → (PassesAt tale n → ⊥) → Inv tale n
         → Inv tale (suc n)
@@ -172,15 +182,10 @@ module _ (tale : Tale) (n : ℕ) (here : suc n ≤ length tale.es) where
           (born tale n (omega arith) a.0 d) in
           let x = start_side (ties h) Keys h.ks h.keys dead (inr a.0) in
           let y = start_side (ties h) Zone h.zs h.zone dead (inr a.1) in
-          record {
-            ks = x.0.0;
-            zs = y.0.0;
-            keys = x.0.1;
-            zone = y.0.1;
-            pairs = start_pairs h.pairs;
-            phases = start_phases h;
-            life = inl (x.1 a.0, y.1 a.1);
-          }
+          both tale n r x.0 y.0
+          (start_pairs h.pairs)
+          (start_phases h)
+          (inl (x.1 a.0, y.1 a.1))
       | inr d ↦ elim (d.1.1) [
         | inl u ↦ by_first (needs_algorithm_roll r) refl u d.1.0 d.0
         | inr u ↦ absurd (true≢false (sym
@@ -275,16 +280,10 @@ module _ (tale : Tale) (n : ℕ) (here : suc n ≤ length tale.es) where
         let y = wait1_side Zone h.zs h.phases h.zone
         (λ out. absurd (true≢false (sym (ap (affects Zone) first) ∙ out)))
         (λ own w. absurd (true≢false (sym w ∙ ap (switches Zone) first))) in
-        record {
-          ks = x.0.0;
-          zs = y.0.0;
-          keys = x.0.1;
-          zone = y.0.1;
-          pairs = wait1_pairs h.pairs;
-          phases = wait1_phases h;
-          life =
-              inl (x.1 (ap (affects Keys) first), y.1 (ap (affects Zone) first));
-        }
+        both tale n r x.0 y.0
+        (wait1_pairs h.pairs)
+        (wait1_phases h)
+        (inl (x.1 (ap (affects Keys) first), y.1 (ap (affects Zone) first)))
 
     -- a zone roll before any DS
     wait1_unborn : affects Keys r ≡ false → NoDs tale.es n → (h : Inv tale n) → h.ks ≡ Quiet
@@ -295,15 +294,10 @@ module _ (tale : Tale) (n : ℕ) (here : suc n ≤ length tale.es) where
         (λ q k. waited1_ds r out k.keytype) d in
         let x = wait1_side Keys h.ks h.phases h.keys (λ _ _. d') (λ own w. inr (inr d')) in
         let y = wait1_side Zone h.zs h.phases h.zone (λ _ _. d') (λ own w. inr (inr d')) in
-        record {
-          ks = x.0.0;
-          zs = y.0.0;
-          keys = x.0.1;
-          zone = y.0.1;
-          pairs = wait1_pairs h.pairs;
-          phases = wait1_phases h;
-          life = inr (d', (none, inl (x.0.3 out ∙ quiet)));
-        }
+        both tale n r x.0 y.0
+        (wait1_pairs h.pairs)
+        (wait1_phases h)
+        (inr (d', (none, inl (x.0.3 out ∙ quiet))))
 
     pub wait1 : (PassesAt tale n → r ≡ AlgorithmRoll) → Inv tale n → Inv tale (suc n)
     wait1 only h = elim (h.life) [
@@ -312,16 +306,10 @@ module _ (tale : Tale) (n : ℕ) (here : suc n ≤ length tale.es) where
           (born tale n (omega arith) a.0 d) in
           let x = wait1_side Keys h.ks h.phases h.keys (λ _. dead) (λ own w. inl a.0) in
           let y = wait1_side Zone h.zs h.phases h.zone (λ _. dead) (λ own w. inl a.1) in
-          record {
-            ks = x.0.0;
-            zs = y.0.0;
-            keys = x.0.1;
-            zone = y.0.1;
-            pairs = wait1_pairs h.pairs;
-            phases = wait1_phases h;
-            life =
-                inl (alive_next Keys x.1 x.2 a.0, alive_next Zone y.1 y.2 a.1);
-          }
+          both tale n r x.0 y.0
+          (wait1_pairs h.pairs)
+          (wait1_phases h)
+          (inl (alive_next Keys x.1 x.2 a.0, alive_next Zone y.1 y.2 a.1))
       | inr d ↦ elim (d.1.1) [
         | inl u ↦ unborn (affects Keys r) refl d.0 d.1.0 u
         | inr u ↦
@@ -344,4 +332,3 @@ module _ (tale : Tale) (n : ℕ) (here : suc n ≤ length tale.es) where
         first false out d u = let e = early-same AlgorithmRoll r
             (sym u.1 ∙ early_stage Zone h.zs (some_side r out) h.zone) in
             absurd (true≢false (ap (affects Keys) e ∙ out))
-        -- the second wait

@@ -27,9 +27,10 @@ use Rattle.dnssec_run.proofs.Chain.RollFacts.{early-late, early-same, quiet-late
 use Rattle.dnssec_run.proofs.Chain.RollFacts.{switch_timed, waited2_ds}
 use Rattle.dnssec_run.proofs.Chain.BothSides.{Inv, Pairs, PassesAt, Unpassed, born, ds_less}
 use Rattle.dnssec_run.proofs.Chain.BothSides.{pairs-on, phases-on, unpassed-next, was-rolling}
-use Rattle.dnssec_run.proofs.Chain.FirstCalls.{Moved, goes-on, stays-put}
+use Rattle.dnssec_run.proofs.Chain.FirstCalls.{Moved, both, goes-on, stays-put}
 
 module _ (tale : Tale) (n : ℕ) (here : suc n ≤ length tale.es) where
+  -- the second wait
   module _ (r : RollType) (ttl now : ℕ) (m : Mapped tale n (λ q. wait2_key r now) r (Some Done))
       (phase : (world_at tale n).roll r ≡ Some (CacheExpire2 ttl))
       (over : IsOver r true (world_at tale n) ttl now)
@@ -79,15 +80,10 @@ module _ (tale : Tale) (n : ℕ) (here : suc n ≤ length tale.es) where
         (λ q k. waited2_ds r out k.keytype) d in
         let x = wait2_side Keys h.ks h.phases h.keys (λ _. d') in
         let y = wait2_side Zone h.zs h.phases h.zone (λ _. d') in
-        record {
-          ks = x.0.0;
-          zs = y.0.0;
-          keys = x.0.1;
-          zone = y.0.1;
-          pairs = wait2_pairs h.pairs;
-          phases = wait2_phases h;
-          life = inr (d', (none, inl (x.0.3 out ∙ quiet)));
-        }
+        both tale n r x.0 y.0
+        (wait2_pairs h.pairs)
+        (wait2_phases h)
+        (inr (d', (none, inl (x.0.3 out ∙ quiet))))
 
     pub wait2 : (PassesAt tale n → ⊥) → Inv tale n → Inv tale (suc n)
     wait2 none h = elim (h.life) [
@@ -96,15 +92,10 @@ module _ (tale : Tale) (n : ℕ) (here : suc n ≤ length tale.es) where
           (born tale n (omega arith) a.0 d) in
           let x = wait2_side Keys h.ks h.phases h.keys dead in
           let y = wait2_side Zone h.zs h.phases h.zone dead in
-          record {
-            ks = x.0.0;
-            zs = y.0.0;
-            keys = x.0.1;
-            zone = y.0.1;
-            pairs = wait2_pairs h.pairs;
-            phases = wait2_phases h;
-            life = inl (x.1 a.0, y.1 a.1);
-          }
+          both tale n r x.0 y.0
+          (wait2_pairs h.pairs)
+          (wait2_phases h)
+          (inl (x.1 a.0, y.1 a.1))
       | inr d ↦ elim (d.1.1) [
         | inl u ↦ unborn (affects Keys r) refl d.0 d.1.0 u
         | inr u ↦
@@ -172,29 +163,24 @@ module _ (tale : Tale) (n : ℕ) (here : suc n ≤ length tale.es) where
     end_early none h =
         let x = end_side Keys h.ks h.keys end_dead in
         let y = end_side Zone h.zs h.zone end_dead in
-        record {
-          ks = x.0.0;
-          zs = y.0.0;
-          keys = x.0.1;
-          zone = y.0.1;
-          pairs = λ a b s t at bt d. h.pairs a b s t (was-rolling tale n here r m.rolls a s at).1
-              (was-rolling tale n here r m.rolls b t bt).1 d;
-          phases = λ q s e. let was = was-rolling tale n here r m.rolls q s e in
-              phase-aside tale n q s (aside-early-end tale n r q m
-              (h.pairs r q Propagation1 s phase was.1 was.0) (ap (is_step q) mark))
-              (h.phases q s was.1);
-          life = elim (h.life) [
-            | inl a ↦ let born = born tale n (omega arith) a.0 in inl (x.1 born a.0, y.1 born a.1)
-            | inr d ↦ inr (
-              end_dead d.0,
-              (
-                unpassed-next tale n here none d.1.0,
-                inl
-                    (rests (affects Keys r) refl x.0.2 x.0.3 d.1.1),
-              ),
-            )
-          ];
-        }
+        both tale n r x.0 y.0
+        (λ a b s t at bt d. h.pairs a b s t (was-rolling tale n here r m.rolls a s at).1
+        (was-rolling tale n here r m.rolls b t bt).1 d)
+        (λ q s e. let was = was-rolling tale n here r m.rolls q s e in
+        phase-aside tale n q s (aside-early-end tale n r q m
+        (h.pairs r q Propagation1 s phase was.1 was.0) (ap (is_step q) mark))
+        (h.phases q s was.1))
+        (elim (h.life) [
+          | inl a ↦ let born = born tale n (omega arith) a.0 in inl (x.1 born a.0, y.1 born a.1)
+          | inr d ↦ inr (
+            end_dead d.0,
+            (
+              unpassed-next tale n here none d.1.0,
+              inl
+                  (rests (affects Keys r) refl x.0.2 x.0.3 d.1.1),
+            ),
+          )
+        ])
       where
         rests : {st : Stage} (b : Bool) → affects Keys r ≡ b → (affects Keys r ≡ true → st ≡ Quiet)
             → (affects Keys r ≡ false → st ≡ h.ks)
