@@ -100,7 +100,6 @@ impl TagIndex {
     }
 }
 
-/// A bit for each tag of a list.
 // Out of line, as the next: so other calls need no stack for the bits.
 #[inline(never)]
 fn copy_bits(alloc: Global, bits: &TagSet) -> Result<Box<TagSet>, Error>
@@ -113,6 +112,7 @@ fn copy_bits(alloc: Global, bits: &TagSet) -> Result<Box<TagSet>, Error>
     }
 }
 
+/// A bit for each tag of a list.
 #[inline(never)]
 fn list_to_bits(alloc: Global, tags: &[u16]) -> Result<Box<TagSet>, Error>
     ensures ok { IfOk result (λ bits. (t : ℕ) → is_set bits.value t

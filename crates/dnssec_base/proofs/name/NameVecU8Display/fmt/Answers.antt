@@ -25,3 +25,6 @@ labels-preserved g c =
       written = λ plain. let before = c.labels.invariant.written plain in
           (_, has_written_append _ _ _ _ _ _ before.1 (search rules), split.1 before.0 ∙ before.2);
     }
+
+pub returns-in_default-clause-writes : goal.returns-in_default-clause-writes
+returns-in_default-clause-writes g c = search rules

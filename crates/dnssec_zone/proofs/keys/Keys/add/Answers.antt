@@ -29,3 +29,9 @@ invariant_of-self-2 c =
           c.is_sound.ensures.fits) c.self.invariant.1),
       tt,
     )
+
+pub put-requires : goal.put-requires
+put-requires c = search rules
+
+pub returns-then-contains_key-clause-reply : goal.returns-then-contains_key-clause-reply
+returns-then-contains_key-clause-reply c = search (rules, shown)

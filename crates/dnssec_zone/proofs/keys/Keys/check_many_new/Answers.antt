@@ -51,3 +51,6 @@ loop-reference-preserved c =
       listed-behind c.args.self.now (texts c.args.old.now) c.args.new.now _ l.reference-index _
           c.loop-reference-test.true (c.add_tag-in-loop-reference.ensures.listed _ l.invariant.2),
     )
+
+pub returns-clause-kinds : goal.returns-clause-kinds
+returns-clause-kinds c = search

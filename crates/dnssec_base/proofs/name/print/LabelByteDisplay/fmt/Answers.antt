@@ -1,4 +1,5 @@
 -- A byte that is not visible prints its number: for what a name displays.
+use Rattle.std.proofs.lemmas.Grind.{common_steps}
 use Rattle.std.proofs.Common.{◌⊎◌, ◌<◌, ◌≤◌, arith, inl, inr, ap, ◌∙◌, ◌∷◌}
 use Rattle.std.proofs.Output.{has_written_of_eq}
 use Rattle.std.specs.Fmt.{styled_decimal}
@@ -16,3 +17,6 @@ returns-in_default-clause-writes g c plain ok =
     (ap (λ spec. 92 ∷ styled_decimal spec c.args.self.now.0) c.laid_out.ensures
     ∙ styled c.args.self.now.0 (omega arith) out)
     (c.write-in_default.ensures.writes plain ok)
+
+pub returns-in-33-to-126-clause-writes : goal.returns-in-33-to-126-clause-writes
+returns-in-33-to-126-clause-writes g c = grind (arith, common_steps)

@@ -1,0 +1,5 @@
+use Rattle.std.proofs.Common.{rules}
+use Rattle.dnssec_zone.proofs.keys.Keys.over_from.Goals as goal
+
+pub returns-in-Some-clause-missing : goal.returns-in-Some-clause-missing
+returns-in-Some-clause-missing c = search rules
