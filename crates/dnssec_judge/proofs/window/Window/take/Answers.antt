@@ -1,5 +1,5 @@
 -- A report, then the time, then the set, and then what is below the floor goes.
-use Rattle.std.proofs.Common.{◌≡◌, ℕ, suc, ◌≤◌, ◌∙◌, inl, refl, sym, arith, List, Option}
+use Rattle.std.proofs.Common.{rules, ◌≡◌, ℕ, suc, ◌≤◌, ◌∙◌, inl, refl, sym, arith, List, Option}
 use Rattle.std.proofs.Common.{None, Some, subst, Bor}
 use Rattle.std.specs.Option.{option_map}
 use Rattle.dnssec_run.specs.declared.record.Published.{Published}
@@ -46,3 +46,6 @@ returns-clause-spans c before after n at tiles begins kept is =
     (tiles-shown before after n (after (suc n)) w.spans.items new tiles kept refl shown)
     (begins-shown (after (suc n)) (suc n) w.floor c.go_on.new.self.floor w.spans.items new begins
     up shown)
+
+pub returns-clause-dues : goal.returns-clause-dues
+returns-clause-dues c = search rules
