@@ -1,5 +1,5 @@
 -- What a run of the script promises of the bytes that the vector took, told of the front of `out`.
-use Rattle.std.proofs.Common.{Err, Some, ap, subst, ◌∙◌}
+use Rattle.std.proofs.Common.{rules, Err, Some, ap, subst, ◌∙◌}
 use Rattle.dnssec_record.specs.Answer.{EndsSafe, IsSafeAnswer}
 use Rattle.dnssec_record.specs.Script.{IsFirstMalformed}
 use Rattle.keyset_c.proofs.Handed.{took}
@@ -30,3 +30,6 @@ returns-in-Err-Malformed-clause-malformed c = λ _.
     let line = c.in-Err-Malformed.line in
     let told = c.in-Err-Malformed.ensures.malformed line (ap Err c.in-Err-Malformed.field-0-is) in
     subst (λ s. IsFirstMalformed s.now line) c.new-input.ensures.inner told
+
+pub returns : goal.returns
+returns c = search rules
