@@ -63,25 +63,34 @@ const BEGINNINGS: &[(&str, &str)] = &[
     ("", "e"),
 ];
 
-/// Labels of these many letters with dots between them, and a text behind them; how many bytes of
-/// all this still are a name, and the letters of the longer beginnings; and how many wire bytes the
-/// name of the whole text has, or 0 where it has a fault.
-const LONGEST: &[(&[usize], &str, usize, &str, usize)] = &[
-    (&[63], "", 63, "", 65),
-    (&[62], "\\255", 62, "ssso", 65),
-    (&[63], "\\255", 63, "sssl", 0),
-    (&[63], "\\300", 63, "ssss", 0),
-    (&[63], " ", 63, "b", 0),
-    (&[64], "", 63, "l", 0),
-    (&[64], "..", 63, "lll", 0),
-    (&[63, 63, 63, 61], "", 253, "", 255),
-    (&[63, 63, 61, 63], "", 253, "", 255),
-    (&[63, 63, 63, 61], ".", 254, "", 255),
-    (&[63, 63, 63, 61], ".a", 254, "n", 0),
-    (&[63, 63, 63, 61], "..", 254, "e", 0),
-    (&[63, 63, 63, 61], "\\", 253, "s", 0),
-    (&[63, 63, 63, 62], "", 253, "n", 0),
-    (&[63, 63, 61, 64], "", 253, "l", 0),
+/// Labels of 61 to 64 letters. The longest that a name may have are of 63.
+const L61: &str = "aaaaaaaaaaaaaaaaaaaaaaaaaaaaaaaaaaaaaaaaaaaaaaaaaaaaaaaaaaaaa";
+
+const L62: &str = "aaaaaaaaaaaaaaaaaaaaaaaaaaaaaaaaaaaaaaaaaaaaaaaaaaaaaaaaaaaaaa";
+
+const L63: &str = "aaaaaaaaaaaaaaaaaaaaaaaaaaaaaaaaaaaaaaaaaaaaaaaaaaaaaaaaaaaaaaa";
+
+const L64: &str = "aaaaaaaaaaaaaaaaaaaaaaaaaaaaaaaaaaaaaaaaaaaaaaaaaaaaaaaaaaaaaaaa";
+
+/// Labels that stand with dots between them, and a text behind them; how many bytes of all this
+/// still are a name, and the letters of the longer beginnings; and how many wire bytes the name of
+/// the whole text has, or 0 where it has a fault.
+const LONGEST: &[(&[&str], &str, usize, &str, usize)] = &[
+    (&[L63], "", 63, "", 65),
+    (&[L62], "\\255", 62, "ssso", 65),
+    (&[L63], "\\255", 63, "sssl", 0),
+    (&[L63], "\\300", 63, "ssss", 0),
+    (&[L63], " ", 63, "b", 0),
+    (&[L64], "", 63, "l", 0),
+    (&[L64], "..", 63, "lll", 0),
+    (&[L63, L63, L63, L61], "", 253, "", 255),
+    (&[L63, L63, L61, L63], "", 253, "", 255),
+    (&[L63, L63, L63, L61], ".", 254, "", 255),
+    (&[L63, L63, L63, L61], ".a", 254, "n", 0),
+    (&[L63, L63, L63, L61], "..", 254, "e", 0),
+    (&[L63, L63, L63, L61], "\\", 253, "s", 0),
+    (&[L63, L63, L63, L62], "", 253, "n", 0),
+    (&[L63, L63, L61, L64], "", 253, "l", 0),
 ];
 
 /// Bytes, and whether they are the wire bytes of a name.
@@ -95,22 +104,17 @@ const WIRE: &[(&[u8], bool)] = &[
     (b"\xC0\x0C", false),
 ];
 
-/// Whether a text spells a name with these wire bytes, whose clone has them too and which prints
-/// this.
-fn spells(alloc: Global, text: &str, wire: &[u8], print: &str) -> Result<bool, NameError> {
+/// The name that a text spells, and what it prints.
+fn read(alloc: Global, text: &str) -> Result<(Name<Vec<u8>>, String), NameError> {
     let name = Name::from_str(alloc, text)?;
-    let clone = name.try_clone()?;
     let printed = name.to_string(alloc)?;
-    Ok(name.as_slice() == wire && clone.as_slice() == wire && printed.as_str() == print)
+    Ok((name, printed))
 }
 
-/// Whether what a name prints spells it.
-fn is_read_back(alloc: Global, name: &Name<Vec<u8>>) -> bool {
-    let Ok(printed) = name.to_string(alloc) else {
-        return false;
-    };
-    match Name::from_str(alloc, printed.as_str()) {
-        Ok(again) => again.as_slice() == name.as_slice(),
+/// Whether a text spells a name with these wire bytes, which prints this.
+fn spells(alloc: Global, text: &str, wire: &[u8], print: &str) -> bool {
+    match read(alloc, text) {
+        Ok((name, printed)) => name.as_slice() == wire && printed.as_str() == print,
         Err(_) => false,
     }
 }
@@ -118,8 +122,11 @@ fn is_read_back(alloc: Global, name: &Name<Vec<u8>>) -> bool {
 /// A letter for what a text is answered: `o` for a name, which has to be read back from what it
 /// prints, and one for each fault.
 fn letter(alloc: Global, text: &str) -> char {
-    match Name::from_str(alloc, text) {
-        Ok(name) => if is_read_back(alloc, &name) { 'o' } else { '?' },
+    match read(alloc, text) {
+        Ok((name, printed)) => {
+            let is_read_back = spells(alloc, &printed, name.as_slice(), &printed);
+            if is_read_back { 'o' } else { '?' }
+        }
         Err(NameError::EmptyLabel) => 'e',
         Err(NameError::LongLabel) => 'l',
         Err(NameError::LongName) => 'n',
@@ -138,33 +145,31 @@ fn letters(alloc: Global, text: &str) -> Result<String, AllocError> {
     Ok(letters)
 }
 
-/// Labels of these many letters with dots between them, and then the end.
-fn long_text(alloc: Global, lengths: &[usize], end: &str) -> Result<String, AllocError> {
-    let mut text = String::new(alloc);
-    for length in lengths {
-        if !text.is_empty() {
-            text.push('.')?;
-        }
-        text.push_str("a".repeat(alloc, *length)?.as_str())?;
-    }
-    text.push_str(end)?;
-    Ok(text)
+/// Labels with dots between them, and then the end.
+fn long_text(alloc: Global, labels: &[&str], end: &str) -> Result<String, AllocError> {
+    let front = labels.join(alloc, ".")?;
+    [front.as_str(), end].concat(alloc)
 }
 
-/// Whether so many bytes of a text are a name, its longer beginnings are answered these letters,
-/// and its name has so many wire bytes, or 0 where it has a fault.
-fn is_limited(
-    alloc: Global,
-    text: &str,
-    named: usize,
-    rest: &str,
-    wire: usize,
-) -> Result<bool, AllocError> {
+/// How many wire bytes the name has that a text spells, or 0 where it has a fault.
+fn wire_length(alloc: Global, text: &str) -> usize {
+    match Name::from_str(alloc, text) {
+        Ok(name) => name.as_slice().len(),
+        Err(_) => 0,
+    }
+}
+
+/// Whether so many bytes of a text are a name, and its longer beginnings answered these letters.
+fn is_name_up_to(alloc: Global, text: &str, named: usize, rest: &str) -> Result<bool, AllocError> {
     let names = "o".repeat(alloc, named)?;
     let wanted = ["e", names.as_str(), rest].concat(alloc)?;
-    let given = letters(alloc, text)?;
-    let length = Name::from_str(alloc, text).map_or(0, |name| name.as_slice().len());
-    Ok(given == wanted && length == wire)
+    Ok(letters(alloc, text)? == wanted)
+}
+
+/// Whether the clone of a name has its bytes.
+fn is_cloned(alloc: Global, text: &str) -> Result<bool, NameError> {
+    let name = Name::from_str(alloc, text)?;
+    Ok(name.try_clone()?.as_slice() == name.as_slice())
 }
 
 /// Whether bytes are taken as a name. They are found in it, or come back.
@@ -178,8 +183,7 @@ fn is_taken(alloc: Global, bytes: &[u8]) -> Result<bool, AllocError> {
 #[test]
 fn reads_and_prints(rt: HostRuntime) {
     for (text, wire, print) in SPELLED {
-        let is_so = spells(rt.alloc(), text, wire, print);
-        assert_eq!(rt; is_so, Ok(true), "{text}");
+        assert!(rt; spells(rt.alloc(), text, wire, print), "{text}");
     }
 }
 
@@ -194,10 +198,11 @@ fn answers_each_beginning(rt: HostRuntime) -> Result<(), Fail> {
 
 #[test]
 fn keeps_the_limits(rt: HostRuntime) -> Result<(), Fail> {
-    for (lengths, end, named, rest, wire) in LONGEST {
-        let text = long_text(rt.alloc(), lengths, end)?;
-        let is_so = is_limited(rt.alloc(), text.as_str(), *named, rest, *wire);
-        assert_eq!(rt; is_so, Ok(true), "{text}");
+    for (labels, end, named, rest, wire) in LONGEST {
+        let text = long_text(rt.alloc(), labels, end)?;
+        let is_so = is_name_up_to(rt.alloc(), &text, *named, rest) == Ok(true)
+            && wire_length(rt.alloc(), &text) == *wire;
+        assert!(rt; is_so, "{text}");
     }
     Ok(())
 }
@@ -207,4 +212,9 @@ fn takes_wire_names_alone(rt: HostRuntime) {
     for (bytes, is_name) in WIRE {
         assert_eq!(rt; is_taken(rt.alloc(), bytes), Ok(*is_name), "{bytes:?}");
     }
+}
+
+#[test]
+fn clones(rt: HostRuntime) {
+    assert_eq!(rt; is_cloned(rt.alloc(), "example.com"), Ok(true));
 }
