@@ -106,7 +106,7 @@ impl Sink for Output {
 /// How the devices of a script serve it: how many bytes a read and a write move at most, and how
 /// many of these calls are served before they fail.
 #[derive(Clone, Copy)]
-struct Devices {
+pub struct Devices {
     most_read: usize,
     reads: usize,
     most_written: usize,
@@ -114,12 +114,15 @@ struct Devices {
 }
 
 /// Devices that serve a script to its end.
-const WHOLE: Devices = Devices {
+pub const WHOLE: Devices = Devices {
     most_read: ANY,
     reads: ANY,
     most_written: ANY,
     writes: ANY,
 };
+
+/// How a run ends where a device fails.
+const FAULT: Result<(), ScriptFault> = Err(ScriptFault::Device);
 
 /// Runs a script over devices: how it ended, and what was written.
 fn follow(alloc: Global, script: &[u8], devices: Devices) -> (Result<(), ScriptFault>, Vec<u8>) {
@@ -153,12 +156,7 @@ const ROWS: &[(&str, Devices, Result<(), ScriptFault>, &str)] = &[
         Ok(()),
         FIRST_ANSWERS,
     ),
-    (
-        FIRST_KEYS,
-        Devices { reads: 0, ..WHOLE },
-        Err(ScriptFault::Device),
-        "",
-    ),
+    (FIRST_KEYS, Devices { reads: 0, ..WHOLE }, FAULT, ""),
     (
         "zone a\ndelete K1\n",
         Devices {
@@ -166,7 +164,7 @@ const ROWS: &[(&str, Devices, Result<(), ScriptFault>, &str)] = &[
             reads: 1,
             ..WHOLE
         },
-        Err(ScriptFault::Device),
+        FAULT,
         "",
     ),
     (
@@ -176,7 +174,7 @@ const ROWS: &[(&str, Devices, Result<(), ScriptFault>, &str)] = &[
             writes: 5,
             ..WHOLE
         },
-        Err(ScriptFault::Device),
+        FAULT,
         "ok\nok",
     ),
     (
@@ -191,76 +189,82 @@ const ROWS: &[(&str, Devices, Result<(), ScriptFault>, &str)] = &[
         Err(ScriptFault::Malformed(3)),
         "",
     ),
-    (
-        "zone a\n",
-        Devices { writes: 0, ..WHOLE },
-        Err(ScriptFault::Device),
-        "",
-    ),
+    ("zone a\n", Devices { writes: 0, ..WHOLE }, FAULT, ""),
 ];
 
 /// Whether a run of a script over devices ends so, with this written.
-fn is_run(
+pub fn is_run(
     alloc: Global,
-    script: &str,
+    script: &[u8],
     devices: Devices,
     ended: &Result<(), ScriptFault>,
     written: &str,
 ) -> bool {
-    let (answer, output) = follow(alloc, script.as_bytes(), devices);
+    let (answer, output) = follow(alloc, script, devices);
     answer == *ended && output.as_slice() == written.as_bytes()
 }
 
 /// Whether a script that is read a byte at a time is run where so many reads are served: one for
 /// each byte and one for the end. Else nothing is written.
-fn is_run_whole_or_not(alloc: Global, script: &str, reads: usize) -> bool {
+fn is_run_whole_or_not(alloc: Global, reads: usize) -> bool {
     let devices = Devices {
         most_read: 1,
         reads,
         ..WHOLE
     };
-    let (ended, written) = follow(alloc, script.as_bytes(), devices);
-    if reads > script.len() {
-        ended == Ok(()) && !written.is_empty()
+    if reads > FIRST_KEYS.len() {
+        is_run(
+            alloc,
+            FIRST_KEYS.as_bytes(),
+            devices,
+            &Ok(()),
+            FIRST_ANSWERS,
+        )
     } else {
-        ended == Err(ScriptFault::Device) && written.is_empty()
+        is_run(alloc, FIRST_KEYS.as_bytes(), devices, &FAULT, "")
     }
 }
 
 /// Whether of answers that are written a byte at a time those bytes stand whose writes are served.
-fn is_written_up_to(alloc: Global, script: &str, answers: &str, writes: usize) -> bool {
+fn is_written_up_to(alloc: Global, writes: usize) -> bool {
     let devices = Devices {
         most_written: 1,
         writes,
         ..WHOLE
     };
-    let (ended, written) = follow(alloc, script.as_bytes(), devices);
-    ended.is_ok() == (writes == answers.len())
-        && Some(written.as_slice()) == answers.as_bytes().get(..writes)
+    let Some(written) = FIRST_ANSWERS.get(..writes) else {
+        return false;
+    };
+    let ended = if writes == FIRST_ANSWERS.len() {
+        &Ok(())
+    } else {
+        &FAULT
+    };
+    is_run(alloc, FIRST_KEYS.as_bytes(), devices, ended, written)
 }
 
 #[test]
 fn devices_serve_or_fail(rt: HostRuntime) {
     for (index, (script, devices, ended, written)) in ROWS.iter().enumerate() {
-        let is_so = is_run(rt.alloc(), script, *devices, ended, written);
+        let is_so = is_run(rt.alloc(), script.as_bytes(), *devices, ended, written);
         assert!(rt; is_so, "in row {index}");
     }
 }
 
 #[test]
 fn the_last_line_may_end_with_the_script(rt: HostRuntime) {
-    let script = FIRST_KEYS.trim_end();
+    let script = FIRST_KEYS.trim_end().as_bytes();
     assert!(rt; is_run(rt.alloc(), script, WHOLE, &Ok(()), FIRST_ANSWERS));
 }
 
 #[test]
 fn each_call_of_a_device_fails_in_turn(rt: HostRuntime) {
     for reads in 0..=FIRST_KEYS.len() + 1 {
-        let is_so = is_run_whole_or_not(rt.alloc(), FIRST_KEYS, reads);
+        let is_so = is_run_whole_or_not(rt.alloc(), reads);
         assert!(rt; is_so, "with {reads} reads");
     }
     for writes in 0..=FIRST_ANSWERS.len() {
-        let is_so = is_written_up_to(rt.alloc(), FIRST_KEYS, FIRST_ANSWERS, writes);
+        let is_so = is_written_up_to(rt.alloc(), writes);
         assert!(rt; is_so, "with {writes} writes");
     }
 }
@@ -272,7 +276,13 @@ fn a_long_script_is_read_whole(rt: HostRuntime) -> Result<(), Fail> {
     let script = ["zone a\ndelete ", reference.as_str()].concat(rt.alloc())?;
     for most_read in [ANY, 4095] {
         let devices = Devices { most_read, ..WHOLE };
-        let is_so = is_run(rt.alloc(), script.as_str(), devices, &Ok(()), KEY_NOT_FOUND);
+        let is_so = is_run(
+            rt.alloc(),
+            script.as_str().as_bytes(),
+            devices,
+            &Ok(()),
+            KEY_NOT_FOUND,
+        );
         assert!(rt; is_so, "with {most_read} bytes at most");
     }
     Ok(())
