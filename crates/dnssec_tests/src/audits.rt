@@ -1,11 +1,11 @@
 //! Verdicts on records: of scripts, and of entries made by hand.
+use crate::values::{MAX, Parts, duration};
 use Further::{NoDnskey, StrangersDs};
 use dnssec_keyset::{RollType, UnixTime};
 use dnssec_record::{
     Entry, Mark, Published, PublishedKey, Reply, ScriptFault, audit, audit_window, record_script,
 };
 use std::alloc::{AllocError, Global};
-use std::time::Duration;
 
 /// A zone with its first keys: eight calls.
 const FIRST: &str = "zone example.com
@@ -65,13 +65,16 @@ enum Further {
     NoDnskey,
 }
 
-/// Scripts in parts.
+/// Scripts in parts, each with a refused call at its end. A KSK roll has had its first report.
 const REPORTED: &[&str] = &[FIRST, KSK_ROLL, REFUSED];
 
+/// The same, and the TTL of the report is over.
 const REPORTED_LONG_AGO: &[&str] = &[FIRST, KSK_ROLL, REFUSED_LATE];
 
+/// Its first wait has come too.
 const WAITED: &[&str] = &[FIRST, KSK_ROLL, KSK_WAIT, REFUSED];
 
+/// A KSK roll and a ZSK roll have had their second waits.
 const BOTH_WAITED: &[&str] = &[FIRST, SIDE_BY_SIDE, REFUSED];
 
 /// Scripts, what is published otherwise after their last calls, and where their records break. One
@@ -91,16 +94,20 @@ const UNRETIRED: &[(&[&str], Further, Positions)] = &[
 /// Keys, each with the position of its add.
 type Keys = &'static [(&'static str, usize)];
 
-/// An entry by hand: its mark, its moment in seconds and nanoseconds, and the DS and DNSKEY sets.
-/// The key K signs the DNSKEY set, and the key Z signs the zone.
-type Row = (Mark, Option<(u64, u64)>, Keys, Keys);
+/// An entry by hand: its mark, its moment, and the DS and DNSKEY sets. The key K signs the DNSKEY
+/// set, and the key Z signs the zone.
+type Row = (Mark, Option<Parts>, Keys, Keys);
 
+/// The DNSKEY set of all entries.
 const DNSKEY: Keys = &[("K", 1), ("Z", 2)];
 
+/// The roll that they record.
 const ROLL: RollType = RollType::AlgorithmRoll;
 
+/// Its start at the moment 0.
 const START: Row = (Mark::Step(ROLL), Some((0, 0)), &[], DNSKEY);
 
+/// Its first report, with a TTL of 0 and of 1.
 const TTL_0: Mark = Mark::Report {
     roll: ROLL,
     second: false,
@@ -113,12 +120,12 @@ const TTL_1: Mark = Mark::Report {
     ttl: 1,
 };
 
-/// A first report at the moment 0, and at the greatest one.
+/// This report at the moment 0, and at the greatest one.
 const REPORT: Row = (TTL_0, Some((0, 0)), &[], DNSKEY);
 
-const LAST_REPORT: Row = (TTL_0, Some((u64::MAX, 999_999_999)), &[], DNSKEY);
+const LAST_REPORT: Row = (TTL_0, Some(MAX), &[], DNSKEY);
 
-const LAST_REPORT_TTL_1: Row = (TTL_1, Some((u64::MAX, 999_999_999)), &[], DNSKEY);
+const LAST_REPORT_TTL_1: Row = (TTL_1, Some(MAX), &[], DNSKEY);
 
 /// One more position with the DS of the key K, and with that of a stranger.
 const DS: Row = (Mark::Other, None, &[("K", 1)], DNSKEY);
@@ -181,16 +188,12 @@ fn keys(alloc: Global, listed: Keys) -> Result<Vec<PublishedKey>, AllocError> {
     Ok(keys)
 }
 
-fn moment(seconds: u64, nanos: u64) -> UnixTime {
-    UnixTime::from(Duration::from_secs(seconds).saturating_add(Duration::from_nanos(nanos)))
-}
-
 fn entry(alloc: Global, row: Row) -> Result<Entry, AllocError> {
-    let (mark, moment_of, ds, dnskey) = row;
+    let (mark, moment, ds, dnskey) = row;
     Ok(Entry {
         reply: Reply::Done,
-        moment: match moment_of {
-            Some((seconds, nanos)) => Some(moment(seconds, nanos)),
+        moment: match moment {
+            Some(moment) => Some(UnixTime::from(duration(moment))),
             None => None,
         },
         mark,

@@ -138,13 +138,7 @@ const REFERENCES_FLAGS_AND_ROLLS: &[Row] = &[
     ("zone a\nwait1 - 0\n", 2),
 ];
 
-/// Bytes that are no text.
-const BYTES: &[(&[u8], usize)] = &[
-    (b"zone a\xFF\n", 1),
-    (b"zone a\nadd-public K \xFFED448 0 0 yes\n", 2),
-    (b"zone .\ndelete \xFE\n", 2),
-];
-
+/// The tables of texts.
 const MALFORMED: &[&[Row]] = &[
     ZONE_LINES,
     LATER_LINES,
@@ -152,6 +146,13 @@ const MALFORMED: &[&[Row]] = &[
     NUMBERS,
     ALGORITHMS,
     REFERENCES_FLAGS_AND_ROLLS,
+];
+
+/// Scripts that are no text, and the numbers of their first malformed lines.
+const BYTES: &[(&[u8], usize)] = &[
+    (b"zone a\xFF\n", 1),
+    (b"zone a\nadd-public K \xFFED448 0 0 yes\n", 2),
+    (b"zone .\ndelete \xFE\n", 2),
 ];
 
 /// What is written where a script has no calls.

@@ -1,10 +1,10 @@
 //! What an operator reads of refusals and faults.
+use crate::values::{MAX, Parts, duration};
 use dnssec_base::NameError;
 use dnssec_keyset::Error;
 use dnssec_record::ScriptFault;
 use std::alloc::Global;
 use std::fmt::Display;
-use std::time::Duration;
 
 /// Refusals but for those of waits, and what they print.
 const REFUSALS: &[(Error, &str)] = &[
@@ -37,24 +37,20 @@ const REFUSALS: &[(Error, &str)] = &[
     (Error::OutOfMemory, "out of memory"),
 ];
 
-/// Waits of so many seconds and nanoseconds, and what the refusal prints. A duration is told in its
+/// How long a wait lasts still, and what its refusal prints. A duration is told in its
 /// largest unit, with the decimals that are left. The micro sign is that of Latin-1.
-const WAITS: &[(u64, u64, &str)] = &[
-    (1, 0, "wait for duration 1s"),
-    (60, 0, "wait for duration 60s"),
-    (1, 500_000_000, "wait for duration 1.5s"),
-    (1, 1, "wait for duration 1.000000001s"),
-    (0, 999_000_000, "wait for duration 999ms"),
-    (0, 1_000_001, "wait for duration 1.000001ms"),
-    (0, 2_569, "wait for duration 2.569\u{B5}s"),
-    (0, 1_000, "wait for duration 1\u{B5}s"),
-    (0, 999, "wait for duration 999ns"),
-    (0, 0, "wait for duration 0ns"),
-    (
-        u64::MAX,
-        999_999_999,
-        "wait for duration 18446744073709551615.999999999s",
-    ),
+const WAITS: &[(Parts, &str)] = &[
+    ((1, 0), "wait for duration 1s"),
+    ((60, 0), "wait for duration 60s"),
+    ((1, 500_000_000), "wait for duration 1.5s"),
+    ((1, 1), "wait for duration 1.000000001s"),
+    ((0, 999_000_000), "wait for duration 999ms"),
+    ((0, 1_000_001), "wait for duration 1.000001ms"),
+    ((0, 2_569), "wait for duration 2.569\u{B5}s"),
+    ((0, 1_000), "wait for duration 1\u{B5}s"),
+    ((0, 999), "wait for duration 999ns"),
+    ((0, 0), "wait for duration 0ns"),
+    (MAX, "wait for duration 18446744073709551615.999999999s"),
 ];
 
 /// Faults of names, and what they print.
@@ -75,11 +71,6 @@ const FAULTS_OF_SCRIPTS: &[(ScriptFault, &str, u8)] = &[
     (ScriptFault::OutOfMemory, "out of memory", 3),
 ];
 
-/// The refusal of a wait that lasts so long still.
-fn wait(seconds: u64, nanos: u64) -> Error {
-    Error::Wait(Duration::from_secs(seconds).saturating_add(Duration::from_nanos(nanos)))
-}
-
 /// Whether a value prints this.
 fn prints(alloc: Global, value: &impl Display, text: &str) -> bool {
     match value.to_string(alloc) {
@@ -93,8 +84,9 @@ fn refusals_have_their_texts(rt: HostRuntime) {
     for (error, text) in REFUSALS {
         assert!(rt; prints(rt.alloc(), error, text), "{text}");
     }
-    for (seconds, nanos, text) in WAITS {
-        assert!(rt; prints(rt.alloc(), &wait(*seconds, *nanos), text), "{text}");
+    for (wait, text) in WAITS {
+        let error = Error::Wait(duration(*wait));
+        assert!(rt; prints(rt.alloc(), &error, text), "{text}");
     }
 }
 

@@ -4,10 +4,10 @@ use std::alloc::Global;
 use std::time::Duration;
 
 /// A duration, or a moment by what has gone since 1970, in seconds and nanoseconds.
-type Parts = (u64, u64);
+pub type Parts = (u64, u64);
 
 /// The longest duration, and the greatest moment.
-const MAX: Parts = (u64::MAX, 999_999_999);
+pub const MAX: Parts = (u64::MAX, 999_999_999);
 
 /// A moment and a duration, and the moment that is so much later, where there is one.
 const SUMS: &[(Parts, Parts, Option<Parts>)] = &[
@@ -50,7 +50,7 @@ const ROLLS: &[(&str, Result<RollType, Error>)] = &[
     ("KskRoll", NO_ROLL),
 ];
 
-fn duration((seconds, nanos): Parts) -> Duration {
+pub fn duration((seconds, nanos): Parts) -> Duration {
     Duration::from_secs(seconds).saturating_add(Duration::from_nanos(nanos))
 }
 
