@@ -25,7 +25,7 @@ const SPELLED: &[(&str, &[u8], &str)] = &[
 ];
 
 /// Texts, and the letters of what their beginnings are answered, from the empty one to the whole
-/// text; `-` where a character is cut.
+/// text, as `letter` gives them; `-` where a character is cut.
 const BEGINNINGS: &[(&str, &str)] = &[
     (".", "eo"),
     ("example.com.", "eoooooooooooo"),

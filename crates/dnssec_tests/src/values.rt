@@ -12,6 +12,7 @@ pub const MAX: Parts = (u64::MAX, 999_999_999);
 /// A moment and a duration, and the moment that is so much later, where there is one.
 const SUMS: &[(Parts, Parts, Option<Parts>)] = &[
     ((10, 999_999_999), (0, 2), Some((11, 1))),
+    ((10, 999_999_999), (0, 0), Some((10, 999_999_999))),
     (MAX, (0, 0), Some(MAX)),
     (MAX, (0, 1), None),
     ((1, 0), MAX, None),
@@ -64,7 +65,7 @@ fn sum(moment: Parts, later: Parts) -> Option<Duration> {
     }
 }
 
-/// How long before a moment another is. It is the lesser one where that is no time.
+/// How long before the second moment the first is; none where their order says otherwise.
 fn elapsed(moment: Parts, now: Parts) -> Option<Duration> {
     let (moment, now) = (
         UnixTime::from(duration(moment)),
