@@ -1,13 +1,11 @@
 //! Verdicts on records: of scripts, and of entries made by hand.
+use crate::values::{MAX, Parts, duration};
+use Further::{NoDnskey, StrangersDs};
 use dnssec_keyset::{RollType, UnixTime};
 use dnssec_record::{
-    Broken, Entry, Mark, Published, PublishedKey, Reply, ScriptFault, audit, audit_window,
-    record_script,
+    Entry, Mark, Published, PublishedKey, Reply, ScriptFault, audit, audit_window, record_script,
 };
 use std::alloc::{AllocError, Global};
-use std::process::Abort;
-use std::test::Fail;
-use std::time::Duration;
 
 /// A zone with its first keys: eight calls.
 const FIRST: &str = "zone example.com
@@ -54,28 +52,11 @@ const REFUSED: &str = "done csk-roll
 const REFUSED_LATE: &str = "wait2 ksk-roll 1000
 ";
 
-fn broken(at: usize, ds: usize, dnskey: usize, zone: usize) -> Option<Broken> {
-    Some(Broken {
-        at,
-        ds,
-        dnskey,
-        zone,
-    })
-}
+/// Where a record breaks: a position, and those of the DS set, the DNSKEY set and the zone signers
+/// that don't go together.
+type Positions = [usize; 4];
 
-/// What both audits answer, where they answer alike.
-fn verdict(alloc: Global, entries: &[Entry]) -> Result<Option<Broken>, ScriptFault> {
-    let Ok(verdict) = audit_window(alloc, entries) else {
-        return Err(ScriptFault::OutOfMemory);
-    };
-    if verdict == audit(entries) {
-        Ok(verdict)
-    } else {
-        Err(ScriptFault::Device)
-    }
-}
-
-/// What is published otherwise after a further call.
+/// What is published otherwise after the last call of a script.
 #[derive(Clone, Copy)]
 enum Further {
     /// The DS of a stranger.
@@ -84,29 +65,116 @@ enum Further {
     NoDnskey,
 }
 
-/// The verdict on the record of a script in parts, where this is published after its last call.
-fn verdict_on(
-    alloc: Global,
-    parts: &[&str],
-    further: Further,
-) -> Result<Option<Broken>, ScriptFault> {
-    let script = parts.concat(alloc)?;
-    let mut entries = record_script(alloc, script.as_str().as_bytes())?.entries;
-    if let Some(entry) = entries.last_mut() {
-        match further {
-            Further::StrangersDs => entry.published.ds = keys(alloc, &[("nobody", 1)])?,
-            Further::NoDnskey => entry.published.dnskey = Vec::new(alloc),
-        }
-    }
-    verdict(alloc, &entries)
-}
+/// Scripts in parts, each with a refused call at its end. A KSK roll has had its first report.
+const REPORTED: &[&str] = &[FIRST, KSK_ROLL, REFUSED];
+
+/// The same, and the TTL of the report is over.
+const REPORTED_LONG_AGO: &[&str] = &[FIRST, KSK_ROLL, REFUSED_LATE];
+
+/// Its first wait has come too.
+const WAITED: &[&str] = &[FIRST, KSK_ROLL, KSK_WAIT, REFUSED];
+
+/// A KSK roll and a ZSK roll have had their second waits.
+const BOTH_WAITED: &[&str] = &[FIRST, SIDE_BY_SIDE, REFUSED];
+
+/// Scripts, what is published otherwise after their last calls, and where their records break. One
+/// more position with the DS of a stranger meets the least DNSKEY set and zone signers that no
+/// report has retired; and one without a DNSKEY set meets the least DS set.
+const UNRETIRED: &[(&[&str], Further, Positions)] = &[
+    (REPORTED, StrangersDs, [12, 12, 3, 3]),
+    (REPORTED, NoDnskey, [12, 5, 12, 3]),
+    (REPORTED_LONG_AGO, StrangersDs, [12, 12, 10, 3]),
+    (REPORTED_LONG_AGO, NoDnskey, [12, 5, 12, 3]),
+    (WAITED, StrangersDs, [13, 13, 10, 3]),
+    (WAITED, NoDnskey, [13, 5, 13, 3]),
+    (BOTH_WAITED, StrangersDs, [22, 22, 12, 17]),
+    (BOTH_WAITED, NoDnskey, [22, 15, 22, 17]),
+];
 
 /// Keys, each with the position of its add.
 type Keys = &'static [(&'static str, usize)];
 
 /// An entry by hand: its mark, its moment, and the DS and DNSKEY sets. The key K signs the DNSKEY
 /// set, and the key Z signs the zone.
-type Row = (Mark, Option<Duration>, Keys, Keys);
+type Row = (Mark, Option<Parts>, Keys, Keys);
+
+/// The DNSKEY set of all entries.
+const DNSKEY: Keys = &[("K", 1), ("Z", 2)];
+
+/// The roll that they record.
+const ROLL: RollType = RollType::AlgorithmRoll;
+
+/// Its start at the moment 0.
+const START: Row = (Mark::Step(ROLL), Some((0, 0)), &[], DNSKEY);
+
+/// Its first report, with a TTL of 0 and of 1.
+const TTL_0: Mark = Mark::Report {
+    roll: ROLL,
+    second: false,
+    ttl: 0,
+};
+
+const TTL_1: Mark = Mark::Report {
+    roll: ROLL,
+    second: false,
+    ttl: 1,
+};
+
+/// This report at the moment 0, and at the greatest one.
+const REPORT: Row = (TTL_0, Some((0, 0)), &[], DNSKEY);
+
+const LAST_REPORT: Row = (TTL_0, Some(MAX), &[], DNSKEY);
+
+const LAST_REPORT_TTL_1: Row = (TTL_1, Some(MAX), &[], DNSKEY);
+
+/// One more position with the DS of the key K, and with that of a stranger.
+const DS: Row = (Mark::Other, None, &[("K", 1)], DNSKEY);
+
+const STRANGERS_DS: Row = (Mark::Other, None, &[("K", 9)], DNSKEY);
+
+/// Entries by hand, and where their record breaks.
+const BY_HAND: &[(&[Row], Option<Positions>)] = &[
+    (&[START, REPORT, DS], None),
+    (&[START, REPORT, STRANGERS_DS], Some([3, 3, 1, 1])),
+    (&[START, LAST_REPORT, DS], None),
+    (&[START, LAST_REPORT_TTL_1, DS], Some([3, 3, 0, 0])),
+];
+
+/// Where both audits say that a record breaks, where they answer alike.
+fn verdict(alloc: Global, entries: &[Entry]) -> Result<Option<Positions>, ScriptFault> {
+    let Ok(verdict) = audit_window(alloc, entries) else {
+        return Err(ScriptFault::OutOfMemory);
+    };
+    if verdict != audit(entries) {
+        return Err(ScriptFault::Device);
+    }
+    match verdict {
+        Some(broken) => Ok(Some([broken.at, broken.ds, broken.dnskey, broken.zone])),
+        None => Ok(None),
+    }
+}
+
+/// The record of a script in parts.
+fn record(alloc: Global, parts: &[&str]) -> Result<Vec<Entry>, ScriptFault> {
+    let script = parts.concat(alloc)?;
+    Ok(record_script(alloc, script.as_str().as_bytes())?.entries)
+}
+
+/// Where the record of a script in parts breaks, where this is published after its last call.
+fn verdict_on(
+    alloc: Global,
+    parts: &[&str],
+    further: Further,
+) -> Result<Option<Positions>, ScriptFault> {
+    let mut entries = record(alloc, parts)?;
+    if let Some(entry) = entries.last_mut() {
+        match further {
+            StrangersDs => entry.published.ds = keys(alloc, &[("nobody", 1)])?,
+            NoDnskey => entry.published.dnskey = Vec::new(alloc),
+        }
+    }
+    verdict(alloc, &entries)
+}
 
 fn keys(alloc: Global, listed: Keys) -> Result<Vec<PublishedKey>, AllocError> {
     let mut keys = Vec::new(alloc);
@@ -125,7 +193,7 @@ fn entry(alloc: Global, row: Row) -> Result<Entry, AllocError> {
     Ok(Entry {
         reply: Reply::Done,
         moment: match moment {
-            Some(moment) => Some(UnixTime::from(moment)),
+            Some(moment) => Some(UnixTime::from(duration(moment))),
             None => None,
         },
         mark,
@@ -138,7 +206,8 @@ fn entry(alloc: Global, row: Row) -> Result<Entry, AllocError> {
     })
 }
 
-fn try_rows(alloc: Global, rows: &[Row]) -> Result<Option<Broken>, ScriptFault> {
+/// Where the record of entries by hand breaks.
+fn verdict_by_hand(alloc: Global, rows: &[Row]) -> Result<Option<Positions>, ScriptFault> {
     let mut entries = Vec::new(alloc);
     for row in rows {
         entries.push(entry(alloc, *row)?)?;
@@ -146,63 +215,34 @@ fn try_rows(alloc: Global, rows: &[Row]) -> Result<Option<Broken>, ScriptFault> 
     verdict(alloc, &entries)
 }
 
-/// One more position with the DS of a stranger meets the least DNSKEY set and zone signers that no
-/// report has retired; and one without a DNSKEY set meets the least DS set.
-#[test]
-fn the_least_unretired_positions_are_told(rt: HostRuntime) -> Result<(), Fail> {
-    let rows: [(&[&str], usize, [usize; 3]); 4] = [
-        (&[FIRST, KSK_ROLL, REFUSED], 12, [5, 3, 3]),
-        (&[FIRST, KSK_ROLL, REFUSED_LATE], 12, [5, 10, 3]),
-        (&[FIRST, KSK_ROLL, KSK_WAIT, REFUSED], 13, [5, 10, 3]),
-        (&[FIRST, SIDE_BY_SIDE, REFUSED], 22, [15, 12, 17]),
-    ];
-    for (parts, at, [ds, dnskey, zone]) in rows {
-        let answer = verdict_on(rt.alloc(), parts, Further::StrangersDs);
-        assert_eq!(&rt; answer, Ok(broken(at, at, dnskey, zone)), "at {at}");
-        let answer = verdict_on(rt.alloc(), parts, Further::NoDnskey);
-        assert_eq!(&rt; answer, Ok(broken(at, ds, at, zone)), "at {at}");
-    }
-    Ok(())
-}
-
-/// Refused calls keep a record safe, as many as there are.
-#[test]
-fn refused_calls_are_judged(rt: HostRuntime) -> Result<(), Fail> {
-    let refused = REFUSED.repeat(rt.alloc(), 500)?;
-    let script = [FIRST, refused.as_str()].concat(rt.alloc())?;
-    let run = record_script(rt.alloc(), script.as_str().as_bytes()).map_err(|_| "no run")?;
-    assert!(rt; audit_window(rt.alloc(), &run.entries) == Ok(None));
-    Ok(())
-}
-
-/// A start, its first report and one more position with this DS key.
-fn three(reported: Duration, ttl: u32, ds: Keys) -> [Row; 3] {
-    let roll = RollType::AlgorithmRoll;
-    let report = Mark::Report {
-        roll,
-        second: false,
-        ttl,
+/// Whether a record stays safe behind so many refused calls. (They are too many for `audit`.)
+fn is_safe_after(alloc: Global, calls: usize) -> bool {
+    let Ok(refused) = REFUSED.repeat(alloc, calls) else {
+        return false;
     };
-    let dnskey: Keys = &[("K", 1), ("Z", 2)];
-    [
-        (Mark::Step(roll), Some(Duration::from_secs(0)), &[], dnskey),
-        (report, Some(reported), &[], dnskey),
-        (Mark::Other, None, ds, dnskey),
-    ]
+    match record(alloc, &[FIRST, refused.as_str()]) {
+        Ok(entries) => audit_window(alloc, &entries) == Ok(None),
+        Err(_) => false,
+    }
 }
 
-/// What both audits answer of entries made by hand.
 #[test]
-fn entries_by_hand_are_judged(rt: HostRuntime) -> Result<(), Fail> {
-    let zero = Duration::from_secs(0);
-    let rows = [
-        (three(zero, 0, &[("K", 1)]), None),
-        (three(zero, 0, &[("K", 9)]), broken(3, 3, 1, 1)),
-        (three(Duration::MAX, 0, &[("K", 1)]), None),
-        (three(Duration::MAX, 1, &[("K", 1)]), broken(3, 3, 0, 0)),
-    ];
-    for (entries, want) in rows {
-        assert_eq!(rt; try_rows(rt.alloc(), &entries), Ok(want));
+fn the_least_unretired_positions_are_told(rt: HostRuntime) {
+    for (index, (parts, further, broken)) in UNRETIRED.iter().enumerate() {
+        let answer = verdict_on(rt.alloc(), parts, *further);
+        assert_eq!(rt; answer, Ok(Some(*broken)), "in row {index}");
     }
-    Ok(())
+}
+
+#[test]
+fn refused_calls_are_judged(rt: HostRuntime) {
+    assert!(rt; is_safe_after(rt.alloc(), 500));
+}
+
+#[test]
+fn entries_by_hand_are_judged(rt: HostRuntime) {
+    for (index, (entries, broken)) in BY_HAND.iter().enumerate() {
+        let answer = verdict_by_hand(rt.alloc(), entries);
+        assert_eq!(rt; answer, Ok(*broken), "in row {index}");
+    }
 }

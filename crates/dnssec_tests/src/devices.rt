@@ -26,6 +26,12 @@ ds=K1 dnskey=K1,Z1 signers=K1 zone=Z1
 chain safe
 ";
 
+/// What a script that deletes a key from a new set answers.
+const KEY_NOT_FOUND: &str = "refused: key not found
+ds=- dnskey=- signers=- zone=-
+chain safe
+";
+
 /// So many calls of a device, or bytes at one of them, as no test makes.
 const ANY: usize = usize::MAX;
 
@@ -100,7 +106,7 @@ impl Sink for Output {
 /// How the devices of a script serve it: how many bytes a read and a write move at most, and how
 /// many of these calls are served before they fail.
 #[derive(Clone, Copy)]
-struct Devices {
+pub struct Devices {
     most_read: usize,
     reads: usize,
     most_written: usize,
@@ -108,12 +114,15 @@ struct Devices {
 }
 
 /// Devices that serve a script to its end.
-const WHOLE: Devices = Devices {
+pub const WHOLE: Devices = Devices {
     most_read: ANY,
     reads: ANY,
     most_written: ANY,
     writes: ANY,
 };
+
+/// How a run ends where a device fails.
+const FAULT: Result<(), ScriptFault> = Err(ScriptFault::Device);
 
 /// Runs a script over devices: how it ended, and what was written.
 fn follow(alloc: Global, script: &[u8], devices: Devices) -> (Result<(), ScriptFault>, Vec<u8>) {
@@ -133,110 +142,131 @@ fn follow(alloc: Global, script: &[u8], devices: Devices) -> (Result<(), ScriptF
     (result, output.taken)
 }
 
-/// What was read before a fault isn't run, also where it is a script. A malformed script is told as
-/// such where no byte can be written, since none is.
-#[test]
-fn devices_serve_or_fail(rt: HostRuntime) -> Result<(), Fail> {
-    let deleted = b"zone a\ndelete K1\n";
-    let rows: [(&[u8], Devices, Result<(), ScriptFault>, &str); 8] = [
-        (
-            FIRST_KEYS.as_bytes(),
-            Devices {
-                most_read: 1,
-                most_written: 1,
-                ..WHOLE
-            },
-            Ok(()),
-            FIRST_ANSWERS,
-        ),
-        // The last line may end with the script.
-        (
-            FIRST_KEYS.trim_end().as_bytes(),
-            WHOLE,
-            Ok(()),
-            FIRST_ANSWERS,
-        ),
-        (
-            FIRST_KEYS.as_bytes(),
-            Devices { reads: 0, ..WHOLE },
-            Err(ScriptFault::Device),
-            "",
-        ),
-        (
-            deleted,
-            Devices {
-                most_read: 7,
-                reads: 1,
-                ..WHOLE
-            },
-            Err(ScriptFault::Device),
-            "",
-        ),
-        (
-            FIRST_KEYS.as_bytes(),
-            Devices {
-                most_written: 1,
-                writes: 5,
-                ..WHOLE
-            },
-            Err(ScriptFault::Device),
-            "ok\nok",
-        ),
-        (
-            b"zone a\nzone a\n",
-            Devices { writes: 0, ..WHOLE },
-            Err(ScriptFault::Malformed(2)),
-            "",
-        ),
-        (
-            b"zone example.com\ndone algorithm-roll\ndone CSK-roll\n",
-            Devices { writes: 0, ..WHOLE },
-            Err(ScriptFault::Malformed(3)),
-            "",
-        ),
-        (
-            b"zone a\n",
-            Devices { writes: 0, ..WHOLE },
-            Err(ScriptFault::Device),
-            "",
-        ),
-    ];
-    for (index, (script, devices, result, written)) in rows.iter().enumerate() {
-        let answer = follow(rt.alloc(), script, *devices);
-        assert_eq!(rt; answer.0, *result, "in row {index}");
-        assert_eq!(rt; answer.1.as_slice(), written.as_bytes(), "in row {index}");
-    }
-    Ok(())
+/// Scripts, the devices that serve them, how a run ends, and what is written. What was read before
+/// a fault isn't run, also where it is a script. A malformed script is told as such where no byte
+/// can be written, since none is.
+const ROWS: &[(&str, Devices, Result<(), ScriptFault>, &str)] = &[
+    (
+        FIRST_KEYS,
+        Devices {
+            most_read: 1,
+            most_written: 1,
+            ..WHOLE
+        },
+        Ok(()),
+        FIRST_ANSWERS,
+    ),
+    (FIRST_KEYS, Devices { reads: 0, ..WHOLE }, FAULT, ""),
+    (
+        "zone a\ndelete K1\n",
+        Devices {
+            most_read: 7,
+            reads: 1,
+            ..WHOLE
+        },
+        FAULT,
+        "",
+    ),
+    (
+        FIRST_KEYS,
+        Devices {
+            most_written: 1,
+            writes: 5,
+            ..WHOLE
+        },
+        FAULT,
+        "ok\nok",
+    ),
+    (
+        "zone a\nzone a\n",
+        Devices { writes: 0, ..WHOLE },
+        Err(ScriptFault::Malformed(2)),
+        "",
+    ),
+    (
+        "zone example.com\ndone algorithm-roll\ndone CSK-roll\n",
+        Devices { writes: 0, ..WHOLE },
+        Err(ScriptFault::Malformed(3)),
+        "",
+    ),
+    ("zone a\n", Devices { writes: 0, ..WHOLE }, FAULT, ""),
+];
+
+/// Whether a run of a script over devices ends so, with this written.
+pub fn is_run(
+    alloc: Global,
+    script: &[u8],
+    devices: Devices,
+    ended: &Result<(), ScriptFault>,
+    written: &str,
+) -> bool {
+    let (answer, output) = follow(alloc, script, devices);
+    answer == *ended && output.as_slice() == written.as_bytes()
 }
 
-/// With a read that fails nothing is written; with a write that fails, what was written before it
-/// stands. There is a read for each byte and for the end, and a write for each byte.
+/// Whether a script that is read a byte at a time is run where so many reads are served: one for
+/// each byte and one for the end. Else nothing is written.
+fn is_run_whole_or_not(alloc: Global, reads: usize) -> bool {
+    let devices = Devices {
+        most_read: 1,
+        reads,
+        ..WHOLE
+    };
+    if reads > FIRST_KEYS.len() {
+        is_run(
+            alloc,
+            FIRST_KEYS.as_bytes(),
+            devices,
+            &Ok(()),
+            FIRST_ANSWERS,
+        )
+    } else {
+        is_run(alloc, FIRST_KEYS.as_bytes(), devices, &FAULT, "")
+    }
+}
+
+/// Whether of answers that are written a byte at a time those bytes stand whose writes are served.
+fn is_written_up_to(alloc: Global, writes: usize) -> bool {
+    let devices = Devices {
+        most_written: 1,
+        writes,
+        ..WHOLE
+    };
+    let Some(written) = FIRST_ANSWERS.get(..writes) else {
+        return false;
+    };
+    let ended = if writes == FIRST_ANSWERS.len() {
+        &Ok(())
+    } else {
+        &FAULT
+    };
+    is_run(alloc, FIRST_KEYS.as_bytes(), devices, ended, written)
+}
+
 #[test]
-fn each_call_of_a_device_fails_in_turn(rt: HostRuntime) -> Result<(), Fail> {
-    let script = FIRST_KEYS.as_bytes();
-    for reads in 0..=script.len() + 1 {
-        let devices = Devices {
-            most_read: 1,
-            reads,
-            ..WHOLE
-        };
-        let (result, written) = follow(rt.alloc(), script, devices);
-        let has_failed = reads <= script.len();
-        assert_eq!(rt; result == Err(ScriptFault::Device), has_failed);
-        assert_eq!(rt; written.is_empty(), has_failed, "with {reads} reads");
+fn devices_serve_or_fail(rt: HostRuntime) {
+    for (index, (script, devices, ended, written)) in ROWS.iter().enumerate() {
+        let is_so = is_run(rt.alloc(), script.as_bytes(), *devices, ended, written);
+        assert!(rt; is_so, "in row {index}");
     }
-    let answers = FIRST_ANSWERS.as_bytes();
-    for writes in 0..=answers.len() {
-        let devices = Devices {
-            most_written: 1,
-            writes,
-            ..WHOLE
-        };
-        let (result, written) = follow(rt.alloc(), script, devices);
-        assert_eq!(rt; result.is_ok(), writes == answers.len());
-        assert_eq!(rt; Some(written.as_slice()), answers.get(..writes));
+}
+
+#[test]
+fn the_last_line_may_end_with_the_script(rt: HostRuntime) {
+    let script = FIRST_KEYS.trim_end().as_bytes();
+    assert!(rt; is_run(rt.alloc(), script, WHOLE, &Ok(()), FIRST_ANSWERS));
+}
+
+#[test]
+fn each_call_of_a_device_fails_in_turn(rt: HostRuntime) {
+    for reads in 0..=FIRST_KEYS.len() + 1 {
+        let is_so = is_run_whole_or_not(rt.alloc(), reads);
+        assert!(rt; is_so, "with {reads} reads");
     }
-    Ok(())
+    for writes in 0..=FIRST_ANSWERS.len() {
+        let is_so = is_written_up_to(rt.alloc(), writes);
+        assert!(rt; is_so, "with {writes} writes");
+    }
 }
 
 /// A script of more bytes than are asked for at once is read to its end.
@@ -244,25 +274,29 @@ fn each_call_of_a_device_fails_in_turn(rt: HostRuntime) -> Result<(), Fail> {
 fn a_long_script_is_read_whole(rt: HostRuntime) -> Result<(), Fail> {
     let reference = "K".repeat(rt.alloc(), 9000)?;
     let script = ["zone a\ndelete ", reference.as_str()].concat(rt.alloc())?;
-    let want = b"refused: key not found\nds=- dnskey=- signers=- zone=-\nchain safe\n";
     for most_read in [ANY, 4095] {
         let devices = Devices { most_read, ..WHOLE };
-        let answer = follow(rt.alloc(), script.as_str().as_bytes(), devices);
-        assert!(rt; answer.0 == Ok(()) && answer.1.as_slice() == want.as_slice());
+        let is_so = is_run(
+            rt.alloc(),
+            script.as_str().as_bytes(),
+            devices,
+            &Ok(()),
+            KEY_NOT_FOUND,
+        );
+        assert!(rt; is_so, "with {most_read} bytes at most");
     }
     Ok(())
 }
 
 /// Any reader and writer serves as a device. A writer without room is one that fails.
 #[test]
-fn a_writer_without_room_fails(rt: HostRuntime) -> Result<(), Fail> {
+fn a_writer_without_room_fails(rt: HostRuntime) {
     let mut room = [0; 20];
     let mut input = Std::new(b"zone a\ndelete K1\n".as_slice());
     let mut output = Std::new(room.as_mut_slice());
-    let result = run_script(rt.alloc(), &mut input, &mut output);
-    assert_eq!(rt; result, Err(ScriptFault::Device));
-    assert_eq!(rt; (input.faults(), output.faults()), (0, 1));
-    assert!(rt; output.into_inner().is_empty());
+    let ended = run_script(rt.alloc(), &mut input, &mut output);
+    let faults = (input.faults(), output.faults());
+    let is_full = output.into_inner().is_empty();
+    assert!(rt; ended == Err(ScriptFault::Device) && faults == (0, 1) && is_full);
     assert_eq!(rt; &room, b"refused: key not fou");
-    Ok(())
 }

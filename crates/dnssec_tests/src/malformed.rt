@@ -1,224 +1,209 @@
 //! Scripts with a malformed line.
-use dnssec_record::{ScriptFault, Std, run_script};
-use std::alloc::{AllocError, Global};
-use std::process::Abort;
-use std::test::Fail;
+use crate::devices::{WHOLE, is_run};
+use dnssec_record::ScriptFault;
+use std::alloc::Global;
 
 /// A script, and the number of its first malformed line.
-type Row<'a> = (&'a [u8], usize);
-
-/// Runs a script: how it ended, and what was written.
-fn follow(alloc: Global, script: &[u8]) -> (Result<(), ScriptFault>, Vec<u8>) {
-    let mut output = Std::new(Vec::new(alloc));
-    let result = run_script(alloc, &mut Std::new(script), &mut output);
-    (result, output.into_inner())
-}
-
-/// Each script is refused by the number of this line, and nothing is written.
-fn assert_malformed(rt: &impl Abort, alloc: Global, scripts: &[Row]) {
-    for (script, number) in scripts {
-        let (result, written) = follow(alloc, script);
-        let is_so = result == Err(ScriptFault::Malformed(*number)) && written.is_empty();
-        assert!(rt; is_so, "{script:?}");
-    }
-}
+type Row = (&'static str, usize);
 
 /// The first line is the word `zone`, one space, and a name.
-#[test]
-fn zone_lines(rt: HostRuntime) -> Result<(), Fail> {
-    let scripts: [Row; 18] = [
-        (b"", 1),
-        (b"\n", 1),
-        (b"\nzone a\n", 1),
-        (b"zone", 1),
-        (b"zone\n", 1),
-        (b"zone ", 1),
-        (b"zonea\n", 1),
-        (b"Zone a\n", 1),
-        (b" zone a\n", 1),
-        (b"zone  a\n", 1),
-        (b"zone a \n", 1),
-        (b"zone example.com\r\n", 1),
-        (b"zone a..b", 1),
-        (b"zone a\\256\n", 1),
-        (b"zone a\xC3\xBC\n", 1),
-        (b"zone a\xFF\n", 1),
-        (b"delete K1\n", 1),
-        (b"delete K1\nzone a\n", 1),
-    ];
-    assert_malformed(&rt, rt.alloc(), &scripts);
-    Ok(())
-}
-
-/// A beginning of a script that is a zone line alone is a script where its name stands.
-#[test]
-fn beginnings_of_zone_lines(rt: HostRuntime) -> Result<(), Fail> {
-    let rows: [(&[u8], &[usize]); 2] = [
-        (b"zone a\\.b\n", &[6, 8, 9, 10]),
-        (b"zone a..b\n", &[6, 7]),
-    ];
-    for (script, scripts) in rows {
-        for end in 0..=script.len() {
-            let front = script.get(..end).ok_or("no beginning")?;
-            if scripts.contains(&end) {
-                assert_eq!(rt; follow(rt.alloc(), front).0, Ok(()));
-            } else {
-                assert_malformed(&rt, rt.alloc(), &[(front, 1)]);
-            }
-        }
-    }
-    Ok(())
-}
+const ZONE_LINES: &[Row] = &[
+    ("", 1),
+    ("\n", 1),
+    ("\nzone a\n", 1),
+    ("zone", 1),
+    ("zone\n", 1),
+    ("zone ", 1),
+    ("zonea\n", 1),
+    ("Zone a\n", 1),
+    (" zone a\n", 1),
+    ("zone  a\n", 1),
+    ("zone a \n", 1),
+    ("zone example.com\r\n", 1),
+    ("zone a..b", 1),
+    ("zone a\\256\n", 1),
+    ("zone aü\n", 1),
+    ("delete K1\n", 1),
+    ("delete K1\nzone a\n", 1),
+];
 
 /// The first malformed line is told, and no line before it is run.
-#[test]
-fn lines_are_counted(rt: HostRuntime) -> Result<(), Fail> {
-    let scripts: [Row; 9] = [
-        (b"zone .\n\n", 2),
-        (b"zone a\n\ndelete K1\n", 2),
-        (b"zone a\nzone a\n", 2),
-        (b"zone a\nzone a", 2),
-        (b"zone a\ndelete K1\n\n", 3),
-        (b"zone example.com\ndone algorithm-roll\ndone CSK-roll\n", 3),
-        (b"zone a\nadd-ksk K1 - 13 1 0 yes\nwait\n", 3),
-        (b"zone a\ndelete K1\ndelete K2\ndelete\nfoo\n\n", 4),
-        (b"zone a\nfoo\nzone a..b\n", 2),
-    ];
-    assert_malformed(&rt, rt.alloc(), &scripts);
-    Ok(())
-}
+const LATER_LINES: &[Row] = &[
+    ("zone .\n\n", 2),
+    ("zone a\n\ndelete K1\n", 2),
+    ("zone a\nzone a\n", 2),
+    ("zone a\nzone a", 2),
+    ("zone a\ndelete K1\n\n", 3),
+    ("zone example.com\ndone algorithm-roll\ndone CSK-roll\n", 3),
+    ("zone a\nadd-ksk K1 - 13 1 0 yes\nwait\n", 3),
+    ("zone a\ndelete K1\ndelete K2\ndelete\nfoo\n\n", 4),
+    ("zone a\nfoo\nzone a..b\n", 2),
+];
 
 /// Fields stand behind a word that there is, each after one space, and are as many as it takes.
-#[test]
-fn words_and_spaces(rt: HostRuntime) -> Result<(), Fail> {
-    let scripts: [Row; 28] = [
-        (b"zone .\nwait1 ksk-roll  0\n", 2),
-        (b"zone .\ndone ksk-roll \n", 2),
-        (b"zone a\n delete K1\n", 2),
-        (b"zone a\n \n", 2),
-        (b"zone a\ndelete\tK1\n", 2),
-        (b"zone a\ndelete K1\r\n", 2),
-        (b"zone a\ndelete\n", 2),
-        (b"zone a\ndelete \n", 2),
-        (b"zone a\ndelete K1 K2\n", 2),
-        (b"zone a\nDelete K1\n", 2),
-        (b"zone a\ndeleted K1\n", 2),
-        (b"zone a\nadd K1 - 13 1 0 yes\n", 2),
-        (b"zone a\nadd-ksk K1 13 1 0 yes\n", 2),
-        (b"zone a\nadd-zsk K1 - 13 1 0\n", 2),
-        (b"zone a\nadd-csk K1 - 13 1 0 yes yes\n", 2),
-        (b"zone a\nadd-public K1 - 13 1 0 yes\n", 2),
-        (b"zone a\nset-present K1 yes\n", 2),
-        (b"zone a\nset-signer K1 yes 0\n", 2),
-        (b"zone a\nset-at-parent K1\n", 2),
-        (b"zone a\nset-stale K1 yes\n", 2),
-        (b"zone a\nset-visible K1\n", 2),
-        (b"zone a\nstart algorithm-roll K1 0\n", 2),
-        (b"zone a\nreport1 ksk-roll 60\n", 2),
-        (b"zone a\nwait2 ksk-roll 60 0\n", 2),
-        (b"zone a\ndone ksk-roll 0\n", 2),
-        (b"zone a\nabort\n", 2),
-        (b"zone a\nabort ksk-roll 5\n", 2),
-        (b"zone a\naborted ksk-roll\n", 2),
-    ];
-    assert_malformed(&rt, rt.alloc(), &scripts);
-    Ok(())
-}
+const WORDS_AND_SPACES: &[Row] = &[
+    ("zone .\nwait1 ksk-roll  0\n", 2),
+    ("zone .\ndone ksk-roll \n", 2),
+    ("zone a\n delete K1\n", 2),
+    ("zone a\n \n", 2),
+    ("zone a\ndelete\tK1\n", 2),
+    ("zone a\ndelete K1\r\n", 2),
+    ("zone a\ndelete\n", 2),
+    ("zone a\ndelete \n", 2),
+    ("zone a\ndelete K1 K2\n", 2),
+    ("zone a\nDelete K1\n", 2),
+    ("zone a\ndeleted K1\n", 2),
+    ("zone a\nadd K1 - 13 1 0 yes\n", 2),
+    ("zone a\nadd-ksk K1 13 1 0 yes\n", 2),
+    ("zone a\nadd-zsk K1 - 13 1 0\n", 2),
+    ("zone a\nadd-csk K1 - 13 1 0 yes yes\n", 2),
+    ("zone a\nadd-public K1 - 13 1 0 yes\n", 2),
+    ("zone a\nset-present K1 yes\n", 2),
+    ("zone a\nset-signer K1 yes 0\n", 2),
+    ("zone a\nset-at-parent K1\n", 2),
+    ("zone a\nset-stale K1 yes\n", 2),
+    ("zone a\nset-visible K1\n", 2),
+    ("zone a\nstart algorithm-roll K1 0\n", 2),
+    ("zone a\nreport1 ksk-roll 60\n", 2),
+    ("zone a\nwait2 ksk-roll 60 0\n", 2),
+    ("zone a\ndone ksk-roll 0\n", 2),
+    ("zone a\nabort\n", 2),
+    ("zone a\nabort ksk-roll 5\n", 2),
+    ("zone a\naborted ksk-roll\n", 2),
+];
 
 /// Numbers out of range, of more than 20 digits, or with other bytes than digits.
-#[test]
-fn numbers(rt: HostRuntime) -> Result<(), Fail> {
-    let scripts: [Row; 16] = [
-        (b"zone .\nadd-ksk K - 256 0 0 yes\n", 2),
-        (b"zone .\nadd-ksk K - 13 65536 0 yes\n", 2),
-        (b"zone a\nadd-ksk K1 - 13 1 18446744073709551616 yes\n", 2),
-        (b"zone a\nadd-ksk K1 - 13 1 99999999999999999999 yes\n", 2),
-        (b"zone .\nreport1 ksk-roll 4294967296 0\n", 2),
-        (b"zone a\nreport2 ksk-roll 60 18446744073709551616\n", 2),
-        (b"zone a\nadd-public K1 000000000000000000013 1 0 yes\n", 2),
-        (b"zone .\nwait1 ksk-roll 000000000000000000001\n", 2),
-        (b"zone .\nwait1 ksk-roll 18446744073709551616\n", 2),
-        (
-            b"zone a\nwait1 ksk-roll 340282366920938463463374607431768211456\n",
-            2,
-        ),
-        (b"zone a\nwait1 ksk-roll -1\n", 2),
-        (b"zone a\nwait1 ksk-roll +1\n", 2),
-        (b"zone a\nwait1 ksk-roll 0x1\n", 2),
-        (b"zone a\nwait1 ksk-roll 1s\n", 2),
-        (b"zone a\nwait1 ksk-roll \n", 2),
-        (b"zone a\nset-visible K1 -\n", 2),
-    ];
-    assert_malformed(&rt, rt.alloc(), &scripts);
-    Ok(())
-}
+const NUMBERS: &[Row] = &[
+    ("zone .\nadd-ksk K - 256 0 0 yes\n", 2),
+    ("zone .\nadd-ksk K - 13 65536 0 yes\n", 2),
+    ("zone a\nadd-ksk K1 - 13 1 18446744073709551616 yes\n", 2),
+    ("zone a\nadd-ksk K1 - 13 1 99999999999999999999 yes\n", 2),
+    ("zone .\nreport1 ksk-roll 4294967296 0\n", 2),
+    ("zone a\nreport2 ksk-roll 60 18446744073709551616\n", 2),
+    ("zone a\nadd-public K1 000000000000000000013 1 0 yes\n", 2),
+    ("zone .\nwait1 ksk-roll 000000000000000000001\n", 2),
+    ("zone .\nwait1 ksk-roll 18446744073709551616\n", 2),
+    (
+        "zone a\nwait1 ksk-roll 340282366920938463463374607431768211456\n",
+        2,
+    ),
+    ("zone a\nwait1 ksk-roll -1\n", 2),
+    ("zone a\nwait1 ksk-roll +1\n", 2),
+    ("zone a\nwait1 ksk-roll 0x1\n", 2),
+    ("zone a\nwait1 ksk-roll 1s\n", 2),
+    ("zone a\nwait1 ksk-roll \n", 2),
+    ("zone a\nset-visible K1 -\n", 2),
+];
 
 /// Algorithms by another word than their six names, and a name where there is none.
-#[test]
-fn algorithms(rt: HostRuntime) -> Result<(), Fail> {
-    let scripts: [Row; 14] = [
-        (b"zone a\nadd-ksk K - ecdsap256sha256 0 0 yes\n", 2),
-        (b"zone a\nadd-zsk K - Ed25519 0 0 yes\n", 2),
-        (b"zone a\nadd-csk K - ED25519. 0 0 yes\n", 2),
-        (b"zone a\nadd-public K ED4488 0 0 yes\n", 2),
-        (b"zone a\nadd-public K ED44 0 0 yes\n", 2),
-        (b"zone a\nadd-public K 16ED448 0 0 yes\n", 2),
-        (b"zone a\nadd-public K RSASHA1 0 0 yes\n", 2),
-        (b"zone a\nadd-public K RSA 0 0 yes\n", 2),
-        (b"zone a\nadd-public K - 0 0 yes\n", 2),
-        (b"zone a\nadd-public K  0 0 yes\n", 2),
-        (b"zone a\nadd-public K ED448\x00 0 0 yes\n", 2),
-        (b"zone a\nadd-public K \xFFED448 0 0 yes\n", 2),
-        (b"zone a\nadd-public K 16 ED448 0 yes\n", 2),
-        (b"zone a\nreport1 ksk-roll ED448 0\n", 2),
-    ];
-    assert_malformed(&rt, rt.alloc(), &scripts);
-    Ok(())
-}
+const ALGORITHMS: &[Row] = &[
+    ("zone a\nadd-ksk K - ecdsap256sha256 0 0 yes\n", 2),
+    ("zone a\nadd-zsk K - Ed25519 0 0 yes\n", 2),
+    ("zone a\nadd-csk K - ED25519. 0 0 yes\n", 2),
+    ("zone a\nadd-public K ED4488 0 0 yes\n", 2),
+    ("zone a\nadd-public K ED44 0 0 yes\n", 2),
+    ("zone a\nadd-public K 16ED448 0 0 yes\n", 2),
+    ("zone a\nadd-public K RSASHA1 0 0 yes\n", 2),
+    ("zone a\nadd-public K RSA 0 0 yes\n", 2),
+    ("zone a\nadd-public K - 0 0 yes\n", 2),
+    ("zone a\nadd-public K  0 0 yes\n", 2),
+    ("zone a\nadd-public K ED448\x00 0 0 yes\n", 2),
+    ("zone a\nadd-public K 16 ED448 0 yes\n", 2),
+    ("zone a\nreport1 ksk-roll ED448 0\n", 2),
+];
 
 /// References, lists of them, flags and rolls of another form.
+const REFERENCES_FLAGS_AND_ROLLS: &[Row] = &[
+    ("zone a\ndelete -\n", 2),
+    ("zone .\nadd-ksk - - 13 0 0 yes\n", 2),
+    ("zone .\ndelete K,L\n", 2),
+    ("zone a\nadd-ksk K1 ,K1 13 1 0 yes\n", 2),
+    ("zone a\ndelete Kü\n", 2),
+    ("zone a\ndelete K\x7F\n", 2),
+    ("zone a\ndelete K\x00\n", 2),
+    ("zone a\nstart ksk-roll - ,K1 0\n", 2),
+    ("zone .\nstart ksk-roll A, - 0\n", 2),
+    ("zone .\nstart ksk-roll A,,B - 0\n", 2),
+    ("zone a\nstart ksk-roll - , 0\n", 2),
+    ("zone a\nstart ksk-roll - K1,- 0\n", 2),
+    ("zone a\nstart ksk-roll -,K1 K2 0\n", 2),
+    ("zone a\nset-signer K1 Yes\n", 2),
+    ("zone .\nadd-ksk K - 13 0 0 Yes\n", 2),
+    ("zone a\nset-signer K1 true\n", 2),
+    ("zone a\nset-signer K1 -\n", 2),
+    ("zone a\ndone roll\n", 2),
+    ("zone a\ndone CSK-roll\n", 2),
+    ("zone a\ndone ksk_roll\n", 2),
+    ("zone a\nabort nope\n", 2),
+    ("zone a\nwait1 - 0\n", 2),
+];
+
+/// The tables of texts.
+const MALFORMED: &[&[Row]] = &[
+    ZONE_LINES,
+    LATER_LINES,
+    WORDS_AND_SPACES,
+    NUMBERS,
+    ALGORITHMS,
+    REFERENCES_FLAGS_AND_ROLLS,
+];
+
+/// Scripts that are no text, and the numbers of their first malformed lines.
+const BYTES: &[(&[u8], usize)] = &[
+    (b"zone a\xFF\n", 1),
+    (b"zone a\nadd-public K \xFFED448 0 0 yes\n", 2),
+    (b"zone .\ndelete \xFE\n", 2),
+];
+
+/// What is written where a script has no calls.
+const NO_CALLS: &str = "ds=- dnskey=- signers=- zone=-\nchain safe\n";
+
+/// Zone lines, and the lengths of their beginnings that are scripts: a zone line alone is one where
+/// its name stands.
+const BEGINNINGS: &[(&str, &[usize])] = &[
+    ("zone a\\.b\n", &[6, 8, 9, 10]),
+    ("zone a..b\n", &[6, 7]),
+];
+
+/// Whether a script is refused by the number of its first malformed line, with nothing written.
+fn is_refused(alloc: Global, script: &[u8], line: usize) -> bool {
+    is_run(alloc, script, WHOLE, &Err(ScriptFault::Malformed(line)), "")
+}
+
+/// Whether a beginning of a script is run where its length is one of these, and is else refused.
+fn is_script_at(alloc: Global, script: &str, lengths: &[usize], end: usize) -> bool {
+    let Some(front) = script.as_bytes().get(..end) else {
+        return false;
+    };
+    if lengths.contains(&end) {
+        is_run(alloc, front, WHOLE, &Ok(()), NO_CALLS)
+    } else {
+        is_refused(alloc, front, 1)
+    }
+}
+
+/// The first malformed line is told, no line before it is run, and nothing is written.
 #[test]
-fn references_flags_and_rolls(rt: HostRuntime) -> Result<(), Fail> {
-    let scripts: [Row; 23] = [
-        (b"zone a\ndelete -\n", 2),
-        (b"zone .\nadd-ksk - - 13 0 0 yes\n", 2),
-        (b"zone .\ndelete K,L\n", 2),
-        (b"zone a\nadd-ksk K1 ,K1 13 1 0 yes\n", 2),
-        (b"zone a\ndelete K\xC3\xBC\n", 2),
-        (b"zone .\ndelete \xFE\n", 2),
-        (b"zone a\ndelete K\x7F\n", 2),
-        (b"zone a\ndelete K\x00\n", 2),
-        (b"zone a\nstart ksk-roll - ,K1 0\n", 2),
-        (b"zone .\nstart ksk-roll A, - 0\n", 2),
-        (b"zone .\nstart ksk-roll A,,B - 0\n", 2),
-        (b"zone a\nstart ksk-roll - , 0\n", 2),
-        (b"zone a\nstart ksk-roll - K1,- 0\n", 2),
-        (b"zone a\nstart ksk-roll -,K1 K2 0\n", 2),
-        (b"zone a\nset-signer K1 Yes\n", 2),
-        (b"zone .\nadd-ksk K - 13 0 0 Yes\n", 2),
-        (b"zone a\nset-signer K1 true\n", 2),
-        (b"zone a\nset-signer K1 -\n", 2),
-        (b"zone a\ndone roll\n", 2),
-        (b"zone a\ndone CSK-roll\n", 2),
-        (b"zone a\ndone ksk_roll\n", 2),
-        (b"zone a\nabort nope\n", 2),
-        (b"zone a\nwait1 - 0\n", 2),
-    ];
-    assert_malformed(&rt, rt.alloc(), &scripts);
-    Ok(())
+fn malformed_lines(rt: HostRuntime) {
+    for table in MALFORMED {
+        for (script, line) in *table {
+            assert!(rt;
+                is_refused(rt.alloc(), script.as_bytes(), *line),
+                "{script:?}"
+            );
+        }
+    }
+    for (script, line) in BYTES {
+        assert!(rt; is_refused(rt.alloc(), script, *line), "{script:?}");
+    }
 }
 
 #[test]
-fn faults_have_texts_and_statuses(rt: HostRuntime) -> Result<(), Fail> {
-    let faults = [
-        (ScriptFault::Malformed(1), "line 1: malformed", 1),
-        (ScriptFault::Malformed(12), "line 12: malformed", 1),
-        (ScriptFault::Device, "input or output fault", 2),
-        (ScriptFault::OutOfMemory, "out of memory", 3),
-    ];
-    for (fault, text, status) in &faults {
-        assert_eq!(rt; fault.to_string(rt.alloc())?.as_str(), *text);
-        assert_eq!(rt; fault.status(), *status, "of {text}");
+fn beginnings_of_zone_lines(rt: HostRuntime) {
+    for (script, lengths) in BEGINNINGS {
+        for end in 0..=script.len() {
+            let is_so = is_script_at(rt.alloc(), script, lengths, end);
+            assert!(rt; is_so, "{end} bytes of {script:?}");
+        }
     }
-    Ok(())
 }

@@ -1,80 +1,102 @@
-//! What an operator reads of a refusal.
+//! What an operator reads of refusals and faults.
+use crate::values::{MAX, Parts, duration};
+use dnssec_base::NameError;
 use dnssec_keyset::Error;
-use std::test::Fail;
-use std::time::Duration;
+use dnssec_record::ScriptFault;
+use std::alloc::Global;
+use std::fmt::Display;
 
-/// Each refusal has its text.
-#[test]
-fn refusals(rt: HostRuntime) -> Result<(), Fail> {
-    let texts = [
-        (Error::KeyExists, "key already exists"),
-        (Error::KeyNotFound, "key not found"),
-        (Error::KeyNotOld, "key is still in use, not old"),
-        (Error::DuplicateKeyTag, "Key tag already present"),
-        (Error::WrongKeyType, "key has the wrong type"),
-        (Error::WrongKeyState, "key is in the wrong state"),
-        (
-            Error::NoSuitableKeyPresent,
-            "no suitable key present after key roll",
-        ),
-        (
-            Error::WrongStateForRollOperation,
-            "wrong roll state for operation",
-        ),
-        (
-            Error::ConflictingRollInProgress,
-            "conflicting roll is in progress",
-        ),
-        (
-            Error::AlgorithmSetsMismatch,
-            "algorithm set mismatch for non-algorithm key roll",
-        ),
-        (Error::Wait(Duration::from_secs(1)), "wait for duration 1s"),
-        (
-            Error::UnknownRollType,
-            "unable to parse string as roll type",
-        ),
-        (Error::OutOfMemory, "out of memory"),
-    ];
-    for (error, want) in texts {
-        let text = error.to_string(rt.alloc())?;
-        assert_eq!(rt; text.as_str(), want);
+/// Refusals but for those of waits, and what they print.
+const REFUSALS: &[(Error, &str)] = &[
+    (Error::KeyExists, "key already exists"),
+    (Error::KeyNotFound, "key not found"),
+    (Error::KeyNotOld, "key is still in use, not old"),
+    (Error::DuplicateKeyTag, "Key tag already present"),
+    (Error::WrongKeyType, "key has the wrong type"),
+    (Error::WrongKeyState, "key is in the wrong state"),
+    (
+        Error::NoSuitableKeyPresent,
+        "no suitable key present after key roll",
+    ),
+    (
+        Error::WrongStateForRollOperation,
+        "wrong roll state for operation",
+    ),
+    (
+        Error::ConflictingRollInProgress,
+        "conflicting roll is in progress",
+    ),
+    (
+        Error::AlgorithmSetsMismatch,
+        "algorithm set mismatch for non-algorithm key roll",
+    ),
+    (
+        Error::UnknownRollType,
+        "unable to parse string as roll type",
+    ),
+    (Error::OutOfMemory, "out of memory"),
+];
+
+/// How long a wait lasts still, and what its refusal prints. A duration is told in its
+/// largest unit, with the decimals that are left. The micro sign is that of Latin-1.
+const WAITS: &[(Parts, &str)] = &[
+    ((1, 0), "wait for duration 1s"),
+    ((60, 0), "wait for duration 60s"),
+    ((1, 500_000_000), "wait for duration 1.5s"),
+    ((1, 1), "wait for duration 1.000000001s"),
+    ((0, 999_000_000), "wait for duration 999ms"),
+    ((0, 1_000_001), "wait for duration 1.000001ms"),
+    ((0, 2_569), "wait for duration 2.569\u{B5}s"),
+    ((0, 1_000), "wait for duration 1\u{B5}s"),
+    ((0, 999), "wait for duration 999ns"),
+    ((0, 0), "wait for duration 0ns"),
+    (MAX, "wait for duration 18446744073709551615.999999999s"),
+];
+
+/// Faults of names, and what they print.
+const FAULTS_OF_NAMES: &[(NameError, &str)] = &[
+    (NameError::EmptyLabel, "empty label"),
+    (NameError::LongLabel, "label longer than 63 bytes"),
+    (NameError::LongName, "name longer than 255 bytes"),
+    (NameError::BadEscape, "illegal escape"),
+    (NameError::BadByte, "illegal character"),
+    (NameError::OutOfMemory, "out of memory"),
+];
+
+/// Faults of scripts, what they print, and the status that a program ends with after them.
+const FAULTS_OF_SCRIPTS: &[(ScriptFault, &str, u8)] = &[
+    (ScriptFault::Malformed(1), "line 1: malformed", 1),
+    (ScriptFault::Malformed(12), "line 12: malformed", 1),
+    (ScriptFault::Device, "input or output fault", 2),
+    (ScriptFault::OutOfMemory, "out of memory", 3),
+];
+
+/// Whether a value prints this.
+fn prints(alloc: Global, value: &impl Display, text: &str) -> bool {
+    match value.to_string(alloc) {
+        Ok(printed) => printed.as_str() == text,
+        Err(_) => false,
     }
-    Ok(())
 }
 
-/// A duration is told in its largest unit, with the decimals that are left.
 #[test]
-fn durations(rt: HostRuntime) -> Result<(), Fail> {
-    let texts = [
-        (Duration::from_secs(60), "60s"),
-        (Duration::new(1, 500_000_000), "1.5s"),
-        (Duration::new(1, 1), "1.000000001s"),
-        (Duration::from_nanos(999_000_000), "999ms"),
-        (Duration::from_nanos(1_000_001), "1.000001ms"),
-        (Duration::from_nanos(2_569), "2.569µs"),
-        (Duration::from_nanos(1_000), "1µs"),
-        (Duration::from_nanos(999), "999ns"),
-        (Duration::ZERO, "0ns"),
-        (Duration::MAX, "18446744073709551615.999999999s"),
-    ];
-    for (wait, want) in texts {
-        let text = Error::Wait(wait).to_string(rt.alloc())?;
-        assert_eq!(rt;
-            text.as_str().strip_prefix("wait for duration "),
-            Some(want)
-        );
+fn refusals_have_their_texts(rt: HostRuntime) {
+    for (error, text) in REFUSALS {
+        assert!(rt; prints(rt.alloc(), error, text), "{text}");
     }
-    Ok(())
+    for (wait, text) in WAITS {
+        let error = Error::Wait(duration(*wait));
+        assert!(rt; prints(rt.alloc(), &error, text), "{text}");
+    }
 }
 
-/// The micro sign is that of Latin-1, in two bytes.
 #[test]
-fn the_micro_sign(rt: HostRuntime) -> Result<(), Fail> {
-    let text = Error::Wait(Duration::from_nanos(2_569)).to_string(rt.alloc())?;
-    assert_eq!(rt;
-        text.as_str().as_bytes(),
-        b"wait for duration 2.569\xc2\xb5s".as_slice()
-    );
-    Ok(())
+fn faults_have_their_texts(rt: HostRuntime) {
+    for (fault, text) in FAULTS_OF_NAMES {
+        assert!(rt; prints(rt.alloc(), fault, text), "{text}");
+    }
+    for (fault, text, status) in FAULTS_OF_SCRIPTS {
+        let is_so = prints(rt.alloc(), fault, text) && fault.status() == *status;
+        assert!(rt; is_so, "{text}");
+    }
 }

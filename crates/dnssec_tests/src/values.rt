@@ -1,73 +1,124 @@
 //! Moments, and the names of zones and of rolls.
 use dnssec_keyset::{Error, KeySet, Name, RollType, Timestamp, UnixTime};
-use std::test::Fail;
+use std::alloc::Global;
 use std::time::Duration;
 
-fn at(seconds: u64) -> UnixTime {
-    UnixTime::from(Duration::from_secs(seconds))
+/// A duration, or a moment by what has gone since 1970, in seconds and nanoseconds.
+pub type Parts = (u64, u64);
+
+/// The longest duration, and the greatest moment.
+pub const MAX: Parts = (u64::MAX, 999_999_999);
+
+/// A moment and a duration, and the moment that is so much later, where there is one.
+const SUMS: &[(Parts, Parts, Option<Parts>)] = &[
+    ((10, 999_999_999), (0, 2), Some((11, 1))),
+    ((10, 999_999_999), (0, 0), Some((10, 999_999_999))),
+    (MAX, (0, 0), Some(MAX)),
+    (MAX, (0, 1), None),
+    ((1, 0), MAX, None),
+];
+
+/// Two moments, and how long before the second the first one is.
+const ELAPSED: &[(Parts, Parts, Parts)] = &[
+    ((5, 0), (9, 0), (4, 0)),
+    ((10, 0), (10, 999_999_999), (0, 999_999_999)),
+    ((10, 999_999_999), (11, 0), (0, 1)),
+    // the moment lies ahead
+    ((9, 0), (5, 0), (0, 0)),
+];
+
+/// What is answered to a text that names no roll.
+const NO_ROLL: Result<RollType, Error> = Err(Error::UnknownRollType);
+
+/// Texts, and the rolls that they name. A roll is named as an operator writes it, and in no other
+/// way.
+const ROLLS: &[(&str, Result<RollType, Error>)] = &[
+    ("ksk-roll", Ok(RollType::KskRoll)),
+    ("ksk-double-ds-roll", Ok(RollType::KskDoubleDsRoll)),
+    ("zsk-roll", Ok(RollType::ZskRoll)),
+    (
+        "zsk-double-signature-roll",
+        Ok(RollType::ZskDoubleSignatureRoll),
+    ),
+    ("csk-roll", Ok(RollType::CskRoll)),
+    ("algorithm-roll", Ok(RollType::AlgorithmRoll)),
+    ("", NO_ROLL),
+    ("CSK-roll", NO_ROLL),
+    ("csk-roll ", NO_ROLL),
+    (" csk-roll", NO_ROLL),
+    ("csk", NO_ROLL),
+    ("csk_roll", NO_ROLL),
+    ("KskRoll", NO_ROLL),
+];
+
+pub fn duration((seconds, nanos): Parts) -> Duration {
+    Duration::from_secs(seconds).saturating_add(Duration::from_nanos(nanos))
 }
 
-/// A timestamp reaches as far as its 32 bits, and a moment as far as a duration.
+/// The moment that is so much later, where there is one.
+fn sum(moment: Parts, later: Parts) -> Option<Duration> {
+    let (moment, later) = (UnixTime::from(duration(moment)), duration(later));
+    if moment.fits(later) {
+        Some(Duration::from(moment + later))
+    } else {
+        None
+    }
+}
+
+/// How long before the second moment the first is; none where their order says otherwise.
+fn elapsed(moment: Parts, now: Parts) -> Option<Duration> {
+    let (moment, now) = (
+        UnixTime::from(duration(moment)),
+        UnixTime::from(duration(now)),
+    );
+    let elapsed = moment.elapsed(&now);
+    if (moment < now) == elapsed.is_zero() {
+        None
+    } else {
+        Some(elapsed)
+    }
+}
+
+/// What a new set prints of its zone.
+fn name_of_new_set(alloc: Global, name: &str) -> Option<String> {
+    match Name::<Vec<u8>>::from_str(alloc, name) {
+        Ok(name) => KeySet::new(alloc, name).name().to_string(alloc).ok(),
+        Err(_) => None,
+    }
+}
+
 #[test]
 fn moments(rt: HostRuntime) {
-    let last = UnixTime::from(Timestamp::from(4_294_967_295));
+    for (index, (moment, later, wanted)) in SUMS.iter().enumerate() {
+        assert_eq!(rt;
+            sum(*moment, *later),
+            wanted.map(duration),
+            "in row {index}"
+        );
+    }
+    for (index, (moment, now, wanted)) in ELAPSED.iter().enumerate() {
+        let is_so = elapsed(*moment, *now) == Some(duration(*wanted));
+        assert!(rt; is_so, "in row {index}");
+    }
+}
+
+/// A timestamp reaches as far as its 32 bits.
+#[test]
+fn the_last_timestamp(rt: HostRuntime) {
+    let last = UnixTime::from(Timestamp::from(u32::MAX));
     assert_eq!(rt; Duration::from(last), Duration::from_secs(4_294_967_295));
-    let greatest = UnixTime::from(Duration::MAX);
-    assert!(rt; greatest.fits(Duration::ZERO));
-    assert!(rt; !greatest.fits(Duration::from_nanos(1)));
-    assert!(rt; !at(1).fits(Duration::MAX));
-    let nanos = Duration::new(10, 999_999_999);
-    assert_eq!(rt; Duration::from(UnixTime::from(nanos)), nanos);
-    let (moment, later) = (UnixTime::from(nanos), Duration::from_nanos(2));
-    assert!(rt; moment.fits(later));
-    assert_eq!(rt; moment + later, UnixTime::from(Duration::new(11, 1)));
-    assert_eq!(rt; at(5).elapsed(&at(9)), Duration::from_secs(4));
-    assert_eq!(rt; moment.elapsed(&at(11)), Duration::from_nanos(1));
-    // the moment lies ahead
-    assert_eq!(rt; at(9).elapsed(&at(5)), Duration::ZERO);
-    assert!(rt; at(10) < moment && moment < at(11));
 }
 
 /// A set has the name that it was made with.
 #[test]
-fn name_of_the_zone(rt: HostRuntime) -> Result<(), Fail> {
-    let name = Name::<Vec<u8>>::from_str(rt.alloc(), "example.com")?;
-    let set = KeySet::new(rt.alloc(), name);
-    let text = set.name().to_string(rt.alloc())?;
-    assert_eq!(rt; text.as_str(), "example.com");
-    Ok(())
+fn name_of_the_zone(rt: HostRuntime) {
+    let name = name_of_new_set(rt.alloc(), "example.com");
+    assert_eq!(rt; name.as_deref(), Some("example.com"));
 }
 
-/// A roll is named as an operator writes it, and in no other way.
 #[test]
-fn names_of_rolls(rt: HostRuntime) -> Result<(), Fail> {
-    let rolls = [
-        ("ksk-roll", RollType::KskRoll),
-        ("ksk-double-ds-roll", RollType::KskDoubleDsRoll),
-        ("zsk-roll", RollType::ZskRoll),
-        (
-            "zsk-double-signature-roll",
-            RollType::ZskDoubleSignatureRoll,
-        ),
-        ("csk-roll", RollType::CskRoll),
-        ("algorithm-roll", RollType::AlgorithmRoll),
-    ];
-    for (name, roll) in rolls {
-        assert_eq!(rt; name.parse::<RollType>()?, roll, "{name}");
+fn names_of_rolls(rt: HostRuntime) {
+    for (name, roll) in ROLLS {
+        assert_eq!(rt; name.parse::<RollType>(), *roll, "{name:?}");
     }
-    for name in [
-        "",
-        "CSK-roll",
-        "csk-roll ",
-        " csk-roll",
-        "csk",
-        "csk_roll",
-        "KskRoll",
-    ] {
-        assert!(rt;
-            name.parse::<RollType>() == Err(Error::UnknownRollType),
-            "{name:?}"
-        );
-    }
-    Ok(())
 }
