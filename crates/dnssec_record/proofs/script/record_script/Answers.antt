@@ -1,5 +1,5 @@
 -- The record is that of a run of the calls that the lines make.
-use Rattle.std.proofs.Common.{◌≡◌, ap, ◌∙◌, map, subst, arith, length}
+use Rattle.std.proofs.Common.{◌≡◌, ap, ◌∙◌, map, subst, arith, length, rules}
 use Rattle.std.specs.Prelude.{vec_len}
 use denote.Bor.{now}
 use Rattle.dnssec_run.specs.Record.{world_at}
@@ -25,3 +25,6 @@ returns-clause-ok c =
       is_set = subst (λ n. c.in-Ok.run'.keyset ≡ (world_at name calls entries.items n).set) count
           c.in-Ok.ensures.keyset;
     }
+
+pub returns-in_default-clause-err : goal.returns-in_default-clause-err
+returns-in_default-clause-err c = search rules
