@@ -58,4 +58,6 @@ docs:
 # Each request for memory of calls of a key set, of its copies, of names, of a script's record and
 # of its verdict fails in turn.
 memory:
+	@mkdir -p crates/memory_of_calls/out
+	@cd crates/memory_of_calls && rt run <stdin >out/build.log 2>&1 || { cat out/build.log >&2; exit 1; }
 	@tests/memory.py

@@ -1,12 +1,11 @@
 #!/usr/bin/env python3
-"""The gate: `tests/docs.py`, then `rt ci`, beside its first proofs `tests/runbooks.py` and
-`tests/memory.py`, and beside its edits `tests/sets.py` and `tests/library.py`. Before the last line
-of `rt ci` it tells when, in minutes and seconds since the start, each step was done, so that a rise
-is seen."""
+"""The gate: `tests/docs.py`, then `rt ci`, beside its first proofs `tests/runbooks.py`, and beside
+its edits `tests/memory.py`, `tests/sets.py` and `tests/library.py`. Before the last line of `rt ci`
+it tells when, in minutes and seconds since the start, each step was done, so that a rise is
+seen."""
 
 import os
 import re
-import shutil
 import subprocess
 import sys
 import tempfile
@@ -60,9 +59,9 @@ class Edits(threading.Thread):
 class Beside(threading.Thread):
     """A script of tests that runs beside `rt ci`."""
 
-    def __init__(self, name, top=TOP, under=()):
+    def __init__(self, name, under=()):
         super().__init__(daemon=True, name=name)
-        self.words = [*under, top / "tests" / f"{name}.py"]
+        self.words = [*under, TOP / "tests" / f"{name}.py"]
         self.test = None
 
     def run(self):
@@ -90,13 +89,6 @@ class Behind(Beside):
         self.wanted.discard(crate)
         if self.ident is None and not self.wanted:
             self.start()
-
-
-def copy_of_sources(folder):
-    """What the test of memory builds and reads, since `rt ci` and it can't build in one place."""
-    top = Path(folder, "sources")
-    shutil.copytree(TOP, top, ignore=shutil.ignore_patterns(".git", "out"))
-    return top
 
 
 # What `rt ci` says of a crate, or of its tests, once it is done with its proof. It proves what no
@@ -135,19 +127,20 @@ def main():
     if subprocess.run([TOP / "tests" / "docs.py"]).returncode:
         return 1
     note("docs")
-    with tempfile.TemporaryDirectory() as folder:
-        # At low priority: each crate waits for the proofs of those below it.
-        memory = Beside("memory", copy_of_sources(folder), under=["nice"])
-        first = [Beside("runbooks", under=["nice"]), memory]
-        behind = [Behind("library", "keyset", "keyset_c"), Behind("sets", "whole_sets")]
-        for beside in first:
-            beside.start()
-        status, last = prove(behind)
-        for beside in (*first, *behind):
-            fault = beside.fault()
-            # (A script never begins where a proof that it rests on has failed, which is told.)
-            if fault and (beside.ident or status == 0):
-                status, last = 1, fault
+    # At low priority: each crate waits for the proofs of those below it.
+    runbooks = Beside("runbooks", under=["nice"])
+    runbooks.start()
+    behind = [
+        Behind("memory", "memory_of_calls"),
+        Behind("sets", "callers"),
+        Behind("library", "keyset", "keyset_c"),
+    ]
+    status, last = prove(behind)
+    for beside in (runbooks, *behind):
+        fault = beside.fault()
+        # (A script never begins where a proof that it rests on has failed, which is told.)
+        if fault and (beside.ident or status == 0):
+            status, last = 1, fault
     print("Done after, in minutes and seconds:", *steps(), sep="\n")
     print(last, end="", flush=True)
     return status

@@ -50,6 +50,13 @@ def run(*command, **how):
     return ran.stdout.decode()
 
 
+def c_compiler():
+    compiler = shutil.which("cc") or shutil.which("gcc") or shutil.which("clang")
+    if not compiler:
+        raise Wrong("there is no C compiler here, and the tests in C want one")
+    return compiler
+
+
 def stands_on():
     """The crates of the repository, each with those that it names, lowest first."""
     rows = (line.partition("#")[0].partition(":") for line in open(TOP / "crates.txt"))
@@ -264,10 +271,8 @@ def test_python_caller(folder):
 
 
 def test(folder, room):
-    compiler = shutil.which("cc") or shutil.which("gcc") or shutil.which("clang")
     expect_exports(folder)
-    if not compiler:
-        raise Wrong("there is no C compiler here, and the tests in C want one")
+    compiler = c_compiler()
     yield test_in_c(compiler, folder, room)
     yield test_c_caller(compiler, room, "C", c_flags(folder))
     if shutil.which("pkg-config"):

@@ -6,7 +6,7 @@ behind each call have to be those of the tables (`replay/tables.py`), which shar
 key set; both audits have one verdict on each record. So it is with the stored scripts, whose
 answers are stored too, with the chain line.
 
-It asks the program `whole_sets`, which `rt ci` has made by then.
+It asks the program `callers`, which `rt ci` has made by then.
 """
 
 import subprocess
@@ -19,7 +19,7 @@ sys.path.insert(0, str(TOP / "replay"))
 
 from tables import KeySet  # noqa: E402
 
-PROGRAM = TOP / "crates" / "whole_sets" / "out" / "whole_sets"
+PROGRAM = TOP / "crates" / "callers" / "out" / "callers"
 STORED = TOP / "replay" / "scripts.txt"
 
 FIRST_KEYS = """\

@@ -1,12 +1,15 @@
 //! The callers that the READMEs show: one of each crate that a user names, and one of `dnssec_run`.
+//! Where standard input has scripts, the whole sets behind their calls are told instead.
 #![tactic(auto)]
 
 mod first_keys;
 mod names;
 mod runs;
 mod verdicts;
+mod whole_sets;
 
 use anyhow::Result;
+use std::io::Read;
 
 /// A KSK roll before the first keys have come in.
 const TOO_SOON: &str = "zone example.com
@@ -18,6 +21,11 @@ wait1 ksk-roll 70
 ";
 
 fn main(rt: HostRuntime) -> Result<()> {
+    let mut scripts = String::new(rt.alloc());
+    rt.stdin().read_to_string(&mut scripts)?;
+    if !scripts.is_empty() {
+        return whole_sets::tell(&rt, scripts.as_str());
+    }
     println!(rt; "{}", names::describe(rt.alloc(), "a\\.b.example.com.")?)?;
     println!(rt; "{}", names::describe(rt.alloc(), "a..b")?)?;
     println!(rt; "{:?}", first_keys::bring_in(rt.alloc())?)?;

@@ -3,7 +3,8 @@ use crate::values::{MAX, Parts, duration};
 use Further::{NoDnskey, StrangersDs};
 use dnssec_keyset::{RollType, UnixTime};
 use dnssec_record::{
-    Entry, Mark, Published, PublishedKey, Reply, ScriptFault, audit, audit_window, record_script,
+    Broken, Entry, Mark, Published, PublishedKey, Reply, ScriptFault, audit, audit_window,
+    record_script,
 };
 use std::alloc::{AllocError, Global};
 
@@ -140,17 +141,20 @@ const BY_HAND: &[(&[Row], Option<Positions>)] = &[
     (&[START, LAST_REPORT_TTL_1, DS], Some([3, 3, 0, 0])),
 ];
 
-/// Where both audits say that a record breaks, where they answer alike.
-fn verdict(alloc: Global, entries: &[Entry]) -> Result<Option<Positions>, ScriptFault> {
-    let Ok(verdict) = audit_window(alloc, entries) else {
-        return Err(ScriptFault::OutOfMemory);
-    };
-    if verdict != audit(entries) {
-        return Err(ScriptFault::Device);
+/// Where each audit says that a record breaks.
+type Verdicts = [Option<Positions>; 2];
+
+fn verdicts(alloc: Global, entries: &[Entry]) -> Result<Verdicts, ScriptFault> {
+    match audit_window(alloc, entries) {
+        Ok(verdict) => Ok([positions(audit(entries)), positions(verdict)]),
+        Err(_) => Err(ScriptFault::OutOfMemory),
     }
+}
+
+fn positions(verdict: Option<Broken>) -> Option<Positions> {
     match verdict {
-        Some(broken) => Ok(Some([broken.at, broken.ds, broken.dnskey, broken.zone])),
-        None => Ok(None),
+        Some(broken) => Some([broken.at, broken.ds, broken.dnskey, broken.zone]),
+        None => None,
     }
 }
 
@@ -160,12 +164,8 @@ fn record(alloc: Global, parts: &[&str]) -> Result<Vec<Entry>, ScriptFault> {
     Ok(record_script(alloc, script.as_str().as_bytes())?.entries)
 }
 
-/// Where the record of a script in parts breaks, where this is published after its last call.
-fn verdict_on(
-    alloc: Global,
-    parts: &[&str],
-    further: Further,
-) -> Result<Option<Positions>, ScriptFault> {
+/// The verdicts on the record of a script in parts, where this is published after its last call.
+fn verdicts_on(alloc: Global, parts: &[&str], further: Further) -> Result<Verdicts, ScriptFault> {
     let mut entries = record(alloc, parts)?;
     if let Some(entry) = entries.last_mut() {
         match further {
@@ -173,7 +173,7 @@ fn verdict_on(
             NoDnskey => entry.published.dnskey = Vec::new(alloc),
         }
     }
-    verdict(alloc, &entries)
+    verdicts(alloc, &entries)
 }
 
 fn keys(alloc: Global, listed: Keys) -> Result<Vec<PublishedKey>, AllocError> {
@@ -206,13 +206,13 @@ fn entry(alloc: Global, row: Row) -> Result<Entry, AllocError> {
     })
 }
 
-/// Where the record of entries by hand breaks.
-fn verdict_by_hand(alloc: Global, rows: &[Row]) -> Result<Option<Positions>, ScriptFault> {
+/// The verdicts on the record of entries by hand.
+fn verdicts_by_hand(alloc: Global, rows: &[Row]) -> Result<Verdicts, ScriptFault> {
     let mut entries = Vec::new(alloc);
     for row in rows {
         entries.push(entry(alloc, *row)?)?;
     }
-    verdict(alloc, &entries)
+    verdicts(alloc, &entries)
 }
 
 /// Whether a record stays safe behind so many refused calls. (They are too many for `audit`.)
@@ -229,8 +229,8 @@ fn is_safe_after(alloc: Global, calls: usize) -> bool {
 #[test]
 fn the_least_unretired_positions_are_told(rt: HostRuntime) {
     for (index, (parts, further, broken)) in UNRETIRED.iter().enumerate() {
-        let answer = verdict_on(rt.alloc(), parts, *further);
-        assert_eq!(rt; answer, Ok(Some(*broken)), "in row {index}");
+        let answer = verdicts_on(rt.alloc(), parts, *further);
+        assert_eq!(rt; answer, Ok([Some(*broken); 2]), "in row {index}");
     }
 }
 
@@ -242,7 +242,7 @@ fn refused_calls_are_judged(rt: HostRuntime) {
 #[test]
 fn entries_by_hand_are_judged(rt: HostRuntime) {
     for (index, (entries, broken)) in BY_HAND.iter().enumerate() {
-        let answer = verdict_by_hand(rt.alloc(), entries);
-        assert_eq!(rt; answer, Ok(*broken), "in row {index}");
+        let answer = verdicts_by_hand(rt.alloc(), entries);
+        assert_eq!(rt; answer, Ok([*broken; 2]), "in row {index}");
     }
 }

@@ -5,6 +5,8 @@
 #![tactic(auto)]
 
 #[cfg(test)]
+mod at_random;
+#[cfg(test)]
 mod audits;
 #[cfg(test)]
 mod devices;

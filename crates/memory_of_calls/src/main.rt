@@ -1,19 +1,17 @@
-//! The program of the gate that makes calls after some requests for memory.
+//! The program of the gate that makes calls of which one may get no memory.
 //!
-//! Its standard input is three digits, the number of these requests, and a letter that names the
-//! calls. Where all went as it should, it ends with status 0 and writes `refused` if a call was
-//! refused for lack of memory: that call changed nothing, and was accepted when it was made again.
-//! It writes `ample` if none was. Else it writes what went otherwise, and ends with status 1.
+//! Its standard input is a letter that names the calls. Where all went as it should, it ends with
+//! status 0 and writes `refused` if a call was refused for lack of memory: that call changed
+//! nothing, and was accepted when it was made again. It writes `ample` if none was. Else it writes
+//! what went otherwise, and ends with status 1.
 #![tactic(auto)]
 
 mod copies;
 mod names;
-mod requests;
 mod rolls;
 mod verdicts;
 mod wrong;
 
-use crate::requests::make_requests;
 use crate::wrong::Wrong;
 use courses::Memory;
 use std::alloc::Global;
@@ -21,9 +19,8 @@ use std::io::Read;
 use std::process::ExitCode;
 
 fn main(rt: HostRuntime) -> ExitCode {
-    let mut stdin = rt.stdin();
     let mut letter = [0u8; 1];
-    if make_requests(rt.alloc(), &mut stdin).is_err() || stdin.read_exact(&mut letter).is_err() {
+    if rt.stdin().read_exact(&mut letter).is_err() {
         return ExitCode::from(9);
     }
     let [letter] = letter;

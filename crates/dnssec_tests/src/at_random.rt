@@ -1,11 +1,7 @@
-//! Makes records at random, also ones that no run makes, and compares the verdicts of `audit` and
-//! of `audit_window` on them.
-#![tactic(auto)]
-
+//! Verdicts on records made at random, also on ones that no run makes.
 ghost use Rattle.std.specs.Prelude.{◌<◌};
 
-use anyhow::Result;
-use dnssec_keyset::{RollType, UnixTime};
+use dnssec_keyset::{Error, RollType, UnixTime};
 use dnssec_record::{Entry, Mark, Published, PublishedKey, Reply, audit, audit_window};
 use std::alloc::{AllocError, Global};
 use std::time::Duration;
@@ -116,24 +112,47 @@ impl Draws {
     }
 }
 
-fn main(rt: HostRuntime) -> Result<()> {
+/// What is told of the records.
+#[derive(Clone, Copy, Debug, PartialEq)]
+struct Tally {
+    /// So many are safe.
+    safe: u32,
+    /// So many are broken by the DNSKEY set of a call.
+    later: u32,
+    /// On so many both audits have one verdict.
+    alike: u32,
+}
+
+fn tally(alloc: Global) -> Result<Tally, Error> {
     let mut draws = Draws { state: 1 };
-    let mut safe = 0u32;
-    let mut later = 0u32;
-    let mut alike = 0u32;
+    let mut tally = Tally {
+        safe: 0,
+        later: 0,
+        alike: 0,
+    };
     for _ in 0..RECORDS {
-        let entries = draws.record(rt.alloc())?;
+        let Ok(entries) = draws.record(alloc) else {
+            return Err(Error::OutOfMemory);
+        };
         let verdict = audit(&entries);
         match verdict {
-            None => safe = safe.saturating_add(1),
-            Some(broken) if broken.dnskey > 0 => later = later.saturating_add(1),
+            None => tally.safe = tally.safe.saturating_add(1),
+            Some(broken) if broken.dnskey > 0 => tally.later = tally.later.saturating_add(1),
             Some(_) => {}
         }
-        if audit_window(rt.alloc(), &entries)? == verdict {
-            alike = alike.saturating_add(1);
+        if audit_window(alloc, &entries) == Ok(verdict) {
+            tally.alike = tally.alike.saturating_add(1);
         }
     }
-    println!(rt; "{RECORDS} records: {safe} safe, {later} broken by a DNSKEY set of a call")?;
-    println!(rt; "{alike} judged alike")?;
-    Ok(())
+    Ok(tally)
+}
+
+#[test]
+fn records_at_random_are_judged_alike(rt: HostRuntime) {
+    let all = Tally {
+        safe: 5497,
+        later: 380,
+        alike: RECORDS,
+    };
+    assert_eq!(rt; tally(rt.alloc()), Ok(all));
 }

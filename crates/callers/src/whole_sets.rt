@@ -1,11 +1,6 @@
 //! Tells of scripts what they are answered, what their records say, whether `audit` and
 //! `audit_window` have one verdict on these, and the whole key set behind each of their calls, by
 //! what its getters give. `tests/sets.py` compares it with the tables and with stored answers.
-//!
-//! An empty line stands between two scripts on standard input, and between two parts of what is
-//! written.
-#![tactic(auto)]
-
 ghost use Rattle.std.specs.Prelude.{IfOk, string_bytes};
 ghost use Rattle.dnssec_record.specs.Answer.{IsAnswerOf};
 
@@ -13,24 +8,22 @@ use anyhow::Result;
 use dnssec_keyset::{Key, KeySet, KeyState, KeyType, UnixTime};
 use dnssec_record::{Std, audit, audit_window, record_script, run_script};
 use std::alloc::Global;
-use std::io::Read;
 use std::time::Duration;
 
 /// The flags of a role: old, signer, present, at parent.
 type Flags = [bool; 4];
 
-fn main(rt: HostRuntime) -> Result<()> {
-    let mut text = String::new(rt.alloc());
-    rt.stdin().read_to_string(&mut text)?;
-    for script in text.as_str().split("\n\n") {
+/// An empty line stands between two scripts, and between two parts of what is written.
+pub fn tell(rt: &HostRuntime, scripts: &str) -> Result<()> {
+    for script in scripts.split("\n\n") {
         println!(rt; "{}", answers_to(rt.alloc(), script)?)?;
-        tell_record(&rt, script)?;
+        tell_record(rt, script)?;
         for (end, byte) in script.bytes().enumerate() {
             if byte == b'\n' {
-                tell_set_behind(&rt, script.get(..end).unwrap_or_default())?;
+                tell_set_behind(rt, script.get(..end).unwrap_or_default())?;
             }
         }
-        tell_set_behind(&rt, script)?;
+        tell_set_behind(rt, script)?;
     }
     Ok(())
 }

@@ -1,0 +1,41 @@
+/* Lets one request for memory fail, of the program that this is loaded into (LD_PRELOAD): the one
+   whose number FAILING_REQUEST tells. At the program's end the number of its requests stands on
+   standard error. */
+
+#include <stdio.h>
+#include <stdlib.h>
+
+/* The C library's own, under the names that it keeps for itself. */
+void *__libc_malloc(size_t size);
+void *__libc_realloc(void *block, size_t size);
+
+static size_t made, failing;
+
+static int is_to_fail(void)
+{
+    return ++made == failing;
+}
+
+void *malloc(size_t size)
+{
+    return is_to_fail() ? NULL : __libc_malloc(size);
+}
+
+void *realloc(void *block, size_t size)
+{
+    return is_to_fail() ? NULL : __libc_realloc(block, size);
+}
+
+/* What was asked for before is not the program's. */
+__attribute__((constructor)) static void begin(void)
+{
+    const char *number = getenv("FAILING_REQUEST");
+    failing = number ? strtoul(number, NULL, 10) : 0;
+    made = 0;
+}
+
+__attribute__((destructor)) static void end(void)
+{
+    size_t requests = made;
+    fprintf(stderr, "requests: %zu\n", requests);
+}
