@@ -1,0 +1,7 @@
+use Rattle.std.proofs.Common.{rules}
+use Rattle.dnssec_key.specs.RollTable.{column}
+use Rattle.dnssec_key.proofs.roll.RollType.stamp_read.Goals as goal
+
+pub returns-in_default-First : goal.returns-in_default-First
+unfolding column
+returns-in_default-First c = search rules
