@@ -1,6 +1,6 @@
 -- What the reader answers is what `from_str` promises of the text, from the empty text on.
 use Rattle.std.proofs.Common.{◌≡◌, ◌≢◌, ◌==◌, [], List, false, ℕ, sym, ap, subst, ◌∙◌, length}
-use Rattle.std.proofs.Common.{eqb-true}
+use Rattle.std.proofs.Common.{eqb-true, rules}
 use Rattle.dnssec_base.specs.Inner.Draft.{IsRead}
 use Rattle.dnssec_base.proofs.Reading.{empty_text, read_spells}
 use Rattle.dnssec_base.proofs.name.Name+Vec+u8.from_str.Goals as goal
@@ -23,3 +23,6 @@ returns-clause-name c =
     (subst (λ text. IsRead text c.in_ok-draft.draft) c.as_bytes.ensures.value
     c.in_ok-draft.ensures.ok)
     (c.in_ok-octets-2.ensures.items ∙ c.finish.ensures)
+
+pub returns-in_err-octets-clause-memory : goal.returns-in_err-octets-clause-memory
+returns-in_err-octets-clause-memory c = search rules
