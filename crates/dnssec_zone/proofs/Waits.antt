@@ -133,7 +133,7 @@ module _ (f : KeyParts → Option ℕ) where
 -- ---- from the moment on which a wait is over to what is left at any moment
 
 -- what is left of a span of time at a moment, by the moment from which nothing is
-left_of : ℕ → ℕ → ℕ → ℕ
+pub left_of : ℕ → ℕ → ℕ → ℕ
 left_of span now end = min span (end - now)
 
 left-since : (ttl now s : ℕ) →
@@ -155,7 +155,7 @@ unfolding left_of
 unchecked span now = omega arith
 
 module _ (roll : RollType) (half : Half) (ttl : ℕ) where
-  missing-same : (k : KeyParts) → lacks_stamp roll half k ≡ not (is_some (over_at roll half ttl k))
+  pub missing-same : (k : KeyParts) → lacks_stamp roll half k ≡ not (is_some (over_at roll half ttl k))
   missing-same k = at ((half_of roll half).checks k.keytype) (stamp_read roll half k)
     where
       at : (c : Bool) (s : Option ℕ) → (c && is_none s)
@@ -180,7 +180,7 @@ module _ (roll : RollType) (half : Half) (ttl : ℕ) where
 
   module _ (now : ℕ) where
     -- what is left for a key at a moment
-    left-over : (k : KeyParts) → time_left roll half ttl now k
+    pub left-over : (k : KeyParts) → time_left roll half ttl now k
         ≡ option_map_or (left_of (ttl * 1_000_000_000) now) (over_at roll half ttl k) 0
     left-over k = at ((half_of roll half).checks k.keytype) (stamp_read roll half k)
       where

@@ -14,6 +14,7 @@ ghost use Rattle.dnssec_key.specs.RollTable.{which, after_report, after_wait, ne
 ghost use Rattle.dnssec_key.specs.RollTable.{after_early_end, old_at_start};
 ghost use Rattle.dnssec_key.specs.Setters.{setting_of, set_by};
 ghost use Rattle.dnssec_key.specs.Inner.Bits.{is_set};
+ghost use Rattle.dnssec_zone.specs.Inner.Begun.{begun_after, over_for};
 ghost use Rattle.dnssec_zone.specs.Inner.Change.{makes};
 ghost use Rattle.dnssec_zone.specs.Inner.Code.{as_want};
 ghost use Rattle.dnssec_zone.specs.Inner.Counts.{CountsAgree, count_in, no_counts, passes};
@@ -41,7 +42,8 @@ pub struct Keys {
     tags: TagIndex,
     /// How many keys a start could go on with.
     counts: Counts,
-    /// What is known of the wait that the last report began, as long as no key has changed since.
+    /// What is known of the wait that the last report began. A setter drops it where the wait sees
+    /// something else of its key from then on, any other change of a key always.
     begun: Option<BegunWait>,
 }
 
@@ -225,7 +227,6 @@ impl Keys {
             (map.get self.old q)) }
         ensures err { OnErr result (self.new ≡ self.old) }
     {
-        self.begun = None;
         let Some(key) = self.map.get_mut(pubref) else {
             return Err(Error::KeyNotFound);
         };
@@ -234,7 +235,7 @@ impl Keys {
         if !before.suits(&setting) {
             return Err(Error::WrongKeyType);
         }
-        key.set(setting);
+        set_key(key, setting, &mut self.begun);
         let after = key.keytype();
         self.counts.follow(&setting, &before, &after);
         is_sound(&self.map);
@@ -357,6 +358,35 @@ fn clone_map(map: &HashMap<String, Key>) -> Result<HashMap<String, Key>, Error>
     match map.clone() {
         Ok(made) => Ok(made),
         Err(_) => Err(Error::OutOfMemory),
+    }
+}
+
+/// All that a begun wait sees of a key: the nanosecond since 1970 from which nothing is left for
+/// it, or `None` where its stamp is missing.
+fn over_for(begun: &Option<BegunWait>, key: &Key) -> Option<u128>
+    ensures { result ≡ over_for begun.now key.now }
+{
+    match *begun {
+        Some(wait) if key.is_checked(wait.roll, wait.half) => {
+            match key.timestamps().at(wait.roll.stamp_read(wait.half)) {
+                Some(stamp) => Some(over_by(Some(stamp), wait.ttl)),
+                None => None,
+            }
+        }
+        Some(_) => Some(0),
+        None => None,
+    }
+}
+
+/// Sets something of a key. What is known of the begun wait stays where it sees the key as it was.
+fn set_key(key: &mut Key, setting: Setting, begun: &mut Option<BegunWait>)
+    ensures key { key.new ≡ set_by (setting_of setting) key.old }
+    ensures begun { begun.new ≡ begun_after begun.old key.old key.new }
+{
+    let over = over_for(begun, key);
+    key.set(setting);
+    if over_for(begun, key) != over {
+        *begun = None;
     }
 }
 

@@ -1,7 +1,10 @@
 -- What is known of a wait that a report has begun.
-use Rattle.std.specs.Prelude.{Option, None, Some, IfSome, IfNone}
+use Rattle.std.specs.Prelude.{Option, None, Some, IfSome, IfNone, ℕ, nat_eq, if◌then◌else◌}
+use Rattle.std.specs.Option.{option_eq}
+use Rattle.dnssec_key.specs.Key.{KeyParts}
 use Rattle.dnssec_key.specs.RollTable.{which}
 use Rattle.dnssec_zone.specs.declared.keys.BegunWait.{BegunWait}
+use Rattle.dnssec_zone.specs.Inner.Over.{over_at}
 use Rattle.dnssec_zone.specs.Keys.{Keys}
 use Rattle.dnssec_zone.specs.Wait.{IsOverFrom, LacksStamp}
 
@@ -11,3 +14,13 @@ IsKnown None keys = Unit {0}
 IsKnown (Some wait) keys =
     IfSome wait.over (IsOverFrom wait.roll (which wait.half) wait.ttl keys)
     × IfNone wait.over (LacksStamp wait.roll (which wait.half) wait.ttl keys)
+
+-- all that it sees of a key: from when on nothing is left for the key
+abbrev pub over_for : Option BegunWait → KeyParts → Option ℕ
+over_for None k = None
+over_for (Some wait) k = over_at wait.roll (which wait.half) wait.ttl k
+
+-- what is known of it once a key has changed: as much as before where it sees the key as it was
+abbrev pub begun_after : Option BegunWait → KeyParts → KeyParts → Option BegunWait
+begun_after begun old new =
+    if option_eq nat_eq (over_for begun new) (over_for begun old) then begun else None
