@@ -10,6 +10,10 @@ SOURCES = crates.txt \
 
 RUNS ?= 1000000
 
+# Proves a crate, and those below it, by a command of rt, and tells what that says where it fails.
+prove = mkdir -p crates/$(1)/out && cd crates/$(1) && \
+	{ rt $(2) >out/build.log 2>&1 || { cat out/build.log >&2; exit 1; }; }
+
 .PHONY: run build lib test docs memory test-lib valgrind asan fuzz
 
 # Answers SCRIPT. The proved program does it where `make build` has made it from these sources;
@@ -24,14 +28,12 @@ run:
 
 # Proves the program and the crates below it, and builds it as crates/keyset/out/keyset.
 build:
-	@mkdir -p crates/keyset/out
-	@cd crates/keyset && rt run <stdin >out/build.log 2>&1 || { cat out/build.log >&2; exit 1; }
+	@$(call prove,keyset,run <stdin)
 
 # Proves the library and the crates below it, and makes of it what callers link: library/out has an
 # archive, a shared object, their header and a file for pkg-config.
 lib:
-	@mkdir -p crates/keyset_c/out
-	@cd crates/keyset_c && rt lib >out/build.log 2>&1 || { cat out/build.log >&2; exit 1; }
+	@$(call prove,keyset_c,lib)
 	@library/pack.sh crates/keyset_c/out/libkeyset_c.a library/out
 
 # Tests what `make lib` has made; under a checker of memory its tests in C alone.
@@ -58,6 +60,5 @@ docs:
 # Each request for memory of calls of a key set, of its copies, of names, of a script's record and
 # of its verdict fails in turn.
 memory:
-	@mkdir -p crates/memory_of_calls/out
-	@cd crates/memory_of_calls && rt run <stdin >out/build.log 2>&1 || { cat out/build.log >&2; exit 1; }
+	@$(call prove,memory_of_calls,run <stdin)
 	@tests/memory.py
