@@ -47,8 +47,8 @@ module _ (roll : RollType) (half : Half) (ttl : ℕ) where
         at (Some l) e =
             (l, e, same_Some _ _ (same ∙ ap (option_map (over_at roll half ttl)) e))
 
-    lacks-on : some_key (lacks_stamp roll half) m ≡ true → some_key (lacks_stamp roll half) n ≡ false
-        → ⊥
+    lacks-on : some_key (lacks_stamp roll half) m ≡ true
+        → some_key (lacks_stamp roll half) n ≡ false → ⊥
     lacks-on some none =
         let one = some_key-found (lacks_stamp roll half) m some in
         let two = there one.0 one.1 one.2 in
@@ -128,7 +128,8 @@ module _ (f : KeyParts → KeyParts) (m n : Keys) (r : List ℕ) (k : KeyParts)
         at b e None here = refl
         at false e (Some l) here = refl
         at true e (Some l) here =
-            let it : k ≡ l = same_Some _ _ (sym found ∙ ap (get m) ((bytes_decides r q).0 e) ∙ here) in
+            let it : k ≡ l =
+            same_Some _ _ (sym found ∙ ap (get m) ((bytes_decides r q).0 e) ∙ here) in
             subst (λ x. Some (over_for (Some wait) x) ≡ Some (over_for (Some wait) (f x))) it
             (ap Some (sym same))
 

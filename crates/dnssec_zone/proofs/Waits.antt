@@ -155,7 +155,8 @@ unfolding left_of
 unchecked span now = omega arith
 
 module _ (roll : RollType) (half : Half) (ttl : ℕ) where
-  pub missing-same : (k : KeyParts) → lacks_stamp roll half k ≡ not (is_some (over_at roll half ttl k))
+  pub missing-same : (k : KeyParts)
+      → lacks_stamp roll half k ≡ not (is_some (over_at roll half ttl k))
   missing-same k = at ((half_of roll half).checks k.keytype) (stamp_read roll half k)
     where
       at : (c : Bool) (s : Option ℕ) → (c && is_none s)
