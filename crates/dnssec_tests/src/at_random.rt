@@ -123,7 +123,7 @@ struct Tally {
     alike: u32,
 }
 
-fn tally(alloc: Global) -> Result<Tally, Error> {
+fn judge_records(alloc: Global) -> Result<Tally, Error> {
     let mut draws = Draws { state: 1 };
     let mut tally = Tally {
         safe: 0,
@@ -154,5 +154,5 @@ fn records_at_random_are_judged_alike(rt: HostRuntime) {
         later: 380,
         alike: RECORDS,
     };
-    assert_eq!(rt; tally(rt.alloc()), Ok(all));
+    assert_eq!(rt; judge_records(rt.alloc()), Ok(all));
 }
