@@ -1,5 +1,5 @@
-use Rattle.std.proofs.Common.{rules}
+use Rattle.std.proofs.Common.{refl}
 use Rattle.dnssec_record.proofs.answers.action_name.Goals as goal
 
 pub returns-in-CreateCdsRrset : goal.returns-in-CreateCdsRrset
-returns-in-CreateCdsRrset c = search rules
+returns-in-CreateCdsRrset c = rw c.in-CreateCdsRrset.is refl

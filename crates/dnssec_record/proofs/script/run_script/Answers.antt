@@ -1,6 +1,6 @@
 -- What is taken after each fault, that a script is never called malformed, and what a plain list
 -- ends with.
-use Rattle.std.proofs.Common.{◌∙◌, inr}
+use Rattle.std.proofs.Common.{◌∙◌, inr, rules}
 use Rattle.std.proofs.lemmas.Result.{err_from_is_err_and}
 use Rattle.dnssec_record.proofs.Answering.{of_input, never_fault, begins}
 use Rattle.dnssec_record.proofs.Ending.{last-line-safe, stays-safe}
@@ -30,3 +30,9 @@ returns-clause-safe g c = stays-safe _ _ _
 
 pub returns-clause-chain : goal.returns-clause-chain
 returns-clause-chain g c = last-line-safe _ _ _
+
+pub returns-in_err-text-clause-malformed_silent : goal.returns-in_err-text-clause-malformed_silent
+returns-in_err-text-clause-malformed_silent g c = search rules
+
+pub returns-in_err-text-clause-begun : goal.returns-in_err-text-clause-begun
+returns-in_err-text-clause-begun g c = search rules
