@@ -57,6 +57,10 @@ fn other_texts_are_no_names(rt: HostRuntime) {
 #[test]
 fn stamps_give_their_numbers_back(rt: HostRuntime) {
     for number in STAMPS {
-        assert_eq!(rt; Timestamp::from(*number).into_int(), *number, "the stamp {number}");
+        assert_eq!(rt;
+            Timestamp::from(*number).into_int(),
+            *number,
+            "the stamp {number}"
+        );
     }
 }
