@@ -36,6 +36,5 @@ __attribute__((constructor)) static void begin(void)
 
 __attribute__((destructor)) static void end(void)
 {
-    size_t requests = made;
-    fprintf(stderr, "requests: %zu\n", requests);
+    fprintf(stderr, "requests: %zu\n", made);
 }

@@ -15,8 +15,7 @@ import time
 from dataclasses import dataclass
 from pathlib import Path
 
-from library import CRATES, STRICT, TOP, Wrong, c_compiler
-from library import run as run_tool
+from library import CRATES, STRICT, TOP, Wrong, c_compiler, run
 
 PROGRAM = CRATES / "memory_of_calls" / "out" / "memory_of_calls"
 
@@ -44,12 +43,12 @@ class Outcome:
 def build(folder):
     """Builds the allocator."""
     allocator, source = Path(folder, "memory.so"), TOP / "tests" / "memory.c"
-    run_tool(c_compiler(), *STRICT, "-shared", "-fPIC", "-o", allocator, source)
+    run(c_compiler(), *STRICT, "-shared", "-fPIC", "-o", allocator, source)
     return allocator
 
 
-def run(allocator, letter, failing):
-    """Makes a work, with the request of this number failing."""
+def outcome_of(allocator, letter, failing):
+    """The outcome of a work with the request of this number failing, where there is such a one."""
     made = {**os.environ, "LD_PRELOAD": str(allocator), "FAILING_REQUEST": str(failing)}
     ran = subprocess.run([PROGRAM], input=letter, capture_output=True, text=True, env=made)
     told = MADE.fullmatch(ran.stderr)
@@ -61,12 +60,14 @@ def run(allocator, letter, failing):
 def in_turn(allocator):
     """Lets each request of each work fail."""
     for letter, work in WORKS.items():
-        with_ample = run(allocator, letter, 0)
+        with_ample = outcome_of(allocator, letter, 0)
         if with_ample.status or with_ample.written != "ample\n":
             raise Wrong(f"{work}: it doesn't go well with ample memory: {with_ample}")
         refused = 0
         for failing in range(1, with_ample.made + 1):
-            outcome = run(allocator, letter, failing)
+            outcome = outcome_of(allocator, letter, failing)
+            if outcome.made < failing:
+                raise Wrong(f"{work}: request {failing} was not made: {outcome}")
             refused += is_refused(f"{work}: request {failing}", outcome)
         if refused == 0:
             raise Wrong(f"{work}: no call was refused for lack of memory")
