@@ -43,6 +43,7 @@ PARTS = ["src", "specs", "proofs"]
 
 # A title, and the course with its number of keys.
 ROWS = [
+    *((f"adds to a new set, up to {n:,} keys", "adds", n) for n in (4, 16, 64)),
     *((f"adds to a new set, up to {n:,} keys", "adds", n) for n in (2**i for i in range(10, 17))),
     ("a KSK roll on four keys, start to end", "ksk-roll", 4),
     ("a KSK double-DS roll on four keys", "ksk-double-ds-roll", 4),
@@ -51,6 +52,7 @@ ROWS = [
     ("a CSK roll on four keys", "csk-roll", 4),
     ("an algorithm roll on four keys", "algorithm-roll", 4),
     ("deletions of all of 4 keys", "deletions", 4),
+    ("deletions of all of 64 keys", "deletions", 64),
     ("deletions of all of 1,024 keys", "deletions", 1024),
     ("each setter on each of 4 keys", "setters", 4),
     ("both waits of each roll on four keys, over", "waits", 4),

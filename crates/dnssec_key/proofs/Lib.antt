@@ -6,10 +6,8 @@
 -- | `equal_states_are_one` | `alike_states`               | Alike |
 -- | `equal_kinds_are_one`  | `alike_kinds`                | Alike |
 -- | `set`, `clear` of bits | `written`                    | BitWords |
--- | `take_out` of tags     | `others-stay`                | OtherTags |
 -- | `retain` in the crates above | `filtered`             | Retained |
 pub mod Words
 pub mod BitWords
 pub mod Retained
-pub mod OtherTags
 pub mod Alike

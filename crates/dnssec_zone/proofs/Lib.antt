@@ -14,7 +14,7 @@
 -- | the phases of rolls              | ruleset `phases`               | Phases                   |
 -- | `latest_over`                    | `walk-lost`                    | Waits                    |
 -- | `over_from`                      | `walk-lacks`, `walk-over`      | Waits                    |
--- | `set`: the begun wait            | `known-after`                  | Begun                    |
+-- | `set`, `delete`: the begun wait  | `known-after`, `known-removed` | Begun                    |
 --
 -- `Tests` computes tables over all rolls and keys; `Flags` says by it what flags a key may have on
 -- each side: for the laws of key sets and of runs.

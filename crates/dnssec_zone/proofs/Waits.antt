@@ -150,9 +150,9 @@ left-since ttl now s = elim (cases_Bool (nat_eq ttl 0)) [
       omega (arith, since)
 ]
 
-unchecked : (span now : ℕ) → 0 ≡ left_of span now 0
+pub left_of-unchecked : (span now : ℕ) → 0 ≡ left_of span now 0
 unfolding left_of
-unchecked span now = omega arith
+left_of-unchecked span now = omega arith
 
 module _ (roll : RollType) (half : Half) (ttl : ℕ) where
   pub missing-same : (k : KeyParts)
@@ -188,7 +188,7 @@ module _ (roll : RollType) (half : Half) (ttl : ℕ) where
         at : (c : Bool) (s : Option ℕ) → (if c then option_map_or (left_since ttl now) s 0 else 0)
             ≡ option_map_or (left_of (ttl * 1_000_000_000) now)
             (if c then option_map (over_since ttl) s else Some 0) 0
-        at false s = unchecked (ttl * 1_000_000_000) now
+        at false s = left_of-unchecked (ttl * 1_000_000_000) now
         at true None = refl
         at true (Some s) = left-since ttl now s
 

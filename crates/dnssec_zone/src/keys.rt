@@ -3,7 +3,7 @@ ghost use Rattle.std.specs.Prelude.{◌≡◌, ◌<◌, ℕ, List, None, Some, t
 ghost use Rattle.std.specs.Prelude.{string_bytes, IfOk, IfErr, IfSome, IfNone, OnOk, OnErr};
 ghost use Rattle.std.specs.Prelude.{if◌then◌else◌, filter, length, ◌≤◌, map as list_map};
 ghost use Rattle.std.specs.Prelude.{unwrap_or, IsTrue};
-ghost use Rattle.std.specs.List.{fold};
+ghost use Rattle.std.specs.List.{fold, list_any};
 ghost use Rattle.std.specs.Option.{option_map};
 ghost use Rattle.std.specs.Str.{bytes_eq};
 ghost use Rattle.std.specs.String.{string_eq};
@@ -14,6 +14,7 @@ ghost use Rattle.dnssec_key.specs.RollTable.{which, after_report, after_wait, ne
 ghost use Rattle.dnssec_key.specs.RollTable.{after_early_end, old_at_start};
 ghost use Rattle.dnssec_key.specs.Setters.{setting_of, set_by};
 ghost use Rattle.dnssec_key.specs.Inner.Bits.{is_set};
+ghost use Rattle.dnssec_key.specs.Inner.TagIndex.{has};
 ghost use Rattle.dnssec_zone.specs.Inner.Begun.{begun_after, over_for};
 ghost use Rattle.dnssec_zone.specs.Inner.Change.{makes};
 ghost use Rattle.dnssec_zone.specs.Inner.Code.{as_want};
@@ -24,26 +25,31 @@ ghost use Rattle.dnssec_zone.specs.Start.{is_listed, serves_as_kept, texts};
 ghost use Rattle.dnssec_zone.specs.Refusals.{Answers, AnswersExactly, add_refusal};
 ghost use Rattle.dnssec_zone.specs.Refusals.{deletion_refusal, setting_refusal};
 ghost use Rattle.dnssec_zone.specs.Inner.Over.{over_by, over_with};
+ghost use Rattle.dnssec_zone.specs.Inner.Tags.{TagsAgree};
 ghost use Rattle.dnssec_zone.specs.Wait.{IsOverFrom, LacksStamp};
 
+use crate::begun_wait::{BegunWait, later, over_by, set_key};
 use crate::counts::{Counts, wait_moves_counts};
 use crate::side::Want;
 use dnssec_key::{Error, Half, Key, RollType, Setting, TagIndex, TagSet, UnixTime, is_set};
 use std::alloc::Global;
 use std::collections::HashMap;
 use std::marker::Model;
-use std::time::Duration;
+
+/// Up to as many keys are asked for their tags themselves; more have an index of them.
+const FEW: usize = 16;
 
 /// The keys of a zone by their public references.
 #[derive(Drop)]
 pub struct Keys {
     map: HashMap<String, Key>,
-    /// The tags of the keys.
+    /// The tags of the keys, once these were many.
     tags: TagIndex,
     /// How many keys a start could go on with.
     counts: Counts,
     /// What is known of the wait that the last report began. A setter drops it where the wait sees
-    /// something else of its key from then on, any other change of a key always.
+    /// something else of its key from then on, an add and the steps of rolls always, and a deletion
+    /// never: no wait checks a stale key.
     begun: Option<BegunWait>,
 }
 
@@ -63,26 +69,6 @@ impl Model for Keys {
 
     ghost invariant = { λ s. TagsAgree (has s.tags) (keys_in_map s.map)
         × CountsAgree s.counts (keys_in_map s.map) × IsKnown s.begun (keys_in_map s.map) };
-}
-
-/// A wait that a report has begun: from when on it is over, or that a key lacks its stamp.
-#[derive(Clone, Copy)]
-pub(crate) struct BegunWait {
-    roll: RollType,
-    half: Half,
-    ttl: u32,
-    over: Option<u128>,
-}
-
-impl BegunWait {
-    fn is_of(self, roll: RollType, half: Half, ttl: u32) -> bool
-        ensures roll { IsTrue result → self.roll ≡ roll }
-        ensures half { IsTrue result → self.half ≡ half }
-        ensures ttl { IsTrue result → self.ttl ≡ ttl }
-        ensures same { self.roll ≡ roll → self.half ≡ half → self.ttl ≡ ttl → IsTrue result }
-    {
-        self.roll == roll && self.half == half && self.ttl == ttl
-    }
 }
 
 /// A change of one key.
@@ -109,7 +95,7 @@ impl Keys {
     {
         Keys {
             map: HashMap::new(alloc),
-            tags: TagIndex::new(alloc),
+            tags: TagIndex::none(),
             counts: Counts::none(),
             begun: None,
         }
@@ -154,7 +140,10 @@ impl Keys {
     fn has_tag(&self, key_tag: u16) -> bool
         ensures { result ≡ has_tag key_tag self.now }
     {
-        self.tags.has(key_tag)
+        match self.tags.has(key_tag) {
+            Some(has) => has,
+            None => some_has_tag(&self.map, key_tag),
+        }
     }
 
     /// How many keys meet a want in their state, whether a start lists them as old or not.
@@ -181,7 +170,7 @@ impl Keys {
         let key_tag = key.key_tag();
         let keytype = key.keytype();
         self.begun = None;
-        self.tags.reserve(alloc)?;
+        index_many(&mut self.tags, alloc, &self.map)?;
         let Ok(_) = self.map.insert(pubref, key) else {
             return Err(Error::OutOfMemory);
         };
@@ -209,7 +198,6 @@ impl Keys {
             return Err(Error::KeyNotOld);
         }
         let key_tag = key.key_tag();
-        self.begun = None;
         self.map.remove(pubref);
         self.tags.remove(key_tag);
         Ok(key_tag)
@@ -351,6 +339,42 @@ impl Keys {
     }
 }
 
+/// Whether some key has the tag, by a walk over the keys.
+fn some_has_tag(keys: &HashMap<String, Key>, key_tag: u16) -> bool
+    ensures some { result ≡ list_any (λ k. nat_eq k.key_tag key_tag) (hash.values keys.now) }
+    ensures unique { hash.IsUnique string_eq keys.now }
+{
+    is_sound(keys);
+    keys.values().any(|key| key.key_tag() == key_tag)
+}
+
+/// Begins an index of the tags where there is none, and with one more key there are many.
+fn index_many(tags: &mut TagIndex, alloc: Global, keys: &HashMap<String, Key>) -> Result<(), Error>
+    ensures agree { TagsAgree (has tags.old) (keys_in_map keys.now)
+        → TagsAgree (has tags.new) (keys_in_map keys.now) }
+    ensures err { IfErr result (λ e. e ≡ OutOfMemory) }
+{
+    if keys.len() >= FEW && tags.is_none() {
+        *tags = index_of(alloc, keys)?;
+    }
+    Ok(())
+}
+
+/// An index of the tags of the keys.
+fn index_of(alloc: Global, keys: &HashMap<String, Key>) -> Result<TagIndex, Error>
+    ensures ok { IfOk result (λ index. (t : ℕ) → has index t
+        ≡ Some (list_any (λ k. nat_eq k.key_tag t) (hash.values keys.now))) }
+    ensures unique { hash.IsUnique string_eq keys.now }
+    ensures err { IfErr result (λ e. e ≡ OutOfMemory) }
+{
+    is_sound(keys);
+    let mut index = TagIndex::empty(alloc)?;
+    for key in keys.values() {
+        index.put(key.key_tag());
+    }
+    Ok(index)
+}
+
 fn clone_map(map: &HashMap<String, Key>) -> Result<HashMap<String, Key>, Error>
     ensures same { IfOk result (λ m. keys_in_map m ≡ keys_in_map map.now) }
     ensures err { IfErr result (λ e. e ≡ OutOfMemory) }
@@ -358,35 +382,6 @@ fn clone_map(map: &HashMap<String, Key>) -> Result<HashMap<String, Key>, Error>
     match map.clone() {
         Ok(made) => Ok(made),
         Err(_) => Err(Error::OutOfMemory),
-    }
-}
-
-/// All that a begun wait sees of a key: the nanosecond since 1970 from which nothing is left for
-/// it, or `None` where its stamp is missing.
-fn over_for(begun: &Option<BegunWait>, key: &Key) -> Option<u128>
-    ensures { result ≡ over_for begun.now key.now }
-{
-    match *begun {
-        Some(wait) if key.is_checked(wait.roll, wait.half) => {
-            match key.timestamps().at(wait.roll.stamp_read(wait.half)) {
-                Some(stamp) => Some(over_by(Some(stamp), wait.ttl)),
-                None => None,
-            }
-        }
-        Some(_) => Some(0),
-        None => None,
-    }
-}
-
-/// Sets something of a key. What is known of the begun wait stays where it sees the key as it was.
-fn set_key(key: &mut Key, setting: Setting, begun: &mut Option<BegunWait>)
-    ensures key { key.new ≡ set_by (setting_of setting) key.old }
-    ensures begun { begun.new ≡ begun_after begun.old key.old key.new }
-{
-    let over = over_for(begun, key);
-    key.set(setting);
-    if over_for(begun, key) != over {
-        *begun = None;
     }
 }
 
@@ -443,29 +438,6 @@ fn is_sound(keys: &HashMap<String, Key>)
     ensures fits { length keys.now.entries ≤ 18446744073709551615 }
 {
     keys.len();
-}
-
-/// The later of two moments, the first of which may not be known.
-fn later(latest: Option<UnixTime>, moment: UnixTime) -> UnixTime
-    ensures { result ≡ max (unwrap_or latest 0) moment }
-{
-    match latest {
-        Some(latest) if moment <= latest => latest,
-        _ => moment,
-    }
-}
-
-/// The nanosecond since 1970 from which a wait is over, by the latest stamp of the keys that it
-/// checks: the first of all where it checks none.
-fn over_by(latest: Option<UnixTime>, ttl: u32) -> u128
-    ensures { result ≡ over_by ttl latest }
-{
-    match latest {
-        Some(stamp) if ttl > 0 => {
-            Duration::from(stamp).as_nanos() + u128::from(ttl) * 1_000_000_000
-        }
-        _ => 0,
-    }
 }
 
 /// The last of the moments from which a wait is over for a key, or `None` where a stamp is missing.

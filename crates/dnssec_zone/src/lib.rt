@@ -4,6 +4,7 @@
 //! `dnssec_keyset` puts them together. Here each hash map is opened in one module.
 #![tactic(auto)]
 
+mod begun_wait;
 mod check;
 mod counts;
 mod keys;

@@ -59,7 +59,7 @@ pub(crate) const FIRST_ROLL_GOES_ON: &[Step] = &[
 
 /// Calls on more keys, and another roll.
 const LATER: &[Step] = &[
-    // enough keys for their map to grow once more
+    // enough keys for their map to grow once more, and for an index of their tags
     At(150, Add(Zsk, "Z2", 8, 13), Accepted, SAME),
     At(150, Add(Public, "I", 9, 8), Accepted, SAME),
     At(150, Add(Public, "A", 10, 8), Accepted, SAME),
@@ -68,6 +68,13 @@ const LATER: &[Step] = &[
     At(150, Add(Public, "F", 13, 8), Accepted, SAME),
     At(150, Add(Public, "K", 14, 8), Accepted, SAME),
     At(150, Add(Public, "K8", 15, 8), Accepted, SAME),
+    At(150, Add(Public, "L", 16, 8), Accepted, SAME),
+    At(150, Add(Public, "M", 17, 8), Accepted, SAME),
+    At(150, Add(Public, "N", 18, 8), Accepted, SAME),
+    At(150, Add(Public, "O", 19, 8), Accepted, SAME),
+    At(150, Add(Public, "P", 20, 8), Accepted, SAME),
+    At(150, Add(Public, "Q", 21, 8), Accepted, SAME),
+    At(150, Add(Public, "R", 22, 8), Accepted, SAME),
     // a roll whose second wait asks nothing, so that it takes no memory
     At(
         200,

@@ -3,7 +3,7 @@ use Rattle.std.specs.Prelude.{Option, None, Some, IfSome, IfNone, ℕ, nat_eq, i
 use Rattle.std.specs.Option.{option_eq}
 use Rattle.dnssec_key.specs.Key.{KeyParts}
 use Rattle.dnssec_key.specs.RollTable.{which}
-use Rattle.dnssec_zone.specs.declared.keys.BegunWait.{BegunWait}
+use Rattle.dnssec_zone.specs.declared.begun_wait.BegunWait.{BegunWait}
 use Rattle.dnssec_zone.specs.Inner.Over.{over_at}
 use Rattle.dnssec_zone.specs.Keys.{Keys}
 use Rattle.dnssec_zone.specs.Wait.{IsOverFrom, LacksStamp}

@@ -1,15 +1,13 @@
 -- Sets of key tags: of those in use, and of listed keys.
-use Rattle.std.specs.Prelude.{◌≡◌, ℕ, Bool, true, false, Option, None, Some, List}
+use Rattle.std.specs.Prelude.{◌≡◌, ℕ, Bool, false, Option, None, Some, List, IfSome}
 use Rattle.std.specs.FinMap.{get}
 use Rattle.dnssec_key.specs.Key.{KeyParts}
 use Rattle.dnssec_key.specs.Inner.Bits.{is_set}
-use Rattle.dnssec_zone.specs.Keys.{Keys, TagsApart}
+use Rattle.dnssec_zone.specs.Keys.{Keys, TagsApart, has_tag}
 
--- the index has the tags of the keys and no other, and no two keys have one tag
-pub record TagsAgree (has : ℕ → Bool) (keys : Keys) : Type 0 where
-  pub covers : (q : List ℕ) (k : KeyParts) → get keys q ≡ Some k → has k.key_tag ≡ true
-  pub owned : (t : ℕ) → has t ≡ true →
-      (q : List ℕ) × (k : KeyParts) × (get keys q ≡ Some k) × (k.key_tag ≡ t)
+-- what an index says of a tag is whether some key has it, and no two keys have one tag
+pub record TagsAgree (has : ℕ → Option Bool) (keys : Keys) : Type 0 where
+  pub told : (t : ℕ) → IfSome (has t) (λ b. b ≡ has_tag t keys)
   pub apart : TagsApart keys
 
 -- a set of tags has those of the keys that are listed

@@ -6,7 +6,7 @@ use Rattle.std.proofs.lemmas.Map.Text.{hash_map_updates_text}
 use Rattle.dnssec_zone.specs.Keys.{keys_in_map, has_tag}
 use Rattle.dnssec_zone.proofs.Counted.Kept.{counts-added, fits-shown}
 use Rattle.dnssec_zone.proofs.Shown.{shown, get-updated}
-use Rattle.dnssec_zone.proofs.Tags.{tags-has_tag, TagsAgree-added}
+use Rattle.dnssec_zone.proofs.Tags.{TagsAgree-added}
 use Rattle.dnssec_zone.proofs.keys.Keys.add.Goals as goal
 
 pub invariant_of-self-2 : goal.invariant_of-self-2
@@ -16,22 +16,19 @@ invariant_of-self-2 c =
     let x = c.args.key in
     let n = keys_in_map c.insert.new.self in
     let absent : get (keys_in_map i.map) r ≡ None = search (rules, shown) in
-    let free : has i.tags x.key_tag ≡ false =
-    tags-has_tag (has i.tags) _ x.key_tag c.self.invariant.0
-    ∙ ap (has_tag x.key_tag) c.self.view_is ∙ search rules in
+    let free : has_tag x.key_tag (keys_in_map i.map) ≡ false =
+    ap (has_tag x.key_tag) c.self.view_is ∙ search rules in
     let is = get-updated i.map c.insert.new.self r (Some x)
     (hash_map_updates_text r i.map c.insert.new.self (Some x) c.in-Ok.ensures.updates) in (
-      TagsAgree-added (has i.tags) (has c.put.new.self)
-          (keys_in_map i.map) n r x absent free is (λ t. search rules) c.self.invariant.0,
+      TagsAgree-added (has c.index_many.new.tags) (has c.put.new.self)
+          (keys_in_map i.map) n r x absent free is (λ t. search rules)
+          (c.index_many.ensures.agree c.self.invariant.0),
       rw (c.with-self-inside.ensures, c.keytype-keytype.ensures)
           (counts-added i.counts (keys_in_map i.map) n r x
           absent is (fits-shown c.insert.new.self c.is_sound.ensures.unique
           c.is_sound.ensures.fits) c.self.invariant.1),
       tt,
     )
-
-pub put-requires : goal.put-requires
-put-requires c = search rules
 
 pub returns-then-contains_key-clause-reply : goal.returns-then-contains_key-clause-reply
 returns-then-contains_key-clause-reply c = search (rules, shown)

@@ -1,4 +1,4 @@
--- The key's tag leaves the index with it; a stale key was in no count.
+-- The key's tag leaves the index with it; a stale key was in no count, and in no wait.
 use Rattle.std.proofs.Common.{◌≡◌, true, None, Some, rules}
 use Rattle.std.specs.FinMap.{get}
 use Rattle.dnssec_key.specs.Inner.TagIndex.{has}
@@ -6,6 +6,7 @@ use Rattle.std.proofs.lemmas.Map.Text.{hash_map_updates_text}
 use Rattle.dnssec_key.specs.State.{is_stale}
 use Rattle.dnssec_key.specs.Key.{all_states}
 use Rattle.dnssec_zone.specs.Keys.{keys_in_map}
+use Rattle.dnssec_zone.proofs.Begun.{known-removed}
 use Rattle.dnssec_zone.proofs.Counted.Kept.{counts-removed}
 use Rattle.dnssec_zone.proofs.Counted.Waits.{stale-serves}
 use Rattle.dnssec_zone.proofs.Shown.{shown, get-updated}
@@ -28,5 +29,5 @@ invariant_of-self c =
           c.self.invariant.0,
       counts-removed i.counts (keys_in_map i.map) n r x found is
           (stale-serves x.keytype stale) c.self.invariant.1,
-      tt,
+      known-removed (keys_in_map i.map) n r x found is stale i.begun c.self.invariant.2,
     )
