@@ -183,20 +183,22 @@ impl Key {
     pub fn set(&mut self, setting: Setting)
         ensures { self.new ≡ set_by (setting_of setting) self.old }
     {
-        let keytype = self.keytype();
-        let stamps = *self.timestamps();
         match setting {
             Setting::Decoupled(value) => self.put_decoupled(value),
             Setting::Present(value, now) => {
-                self.put_keytype(keytype.with_present(value));
-                self.put_timestamps(stamps.first_published(value, now));
+                self.put_keytype(self.keytype().with_present(value));
+                self.put_timestamps(self.timestamps().first_published(value, now));
             }
-            Setting::Signer(value) => self.put_keytype(keytype.with_signer(value)),
-            Setting::AtParent(value) => self.put_keytype(keytype.with_at_parent(value)),
-            Setting::Stale => self.put_keytype(keytype.as_stale()),
-            Setting::VisibleAt(time) => self.put_timestamps(stamps.with_visible(time)),
-            Setting::DsVisibleAt(time) => self.put_timestamps(stamps.with_ds_visible(time)),
-            Setting::RrsigVisibleAt(time) => self.put_timestamps(stamps.with_rrsig_visible(time)),
+            Setting::Signer(value) => self.put_keytype(self.keytype().with_signer(value)),
+            Setting::AtParent(value) => self.put_keytype(self.keytype().with_at_parent(value)),
+            Setting::Stale => self.put_keytype(self.keytype().as_stale()),
+            Setting::VisibleAt(time) => self.put_timestamps(self.timestamps().with_visible(time)),
+            Setting::DsVisibleAt(time) => {
+                self.put_timestamps(self.timestamps().with_ds_visible(time));
+            }
+            Setting::RrsigVisibleAt(time) => {
+                self.put_timestamps(self.timestamps().with_rrsig_visible(time));
+            }
         }
     }
 
