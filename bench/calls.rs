@@ -38,6 +38,10 @@ const ROLLS: [RollType; 6] = [
     AlgorithmRoll,
 ];
 
+const OLD_KSK: &str = "Kexample.com.+013+00001.key";
+const NEW_KSK: &str = "Kexample.com.+013+00002.key";
+const OLD_ZSK: &str = "Kexample.com.+013+00003.key";
+const NEW_ZSK: &str = "Kexample.com.+013+00004.key";
 const FIRST_TTL: u32 = 60;
 const SECOND_TTL: u32 = 600;
 const START: u64 = 2000;
@@ -149,10 +153,11 @@ fn make(course: &str, keys: usize, rounds: Rounds) -> Option<Answers> {
 
 fn adds(keys: usize, rounds: Rounds) -> Answers {
     let mut answers = Answers::new();
+    let references = references(keys);
     for _ in 0..rounds.number {
         let mut set = new_set();
-        for tag in (0..=u16::MAX).take(keys) {
-            let reference = reference(tag);
+        for (tag, reference) in (0..=u16::MAX).zip(&references) {
+            let reference = reference.clone();
             if !rounds.are_idle {
                 answers.note(add(&mut set, Kind::Ksk, reference, 13, tag));
             }
@@ -259,7 +264,7 @@ fn crowded_waits(keys: usize, has_setters: bool, rounds: Rounds) -> Option<Answe
     for _ in 0..rounds.number {
         if has_setters {
             for Waiting { set, .. } in &mut sets {
-                set.set_decoupled("K0", true).ok()?;
+                set.set_decoupled(&references[0], true).ok()?;
             }
         }
         if !rounds.are_idle {
@@ -340,7 +345,7 @@ fn new_set() -> KeySet {
 }
 
 fn reference(tag: u16) -> String {
-    format!("K{tag}")
+    format!("Kexample.com.+013+{tag:05}.key")
 }
 
 fn references(keys: usize) -> Vec<String> {
@@ -381,23 +386,23 @@ fn four_keys() -> Option<KeySet> {
     let mut set = new_set();
     let mut answers = Answers::new();
     let keys = [
-        ("K1", Kind::Ksk, 1),
-        ("K2", Kind::Ksk, 2),
-        ("Z1", Kind::Zsk, 3),
-        ("Z2", Kind::Zsk, 4),
+        (OLD_KSK, Kind::Ksk, 1),
+        (NEW_KSK, Kind::Ksk, 2),
+        (OLD_ZSK, Kind::Zsk, 3),
+        (NEW_ZSK, Kind::Zsk, 4),
     ];
     for (reference, kind, tag) in keys {
         answers.note(add(&mut set, kind, reference.to_string(), 13, tag));
     }
-    roll_over(&mut set, AlgorithmRoll, &[], &["K1", "Z1"], 0, &mut answers);
+    roll_over(&mut set, AlgorithmRoll, &[], &[OLD_KSK, OLD_ZSK], 0, &mut answers);
     (answers.refused == 0).then_some(set)
 }
 
 fn lists(roll: RollType) -> (&'static [&'static str], &'static [&'static str]) {
     match roll {
-        KskRoll | KskDoubleDsRoll => (&["K1"], &["K2"]),
-        ZskRoll | ZskDoubleSignatureRoll => (&["Z1"], &["Z2"]),
-        CskRoll | AlgorithmRoll => (&["K1", "Z1"], &["K2", "Z2"]),
+        KskRoll | KskDoubleDsRoll => (&[OLD_KSK], &[NEW_KSK]),
+        ZskRoll | ZskDoubleSignatureRoll => (&[OLD_ZSK], &[NEW_ZSK]),
+        CskRoll | AlgorithmRoll => (&[OLD_KSK, OLD_ZSK], &[NEW_KSK, NEW_ZSK]),
     }
 }
 

@@ -401,6 +401,7 @@ impl KeySet {
     }
 
     /// Adds a key.
+    #[inline(always)]
     fn add(&mut self, pubref: String, key: Key) -> Result<(), Error>
         ensures reply { Answers
             (add_refusal self.old.keys (string_bytes pubref) key.key_tag) result }

@@ -7,7 +7,8 @@
 -- | `algorithm_named`           | `no_text`                        | Algorithms, Zone   |
 -- | `references`                | `kept_more`, `reference_utf8`    | Texts, References  |
 -- | `zone`, `zone_name`         | `zone_found`, `spelled_utf8`     | Zone               |
--- | `read_calls`, `with_lists`  | `kept_statement`, `all_said-nil` | Reading, Texts     |
+-- | `read_statements`           | `kept_statement`, `passes_more`  | Reading, Texts     |
+-- | `calls_of`                  | `made_more`, `one_said`          | Reading            |
 -- | `read_script`               | `lines_split`, `spell_each`      | Judging            |
 -- | `answer`                    | `one_more`, `all_answered`       | Running            |
 -- | `run_script`, `well_formed` | `of_input`, `never_fault`        | Answering, Judging |

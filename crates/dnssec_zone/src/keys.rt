@@ -2,14 +2,14 @@
 ghost use Rattle.std.specs.Prelude.{◌≡◌, ◌<◌, ℕ, List, None, Some, true, false, max, nat_eq};
 ghost use Rattle.std.specs.Prelude.{string_bytes, IfOk, IfErr, IfSome, IfNone, OnOk, OnErr};
 ghost use Rattle.std.specs.Prelude.{if◌then◌else◌, filter, length, ◌≤◌, map as list_map};
-ghost use Rattle.std.specs.Prelude.{unwrap_or, IsTrue};
+ghost use Rattle.std.specs.Prelude.{unwrap_or, IsTrue, is_some};
 ghost use Rattle.std.specs.List.{fold, list_any};
 ghost use Rattle.std.specs.Option.{option_map};
 ghost use Rattle.std.specs.Str.{bytes_eq};
 ghost use Rattle.std.specs.String.{string_eq};
 ghost use Rattle.std.specs.FinMap as map;
 ghost use Rattle.std.specs.HashMap as hash;
-ghost use Rattle.dnssec_base.specs.declared.error.Error.TheVariants.{OutOfMemory};
+ghost use Rattle.dnssec_base.specs.declared.error.Error.TheVariants.{KeyExists, OutOfMemory};
 ghost use Rattle.dnssec_key.specs.RollTable.{which, after_report, after_wait, new_at_start};
 ghost use Rattle.dnssec_key.specs.RollTable.{after_early_end, old_at_start};
 ghost use Rattle.dnssec_key.specs.Setters.{setting_of, set_by};
@@ -34,6 +34,7 @@ use crate::side::Want;
 use dnssec_key::{Error, Half, Key, RollType, Setting, TagIndex, TagSet, UnixTime, is_set};
 use std::alloc::Global;
 use std::collections::HashMap;
+use std::collections::hash_map::Entry;
 use std::marker::Model;
 
 /// Up to as many keys are asked for their tags themselves; more have an index of them.
@@ -154,6 +155,8 @@ impl Keys {
     }
 
     /// Adds a key. Its tag is looked for first, then its reference.
+    // Inline, as `put_new` below and the key set's `add`, so that a key is made where it stays.
+    #[inline(always)]
     #[tactic(auto, using(crate::proofs::Shown::shown))]
     pub fn add(&mut self, alloc: Global, pubref: String, key: Key) -> Result<(), Error>
         ensures reply { Answers (add_refusal self.old (string_bytes pubref) key.key_tag) result }
@@ -161,21 +164,16 @@ impl Keys {
             ≡ (if bytes_eq (string_bytes pubref) q then Some key else map.get self.old q)) }
         ensures err { OnErr result (self.new ≡ self.old) }
     {
-        if self.has_tag(key.key_tag()) {
-            return Err(Error::DuplicateKeyTag);
-        }
-        if self.map.contains_key(pubref.as_str()) {
-            return Err(Error::KeyExists);
-        }
         let key_tag = key.key_tag();
         let keytype = key.keytype();
+        if self.has_tag(key_tag) {
+            return Err(Error::DuplicateKeyTag);
+        }
+        index_many(&mut self.tags, alloc, &self.map, pubref.as_str())?;
+        put_new(&mut self.map, pubref, key)?;
         self.begun = None;
-        index_many(&mut self.tags, alloc, &self.map)?;
-        let Ok(_) = self.map.insert(pubref, key) else {
-            return Err(Error::OutOfMemory);
-        };
         self.tags.put(key_tag);
-        self.counts = self.counts.with(&keytype);
+        self.counts.put_in(&keytype);
         is_sound(&self.map);
         Ok(())
     }
@@ -348,13 +346,46 @@ fn some_has_tag(keys: &HashMap<String, Key>, key_tag: u16) -> bool
     keys.values().any(|key| key.key_tag() == key_tag)
 }
 
-/// Begins an index of the tags where there is none, and with one more key there are many.
-fn index_many(tags: &mut TagIndex, alloc: Global, keys: &HashMap<String, Key>) -> Result<(), Error>
+/// Puts a key at a reference that no other key has.
+#[inline(always)]
+fn put_new(map: &mut HashMap<String, Key>, pubref: String, key: Key) -> Result<(), Error>
+    ensures reply { Answers (if is_some (hash.get_by_text map.old (string_bytes pubref))
+        then Some KeyExists else None) result }
+    ensures ok { OnOk result ((q : List ℕ) → hash.get_by_text map.new q
+        ≡ (if bytes_eq (string_bytes pubref) q then Some key else hash.get_by_text map.old q)) }
+    ensures err { OnErr result (keys_in_map map.new ≡ keys_in_map map.old) }
+{
+    let Ok(entry) = map.entry(pubref) else {
+        return Err(Error::OutOfMemory);
+    };
+    match entry {
+        Entry::Vacant(place) => {
+            place.insert(key);
+            Ok(())
+        }
+        Entry::Occupied(_) => Err(Error::KeyExists),
+    }
+}
+
+/// Begins an index of the tags where there is none, and with one more key there are many. That a
+/// key has the reference already is told first: an add that is refused takes no memory.
+// Inline, so that most adds make no call for it.
+#[inline(always)]
+fn index_many(
+    tags: &mut TagIndex,
+    alloc: Global,
+    keys: &HashMap<String, Key>,
+    pubref: &str,
+) -> Result<(), Error>
     ensures agree { TagsAgree (has tags.old) (keys_in_map keys.now)
         → TagsAgree (has tags.new) (keys_in_map keys.now) }
-    ensures err { IfErr result (λ e. e ≡ OutOfMemory) }
+    ensures err { OnErr result (Answers (if is_some (hash.get_by_text keys.now pubref.now)
+        then Some KeyExists else None) result) }
 {
     if keys.len() >= FEW && tags.is_none() {
+        if keys.contains_key(pubref) {
+            return Err(Error::KeyExists);
+        }
         *tags = index_of(alloc, keys)?;
     }
     Ok(())

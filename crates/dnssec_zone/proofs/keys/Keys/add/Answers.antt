@@ -2,7 +2,6 @@
 use Rattle.std.proofs.Common.{◌≡◌, false, None, Some, string_bytes, rules, ap, ◌∙◌}
 use Rattle.std.specs.FinMap.{get}
 use Rattle.dnssec_key.specs.Inner.TagIndex.{has}
-use Rattle.std.proofs.lemmas.Map.Text.{hash_map_updates_text}
 use Rattle.dnssec_zone.specs.Keys.{keys_in_map, has_tag}
 use Rattle.dnssec_zone.proofs.Counted.Kept.{counts-added, fits-shown}
 use Rattle.dnssec_zone.proofs.Shown.{shown, get-updated}
@@ -14,21 +13,17 @@ invariant_of-self-2 c =
     let i = c.self.inside in
     let r = string_bytes c.args.pubref in
     let x = c.args.key in
-    let n = keys_in_map c.insert.new.self in
+    let n = keys_in_map c.put_new.new.map in
     let absent : get (keys_in_map i.map) r ≡ None = search (rules, shown) in
     let free : has_tag x.key_tag (keys_in_map i.map) ≡ false =
     ap (has_tag x.key_tag) c.self.view_is ∙ search rules in
-    let is = get-updated i.map c.insert.new.self r (Some x)
-    (hash_map_updates_text r i.map c.insert.new.self (Some x) c.in-Ok.ensures.updates) in (
+    let is = get-updated i.map c.put_new.new.map r (Some x) c.in_ok-put_new.ensures.ok in (
       TagsAgree-added (has c.index_many.new.tags) (has c.put.new.self)
           (keys_in_map i.map) n r x absent free is (λ t. search rules)
           (c.index_many.ensures.agree c.self.invariant.0),
-      rw (c.with-self-inside.ensures, c.keytype-keytype.ensures)
+      rw (c.put_in.ensures, c.keytype-keytype.ensures)
           (counts-added i.counts (keys_in_map i.map) n r x
-          absent is (fits-shown c.insert.new.self c.is_sound.ensures.unique
+          absent is (fits-shown c.put_new.new.map c.is_sound.ensures.unique
           c.is_sound.ensures.fits) c.self.invariant.1),
       tt,
     )
-
-pub returns-then-contains_key-clause-reply : goal.returns-then-contains_key-clause-reply
-returns-then-contains_key-clause-reply c = search (rules, shown)
