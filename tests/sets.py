@@ -102,11 +102,13 @@ def courses():
 
 
 def many_keys():
-    """The lines of keys that have a tag each, which is refused to a second key, and given to one
-    when the first is deleted."""
+    """The lines of keys that have a reference and a tag each, which are refused to a second key,
+    and given to one when the first is deleted."""
     last = MANY - 1
     yield "zone example.com"
-    yield from (f"add-ksk {tag} - 13 {tag} 0 yes" for tag in range(MANY))
+    for tag in range(MANY):
+        yield f"add-ksk {tag} - 13 {tag} 0 yes"
+        yield f"add-ksk {tag} - 13 {MANY} 0 yes"
     yield from (f"add-ksk again - 13 {tag} 1 yes" for tag in range(MANY))
     yield from (f"set-stale {last}", f"delete {last}", f"add-ksk again - 13 {last} 2 yes")
     yield f"add-ksk {last} - 13 {last} 3 yes"
