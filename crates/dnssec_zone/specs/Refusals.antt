@@ -18,11 +18,14 @@ use Rattle.dnssec_zone.specs.Keys.{Keys, has_tag}
 
 -- ---- of keys
 
+-- why an add is refused for its reference, with the key that has it
+abbrev pub reference_refusal : Option KeyParts → Option Error
+reference_refusal found = if is_some found then Some KeyExists else None
+
 -- why an add of a key is refused: first its tag, then its reference
 abbrev pub add_refusal : Keys → List ℕ → ℕ → Option Error
 add_refusal keys reference tag =
-    if has_tag tag keys then Some DuplicateKeyTag
-    else (if is_some (get keys reference) then Some KeyExists else None)
+    if has_tag tag keys then Some DuplicateKeyTag else reference_refusal (get keys reference)
 
 -- why a setter is refused, with the key that it names
 abbrev pub setting_refusal : Setting → Option KeyParts → Option Error

@@ -2,14 +2,14 @@
 ghost use Rattle.std.specs.Prelude.{◌≡◌, ◌<◌, ℕ, List, None, Some, true, false, max, nat_eq};
 ghost use Rattle.std.specs.Prelude.{string_bytes, IfOk, IfErr, IfSome, IfNone, OnOk, OnErr};
 ghost use Rattle.std.specs.Prelude.{if◌then◌else◌, filter, length, ◌≤◌, map as list_map};
-ghost use Rattle.std.specs.Prelude.{unwrap_or, IsTrue, is_some};
+ghost use Rattle.std.specs.Prelude.{unwrap_or, IsTrue};
 ghost use Rattle.std.specs.List.{fold, list_any};
 ghost use Rattle.std.specs.Option.{option_map};
 ghost use Rattle.std.specs.Str.{bytes_eq};
 ghost use Rattle.std.specs.String.{string_eq};
 ghost use Rattle.std.specs.FinMap as map;
 ghost use Rattle.std.specs.HashMap as hash;
-ghost use Rattle.dnssec_base.specs.declared.error.Error.TheVariants.{KeyExists, OutOfMemory};
+ghost use Rattle.dnssec_base.specs.declared.error.Error.TheVariants.{OutOfMemory};
 ghost use Rattle.dnssec_key.specs.RollTable.{which, after_report, after_wait, new_at_start};
 ghost use Rattle.dnssec_key.specs.RollTable.{after_early_end, old_at_start};
 ghost use Rattle.dnssec_key.specs.Setters.{setting_of, set_by};
@@ -23,7 +23,8 @@ ghost use Rattle.dnssec_zone.specs.Inner.Counts.{wait_moves_counts, with_key};
 ghost use Rattle.dnssec_zone.specs.Keys.{TagsApart, keys_in_map, has_tag};
 ghost use Rattle.dnssec_zone.specs.Start.{is_listed, serves_as_kept, texts};
 ghost use Rattle.dnssec_zone.specs.Refusals.{Answers, AnswersExactly, add_refusal};
-ghost use Rattle.dnssec_zone.specs.Refusals.{deletion_refusal, setting_refusal};
+ghost use Rattle.dnssec_zone.specs.Refusals.{deletion_refusal, reference_refusal};
+ghost use Rattle.dnssec_zone.specs.Refusals.{setting_refusal};
 ghost use Rattle.dnssec_zone.specs.Inner.Over.{over_by, over_with};
 ghost use Rattle.dnssec_zone.specs.Inner.Tags.{TagsAgree};
 ghost use Rattle.dnssec_zone.specs.Wait.{IsOverFrom, LacksStamp};
@@ -349,8 +350,8 @@ fn some_has_tag(keys: &HashMap<String, Key>, key_tag: u16) -> bool
 /// Puts a key at a reference that no other key has.
 #[inline(always)]
 fn put_new(map: &mut HashMap<String, Key>, pubref: String, key: Key) -> Result<(), Error>
-    ensures reply { Answers (if is_some (hash.get_by_text map.old (string_bytes pubref))
-        then Some KeyExists else None) result }
+    ensures reply { Answers
+        (reference_refusal (hash.get_by_text map.old (string_bytes pubref))) result }
     ensures ok { OnOk result ((q : List ℕ) → hash.get_by_text map.new q
         ≡ (if bytes_eq (string_bytes pubref) q then Some key else hash.get_by_text map.old q)) }
     ensures err { OnErr result (keys_in_map map.new ≡ keys_in_map map.old) }
@@ -379,8 +380,8 @@ fn index_many(
 ) -> Result<(), Error>
     ensures agree { TagsAgree (has tags.old) (keys_in_map keys.now)
         → TagsAgree (has tags.new) (keys_in_map keys.now) }
-    ensures err { OnErr result (Answers (if is_some (hash.get_by_text keys.now pubref.now)
-        then Some KeyExists else None) result) }
+    ensures err { OnErr result
+        (Answers (reference_refusal (hash.get_by_text keys.now pubref.now)) result) }
 {
     if keys.len() >= FEW && tags.is_none() {
         if keys.contains_key(pubref) {
