@@ -2,7 +2,7 @@
 ghost use Rattle.std.specs.Prelude.{◌≡◌, ◌<◌, ℕ, List, None, Some, true, false, max, nat_eq};
 ghost use Rattle.std.specs.Prelude.{string_bytes, IfOk, IfErr, IfSome, IfNone, OnOk, OnErr};
 ghost use Rattle.std.specs.Prelude.{if◌then◌else◌, filter, length, ◌≤◌, map as list_map};
-ghost use Rattle.std.specs.Prelude.{unwrap_or, IsTrue};
+ghost use Rattle.std.specs.Prelude.{unwrap_or, IsTrue, IsSome};
 ghost use Rattle.std.specs.List.{fold, list_any};
 ghost use Rattle.std.specs.Option.{option_map};
 ghost use Rattle.std.specs.Str.{bytes_eq};
@@ -380,6 +380,8 @@ fn index_many(
 ) -> Result<(), Error>
     ensures agree { TagsAgree (has tags.old) (keys_in_map keys.now)
         → TagsAgree (has tags.new) (keys_in_map keys.now) }
+    ensures many { OnOk result
+        (FEW ≤ length keys.now.entries → (t : ℕ) → IsSome (has tags.new t)) }
     ensures err { OnErr result
         (Answers (reference_refusal (hash.get_by_text keys.now pubref.now)) result) }
 {
