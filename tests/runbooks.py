@@ -15,8 +15,8 @@ keeps a DNSKEY set that it has checked by a DS set for the TTL of the DNSKEY set
 of the DS set. So a DS set, a DNSKEY set checked by it, and signatures of the zone are looked at
 together: there has to be a chain of trust, and a signature by each algorithm of the DS set too.
 
-Then come operators who don't follow the guide in one point. Each point has to break some zone: by
-`-v` it is told how many.
+Then come operators who don't follow the guide in one point. Each point has to break some zone, in
+the way that it breaks one: by `-v` it is told how many.
 """
 
 import random
@@ -35,9 +35,9 @@ from tables import ROLLS, SETS, KeySet  # noqa: E402
 
 from game.book import BOOK, EARLY_END, FIRST_KEYS, UNSIGNED, Step, Wrong, runbooks  # noqa: E402
 from game.points import (  # noqa: E402
-    ALGORITHM, BEFORE_START, CDS_BY_ZSK, CDS_LEFT, CSK, CSK_FIRST, DOUBLE_DS, EARLY, KSK_FIRST,
-    LOWERED, MIXED, NOT_KEPT, NO_MARGIN, NO_SUM, ONE_SIDE, ORDERS, PARENT_FIRST, POINTS, RAISED,
-    ROUNDED, SAME_KEY, SKIPPED, TTL_OF_0,
+    ALGORITHM, BEFORE_START, BREAKS, CDS_BY_ZSK, CDS_LEFT, CSK, CSK_FIRST, DOUBLE_DS, EARLY,
+    KSK_FIRST, LOWERED, MIXED, NOT_KEPT, NO_CHAIN, NO_END, NO_MARGIN, NO_SUM, ONE_SIDE, ORDERS,
+    PARENT_FIRST, POINTS, RAISED, ROUNDED, SAME_KEY, SKIPPED, TTL_OF_0,
 )
 from game.zone import SECOND, Broken, World  # noqa: E402
 
@@ -64,6 +64,8 @@ WATCHED = {
 
 class Stuck(Exception):
     """A step never comes to its end."""
+
+    how = NO_END
 
 
 class Operator:
@@ -438,15 +440,18 @@ def leave_out(book, wrong):
     counts."""
     total, every = 0, 0
     for point in POINTS:
-        broken = zones = 0
+        broken, zones, ways = 0, 0, Counter()
         while broken < 3 and zones < 60:
             order = ORDERS.get(point) or random.Random(zones).sample([*ROLLS], len(ROLLS))
-            broken += play(zones, order, book, point)[1] is not None
+            if fault := play(zones, order, book, point)[1]:
+                broken += 1
+                ways[fault.how] += 1
             zones += 1
-        if not broken:
-            wrong.append(f"runbooks: no zone of {zones} breaks by this: {point}")
+        if not ways[wanted := BREAKS.get(point, NO_CHAIN)]:
+            wrong.append(f"runbooks: {wanted}: no zone of {zones} breaks so by this: {point}")
         if "-v" in sys.argv:
-            print(f"{broken} of {zones} zones break: {point}")
+            told = ", ".join(f"{how} {number}" for how, number in ways.items())
+            print(f"{broken} of {zones} zones break ({told}): {point}")
         total, every = total + broken, every + zones
     return f"each of {len(POINTS)} points that are left out breaks zones, {total} of {every}"
 

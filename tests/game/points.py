@@ -1,5 +1,5 @@
-"""The points in which an operator may leave the guide, and what some of them need to break a zone
-soon."""
+"""The points in which an operator may leave the guide, what some of them need to break a zone soon,
+and how they break it."""
 
 DOUBLE_DS, CSK, ALGORITHM = "ksk-double-ds-roll", "csk-roll", "algorithm-roll"
 
@@ -24,6 +24,13 @@ POINTS = (
     MIXED := "a KSK of one algorithm with a ZSK of another",
     ONE_SIDE := "an algorithm roll of the KSKs alone",
 )
+
+# How a zone breaks: some caches hold no chain of trust, or one and not a signature by every
+# algorithm, or a step never comes to its end.
+NO_CHAIN, NOT_EVERY, NO_END = "no chain", "not every algorithm", "no end of a step"
+
+# How it breaks by a point, where that isn't NO_CHAIN.
+BREAKS = {CDS_BY_ZSK: NO_END, RAISED: NOT_EVERY, MIXED: NOT_EVERY, ONE_SIDE: NOT_EVERY}
 
 # What some of them need to break soon: which rolls, and which world.
 ORDERS = {

@@ -7,7 +7,7 @@ from math import inf
 from judge import has_chain
 from tables import SETS
 
-from game.points import WORLDS
+from game.points import NO_CHAIN, NOT_EVERY, WORLDS
 
 # So many instants are in a second.
 SECOND = 8
@@ -15,7 +15,11 @@ BEGIN = 1000 * SECOND
 
 
 class Broken(Exception):
-    """Some caches hold sets that a validator refuses."""
+    """Some caches hold sets that a validator refuses: how, and which."""
+
+    def __init__(self, how, sets):
+        super().__init__(f"{how}: {sets}")
+        self.how = how
 
 
 class Kept:
@@ -158,16 +162,16 @@ class World:
             if values not in self.judged:
                 self.judged[values] = self.lacks(*values)
             if self.judged[values]:
-                raise Broken(self.judged[values])
+                raise Broken(*self.judged[values])
 
     def lacks(self, ds, dnskey, zone):
-        """What a validator misses in these sets, if anything."""
+        """What a validator misses in these sets, if anything, and the sets."""
         keys, signers = dnskey
         if not has_chain(ds, keys, signers, zone):
-            return f"no chain: {self.told(ds, keys, signers, zone)}"
+            return NO_CHAIN, self.told(ds, keys, signers, zone)
         entry, signing = self.algorithms(ds & keys & signers), self.algorithms(keys & zone)
         if self.algorithms(ds) - (entry & signing):
-            return f"not every algorithm: {self.told(ds, keys, signers, zone)}"
+            return NOT_EVERY, self.told(ds, keys, signers, zone)
         return None
 
     def algorithms(self, names):
