@@ -118,8 +118,8 @@ class KeySet:
     """A key set, as the lines that were accepted."""
 
     due: dict[str, list[Action]]
-    """What is due now, by the roll that asks for it: one in progress, or ended early and not
-    started again."""
+    """What is due now, by the roll that asks for it: one in progress, or one that was ended early,
+    until the next start."""
     published: Published
     """What is to be published now."""
     chain: str
@@ -151,9 +151,14 @@ class KeySet:
         """Goes over to these lines, if each is accepted, and gives the answers to the calls."""
         *replies, sets, chain = _answers(lines)
         self._lines = lines
-        self.due = {}
+        self.due, ended = {}, []
         for call, reply in zip(lines[1:], replies):
             word, roll = call.split(" ")[:2]
+            if word == "start":
+                while ended:
+                    del self.due[ended.pop()]
+            elif word == "abort":
+                ended.append(roll)
             if word in ("start", "report1", "wait1", "report2", "wait2", "abort"):
                 self.due[roll] = _actions(reply)
             elif word == "done":

@@ -8,7 +8,7 @@ from typing import NamedTuple
 from tables import ROLLS
 
 BOOK = Path(__file__).resolve().parents[2] / "docs" / "RUNBOOKS.md"
-FIRST_KEYS, EARLY_END = "The first keys", "Ending a roll early"
+FIRST_KEYS, EARLY_END, TWO = "The first keys", "Ending a roll early", "Two signers"
 
 # What the cells of the tables say. A cell that says something else has to be taught here.
 DOES = {
@@ -36,8 +36,7 @@ REPORTS = {
     "the higher of both": (max, ["dnskey", "zone"]),
     "the higher of the DS TTL and the zone's TTL": (max, ["ds", "zone"]),
     "the **sum** of the DS TTL and the DNSKEY TTL": (sum, ["ds", "dnskey"]),
-    "the highest TTL that the unsigned zone had": (max, ["dnskey", "zone"]),
-}
+    }
 
 
 class Wrong(Exception):
@@ -79,7 +78,7 @@ def runbooks():
         cells = [cell.strip() for cell in line.split("|")[1:-1]]
         if line.startswith("## "):
             heading = line.removeprefix("## ")
-        elif len(cells) == 4 and cells[0].startswith("`"):
+        elif len(cells) == 4 and cells[0].startswith("`") and heading != TWO:
             step, names = step_of(*cells[1:]), re.findall(r"`(\S+)`", cells[0])
             if heading == EARLY_END:
                 book[EARLY_END].update({roll: step for roll in names})

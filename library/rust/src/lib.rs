@@ -183,8 +183,8 @@ impl KeySet {
         &self.script
     }
 
-    /// What is due now, by the roll that asks for it: one in progress, or ended early and not
-    /// started again.
+    /// What is due now, by the roll that asks for it: one in progress, or one that was ended early,
+    /// until the next start.
     pub fn due(&self) -> &BTreeMap<String, Vec<Action>> {
         &self.due
     }
@@ -208,15 +208,22 @@ impl KeySet {
             unreachable!("an answer ends with the sets and the verdict");
         };
         let mut due = BTreeMap::new();
+        let mut ended = Vec::new();
         let mut asked = Vec::new();
         for (call, reply) in script.lines().skip(1).zip(replies) {
             asked = actions(reply)?;
             match call.split(' ').collect::<Vec<_>>().as_slice() {
-                [
-                    "start" | "report1" | "wait1" | "report2" | "wait2" | "abort",
-                    roll,
-                    ..,
-                ] => {
+                ["start", roll, ..] => {
+                    for early in ended.drain(..) {
+                        due.remove(early);
+                    }
+                    due.insert(roll.to_string(), asked.clone());
+                }
+                ["abort", roll] => {
+                    due.insert(roll.to_string(), asked.clone());
+                    ended.push(*roll);
+                }
+                ["report1" | "wait1" | "report2" | "wait2", roll, ..] => {
                     due.insert(roll.to_string(), asked.clone());
                 }
                 ["done", roll] => {
