@@ -1,6 +1,6 @@
 -- The positions that the recorder keeps go along with each call.
 use Rattle.std.proofs.Common.{◌≡◌, ℕ, Bool, true, false, cond, List, Some, None, refl, sym, ap, ◌∙◌}
-use Rattle.std.proofs.Common.{subst, map}
+use Rattle.std.proofs.Common.{◌∷◌, subst, map}
 use Rattle.std.specs.Prelude.{Option}
 use Rattle.std.specs.Option.{option_map}
 use Rattle.std.specs.Str.{bytes_eq}
@@ -8,7 +8,8 @@ use Rattle.std.specs.FinMap.{get, get-empty}
 use Rattle.std.specs.BTreeMap as tree
 use Rattle.std.specs.BTreeMap.{BTreeMap}
 use Rattle.std.specs.Map.{lookup}
-use Rattle.std.specs.Ordering.{nat_cmp}
+use Rattle.std.specs.List.{AllZip}
+use Rattle.std.specs.Ordering.{nat_cmp, is_eq}
 use Rattle.std.specs.Cmp.Lexicographic.{slice_cmp}
 use Rattle.std.specs.declared.string.String.{String}
 use Rattle.std.proofs.Common.{[], string_bytes, Global}
@@ -119,6 +120,18 @@ pub mark-refused : (call : Call) (reply : Reply) → is_accepted reply ≡ false
 mark-refused call Done ok = cc
 mark-refused call (Actions actions) ok = cc
 mark-refused call (Refused cause) ok = refl
+
+-- clones of the positions are the same positions
+pub positions-cloned : {Y : Type 0} (es fs : List (String Y × ℕ))
+    → AllZip (λ p q. (string_bytes q.0 ≡ string_bytes p.0) × (q.1 ≡ p.1)) es fs → (q : List ℕ)
+    → lookup (tree.is_at (λ k. slice_cmp nat_cmp q (string_bytes k))) fs
+    ≡ lookup (tree.is_at (λ k. slice_cmp nat_cmp q (string_bytes k))) es
+positions-cloned [] [] h q = refl
+positions-cloned [] (f ∷ fs) h q = absurd h
+positions-cloned (e ∷ es) [] h q = absurd h
+positions-cloned (e ∷ es) (f ∷ fs) h q =
+    λ i. cond (is_eq (slice_cmp nat_cmp q (h.0.0 i))) (Some (h.0.1 i))
+    (positions-cloned es fs h.1 q i)
 
 -- a new key set, without positions
 pub agrees-new : (name : List ℕ) (set : KeySetParts) (m : BTreeMap (String Global) ℕ) → set

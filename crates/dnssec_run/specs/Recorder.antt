@@ -112,3 +112,10 @@ pub record Records (name : List ℕ) (calls : List Call) (entries : List Entry) 
   pub agrees : Agrees r.keyset (tree.get_by_text r.added)
       (world_at name calls entries (length calls))
   pub published : IsPublished r.published (world_at name calls entries (length calls))
+
+-- two recorders stand at one position, over equal key sets, positions and sets
+pub record IsCopyOf (copy r : Recorder) : Type 0 where
+  pub keyset : copy.keyset ≡ r.keyset
+  pub added : (q : List ℕ) → tree.get_by_text copy.added q ≡ tree.get_by_text r.added q
+  pub published : HasSameKeys copy.published r.published
+  pub at : copy.at ≡ r.at

@@ -14,7 +14,7 @@ ghost use Rattle.dnssec_run.specs.Published.{World};
 ghost use Rattle.dnssec_run.specs.Record.{IsRun, KeepsSidesApart};
 ghost use Rattle.dnssec_run.specs.Record.{NeighboursMayBeExchanged, StaysSound, call_of};
 ghost use Rattle.dnssec_run.specs.Record.{reference_added, world_after, world_at};
-ghost use Rattle.dnssec_run.specs.Recorder.{Agrees, HasSameKeys, IsOutcome, Records};
+ghost use Rattle.dnssec_run.specs.Recorder.{Agrees, HasSameKeys, IsCopyOf, IsOutcome, Records};
 ghost use Rattle.dnssec_run.specs.Recorder.{TellsOutcome, positions_after};
 ghost use Rattle.dnssec_run.specs.declared.call.Call.{Call};
 ghost use Rattle.dnssec_run.specs.declared.record.Entry.{Entry};
@@ -219,6 +219,37 @@ impl Recorder {
         } else {
             None
         }
+    }
+
+    /// The key set after the calls so far, to look at.
+    pub fn keyset(&self) -> &KeySet
+        ensures { result.now ≡ self.now.keyset }
+    {
+        &self.keyset
+    }
+
+    /// A recorder at the same position, with equal parts. A call can be tried on it first, while this
+    /// one stays as it is.
+    ///
+    /// # Errors
+    ///
+    /// Only `OutOfMemory`, if there is no memory for the copy.
+    pub fn try_clone(&self, alloc: Global) -> Result<Recorder, Error>
+        ensures same { IfOk result (λ copy. IsCopyOf copy self.now) }
+        ensures records { IfOk result (λ copy.
+            (name : List ℕ) (calls : List Call) (entries : List Entry) →
+            Records name calls entries self.now → Records name calls entries copy) }
+        ensures err { IfErr result (λ e. e ≡ OutOfMemory) }
+    {
+        let Ok(added) = self.added.clone() else {
+            return Err(Error::OutOfMemory);
+        };
+        Ok(Recorder {
+            keyset: self.keyset.try_clone()?,
+            added,
+            published: copy_sets(alloc, &self.published)?,
+            at: self.at,
+        })
     }
 
     /// The key set behind the calls so far.

@@ -1,0 +1,30 @@
+-- A copy has equal parts, so it stands where the recorder does.
+use Rattle.std.proofs.Common.{refl, ◌∙◌}
+use Rattle.dnssec_run.proofs.Next.{positions-cloned}
+use Rattle.dnssec_run.proofs.running.Recorder.try_clone.Goals as goal
+
+pub returns-clause-same : goal.returns-clause-same
+returns-clause-same c = record {
+  keyset = c.in_ok-try_clone.ensures.same;
+  added = positions-cloned _ _ c.in-Ok.ensures.cases;
+  published = c.in_ok-copy_sets.ensures.ok;
+  at = refl;
+}
+
+pub returns-clause-records : goal.returns-clause-records
+returns-clause-records c name calls entries so =
+    let is = returns-clause-same c in
+    record {
+      run = so.run;
+      at = so.at;
+      agrees = record {
+        same = is.keyset ∙ so.agrees.same;
+        positions = λ q. is.added q ∙ so.agrees.positions q;
+      };
+      published = record {
+        ds = is.published.ds ∙ so.published.ds;
+        dnskey = is.published.dnskey ∙ so.published.dnskey;
+        dnskey_signers = is.published.dnskey_signers ∙ so.published.dnskey_signers;
+        zone_signers = is.published.zone_signers ∙ so.published.zone_signers;
+      };
+    }
