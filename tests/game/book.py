@@ -28,15 +28,10 @@ WATCHES = {
     "CDS and CDNSKEY, and the DS set": "ds version",
     "this version": "version",
 }
-REPORTS = {
-    "the DNSKEY TTL": (max, ["dnskey"]),
-    "the zone's TTL": (max, ["zone"]),
-    "the DS TTL": (max, ["ds"]),
-    "the higher of the DNSKEY TTL and the zone's TTL": (max, ["dnskey", "zone"]),
-    "the higher of both": (max, ["dnskey", "zone"]),
-    "the higher of the DS TTL and the zone's TTL": (max, ["ds", "zone"]),
-    "the **sum** of the DS TTL and the DNSKEY TTL": (sum, ["ds", "dnskey"]),
-    }
+# The TTLs that a report gives. Rule 1 of docs/OPERATORS.md says which sets they are of.
+TTLS = {"the DNSKEY TTL": "dnskey", "the zone's TTL": "zone", "the DS TTL": "ds"}
+JOINED = re.compile(r"the (?P<join>higher|\*\*sum\*\*) of (?P<of>both|.* and .*)")
+JOINS = {"higher": max, "**sum**": sum}
 
 
 class Wrong(Exception):
@@ -60,12 +55,22 @@ def known(table, cell):
     return table[cell]
 
 
+def report_of(words, watches):
+    """How the TTL of a report is made of which TTLs: in these words, and no safer."""
+    match = JOINED.fullmatch(words)
+    if match and match["of"] == "both":
+        return JOINS[match["join"]], watches
+    parts = match["of"].split(" and ") if match else [words]
+    return JOINS[match["join"]] if match else max, [known(TTLS, part) for part in parts]
+
+
 def step_of(does, watches, then):
     report = re.search(r"`report[12]`: ([^;]*)", then)
+    watched = known(WATCHES, watches).split()
     return Step(
         {part for part, words in DOES.items() if re.search(words, does)},
-        set(known(WATCHES, watches).split()),
-        known(REPORTS, report[1]) if report else None,
+        set(watched),
+        report_of(report[1], watched) if report else None,
         "don't raise the DNSKEY TTL" in then,
         "take CDS and CDNSKEY out" in then,
     )
@@ -88,6 +93,19 @@ def runbooks():
     if missing or set(book[EARLY_END]) != set(ROLLS):
         raise Wrong(f"{BOOK.name}: rows are missing, of {sorted(missing) or EARLY_END}")
     return book
+
+
+def guides():
+    """The words of the operators' pages, without marks and line ends."""
+    pages = [BOOK.with_name(f"{page}.md") for page in ("OPERATORS", "RUNBOOKS", "EMERGENCY")]
+    text = re.sub(r"\[([^][]*)\]\([^)]*\)", r"\1", "\n".join(page.read_text() for page in pages))
+    return " ".join(re.sub(r"[`*]", "", text).split())
+
+
+def left_out(points):
+    """The points that the guides don't say."""
+    said = guides()
+    return frozenset(point for point in points if point.words not in said)
 
 
 # What docs/EMERGENCY.md says behind the two waits of going unsigned.

@@ -1,45 +1,214 @@
-"""The points in which an operator may leave the guide, what some of them need to break a zone soon,
-and how they break it."""
+"""The points in which an operator may leave the guides, by the words that say them there, what some
+of them need to break a zone soon, and how they break it."""
+
+from typing import NamedTuple
 
 DOUBLE_DS, CSK, ALGORITHM = "ksk-double-ds-roll", "csk-roll", "algorithm-roll"
 
-# The points in which the others don't follow the guide.
+
+class Point(NamedTuple):
+    """What an operator does that leaves these words of the guides out."""
+
+    name: str
+    words: str
+
+
+# One signer.
 POINTS = (
-    LOWERED := "reports give the TTL of now, not the highest that caches may hold",
-    TTL_OF_0 := "reports give a TTL of 0",
-    SKIPPED := "waits are skipped, by a moment ahead of the clock",
-    EARLY := "reports are made when the first server has it",
-    ROUNDED := "moments are rounded the other way",
-    NO_MARGIN := "no margin for clocks that differ",
-    BEFORE_START := "the moment of a report lies before its start",
-    NOT_KEPT := "TTLs are reported that some caches don't keep",
-    PARENT_FIRST := "the parent changes before the first report",
-    SAME_KEY := "the key of a double-DS roll that was ended early comes again",
-    CDS_LEFT := "nobody watches until CDS is out",
-    CDS_BY_ZSK := "CDS is signed by the ZSK alone",
-    KSK_FIRST := "a KSK roll before the first algorithm roll",
-    CSK_FIRST := "a CSK roll before the first algorithm roll",
-    NO_SUM := "the DS TTL alone, where the sum is due",
-    RAISED := "the DNSKEY TTL rises where it must not",
-    MIXED := "a KSK of one algorithm with a ZSK of another",
-    ONE_SIDE := "an algorithm roll of the KSKs alone",
+    LOWERED := Point(
+        "reports give the TTL of now, not the highest that caches may hold",
+        "A lowered TTL doesn't count yet",
+    ),
+    TTL_OF_0 := Point(
+        "reports give a TTL of 0",
+        "The highest TTL under which any cache may still hold, from the report's moment on, a set"
+        " of that kind older than what the report speaks of",
+    ),
+    UNSIGNED_ONLY := Point(
+        "the first report counts what the unsigned zone had, and not the keys before",
+        "keys that the zone had before it went unsigned",
+    ),
+    EARLY_ENDS := Point(
+        "what was published by a roll that was ended early isn't counted",
+        "What was published before the roll counts: by a roll that was ended early",
+    ),
+    SKIPPED := Point(
+        "waits are skipped, by a moment ahead of the clock",
+        "No moment may be ahead of the clock",
+    ),
+    EARLY := Point(
+        "reports are made when the first server has it",
+        "watch until all servers of the zone give the new DNSKEY set",
+    ),
+    ROUNDED := Point(
+        "moments are rounded the other way",
+        "A report's moment is rounded up to the next second",
+    ),
+    NO_MARGIN := Point(
+        "no margin for clocks that differ",
+        "add the greatest difference to the moment of the report",
+    ),
+    BEFORE_START := Point(
+        "the moment of a report lies before its start",
+        "no report before its start or wait",
+    ),
+    NOT_KEPT := Point(
+        "TTLs are reported that some caches don't keep",
+        "Caches that don't keep TTLs.",
+    ),
+    PARENT_FIRST := Point(
+        "the parent changes before the first report",
+        "only then do what the call's answer asks",
+    ),
+    SAME_KEY := Point(
+        "the key of a double-DS roll that was ended early comes again",
+        "A ksk-double-ds-roll is begun anew with another key",
+    ),
+    CDS_LEFT := Point(
+        "nobody watches until CDS is out",
+        "watch until no server gives them any more",
+    ),
+    CDS_BY_ZONE := Point(
+        "CDS is signed by the keys of zone= only",
+        "Every key of signers= and every key of zone= signs them",
+    ),
+    CDS_BY_SIGNERS := Point(
+        "CDS is signed by the keys of signers= only",
+        "Every key of signers= and every key of zone= signs them",
+    ),
+    CDS_UNCOUNTED := Point(
+        "the TTL of CDS isn't counted in the zone's TTL",
+        "Like every set of the zone they count in the zone's TTL",
+    ),
+    CDS_UNCHANGED := Point(
+        "the signatures of CDS don't change with those of the zone",
+        "and UpdateRrsig signs them too",
+    ),
+    NOT_RENEWED := Point(
+        "signatures aren't renewed while a roll waits",
+        "Renew each signature while the old one is still valid for longer than the set's TTL and"
+        " your slowest server together",
+    ),
+    KSK_FIRST := Point(
+        "a KSK roll before the first algorithm roll",
+        "A KSK roll or CSK roll before the first algorithm-roll may be accepted",
+    ),
+    CSK_FIRST := Point(
+        "a CSK roll before the first algorithm roll",
+        "A KSK roll or CSK roll before the first algorithm-roll may be accepted",
+    ),
+    NO_SUM := Point(
+        "the DS TTL only, where the sum is due",
+        "Report the sum of both in the second report of an algorithm-roll",
+    ),
+    RAISED := Point(
+        "the DNSKEY TTL rises where it must not",
+        "don't raise the DNSKEY TTL before its second wait",
+    ),
+    MIXED := Point(
+        "a KSK of one algorithm with a ZSK of another",
+        "Give each algorithm in use a KSK and a ZSK, or a CSK",
+    ),
+    ONE_SIDE := Point(
+        "an algorithm roll of the KSKs only",
+        "Change algorithms only by an algorithm-roll that lists all old keys and all new ones",
+    ),
+    NOT_IN_USE := Point(
+        "a CSK roll brings in an algorithm, by an old key that was never in use",
+        "every other roll lists as old only keys in use",
+    ),
+    NOT_HELD_BACK := Point(
+        "going unsigned, the second wait is made when it is accepted",
+        "Hold the second wait back yourself until that TTL has passed",
+    ),
+)
+
+# Two signers.
+PAIRS = (
+    KEYS_UNSEEN := Point(
+        "a signer doesn't watch until the other's servers give its new keys",
+        "until the other's give one with all ZSKs and CSKs of yours that are in your set",
+    ),
+    OTHER_TTL := Point(
+        "the TTL of the other's DNSKEY sets isn't counted",
+        "Count the TTL of the other's DNSKEY sets as that of your own",
+    ),
+    TAKEN_OUT := Point(
+        "an old ZSK of the other is taken out before the other's second wait",
+        "It leaves yours only after the other's second wait",
+    ),
+    DS_ALONE := Point(
+        "first keys: each has the DS of its own keys set when its first wait is over",
+        "with one change at the parent for both",
+    ),
+    DS_OWN := Point(
+        "CDS has the keys of one signer only, and so has what is asked of the parent",
+        "The DS set has the keys of both ds=, and so have CDS and CDNSKEY",
+    ),
+    CDS_ON_ONE := Point(
+        "CDS comes and goes on the servers of one signer only",
+        "which both publish",
+    ),
+    AT_ONCE := Point(
+        "both ask for a change of the DS set at once, each by what it saw before",
+        "Make one change at a time",
+    ),
+    JOINS_EARLY := Point(
+        "the servers of who joins are named before its second wait",
+        "only after B's wait2",
+    ),
+    LEAVES_EARLY := Point(
+        "the DS of who leaves goes first",
+        "only then: has the parent's DS set changed to the keys of its own ds=",
+    ),
+    NS_TTL := Point(
+        "when one leaves, nobody waits for the TTL of the NS sets",
+        "the highest TTL of the old NS sets",
+    ),
+    UNSIGNED_ALONE := Point(
+        "one signer goes unsigned, and the other doesn't",
+        "if one leaves, it doesn't go unsigned",
+    ),
+    ALGORITHM_ALONE := Point(
+        "one signer changes its algorithm, and the other doesn't",
+        "The same algorithms on both sides",
+    ),
 )
 
 # How a zone breaks: some caches hold no chain of trust, or one and not a signature by every
-# algorithm, or a step never comes to its end.
-NO_CHAIN, NOT_EVERY, NO_END = "no chain", "not every algorithm", "no end of a step"
+# algorithm, or no signature of CDS that they can check, or one that is no longer valid, or a step
+# never comes to its end.
+NO_CHAIN, NOT_EVERY, NO_CDS = "no chain", "not every algorithm", "no chain to CDS"
+EXPIRED, NO_END = "a signature expired", "no end of a step"
 
 # How it breaks by a point, where that isn't NO_CHAIN.
-BREAKS = {CDS_BY_ZSK: NO_END, RAISED: NOT_EVERY, MIXED: NOT_EVERY, ONE_SIDE: NOT_EVERY}
+BREAKS = {
+    CDS_BY_ZONE: NO_END,
+    CDS_BY_SIGNERS: NO_CDS,
+    CDS_UNCOUNTED: NO_CDS,
+    CDS_UNCHANGED: NO_CDS,
+    NOT_RENEWED: EXPIRED,
+    RAISED: NOT_EVERY,
+    MIXED: NOT_EVERY,
+    ONE_SIDE: NOT_EVERY,
+    NOT_IN_USE: NOT_EVERY,
+    ALGORITHM_ALONE: NOT_EVERY,
+    CDS_ON_ONE: NO_END,
+}
 
 # What some of them need to break soon: which rolls, and which world.
 ORDERS = {
     SAME_KEY: [DOUBLE_DS] * 8,
     CDS_LEFT: [DOUBLE_DS] * 8,
+    CDS_BY_SIGNERS: [DOUBLE_DS] * 8,
+    CDS_UNCOUNTED: [DOUBLE_DS, "zsk-roll"] * 4,
+    CDS_UNCHANGED: [DOUBLE_DS, "zsk-roll"] * 4,
     RAISED: [ALGORITHM] * 8,
+    UNSIGNED_ONLY: [],
 }
 WORLDS = {
     NOT_KEPT: {"least": 4},
     CDS_LEFT: {"slow": 0.5, "takes_cds": True},
-    CDS_BY_ZSK: {"takes_cds": True},
+    CDS_BY_ZONE: {"takes_cds": True},
+    CDS_ON_ONE: {"takes_cds": True},
 }

@@ -7,11 +7,14 @@ from math import inf
 from judge import has_chain
 from tables import SETS
 
-from game.points import NO_CHAIN, NOT_EVERY, WORLDS
+from game.points import EXPIRED, NO_CDS, NO_CHAIN, NOT_EVERY, WORLDS
 
 # So many instants are in a second.
 SECOND = 8
 BEGIN = 1000 * SECOND
+
+# For so many seconds signatures are valid, and so long a server takes at most.
+VALID, SLOWEST = (60, 120), 16
 
 
 class Broken(Exception):
@@ -23,10 +26,11 @@ class Broken(Exception):
 
 
 class Kept:
-    """A set of one kind as servers give it, with the time for which caches keep it."""
+    """A set of one kind as servers give it, with the time for which caches keep it, and the moment
+    at which its signatures expire."""
 
-    def __init__(self, value, ttl, time):
-        self.value, self.ttl, self.time = value, ttl, time
+    def __init__(self, value, ttl, time, expires):
+        self.value, self.ttl, self.time, self.expires = value, ttl, time, expires
         self.givers, self.left, self.last = 0, None, 0
 
     def end(self):
@@ -36,17 +40,17 @@ class Kept:
 
 class Servers:
     """Servers that are reached one by one. `versions` are those published so far, and `at` says
-    which of them each server gives. A version has its sets by their kinds; a zone's has CDS too,
-    with who signs it."""
+    which of them each server gives. A version has its sets by their kinds. Servers that nobody asks
+    give nothing to caches."""
 
-    def __init__(self, world, number, version):
+    def __init__(self, world, number, version, is_asked=True):
         self.world, self.versions, self.at = world, [version], [0] * number
-        for kind, kept in self.sets(0):
-            kept.givers = number
-            world.held[kind].append(kept)
+        self.is_asked = self.was_asked = False
+        if is_asked:
+            self.name()
 
     def sets(self, number):
-        return [pair for pair in self.versions[number].items() if isinstance(pair[1], Kept)]
+        return [pair for pair in self.versions[number].items() if pair[1]]
 
     def publish(self, **changed):
         """Publishes a version, and gives its number."""
@@ -59,43 +63,70 @@ class Servers:
         return number
 
     def arrive(self, server, number):
-        if number <= self.at[server]:
-            return
-        before, self.at[server] = self.versions[self.at[server]], number
+        if number > self.at[server]:
+            before, self.at[server] = self.at[server], number
+            if self.is_asked:
+                self.gives(number)
+                self.gives_no_more(before)
+
+    def gives(self, number):
         for kind, kept in self.sets(number):
-            old = before[kind]
-            if kept is not old:
-                old.givers -= 1
-                if not old.givers:
-                    old.left = self.world.now
-                kept.givers += 1
-                self.world.holds(kind, kept)
+            kept.givers += 1
+            self.world.holds(kind, kept)
+
+    def gives_no_more(self, number):
+        for _, kept in self.sets(number):
+            kept.givers -= 1
+            if not kept.givers:
+                kept.left = self.world.now
+
+    def name(self):
+        """From now on they are asked."""
+        self.is_asked = self.was_asked = True
+        for number in self.at:
+            self.gives(number)
+
+    def name_no_more(self):
+        """From now on nobody asks them."""
+        self.is_asked = False
+        for number in self.at:
+            self.gives_no_more(number)
 
 
 class World:
     """The zone, its parent, and what caches may hold."""
 
-    def __init__(self, dice, keyset, point):
-        self.dice, self.keyset = dice, keyset
+    def __init__(self, dice, leaves=()):
+        self.dice, self.algorithms, self.made = dice, {}, count(1)
         self.now, self.queue, self.order = BEGIN, [], count()
-        self.held, self.pairs = {"ds": [], "dnskey": [], "zone": []}, []
+        self.held, self.pairs = {"ds": [], "dnskey": [], "zone": [], "cds": []}, []
         self.is_new, self.judged, self.told_at = True, {}, BEGIN
         # Some caches keep all for a least time, or for a time of their own behind the TTL.
         self.least, self.more = dice.choice(((0, 0), (0, 0), (4, 0), (0, 3)))
         # How often a server takes long; whether the parent reads CDS.
         self.slow, self.takes_cds = dice.choice((0, 0.1, 0.4)), dice.random() < 0.6
-        vars(self).update(WORLDS.get(point, {}))
-        nothing = frozenset()
-        unsigned = {"dnskey": self.kept((nothing, nothing)), "zone": self.kept(nothing)}
-        self.zone = Servers(self, dice.randint(2, 4), {**unsigned, "cds": None})
-        self.parent = Servers(self, dice.randint(1, 3), {"ds": self.kept(nothing)})
+        for point in leaves:
+            vars(self).update(WORLDS.get(point, {}))
+        # The servers of each signer, and who has the DS set changed just now.
+        self.zones, self.changes_ds = [], None
+        self.parent = Servers(self, dice.randint(1, 3), {"ds": self.kept(frozenset())})
         self.later(0, self.scan)
         self.later(0, self.another_ttl)
         self.instants = self.choices = 0
 
-    def kept(self, value):
-        ttl = self.dice.choice((1, 2, 2, 3, 5, 8))
-        return Kept(value, ttl, self.keeps(ttl) * SECOND)
+    def another_zone(self, is_asked=True):
+        """The servers of one more signer, which give the zone unsigned."""
+        nothing = frozenset()
+        unsigned = {"dnskey": self.kept((nothing, nothing)), "zone": self.kept(nothing)}
+        servers = Servers(self, self.dice.randint(2, 4), {**unsigned, "cds": None}, is_asked)
+        self.zones.append(servers)
+        return servers
+
+    def kept(self, value, most=None):
+        """A set with some TTL, which may be at most that of another set."""
+        ttl = self.dice.choice([ttl for ttl in (1, 2, 2, 3, 5, 8) if ttl <= (most or 8)])
+        expires = self.now + self.dice.randint(*VALID) * SECOND
+        return Kept(value, ttl, self.keeps(ttl) * SECOND, expires)
 
     def keeps(self, ttl):
         """For how long some cache keeps what has this TTL."""
@@ -103,7 +134,8 @@ class World:
 
     def delay(self):
         """How long a server takes to get a version: now and then, long."""
-        return self.dice.randint(0, 2 * SECOND if self.dice.random() > self.slow else 16 * SECOND)
+        most = 2 if self.dice.random() > self.slow else SLOWEST
+        return self.dice.randint(0, most * SECOND)
 
     def later(self, delay, call, *arguments):
         heapq.heappush(self.queue, (self.now + delay, next(self.order), call, arguments))
@@ -111,14 +143,20 @@ class World:
     def scan(self):
         """The parent reads the CDS of one server. It takes it where a key signs it that is in the
         DS set and in the DNSKEY set, and where the zone doesn't break by it."""
-        version = self.zone.versions[self.dice.choice(self.zone.at)]
-        if self.takes_cds and version["cds"]:
-            keys, signers = version["cds"]
-            signing = signers & version["dnskey"].value[0]
-            present = self.parent.versions[-1]["ds"].value
-            if keys != present and signing & present and (keys & signing or not keys):
-                self.parent.publish(ds=self.kept(keys))
+        asked = [(zone, at) for zone in self.zones if zone.is_asked for at in zone.at]
+        if self.takes_cds and asked:
+            zone, at = self.dice.choice(asked)
+            self.reads(zone.versions[at])
         self.later(self.dice.randint(1, 3 * SECOND), self.scan)
+
+    def reads(self, version):
+        if not version["cds"]:
+            return
+        keys, signers = version["cds"].value
+        present = self.parent.versions[-1]["ds"].value
+        signing = signers & version["dnskey"].value[0] & present
+        if keys != present and signing and (keys & version["dnskey"].value[1] or not keys):
+            self.parent.publish(ds=self.kept(keys))
 
     def tell(self, keys):
         """Tells the parent its DS set by another way than CDS."""
@@ -133,7 +171,13 @@ class World:
     def holds(self, kind, kept):
         if kept not in self.held[kind]:
             self.held[kind].append(kept)
+            if kind != "ds":
+                self.later(max(0, kept.expires - self.now), self.expire, kept)
         self.is_new = True
+
+    def expire(self, kept):
+        if self.now < kept.end() and any(ds.value for ds in self.held["ds"]):
+            raise Broken(EXPIRED, kept.value)
 
     def tick(self):
         self.now += 1
@@ -156,26 +200,33 @@ class World:
             if self.now < min(dnskey.end(), ds.end() + dnskey.time)
         ]
         self.instants += 1
-        for (ds, dnskey), zone in product(self.pairs, self.held["zone"]):
-            self.choices += 1
-            values = ds.value, dnskey.value, zone.value
-            if values not in self.judged:
-                self.judged[values] = self.lacks(*values)
-            if self.judged[values]:
-                raise Broken(*self.judged[values])
+        for ds, dnskey in self.pairs:
+            for kept in self.held["zone"]:
+                self.judge(self.lacks, ds.value, *dnskey.value, kept.value)
+            for kept in self.held["cds"]:
+                self.judge(self.lacks_cds, ds.value, *dnskey.value, kept.value[1])
 
-    def lacks(self, ds, dnskey, zone):
-        """What a validator misses in these sets, if anything, and the sets."""
-        keys, signers = dnskey
+    def judge(self, lacks, *sets):
+        self.choices += 1
+        if (lacks, sets) not in self.judged:
+            self.judged[lacks, sets] = lacks(*sets)
+        if how := self.judged[lacks, sets]:
+            raise Broken(how, self.told(*sets))
+
+    def lacks(self, ds, keys, signers, zone):
+        """What a validator misses in these sets, if anything."""
         if not has_chain(ds, keys, signers, zone):
-            return NO_CHAIN, self.told(ds, keys, signers, zone)
-        entry, signing = self.algorithms(ds & keys & signers), self.algorithms(keys & zone)
-        if self.algorithms(ds) - (entry & signing):
-            return NOT_EVERY, self.told(ds, keys, signers, zone)
-        return None
+            return NO_CHAIN
+        entry, signing = self.each_of(ds & keys & signers), self.each_of(keys & zone)
+        return NOT_EVERY if self.each_of(ds) - (entry & signing) else None
 
-    def algorithms(self, names):
-        return {self.keyset.algorithms[name] for name in names}
+    def lacks_cds(self, ds, keys, _, signers):
+        """The same for CDS, if such sets have a chain."""
+        return NO_CDS if self.each_of(ds) - self.each_of(keys & signers) else None
+
+    def each_of(self, names):
+        """The algorithms of these keys."""
+        return {self.algorithms[name] for name in names}
 
     def told(self, *sets):
         named = (",".join(sorted(names)) or "-" for names in sets)

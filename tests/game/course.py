@@ -1,0 +1,182 @@
+"""The rolls of an operator of the game, and the course of a zone with one signer."""
+
+from tables import ROLLS
+
+from game.book import EARLY_END, FIRST_KEYS, UNSIGNED, Step
+from game.points import (
+    ALGORITHM, CSK, CSK_FIRST, DOUBLE_DS, KSK_FIRST, MIXED, NOT_HELD_BACK, NOT_IN_USE, ONE_SIDE,
+    PARENT_FIRST, SAME_KEY, UNSIGNED_ONLY,
+)
+from game.signer import GONE, Operator
+from game.zone import SECOND
+
+BESIDE = "beside"
+ALGORITHMS = (8, 13, 14, 15)
+KINDS = {"K": "ksk", "Z": "zsk", "C": "csk"}
+
+
+class Follower(Operator):
+    """Makes rolls as the runbooks have them."""
+
+    def roll(self, roll, old, new, name=None):
+        """A roll, or the first keys, from the start to the deletion of the old keys."""
+        if not self.in_step and self.dice.random() < (0.6 if SAME_KEY in self.leaves else 0.15):
+            # (It may have been the other roll of such keys.)
+            kinds = ROLLS[roll]["kinds"]
+            like = [roll] if " " in kinds else [r for r in ROLLS if ROLLS[r]["kinds"] == kinds]
+            early = self.dice.choice(like)
+            yield from self.ended_early(early, old, new)
+            must = DOUBLE_DS == early == roll and SAME_KEY not in self.leaves
+            if must or SAME_KEY not in self.leaves and self.dice.random() < 0.5:
+                new = [self.another(key) for key in new]
+        steps = self.book[name or roll]
+        yield from self.comes_to(steps[0])
+        began, actions = self.rounded_down(), self.start(roll, old, new)
+        if PARENT_FIRST in self.leaves and "ds" in steps[1].does:
+            self.world.tell(frozenset(name for name in new if name[0] in "KC"))
+        for half, step in enumerate(steps, 1):
+            since = yield from self.do(step, actions)
+            yield from self.watch(step, since)
+            if "no cds" in step.does:
+                self.lets_go()
+            if half < 3:
+                unsigned_only = UNSIGNED_ONLY in self.leaves and (name, half) == (FIRST_KEYS, 1)
+                call = f"report{half}"
+                ttl = yield from self.report(call, roll, step, since, began, unsigned_only)
+                yield from self.comes_to(steps[half])
+                actions = yield from self.wait(f"wait{half}", roll, ttl)
+        self.leaving -= set(old)
+        self.call(f"done {roll}")
+        yield from self.end(step)
+        for key in old:
+            self.call(f"delete {key}")
+        self.done[name or roll] += 1
+
+    def end(self, step):
+        if step.takes_cds_out:
+            since = yield from self.publish({"no cds"})
+            yield from self.watch(Step({"no cds"}, set(), None, False, False), since)
+            self.lets_go()
+
+    def ended_early(self, roll, old, new):
+        """A start of the roll that is taken back after a while."""
+        first, zone = self.book[roll][0], self.zone.versions
+        yield from self.comes_to(first)
+        begun = len(zone)
+        yield from self.do(first, self.start(roll, old, new))
+        yield from self.pause(6 * SECOND)
+        self.early |= {kept for version in zone[begun:] for kept in version.values() if kept}
+        step = self.book[EARLY_END][roll]
+        actions = self.call(f"abort {roll}")
+        self.leaving -= set(old)
+        since = yield from self.do(step, actions)
+        yield from self.watch(step, since)
+        yield from self.end(step)
+        self.done[EARLY_END] += 1
+
+    def another(self, key):
+        """A key in the place of this one, which is deleted."""
+        algorithm = self.world.algorithms[key]
+        self.call(f"set-stale {key}")
+        self.call(f"delete {key}")
+        made = self.add(KINDS[key[0]], algorithm)
+        keys = self.keys[algorithm]
+        keys[keys.index(key)] = made
+        return made
+
+    def unsigned(self):
+        """Goes unsigned, as docs/EMERGENCY.md has it."""
+        roll, old, key = ALGORITHM, sum(self.keys.values(), []), self.add("csk", 13)
+        began = self.rounded_down()
+        self.start(roll, old, [key])
+        self.call(f"set-stale {key}")
+        self.call(f"report1 {roll} 0 {began}")
+        yield from self.comes_to(UNSIGNED[0])
+        actions = self.call(f"wait1 {roll} {began}")
+        since = yield from self.do(UNSIGNED[0], actions)
+        yield from self.watch(UNSIGNED[0], since)
+        ttl = yield from self.report("report2", roll, UNSIGNED[0], since, began)
+        yield from self.comes_to(UNSIGNED[1])
+        over = 0 if NOT_HELD_BACK in self.leaves else self.rounded_up() + ttl
+        while (now := self.rounded_down()) < over:
+            self.passes()
+            yield
+        actions = self.call(f"wait2 {roll} {now}")
+        since = yield from self.do(UNSIGNED[1], actions)
+        yield from self.watch(UNSIGNED[1], since)
+        self.is_steady = False
+        self.lets_go()
+        self.leaving -= set(old)
+        self.call(f"done {roll}")
+        for name in [*old, key]:
+            self.call(f"delete {name}")
+        self.done[GONE] += 1
+
+    # The course of a zone
+
+    def whole(self, algorithm, is_csk=False):
+        """New keys of an algorithm: a KSK and a ZSK, or a CSK."""
+        return [self.add(kind, algorithm) for kind in (["csk"] if is_csk else ["ksk", "zsk"])]
+
+    def first_keys(self):
+        self.keys = {13: self.whole(13)}
+        if MIXED in self.leaves:
+            self.keys[13] = [self.add("ksk", 13), self.add("zsk", 15)]
+        yield from self.roll(ALGORITHM, [], sum(self.keys.values(), []), FIRST_KEYS)
+        if ONE_SIDE in self.leaves:
+            yield from self.roll(ALGORITHM, self.keys[13][:1], [self.add("ksk", 15)])
+        if NOT_IN_USE in self.leaves:
+            self.keys[8] = [self.add("csk", 8)]
+            yield from self.roll(CSK, [self.add("ksk", 8)], self.keys[8])
+
+    def course(self, order):
+        if {KSK_FIRST, CSK_FIRST} & self.leaves:
+            kind = "ksk" if KSK_FIRST in self.leaves else "csk"
+            self.keys = {13: [self.add(kind, 13), self.add(kind, 13)]}
+            yield from self.roll(f"{kind}-roll", self.keys[13][:1], self.keys[13][1:])
+            return
+        yield from self.first_keys()
+        yield from self.rolls(order)
+        yield from self.unsigned()
+        yield from self.first_keys()
+
+    def rolls(self, order):
+        rolls = list(order)
+        while rolls:
+            pair = [rolls.pop(0)]
+            if rolls and rolls[0] in ROLLS[pair[0]]["tolerates"].split():
+                pair += [rolls.pop(0)] if self.dice.random() < 0.7 else []
+            is_split = all(len(keys) == 2 for keys in self.keys.values())
+            if pair[0] not in (CSK, ALGORITHM) and not is_split:
+                yield from self.roll(*self.plan(CSK, True))
+            going = [self.roll(*self.plan(roll)) for roll in pair]
+            self.done[BESIDE] += len(pair) - 1
+            while going:
+                going = [roll for roll in going if next(roll, roll) is None]
+                yield
+
+    def plan(self, roll, splits=False):
+        """A roll with its old and its new keys: of all algorithms, or of one."""
+        before, dice = dict(self.keys), self.dice
+        if roll == ALGORITHM:
+            return self.plan_algorithms(dice.sample(ALGORITHMS, dice.choice((1, 1, 2))))
+        algorithms = [*before] if splits or dice.random() < 0.5 else [dice.choice([*before])]
+        old, new = [], []
+        for each in algorithms:
+            if roll == CSK:
+                self.keys[each] = self.whole(each, not splits and len(before[each]) == 2)
+                old, new = old + before[each], new + self.keys[each]
+            else:
+                ksk, zsk = before[each]
+                if "zsk" in ROLLS[roll]["kinds"]:
+                    old, new = [*old, zsk], [*new, self.add("zsk", each)]
+                    self.keys[each] = [self.keys[each][0], new[-1]]
+                else:
+                    old, new = [*old, ksk], [*new, self.add("ksk", each)]
+                    self.keys[each] = [new[-1], self.keys[each][1]]
+        return roll, old, new
+
+    def plan_algorithms(self, algorithms):
+        old = sum(self.keys.values(), [])
+        self.keys = {each: self.whole(each, self.dice.random() < 0.3) for each in algorithms}
+        return ALGORITHM, old, sum(self.keys.values(), [])
