@@ -9,9 +9,9 @@ use Rattle.dnssec_base.specs.declared.stamps.Stamp.TheVariants.{Published, Withd
 pub record Stamps : Type 0 where
   pub creation : Option ℕ  -- made
   pub published : Option ℕ  -- put into the DNSKEY set
-  pub visible : Option ℕ  -- seen there by all
-  pub ds_visible : Option ℕ  -- its DS seen by all
-  pub rrsig_visible : Option ℕ  -- its signatures seen by all
+  pub visible : Option ℕ  -- all servers have it there
+  pub ds_visible : Option ℕ  -- all servers of the parent have its DS
+  pub rrsig_visible : Option ℕ  -- all servers have its signatures
   pub withdrawn : Option ℕ  -- taken out
 
 -- no stage passed

@@ -15,7 +15,7 @@ use std::time::Duration;
 /// let reported = UnixTime::from(Timestamp::from(1_700_000_000));
 /// let ttl = Duration::from_secs(3600);
 /// if reported.fits(ttl) {
-///     // From this moment on no cache holds what was published before the report.
+///     // What a cache took before the report, under at most this TTL, has expired by then.
 ///     let expired = reported + ttl;
 /// }
 /// ```

@@ -1,4 +1,5 @@
--- What only the inside of the crate needs: no contract of a public call names it.
+-- What a user of the key set needn't read. Of these the contracts that `dnssec_keyset` stands on
+-- name `Kinds` and `Entries`, and so does what a contract sees of a `KeySet`: its lists.
 pub mod Code
 pub mod Change
 pub mod Tags
