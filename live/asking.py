@@ -1,0 +1,63 @@
+"""Asks a server, and watches what all of them give."""
+
+import asyncio
+import time
+
+import dns.asyncquery
+import dns.exception
+import dns.flags
+import dns.message
+import dns.rdatatype
+
+from processes import Failed
+
+PATIENCE = 40
+
+
+async def ask(address, port, zone, kind, is_recursive=False):
+    """The answer of one server, or None."""
+    query = dns.message.make_query(zone, kind, want_dnssec=True, payload=4096)
+    if not is_recursive:
+        query.flags &= ~dns.flags.RD
+    try:
+        answer, _ = await dns.asyncquery.udp_with_fallback(query, address, timeout=2, port=port)
+    except (dns.exception.DNSException, OSError):
+        return None
+    return answer
+
+
+def tags_of(answer, kind):
+    """The tags of the keys that sign a set in an answer."""
+    number = dns.rdatatype.from_text(kind)
+    return {
+        data.key_tag
+        for rrset in answer.answer if rrset.rdtype == dns.rdatatype.RRSIG
+        for data in rrset if data.type_covered == number
+    }
+
+
+def data_of(answer, kind):
+    """The data of a set in an answer, as a set of texts as `dns.rdata` writes them."""
+    number = dns.rdatatype.from_text(kind)
+    return {
+        data.to_text() for rrset in answer.answer if rrset.rdtype == number for data in rrset
+    }
+
+
+def ttl_of(answer, kind):
+    """The TTL of a set in an answer, or None."""
+    number = dns.rdatatype.from_text(kind)
+    return next((rrset.ttl for rrset in answer.answer if rrset.rdtype == number), None)
+
+
+async def watch(servers, port, zone, kind, is_so, what):
+    """Asks the servers one by one, until each gives what is awaited."""
+    until = time.monotonic() + PATIENCE
+    for address in servers:
+        while True:
+            answer = await ask(address, port, zone, kind)
+            if answer is not None and is_so(answer):
+                break
+            if time.monotonic() > until:
+                raise Failed(f"{address} doesn't give {what} of {zone}:\n{answer}")
+            await asyncio.sleep(0.1)

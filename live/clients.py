@@ -1,0 +1,170 @@
+"""Clients, who ask all resolvers all the time, and judge what they are answered."""
+
+import asyncio
+import struct
+import time
+from collections import Counter
+from typing import NamedTuple
+
+import dns.edns
+import dns.exception
+import dns.flags
+import dns.message
+import dns.rcode
+import dns.rdatatype
+
+from keys import HOSTS
+from places import RESOLVERS
+
+# Seconds between two questions to one resolver about one zone, to a new try, and to giving up.
+PACE, RETRY, GIVE_UP = 0.08, 2, 8
+ADDRESS = bytes((192, 0, 2, 1))
+SETS = ("SOA", "NS", "DNSKEY", "DS", "CDS", "CDNSKEY")
+NOERROR, NXDOMAIN, SERVFAIL = dns.rcode.NOERROR, dns.rcode.NXDOMAIN, dns.rcode.SERVFAIL
+AD = 0x20
+
+
+class Question(NamedTuple):
+    name: str
+    kind: str
+    rcode: int
+    has_address: bool
+
+
+class Fault(NamedTuple):
+    """An answer that a client must not get."""
+
+    moment: float
+    resolver: str
+    question: Question
+    what: str
+
+    def __str__(self):
+        clock = time.strftime("%H:%M:%S", time.localtime(self.moment))
+        return (
+            f"{clock}.{int(self.moment % 1 * 1000):03} {self.resolver} "
+            f"{self.question.name} {self.question.kind}: {self.what}"
+        )
+
+
+class Line(asyncio.DatagramProtocol):
+    """The questions of one client to one resolver that are not answered yet, by their numbers."""
+
+    def __init__(self):
+        self.waiting = {}
+
+    def connection_made(self, transport):
+        self.transport = transport
+
+    def datagram_received(self, data, address):
+        future = self.waiting.pop(data[:2], None)
+        if future and not future.done():
+            future.set_result(data)
+
+    def error_received(self, error):
+        pass
+
+    async def ask(self, query):
+        """The answer to a question, or None when nothing comes."""
+        future = asyncio.get_running_loop().create_future()
+        self.waiting[query[:2]] = future
+        try:
+            for _ in range(GIVE_UP // RETRY):
+                self.transport.sendto(query)
+                done, _ = await asyncio.wait([future], timeout=RETRY)
+                if done:
+                    return future.result()
+            return None
+        finally:
+            self.waiting.pop(query[:2], None)
+
+
+class Clients:
+    """Those who ask about one zone. From `secure_from` on, each answer has to be a checked one."""
+
+    def __init__(self, zone, dice, port):
+        self.zone, self.dice, self.port = zone, dice, port
+        self.counts, self.faults, self.by_resolver = Counter(), [], Counter()
+        self.secure_from, self.tasks, self.lines = float("inf"), [], []
+
+    async def begin(self):
+        loop = asyncio.get_running_loop()
+        for resolver, address in RESOLVERS.items():
+            _, line = await loop.create_datagram_endpoint(Line, remote_addr=(address, self.port))
+            self.lines.append(line)
+            self.tasks.append(asyncio.ensure_future(self.go_on(resolver, line)))
+
+    async def end(self):
+        for task in self.tasks:
+            task.cancel()
+        await asyncio.gather(*self.tasks, return_exceptions=True)
+        for line in self.lines:
+            line.transport.close()
+
+    async def go_on(self, resolver, line):
+        """Asks one resolver, question after question, also while others are not answered yet."""
+        asking = set()
+        try:
+            while True:
+                task = asyncio.ensure_future(self.ask(resolver, line, self.question()))
+                asking.add(task)
+                task.add_done_callback(asking.discard)
+                await asyncio.sleep(PACE * self.dice.uniform(0.5, 1.5))
+        finally:
+            for task in asking:
+                task.cancel()
+
+    def question(self):
+        """Of a known name, of a fresh one, or of a set of the zone's own name."""
+        zone, pick = self.zone, self.dice.random()
+        fresh = f"{self.dice.randrange(1 << 40):x}"
+        if pick < 0.3:
+            return Question(f"h{self.dice.randrange(HOSTS)}.{zone}", "A", NOERROR, True)
+        if pick < 0.5:
+            return Question(f"{fresh}.w.{zone}", "A", NOERROR, True)
+        if pick < 0.65:
+            return Question(f"{fresh}.{zone}", "A", NXDOMAIN, False)
+        if pick < 0.7:
+            return Question(f"h{self.dice.randrange(HOSTS)}.{zone}", "TXT", NOERROR, False)
+        return Question(zone, self.dice.choice(SETS), NOERROR, False)
+
+    async def ask(self, resolver, line, question):
+        query = dns.message.make_query(
+            question.name, question.kind, want_dnssec=True, payload=4096
+        )
+        asked = time.time()
+        answer = await line.ask(query.to_wire())
+        self.count(resolver, question, asked, answer)
+
+    def count(self, resolver, question, asked, answer):
+        """Counts an answer, and keeps it if it is a fault."""
+        self.counts["asked"] += 1
+        if answer is None:
+            return self.fault(resolver, question, asked, "no answer")
+        _, flags = struct.unpack_from("!HH", answer)
+        rcode = flags & 0xF
+        if rcode != question.rcode:
+            return self.fault(resolver, question, asked, told(answer))
+        if question.has_address and ADDRESS not in answer:
+            return self.fault(resolver, question, asked, "another address")
+        if flags & AD:
+            self.counts["AD"] += 1
+        elif asked >= self.secure_from:
+            self.fault(resolver, question, asked, "not checked")
+
+    def fault(self, resolver, question, asked, what):
+        self.counts["SERVFAIL" if what.startswith("SERVFAIL") else what] += 1
+        self.by_resolver[resolver] += 1
+        self.faults.append(Fault(asked, resolver, question, what))
+
+
+def told(answer):
+    """The code of an answer, with its extended errors."""
+    try:
+        message = dns.message.from_wire(answer)
+    except dns.exception.DNSException as error:
+        return f"malformed: {error}"
+    extended = [
+        option.to_text() for option in message.options if option.otype == dns.edns.OptionType.EDE
+    ]
+    return " ".join([dns.rcode.to_text(message.rcode()), *extended])

@@ -1,0 +1,170 @@
+"""Keys by `dnssec-keygen`, and zones signed by `dnssec-signzone`."""
+
+import asyncio
+import itertools
+import subprocess
+from dataclasses import dataclass
+from typing import Optional
+
+import dns.dnssec
+import dns.name
+import dns.rdata
+
+from places import CHILD
+from processes import Failed, program
+
+RSA = 8
+HOSTS = 12
+# The sets that the keys of `signers=` sign.
+ENTRY = ("DNSKEY", "CDS", "CDNSKEY")
+
+
+@dataclass
+class Key:
+    """A key of a zone, by the reference that scripts have for it."""
+
+    ref: str
+    kind: str
+    algorithm: int
+    tag: int
+    path: str
+    zone: str
+    dnskey: str
+    lost: bool = False
+
+    @property
+    def ds(self):
+        """Its DS record's data."""
+        name = dns.name.from_text(self.zone)
+        data = dns.rdata.from_text("IN", "DNSKEY", self.dnskey)
+        return dns.dnssec.make_ds(name, data, "SHA256").to_text()
+
+
+async def run(*command):
+    """Runs a tool to its end, and gives what it prints."""
+    process = await asyncio.create_subprocess_exec(
+        program(command[0]), *command[1:],
+        stdin=subprocess.DEVNULL, stdout=subprocess.PIPE, stderr=subprocess.PIPE,
+    )
+    out, err = await process.communicate()
+    if process.returncode:
+        raise Failed(f"{command[0]}: {err.decode()}")
+    return out.decode()
+
+
+async def make_key(folder, zone, ref, kind, algorithm):
+    """Makes a key; `dnssec-keygen` gives no two in a folder one tag."""
+    size = ["-b", "2048"] if algorithm == RSA else []
+    flag = [] if kind == "zsk" else ["-f", "KSK"]
+    name = await run(
+        "dnssec-keygen", "-q", "-K", str(folder), "-a", str(algorithm), *size, *flag, zone
+    )
+    path = folder / name.strip()
+    lines = path.with_name(path.name + ".key").read_text().splitlines()
+    text = next(line for line in lines if not line.startswith(";")).split(" DNSKEY ")[1]
+    dnskey = dns.rdata.from_text("IN", "DNSKEY", text).to_text()
+    return Key(ref, kind, algorithm, int(path.name.split("+")[2]), str(path), zone, dnskey)
+
+
+@dataclass(frozen=True)
+class Version:
+    """What is published of a zone. `cds` has the keys of CDS and CDNSKEY: none at all for the entry
+    that deletes, and None where there are no such sets."""
+
+    serial: int
+    ttl: int
+    dnskey_ttl: int
+    dnskey: tuple = ()
+    signers: tuple = ()
+    zone: tuple = ()
+    cds: Optional[tuple] = None
+
+
+def plain_records(zone, version, providers):
+    """The records of a zone but for those of DNSSEC."""
+    ttl = version.ttl
+    servers = {
+        f"{provider.lower()}{number}.{zone}": address
+        for provider in providers
+        for number, address in enumerate(CHILD[provider], 1)
+    }
+    yield f"{zone} {ttl} IN SOA {next(iter(servers))} mail.{zone} {version.serial} 60 60 9999 {ttl}"
+    for server, address in servers.items():
+        yield f"{zone} {ttl} IN NS {server}"
+        yield f"{server} {ttl} IN A {address}"
+    for host in range(HOSTS):
+        yield f"h{host}.{zone} {ttl} IN A 192.0.2.1"
+    yield f"*.w.{zone} {ttl} IN A 192.0.2.1"
+
+
+def key_records(zone, version):
+    """The DNSKEY set, and CDS and CDNSKEY."""
+    for key in version.dnskey:
+        yield f"{zone} {version.dnskey_ttl} IN DNSKEY {key.dnskey}"
+    if version.cds == ():
+        yield f"{zone} {version.ttl} IN CDS 0 0 0 00"
+        yield f"{zone} {version.ttl} IN CDNSKEY 0 3 0 AA=="
+    for key in version.cds or ():
+        yield f"{zone} {version.ttl} IN CDS {key.ds}"
+        yield f"{zone} {version.ttl} IN CDNSKEY {key.dnskey}"
+
+
+def covered(line):
+    """Which set a line of a signed zone is the signature of, if it is one."""
+    words = line.split(None, 5)
+    return words[4] if words[3] == "RRSIG" else None
+
+
+def set_of(line):
+    """Which set a line is of, or is the signature of."""
+    return covered(line) or line.split(None, 4)[3]
+
+
+def tag_of(line):
+    """The tag of the key that has made this signature."""
+    return int(line.split()[10])
+
+
+class Signing:
+    """Signs the versions of one zone in a folder."""
+
+    def __init__(self, folder, zone, providers):
+        self.folder, self.zone, self.providers = folder, zone, providers
+        self.numbers = itertools.count()
+        self.last = []
+
+    async def text(self, version):
+        """The zone's file with the signatures that a version asks for. Of a key that is lost the
+        last signatures are kept."""
+        plain = list(plain_records(self.zone, version, self.providers))
+        if not version.dnskey:
+            return "\n".join(plain) + "\n"
+        keys = list(key_records(self.zone, version))
+        entry = await self.signed([plain[0], *keys], version.signers)
+        if any(key.lost for key in version.zone):
+            lines = [line for line in self.last if set_of(line) not in ("SOA", "DNSKEY")]
+            lines += [line for line in entry if set_of(line) in ("SOA", "DNSKEY")]
+        else:
+            lines = await self.signed([*plain, *keys], version.zone)
+            lines = [line for line in lines if covered(line) != "DNSKEY"]
+            lines += [line for line in entry if covered(line) in ENTRY]
+        lost = {key.tag for key in version.signers if key.lost}
+        lines += [
+            line for line in self.last if covered(line) == "DNSKEY" and tag_of(line) in lost
+        ]
+        self.last = lines
+        return "\n".join(lines) + "\n"
+
+    async def signed(self, records, keys):
+        """The lines of these records, signed by these keys only."""
+        able = [key.path for key in keys if not key.lost]
+        number = next(self.numbers)
+        source, result = self.folder / f"{number}.zone", self.folder / f"{number}.signed"
+        source.write_text("\n".join(records) + "\n")
+        if not able:
+            return records
+        await run(
+            "dnssec-signzone", "-q", "-z", "-P", "-O", "full", "-o", self.zone,
+            "-f", str(result), str(source), *able,
+        )
+        return [line for line in result.read_text().splitlines() if not line.startswith(";")]

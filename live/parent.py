@@ -1,0 +1,65 @@
+"""The parent of all zones: a root, whose DS sets change on demand."""
+
+import asyncio
+
+from asking import data_of, ttl_of, watch
+from keys import make_key, run
+from places import CHILD, PARENT
+
+# Of "there is no DS", and of all but the DS sets.
+NEGATIVE, LONG = 2, 3600
+
+
+class Parent:
+    """The root zone. It is signed anew whenever a DS set changes, and its servers get it one by
+    one."""
+
+    def __init__(self, folder, fleet, zones, port):
+        self.folder, self.fleet, self.zones, self.port = folder, fleet, zones, port
+        self.ds, self.serial, self.lock = {}, 0, asyncio.Lock()
+
+    async def begin(self):
+        """Makes its key and its first version."""
+        self.key = await make_key(self.folder, ".", "root", "ksk", 13)
+        self.fleet.write(PARENT, ".", await self.text())
+
+    def records(self):
+        self.serial += 1
+        yield f". {LONG} IN SOA p1. mail. {self.serial} 60 60 9999 {NEGATIVE}"
+        for number, address in enumerate(PARENT, 1):
+            yield f". {LONG} IN NS p{number}."
+            yield f"p{number}. {LONG} IN A {address}"
+        yield f". {LONG} IN DNSKEY {self.key.dnskey}"
+        for zone, providers in self.zones.items():
+            for provider in providers:
+                for number, address in enumerate(CHILD[provider], 1):
+                    server = f"{provider.lower()}{number}.{zone}"
+                    yield f"{zone} {LONG} IN NS {server}"
+                    yield f"{server} {LONG} IN A {address}"
+            data, ttl = self.ds.get(zone, ((), 0))
+            for one in data:
+                yield f"{zone} {ttl} IN DS {one}"
+
+    async def text(self):
+        source, result = self.folder / "root.zone", self.folder / "root.signed"
+        source.write_text("\n".join(self.records()) + "\n")
+        await run(
+            "dnssec-signzone", "-q", "-z", "-P", "-o", ".", "-f", str(result), str(source),
+            self.key.path,
+        )
+        return result.read_text()
+
+    async def change(self, zone, keys, ttl):
+        """Has the DS set of a zone be that of these keys."""
+        async with self.lock:
+            self.ds[zone] = sorted(key.ds for key in keys), ttl
+            self.fleet.publish(PARENT, ".", await self.text())
+
+    async def watch(self, zone):
+        """Watches until all servers give the DS set that was asked for last."""
+        data, ttl = self.ds[zone]
+
+        def has_set(answer):
+            return data_of(answer, "DS") == set(data) and ttl_of(answer, "DS") in (None, ttl)
+
+        await watch(PARENT, self.port, zone, "DS", has_set, "the new DS set")

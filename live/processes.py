@@ -1,0 +1,96 @@
+"""Starts servers as processes, and ends each of them, whatever happens."""
+
+import os
+import shutil
+import signal
+import socket
+import subprocess
+import time
+
+# Debian's package of each program that is run.
+PACKAGES = {
+    "nsd": "nsd",
+    "knotd": "knot",
+    "knotc": "knot",
+    "unbound": "unbound",
+    "named": "bind9",
+    "dnssec-keygen": "bind9-utils",
+    "dnssec-signzone": "bind9-utils",
+    "pdns_recursor": "pdns-recursor",
+    "setpriv": "util-linux",
+}
+PATHS = os.pathsep.join((os.environ.get("PATH", ""), "/usr/sbin", "/sbin"))
+
+
+class Failed(Exception):
+    """A program that the test needs doesn't do its work."""
+
+
+def program(name):
+    """The path of a program, which may stand in a folder for administrators."""
+    return shutil.which(name, path=PATHS)
+
+
+def missing():
+    """The packages of the programs that are not there."""
+    return sorted({package for name, package in PACKAGES.items() if not program(name)})
+
+
+def is_taken(address, port):
+    """Whether another process listens there."""
+    with socket.socket(socket.AF_INET, socket.SOCK_DGRAM) as probe:
+        try:
+            probe.bind((address, port))
+        except OSError:
+            return True
+    return False
+
+
+class Processes:
+    """The running servers, each in a process group of its own. The kernel ends them should this
+    process be killed."""
+
+    def __init__(self, folder):
+        self.folder, self.running = folder, {}
+
+    def start(self, name, *command):
+        """Starts a server that stays in the foreground; what it says goes into a file."""
+        log = open(self.folder / f"{name}.log", "ab")
+        with log:
+            self.running[name] = subprocess.Popen(
+                [program("setpriv"), "--pdeathsig", "KILL", program(command[0]), *command[1:]],
+                stdin=subprocess.DEVNULL, stdout=log, stderr=log, cwd=self.folder,
+                start_new_session=True,
+            )
+
+    def signal(self, name, number):
+        self.running[name].send_signal(number)
+
+    def check(self):
+        """Fails if a server has ended."""
+        for name, process in self.running.items():
+            if process.poll() is not None:
+                said = (self.folder / f"{name}.log").read_text(errors="replace")[-2000:]
+                raise Failed(f"{name} ended with status {process.returncode}:\n{said}")
+
+    def stop(self):
+        """Ends all, first gently."""
+        for process in self.running.values():
+            end(process, signal.SIGTERM)
+        until = time.monotonic() + 5
+        for process in self.running.values():
+            try:
+                process.wait(max(0, until - time.monotonic()))
+            except subprocess.TimeoutExpired:
+                pass
+            end(process, signal.SIGKILL)
+            process.wait()
+        self.running.clear()
+
+
+def end(process, number):
+    """Sends a signal to the group that a process leads."""
+    try:
+        os.killpg(process.pid, number)
+    except ProcessLookupError:
+        pass

@@ -1,0 +1,167 @@
+"""A provider that signs a zone and serves it, as docs/OPERATORS.md has it."""
+
+import asyncio
+from dataclasses import replace
+
+from asking import data_of, tags_of, watch
+from keys import Signing, Version, make_key
+from script import Script, rounded_down
+from zone import Notes
+
+KINDS = {"K": "ksk", "Z": "zsk", "C": "csk"}
+
+
+def soa_signers(version):
+    """The keys that sign the SOA record: those of the DNSKEY set, where a ZSK is lost."""
+    return version.signers if any(key.lost for key in version.zone) else version.zone
+
+
+class Provider:
+    """Signs a zone by a script of its own, and serves it. Two providers of one zone put their
+    letters before the references of their keys."""
+
+    def __init__(self, zone, servers, letter=""):
+        self.zone, self.servers, self.letter = zone, servers, letter
+        self.script = Script(zone.world.keyset, zone.name.rstrip("."))
+        self.keys, self.notes = {}, Notes()
+        self.signing = Signing(zone.folder, zone.name, zone.letters)
+        self.version = Version(1, zone.ttls.zone, zone.ttls.dnskey)
+        self.versions, self.publishing = {}, asyncio.Lock()
+        self.note_version()
+        zone.providers.append(self)
+
+    # Keys
+
+    async def make(self, *refs, algorithm=13):
+        """Makes keys whose references begin with the letter of their kind, and adds them."""
+        for ref in refs:
+            kind, ref = KINDS[ref[0]], f"{self.letter}{ref}"
+            key = await make_key(self.zone.folder, self.zone.name, ref, kind, algorithm)
+            self.keys[ref] = key
+            self.call(f"add-{kind} {ref} - {algorithm} {key.tag} {rounded_down()} yes")
+
+    def named(self, *refs):
+        """References as they stand in the script."""
+        return ",".join(f"{self.letter}{ref}" for ref in refs) or "-"
+
+    def keys_of(self, kind):
+        """The keys of a set that is to be published."""
+        return tuple(self.keys[ref] for ref in self.script.sets[kind])
+
+    def call(self, line, may_break=False):
+        return self.script.call(line, may_break)
+
+    # Publishing
+
+    def note_version(self):
+        """Notes the TTLs of what is published (rule 1). A zone without a DNSKEY set gives the
+        answer that there is none."""
+        version = self.version
+        self.versions[version.serial] = version
+        dnskey = version.dnskey_ttl if version.dnskey else version.ttl
+        self.notes.published("dnskey", dnskey, version.serial)
+        self.notes.published("zone", version.ttl, version.serial)
+
+    async def publish(self, **changes):
+        """Publishes a version of the zone."""
+        async with self.publishing:
+            ttls = self.zone.ttls
+            self.version = replace(
+                self.version, serial=next(self.zone.serials), ttl=ttls.zone,
+                dnskey_ttl=ttls.dnskey, cds=self.zone.cds, **changes,
+            )
+            self.note_version()
+            text = await self.signing.text(self.version)
+            self.zone.world.fleet.publish(self.servers, self.zone.name, text)
+
+    async def act(self, actions):
+        """Does what an answer asks to publish, in one version, and has the parent changed."""
+        changes = {}
+        if "UpdateDnskeyRrset" in actions:
+            changes.update(dnskey=self.keys_of("dnskey"), signers=self.keys_of("signers"))
+        if "UpdateRrsig" in actions:
+            changes.update(zone=self.keys_of("zone"))
+        if "CreateCdsRrset" in actions:
+            await self.take_cds_out()
+            self.zone.cds = self.zone.ds_keys()
+        if "RemoveCdsRrset" in actions:
+            self.zone.cds = None
+        if changes or "CreateCdsRrset" in actions or "RemoveCdsRrset" in actions:
+            await self.publish(**changes)
+        if "CreateCdsRrset" in actions or "RemoveCdsRrset" in actions:
+            for other in self.others():
+                await other.publish()
+        if "UpdateDsRrset" in actions:
+            await self.zone.change_ds(self.zone.ds_keys())
+
+    def others(self):
+        """The other signers whose zone is signed."""
+        return [
+            provider for provider in self.zone.providers
+            if provider is not self and provider.version.dnskey
+        ]
+
+    async def take_cds_out(self):
+        """Takes CDS and CDNSKEY out, and watches until no server gives them any more (rule 3)."""
+        if self.zone.cds is None:
+            return
+        self.zone.cds = None
+        for provider in (self, *self.others()):
+            await provider.publish()
+        for provider in (self, *self.others()):
+            await provider.watch()
+
+    # Watching
+
+    async def watch(self):
+        """Watches until all servers give the version of now, or a later one: its serial number with
+        the signatures of the zone, and the DNSKEY set with a signature by each key of
+        `signers=`."""
+        serial, name, port = self.version.serial, self.zone.name, self.zone.world.port
+
+        def has_version(answer):
+            given = [int(text.split()[2]) for text in data_of(answer, "SOA")]
+            return given and given[0] >= serial and (
+                {key.tag for key in soa_signers(self.versions[given[0]])} == tags_of(answer, "SOA")
+            )
+
+        def has_keys(answer):
+            keys, tags = data_of(answer, "DNSKEY"), tags_of(answer, "DNSKEY")
+            return any(
+                {key.dnskey for key in version.dnskey} == keys
+                and {key.tag for key in version.signers} <= tags
+                for number, version in self.versions.items() if number >= serial
+            )
+
+        await watch(self.servers, port, name, "SOA", has_version, f"version {serial}")
+        await watch(self.servers, port, name, "DNSKEY", has_keys, "the new DNSKEY set")
+        self.notes.seen("dnskey", serial)
+        self.notes.seen("zone", serial)
+
+    async def watch_other(self):
+        """Watches until the other's servers give a DNSKEY set with all ZSKs and CSKs of this one
+        that are in its own set (rule 2 of two signers)."""
+        own = {
+            key.dnskey for key in self.version.dnskey
+            if key.kind != "ksk" and key.ref.startswith(self.letter)
+        }
+        for other in self.others():
+            await watch(
+                other.servers, self.zone.world.port, self.zone.name, "DNSKEY",
+                lambda answer: own <= data_of(answer, "DNSKEY"), "the keys of the other",
+            )
+
+    # TTLs
+
+    def highest(self, kind, moment):
+        """The TTL of rule 1. The DNSKEY sets of the other signer count as one's own."""
+        if kind == "ds":
+            return self.zone.notes.highest("ds", moment)
+        counted = self.zone.providers if kind == "dnskey" else [self]
+        return max(provider.notes.highest(kind, moment) for provider in counted)
+
+    def present(self, kind):
+        """The TTL of the set that is published now."""
+        if kind == "ds":
+            return self.zone.ttls.ds
+        return max(provider.version.dnskey_ttl for provider in self.zone.providers)

@@ -1,0 +1,124 @@
+"""A roll, call by call, as docs/RUNBOOKS.md has it."""
+
+import asyncio
+import time
+
+from script import EARLY, Refused, rounded_down, rounded_up
+
+RECORDS = {"Dnskey": "dnskey", "Rrsig": "zone", "Ds": "ds"}
+ALGORITHM, DOUBLE_DS = "algorithm-roll", "ksk-double-ds-roll"
+
+
+def spoken_of(actions):
+    """The kinds of the sets of which actions as `ReportDsPropagated` speak."""
+    return [
+        kind for record, kind in RECORDS.items()
+        if {f"Report{record}Propagated", f"Wait{record}Propagated"} & set(actions)
+    ]
+
+
+class Roll:
+    """One roll of a provider. Before a call that has the parent changed it takes the turn of the
+    zone, and gives it back when CDS is out again."""
+
+    def __init__(self, provider, name):
+        self.provider, self.zone, self.name = provider, provider.zone, name
+        self.actions, self.has_turn, self.may_break = [], False, False
+        self.old = ()
+
+    # The calls
+
+    async def whole(self, old, new):
+        """The roll from its start to its end; then the old keys are deleted."""
+        await self.start(old, new)
+        await self.finish()
+        for ref in old:
+            self.provider.call(f"delete {self.provider.named(ref)}", self.may_break)
+
+    async def finish(self):
+        """The calls after the start."""
+        await self.report(1)
+        await self.wait(1)
+        await self.report(2)
+        await self.wait(2)
+        await self.done()
+
+    async def start(self, old, new):
+        named, self.old = self.provider.named, old
+        await self.make(lambda: f"start {self.name} {named(*old)} {named(*new)} {rounded_down()}")
+
+    async def report(self, number, ttl=None):
+        """Reports once the clock has reached the moment (rule 2), with the TTL of rule 1."""
+        if not spoken_of(self.actions):
+            return
+        moment = rounded_up()
+        await asyncio.sleep(max(0, moment - time.time()))
+        ttl = self.ttl(number, moment) if ttl is None else ttl
+        self.provider.call(f"report{number} {self.name} {ttl} {moment}", self.may_break)
+
+    async def wait(self, number):
+        """Asks again until the wait is over."""
+        while True:
+            try:
+                return await self.make(lambda: f"wait{number} {self.name} {rounded_down()}")
+            except Refused as refused:
+                await self.sleep(str(refused))
+
+    async def sleep(self, refused):
+        """Sleeps as long as a refused wait says."""
+        _, early, seconds = refused.partition(EARLY)
+        if not early:
+            raise Refused(refused)
+        moment = rounded_down() + int(seconds.rstrip("s"))
+        await asyncio.sleep(max(0, moment - time.time()) + 0.01)
+
+    async def done(self):
+        self.provider.call(f"done {self.name}", self.may_break)
+        # No action asks to take CDS and CDNSKEY out (the runbook of ksk-double-ds-roll).
+        if self.name == DOUBLE_DS:
+            await self.provider.take_cds_out()
+            self.give_turn_back()
+
+    async def abort(self):
+        """Ends the roll early, and watches until that is seen everywhere."""
+        await self.make(lambda: f"abort {self.name}")
+        if self.name == DOUBLE_DS:
+            await self.provider.take_cds_out()
+        self.give_turn_back()
+
+    # What they do
+
+    async def make(self, line):
+        """Makes a call, does what its answer asks, and watches."""
+        asked = self.provider.script.tried(line()).actions
+        if "UpdateDsRrset" in asked and not self.has_turn:
+            await self.zone.turn.acquire()
+            self.has_turn = True
+        self.actions = self.provider.call(line(), self.may_break)
+        await self.provider.act(self.actions)
+        await self.watch()
+        if "RemoveCdsRrset" in self.actions:
+            self.give_turn_back()
+
+    async def watch(self):
+        """Watches what the answer asks to report or to wait for."""
+        if "UpdateDsRrset" in self.actions:
+            await self.zone.watch_ds()
+        if set(self.actions) - {"UpdateDsRrset", "ReportDsPropagated", "WaitDsPropagated"}:
+            await self.provider.watch()
+        if "dnskey" in spoken_of(self.actions):
+            await self.provider.watch_other()
+
+    def give_turn_back(self):
+        if self.has_turn:
+            self.zone.turn.release()
+            self.has_turn = False
+
+    def ttl(self, number, moment):
+        """The highest TTL of what the report speaks of; when old algorithms leave, the sum of the
+        DS TTL and the DNSKEY TTL, the present one too."""
+        provider = self.provider
+        if self.name == ALGORITHM and number == 2 and self.old:
+            dnskey = max(provider.highest("dnskey", moment), provider.present("dnskey"))
+            return provider.highest("ds", moment) + dnskey
+        return max(provider.highest(kind, moment) for kind in spoken_of(self.actions))
