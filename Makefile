@@ -1,5 +1,5 @@
 # `make run` answers a script, `make build` makes the proved program, `make lib` the library for C,
-# Rust and Python, `make test` is the gate.
+# Rust and Python, `make test` is the gate, `make live` rolls keys on real servers.
 
 SCRIPT ?= examples/algorithm-roll.script
 PROGRAM = crates/keyset/out/keyset
@@ -14,7 +14,7 @@ RUNS ?= 1000000
 prove = mkdir -p crates/$(1)/out && cd crates/$(1) && \
 	{ rt $(2) >out/build.log 2>&1 || { cat out/build.log >&2; exit 1; }; }
 
-.PHONY: run build lib test docs memory test-lib valgrind asan fuzz
+.PHONY: run build lib test live docs memory test-lib valgrind asan fuzz
 
 # Answers SCRIPT. The proved program does it where `make build` has made it from these sources;
 # else one that is built at once, without a proof.
@@ -52,6 +52,11 @@ fuzz: lib
 # each step was done.
 test:
 	@tests/gate.py
+
+# Rolls keys on real name servers and resolvers, within an hour, or a part within ten minutes:
+# `make live LIVE=--short`. It wants packages that live/README.md names.
+live: build
+	@live/run.py $(LIVE)
 
 # What the documents print is compared with the examples and with the callers.
 docs:

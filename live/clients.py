@@ -147,6 +147,7 @@ class Clients:
             return self.fault(resolver, question, asked, told(answer))
         if question.has_address and ADDRESS not in answer:
             return self.fault(resolver, question, asked, "another address")
+        self.counts["answered"] += 1
         if flags & AD:
             self.counts["AD"] += 1
         elif asked >= self.secure_from:

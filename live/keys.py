@@ -40,10 +40,10 @@ class Key:
         return dns.dnssec.make_ds(name, data, "SHA256").to_text()
 
 
-async def run(*command):
-    """Runs a tool to its end, and gives what it prints."""
+async def run(folder, *command):
+    """Runs a tool in a folder to its end, and gives what it prints."""
     process = await asyncio.create_subprocess_exec(
-        program(command[0]), *command[1:],
+        program(command[0]), *command[1:], cwd=folder,
         stdin=subprocess.DEVNULL, stdout=subprocess.PIPE, stderr=subprocess.PIPE,
     )
     out, err = await process.communicate()
@@ -57,7 +57,7 @@ async def make_key(folder, zone, ref, kind, algorithm):
     size = ["-b", "2048"] if algorithm == RSA else []
     flag = [] if kind == "zsk" else ["-f", "KSK"]
     name = await run(
-        "dnssec-keygen", "-q", "-K", str(folder), "-a", str(algorithm), *size, *flag, zone
+        folder, "dnssec-keygen", "-q", "-K", str(folder), "-a", str(algorithm), *size, *flag, zone
     )
     path = folder / name.strip()
     lines = path.with_name(path.name + ".key").read_text().splitlines()
@@ -126,11 +126,11 @@ def tag_of(line):
 
 
 class Signing:
-    """Signs the versions of one zone in a folder."""
+    """Signs the versions of one zone in a folder. `letter` is that of the signer."""
 
-    def __init__(self, folder, zone, providers):
+    def __init__(self, folder, zone, providers, letter=""):
         self.folder, self.zone, self.providers = folder, zone, providers
-        self.numbers = itertools.count()
+        self.numbers = (f"{letter}{number}" for number in itertools.count())
         self.last = []
 
     async def text(self, version):
@@ -164,7 +164,7 @@ class Signing:
         if not able:
             return records
         await run(
-            "dnssec-signzone", "-q", "-z", "-P", "-O", "full", "-o", self.zone,
+            self.folder, "dnssec-signzone", "-q", "-z", "-P", "-O", "full", "-o", self.zone,
             "-f", str(result), str(source), *able,
         )
         return [line for line in result.read_text().splitlines() if not line.startswith(";")]

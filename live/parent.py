@@ -44,8 +44,8 @@ class Parent:
         source, result = self.folder / "root.zone", self.folder / "root.signed"
         source.write_text("\n".join(self.records()) + "\n")
         await run(
-            "dnssec-signzone", "-q", "-z", "-P", "-o", ".", "-f", str(result), str(source),
-            self.key.path,
+            self.folder, "dnssec-signzone", "-q", "-z", "-P", "-o", ".", "-f", str(result),
+            str(source), self.key.path,
         )
         return result.read_text()
 

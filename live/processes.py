@@ -7,6 +7,8 @@ import socket
 import subprocess
 import time
 
+from places import CACHE, RESOLVERS, SERVERS
+
 # Debian's package of each program that is run.
 PACKAGES = {
     "nsd": "nsd",
@@ -36,13 +38,14 @@ def missing():
     return sorted({package for name, package in PACKAGES.items() if not program(name)})
 
 
-def is_taken(address, port):
-    """Whether another process listens there."""
-    with socket.socket(socket.AF_INET, socket.SOCK_DGRAM) as probe:
-        try:
-            probe.bind((address, port))
-        except OSError:
-            return True
+def is_taken(port):
+    """Whether another process listens at one of the addresses."""
+    for address in (*SERVERS, CACHE, *RESOLVERS.values()):
+        with socket.socket(socket.AF_INET, socket.SOCK_DGRAM) as probe:
+            try:
+                probe.bind((address, port))
+            except OSError:
+                return True
     return False
 
 

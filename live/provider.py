@@ -6,9 +6,15 @@ from dataclasses import replace
 from asking import data_of, tags_of, watch
 from keys import Signing, Version, make_key
 from script import Script, rounded_down
-from zone import Notes
+from zone import Notes, Ttls
 
 KINDS = {"K": "ksk", "Z": "zsk", "C": "csk"}
+UPDATES = {
+    "UpdateDnskeyRrset": "dnskey",
+    "UpdateRrsig": "zone",
+    "CreateCdsRrset": "cds",
+    "RemoveCdsRrset": "cds",
+}
 
 
 def soa_signers(version):
@@ -24,8 +30,10 @@ class Provider:
         self.zone, self.servers, self.letter = zone, servers, letter
         self.script = Script(zone.world.keyset, zone.name.rstrip("."))
         self.keys, self.notes = {}, Notes()
-        self.signing = Signing(zone.folder, zone.name, zone.letters)
-        self.version = Version(1, zone.ttls.zone, zone.ttls.dnskey)
+        # Each of two signers chooses TTLs of its own.
+        self.ttls = Ttls.any(zone.dice) if letter else zone.ttls
+        self.signing = Signing(zone.folder, zone.name, zone.letters, letter)
+        self.version = Version(1, zone.ttls.zone, zone.ttls.zone)
         self.versions, self.publishing = {}, asyncio.Lock()
         self.note_version()
         zone.providers.append(self)
@@ -43,6 +51,29 @@ class Provider:
     def named(self, *refs):
         """References as they stand in the script."""
         return ",".join(f"{self.letter}{ref}" for ref in refs) or "-"
+
+    def is_own(self, key):
+        return key.ref.startswith(self.letter)
+
+    async def take_in(self, *keys):
+        """Publishes keys of the other signer in the DNSKEY set."""
+        for key in keys:
+            self.add_public(key)
+        await self.publish("dnskey")
+        await self.watch()
+
+    def add_public(self, key):
+        self.keys[key.ref] = key
+        now = rounded_down()
+        self.call(f"add-public {key.ref} {key.algorithm} {key.tag} {now} yes")
+        self.call(f"set-present {key.ref} yes {now}")
+
+    async def take_out(self, *keys):
+        """Takes keys of the other signer out of the DNSKEY set."""
+        for key in keys:
+            self.call(f"set-present {key.ref} no {rounded_down()}")
+        await self.publish("dnskey")
+        await self.watch()
 
     def keys_of(self, kind):
         """The keys of a set that is to be published."""
@@ -62,33 +93,34 @@ class Provider:
         self.notes.published("dnskey", dnskey, version.serial)
         self.notes.published("zone", version.ttl, version.serial)
 
-    async def publish(self, **changes):
-        """Publishes a version of the zone."""
+    async def publish(self, *kinds):
+        """Publishes a version of the zone, with the DNSKEY set or the signatures of the zone that
+        the script has now, if they are named."""
         async with self.publishing:
-            ttls = self.zone.ttls
+            changes = {}
+            if "dnskey" in kinds:
+                changes.update(dnskey=self.keys_of("dnskey"), signers=self.keys_of("signers"))
+            if "zone" in kinds:
+                changes.update(zone=self.keys_of("zone"))
             self.version = replace(
-                self.version, serial=next(self.zone.serials), ttl=ttls.zone,
-                dnskey_ttl=ttls.dnskey, cds=self.zone.cds, **changes,
+                self.version, serial=next(self.zone.serials), ttl=self.ttls.zone,
+                dnskey_ttl=self.ttls.dnskey, cds=self.zone.cds, **changes,
             )
             self.note_version()
             text = await self.signing.text(self.version)
             self.zone.world.fleet.publish(self.servers, self.zone.name, text)
 
     async def act(self, actions):
-        """Does what an answer asks to publish, in one version, and has the parent changed."""
-        changes = {}
-        if "UpdateDnskeyRrset" in actions:
-            changes.update(dnskey=self.keys_of("dnskey"), signers=self.keys_of("signers"))
-        if "UpdateRrsig" in actions:
-            changes.update(zone=self.keys_of("zone"))
+        """Does what an answer asks: publishes it in one version, and has the parent changed."""
+        kinds = [kind for action, kind in UPDATES.items() if action in actions]
         if "CreateCdsRrset" in actions:
             await self.take_cds_out()
             self.zone.cds = self.zone.ds_keys()
         if "RemoveCdsRrset" in actions:
             self.zone.cds = None
-        if changes or "CreateCdsRrset" in actions or "RemoveCdsRrset" in actions:
-            await self.publish(**changes)
-        if "CreateCdsRrset" in actions or "RemoveCdsRrset" in actions:
+        if kinds:
+            await self.publish(*kinds)
+        if "cds" in kinds:
             for other in self.others():
                 await other.publish()
         if "UpdateDsRrset" in actions:
@@ -141,10 +173,7 @@ class Provider:
     async def watch_other(self):
         """Watches until the other's servers give a DNSKEY set with all ZSKs and CSKs of this one
         that are in its own set (rule 2 of two signers)."""
-        own = {
-            key.dnskey for key in self.version.dnskey
-            if key.kind != "ksk" and key.ref.startswith(self.letter)
-        }
+        own = {key.dnskey for key in self.version.dnskey if self.is_own(key) and key.kind != "ksk"}
         for other in self.others():
             await watch(
                 other.servers, self.zone.world.port, self.zone.name, "DNSKEY",

@@ -34,7 +34,10 @@ stub-zone:
 UNBOUND_ADDRESS = """\
   stub-addr: {address}@{port}
 """
+# What it asks the cache it forgets after a second: so it meets whatever the cache holds.
 UNBOUND_FORWARD = """\
+server:
+  cache-max-ttl: 1
 forward-zone:
   name: "."
   forward-addr: {address}@{port}

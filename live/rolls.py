@@ -24,7 +24,7 @@ class Roll:
     def __init__(self, provider, name):
         self.provider, self.zone, self.name = provider, provider.zone, name
         self.actions, self.has_turn, self.may_break = [], False, False
-        self.old = ()
+        self.old, self.moment, self.reported = (), None, None
 
     # The calls
 
@@ -44,6 +44,10 @@ class Roll:
         await self.done()
 
     async def start(self, old, new):
+        await self.started(old, new)
+        await self.perform()
+
+    async def started(self, old, new):
         named, self.old = self.provider.named, old
         await self.make(lambda: f"start {self.name} {named(*old)} {named(*new)} {rounded_down()}")
 
@@ -53,10 +57,18 @@ class Roll:
             return
         moment = rounded_up()
         await asyncio.sleep(max(0, moment - time.time()))
-        ttl = self.ttl(number, moment) if ttl is None else ttl
-        self.provider.call(f"report{number} {self.name} {ttl} {moment}", self.may_break)
+        self.moment = moment
+        self.reported = self.ttl(number, moment) if ttl is None else ttl
+        self.provider.call(
+            f"report{number} {self.name} {self.reported} {moment}", self.may_break
+        )
 
     async def wait(self, number):
+        """Makes the wait, does what its answer asks, and watches."""
+        await self.accepted(number)
+        await self.perform()
+
+    async def accepted(self, number):
         """Asks again until the wait is over."""
         while True:
             try:
@@ -82,6 +94,7 @@ class Roll:
     async def abort(self):
         """Ends the roll early, and watches until that is seen everywhere."""
         await self.make(lambda: f"abort {self.name}")
+        await self.perform()
         if self.name == DOUBLE_DS:
             await self.provider.take_cds_out()
         self.give_turn_back()
@@ -89,12 +102,16 @@ class Roll:
     # What they do
 
     async def make(self, line):
-        """Makes a call, does what its answer asks, and watches."""
+        """Makes a call. If it asks for a change at the parent, it takes the turn of the zone
+        before."""
         asked = self.provider.script.tried(line()).actions
         if "UpdateDsRrset" in asked and not self.has_turn:
             await self.zone.turn.acquire()
             self.has_turn = True
         self.actions = self.provider.call(line(), self.may_break)
+
+    async def perform(self):
+        """Does what the last answer asks, and watches."""
         await self.provider.act(self.actions)
         await self.watch()
         if "RemoveCdsRrset" in self.actions:

@@ -1,62 +1,152 @@
 #!/usr/bin/python3
-"""Rolls keys of real zones on real servers, while clients ask real resolvers: see README.md."""
+"""Rolls keys of real zones on real servers, while clients ask real resolvers: see README.md.
+
+It runs under Debian's Python, which finds Debian's dnspython."""
 
 import argparse
 import asyncio
+import contextlib
 import signal
 import sys
 import tempfile
 import time
+from importlib.util import find_spec
 from pathlib import Path
 
 sys.dont_write_bytecode = True
 
-from places import CACHE, RESOLVERS, SERVERS
-from processes import Failed, is_taken, missing
-from scenes import HONEST
-from world import World
+from processes import Failed, is_taken, missing  # noqa: E402
 
 TOP = Path(__file__).resolve().parent.parent
 KEYSET = TOP / "crates" / "keyset" / "out" / "keyset"
+PORT = 15353
+# The most seconds that the short form and the whole may take.
+SHORT, WHOLE = 600, 3600
+FAULTS_SHOWN = 8
+
+
+def given():
+    parser = argparse.ArgumentParser(description=__doc__.splitlines()[0])
+    parser.add_argument("scenes", nargs="*", help="scenes by their names; all without any")
+    parser.add_argument("--short", action="store_true", help="a part of the scenes, ten minutes")
+    parser.add_argument("--list", action="store_true", help="print the names of the scenes")
+    parser.add_argument("--port", type=int, default=PORT)
+    parser.add_argument("--seed", default=str(int(time.time())), help="of TTLs and of delays")
+    parser.add_argument("--at-once", type=int, default=8, help="scenes side by side")
+    parser.add_argument("--keyset", default=str(KEYSET), help="the program")
+    return parser.parse_args()
 
 
 async def play(zone, scene):
-    """Plays a scene while clients ask, and some seconds longer."""
-    await zone.clients.begin()
+    """Plays a scene while clients ask, and some seconds longer. Gives what went wrong in it, if
+    anything did."""
+    clients, wrong = zone.clients, None
+    await clients.begin()
     try:
         await asyncio.sleep(1)
-        await scene(zone)
-        await asyncio.sleep(2 + max(vars(zone.ttls).values()))
+        await scene.play(zone)
+        await asyncio.sleep(2 + zone.longest())
+    except Exception as error:
+        wrong = f"{type(error).__name__}: {error}"
     finally:
-        await zone.clients.end()
+        await clients.end()
+    if wrong is None and scene.is_lie != bool(clients.faults):
+        wrong = "no failure was seen" if scene.is_lie else "clients saw faults"
+    return wrong
 
 
-async def run(world, scenes):
+def row(scene, counts, wrong):
+    others = counts["asked"] - counts["answered"] - counts["SERVFAIL"]
+    return (
+        f"{scene.name:52} {counts['asked']:9} {counts['AD']:9} {counts['SERVFAIL']:9} {others:6}"
+        f"  {'FAILED: ' + wrong.splitlines()[0] if wrong else 'ok'}"
+    )
+
+
+HEAD = f"{'scene':52} {'questions':>9} {'with AD':>9} {'SERVFAIL':>9} {'other':>6}"
+
+
+class Run:
+    """A run of some scenes."""
+
+    def __init__(self, world, scenes, at_once):
+        self.world, self.scenes = world, scenes
+        self.places, self.failed = asyncio.Semaphore(at_once), 0
+
+    async def run(self):
+        await self.world.begin()
+        print(HEAD, flush=True)
+        await asyncio.gather(*(self.one(scene) for scene in self.scenes))
+        total = sum((self.clients(scene).counts for scene in self.scenes if not scene.is_lie),
+                    start=type(self.clients(self.scenes[0]).counts)())
+        print(f"{'all honest scenes':52} {total['asked']:9} {total['AD']:9} {total['SERVFAIL']:9}")
+
+    def clients(self, scene):
+        return self.world.made[scene.zone].clients
+
+    async def one(self, scene):
+        async with self.places:
+            self.world.processes.check()
+            wrong = await play(self.world.made[scene.zone], scene)
+        clients = self.clients(scene)
+        print(row(scene, clients.counts, wrong), flush=True)
+        if wrong:
+            self.failed += 1
+            print(wrong)
+            for fault in clients.faults[:FAULTS_SHOWN]:
+                print(f"    {fault}")
+            sys.stdout.flush()
+
+
+def problem(arguments):
+    """What is missing for a run, if anything."""
+    packages = missing()
+    if find_spec("dns") is None:
+        packages.append("python3-dnspython")
+    if packages:
+        names = " ".join(packages)
+        return f"missing: {names}\nto install them: apt-get install {names}"
+    if not Path(arguments.keyset).exists():
+        return f"{arguments.keyset} is not there: make build"
+    if is_taken(arguments.port):
+        return f"port {arguments.port} is in use on the loopback: choose another with --port"
+    return None
+
+
+async def main_task(run, limit):
+    """The run, which ends at its limit and on a signal."""
+    task = asyncio.current_task()
     for number in (signal.SIGINT, signal.SIGTERM, signal.SIGHUP):
-        asyncio.get_running_loop().add_signal_handler(number, asyncio.current_task().cancel)
-    await world.begin()
-    await asyncio.gather(*(play(world.made[f"{name}."], scene) for name, scene in scenes.items()))
-    for name in scenes:
-        clients = world.made[f"{name}."].clients
-        print(name, dict(clients.counts), dict(clients.by_resolver))
-        for fault in clients.faults[:10]:
-            print("   ", fault)
+        asyncio.get_running_loop().add_signal_handler(number, task.cancel)
+    await asyncio.wait_for(run.run(), limit)
 
 
 def main():
-    parser = argparse.ArgumentParser(description=__doc__)
-    parser.add_argument("--port", type=int, default=15353)
-    parser.add_argument("--keyset", default=str(KEYSET))
-    parser.add_argument("--seed", default="1")
-    parser.add_argument("scenes", nargs="*")
-    given = parser.parse_args()
-    scenes = {name: HONEST[name] for name in given.scenes or HONEST}
+    arguments = given()
+    if wrong := problem(arguments):
+        sys.exit(wrong)
+    from scenes import chosen
+    from world import World
+    scenes = chosen(arguments.scenes, arguments.short)
+    if arguments.list:
+        print(*(scene.name for scene in scenes), sep="\n")
+        return 0
+    print(f"seed {arguments.seed}")
     with tempfile.TemporaryDirectory(prefix="live-") as folder:
-        world = World(Path(folder), given.port, given.keyset, {f"{name}.": "A" for name in scenes}, given.seed)
-        try:
-            asyncio.run(run(world, scenes))
-        finally:
-            world.stop()
+        zones = {scene.zone: scene.letters for scene in scenes}
+        world = World(Path(folder), arguments.port, arguments.keyset, zones, arguments.seed)
+        run = Run(world, scenes, arguments.at_once)
+        with contextlib.closing(world):
+            try:
+                asyncio.run(main_task(run, SHORT if arguments.short else WHOLE))
+            except asyncio.TimeoutError:
+                sys.exit("it took too long")
+            except asyncio.CancelledError:
+                sys.exit("interrupted")
+            except Failed as error:
+                sys.exit(str(error))
+    print(f"{len(scenes)} scenes, {run.failed} failures")
+    return bool(run.failed)
 
 
 if __name__ == "__main__":

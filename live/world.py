@@ -65,5 +65,5 @@ class World:
             await asyncio.sleep(0.2)
         raise Failed(f"{address} doesn't answer for {zone}\n{answer}")
 
-    def stop(self):
+    def close(self):
         self.processes.stop()

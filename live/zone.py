@@ -51,6 +51,10 @@ class Ttls:
     dnskey: int
     ds: int
 
+    @classmethod
+    def any(cls, dice):
+        return cls(*(dice.randint(2, 4) for _ in range(3)))
+
 
 class Zone:
     """One zone with its servers, its parent, its providers and those who ask."""
@@ -58,7 +62,7 @@ class Zone:
     def __init__(self, world, name, providers, dice):
         self.world, self.name, self.dice = world, name, dice
         self.servers = [address for provider in providers for address in CHILD[provider]]
-        self.ttls = Ttls(*(dice.randint(2, 4) for _ in range(3)))
+        self.ttls = Ttls.any(dice)
         self.providers, self.letters = [], providers
         self.notes, self.serials, self.ds_number = Notes(), itertools.count(2), 0
         self.notes.published("ds", NEGATIVE, 0)
@@ -69,6 +73,16 @@ class Zone:
     def ds_keys(self):
         """The keys of the `ds=` of all signers."""
         return tuple(key for provider in self.providers for key in provider.keys_of("ds"))
+
+    def longest(self):
+        """The highest TTL that is published."""
+        every = [self.ttls, *(provider.ttls for provider in self.providers)]
+        return max(ttl for ttls in every for ttl in vars(ttls).values())
+
+    def is_secure(self):
+        """From now on all answers have to be checked ones, once caches have lost what they hold of
+        before."""
+        self.clients.secure_from = time.time() + self.longest() + 3
 
     async def change_ds(self, keys):
         """Has the parent's DS set changed, which the parent does after a while."""

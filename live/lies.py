@@ -1,0 +1,105 @@
+"""Scenes with one lie, each of which has to show failures: else the honest ones prove nothing."""
+
+import asyncio
+
+from one_signer import DOUBLE_SIGNATURE, KEYS, ZSK, first_keys
+from rolls import ALGORITHM, DOUBLE_DS, Roll, spoken_of
+from script import rounded_down
+from two_signers import in_step_keys, providers, shared
+
+AHEAD = 100_000
+
+
+class AheadOfTheClock(Roll):
+    """Each wait is made at once, with a moment that lies far ahead."""
+
+    async def wait(self, number):
+        await self.make(lambda: f"wait{number} {self.name} {rounded_down() + AHEAD}")
+        await self.perform()
+
+
+class TtlOf0(Roll):
+    """Each report has a TTL of 0."""
+
+    async def report(self, number, ttl=None):
+        await super().report(number, 0)
+
+
+class BeforePublishing(Roll):
+    """The first report is made when nothing is published yet; all is published at the first
+    wait."""
+
+    async def start(self, old, new):
+        await self.started(old, new)
+
+    async def wait(self, number):
+        late = self.actions if number == 1 else []
+        await self.accepted(number)
+        self.actions = [*late, *self.actions]
+        await self.perform()
+
+
+class WithoutTheOther(Roll):
+    """The TTLs of the other signer's DNSKEY sets are left out."""
+
+    def ttl(self, number, moment):
+        kinds = spoken_of(self.actions)
+        return max(self.provider.notes.highest(kind, moment) for kind in kinds)
+
+
+LIES = {
+    "wait-ahead-of-the-clock": AheadOfTheClock,
+    "ttl-of-0": TtlOf0,
+    "report-before-publishing": BeforePublishing,
+}
+# The TTL of the set that caches have to hold for the lie to show.
+LONG = 20
+
+
+def long_kind(name, roll):
+    """The kind of the set whose old version breaks the zone by a lie."""
+    if name == DOUBLE_DS:
+        return "ds"
+    is_of_ds = name not in (ZSK, DOUBLE_SIGNATURE) and roll is not BeforePublishing
+    return "ds" if is_of_ds else "dnskey"
+
+
+def lying(name, roll):
+    """Rolls with a lie, in a zone with TTLs by which it shows."""
+
+    async def scene(zone):
+        zone.ttls.zone, zone.ttls.dnskey, zone.ttls.ds = 3, 2, 2
+        setattr(zone.ttls, long_kind(name, roll), LONG)
+        provider = await first_keys(zone, "K1", "Z1")
+        old, *more = KEYS[name]
+        for new, algorithm in zip(more, (15, 13)):
+            await provider.make(*new, algorithm=algorithm if name == ALGORITHM else 13)
+            await roll(provider, name).whole(old, new)
+            old = new
+
+    return scene
+
+
+async def ttl_of_the_other(zone):
+    a, b = await in_step_keys(zone, "K1", "Z1")
+    a.ttls.dnskey, b.ttls.dnskey = 2, LONG
+    await b.publish()
+    await b.watch()
+    await asyncio.sleep(LONG / 2)
+    await a.make("Z2")
+    await b.take_in(*shared(a, ["Z2"]))
+    await WithoutTheOther(a, ZSK).whole(["Z1"], ["Z2"])
+
+
+async def ds_of_one_signer(zone):
+    """A's first keys are not in step: its DS is published while B's zone is unsigned."""
+    a, _ = providers(zone)
+    await a.make("K1", "Z1")
+    await Roll(a, ALGORITHM).whole([], ["K1", "Z1"])
+
+
+LYING = {f"{name}-{lie}": lying(name, roll) for lie, roll in LIES.items() for name in KEYS}
+LYING_TWO = {
+    "two-ttl-of-the-other-left-out": ttl_of_the_other,
+    "two-ds-of-one-signer-too-early": ds_of_one_signer,
+}

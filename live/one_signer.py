@@ -1,0 +1,143 @@
+"""The honest scenes of one signer. In none of them may a client get a SERVFAIL."""
+
+import asyncio
+import time
+
+from provider import Provider
+from rolls import ALGORITHM, DOUBLE_DS, Roll
+from script import rounded_down
+
+KSK, ZSK, DOUBLE_SIGNATURE, CSK = "ksk-roll", "zsk-roll", "zsk-double-signature-roll", "csk-roll"
+
+# Of each roll what leaves, and what comes in, each time anew.
+KEYS = {
+    KSK: (["K1"], ["K2"], ["K3"]),
+    DOUBLE_DS: (["K1"], ["K2"], ["K3"]),
+    ZSK: (["Z1"], ["Z2"], ["Z3"]),
+    DOUBLE_SIGNATURE: (["Z1"], ["Z2"], ["Z3"]),
+    CSK: (["K1", "Z1"], ["C2"], ["C3"]),
+    ALGORITHM: (["K1", "Z1"], ["K2", "Z2"], ["K3", "Z3"]),
+}
+
+
+async def first_keys(zone, *refs, algorithm=13):
+    """A provider with its first keys: docs/RUNBOOKS.md, "The first keys"."""
+    provider = Provider(zone, zone.servers)
+    await provider.make(*refs, algorithm=algorithm)
+    await Roll(provider, ALGORITHM).whole([], refs)
+    zone.is_secure()
+    return provider
+
+
+def one_roll(name):
+    """A roll after the first keys, and the same to a third set of keys."""
+
+    async def scene(zone):
+        provider = await first_keys(zone, "K1", "Z1")
+        old = KEYS[name][0]
+        for new, algorithm in zip(KEYS[name][1:], (8, 15)):
+            await provider.make(*new, algorithm=algorithm if name == ALGORITHM else 13)
+            await Roll(provider, name).whole(old, new)
+            old = new
+
+    return scene
+
+
+async def csks(zone):
+    """From a CSK to a KSK and a ZSK, and back."""
+    provider = await first_keys(zone, "C1")
+    await provider.make("K1", "Z1", "C2")
+    await Roll(provider, CSK).whole(["C1"], ["K1", "Z1"])
+    await Roll(provider, CSK).whole(["K1", "Z1"], ["C2"])
+
+
+def beside(ksk_roll, zsk_roll):
+    """A KSK roll beside a ZSK roll."""
+
+    async def scene(zone):
+        provider = await first_keys(zone, "K1", "Z1")
+        await provider.make("K2", "Z2")
+        await asyncio.gather(
+            Roll(provider, ksk_roll).whole(["K1"], ["K2"]),
+            Roll(provider, zsk_roll).whole(["Z1"], ["Z2"]),
+        )
+
+    return scene
+
+
+def ended_early(name):
+    """A roll that is ended early when all is published, or before, and begun anew."""
+
+    async def scene(zone):
+        provider = await first_keys(zone, "K1", "Z1")
+        old, new, third = KEYS[name]
+        algorithm = 15 if name == ALGORITHM else 13
+        await provider.make(*new, algorithm=algorithm)
+        roll = Roll(provider, name)
+        await roll.start(old, new)
+        await asyncio.sleep(zone.dice.uniform(0, 2))
+        await roll.abort()
+        for ref in new:
+            provider.call(f"set-stale {ref}")
+            provider.call(f"delete {ref}")
+        await provider.make(*third, algorithm=algorithm)
+        await Roll(provider, name).whole(old, third)
+
+    return scene
+
+
+def start_unsigned(provider, *old):
+    """docs/EMERGENCY.md, "Going unsigned", step 1: nothing is published, and the first report is
+    made at once."""
+    used = {key.tag for key in provider.keys.values()}
+    free = next(tag for tag in range(65536) if tag not in used)
+    old = provider.named(*old)
+    algorithm = provider.keys[old.split(",")[0]].algorithm
+    provider.call(f"add-csk none - {algorithm} {free} {rounded_down()} yes")
+    provider.call(f"start algorithm-roll {old} none {rounded_down()}")
+    provider.call("set-stale none")
+    provider.call(f"report1 algorithm-roll 0 {rounded_down()}")
+    roll = Roll(provider, ALGORITHM)
+    roll.old = old
+    return roll
+
+
+async def hold_back(roll):
+    """Step 4: the sum of the DS TTL and the DNSKEY TTL passes before the second wait."""
+    await asyncio.sleep(roll.moment + roll.reported - time.time())
+
+
+async def go_unsigned(provider, *old):
+    provider.zone.clients.secure_from = float("inf")
+    roll = start_unsigned(provider, *old)
+    # 2. The DS set goes, by the entry that deletes.
+    await roll.wait(1)
+    # 3. The sum of the DS TTL and the DNSKEY TTL.
+    await roll.report(2)
+    await hold_back(roll)
+    # 5. All goes.
+    await roll.wait(2)
+    await roll.done()
+    for ref in (*map(provider.named, old), "none"):
+        provider.call(f"delete {ref}")
+
+
+async def unsigned(zone):
+    """Unsigned, and back with other keys, and unsigned again."""
+    provider = await first_keys(zone, "K1", "Z1")
+    await go_unsigned(provider, "K1", "Z1")
+    await provider.make("C1", algorithm=15)
+    await Roll(provider, ALGORITHM).whole([], ["C1"])
+    zone.is_secure()
+    await asyncio.sleep(zone.longest() + 4)
+    await go_unsigned(provider, "C1")
+
+
+HONEST = {
+    **{name: one_roll(name) for name in KEYS},
+    "csks": csks,
+    "ksk-beside-zsk": beside(KSK, ZSK),
+    "double-ds-beside-double-signature": beside(DOUBLE_DS, DOUBLE_SIGNATURE),
+    **{f"{name}-ended-early": ended_early(name) for name in KEYS},
+    "unsigned": unsigned,
+}

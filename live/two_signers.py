@@ -1,0 +1,225 @@
+"""The scenes of two signers: docs/OPERATORS.md, "A zone with two signers", and docs/RUNBOOKS.md,
+"Two signers"."""
+
+import asyncio
+
+from one_signer import CSK, KSK, ZSK, DOUBLE_SIGNATURE, hold_back, start_unsigned
+from places import CHILD
+from provider import Provider
+from rolls import ALGORITHM, DOUBLE_DS, Roll
+
+
+def providers(zone):
+    return [Provider(zone, CHILD[letter], letter) for letter in "AB"]
+
+
+def shared(provider, refs):
+    """Of some of its keys those that the other publishes too."""
+    keys = [provider.keys[f"{provider.letter}{ref}"] for ref in refs]
+    return [key for key in keys if key.kind != "ksk"]
+
+
+async def in_step(signers, old, new):
+    """Both make an `algorithm-roll`, and each call only when both have made the one before."""
+    rolls = [Roll(signer, ALGORITHM) for signer in signers]
+    for signer, other in (signers, signers[::-1]):
+        for key in shared(signer, new):
+            other.add_public(key)
+    for roll in rolls:
+        await roll.started(old, new)
+    await go_on_in_step(rolls)
+    for signer, other in (signers, signers[::-1]):
+        keys = shared(signer, old)
+        if keys and signer.version.dnskey:
+            await other.take_out(*keys)
+
+
+async def go_on_in_step(rolls):
+    await both_perform(rolls)
+    await asyncio.gather(*(roll.report(1) for roll in rolls))
+    await change_in_step(rolls)
+    await asyncio.gather(*(roll.report(2) for roll in rolls))
+    await end_in_step(rolls)
+
+
+async def both_perform(rolls):
+    """Both do what the last answers ask; then both watch."""
+    for roll in rolls:
+        await roll.provider.act(roll.actions)
+    for roll in rolls:
+        await roll.watch()
+
+
+async def change_in_step(rolls):
+    """When both waits are accepted, one change at the parent, for both."""
+    for roll in rolls:
+        await roll.accepted(1)
+        rolls[1].has_turn = True
+    await rolls[0].provider.act(rolls[0].actions)
+    for roll in rolls:
+        await roll.watch()
+
+
+async def end_in_step(rolls):
+    for roll in rolls:
+        await roll.accepted(2)
+    await both_perform(rolls)
+    rolls[1].has_turn = False
+    rolls[0].give_turn_back()
+    for roll in rolls:
+        await roll.done()
+
+
+async def in_step_keys(zone, *refs, algorithm=13):
+    """Two signers with first keys, that go in step."""
+    signers = providers(zone)
+    for signer in signers:
+        await signer.make(*refs, algorithm=algorithm)
+    await in_step(signers, (), refs)
+    zone.is_secure()
+    return signers
+
+
+async def roll_of_one(signer, other, name, old, new):
+    """A roll of one signer. The other publishes its new ZSKs and CSKs before the first report, and
+    its old ones until after the second wait (rule 1 of two signers)."""
+    await signer.make(*new)
+    if keys := shared(signer, new):
+        await other.take_in(*keys)
+    leaving = shared(signer, old)
+    await Roll(signer, name).whole(old, new)
+    if leaving:
+        await other.take_out(*leaving)
+
+
+async def in_step_and_unsigned(zone):
+    """First keys in step; then both go unsigned in step, and come back with other keys."""
+    signers = await in_step_keys(zone, "K1", "Z1")
+    await asyncio.sleep(zone.longest() + 4)
+    await unsigned_in_step(signers, "K1", "Z1")
+    for signer in signers:
+        await signer.make("C1", algorithm=15)
+    await in_step(signers, (), ["C1"])
+    zone.is_secure()
+    await asyncio.sleep(zone.longest() + 4)
+
+
+async def unsigned_in_step(signers, *old):
+    """docs/EMERGENCY.md, "Going unsigned", by both in step."""
+    zone = signers[0].zone
+    zone.clients.secure_from = float("inf")
+    rolls = [start_unsigned(signer, *old) for signer in signers]
+    await change_in_step(rolls)
+    await asyncio.gather(*(roll.report(2) for roll in rolls))
+    await asyncio.gather(*(hold_back(roll) for roll in rolls))
+    await end_in_step(rolls)
+    for signer in signers:
+        for ref in (*map(signer.named, old), "none"):
+            signer.call(f"delete {ref}")
+
+
+async def rolls_of_each(zone):
+    """Each rolls its KSK and its ZSK, one after the other."""
+    a, b = await in_step_keys(zone, "K1", "Z1")
+    await roll_of_one(a, b, ZSK, ["Z1"], ["Z2"])
+    await roll_of_one(b, a, KSK, ["K1"], ["K2"])
+    await roll_of_one(a, b, DOUBLE_DS, ["K1"], ["K2"])
+    await roll_of_one(b, a, DOUBLE_SIGNATURE, ["Z1"], ["Z2"])
+
+
+async def csk_rolls_of_each(zone):
+    """Each goes from a KSK and a ZSK to a CSK."""
+    a, b = await in_step_keys(zone, "K1", "Z1")
+    await roll_of_one(a, b, CSK, ["K1", "Z1"], ["C2"])
+    await roll_of_one(b, a, CSK, ["K1", "Z1"], ["C2"])
+    await roll_of_one(a, b, CSK, ["C2"], ["K3", "Z3"])
+
+
+def at_once(of_a, of_b):
+    """Both roll at once."""
+
+    async def scene(zone):
+        a, b = await in_step_keys(zone, "K1", "Z1")
+        refs = {KSK: "K", DOUBLE_DS: "K", ZSK: "Z", DOUBLE_SIGNATURE: "Z"}
+        await asyncio.gather(*(
+            roll_of_one(signer, other, name, [f"{refs[name]}1"], [f"{refs[name]}2"])
+            for signer, other, name in ((a, b, of_a), (b, a, of_b))
+        ))
+
+    return scene
+
+
+async def algorithms(zone):
+    """Both change the algorithm, in step."""
+    signers = await in_step_keys(zone, "K1", "Z1")
+    for signer in signers:
+        await signer.make("K2", "Z2", algorithm=15)
+    await in_step(signers, ["K1", "Z1"], ["K2", "Z2"])
+
+
+async def join_and_leave(zone):
+    """B joins A, each rolls its ZSK, A leaves, and B rolls its KSK.
+
+    Who isn't named in the NS sets has no servers here: those of its addresses give the other's
+    versions."""
+    a = Provider(zone, zone.servers, "A")
+    await a.make("K1", "Z1")
+    await Roll(a, ALGORITHM).whole([], ["K1", "Z1"])
+    zone.is_secure()
+    b = await join(a)
+    await roll_of_one(b, a, ZSK, ["Z1"], ["Z2"])
+    await roll_of_one(a, b, ZSK, ["Z1"], ["Z2"])
+    await leave(a, b)
+    await roll_of_one(b, a, KSK, ["K1"], ["K2"])
+
+
+async def join(a):
+    """The table "B joins"."""
+    zone = a.zone
+    b = Provider(zone, [], "B")
+    await b.make("K1", "Z1")
+    for key in shared(a, ["Z1"]):
+        b.add_public(key)
+    roll = Roll(b, ALGORITHM)
+    await roll.started([], ["K1", "Z1"])
+    await b.act(roll.actions)
+    await a.take_in(*shared(b, ["Z1"]))
+    await roll.watch()
+    await roll.finish()
+    # Only after B's second wait its servers are named.
+    a.servers, b.servers = CHILD["A"], CHILD["B"]
+    await b.publish()
+    await b.watch()
+    return b
+
+
+async def leave(a, b):
+    """The table "A leaves"."""
+    zone = a.zone
+    # The old NS sets leave the caches.
+    await asyncio.sleep(max(a.ttls.zone, b.ttls.zone))
+    a.servers, b.servers = [], zone.servers
+    await b.publish()
+    await b.watch()
+    await asyncio.sleep(max(a.ttls.dnskey, a.ttls.zone))
+    zone.providers.remove(a)
+    async with zone.turn:
+        zone.cds = zone.ds_keys()
+        await b.publish()
+        await b.watch()
+        await zone.change_ds(zone.ds_keys())
+        await zone.watch_ds()
+        await b.take_cds_out()
+    await b.take_out(*(key for key in b.version.dnskey if not b.is_own(key)))
+
+
+HONEST = {
+    "two-in-step-and-unsigned": in_step_and_unsigned,
+    "two-rolls-of-each": rolls_of_each,
+    "two-csk-rolls-of-each": csk_rolls_of_each,
+    "two-zsk-rolls-at-once": at_once(ZSK, DOUBLE_SIGNATURE),
+    "two-ksk-rolls-at-once": at_once(KSK, DOUBLE_DS),
+    "two-ksk-and-zsk-roll-at-once": at_once(KSK, ZSK),
+    "two-algorithms": algorithms,
+    "two-join-and-leave": join_and_leave,
+}
