@@ -1,5 +1,5 @@
 //! Algorithm numbers of DNSSEC, and the names of some.
-ghost use Rattle.std.specs.Prelude.{◌≡◌, ◌↔◌, IsTrue};
+ghost use Rattle.std.specs.Prelude.{◌≡◌, ◌↔◌, ◌∷◌, [], IsTrue};
 ghost use Rattle.dnssec_base.specs.AlgorithmNames.{algorithm_named};
 
 use std::marker::Model;
@@ -40,6 +40,20 @@ impl SecurityAlgorithm {
 
     /// The Edwards curve Ed448 (RFC 8080).
     pub const ED448: SecurityAlgorithm = SecurityAlgorithm { number: 16 };
+
+    /// The six constants, in the order of their numbers, as `from_name` answers them.
+    pub fn constants() -> [SecurityAlgorithm; 6]
+        ensures { result ≡ 8 ∷ 10 ∷ 13 ∷ 14 ∷ 15 ∷ 16 ∷ [] }
+    {
+        [
+            SecurityAlgorithm::RSASHA256,
+            SecurityAlgorithm::RSASHA512,
+            SecurityAlgorithm::ECDSAP256SHA256,
+            SecurityAlgorithm::ECDSAP384SHA384,
+            SecurityAlgorithm::ED25519,
+            SecurityAlgorithm::ED448,
+        ]
+    }
 
     /// The algorithm with this number.
     pub fn from_int(number: u8) -> Self
