@@ -131,8 +131,8 @@ impl Keys {
         self.map.get(reference)
     }
 
-    /// No two keys have one tag.
-    pub(crate) fn differ_in_tags(&self)
+    /// No two keys have one tag. The function does nothing: its contract is a law.
+    pub fn differ_in_tags(&self)
         ensures { TagsApart self.now }
     {
         let _ = &self.map;
