@@ -7,9 +7,12 @@ In the game are a zone and its parent, whose servers get each version one by one
 its DS set changed by hand, or reads CDS as RFC 7344, section 4.1, has it; TTLs that rise and fall
 at any time; signatures that expire; and an operator with some machines, whose clocks differ. Each
 zone gets its first keys, then the six rolls in some order, some of them ended early and begun anew,
-some beside another one, then goes unsigned and comes again. Other zones have two signers, each with
-a key set, servers and clocks of its own: they begin together, or one joins; each makes rolls, both
-change the algorithm; then one leaves, or both go unsigned and come again.
+some beside another one; then it goes unsigned and comes again. Now and then a wait is accepted too
+early by a false moment, acted upon and mended; from then on all has to be as promised again.
+
+Other zones have two signers, each with a key set, servers and clocks of its own: they begin
+together, or one joins; each makes rolls, both change the algorithm; then one leaves, or both go
+unsigned and come again.
 
 What is looked at: whenever a server gets another version, every choice of sets that some cache may
 hold then. A set may be held for its TTL after the last server ceased to give it. A validator also
@@ -38,7 +41,7 @@ from judge import chain_line  # noqa: E402
 from tables import ROLLS  # noqa: E402
 
 from game.book import EARLY_END, FIRST_KEYS, Wrong, left_out, runbooks  # noqa: E402
-from game.course import BESIDE, Follower  # noqa: E402
+from game.course import BESIDE, SLIPS, Follower  # noqa: E402
 from game.pair import JOINED, LEFT, Pair  # noqa: E402
 from game.points import ALGORITHM, BREAKS, DOUBLE_DS, NO_CHAIN, ORDERS, PAIRS, POINTS  # noqa: E402
 from game.signer import GONE, Stuck  # noqa: E402
@@ -83,8 +86,9 @@ def follow(book, orders, leaves, wrong):
         instants, choices = instants + world.instants, choices + world.choices
     rolls = sum(done[roll] for roll in ROLLS)
     told = (f"{len(orders)} zones", f"{rolls} rolls", f"{done[BESIDE]} beside another",
-            f"{done[EARLY_END]} early ends", f"{done[FIRST_KEYS]} times first keys",
-            f"{done[GONE]} times unsigned", f"{done[JOINED]} joined", f"{done[LEFT]} left")
+            f"{done[EARLY_END]} early ends", f"{done[SLIPS]} false lines",
+            f"{done[FIRST_KEYS]} times first keys", f"{done[GONE]} times unsigned",
+            f"{done[JOINED]} joined", f"{done[LEFT]} left")
     return f"{', '.join(told)}: at {instants} instants {choices} choices of sets are as promised"
 
 

@@ -1,16 +1,16 @@
 """The rolls of an operator of the game, and the course of a zone with one signer."""
 
-from tables import ROLLS
+from tables import ROLLS, KeySet
 
-from game.book import EARLY_END, FIRST_KEYS, UNSIGNED, Step
+from game.book import EARLY_END, FIRST_KEYS, UNSIGNED, Step, Wrong
 from game.points import (
-    ALGORITHM, CSK, CSK_FIRST, DOUBLE_DS, KSK_FIRST, MIXED, NOT_HELD_BACK, NOT_IN_USE, ONE_SIDE,
-    PARENT_FIRST, SAME_KEY, UNSIGNED_ONLY,
+    ALGORITHM, BACK_AT_ONCE, CSK, CSK_FIRST, DOUBLE_DS, KSK_FIRST, MIXED, NOT_HELD_BACK, NOT_IN_USE,
+    ONE_SIDE, PARENT_FIRST, SAME_KEY, UNSIGNED_ONLY,
 )
 from game.signer import GONE, Operator
 from game.zone import SECOND
 
-BESIDE = "beside"
+BESIDE, SLIPS = "beside", "false lines"
 ALGORITHMS = (8, 13, 14, 15)
 KINDS = {"K": "ksk", "Z": "zsk", "C": "csk"}
 
@@ -34,8 +34,9 @@ class Follower(Operator):
         began, actions = self.rounded_down(), self.start(roll, old, new)
         if PARENT_FIRST in self.leaves and "ds" in steps[1].does:
             self.world.tell(frozenset(name for name in new if name[0] in "KC"))
+        since = None
         for half, step in enumerate(steps, 1):
-            since = yield from self.do(step, actions)
+            since = since or (yield from self.do(step, actions))
             yield from self.watch(step, since)
             if "no cds" in step.does:
                 self.lets_go()
@@ -44,7 +45,8 @@ class Follower(Operator):
                 call = f"report{half}"
                 ttl = yield from self.report(call, roll, step, since, began, unsigned_only)
                 yield from self.comes_to(steps[half])
-                actions = yield from self.wait(f"wait{half}", roll, ttl)
+                since = yield from self.slip(half, roll, ttl, steps[half])
+                actions = since or (yield from self.wait(f"wait{half}", roll, ttl))
         self.leaving -= set(old)
         self.call(f"done {roll}")
         yield from self.end(step)
@@ -52,10 +54,61 @@ class Follower(Operator):
             self.call(f"delete {key}")
         self.done[name or roll] += 1
 
+    def slip(self, half, roll, ttl, step):
+        """Now and then a wait is accepted too early, by a false line, and acted upon; then the line
+        is mended as docs/EMERGENCY.md has it. Gives the versions of the step, if it stays."""
+        wait = f"wait{half} {roll}"
+        if self.in_step or self.dice.random() > 0.1:
+            return None
+        if not self.keyset.refusal(f"{wait} {self.rounded_down()}"):
+            return None
+        at = max(n for n, line in enumerate(self.script) if line.startswith(f"report{half} {roll}"))
+        over = int(self.script[at].split()[-1]) + ttl
+        line = f"{wait} {self.rounded_down()}0"
+        self.world.forgives(1)
+        since = yield from self.do(step, self.call(line))
+        yield from self.pause(6 * SECOND)
+        self.done[SLIPS] += 1
+        if self.rounded_down() < over:
+            yield from self.takes_back(line, step, since)
+            since = None
+            yield from self.lets_pass_until(over)
+        else:
+            self.script[self.script.index(line)] = f"{wait} {over}"
+            self.run()
+        self.world.forgives(-1)
+        return since
+
+    def takes_back(self, line, step, since):
+        """Takes out a line that was acted upon, and what was published for it."""
+        if "ds" in step.does and BACK_AT_ONCE not in self.leaves:
+            yield from self.watch(step, since)
+        self.script.remove(line)
+        self.run()
+        since = yield from self.publish(step.does & {"dnskey", "zone"})
+        yield from self.watch(step._replace(watches=step.does & {"dnskey", "zone"}), since)
+        if "ds" in step.does:
+            yield from self.takes_cds_out()
+            yield from self.publish({"cds"})
+            if not self.world.takes_cds:
+                self.world.tell(self.ds())
+            yield from self.watch(step._replace(watches={"ds"}), {})
+            yield from self.takes_cds_out()
+
+    def takes_cds_out(self):
+        since = yield from self.publish({"no cds"})
+        yield from self.watch(Step({"no cds"}, set(), None, False, False), since)
+
+    def run(self):
+        """Runs the script anew."""
+        self.keyset = KeySet()
+        for line in self.script:
+            if not self.keyset.call(line).startswith("ok"):
+                raise Wrong(f"{line}: it was accepted before")
+
     def end(self, step):
         if step.takes_cds_out:
-            since = yield from self.publish({"no cds"})
-            yield from self.watch(Step({"no cds"}, set(), None, False, False), since)
+            yield from self.takes_cds_out()
             self.lets_go()
 
     def ended_early(self, roll, old, new):

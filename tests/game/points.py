@@ -117,6 +117,10 @@ POINTS = (
         "a CSK roll brings in an algorithm, by an old key that was never in use",
         "every other roll lists as old only keys in use",
     ),
+    BACK_AT_ONCE := Point(
+        "a DS set is taken back before the parent has it",
+        "Let the parent end the false change first",
+    ),
     NOT_HELD_BACK := Point(
         "going unsigned, the second wait is made when it is accepted",
         "Hold the second wait back yourself until that TTL has passed",
@@ -205,6 +209,7 @@ ORDERS = {
     CDS_UNCHANGED: [DOUBLE_DS, "zsk-roll"] * 4,
     RAISED: [ALGORITHM] * 8,
     UNSIGNED_ONLY: [],
+    BACK_AT_ONCE: ["ksk-roll"] * 8,
 }
 WORLDS = {
     NOT_KEPT: {"least": 4},

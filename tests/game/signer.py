@@ -44,6 +44,7 @@ class Operator:
     def __init__(self, world, book, leaves=frozenset(), is_asked=True):
         self.world, self.dice, self.book, self.leaves = world, world.dice, book, leaves
         self.keyset, self.zone, self.other = KeySet(), world.another_zone(is_asked), None
+        self.script = []  # the accepted lines
         self.done = Counter()
         # How far the clocks of its machines are ahead, and their greatest difference.
         self.ahead = [self.dice.randint(-SECOND, SECOND) for _ in range(3)]
@@ -101,7 +102,9 @@ class Operator:
             yield
 
     def lets_pass(self, ttl):
-        over = self.rounded_up() + ttl
+        yield from self.lets_pass_until(self.rounded_up() + ttl)
+
+    def lets_pass_until(self, over):
         while self.rounded_down() < over:
             self.passes()
             yield
@@ -167,6 +170,7 @@ class Operator:
         answer = self.keyset.call(line)
         if not answer.startswith("ok"):
             raise Wrong(f"{line}: {answer}")
+        self.script.append(line)
         self.idle = 0
         return answer.split()[1:]
 

@@ -113,6 +113,8 @@ class World:
         self.later(0, self.scan)
         self.later(0, self.another_ttl)
         self.instants = self.choices = 0
+        # How many false lines were acted upon: until they are mended the zone may be broken.
+        self.forgiven = 0
 
     def another_zone(self, is_asked=True):
         """The servers of one more signer, which give the zone unsigned."""
@@ -193,12 +195,9 @@ class World:
         """Looks at each choice of sets that some cache may hold now."""
         for kind, sets in self.held.items():
             self.held[kind] = [kept for kept in sets if self.now < kept.end()]
-        checked = product(self.held["ds"], self.held["dnskey"])
-        self.pairs = [
-            (ds, dnskey)
-            for ds, dnskey in dict.fromkeys([*self.pairs, *checked])
-            if self.now < min(dnskey.end(), ds.end() + dnskey.time)
-        ]
+        now = product(self.held["ds"], self.held["dnskey"])
+        checked = [pair for pair in self.pairs if self.is_checked(*pair)]
+        self.pairs = [*dict.fromkeys([*checked, *now])]
         self.instants += 1
         for ds, dnskey in self.pairs:
             for kept in self.held["zone"]:
@@ -206,12 +205,23 @@ class World:
             for kept in self.held["cds"]:
                 self.judge(self.lacks_cds, ds.value, *dnskey.value, kept.value[1])
 
+    def is_checked(self, ds, dnskey):
+        """Whether a validator still keeps this DNSKEY set that it has checked by this DS set."""
+        keys, signers = dnskey.value
+        is_good = self.each_of(ds.value) <= self.each_of(ds.value & keys & signers)
+        return is_good and self.now < min(dnskey.end(), ds.end() + dnskey.time)
+
     def judge(self, lacks, *sets):
         self.choices += 1
         if (lacks, sets) not in self.judged:
             self.judged[lacks, sets] = lacks(*sets)
-        if how := self.judged[lacks, sets]:
+        if (how := self.judged[lacks, sets]) and not self.forgiven:
             raise Broken(how, self.told(*sets))
+
+    def forgives(self, lines):
+        """So many false lines more are acted upon, or fewer."""
+        self.forgiven += lines
+        self.is_new = True
 
     def lacks(self, ds, keys, signers, zone):
         """What a validator misses in these sets, if anything."""
