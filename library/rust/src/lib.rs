@@ -18,14 +18,14 @@ mod c {
     pub const MALFORMED: u32 = 1;
     pub const SHORT: u32 = 4;
 
-    unsafe extern "C" {
+    extern "C" {
         pub fn keyset_answer(
             script: *const u8,
             script_length: usize,
             out: *mut u8,
             out_length: usize,
         ) -> Answered;
-        pub safe fn keyset_version() -> u32;
+        pub fn keyset_version() -> u32;
     }
 }
 
@@ -204,8 +204,9 @@ impl KeySet {
     fn accepting(script: String) -> Result<(Self, Vec<Action>), Error> {
         let text = answer(&script)?;
         let lines: Vec<&str> = text.lines().collect();
-        let [replies @ .., sets, chain] = lines.as_slice() else {
-            unreachable!("an answer ends with the sets and the verdict");
+        let (replies, sets, chain) = match lines.as_slice() {
+            [replies @ .., sets, chain] => (replies, sets, chain),
+            _ => unreachable!("an answer ends with the sets and the verdict"),
         };
         let mut due = BTreeMap::new();
         let mut ended = Vec::new();
@@ -263,13 +264,15 @@ pub fn answer(script: &str) -> Result<String, Error> {
 
 /// The version of the library that is linked.
 pub fn version() -> u32 {
-    c::keyset_version()
+    // SAFETY: it takes nothing, and answers a number.
+    unsafe { c::keyset_version() }
 }
 
 /// The actions of an accepted call.
 fn actions(reply: &str) -> Result<Vec<Action>, Error> {
-    let Some(reason) = reply.strip_prefix("refused: ") else {
-        return Ok(reply.split(' ').filter_map(Action::named).collect());
+    let reason = match reply.strip_prefix("refused: ") {
+        Some(reason) => reason,
+        None => return Ok(reply.split(' ').filter_map(Action::named).collect()),
     };
     if reason == "out of memory" {
         return Err(Error::OutOfMemory);

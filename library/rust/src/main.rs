@@ -4,7 +4,7 @@
 //!     cargo run <../../examples/ksk-roll.script
 
 use keyset::{Error, KeySet};
-use std::io::{BufRead, stdin};
+use std::io::{stdin, BufRead};
 
 fn main() -> Result<(), Box<dyn std::error::Error>> {
     let mut lines = stdin().lock().lines();
