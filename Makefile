@@ -10,11 +10,14 @@ SOURCES = crates.txt \
 
 RUNS ?= 1000000
 
+# What the library is called by in the tests.
+CALLERS = has-cc has-pkg-config has-cargo has-rustc
+
 # Proves a crate, and those below it, by a command of rt, and tells what that says where it fails.
 prove = mkdir -p crates/$(1)/out && cd crates/$(1) && \
 	{ rt $(2) >out/build.log 2>&1 || { cat out/build.log >&2; exit 1; }; }
 
-.PHONY: run build lib test live docs memory test-lib valgrind asan fuzz
+.PHONY: run build lib test live docs memory test-lib valgrind asan fuzz python
 
 # Answers SCRIPT. The proved program does it where `make build` has made it from these sources;
 # else one that is built at once, without a proof.
@@ -37,20 +40,22 @@ lib:
 	@library/pack.sh crates/keyset_c/out/libkeyset_c.a library/out
 
 # Tests what `make lib` has made; under a checker of memory its tests in C alone.
-test-lib: build lib
+test-lib: python $(CALLERS) build lib
 	@tests/library.py library/out
-valgrind asan: lib
+asan: python has-cc lib
+	@tests/library.py library/out $@
+valgrind: python has-cc has-valgrind lib
 	@tests/library.py library/out $@
 
-# Lets libFuzzer make RUNS texts, on which the library and a second reader have to agree; it wants
-# clang with its runtime libraries.
-fuzz: lib
-	@tests/library.py library/out fuzz $(RUNS)
+# Lets libFuzzer make RUNS texts, on which the library and a second reader have to agree, and of
+# which some are answered by the tables too; it wants clang with its runtime libraries.
+fuzz: python has-clang lib
+	@tests/fuzz.py library/out $(RUNS)
 
 # What the documents print is compared with the examples; then every proof, edit, test and program,
 # and beside them the runbooks are played, and each request for memory fails in turn. It tells when
 # each step was done.
-test:
+test: python $(CALLERS)
 	@tests/gate.py
 
 # Rolls keys on real name servers and resolvers, within an hour, or a part within ten minutes:
@@ -59,11 +64,18 @@ live: build
 	@live/run.py $(LIVE)
 
 # What the documents print is compared with the examples and with the callers.
-docs:
+docs: python
 	@tests/docs.py
 
 # Each request for memory of calls of a key set, of its copies, of names, of a script's record and
 # of its verdict fails in turn.
-memory:
+memory: python has-cc
 	@$(call prove,memory_of_calls,run <stdin)
 	@tests/memory.py
+
+# Each says what is missing, before a proof is begun.
+python:
+	@python3 -c 'import sys; sys.exit(sys.version_info < (3, 9))' || \
+		{ echo 'python3 is wanted here, of version 3.9 or later' >&2; exit 1; }
+has-%:
+	@command -v $* >/dev/null || { echo '$* is wanted here, and is missing' >&2; exit 1; }

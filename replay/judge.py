@@ -6,7 +6,7 @@ up to n and that no report has retired. The record is safe where whatever three 
 chain of trust.
 """
 
-from typing import NamedTuple
+from typing import NamedTuple, Optional
 
 # Of which kinds the first and the second report of a roll speak.
 SPEAKS_OF = {
@@ -29,9 +29,9 @@ class Position(NamedTuple):
     """What a position tells. A key is its reference with the position of its add; `step` is the
     roll that the call started, or whose first wait it was."""
 
-    moment: int | None
-    step: str | None
-    report: Report | None
+    moment: Optional[int]
+    step: Optional[str]
+    report: Optional[Report]
     ds: frozenset
     dnskey: frozenset
     signers: frozenset

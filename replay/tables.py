@@ -303,6 +303,7 @@ class KeySet:
             return "wrong roll state for operation"
         if any(other not in rule["tolerates"].split() for other in self.phases):
             return "conflicting roll is in progress"
+        listed = set()
         for number, name in enumerate(old + new):
             key = self.keys.get(name)
             if key is None:
@@ -310,8 +311,9 @@ class KeySet:
             if key.kind not in rule["kinds"].split():
                 return "key has the wrong type"
             fresh = key.available and not any(key.states)
-            if number >= len(old) and (not fresh or name in (old + new)[:number]):
+            if number >= len(old) and (not fresh or name in listed):
                 return WRONG_STATE
+            listed.add(name)
         algorithms = [{self.keys[name].algorithm for name in names} for names in (old, new)]
         if rule["same algorithms"] and algorithms[0] != algorithms[1]:
             return "algorithm set mismatch for non-algorithm key roll"
@@ -443,8 +445,8 @@ class KeySet:
 
     def picked_names(self, word, flag):
         """The references of the keys that a word and a flag pick."""
-        keys = [key for key, _ in self.picked(word, flag)]
-        return sorted(name for name in self.keys if self.keys[name] in keys)
+        keys = {id(key) for key, _ in self.picked(word, flag)}
+        return sorted(name for name, key in self.keys.items() if id(key) in keys)
 
 
 def write(key, number, change, now):

@@ -1,20 +1,88 @@
 /* libFuzzer looks here for a text that the library and a second reader take otherwise. The library
-   is linked as it was compiled; what guides the fuzzer is the coverage of the reader. */
+   is linked as it was compiled; what guides the fuzzer is the coverage of the reader, and which
+   answers came to which calls. Scripts with their answers are written to the file `answered`, each
+   behind its two lengths: those with an answer that no earlier one had, and every 256th. */
 
 #include "reader.h"
 
 #include <keyset.h>
 
+#include <stdbool.h>
+#include <stdio.h>
 #include <stdlib.h>
+#include <string.h>
+
+#define EVERY 256
+#define ROOM (1 << 20)
+
+/* Has a place for each call with its answer. */
+__attribute__((section("__libfuzzer_extra_counters"))) static uint8_t seen[1 << 12];
 
 int LLVMFuzzerTestOneInput(const uint8_t *text, size_t length);
 
+/* Mixes in a text's beginning up to one of these bytes. */
+static uint32_t mixed(uint32_t sum, const char *text, const char *end, const char *stops)
+{
+    for (; text < end && strchr(stops, *text) == NULL; text++)
+        sum = (sum ^ (uint8_t)*text) * 16777619u;
+    return sum;
+}
+
+/* The word of a call, and the roll that it is on. */
+static uint32_t call_of(const char *line, const char *end)
+{
+    static const char *const ON_ROLL[] = {"start ", "report", "wait", "done ", "abort "};
+    uint32_t sum = mixed(2166136261u, line, end, " ");
+    for (size_t i = 0; i < sizeof ON_ROLL / sizeof *ON_ROLL; i++)
+        if (strncmp(line, ON_ROLL[i], strlen(ON_ROLL[i])) == 0)
+            sum = mixed(sum, strchr(line, ' ') + 1, end, " \n");
+    return sum;
+}
+
+/* Whether some call has an answer here that no such call had before; how long a wait lasts still
+   makes no difference. */
+static bool is_new(const char *script, const char *end, const char *answer)
+{
+    bool found = false;
+    const char *line = memchr(script, '\n', (size_t)(end - script));
+    while (line != NULL && ++line < end) {
+        uint32_t at = mixed(call_of(line, end), answer, answer + strlen(answer), "\n0123456789");
+        uint8_t *place = &seen[at % sizeof seen];
+        found = found || *place == 0;
+        *place = 1;
+        line = memchr(line, '\n', (size_t)(end - line));
+        answer = strchr(answer, '\n') + 1;
+    }
+    return found;
+}
+
+static void keep(const uint8_t *text, size_t length, const uint8_t *answer, size_t answer_length)
+{
+    static FILE *file;
+    if (file == NULL && (file = fopen("answered", "wb")) == NULL)
+        abort();
+    fprintf(file, "%zu %zu\n", length, answer_length);
+    fwrite(text, 1, length, file);
+    fwrite(answer, 1, answer_length, file);
+    fflush(file);
+}
+
 int LLVMFuzzerTestOneInput(const uint8_t *text, size_t length)
 {
-    static uint8_t out[1 << 20];
+    static uint8_t out[ROOM];
+    static char script[ROOM];
+    static size_t scripts;
     size_t line = first_malformed_line((const char *)text, length);
-    struct keyset_answered told = keyset_answer(text, length, out, sizeof out);
+    struct keyset_answered told = keyset_answer(text, length, out, sizeof out - 1);
     if (told.line != line || told.status != (line > 0 ? KEYSET_MALFORMED : KEYSET_ANSWERED))
         abort();
+    if (line > 0)
+        return 0;
+    /* Both end where a text does. */
+    memcpy(script, text, length);
+    script[length] = '\0';
+    out[told.length] = '\0';
+    if (is_new(script, script + length, (const char *)out) || scripts++ % EVERY == 0)
+        keep(text, length, out, told.length);
     return 0;
 }

@@ -3,7 +3,8 @@
        library STORED [STEP]
 
    Each script is answered as stored, in a buffer of each length up to the one needed (every STEP of
-   these, where a checker of memory makes it slow), and side by side in threads. Each beginning of a
+   these, where a checker of memory makes it slow), and side by side in threads, of which each takes
+   the scripts in an order of its own. With STEP 0 only the threads run. Each beginning of a
    script, and scripts with damaged bytes, are called malformed just where a second reader says so.
    Each request for memory fails in turn, and behind a call that got none the rest is answered as if
    it had not been made. The linker has malloc, realloc and free of the library come here:
@@ -21,6 +22,7 @@
 #include <string.h>
 
 #define THREADS 4
+#define ROUNDS 8
 #define REFUSED "refused: out of memory\n"
 #define FILLER 0xA5
 /* How often each script is damaged, and what is put in. */
@@ -267,6 +269,11 @@ static size_t fail_in_turn(const struct stored *it)
 static struct stored *stored;
 static size_t scripts;
 
+static size_t divisor(size_t a, size_t b)
+{
+    return b == 0 ? a : divisor(b, a % b);
+}
+
 static void read_stored(const char *path)
 {
     static char text[1 << 22];
@@ -290,11 +297,28 @@ static void read_stored(const char *path)
     }
 }
 
-static void *answer_all(void *unused)
+/* The scripts in an order of the thread's own: its strides have no divisor with their number. */
+static void *answer_all(void *number)
 {
-    for (size_t i = 0; i < scripts; i++)
-        expect_answer(&stored[i], stored[i].answer_length);
-    return unused;
+    size_t thread = *(const size_t *)number, stride = 1, at = thread * scripts / THREADS;
+    for (size_t left = thread; left > 0; left -= divisor(++stride, scripts) == 1)
+        ;
+    for (size_t i = 0; i < ROUNDS * scripts; i++, at = (at + stride) % scripts)
+        expect_answer(&stored[at], stored[at].answer_length);
+    return NULL;
+}
+
+static void answer_side_by_side(void)
+{
+    pthread_t threads[THREADS];
+    size_t numbers[THREADS];
+    for (size_t i = 0; i < THREADS; i++) {
+        numbers[i] = i;
+        bool began = pthread_create(&threads[i], NULL, answer_all, &numbers[i]) == 0;
+        expect(began, "a thread", "library");
+    }
+    for (size_t i = 0; i < THREADS; i++)
+        pthread_join(threads[i], NULL);
 }
 
 int main(int argc, char **argv)
@@ -304,6 +328,11 @@ int main(int argc, char **argv)
     expect(argc > 1, "library STORED [STEP]", argv[0]);
     expect(keyset_version() == KEYSET_VERSION, "the version", argv[0]);
     read_stored(argv[1]);
+    if (step == 0) {
+        answer_side_by_side();
+        free(stored);
+        return EXIT_SUCCESS;
+    }
 
     for (size_t i = 0; i < scripts; i++) {
         size_t needed = stored[i].answer_length;
@@ -328,15 +357,10 @@ int main(int argc, char **argv)
     expect_malformed("zone example.com\ndelete K1\ndelete\0K1\n", 37, 3);
     expect_malformed("zone example.com\r\ndelete K1\n", 28, 1);
 
-    pthread_t threads[THREADS];
-    for (size_t i = 0; i < THREADS; i++)
-        expect(pthread_create(&threads[i], NULL, answer_all, NULL) == 0, "a thread", argv[0]);
-    for (size_t i = 0; i < THREADS; i++)
-        pthread_join(threads[i], NULL);
-
+    answer_side_by_side();
     free(stored);
-    printf("%zu scripts in buffers of %zu lengths, and in %d threads; %zu beginnings and %zu "
-           "damaged scripts; %zu requests for memory failed in turn\n",
+    printf("%zu scripts in buffers of %zu lengths, and in the orders of %d threads; %zu beginnings "
+           "and %zu damaged scripts; %zu requests of scripts failed in turn\n",
            scripts, lengths, THREADS, beginnings, damaged, failed);
     return EXIT_SUCCESS;
 }

@@ -5,15 +5,13 @@
                                 or has kept
     tests/library.py FOLDER     takes the one that `make lib` has left there
     tests/library.py FOLDER valgrind|asan     its tests in C alone, under a checker of memory
-    tests/library.py FOLDER fuzz RUNS         libFuzzer makes so many texts, from the stored scripts
 
-A script and its answers are those of `replay/scripts.txt`. The program `keyset` answers these and
-damaged scripts beside the library.
+A script and its answers are those of `replay/scripts.txt`. The program `keyset` answers these,
+damaged scripts and long ones beside the library.
 """
 
 import os
 import random
-import re
 import shutil
 import subprocess
 import sys
@@ -21,8 +19,9 @@ import tempfile
 import time
 from pathlib import Path
 
-TOP = Path(__file__).resolve().parent.parent
-CRATES = TOP / "crates"
+import long
+from tools import CRATES, STRICT, TOP, Wrong, run
+
 LIBRARY = TOP / "library"
 PROGRAM = CRATES / "keyset" / "out" / "keyset"
 STORED = TOP / "replay" / "scripts.txt"
@@ -30,31 +29,10 @@ EXAMPLES = sorted((TOP / "examples").rglob("*.script"))
 
 EXPORTS = {"keyset_answer", "keyset_version"}
 WRAPPED = [f"-Wl,--wrap={name}" for name in ("malloc", "realloc", "free")]
-STRICT = ["-std=gnu11", "-O2", "-Wall", "-Wextra", "-Werror", "-pthread"]
 # Under a checker of memory each length is too much.
 STEP = 61
 # How often each example is damaged.
 DAMAGES = 20
-
-
-class Wrong(Exception):
-    pass
-
-
-def run(*command, **how):
-    """What a command writes, where it ends well."""
-    words = [str(word) for word in command]
-    ran = subprocess.run(words, capture_output=True, **how)
-    if ran.returncode:
-        raise Wrong(f"{' '.join(words)}: status {ran.returncode}\n{ran.stderr.decode()}")
-    return ran.stdout.decode()
-
-
-def c_compiler():
-    compiler = shutil.which("cc") or shutil.which("gcc") or shutil.which("clang")
-    if not compiler:
-        raise Wrong("there is no C compiler here, and the tests in C want one")
-    return compiler
 
 
 def stands_on():
@@ -106,40 +84,50 @@ def c_flags(folder):
     return [f"-I{folder}/include", f"-L{folder}/lib", "-l:libkeyset.a"]
 
 
-def test_in_c(compiler, folder, room, checker=None):
-    program = room / "library"
-    flags = [*STRICT, *WRAPPED, *["-g", "-fsanitize=address,undefined"] * (checker == "asan")]
-    sources = [TOP / "tests" / name for name in ("library.c", "reader.c")]
-    run(compiler, *flags, "-o", program, *sources, *c_flags(folder))
-    before = ["valgrind", "--error-exitcode=9", "--leak-check=full", "--errors-for-leak-kinds=all"]
-    before = before if checker == "valgrind" else []
-    step = [STEP] if checker else []
-    return run(*before, program, STORED, *step).strip()
+def build_in_c(folder, program, *flags, more=()):
+    """Builds the tests in C as a program."""
+    sources = [TOP / "tests" / name for name in ("library.c", "reader.c", *more)]
+    run("cc", *STRICT, *WRAPPED, *flags, "-o", program, *sources, *c_flags(folder))
+    return program
+
+
+def test_in_c(folder, room):
+    return run(build_in_c(folder, room / "library"), STORED).strip()
+
+
+def under_valgrind(folder, room):
+    before = ["valgrind", "--error-exitcode=9", "--leak-check=full"]
+    before += ["--errors-for-leak-kinds=all"]
+    return run(*before, build_in_c(folder, room / "library", "-g"), STORED, STEP).strip()
+
+
+def under_asan(folder, room):
+    flags = ["-g", "-fsanitize=address,undefined"]
+    try:
+        program = build_in_c(folder, room / "library", *flags)
+    except Wrong as wrong:
+        text = f"{wrong}\nthe C compiler wants its runtime libraries of {flags[1]} here"
+        raise Wrong(text) from None
+    return run(program, STORED, STEP).strip()
+
+
+CHECKERS = {"valgrind": under_valgrind, "asan": under_asan}
+
+
+def test_static_buffer(folder, room):
+    """The threads see a library that keeps a buffer between its calls."""
+    flags, more = ["-Wl,--wrap=keyset_answer"], ["static_buffer.c"]
+    program = build_in_c(folder, room / "static_buffer", *flags, more=more)
+    ran = subprocess.run([program, STORED, "0"], capture_output=True, text=True)
+    if ran.returncode != 1 or not ran.stderr.endswith(": not as expected: the answer\n"):
+        raise Wrong(f"a library with a static buffer isn't seen: {ran}")
+    return "a library with a static buffer fails in threads"
 
 
 def stored_scripts():
     """The stored scripts, without their answers."""
     for part in STORED.read_text().split("\n== ")[1:]:
         yield part.partition("\n")[2].partition("-- answers\n")[0]
-
-
-def fuzz(folder, room, runs):
-    """Lets libFuzzer make texts of the stored scripts and of their words."""
-    corpus, words, program = room / "corpus", room / "words", room / "fuzz"
-    corpus.mkdir()
-    seen = set()
-    for i, script in enumerate(stored_scripts()):
-        (corpus / str(i)).write_text(script)
-        seen.update(word for word in script.split() if re.fullmatch("[A-Za-z0-9-]+", word))
-    words.write_text("".join(f'"{word}"\n' for word in sorted(seen)))
-    sources = [TOP / "tests" / name for name in ("fuzz.c", "reader.c")]
-    flags = ["-O2", "-g", "-fsanitize=fuzzer,address,undefined"]
-    run("clang", *flags, "-o", program, *sources, *c_flags(folder))
-    given = [f"-runs={runs}", f"-dict={words}", "-max_len=4096", "-print_final_stats=1"]
-    told = subprocess.run([program, *given, corpus], capture_output=True, text=True, cwd=room)
-    if told.returncode:
-        raise Wrong(told.stderr)
-    return "\n".join(line for line in told.stderr.splitlines() if "DONE" in line or "stat:" in line)
 
 
 def as_program(script):
@@ -153,6 +141,8 @@ def as_library(keyset, script):
         return 0, keyset.answer(script), ""
     except keyset.Malformed as malformed:
         return 1, "", f"{malformed}\n"
+    except MemoryError:
+        return 3, "", "out of memory\n"
 
 
 def damaged(script, chance):
@@ -214,6 +204,24 @@ def test_damaged(keyset):
     return f"{len(scripts)} scripts answered as by the program, {malformed} of them malformed"
 
 
+def test_long(keyset):
+    """What is long is answered whole: by the program, and by the library."""
+    names = []
+    for name, script, answer in long.scripts():
+        names.append(name)
+        for answerer, given in (
+            ("program", as_program(script.encode())),
+            ("library", as_library(keyset, script.encode())),
+        ):
+            if given != (0, answer, ""):
+                status, written, told = given
+                raise Wrong(
+                    f"{name}: the {answerer} ends with status {status} after {len(written)} bytes"
+                    f" of {len(answer)}; {told}"
+                )
+    return f"long scripts: {'; '.join(names)}"
+
+
 def test_devices():
     """A full disk, a pipe that nobody reads, and a folder to read from end the program with
     status 2 and its text."""
@@ -232,7 +240,7 @@ def test_devices():
             raise Wrong(f"{name}: {ran}")
     os.close(broken)
     os.close(folder)
-    return f"the program ends with status 2 over {', '.join(ends)}"
+    return f"the program ends with status 2 over {len(ends)} devices: {', '.join(ends)}"
 
 
 def expect_rolls(caller, command, **how):
@@ -246,8 +254,8 @@ def expect_rolls(caller, command, **how):
     return f"the caller in {caller} answers {len(EXAMPLES)} examples as the program"
 
 
-def test_c_caller(compiler, room, caller, flags):
-    run(compiler, *STRICT, "-o", room / "roll", LIBRARY / "c" / "roll.c", *flags)
+def test_c_caller(room, caller, flags):
+    run("cc", *STRICT, "-o", room / "roll", LIBRARY / "c" / "roll.c", *flags)
     return expect_rolls(caller, [room / "roll"])
 
 
@@ -272,21 +280,16 @@ def test_python_caller(folder):
 
 def test(folder, room):
     expect_exports(folder)
-    compiler = c_compiler()
-    yield test_in_c(compiler, folder, room)
-    yield test_c_caller(compiler, room, "C", c_flags(folder))
-    if shutil.which("pkg-config"):
-        yield test_c_caller(compiler, room, "C over the shared object", shared_flags(folder))
-    else:
-        yield "there is no pkg-config here: the caller in C has not run over the shared object"
-    if shutil.which("cargo") and shutil.which("rustc"):
-        yield test_rust_caller(folder, room)
-    else:
-        yield "there is no cargo here: the caller in Rust has not run"
+    yield test_in_c(folder, room)
+    yield test_static_buffer(folder, room)
+    yield test_c_caller(room, "C", c_flags(folder))
+    yield test_c_caller(room, "C over the shared object", shared_flags(folder))
+    yield test_rust_caller(folder, room)
     yield test_python_caller(folder)
     keyset = python_module(folder)
     yield test_resumed(keyset)
     yield test_damaged(keyset)
+    yield test_long(keyset)
     yield test_devices()
 
 
@@ -296,11 +299,8 @@ def main():
         room = Path(room)
         folder = Path(*sys.argv[1:2]).resolve() if sys.argv[1:] else room / "out"
         try:
-            if sys.argv[2:3] == ["fuzz"]:
-                print(fuzz(folder, room, sys.argv[3]))
-                return 0
             if sys.argv[2:]:
-                print(test_in_c("cc", folder, room, sys.argv[2]))
+                print(CHECKERS[sys.argv[2]](folder, room))
                 return 0
             if not sys.argv[1:]:
                 build(room / "libkeyset_c.a")

@@ -15,7 +15,7 @@ import time
 from dataclasses import dataclass
 from pathlib import Path
 
-from library import CRATES, STRICT, TOP, Wrong, c_compiler, run
+from tools import CRATES, STRICT, TOP, Wrong, run
 
 PROGRAM = CRATES / "memory_of_calls" / "out" / "memory_of_calls"
 
@@ -43,7 +43,7 @@ class Outcome:
 def build(folder):
     """Builds the allocator."""
     allocator, source = Path(folder, "memory.so"), TOP / "tests" / "memory.c"
-    run(c_compiler(), *STRICT, "-shared", "-fPIC", "-o", allocator, source)
+    run("cc", *STRICT, "-shared", "-fPIC", "-o", allocator, source)
     return allocator
 
 

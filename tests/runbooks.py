@@ -104,13 +104,14 @@ def leave_out(book, points, orders, wrong):
                 broken += 1
                 ways[fault.how] += 1
             zones += 1
-        if not ways[wanted := BREAKS.get(point, NO_CHAIN)]:
+        wanted = BREAKS.get(point, NO_CHAIN)
+        if not ways[wanted]:
             wrong.append(f"runbooks: {wanted}: no zone of {zones} breaks so by this: {point.name}")
         if "-v" in sys.argv:
             told = ", ".join(f"{how} {number}" for how, number in ways.items())
             print(f"{broken} of {zones} zones break ({told}): {point.name}")
         total, every = total + broken, every + zones
-    return f"each of {len(points)} points that are left out breaks zones, {total} of {every}"
+    return f"each of {len(points)} points left out breaks zones, {total} of {every}"
 
 
 def main():

@@ -10,9 +10,13 @@ from __future__ import annotations
 
 import ctypes
 import os
+import sys
 from dataclasses import dataclass
 from enum import Enum
 from pathlib import Path
+
+if sys.version_info < (3, 9):
+    raise ImportError("keyset wants Python 3.9 or later")
 
 VERSION = 1
 EARLY = "wait for duration "

@@ -1,0 +1,26 @@
+"""What the scripts of tests share. (That the tools are there which they run, the Makefile sees.)"""
+
+import subprocess
+from pathlib import Path
+
+TOP = Path(__file__).resolve().parent.parent
+CRATES = TOP / "crates"
+
+# How C is compiled, by `cc`.
+STRICT = ["-std=gnu11", "-O2", "-Wall", "-Wextra", "-Werror", "-pthread"]
+
+
+class Wrong(Exception):
+    pass
+
+
+def run(*command, **how):
+    """What a command writes, where it ends well."""
+    words = [str(word) for word in command]
+    try:
+        ran = subprocess.run(words, capture_output=True, **how)
+    except FileNotFoundError:
+        raise Wrong(f"there is no {words[0]} here") from None
+    if ran.returncode:
+        raise Wrong(f"{' '.join(words)}: status {ran.returncode}\n{ran.stderr.decode()}")
+    return ran.stdout.decode()
