@@ -26,11 +26,11 @@ POINTS = (
     ),
     UNSIGNED_ONLY := Point(
         "the first report counts what the unsigned zone had, and not the keys before",
-        "keys that the zone had before it went unsigned",
+        "keys from before the zone went unsigned",
     ),
     EARLY_ENDS := Point(
         "what was published by a roll that was ended early isn't counted",
-        "What was published before the roll counts: by a roll that was ended early",
+        "sets of a roll that was ended early",
     ),
     SKIPPED := Point(
         "waits are skipped, by a moment ahead of the clock",
@@ -78,7 +78,7 @@ POINTS = (
     ),
     CDS_UNCOUNTED := Point(
         "the TTL of CDS isn't counted in the zone's TTL",
-        "Like every set of the zone they count in the zone's TTL",
+        "they count in the zone's TTL",
     ),
     CDS_UNCHANGED := Point(
         "the signatures of CDS don't change with those of the zone",
@@ -91,15 +91,16 @@ POINTS = (
     ),
     KSK_FIRST := Point(
         "a KSK roll before the first algorithm roll",
-        "A KSK roll or CSK roll before the first algorithm-roll may be accepted",
+        "No roll of KSKs or CSKs before the first algorithm-roll.",
     ),
     CSK_FIRST := Point(
         "a CSK roll before the first algorithm roll",
-        "A KSK roll or CSK roll before the first algorithm-roll may be accepted",
+        "No roll of KSKs or CSKs before the first algorithm-roll.",
     ),
     NO_SUM := Point(
         "the DS TTL only, where the sum is due",
-        "Report the sum of both in the second report of an algorithm-roll",
+        "Report the sum of the DS TTL and the DNSKEY TTL, that of the present set too, in the"
+        " second report of an algorithm-roll",
     ),
     RAISED := Point(
         "the DNSKEY TTL rises where it must not",
@@ -163,7 +164,7 @@ PAIRS = (
     ),
     LEAVES_EARLY := Point(
         "the DS of who leaves goes first",
-        "only then: has the parent's DS set changed to the keys of its own ds=",
+        "only then: have the parent's DS set changed to the keys of B's ds=",
     ),
     NS_TTL := Point(
         "when one leaves, nobody waits for the TTL of the NS sets",
