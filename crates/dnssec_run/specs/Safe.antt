@@ -10,6 +10,8 @@ use Rattle.dnssec_key.specs.declared.roll.RollType.TheVariants.{KskRoll, KskDoub
 use Rattle.dnssec_key.specs.declared.roll.RollType.TheVariants.{ZskRoll, ZskDoubleSignatureRoll}
 use Rattle.dnssec_key.specs.declared.roll.RollType.TheVariants.{CskRoll, AlgorithmRoll}
 use Rattle.dnssec_zone.specs.Rolls.{same_roll}
+use Rattle.dnssec_run.specs.declared.caches.SetKind.{SetKind as Kind}
+use Rattle.dnssec_run.specs.declared.caches.SetKind.TheVariants as code
 use Rattle.dnssec_run.specs.declared.record.Mark.{Mark}
 use Rattle.dnssec_run.specs.declared.record.Mark.TheVariants.{Other, Step, Report}
 use Rattle.dnssec_run.specs.declared.record.Entry.{Entry}
@@ -53,6 +55,12 @@ pub data SetKind : Type 0 where
   Ds : SetKind
   Dnskey : SetKind
   ZoneSigners : SetKind
+
+-- the kind that the code means
+abbrev pub kind_of : Kind → SetKind
+kind_of code.Ds = Ds
+kind_of code.Dnskey = Dnskey
+kind_of code.ZoneSigners = ZoneSigners
 
 -- the sets that a report speaks of, by its roll; the second report is `true`
 abbrev pub retires : RollType → Bool → SetKind → Bool

@@ -4,12 +4,14 @@
 //! here.
 #![tactic(auto)]
 
+mod caches;
 mod call;
 mod plain;
 mod record;
 mod running;
 mod sets;
 
+pub use caches::{SetKind, retires};
 pub use call::Call;
 pub use plain::starts_suffice;
 pub use record::{Entry, Mark, Outcome, Published, PublishedKey, Reply, Run};

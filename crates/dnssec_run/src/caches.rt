@@ -1,0 +1,43 @@
+//! What caches hold of a record, and what a report retires of it.
+ghost use Rattle.std.specs.Prelude.{◌≡◌};
+ghost use Rattle.dnssec_run.specs.Safe.{kind_of, retires};
+
+use dnssec_keyset::RollType;
+
+/// The kinds of sets that caches hold.
+#[derive(Clone, Copy, Debug, PartialEq, Eq)]
+pub enum SetKind {
+    /// A DS set.
+    Ds,
+    /// A DNSKEY set with its signers.
+    Dnskey,
+    /// The keys that sign the zone.
+    ZoneSigners,
+}
+
+/// Whether a report of the roll retires sets of the kind: those of before the roll's last start or
+/// first wait, once the report's TTL is over (RFC 6781, section 4.1; RFC 7583, section 3). The
+/// second report of a roll retires other kinds than the first.
+///
+/// ```rust
+/// // After the DS report of a KSK roll and its TTL no cache holds the DS set of before the wait.
+/// let retired = retires(RollType::KskRoll, true, SetKind::Ds);
+/// ```
+pub fn retires(roll: RollType, second: bool, kind: SetKind) -> bool
+    ensures { result ≡ retires roll second (kind_of kind) }
+{
+    match (roll, second, kind) {
+        (RollType::KskRoll, false, SetKind::Dnskey)
+        | (RollType::KskRoll, true, SetKind::Ds)
+        | (RollType::KskDoubleDsRoll, false, SetKind::Ds)
+        | (RollType::KskDoubleDsRoll, true, SetKind::Dnskey)
+        | (RollType::ZskRoll, false, SetKind::Dnskey)
+        | (RollType::ZskRoll, true, SetKind::ZoneSigners)
+        | (RollType::ZskDoubleSignatureRoll, _, SetKind::Dnskey | SetKind::ZoneSigners)
+        | (RollType::CskRoll, false, SetKind::Dnskey)
+        | (RollType::CskRoll, true, SetKind::Ds | SetKind::ZoneSigners)
+        | (RollType::AlgorithmRoll, false, SetKind::Dnskey | SetKind::ZoneSigners)
+        | (RollType::AlgorithmRoll, true, SetKind::Ds) => true,
+        _ => false,
+    }
+}
