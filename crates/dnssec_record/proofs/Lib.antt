@@ -23,6 +23,8 @@ pub mod Algorithms
 pub mod Texts
 pub mod Reading
 pub mod Running
+pub mod Kept
+pub mod Sessions
 pub mod Judging
 pub mod Answering
 pub mod Ending

@@ -57,6 +57,15 @@ empty_sets sets ds dnskey signers zone =
     λ i. codes "ds=" ++ set_text (a i) ++ codes " dnskey=" ++ set_text (b i)
     ++ codes " signers=" ++ set_text (c i) ++ codes " zone=" ++ set_text (d i) ++ codes "\n"
 
+-- before the first call nothing is published
+pub none_shown : (name : List ℕ) (r : Recorder) → Records name [] [] r
+    → published_text r.published ≡ set_line []
+unfolding position_at
+none_shown name r records =
+    empty_sets r.published (sym (last-ds name [] [] r records))
+    (sym (last-dnskey name [] [] r records)) (sym (last-signers name [] [] r records))
+    (sym (last-zone name [] [] r records))
+
 -- no statement
 pub none_answered : (name : List ℕ) (text : List ℕ) (r : Recorder) (j : Judge)
     → Records name [] [] r → Knows [] j → text ≡ [] → HasAnswered name [] text r j
@@ -74,7 +83,7 @@ none_answered name text r j records knows empty = record {
 }
 
 -- the entry behind some others
-last_of : (entries : List Entry) (e : Entry)
+pub last_of : (entries : List Entry) (e : Entry)
     → Some e ≡ slice_get (entries ++ e ∷ []) (length (entries ++ e ∷ []) - 1)
 last_of entries e =
     let more = length-append entries (e ∷ []) in
@@ -97,7 +106,7 @@ told_held e Dnskey = refl
 told_held e ZoneSigners = refl
 
 -- the entry of an outcome comes next, where the sets are handed in that may have changed
-next_comes : (name : List ℕ) (calls : List Call) (entries : List Entry) (r s : Recorder)
+pub next_comes : (name : List ℕ) (calls : List Call) (entries : List Entry) (r s : Recorder)
     (outcome : Outcome) (e : Entry) (news : Option Published) (b : Bool)
     → Records name calls entries r → e.mark ≡ outcome.mark → e.moment ≡ outcome.moment
     → e.published ≡ s.published → outcome.may_publish ≡ b

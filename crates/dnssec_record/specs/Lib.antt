@@ -1,7 +1,9 @@
 pub mod Answer
+pub mod Courses
 pub mod Device
 pub mod Fault
 pub mod Inner
 pub mod Output
 pub mod Script
+pub mod Session
 pub mod Std

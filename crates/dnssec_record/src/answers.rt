@@ -46,7 +46,7 @@ pub(crate) fn answer(
     Ok(text)
 }
 
-fn push_answer(text: &mut String, reply: &Reply) -> Result<(), AllocError>
+pub(crate) fn push_answer(text: &mut String, reply: &Reply) -> Result<(), AllocError>
     ensures { OnOk result (string_bytes text.new
         ≡ string_bytes text.old ++ reply_text reply.now ++ codes "\n") }
 {
@@ -97,7 +97,7 @@ fn action_name(action: Action) -> &'static str
 }
 
 /// Writes the sets that are published after the last call.
-fn push_published(text: &mut String, published: &Published) -> Result<(), AllocError>
+pub(crate) fn push_published(text: &mut String, published: &Published) -> Result<(), AllocError>
     ensures { OnOk result (string_bytes text.new
         ≡ string_bytes text.old ++ published_text published.now) }
 {
@@ -136,7 +136,7 @@ fn push_further(text: &mut String, keys: &[PublishedKey]) -> Result<(), AllocErr
 }
 
 /// Writes the verdict on the record.
-fn push_chain_line(text: &mut String, verdict: Option<Broken>) -> Result<(), AllocError>
+pub(crate) fn push_chain_line(text: &mut String, verdict: Option<Broken>) -> Result<(), AllocError>
     ensures { OnOk result (string_bytes text.new ≡ string_bytes text.old ++ chain_line verdict) }
 {
     match verdict {

@@ -3,14 +3,17 @@
 #![tactic(auto)]
 
 mod answers;
+mod courses;
 mod device;
 mod fault;
 mod fields;
 mod lines;
 mod script;
+mod session;
 mod statement;
 mod words;
 
+pub use courses::{Listed, Part};
 pub use device::{DeviceFault, Sink, Source, Std};
 pub use dnssec_judge::{
     Broken, Judge, audit, audit_window, plain_runs_pass, records_have_one_verdict, runs_stay_safe,
@@ -20,3 +23,4 @@ pub use dnssec_run::{
 };
 pub use fault::ScriptFault;
 pub use script::{record_script, run_script};
+pub use session::{Session, Told};

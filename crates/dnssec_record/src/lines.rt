@@ -31,7 +31,7 @@ fn without_end(script: &[u8]) -> &[u8]
 }
 
 /// The name that the first line gives.
-fn zone(alloc: Global, line: &[u8]) -> Result<Option<Name<Vec<u8>>>, AllocError>
+pub(crate) fn zone(alloc: Global, line: &[u8]) -> Result<Option<Name<Vec<u8>>>, AllocError>
     ensures found { IfOk result (λ found. IfSome found (IsZoneLine line.now)) }
     ensures none { IfOk result (λ found.
         IfNone found ((name : List ℕ) → ¬ IsZoneLine line.now name)) }

@@ -1,0 +1,199 @@
+-- A session whose calls are handed in one by one.
+use Rattle.std.proofs.Common.{◌≡◌, ℕ, List, [], ◌∷◌, ◌++◌, Option, None, Some, refl, sym, ◌∙◌}
+use Rattle.std.proofs.Common.{ap, Bool, true, false, length, map, subst, fold, suc, arith}
+use Rattle.std.proofs.lemmas.List.Sums.{fold-append}
+use Rattle.std.specs.Prelude.{codes, if◌then◌else◌}
+use Rattle.dnssec_run.specs.declared.call.Call.{Call}
+use Rattle.dnssec_run.specs.declared.record.Entry.{Entry}
+use Rattle.dnssec_run.specs.declared.record.Outcome.{Outcome}
+use Rattle.dnssec_run.specs.declared.record.Published.{Published}
+use Rattle.dnssec_run.specs.declared.record.Reply.{Reply}
+use Rattle.dnssec_run.specs.Recorder.{HasSameKeys, Records, TellsOutcome}
+use Rattle.dnssec_judge.specs.Judge.{ComesNext, Knows}
+use Rattle.dnssec_record.specs.Courses.{Listed, as_listed, ended_after, ended_by, listed_after}
+use Rattle.dnssec_record.specs.Courses.{listed_by, turn_after, turn_of, turns}
+use Rattle.dnssec_record.specs.Output.{reply_text, sets_text}
+use Rattle.dnssec_record.specs.Script.{AreLinesOf, AreScript, IsLineOf, IsZoneLine, call_says, says}
+use Rattle.dnssec_record.specs.Inner.Reading.{IsOfStatements}
+use Rattle.dnssec_record.specs.Inner.Statement.{statement_says}
+use Rattle.dnssec_record.specs.Session.{Advances, GoesOn, Resumes, Stands, StandsAfter}
+use Rattle.dnssec_record.specs.declared.courses.Turn.{Turn}
+use Rattle.dnssec_record.specs.declared.session.Session.{Session}
+use Rattle.dnssec_key.specs.declared.roll.RollType.{RollType}
+use Rattle.dnssec_record.specs.declared.statement.Statement.{Statement}
+use Rattle.dnssec_record.proofs.Reading.{made_more}
+use Rattle.dnssec_record.proofs.Running.{last_of, next_comes, none_shown}
+
+-- ---- turns
+
+-- one more call makes one more turn
+turns_more : (calls : List Call) (entries : List Entry) (call : Call) (e : Entry)
+    → length entries ≡ length calls
+    → turns (calls ++ call ∷ []) (entries ++ e ∷ [])
+    ≡ turns calls entries ++ turn_after (turn_of call) e.reply ∷ []
+turns_more [] [] call e same = refl
+turns_more [] (x ∷ xs) call e same = absurd (omega arith)
+turns_more (c ∷ cs) [] call e same = absurd (omega arith)
+turns_more (c ∷ cs) (x ∷ xs) call e same =
+    ap (λ ts. turn_after (turn_of c) x.reply ∷ ts) (turns_more cs xs call e (omega arith))
+
+-- what the turns have made, with one more
+folded_more : {A : Type 0} (f : A → Turn → A) (none : A) (calls : List Call) (entries : List Entry)
+    (call : Call) (e : Entry) → length entries ≡ length calls
+    → fold f none (turns (calls ++ call ∷ []) (entries ++ e ∷ []))
+    ≡ f (fold f none (turns calls entries)) (turn_after (turn_of call) e.reply)
+folded_more f none calls entries call e same =
+    ap (fold f none) (turns_more calls entries call e same)
+    ∙ fold-append f none (turns calls entries) (turn_after (turn_of call) e.reply ∷ [])
+
+-- ---- calls
+
+-- before the first call
+pub begun : (name : List ℕ) (s : Session) → Records name [] [] s.recorder → Knows [] s.judge
+    → s.courses.listed.items ≡ [] → s.courses.ended.items ≡ [] → StandsAfter name [] [] s
+begun name s records knows listed ended = record {
+  records = records;
+  knows = knows;
+  shown = none_shown name s.recorder records;
+  listed = ap (map as_listed) listed;
+  ended = ended;
+}
+
+-- after one more call
+pub advances : (name : List ℕ) (calls : List Call) (entries : List Entry) (old new : Session)
+    (call : Call) (outcome : Outcome) (news : Option Published)
+    → StandsAfter name calls entries old
+    → ((name : List ℕ) (calls : List Call) (entries : List Entry) (e : Entry)
+    → TellsOutcome e outcome → HasSameKeys e.published new.recorder.published
+    → Records name calls entries old.recorder
+    → Records name (calls ++ call ∷ []) (entries ++ e ∷ []) new.recorder)
+    → (outcome.may_publish ≡ false → new.recorder.published ≡ old.recorder.published)
+    → news ≡ (if outcome.may_publish then Some new.recorder.published else None)
+    → ((entries : List Entry) (e : Entry) → ComesNext entries e outcome.mark outcome.moment news
+    → Knows entries old.judge → Knows (entries ++ e ∷ []) new.judge)
+    → (turn : Turn) → turn ≡ turn_after (turn_of call) outcome.reply
+    → map as_listed new.courses.listed.items
+    ≡ listed_after (map as_listed old.courses.listed.items) turn
+    → new.courses.ended.items ≡ ended_after old.courses.ended.items turn
+    → Advances name calls entries call new outcome.reply
+advances name calls entries old new call outcome news so made kept handed judged turn is listed
+    ended =
+    let e : Entry = record {
+      reply = outcome.reply;
+      moment = outcome.moment;
+      mark = outcome.mark;
+      published = new.recorder.published;
+    } in
+    record {
+      entry = e;
+      stands = record {
+        records = made name calls entries e
+            (record { reply = refl; mark = refl; moment = refl })
+            (record { ds = refl; dnskey = refl; dnskey_signers = refl; zone_signers = refl })
+            so.records;
+        knows = judged entries e
+            (next_comes name calls entries old.recorder new.recorder outcome e news
+            outcome.may_publish so.records refl refl refl refl kept handed)
+            so.knows;
+        shown = ap sets_text (last_of entries e);
+        listed = listed ∙ ap (λ (ls : List Listed). listed_after ls turn) so.listed
+            ∙ ap (listed_after (listed_by calls entries)) is
+            ∙ sym (folded_more listed_after [] calls entries call e so.records.run.count);
+        ended = ended ∙ ap (λ (rs : List RollType). ended_after rs turn) so.ended
+            ∙ ap (ended_after (ended_by calls entries)) is
+            ∙ sym (folded_more ended_after [] calls entries call e so.records.run.count);
+      };
+      is_reply = refl;
+    }
+
+-- ---- statements
+
+-- the session stands after whatever calls the statements make
+pub record HasMade (name : List ℕ) (statements : List Statement) (s : Session) : Type 0 where
+  pub calls : List Call
+  pub are_calls : map call_says calls ≡ map statement_says statements
+  pub entries : List Entry
+  pub stands : StandsAfter name calls entries s
+
+-- no statement
+pub none_made : (name : List ℕ) (s : Session) → StandsAfter name [] [] s → HasMade name [] s
+none_made name s stands =
+    record { calls = []; are_calls = refl; entries = []; stands = stands }
+
+-- one more statement
+pub one_made : (name : List ℕ) (past now : List Statement) (old new : Session) (call : Call)
+    (reply : Reply) → HasMade name past old
+    → map statement_says now ≡ map statement_says past ++ call_says call ∷ []
+    → ((name : List ℕ) (calls : List Call) (entries : List Entry)
+    → StandsAfter name calls entries old → Advances name calls entries call new reply)
+    → HasMade name now new
+one_made name past now old new call reply so one made =
+    let next = made name so.calls so.entries so.stands in
+    record {
+      calls = so.calls ++ call ∷ [];
+      are_calls = made_more so.calls _ call past now so.are_calls refl one;
+      entries = so.entries ++ next.entry ∷ [];
+      stands = next.stands;
+    }
+
+-- all statements of a script
+pub all_made : (script name : List ℕ) (statements : List Statement) (s : Session)
+    → IsOfStatements script name statements → HasMade name statements s → Resumes script s
+all_made script name statements s is so = record {
+  entries = so.entries;
+  stands = record {
+    name = name;
+    calls = so.calls;
+    is_script = is so.calls so.are_calls;
+    stands = so.stands;
+  };
+}
+
+-- ---- lines
+
+-- one more line makes one more call
+lines_more : (lines : List (List ℕ)) (calls : List Call) (line : List ℕ) (call : Call)
+    → AreLinesOf lines calls → IsLineOf line call
+    → AreLinesOf (lines ++ line ∷ []) (calls ++ call ∷ [])
+lines_more [] [] line call so is = (is, tt)
+lines_more [] (k ∷ ks) line call so is = absurd so
+lines_more (l ∷ ls) [] line call so is = absurd so
+lines_more (l ∷ ls) (k ∷ ks) line call so is = (so.0, lines_more ls ks line call so.1 is)
+
+script_more : (lines : List (List ℕ)) (name : List ℕ) (calls : List Call) (line : List ℕ)
+    (call : Call) → AreScript lines name calls → IsLineOf line call
+    → AreScript (lines ++ line ∷ []) name (calls ++ call ∷ [])
+script_more [] name calls line call so is = absurd so
+script_more (zone ∷ lines) name calls line call so is =
+    (so.0, lines_more lines calls line call so.1 is)
+
+-- a session that has only its zone
+pub opened : (line name : List ℕ) (s : Session) → IsZoneLine line name
+    → StandsAfter name [] [] s → Stands (line ∷ []) [] s
+opened line name s zone stands = record {
+  name = name;
+  calls = [];
+  is_script = (zone, tt);
+  stands = stands;
+}
+
+-- a session after one more line
+pub goes_on : (lines : List (List ℕ)) (entries : List Entry) (line : List ℕ) (old new : Session)
+    (call : Call) (reply : Reply) (text : List ℕ)
+    → Stands lines entries old → IsLineOf line call
+    → ((name : List ℕ) (calls : List Call) (entries : List Entry)
+    → StandsAfter name calls entries old → Advances name calls entries call new reply)
+    → text ≡ reply_text reply ++ codes "\n"
+    → GoesOn lines entries line new text
+goes_on lines entries line old new call reply text so is made wrote =
+    let next = made so.name so.calls entries so.stands in
+    record {
+      entry = next.entry;
+      stands = record {
+        name = so.name;
+        calls = so.calls ++ call ∷ [];
+        is_script = script_more lines so.name so.calls line call so.is_script is;
+        stands = next.stands;
+      };
+      is_answer = wrote ∙ ap (λ (r : Reply). reply_text r ++ codes "\n") (sym next.is_reply);
+    }

@@ -1,0 +1,4 @@
+use Rattle.dnssec_record.proofs.session.Session.verdict.Goals as goal
+
+pub returns : goal.returns
+returns c name calls entries stands = c.verdict.ensures entries stands.knows

@@ -1,0 +1,82 @@
+-- What a session knows of its calls so far, and what it says to the next.
+use Rattle.std.specs.Prelude.{◌≡◌, ℕ, List, [], ◌∷◌, ◌++◌, map, Option, Some, None, codes}
+use Rattle.std.specs.Prelude.{string_bytes}
+use Rattle.dnssec_run.specs.declared.call.Call.{Call}
+use Rattle.dnssec_run.specs.declared.record.Entry.{Entry}
+use Rattle.dnssec_run.specs.declared.record.Reply.{Reply}
+use Rattle.dnssec_run.specs.Recorder.{Records}
+use Rattle.dnssec_judge.specs.declared.verdict.Broken.{Broken}
+use Rattle.dnssec_judge.specs.Judge.{Knows}
+use Rattle.dnssec_judge.specs.Verdict.{IsVerdict}
+use Rattle.dnssec_record.specs.Courses.{as_listed, ended_by, listed_by}
+use Rattle.dnssec_record.specs.Output.{chain_line, published_text, reply_text, set_line}
+use Rattle.dnssec_record.specs.Script.{AreScript, IsZoneLine, lines_of, says}
+use Rattle.dnssec_record.specs.declared.fault.ScriptFault.{ScriptFault}
+use Rattle.dnssec_record.specs.declared.fault.ScriptFault.TheVariants.{Malformed, Device}
+use Rattle.dnssec_record.specs.declared.fault.ScriptFault.TheVariants.{OutOfMemory}
+use Rattle.dnssec_record.specs.declared.session.Session.{Session}
+use Rattle.dnssec_record.specs.declared.session.Told.{Told}
+use Rattle.dnssec_record.specs.declared.session.Told.TheVariants as told
+
+-- ---- calls
+
+-- the entries are the record of a run of the calls on a new key set of this name, and the session
+-- stands after the last of them
+pub record StandsAfter (name : List ℕ) (calls : List Call) (entries : List Entry) (s : Session)
+    : Type 0 where
+  pub records : Records name calls entries s.recorder
+  pub knows : Knows entries s.judge
+  pub shown : published_text s.recorder.published ≡ set_line entries
+  pub listed : map as_listed s.courses.listed.items ≡ listed_by calls entries
+  pub ended : s.courses.ended.items ≡ ended_by calls entries
+
+-- one more call of the same run got this reply, and the session stands after it
+pub record Advances (name : List ℕ) (calls : List Call) (entries : List Entry) (call : Call)
+    (next : Session) (reply : Reply) : Type 0 where
+  pub entry : Entry
+  pub stands : StandsAfter name (calls ++ call ∷ []) (entries ++ entry ∷ []) next
+  pub is_reply : entry.reply ≡ reply
+
+-- ---- lines
+
+-- the lines are a script, the entries are the record of a run of its calls, and the session stands
+-- after the last of them
+pub record Stands (lines : List (List ℕ)) (entries : List Entry) (s : Session) : Type 0 where
+  pub name : List ℕ
+  pub calls : List Call
+  pub is_script : AreScript lines name calls
+  pub stands : StandsAfter name calls entries s
+
+-- the same of the lines of a script
+pub record Resumes (script : List ℕ) (s : Session) : Type 0 where
+  pub entries : List Entry
+  pub stands : Stands (lines_of script) entries s
+
+-- one more line makes one more call of the same run, and the text is the answer to it
+pub record GoesOn (lines : List (List ℕ)) (entries : List Entry) (line : List ℕ) (next : Session)
+    (text : List ℕ) : Type 0 where
+  pub entry : Entry
+  pub stands : Stands (lines ++ line ∷ []) (entries ++ entry ∷ []) next
+  pub is_answer : text ≡ reply_text entry.reply ++ codes "\n"
+
+-- the fault of a first line
+abbrev pub FaultOfZone : List ℕ → ScriptFault → Type 0
+FaultOfZone line (Malformed n) = (n ≡ 1) × ((name : List ℕ) → ¬ IsZoneLine line name)
+FaultOfZone line Device = ⊥
+FaultOfZone line OutOfMemory = Unit {0}
+
+-- what comes of a line: an answer, or nothing if it makes no call
+abbrev pub Takes : Session → List ℕ → Told → Type 0
+Takes s line (told.Answered next text) =
+    (lines : List (List ℕ)) (entries : List Entry) → Stands lines entries s →
+    GoesOn lines entries line next (string_bytes text)
+Takes s line (told.Malformed same) = (same ≡ s) × (says line ≡ None)
+
+-- ---- the end
+
+-- the last two lines of the answers: the sets that are published after these entries, and the
+-- verdict on them
+pub record Closes (entries : List Entry) (text : List ℕ) : Type 0 where
+  pub verdict : Option Broken
+  pub is_verdict : IsVerdict entries verdict
+  pub is_closing : text ≡ set_line entries ++ chain_line verdict

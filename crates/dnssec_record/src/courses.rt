@@ -1,0 +1,203 @@
+//! The rolls of a session: which keys their starts listed, and which were ended early.
+ghost use Rattle.std.specs.Prelude.{◌≡◌, [], ◌++◌, filter, map, OnOk};
+ghost use Rattle.dnssec_record.specs.Courses.{as_listed, ended_after, is_another, is_of_other};
+ghost use Rattle.dnssec_record.specs.Courses.{listed_after, listings, turn_after, turn_of};
+ghost use Rattle.dnssec_zone.specs.Start.{texts, together};
+
+use dnssec_keyset::RollType;
+use dnssec_run::{Call, Reply};
+use std::alloc::{AllocError, Global};
+
+/// The part that a key plays in a roll.
+#[derive(Clone, Copy, Debug, PartialEq, Eq)]
+pub enum Part {
+    /// It goes out.
+    Old,
+    /// It comes in.
+    New,
+}
+
+/// A key that the start of a roll listed, while the roll is in progress.
+#[derive(Debug, Drop, PartialEq)]
+pub struct Listed {
+    pub roll: RollType,
+    pub part: Part,
+    pub reference: String,
+}
+
+/// What a call means for the rolls.
+#[derive(Clone, Copy)]
+pub(crate) enum Turn<'a> {
+    Starts {
+        roll: RollType,
+        old: &'a [&'a str],
+        new: &'a [&'a str],
+    },
+    Ends(RollType),
+    EndsEarly(RollType),
+    Deletes(&'a str),
+    GoesOn,
+}
+
+impl<'a> Turn<'a> {
+    /// What the call means, if it is accepted.
+    pub(crate) fn of(call: &Call<'a>) -> Self
+        ensures { result ≡ turn_of call.now }
+    {
+        match call {
+            Call::StartRoll {
+                rolltype,
+                old,
+                new,
+                ..
+            } => Turn::Starts {
+                roll: *rolltype,
+                old: *old,
+                new: *new,
+            },
+            Call::RollDone { rolltype } => Turn::Ends(*rolltype),
+            Call::AbortRoll { rolltype } => Turn::EndsEarly(*rolltype),
+            Call::DeleteKey { pubref } => Turn::Deletes(*pubref),
+            _ => Turn::GoesOn,
+        }
+    }
+
+    /// The same once the call has this reply.
+    pub(crate) fn after(self, reply: &Reply) -> Self
+        ensures { result ≡ turn_after self.entry reply.now }
+    {
+        match reply {
+            Reply::Done | Reply::Actions(_) => self,
+            Reply::Refused(_) => Turn::GoesOn,
+        }
+    }
+}
+
+/// The rolls of a session.
+#[derive(Drop)]
+pub(crate) struct Courses {
+    /// The keys of rolls in progress.
+    listed: Vec<Listed>,
+    /// The rolls that were ended early, until one starts that may not go beside them.
+    ended: Vec<RollType>,
+}
+
+impl Courses {
+    pub(crate) fn new(alloc: Global) -> Self
+        ensures listed { result.listed.items ≡ [] }
+        ensures ended { result.ended.items ≡ [] }
+    {
+        Courses {
+            listed: Vec::new(alloc),
+            ended: Vec::new(alloc),
+        }
+    }
+
+    /// Takes the next turn.
+    pub(crate) fn take(&mut self, alloc: Global, turn: Turn<'_>) -> Result<(), AllocError>
+        ensures listed { OnOk result (map as_listed self.new.listed.items
+            ≡ listed_after (map as_listed self.old.listed.items) turn.entry) }
+        ensures ended { OnOk result (self.new.ended.items
+            ≡ ended_after self.old.ended.items turn.entry) }
+    {
+        match turn {
+            Turn::Starts { roll, old, new } => {
+                self.forget_ends(roll);
+                self.list(alloc, roll, Part::Old, old)?;
+                self.list(alloc, roll, Part::New, new)
+            }
+            Turn::Ends(roll) => {
+                self.take_out(roll);
+                Ok(())
+            }
+            Turn::EndsEarly(roll) => {
+                self.take_out(roll);
+                self.ended.push(roll)?;
+                Ok(())
+            }
+            Turn::Deletes(reference) => {
+                self.forget(reference);
+                Ok(())
+            }
+            Turn::GoesOn => Ok(()),
+        }
+    }
+
+    /// Lists keys of a roll.
+    fn list(
+        &mut self,
+        alloc: Global,
+        roll: RollType,
+        part: Part,
+        references: &[&str],
+    ) -> Result<(), AllocError>
+        ensures listed { OnOk result (map as_listed self.new.listed.items
+            ≡ map as_listed self.old.listed.items ++ listings roll part (texts references.now)) }
+        ensures ended { OnOk result (self.new.ended ≡ self.old.ended) }
+    {
+        for reference in references {
+            self.listed.push(Listed {
+                roll,
+                part,
+                reference: String::from_str(alloc, reference)?,
+            })?;
+        }
+        Ok(())
+    }
+
+    /// Lists no key of a roll any more.
+    fn take_out(&mut self, roll: RollType)
+        ensures listed { map as_listed self.new.listed.items
+            ≡ filter (is_of_other roll) (map as_listed self.old.listed.items) }
+        ensures ended { self.new.ended ≡ self.old.ended }
+    {
+        self.listed.retain(|key| key.roll != roll);
+    }
+
+    /// Lists a key for no roll any more.
+    fn forget(&mut self, reference: &str)
+        ensures listed { map as_listed self.new.listed.items
+            ≡ filter (is_another reference.now) (map as_listed self.old.listed.items) }
+        ensures ended { self.new.ended ≡ self.old.ended }
+    {
+        self.listed
+            .retain(|key| key.reference.as_str() != reference);
+    }
+
+    /// Forgets the early ends of the rolls that may not go beside this one.
+    fn forget_ends(&mut self, roll: RollType)
+        ensures ended { self.new.ended.items ≡ filter (together roll) self.old.ended.items }
+        ensures listed { self.new.listed ≡ self.old.listed }
+    {
+        self.ended.retain(|ended| goes_beside(roll, *ended));
+    }
+
+    pub(crate) fn listed(&self) -> &[Listed]
+        ensures { result.now ≡ self.now.listed.items }
+    {
+        &self.listed
+    }
+
+    pub(crate) fn ended(&self) -> &[RollType]
+        ensures { result.now ≡ self.now.ended.items }
+    {
+        &self.ended
+    }
+}
+
+/// Whether two rolls may be in progress together: one changes KSKs only, the other ZSKs only.
+fn goes_beside(roll: RollType, other: RollType) -> bool
+    ensures { result ≡ together roll other }
+{
+    match (roll, other) {
+        (
+            RollType::KskRoll | RollType::KskDoubleDsRoll,
+            RollType::ZskRoll | RollType::ZskDoubleSignatureRoll,
+        )
+        | (
+            RollType::ZskRoll | RollType::ZskDoubleSignatureRoll,
+            RollType::KskRoll | RollType::KskDoubleDsRoll,
+        ) => true,
+        _ => false,
+    }
+}

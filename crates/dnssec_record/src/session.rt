@@ -1,0 +1,235 @@
+//! A zone's calls as they come: one at a time, each answered at once.
+ghost use Rattle.std.specs.Prelude.{◌≡◌, ◌∷◌, ℕ, List, [], map, IfOk, IfErr, string_bytes};
+ghost use Rattle.dnssec_judge.specs.Verdict.{IsVerdict};
+ghost use Rattle.dnssec_record.specs.Answer.{AnswerFault};
+ghost use Rattle.dnssec_record.specs.Inner.Reading.{IsOfStatements};
+ghost use Rattle.dnssec_record.specs.Courses.{as_listed, ended_by, listed_by};
+ghost use Rattle.dnssec_record.specs.Session.{Advances, Closes, FaultOfZone, Stands, StandsAfter};
+ghost use Rattle.dnssec_record.specs.Session.{Resumes, Takes};
+ghost use Rattle.dnssec_run.specs.declared.call.Call.{Call};
+ghost use Rattle.dnssec_run.specs.declared.record.Entry.{Entry};
+
+use crate::answers::{push_answer, push_chain_line, push_published};
+use crate::courses::{Courses, Listed, Turn};
+use crate::fault::ScriptFault;
+use crate::lines::{lines, read_script, zone};
+use crate::statement::{Statement, read_line};
+use dnssec_base::Name;
+use dnssec_judge::{Broken, Judge};
+use dnssec_keyset::{KeySet, RollType};
+use dnssec_run::{Call, Published, Recorder, Reply};
+use std::alloc::{AllocError, Global};
+
+/// What came of a line that was handed to a session.
+#[derive(Drop)]
+pub enum Told {
+    /// Its call was made: the session after it, and the line of its answer with its line feed.
+    Answered(Session, String),
+    /// It makes no call. The session is as it was.
+    Malformed(Session),
+}
+
+/// A zone whose calls come one at a time, as a daemon makes them. It keeps the key set, what is
+/// published and what the judge needs, so that a call costs what the call costs, however many came
+/// before it.
+///
+/// The lines so far are a script: what the session says to each, and last `closing`, is together
+/// what `run_script` writes for them.
+///
+/// ```rust
+/// let mut session = Session::open(alloc, b"zone example.com")?;
+/// match session.call(alloc, b"start zsk-roll Z1 Z2 1700000000")? {
+///     Told::Answered(next, answer) => {
+///         session = next;
+///         perform(&answer);
+///     }
+///     Told::Malformed(same) => session = same,
+/// }
+/// ```
+#[derive(Drop)]
+pub struct Session {
+    recorder: Recorder,
+    judge: Judge,
+    courses: Courses,
+}
+
+impl Session {
+    /// A new key set for the zone that the line names, as the first line of a script does.
+    ///
+    /// # Errors
+    ///
+    /// - `Malformed(1)` if the line names no zone.
+    /// - `OutOfMemory` if there is no memory.
+    pub fn open(alloc: Global, line: &[u8]) -> Result<Self, ScriptFault>
+        ensures ok { IfOk result (λ session. Stands (line.now ∷ []) [] session) }
+        ensures err { IfErr result (FaultOfZone line.now) }
+    {
+        let Some(name) = zone(alloc, line)? else {
+            return Err(ScriptFault::Malformed(1));
+        };
+        Ok(Session::new(alloc, name)?)
+    }
+
+    /// The session after the lines of a script: what `open` and a `call` of each further line leave.
+    ///
+    /// # Errors
+    ///
+    /// - `Malformed` with the number of the first malformed line.
+    /// - `OutOfMemory` if there is no memory.
+    pub fn resume(alloc: Global, script: &[u8]) -> Result<Self, ScriptFault>
+        ensures ok { IfOk result (Resumes script.now) }
+        ensures err { IfErr result (AnswerFault script.now) }
+    {
+        let lines = lines(alloc, script)?;
+        let (name, statements) = read_script(alloc, &lines)?;
+        Ok(Session::after(alloc, name, &statements)?)
+    }
+
+    /// The session after the calls of these statements.
+    fn after(
+        alloc: Global,
+        name: Name<Vec<u8>>,
+        statements: &[Statement<'_>],
+    ) -> Result<Self, AllocError>
+        ensures { IfOk result (λ session. (script : List ℕ) →
+            IsOfStatements script name statements.now → Resumes script session) }
+    {
+        let mut session = Session::new(alloc, name)?;
+        for statement in statements {
+            let call = statement.call(alloc)?;
+            let (next, _) = session.make(alloc, call)?;
+            session = next;
+        }
+        Ok(session)
+    }
+
+    /// A new key set for the zone of this name.
+    ///
+    /// # Errors
+    ///
+    /// If there is no memory.
+    pub fn new(alloc: Global, name: Name<Vec<u8>>) -> Result<Self, AllocError>
+        ensures { IfOk result (λ session. StandsAfter name [] [] session) }
+    {
+        match Judge::new(alloc) {
+            Ok(judge) => Ok(Session {
+                recorder: Recorder::new(alloc, name),
+                judge,
+                courses: Courses::new(alloc),
+            }),
+            Err(_) => Err(AllocError),
+        }
+    }
+
+    /// Makes the call of the line, and answers it with a line of its own. A call that is refused is
+    /// answered too.
+    ///
+    /// # Errors
+    ///
+    /// If there is no memory. The session is then gone: open one anew, and hand in the lines that
+    /// were accepted.
+    pub fn call(self, alloc: Global, line: &[u8]) -> Result<Told, AllocError>
+        ensures { IfOk result (Takes self line.now) }
+    {
+        let Some(statement) = read_line(alloc, line)? else {
+            return Ok(Told::Malformed(self));
+        };
+        let call = statement.call(alloc)?;
+        let (session, reply) = self.make(alloc, call)?;
+        let mut answer = String::new(alloc);
+        push_answer(&mut answer, &reply)?;
+        Ok(Told::Answered(session, answer))
+    }
+
+    /// Makes the call, and hands out its reply with the session after it. A call that is refused,
+    /// also because memory ran out, is a call of the session's record too.
+    ///
+    /// # Errors
+    ///
+    /// If there is no memory to note the call. The session is then gone.
+    pub fn make(self, alloc: Global, call: Call<'_>) -> Result<(Session, Reply), AllocError>
+        ensures { IfOk result (λ made. (name : List ℕ) (calls : List Call) (entries : List Entry) →
+            StandsAfter name calls entries self →
+            Advances name calls entries call.entry made.0 made.1) }
+    {
+        let Session {
+            mut recorder,
+            judge,
+            mut courses,
+        } = self;
+        let turn = Turn::of(&call);
+        let Ok(outcome) = recorder.advance(alloc, call) else {
+            return Err(AllocError);
+        };
+        let news = recorder.news(&outcome);
+        let Ok(judge) = judge.take_next(alloc, outcome.mark, outcome.moment, news) else {
+            return Err(AllocError);
+        };
+        courses.take(alloc, turn.after(&outcome.reply))?;
+        let session = Session {
+            recorder,
+            judge,
+            courses,
+        };
+        Ok((session, outcome.reply))
+    }
+
+    /// The last two lines of the answers to the lines so far: the sets that are published after the
+    /// last call, and the verdict on the record.
+    ///
+    /// # Errors
+    ///
+    /// If there is no memory.
+    pub fn closing(&self, alloc: Global) -> Result<String, AllocError>
+        ensures { IfOk result (λ text.
+            (name : List ℕ) (calls : List Call) (entries : List Entry) →
+            StandsAfter name calls entries self.now → Closes entries (string_bytes text)) }
+    {
+        let mut text = String::new(alloc);
+        push_published(&mut text, self.recorder.published())?;
+        push_chain_line(&mut text, self.judge.verdict())?;
+        Ok(text)
+    }
+
+    /// The key set after the calls so far.
+    pub fn keyset(&self) -> &KeySet
+        ensures { result.now ≡ self.now.recorder.keyset }
+    {
+        self.recorder.keyset()
+    }
+
+    /// What is published after the calls so far.
+    pub fn published(&self) -> &Published
+        ensures { result.now ≡ self.now.recorder.published }
+    {
+        self.recorder.published()
+    }
+
+    /// The keys that the starts of the rolls in progress listed: for each roll the old ones and then
+    /// the new ones, but none that was deleted since.
+    pub fn listed(&self) -> &[Listed]
+        ensures { (name : List ℕ) (calls : List Call) (entries : List Entry) →
+            StandsAfter name calls entries self.now →
+            map as_listed result.now ≡ listed_by calls entries }
+    {
+        self.courses.listed()
+    }
+
+    /// The rolls that were ended early, in the order of their ends. What such an end asked for is
+    /// reported by no call, so it stays here until a roll starts that may not go beside the ended
+    /// one: who starts that has seen it done.
+    pub fn ended_early(&self) -> &[RollType]
+        ensures { (name : List ℕ) (calls : List Call) (entries : List Entry) →
+            StandsAfter name calls entries self.now → result.now ≡ ended_by calls entries }
+    {
+        self.courses.ended()
+    }
+
+    /// The verdict on the record so far: what `audit` answers of it.
+    pub fn verdict(&self) -> Option<Broken>
+        ensures { (name : List ℕ) (calls : List Call) (entries : List Entry) →
+            StandsAfter name calls entries self.now → IsVerdict entries result }
+    {
+        self.judge.verdict()
+    }
+}
