@@ -12,6 +12,7 @@
 -- | `advance`, both           | `agrees-accepted`             | Next; the key set's After    |
 -- | `published`, `ok`         | `shows-all`                   | Positions                    |
 -- | `starts_suffice`          | `starts-suffice`              | Starts                       |
+-- | the premise of plain lists| `plain-by-sets`               | Premise                      |
 -- | for callers of `Recorder` | `last-ds` and the like        | Recorded                     |
 pub mod Positions
 pub mod Next
@@ -21,5 +22,6 @@ pub mod Chain
 pub mod WholeRolls
 pub mod Asked
 pub mod EarlyEnds
+pub mod Premise
 pub mod Starts
 pub mod Recorded

@@ -21,12 +21,13 @@ use Rattle.dnssec_zone.specs.Wait as waits
 use Rattle.dnssec_keyset.proofs.Accepted.{finishes, spreads_second}
 use Rattle.dnssec_run.specs.declared.call.Call.{Call}
 use Rattle.dnssec_run.specs.declared.record.Entry.{Entry}
-use Rattle.dnssec_run.specs.Plain.{DoesAt, IsPlain, EndsNoneEarly, IsPlainByStarts, start_of}
-use Rattle.dnssec_run.specs.Plain.{early_end_of, first_wait_of}
+use Rattle.dnssec_run.specs.Plain.{IsPlain, EndsNoneEarly, IsPlainByStarts}
 use Rattle.dnssec_run.specs.Record.{IsRun, call_of, is_accepted, reply_of, world_at}
 use Rattle.dnssec_run.proofs.Chain.Allowed.{can_start, waits_in_phase}
 use Rattle.dnssec_run.proofs.Chain.RollFacts.{alone_first}
 use Rattle.dnssec_run.proofs.Chain.Rolls.{same-same}
+use Rattle.dnssec_run.proofs.Premise.{DoesAt, early_end_of, first_wait_of, start_of, same-rolls}
+use Rattle.dnssec_run.proofs.Premise.{first_wait-told, start-seen}
 use Rattle.dnssec_run.proofs.WholeRolls.Order.{world_of}
 use Rattle.dnssec_run.proofs.WholeRolls.Phases.{put_aside, put_there}
 use Rattle.dnssec_run.proofs.WholeRolls.Replies.{accepted_step, refused_step}
@@ -170,7 +171,7 @@ module _ (name : List ℕ) (calls : List Call) (entries : List Entry) (run : IsR
           let x = accepted_step (keyset.clearance (set_at n) (call_of c)) (set_at n)
           (set_at (suc n)) (call_of c) e.reply t step in
           elim (moves-on (set_at n) (set_at (suc n)) (call_of c) x.0 x.1
-          (none n c AlgorithmRoll ci) h) [
+          (λ ends. none n c AlgorithmRoll ci ((same-rolls c).2 ∙ ends)) h) [
             | inl passes ↦ inl (
               n,
               omega arith,
@@ -216,6 +217,10 @@ module _ (name : List ℕ) (calls : List Call) (entries : List Entry) (run : IsR
   pub starts-suffice : IsPlainByStarts name calls entries → IsPlain name calls entries
   starts-suffice plain = record {
     setters = plain.setters;
-    first = λ n roll wants s. let a = plain.first n roll wants s in
-        passed n roll s (began a.0 a.2 n a.1 (within n roll s));
+    first = λ n roll wants start.
+        let a = plain.first n roll wants start in
+        let s = start-seen calls entries n roll start in
+        let w = passed n roll s (began a.0 (start-seen calls entries a.0 AlgorithmRoll a.2) n a.1
+        (within n roll s)) in
+        (w.0, w.1, first_wait-told calls entries w.0 AlgorithmRoll w.2);
   }

@@ -1,5 +1,6 @@
--- The laws of whole rolls: what holds of every run in which nothing is set by hand. A roll that was
--- started can be finished, its waits are over at an exact moment, and nothing is left half done.
+-- The laws of whole rolls: what holds of every run in which by hand only keys of other signers are
+-- put in or taken out. A roll that was started can be finished, its waits are over at an exact
+-- moment, and nothing is left half done.
 use Rattle.std.specs.Prelude.{◌≡◌, ◌≢◌, ℕ, suc, ◌+◌, ◌-◌, ◌*◌, ◌<◌, ◌≤◌, ◌⊎◌}
 use Rattle.std.specs.Prelude.{Bool, true, false, ◌&&◌, ◌||◌, List, length, slice_get, Some}
 use Rattle.std.specs.Prelude.{Option, None}
@@ -23,9 +24,10 @@ use Rattle.dnssec_zone.specs.Start.{is_listed}
 use Rattle.dnssec_keyset.specs.Laws.{in_progress}
 use Rattle.dnssec_keyset.specs.Step as keyset
 use Rattle.dnssec_run.specs.declared.call.Call.{Call}
+use Rattle.dnssec_run.specs.declared.call.Call.TheVariants.{RollDone, AbortRoll}
 use Rattle.dnssec_run.specs.declared.record.Entry.{Entry}
 use Rattle.dnssec_run.specs.declared.record.Mark.TheVariants.{Report}
-use Rattle.dnssec_run.specs.Plain.{DoesAt, SetsNothing}
+use Rattle.dnssec_run.specs.Plain.{DoesAt, SetsOnlyOthersPresent}
 use Rattle.dnssec_run.specs.Published.{World}
 use Rattle.dnssec_run.specs.Record.{call_of, is_accepted, call_moment, reply_of, world_at}
 use Rattle.dnssec_run.specs.Safe.{position_at}
@@ -56,7 +58,7 @@ IsAccepted calls entries n call =
 
 -- no wait finds a key without the stamp that it reads: a report wrote it
 abbrev pub NeverMissesStamp : List ℕ → List Call → List Entry → Type 0
-NeverMissesStamp name calls entries = SetsNothing name calls entries →
+NeverMissesStamp name calls entries = SetsOnlyOthersPresent calls entries →
     (n : ℕ) (roll : RollType) (half : Half) (now : ℕ)
     (wait : IsMade calls entries n (keyset.Wait roll half now)) →
     reply_of wait.entry.reply ≢ keyset.Refused WrongKeyState
@@ -81,7 +83,7 @@ is_settled_zsk s = is_future s || is_active_zsk s || is_stale s
 
 -- where no roll is in progress, each role is future, active or stale: nothing is half done
 abbrev pub SettlesBetweenRolls : List ℕ → List Call → List Entry → Type 0
-SettlesBetweenRolls name calls entries = SetsNothing name calls entries →
+SettlesBetweenRolls name calls entries = SetsOnlyOthersPresent calls entries →
     (n : ℕ) → n ≤ length entries →
     ((roll : RollType) → in_progress (world_at name calls entries n).set.rolls roll ≡ false) →
     (q : List ℕ) (k : KeyParts) → get (world_at name calls entries n).set.keys q ≡ Some k →
@@ -123,7 +125,7 @@ pub record WaitsUntil (due now : ℕ) (reply success : keyset.Reply) : Type 0 wh
 -- a wait in its phase is over once its report's TTL has passed since the moment that it counts from
 -- (RFC 6781, section 4.1; RFC 7583, section 3)
 abbrev pub WaitsExactly : List ℕ → List Call → List Entry → Type 0
-WaitsExactly name calls entries = SetsNothing name calls entries → NeverFalls calls →
+WaitsExactly name calls entries = SetsOnlyOthersPresent calls entries → NeverFalls calls →
     (n : ℕ) (roll : RollType) (half : Half) (now ttl : ℕ)
     (wait : IsMade calls entries n (keyset.Wait roll half now)) →
     phase_of (world_at name calls entries n).set.rolls roll ≡ Some (cache_expire half ttl) →
@@ -160,15 +162,15 @@ IsAtWork w v q = (v.added q ≡ w.added q) × (k : KeyParts) × (get v.set.keys 
     (each_role is_active_ksk is_active_zsk k.keytype ≡ true)
 
 -- the roll that a call ends, if any: in its last phase, or early
-abbrev pub end_of : keyset.Call → Option RollType
-end_of (keyset.RollDone roll) = Some roll
-end_of (keyset.AbortRoll roll) = Some roll
+abbrev pub end_of : Call → Option RollType
+end_of (RollDone roll) = Some roll
+end_of (AbortRoll roll) = Some roll
 end_of _ = None
 
 -- when a started roll ends that wasn't ended early, each key that it listed as old is stale or was
 -- deleted, and each role of each key that it listed as new is at work
 abbrev pub RollsFinish : List ℕ → List Call → List Entry → Type 0
-RollsFinish name calls entries = SetsNothing name calls entries →
+RollsFinish name calls entries = SetsOnlyOthersPresent calls entries →
     (s n : ℕ) (roll : RollType) (olds news : List (List ℕ)) (now : ℕ) → s < n →
     IsAccepted calls entries s (keyset.StartRoll roll olds news now) →
     IsAccepted calls entries n (keyset.RollDone roll) →

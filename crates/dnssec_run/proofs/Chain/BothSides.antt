@@ -15,7 +15,7 @@ use Rattle.dnssec_zone.specs.Rolls.{same_roll}
 use Rattle.dnssec_run.specs.declared.record.Mark.TheVariants.{Other, Step, Report}
 use Rattle.dnssec_run.specs.Published.{Id, in_ds}
 use Rattle.dnssec_run.specs.Safe.{Ds, position_at, is_step}
-use Rattle.dnssec_run.specs.Plain.{DoesAt, first_wait_of}
+use Rattle.dnssec_run.proofs.Premise.{DoesAt, first_wait_of}
 use Rattle.dnssec_zone.proofs.Flags.{SideOf, Keys, Zone, tolerates, Stage, Quiet, Early}
 use Rattle.dnssec_run.proofs.Chain.Tale.{Tale, World, Key, found, if_some, world_at, put_roll}
 use Rattle.dnssec_run.proofs.Chain.Tale.{rolled, report_key, waiting, spreading}

@@ -13,7 +13,8 @@ use Rattle.dnssec_zone.specs.Lists.{has_kept_key}
 use Rattle.dnssec_run.specs.declared.record.Mark.TheVariants.{Step}
 use Rattle.dnssec_run.specs.Published.{Id}
 use Rattle.dnssec_run.specs.Safe.{position_at}
-use Rattle.dnssec_run.specs.Plain.{DoesAt, start_of, needs_algorithm_roll}
+use Rattle.dnssec_run.specs.Plain.{needs_algorithm_roll}
+use Rattle.dnssec_run.proofs.Premise.{DoesAt, start_of}
 use Rattle.dnssec_zone.proofs.Flags.{SideOf, Keys, Zone, affects, tolerates, Stage, Quiet, Early}
 use Rattle.dnssec_zone.proofs.Flags.{Late, fits}
 use Rattle.dnssec_run.proofs.Chain.Tale.{Tale, Key, found, world_at, start_key, wait1_key}

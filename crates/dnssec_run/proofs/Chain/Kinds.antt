@@ -12,7 +12,7 @@ use Rattle.dnssec_keyset.proofs.Exchange.Kinds.{number-returns}
 use Rattle.dnssec_zone.proofs.Flags.{SideOf, Keys, Zone, may_list, started, ended, waited1}
 use Rattle.dnssec_zone.proofs.Flags.{waited2, has_role}
 
-number_started : (r : RollType) (o i : Bool) (k : KeyType)
+pub number_started : (r : RollType) (o i : Bool) (k : KeyType)
     → kind_number (started r o i k) ≡ kind_number k
 number_started r true true k = number-comes r (at_roles turns_old turns_old k)
     ∙ number-at_roles turns_old turns_old k

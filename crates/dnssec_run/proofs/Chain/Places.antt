@@ -21,7 +21,7 @@ use Rattle.dnssec_run.specs.Safe.{SetKind, Ds, Dnskey, ZoneSigners, position_of,
 use Rattle.dnssec_run.specs.Safe.{IsGone}
 use Rattle.dnssec_key.specs.declared.roll.RollType.{RollType}
 use Rattle.dnssec_keyset.specs.Step as keyset
-use Rattle.dnssec_run.specs.Plain.{sets_nothing, DoesAt}
+use Rattle.dnssec_run.proofs.Premise.{sets_nothing, DoesAt}
 use Rattle.dnssec_zone.proofs.Flags.{SideOf, Keys, Zone}
 use Rattle.dnssec_run.proofs.Chain.Tale.{Tale, World, Key, seen, found, if_some, world_at}
 use Rattle.dnssec_run.proofs.Chain.Shown.{shown-found}

@@ -18,7 +18,7 @@ use Rattle.dnssec_key.specs.Setters.{at_each_state, with_present}
 use Rattle.dnssec_keyset.specs.KeySet.{KeySetParts}
 use Rattle.dnssec_zone.proofs.Flags.{SideOf, Keys, Zone, has_role, is_idle, may_list}
 use Rattle.dnssec_zone.proofs.Tests.{each_in_roll-at, each_key-at, mp, ◌⇒◌}
-use Rattle.dnssec_run.specs.Plain.{is_another_signers, is_plain_setting}
+use Rattle.dnssec_run.proofs.Premise.{is_another_signers, is_plain_setting}
 use Rattle.dnssec_run.proofs.Chain.Tables.{Stamp, Visible, DsVisible, RrsigVisible}
 use Rattle.dnssec_run.proofs.Chain.Tale.{stamp_of}
 

@@ -21,7 +21,7 @@ use Rattle.dnssec_run.specs.declared.call.Call.{Call}
 use Rattle.dnssec_run.specs.declared.record.Entry.{Entry}
 use Rattle.dnssec_run.specs.Published.{Id, World as RealWorld}
 use Rattle.dnssec_run.specs.Record as rec
-use Rattle.dnssec_run.specs.Plain.{IsPlain}
+use Rattle.dnssec_run.proofs.Premise.{IsPlainBySets}
 use Rattle.dnssec_zone.proofs.Flags.{started, ended, aged, tolerates, may_list, is_blank, SideOf}
 use Rattle.dnssec_zone.proofs.Flags.{affects}
 use Rattle.dnssec_run.proofs.Chain.Tables.{Stamp, stamp_in, half, read, checked, serves_new}
@@ -33,7 +33,7 @@ pub record Tale : Type 0 where
   pub calls : List Call
   pub es : List Entry
   pub run : rec.IsRun name calls es
-  pub plain : IsPlain name calls es
+  pub plain : IsPlainBySets name calls es
 
 abbrev pub Key : Type 0
 Key = KeyParts

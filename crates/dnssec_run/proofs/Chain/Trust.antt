@@ -41,8 +41,9 @@ use Rattle.dnssec_run.specs.declared.record.Mark.{Mark}
 use Rattle.dnssec_run.specs.declared.record.Mark.TheVariants.{Other, Step, Report}
 use Rattle.dnssec_run.specs.Record as rec
 use Rattle.dnssec_run.specs.Safe.{position_at}
-use Rattle.dnssec_run.specs.Plain.{DoesAt, StaysSafe, start_of, first_wait_of, sets_nothing}
-use Rattle.dnssec_run.specs.Plain.{is_plain_setting}
+use Rattle.dnssec_run.specs.Plain.{StaysSafe}
+use Rattle.dnssec_run.proofs.Premise.{DoesAt, start_of, first_wait_of, is_plain_setting}
+use Rattle.dnssec_run.proofs.Premise.{plain-by-sets, sets_nothing}
 use Rattle.dnssec_zone.proofs.Flags.{SideOf, Keys, Zone, is_blank, Quiet, fits, stale-idle}
 use Rattle.dnssec_zone.proofs.Flags.{blank-idle}
 use Rattle.dnssec_run.proofs.Chain.Tale.{Tale, World, Key, world_at, rolled, start_key}
@@ -379,6 +380,11 @@ always tale (suc n) le = next tale n le (always tale n (omega arith))
 pub chain-holds : (name : List ℕ) (calls : List Call) (entries : List Entry)
     → rec.IsRun name calls entries → StaysSafe name calls entries
 chain-holds name calls entries run plain n le =
-    let tale : Tale = record { name = name; calls = calls; es = entries; run = run; plain = plain }
-    in
+    let tale : Tale = record {
+      name = name;
+      calls = calls;
+      es = entries;
+      run = run;
+      plain = plain-by-sets name calls entries run plain;
+    } in
     safe_of tale n le (always tale n le)

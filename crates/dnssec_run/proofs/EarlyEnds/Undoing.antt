@@ -29,7 +29,6 @@ use Rattle.dnssec_zone.proofs.Tests.{and-both}
 use Rattle.dnssec_run.specs.declared.call.Call.{Call}
 use Rattle.dnssec_run.specs.declared.record.Entry.{Entry}
 use Rattle.dnssec_run.specs.EarlyEnds.{IsUntouched, Undoes, UndoesStarts, touches}
-use Rattle.dnssec_run.specs.Plain.{start_of}
 use Rattle.dnssec_run.specs.Published.{World}
 use Rattle.dnssec_run.specs.Record.{IsRun, call_of, is_accepted, reply_of, world_at}
 use Rattle.dnssec_run.specs.WholeRolls.{IsAccepted}
@@ -42,6 +41,7 @@ use Rattle.dnssec_run.proofs.EarlyEnds.Lists.{is_listed-filter, lists-step}
 use Rattle.dnssec_run.proofs.EarlyEnds.Roles.{all-tied}
 use Rattle.dnssec_run.proofs.EarlyEnds.Tables.{tied, undone_facts}
 use Rattle.dnssec_run.proofs.Laws.{stays-sound}
+use Rattle.dnssec_run.proofs.Premise.{same-rolls, start_of}
 use Rattle.dnssec_run.proofs.WholeRolls.Order.{world_of}
 use Rattle.dnssec_run.proofs.WholeRolls.Replies.{accepted_step, refused_step, step-made}
 use Rattle.dnssec_keyset.proofs.Laws.{no_cause}
@@ -375,5 +375,5 @@ undoes-starts name calls entries run s n roll olds news now later st end none =
       call_is = a.0.made_is;
       entry_is = a.0.entry_is;
       accepted = a.1;
-      roll_is = ap start_of a.0.call_is;
+      roll_is = (same-rolls a.0.made).0 ∙ ap start_of a.0.call_is;
     }))

@@ -22,8 +22,7 @@ use Rattle.dnssec_keyset.specs.Step as keyset
 use Rattle.dnssec_zone.specs.Wait as waits
 use Rattle.dnssec_zone.specs.Refusals as refusals
 use Rattle.dnssec_keyset.proofs.Sides.{leaves-others}
-use Rattle.dnssec_run.specs.Plain.{DoesAt, SetsNothing}
-use Rattle.dnssec_run.specs.WholeRolls.{GoesOn, IsAccepted, HasLeft, IsAtWork, end_of}
+use Rattle.dnssec_run.specs.WholeRolls.{GoesOn, IsAccepted, HasLeft, IsAtWork}
 use Rattle.dnssec_run.specs.WholeRolls.{RollsFinish, propagation}
 use Rattle.dnssec_run.specs.declared.call.Call.{Call}
 use Rattle.dnssec_run.specs.declared.record.Entry.{Entry}
@@ -33,6 +32,7 @@ use Rattle.dnssec_run.specs.Published.{World}
 use Rattle.dnssec_run.specs.Record.{IsRun, call_of, reply_of, is_accepted, world_at, with_added}
 use Rattle.dnssec_run.specs.Record.{reference_added, added_by}
 use Rattle.dnssec_run.proofs.Laws.{stays-sound}
+use Rattle.dnssec_run.proofs.Premise.{DoesAt, SetsNothing, end-told, end_of, sets-nothing}
 use Rattle.dnssec_zone.proofs.Flags.{SideOf, Keys, Zone, affects, may_list, is_blank}
 use Rattle.dnssec_run.proofs.Chain.Tale.{start-parts}
 use Rattle.dnssec_zone.proofs.Tests.{◌⇒◌, and-both}
@@ -383,5 +383,6 @@ module _ (name : List ℕ) (calls : List Call) (entries : List Entry) (run : IsR
 
 pub rolls-finish : (name : List ℕ) (calls : List Call) (entries : List Entry)
     → IsRun name calls entries → RollsFinish name calls entries
-rolls-finish name calls entries run plain s n roll olds news now later st ends none =
-    finish name calls entries run plain s roll olds news now st n later ends none
+rolls-finish name calls entries run only s n roll olds news now later st ends none =
+    finish name calls entries run (sets-nothing name calls entries run only) s roll olds news now st
+    n later ends (λ m after before d. none m after before (end-told calls entries m roll d))

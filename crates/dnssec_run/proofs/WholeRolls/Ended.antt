@@ -28,7 +28,7 @@ use Rattle.dnssec_zone.proofs.Flags.{may_start, started}
 use Rattle.dnssec_zone.proofs.Phases.{listed_by-with_listed}
 use Rattle.dnssec_zone.proofs.Tests.{both, both-at, each_roll, each_roll-at, ◌⇒◌, mp, and-both}
 use Rattle.dnssec_zone.proofs.Tests.{each_listed, each_listed-at, implies}
-use Rattle.dnssec_run.specs.Plain.{is_another_signers, is_plain_setting}
+use Rattle.dnssec_run.proofs.Premise.{is_another_signers, is_plain_setting}
 use Rattle.dnssec_run.proofs.Chain.Rolls.{same-same}
 use Rattle.dnssec_run.proofs.Chain.Setters.{Harmless, harmless-alike, others-role}
 use Rattle.dnssec_run.proofs.Chain.Tables.{Visible, DsVisible, RrsigVisible}

@@ -24,8 +24,7 @@ use Rattle.dnssec_zone.specs.Refusals.{deletion_refusal}
 use Rattle.dnssec_key.specs.Setters.{set_by}
 use Rattle.dnssec_key.specs.State.{is_old}
 use Rattle.dnssec_key.specs.declared.kind.KeyType.{KeyType}
-use Rattle.dnssec_run.specs.Plain.{is_another_signers}
-use Rattle.dnssec_run.specs.WholeRolls.{end_of}
+use Rattle.dnssec_run.proofs.Premise.{end_of, is_another_signers}
 use Rattle.dnssec_run.proofs.Chain.Setters.{harmless, harmless-alike, others-unlisted}
 use Rattle.dnssec_zone.specs.Start.{is_listed}
 use Rattle.dnssec_keyset.specs.Laws.{LeavesOthers, RollsTogether}

@@ -26,7 +26,7 @@ use Rattle.dnssec_zone.specs.Lists as lists
 use Rattle.dnssec_keyset.proofs.Sides.{leaves-others}
 use Rattle.dnssec_keyset.proofs.Laws.{moved, no_cause}
 use Rattle.dnssec_run.specs.Published.{World as RealWorld}
-use Rattle.dnssec_run.specs.Plain.{is_plain_setting, sets_nothing}
+use Rattle.dnssec_run.proofs.Premise.{is_plain_setting, sets_nothing}
 use Rattle.dnssec_zone.proofs.Flags.{SideOf, affects, may_list, is_blank, has_role, may_start}
 use Rattle.dnssec_zone.proofs.Flags.{is_idle}
 use Rattle.dnssec_run.proofs.Chain.Tale.{seen, is_listed, CanStart, start-parts, early-end-parts}

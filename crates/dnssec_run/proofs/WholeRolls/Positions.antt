@@ -27,7 +27,7 @@ use Rattle.dnssec_run.specs.declared.call.Call.{Call}
 use Rattle.dnssec_run.specs.declared.call.Call.TheVariants as call
 use Rattle.dnssec_run.specs.declared.record.Entry.{Entry}
 use Rattle.dnssec_run.specs.Published.{World}
-use Rattle.dnssec_run.specs.Plain.{SetsNothing, sets_nothing}
+use Rattle.dnssec_run.proofs.Premise.{SetsNothing, sets-nothing, sets_nothing}
 use Rattle.dnssec_run.specs.Record.{IsRun, call_of, reply_of, world_behind, world_at}
 use Rattle.dnssec_zone.proofs.Flags.{SideOf, Keys, Zone, affects}
 use Rattle.dnssec_run.proofs.Chain.Tables.{half, read, reads-stamp, checked, Stamp, Visible}
@@ -97,7 +97,8 @@ idle_now sd set h none = idle_is sd h.ph h.own
 
 pub settles-between : (name : List ℕ) (calls : List Call) (entries : List Entry)
     → IsRun name calls entries → SettlesBetweenRolls name calls entries
-settles-between name calls entries run plain n le none q k at =
+settles-between name calls entries run only n le none q k at =
+    let plain = sets-nothing name calls entries run only in
     let set = (world_at name calls entries n).set in
     let x = in-order name calls entries run plain Keys n in
     let y = in-order name calls entries run plain Zone n in
@@ -201,7 +202,8 @@ told_else waits.Clear old new r h now reply (inr step) not_so e = let same = sym
 
 pub never-misses : (name : List ℕ) (calls : List Call) (entries : List Entry)
     → IsRun name calls entries → NeverMissesStamp name calls entries
-never-misses name calls entries run plain n roll half now wait =
+never-misses name calls entries run only n roll half now wait =
+    let plain = sets-nothing name calls entries run only in
     let old = (world_at name calls entries n).set in
     let new = (world_at name calls entries (suc n)).set in
     told_else (keyset.wait_clearance roll half now old) old new roll half now

@@ -13,7 +13,7 @@ use Rattle.dnssec_key.specs.declared.roll.RollType.TheVariants.{ZskRoll, ZskDoub
 use Rattle.dnssec_key.specs.declared.roll.RollType.TheVariants.{CskRoll, AlgorithmRoll}
 use Rattle.dnssec_key.specs.declared.roll.RollState.{RollState}
 use Rattle.dnssec_key.specs.declared.roll.RollState.TheVariants.{CacheExpire1, CacheExpire2}
-use Rattle.dnssec_run.specs.Plain.{SetsNothing}
+use Rattle.dnssec_run.proofs.Premise.{SetsNothing, sets-nothing}
 use Rattle.dnssec_run.specs.WholeRolls.{IsMade, NeverFalls, LastReport, counts_from}
 use Rattle.dnssec_run.specs.WholeRolls.{WaitsUntil, WaitsExactly}
 use Rattle.dnssec_run.proofs.Chain.Trust.{moment, plainly}
@@ -287,5 +287,6 @@ module _ (name : List ℕ) (calls : List Call) (entries : List Entry) (run : IsR
 -- each wait in its phase lasts exactly as long as its report says
 pub waits-exactly : (name : List ℕ) (calls : List Call) (entries : List Entry)
     → IsRun name calls entries → WaitsExactly name calls entries
-waits-exactly name calls entries run plain never n roll half now ttl wait phase =
-    exactly name calls entries run plain never n roll half now ttl wait phase
+waits-exactly name calls entries run only never n roll half now ttl wait phase =
+    exactly name calls entries run (sets-nothing name calls entries run only) never n roll half now
+    ttl wait phase
