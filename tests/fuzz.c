@@ -1,7 +1,7 @@
 /* libFuzzer looks here for a text that the library and a second reader take otherwise. The library
    is linked as it was compiled; what guides the fuzzer is the coverage of the reader, and which
    answers came to which calls. Scripts with their answers are written to the file `answered`, each
-   behind its two lengths: those with an answer that no earlier one had, and every 256th. */
+   behind its two lengths: those with an answer that no earlier one had, and every 8th. */
 
 #include "reader.h"
 
@@ -12,11 +12,14 @@
 #include <stdlib.h>
 #include <string.h>
 
-#define EVERY 256
+#define EVERY 8
+#define PLACES (1 << 12)
 #define ROOM (1 << 20)
 
-/* Has a place for each call with its answer. */
-__attribute__((section("__libfuzzer_extra_counters"))) static uint8_t seen[1 << 12];
+/* Each has a place for each call with its answer: what a text has, which libFuzzer looks at and
+   clears, and what all texts had. */
+__attribute__((section("__libfuzzer_extra_counters"))) static uint8_t seen[PLACES];
+static bool known[PLACES];
 
 int LLVMFuzzerTestOneInput(const uint8_t *text, size_t length);
 
@@ -47,9 +50,8 @@ static bool is_new(const char *script, const char *end, const char *answer)
     const char *line = memchr(script, '\n', (size_t)(end - script));
     while (line != NULL && ++line < end) {
         uint32_t at = mixed(call_of(line, end), answer, answer + strlen(answer), "\n0123456789");
-        uint8_t *place = &seen[at % sizeof seen];
-        found = found || *place == 0;
-        *place = 1;
+        found = found || !known[at % PLACES];
+        seen[at % PLACES] = known[at % PLACES] = true;
         line = memchr(line, '\n', (size_t)(end - line));
         answer = strchr(answer, '\n') + 1;
     }

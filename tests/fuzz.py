@@ -62,12 +62,9 @@ def fuzz(folder, room, runs):
 
 def answered(path):
     """The scripts that the fuzzer has kept, with the library's answers."""
-    left = path.read_bytes()
-    while left:
-        lengths, _, left = left.partition(b"\n")
-        script, answer = map(int, lengths.split())
-        yield left[:script].decode("ascii"), left[script : script + answer].decode("ascii")
-        left = left[script + answer :]
+    with path.open("rb") as file:
+        while lengths := file.readline():
+            yield tuple(file.read(int(length)).decode("ascii") for length in lengths.split())
 
 
 def compare(path):
