@@ -119,13 +119,6 @@ spell_each [] (call ∷ calls) same = cc
 spell_each (line ∷ lines) [] same = cc
 spell_each (line ∷ lines) (call ∷ calls) same = (cc, spell_each lines calls (cc))
 
--- the first line and the others
-pub lines_split : (script : List ℕ) (lines shown rest : List (Bor (List ℕ))) (first : Bor (List ℕ))
-    → map now lines ≡ lines_of script → shown ≡ lines → shown ≡ first ∷ rest
-    → lines_of script ≡ first.now ∷ map now rest
-lines_split script lines shown rest first read same split =
-    sym read ∙ ap (map now) (sym same) ∙ ap (map now) split
-
 -- what holds of a value that is there
 pub if_some : {T : Type 0} (P : T → Type 0) (o : Option T) (x : T) → IfSome o P → o ≡ Some x → P x
 if_some P o x holds e = subst (λ v. IfSome v P) e holds
@@ -135,11 +128,8 @@ pub if_none : {T : Type 0} (Q : Type 0) (o : Option T) → IfNone o Q → o ≡ 
 if_none Q o holds e = subst (λ v. IfNone v Q) e holds
 
 -- the lines are not none
-pub not_empty : (script : List ℕ) (lines shown : List (Bor (List ℕ)))
-    → map now lines ≡ lines_of script → shown ≡ lines → length shown ≡ 0 → ⊥
-not_empty script lines shown read same none =
+pub not_empty : (script : List ℕ) → lines_of script ≡ [] → ⊥
+not_empty script none =
     let some = some_line script in
-    let shown_len = ap length same in
-    let read_len = ap length read in
-    let mapped : length (map now lines) ≡ length lines = length-map lines now in
+    let count = ap length none in
     omega arith

@@ -7,9 +7,10 @@
 -- | `algorithm_named`           | `no_text`                        | Algorithms, Zone   |
 -- | `references`                | `kept_more`, `reference_utf8`    | Texts, References  |
 -- | `zone`, `zone_name`         | `zone_found`, `spelled_utf8`     | Zone               |
--- | `read_statements`           | `kept_statement`, `passes_more`  | Reading, Texts     |
+-- | `Lines::next`               | `cut_at`, `no_cut`               | Cuts               |
+-- | `read_statements`           | `one_read`, `first_silent`       | Reading            |
 -- | `calls_of`                  | `made_more`, `one_said`          | Reading            |
--- | `read_script`               | `lines_split`, `spell_each`      | Judging            |
+-- | `read_script`               | `line_next`, `spell_each`        | Judging            |
 -- | `answer`                    | `one_more`, `all_answered`       | Running            |
 -- | `run_script`, `well_formed` | `of_input`, `never_fault`        | Answering, Judging |
 -- | `run_script`, `begun`       | `begins`                         | Answering          |

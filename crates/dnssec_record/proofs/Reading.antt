@@ -1,19 +1,16 @@
 -- The lines of a script, one after another: what is kept of each, its end, and its calls.
 use Rattle.std.proofs.Common.{◌≡◌, ◌≢◌, ℕ, ◌+◌, ◌<◌, ◌==◌, if◌then◌else◌, Bool, true, false, Option}
 use Rattle.std.proofs.Common.{Some, None, is_some, List, [], ◌∷◌, ◌++◌, Bor, map, length, take}
-use Rattle.std.proofs.Common.{get_or, refl, sym, ap, ◌∙◌, arith}
-use Rattle.std.specs.List.{list_all}
+use Rattle.std.proofs.Common.{zero, suc, get_or, refl, sym, ap, ◌∙◌, arith, append_assoc, append-nil}
 use Rattle.std.proofs.lemmas.Bool.Decides.{nat_tests}
 use Rattle.std.specs.Option.{option_map}
-use Rattle.std.proofs.lemmas.List.{take_more, map_more, map-append, get_or-take, length-take-le}
-use denote.Bor.{now}
-use Rattle.dnssec_record.proofs.Texts.{text_at, shown_at, within_shown}
-use Rattle.std.proofs.lemmas.List.Sums.{AllPass-from_list_all}
+use Rattle.std.proofs.lemmas.List.{map_more, map-append}
 use Rattle.dnssec_run.specs.declared.call.Call.{Call}
-use Rattle.dnssec_record.specs.Script.{call_says, says, without_end}
+use Rattle.dnssec_record.specs.Script.{Value, call_says, first_field, says, without_end}
 use Rattle.dnssec_record.specs.Inner.Statement.{statement_says}
 use Rattle.dnssec_record.specs.Inner.Reading.{says_some, SilentFirst}
 use Rattle.dnssec_record.specs.declared.statement.Statement.{Statement}
+use Rattle.dnssec_record.specs.declared.words.Word.{Word}
 
 -- a line feed at the end is taken off, and no other byte
 pub without_end-last : (text : List ℕ) (b : ℕ)
@@ -60,42 +57,96 @@ pub spoken : (found : Option Statement) (line : List ℕ) (s : Statement)
     → Some (statement_says s) ≡ says line
 spoken found line s call_says some = ap (option_map statement_says) (sym some) ∙ call_says
 
--- the first line that says nothing
-pub first_silent : (xs : List (Bor (List ℕ))) (i : ℕ) → i < length xs
-    → list_all says_some (take i (map now xs)) ≡ true → false ≡ says_some (text_at xs i)
-    → SilentFirst (map now xs) i
-first_silent xs i within spoke silent = record {
-  within = within_shown xs i within;
-  silent = ap says_some (shown_at xs i within) ∙ sym silent;
-  before = λ k below.
-      let texts = within_shown xs i within in
-      let front = length-take-le i (map now xs) (omega arith) in
-      sym (ap says_some (get_or-take i (map now xs) k [] below))
-      ∙ AllPass-from_list_all says_some (take i (map now xs)) spoke k [] (omega arith);
-}
+head : {A : Type 0} (x y : A) (xs ys : List A) → x ∷ xs ≡ y ∷ ys → x ≡ y
+head x y xs ys e = cc
 
--- what the lines say, with one more
-pub says_more : (xs : List (Bor (List ℕ))) (i : ℕ) → i < length xs
-    → map says (take (i + 1) (map now xs)) ≡ map says (take i (map now xs))
-    ++ says (text_at xs i) ∷ []
-says_more xs i within =
-    ap (map says) (take_more (map now xs) i [] (within_shown xs i within))
-    ∙ map-append says (take i (map now xs)) _
-    ∙ ap (λ t. map says (take i (map now xs)) ++ says t ∷ []) (shown_at xs i within)
+tail : {A : Type 0} (x y : A) (xs ys : List A) → x ∷ xs ≡ y ∷ ys → xs ≡ ys
+tail x y xs ys e = cc
 
--- what was kept, with one statement more
-pub kept_statement : (xs : List (Bor (List ℕ))) (i : ℕ) (ss grown : List Statement)
-    (s : Statement)
-    → i < length xs → map Some (map statement_says ss) ≡ map says (take i (map now xs))
-    → grown ≡ ss ++ s ∷ [] → Some (statement_says s) ≡ says (text_at xs i)
-    → map Some (map statement_says grown) ≡ map says (take (i + 1) (map now xs))
-kept_statement xs i ss grown s within kept grows call_says =
-    ap (λ t. map Some (map statement_says t)) grows
-    ∙ ap (map Some) (map-append statement_says ss (s ∷ []))
-    ∙ map-append Some (map statement_says ss) (statement_says s ∷ [])
-    ∙ ap (λ t. t ++ Some (statement_says s) ∷ []) kept
-    ∙ ap (λ v. map says (take i (map now xs)) ++ v ∷ []) call_says
-    ∙ sym (says_more xs i within)
+some_same : {A : Type 0} (x y : A) → Some x ≡ Some y → x ≡ y
+some_same x y e = cc
+
+-- a line that says nothing is the first of them after lines that say what was read
+pub first_silent : (said : List (Word × List Value)) (lines left : List (List ℕ)) (line : List ℕ)
+    (rest : List (List ℕ)) → map Some said ++ map says left ≡ map says lines → left ≡ line ∷ rest
+    → false ≡ says_some line → SilentFirst lines (length said)
+first_silent [] [] left line rest read next none =
+    absurd (apart (sym (ap (map says) next) ∙ read))
+  where
+    apart : map says (line ∷ rest) ≡ [] → ⊥
+    apart e = cc
+first_silent [] (x ∷ xs) left line rest read next none =
+    let same : says line ≡ says x = head _ _ _ _ (sym (ap (map says) next) ∙ read) in
+    record {
+      within = omega arith;
+      silent = ap is_some (sym same) ∙ sym none;
+      before = λ k below. absurd (omega arith);
+    }
+first_silent (one ∷ said) [] left line rest read next none = cc
+first_silent (one ∷ said) (x ∷ xs) left line rest read next none =
+    let same : Some one ≡ says x = head _ _ _ _ read in
+    let later : SilentFirst xs (length said) =
+    first_silent said xs left line rest (tail _ _ _ _ read) next none in
+    record {
+      within = let within = later.within in omega arith;
+      silent = later.silent;
+      before = passed (sym (ap is_some same)) later.before;
+    }
+  where
+    passed : says_some x ≡ true
+        → ((k : ℕ) → k < length said → says_some (get_or xs k []) ≡ true)
+        → (k : ℕ) → k < suc (length said) → says_some (get_or (x ∷ xs) k []) ≡ true
+    passed here before zero below = here
+    passed here before (suc k) below = before k (omega arith)
+
+-- what was read, with one line more
+pub one_read : (ss grown : List Statement) (s : Statement) (lines left rest : List (List ℕ))
+    (line : List ℕ) → map Some (map statement_says ss) ++ map says left ≡ map says lines
+    → left ≡ line ∷ rest → grown ≡ ss ++ s ∷ [] → Some (statement_says s) ≡ says line
+    → map Some (map statement_says grown) ++ map says rest ≡ map says lines
+one_read ss grown s lines left rest line read next grows same =
+    ap (λ t. map Some (map statement_says t) ++ map says rest) grows
+    ∙ ap (λ t. map Some t ++ map says rest) (map-append statement_says ss (s ∷ []))
+    ∙ ap (λ t. t ++ map says rest)
+    (map-append Some (map statement_says ss) (statement_says s ∷ []))
+    ∙ append_assoc (map Some (map statement_says ss)) (Some (statement_says s) ∷ [])
+    (map says rest)
+    ∙ ap (λ v. map Some (map statement_says ss) ++ v ∷ map says rest) same
+    ∙ ap (λ t. map Some (map statement_says ss) ++ map says t) (sym next) ∙ read
+
+-- after the last line
+pub all_read : (ss : List Statement) (lines left : List (List ℕ))
+    → map Some (map statement_says ss) ++ map says left ≡ map says lines → left ≡ []
+    → map Some (map statement_says ss) ≡ map says lines
+all_read ss lines left read none =
+    sym (append-nil (map Some (map statement_says ss)))
+    ∙ ap (λ t. map Some (map statement_says ss) ++ map says t) (sym none) ∙ read
+
+-- a line that is found, and those after it
+abbrev found_line : Bor (List ℕ) × List (List ℕ) → List ℕ × List (List ℕ)
+found_line x = (x.0.now, x.1)
+
+-- the lines that a look at the next one finds
+pub line_next : (found : Option (Bor (List ℕ) × List (List ℕ))) (x : Bor (List ℕ))
+    (rest lines : List (List ℕ)) → option_map found_line found ≡ first_field lines
+    → found ≡ Some (x, rest) → lines ≡ x.now ∷ rest
+line_next found x rest [] read is = absurd (none_some (sym (ap (option_map found_line) is) ∙ read))
+  where
+    none_some : Some (found_line (x, rest)) ≡ None → ⊥
+    none_some e = cc
+line_next found x rest (line ∷ lines) read is = λ i. (sym same i).0 ∷ (sym same i).1
+  where
+    same : found_line (x, rest) ≡ (line, lines)
+    same = some_same _ _ (sym (ap (option_map found_line) is) ∙ read)
+
+-- and where it finds none
+pub line_none : (found : Option (Bor (List ℕ) × List (List ℕ))) (lines : List (List ℕ))
+    → option_map found_line found ≡ first_field lines → found ≡ None → lines ≡ []
+line_none found [] read is = refl
+line_none found (line ∷ lines) read is = absurd (apart _ (sym (ap (option_map found_line) is) ∙ read))
+  where
+    apart : (x : List ℕ × List (List ℕ)) → None ≡ Some x → ⊥
+    apart x e = cc
 
 -- what the statements say, with one more, whose call was made
 pub one_said : (ss : List Statement) (s : Statement) (i : ℕ) (call : Call) → i < length ss

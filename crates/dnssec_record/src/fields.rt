@@ -191,7 +191,7 @@ fn references<'a>(alloc: Global, texts: &[&'a [u8]]) -> Result<Option<Vec<&'a st
 }
 
 /// What stands between the separators.
-pub(crate) fn parts(alloc: Global, text: &[u8], separator: u8) -> Result<Vec<&[u8]>, AllocError>
+fn parts(alloc: Global, text: &[u8], separator: u8) -> Result<Vec<&[u8]>, AllocError>
     ensures { IfOk result (λ v. map now v.items ≡ slice_split (λ b. b == separator) text.now) }
 {
     text.split(|byte| *byte == separator).collect(alloc)

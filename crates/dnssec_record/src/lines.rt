@@ -1,23 +1,67 @@
 //! The lines of a script.
-ghost use Rattle.std.specs.Prelude.{◌≡◌, ℕ, List, map, IfOk, IfErr, IfSome, IfNone, Some};
-ghost use denote.Bor.{now};
+ghost use Rattle.std.specs.Prelude.{◌≡◌, ℕ, List, map, position, IfOk, IfErr, IfSome, IfNone, Some};
+ghost use Rattle.std.specs.Prelude.{◌==◌};
+ghost use Rattle.std.specs.Option.{option_map};
 ghost use Rattle.dnssec_base.specs.NameText as names;
 ghost use Rattle.dnssec_record.specs.Answer.{AnswerFault};
-ghost use Rattle.dnssec_record.specs.Script.{IsZoneLine, lines_of, says, without_end};
+ghost use Rattle.dnssec_record.specs.Script.{IsZoneLine, first_field, lines_of, says, without_end};
 ghost use Rattle.dnssec_record.specs.Inner.Statement.{statement_says};
 ghost use Rattle.dnssec_record.specs.Inner.Reading.{CallsFault, IsOfStatements};
 
 use crate::fault::ScriptFault;
-use crate::fields::parts;
 use crate::statement::{Statement, read_line};
 use dnssec_base::{Name, NameError};
 use std::alloc::{AllocError, Global};
+use std::marker::Model;
 
-/// The lines of a script.
-pub(crate) fn lines(alloc: Global, script: &[u8]) -> Result<Vec<&[u8]>, AllocError>
-    ensures { IfOk result (λ lines. map now lines.items ≡ lines_of script.now) }
+/// The lines of a script that haven't been read yet.
+#[derive(Drop)]
+struct Lines<'a> {
+    rest: Option<&'a [u8]>,
+}
+
+impl<'a> Model for Lines<'a> {
+    ghost use Rattle.std.specs.Prelude.{ℕ, List, [], ◌==◌};
+    ghost use Rattle.std.specs.List.{slice_split};
+    ghost use Rattle.std.specs.Option.{option_map_or};
+
+    ghost Value = { List (List ℕ) };
+
+    ghost view = { λ lines. option_map_or (λ rest. slice_split (λ b. b == 10) rest.now) lines.rest
+        [] };
+}
+
+impl<'a> Lines<'a> {
+    /// The lines of a script.
+    fn of(script: &'a [u8]) -> Self
+        ensures { result ≡ lines_of script.now }
+    {
+        Lines {
+            rest: Some(without_end(script)),
+        }
+    }
+
+    /// The next line, and those after it.
+    fn next(self) -> Option<(&'a [u8], Lines<'a>)>
+        ensures { option_map (λ x. (x.0.now, x.1)) result ≡ first_field self.entry }
+    {
+        let rest = self.rest?;
+        match line_feed(rest) {
+            Some(at) => Some((
+                &rest[..at],
+                Lines {
+                    rest: Some(&rest[at + 1..]),
+                },
+            )),
+            None => Some((rest, Lines { rest: None })),
+        }
+    }
+}
+
+fn line_feed(text: &[u8]) -> Option<usize>
+    ensures { result ≡ position (λ b. b == 10) text.now }
 {
-    parts(alloc, without_end(script), b'\n')
+    text.iter().position(|byte| *byte == b'\n')
 }
 
 /// The script without a line feed at its end.
@@ -58,17 +102,16 @@ fn zone_name(alloc: Global, text: &[u8]) -> Result<Option<Name<Vec<u8>>>, AllocE
     }
 }
 
-/// What the lines of a script say: the name of its zone, and a statement for each further line.
+/// What the lines of a script say: the name of its zone, and a statement for each further line. Each
+/// line is read in turn, so that of a malformed script nothing is kept but the statements before it.
 pub(crate) fn read_script<'a>(
     alloc: Global,
-    lines: &'a [&'a [u8]],
+    script: &'a [u8],
 ) -> Result<(Name<Vec<u8>>, Vec<Statement<'a>>), ScriptFault>
-    ensures ok { (script : List ℕ) → map now lines.now ≡ lines_of script →
-        IfOk result (λ read. IsOfStatements script read.0 read.1.items) }
-    ensures err { (script : List ℕ) → map now lines.now ≡ lines_of script →
-        IfErr result (AnswerFault script) }
+    ensures ok { IfOk result (λ read. IsOfStatements script.now read.0 read.1.items) }
+    ensures err { IfErr result (AnswerFault script.now) }
 {
-    let Some((first, rest)) = lines.split_first() else {
+    let Some((first, rest)) = Lines::of(script).next() else {
         return Err(ScriptFault::Malformed(1));
     };
     let Some(name) = zone(alloc, first)? else {
@@ -79,20 +122,19 @@ pub(crate) fn read_script<'a>(
 }
 
 /// What each of the lines says, which stand from line 2 on.
-fn read_statements<'a>(
-    alloc: Global,
-    lines: &'a [&'a [u8]],
-) -> Result<Vec<Statement<'a>>, ScriptFault>
+fn read_statements<'a>(alloc: Global, lines: Lines<'a>) -> Result<Vec<Statement<'a>>, ScriptFault>
     ensures ok { IfOk result (λ statements.
-        map Some (map statement_says statements.items) ≡ map says (map now lines.now)) }
-    ensures err { IfErr result (CallsFault (map now lines.now)) }
+        map Some (map statement_says statements.items) ≡ map says lines.entry) }
+    ensures err { IfErr result (CallsFault lines.entry) }
 {
+    let mut lines = lines;
     let mut statements = Vec::new(alloc);
-    for (index, line) in lines.iter().enumerate() {
+    while let Some((line, rest)) = lines.next() {
         match read_line(alloc, line)? {
             Some(statement) => statements.push(statement)?,
-            None => return Err(ScriptFault::Malformed(index + 2)),
+            None => return Err(ScriptFault::Malformed(statements.len() + 2)),
         }
+        lines = rest;
     }
     Ok(statements)
 }

@@ -13,7 +13,7 @@ ghost use Rattle.dnssec_record.specs.declared.fault.ScriptFault.TheVariants.{Dev
 use crate::answers::answer;
 use crate::device::{DeviceFault, Sink, Source};
 use crate::fault::ScriptFault;
-use crate::lines::{lines, read_script};
+use crate::lines::read_script;
 use crate::statement::calls_of;
 use dnssec_run::{Run, run};
 use std::alloc::Global;
@@ -121,8 +121,7 @@ fn answer_to(alloc: Global, script: &[u8]) -> Result<String, ScriptFault>
     ensures ok { IfOk result (λ text. IsAnswerOf script.now (string_bytes text)) }
     ensures err { IfErr result (AnswerFault script.now) }
 {
-    let lines = lines(alloc, script)?;
-    let (name, statements) = read_script(alloc, &lines)?;
+    let (name, statements) = read_script(alloc, script)?;
     let text = answer(alloc, name, &statements)?;
     Ok(text)
 }
@@ -146,8 +145,7 @@ pub fn record_script(alloc: Global, script: &[u8]) -> Result<Run, ScriptFault>
     ensures ok { IfOk result (λ run. IsRunOf script.now run.keyset run.entries.items) }
     ensures err { IfErr result (AnswerFault script.now) }
 {
-    let lines = lines(alloc, script)?;
-    let (name, statements) = read_script(alloc, &lines)?;
+    let (name, statements) = read_script(alloc, script)?;
     let calls = calls_of(alloc, &statements)?;
     let Ok(run) = run(alloc, name, calls) else {
         return Err(ScriptFault::OutOfMemory);

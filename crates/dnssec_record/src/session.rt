@@ -12,7 +12,7 @@ ghost use Rattle.dnssec_run.specs.declared.record.Entry.{Entry};
 use crate::answers::{push_answer, push_chain_line, push_published};
 use crate::courses::{Courses, Listed, Turn};
 use crate::fault::ScriptFault;
-use crate::lines::{lines, read_script, zone};
+use crate::lines::{read_script, zone};
 use crate::statement::{Statement, read_line};
 use dnssec_base::Name;
 use dnssec_judge::{Broken, Judge};
@@ -80,8 +80,7 @@ impl Session {
         ensures ok { IfOk result (Resumes script.now) }
         ensures err { IfErr result (AnswerFault script.now) }
     {
-        let lines = lines(alloc, script)?;
-        let (name, statements) = read_script(alloc, &lines)?;
+        let (name, statements) = read_script(alloc, script)?;
         Ok(Session::after(alloc, name, &statements)?)
     }
 

@@ -1,24 +1,36 @@
--- Each turn takes one line more.
-use Rattle.std.proofs.Common.{ap, refl}
-use Rattle.std.specs.Option.{is_some}
-use Rattle.dnssec_record.specs.Inner.Reading.{says_some}
-use Rattle.dnssec_record.proofs.Texts.{passes_more}
-use Rattle.dnssec_record.proofs.Reading.{silent, spoken, first_silent, kept_statement}
+-- Each turn reads one line more.
+use Rattle.std.proofs.Common.{◌≡◌, ◌+◌, ap, ◌∙◌, arith, length, map, sym}
+use Rattle.std.specs.Prelude.{vec_len}
+use Rattle.std.proofs.lemmas.List.{length-map}
+use Rattle.dnssec_record.specs.Inner.Statement.{statement_says}
+use Rattle.dnssec_record.proofs.Reading.{all_read, first_silent, line_next, line_none, one_read}
+use Rattle.dnssec_record.proofs.Reading.{silent, spoken}
 use Rattle.dnssec_record.proofs.lines.read_statements.Goals as goal
 
 pub returns-in-None-clause-err : goal.returns-in-None-clause-err
 returns-in-None-clause-err c =
-    let nothing = silent _ _ c.in_ok-statement.ensures c.in-None.is in (
-      c.loop-index.index,
-      refl,
-      first_silent _ _ c.loop-index-test.true c.loop-index.invariant.0 nothing,
+    let read = c.loop-line.statements in
+    let next = line_next c.next.result c.in-Some.line c.in-Some.rest c.loop-line.lines
+    c.next.ensures c.in-Some.is in
+    let count : length (map statement_says read.items) ≡ vec_len read =
+    omega (arith, length-map read.items statement_says, read.ok.0) in (
+      length (map statement_says read.items),
+      ap (λ n. n + 2) (c.len.ensures ∙ sym count),
+      first_silent (map statement_says read.items) c.args.lines c.loop-line.lines
+          c.in-Some.line.now c.in-Some.rest c.loop-line.invariant next
+          (silent _ _ c.in_ok-statement.ensures c.in-None.is),
     )
 
-pub loop-index-preserved : goal.loop-index-preserved
-loop-index-preserved c =
-    let inv = c.loop-index.invariant in
-    let within = c.loop-index-test.true in
-    let said = spoken _ _ c.in-Some.statement c.in_ok-statement.ensures c.in-Some.is in (
-      passes_more says_some _ _ within inv.0 (ap is_some said),
-      kept_statement _ _ _ _ _ within inv.1 c.in_ok-push-in-Some.ensures.items said,
-    )
+pub loop-line-preserved : goal.loop-line-preserved
+loop-line-preserved c =
+    let next = line_next c.next.result c.in-Some.line c.in-Some.rest c.loop-line.lines
+    c.next.ensures c.in-Some.is in
+    one_read c.loop-line.statements.items c.push.new.self.items c.in-Some-2.statement c.args.lines
+    c.loop-line.lines c.in-Some.rest c.in-Some.line.now c.loop-line.invariant next
+    c.in_ok-push-in-Some-2.ensures.items
+    (spoken _ _ c.in-Some-2.statement c.in_ok-statement.ensures c.in-Some-2.is)
+
+pub returns-clause-ok : goal.returns-clause-ok
+returns-clause-ok c =
+    all_read c.loop-line.statements.items c.args.lines c.loop-line.lines c.loop-line.invariant
+    (line_none c.next.result c.loop-line.lines c.next.ensures c.in_default.is)

@@ -1,15 +1,11 @@
 -- The session after a script is that after the statements of its lines.
-use Rattle.std.proofs.Common.{◌≡◌, sym, ap, ◌∙◌, map, subst}
-use denote.Bor.{now}
+use Rattle.std.proofs.Common.{subst, sym}
 use Rattle.dnssec_record.specs.Inner.Reading.{IsOfStatements}
-use Rattle.dnssec_record.specs.Script.{lines_of}
 use Rattle.dnssec_record.proofs.session.Session.resume.Goals as goal
 
 pub returns-clause-ok : goal.returns-clause-ok
 returns-clause-ok c =
     let script = c.args.script.now in
-    let read : map now c.deref.result.now ≡ lines_of script =
-    ap (map now) c.deref.ensures.value ∙ c.in_ok-lines.ensures in
     c.in_ok-after.ensures script
-    (subst (IsOfStatements script c.in_ok-name.name) (sym c.deref-2.ensures.value)
-    (c.in_ok-name.ensures.ok script read))
+    (subst (IsOfStatements script c.in_ok-name.name) (sym c.deref.ensures.value)
+    c.in_ok-name.ensures.ok)
