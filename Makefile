@@ -1,4 +1,4 @@
-# `make run` answers a script, `make build` makes the proved program, `make lib` the library for C,
+# `make run` answers a script, `make build` makes the proved programs, `make lib` the library for C,
 # Rust and Python, `make test` is the gate, `make live` rolls keys on real servers.
 
 SCRIPT ?= examples/algorithm-roll.script
@@ -29,9 +29,11 @@ run:
 		cd crates/keyset && rt try; \
 	fi <"$(SCRIPT)"
 
-# Proves the program and the crates below it, and builds it as crates/keyset/out/keyset.
+# Proves the programs and the crates below them, and builds them as crates/keyset/out/keyset and
+# crates/keyset_status/out/keyset_status.
 build:
 	@$(call prove,keyset,run <stdin)
+	@$(call prove,keyset_status,run <stdin)
 
 # Proves the library and the crates below it, and makes of it what callers link: library/out has an
 # archive, a shared object, their header and a file for pkg-config.

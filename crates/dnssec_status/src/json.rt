@@ -1,0 +1,72 @@
+//! Pieces of JSON, written after what is there.
+ghost use Rattle.std.specs.Prelude.{◌≡◌, ◌++◌, ◌<◌, OnOk, decimal};
+ghost use Rattle.dnssec_status.specs.Json.{escaped, flag_json, hex_digit, text_json};
+
+use std::alloc::{AllocError, Global};
+
+/// Writes bytes as they are.
+pub(crate) fn push_bytes(out: &mut Vec<u8>, bytes: &[u8]) -> Result<(), AllocError>
+    ensures { OnOk result (out.new.items ≡ out.old.items ++ bytes.now) }
+{
+    out.extend_from_slice(bytes)?;
+    Ok(())
+}
+
+/// Writes a text between quotes.
+#[tactic(auto, unfolding(crate::specs::Json::text_json))]
+pub(crate) fn push_text(out: &mut Vec<u8>, text: &[u8]) -> Result<(), AllocError>
+    ensures { OnOk result (out.new.items ≡ out.old.items ++ text_json text.now) }
+{
+    push_bytes(out, b"\"")?;
+    for byte in text {
+        push_escaped(out, *byte)?;
+    }
+    push_bytes(out, b"\"")
+}
+
+fn push_escaped(out: &mut Vec<u8>, byte: u8) -> Result<(), AllocError>
+    ensures { OnOk result (out.new.items ≡ out.old.items ++ escaped byte) }
+{
+    if byte == b'"' {
+        return push_bytes(out, b"\\\"");
+    }
+    if byte == b'\\' {
+        return push_bytes(out, b"\\\\");
+    }
+    if byte < 32 {
+        push_bytes(out, b"\\u00")?;
+        return push_bytes(out, &[hex_digit(byte / 16), hex_digit(byte % 16)]);
+    }
+    push_bytes(out, &[byte])
+}
+
+fn hex_digit(number: u8) -> u8
+    requires { number < 16 }
+    ensures { result ≡ hex_digit number }
+{
+    if number < 10 {
+        48 + number
+    } else {
+        87 + number
+    }
+}
+
+/// Writes a number.
+pub(crate) fn push_number(alloc: Global, out: &mut Vec<u8>, number: u128) -> Result<(), AllocError>
+    ensures { OnOk result (out.new.items ≡ out.old.items ++ decimal number) }
+{
+    let digits = format!(in alloc; "{number}")?;
+    push_bytes(out, digits.as_bytes())
+}
+
+/// Writes a flag.
+#[tactic(auto, unfolding(crate::specs::Json::flag_json))]
+pub(crate) fn push_flag(out: &mut Vec<u8>, flag: bool) -> Result<(), AllocError>
+    ensures { OnOk result (out.new.items ≡ out.old.items ++ flag_json flag) }
+{
+    if flag {
+        push_bytes(out, b"true")
+    } else {
+        push_bytes(out, b"false")
+    }
+}

@@ -1,0 +1,324 @@
+//! The keys of a status.
+ghost use Rattle.std.specs.Prelude.{◌≡◌, ◌++◌, OnOk, IfOk, codes, map, string_bytes};
+ghost use Rattle.std.specs.FinMap as fin;
+ghost use Rattle.std.specs.Option.{option_map};
+ghost use denote.Bor.{now};
+ghost use Rattle.dnssec_key.specs.declared.kind.KeyType.TheVariants as KeyType;
+ghost use Rattle.dnssec_record.specs.Courses.{as_listed};
+ghost use Rattle.dnssec_status.specs.Inner.Entries.{entry_json, entry_of};
+ghost use Rattle.dnssec_status.specs.Json.{array_json, further_json, option_json, text_json};
+ghost use Rattle.dnssec_status.specs.Keys.{end_json, flags_json, front_json, key_json, kind_json};
+ghost use Rattle.dnssec_status.specs.Keys.{role_json, roll_of, rolls_of, same_part, seconds};
+ghost use Rattle.dnssec_status.specs.Names.{roll_json};
+ghost use Rattle.dnssec_status.specs.Keys.{stamps_json, state_word, traits_json};
+ghost use Rattle.dnssec_zone.specs.Keys.{keys_in_map};
+
+use crate::json::{push_bytes, push_flag, push_number, push_text};
+use crate::names::push_roll_names;
+use dnssec_keyset::{Key, KeyState, KeyTimestamps, KeyType, RollType, UnixTime};
+use dnssec_record::{Listed, Part};
+use std::alloc::{AllocError, Global};
+use std::collections::HashMap;
+use std::time::Duration;
+
+/// The keys with their references, in the order of these.
+pub(crate) fn in_order(
+    alloc: Global,
+    keys: &HashMap<String, Key>,
+) -> Result<Vec<(&String, &Key)>, AllocError>
+    ensures { IfOk result (λ entries.
+        map entry_of entries.items ≡ fin.entries (keys_in_map keys.now)) }
+{
+    let Ok(mut entries) = keys.iter().collect::<Vec<_>>(alloc) else {
+        return Err(AllocError);
+    };
+    entries.sort_unstable_by(|one, other| one.0.cmp(other.0));
+    Ok(entries)
+}
+
+/// Writes the keys.
+#[tactic(auto, unfolding(crate::specs::Json::array_json))]
+pub(crate) fn push_keys(
+    alloc: Global,
+    out: &mut Vec<u8>,
+    listed: &[Listed],
+    entries: &[(&String, &Key)],
+) -> Result<(), AllocError>
+    ensures { OnOk result (out.new.items ≡ out.old.items
+        ++ array_json (entry_json (map as_listed listed.now)) entries.now) }
+{
+    match entries.split_first() {
+        None => push_bytes(out, b"[]"),
+        Some((first, rest)) => {
+            push_bytes(out, b"[")?;
+            push_key(alloc, out, listed, first.0, first.1)?;
+            push_further(alloc, out, listed, rest)?;
+            push_bytes(out, b"]")
+        }
+    }
+}
+
+#[tactic(auto, unfolding(crate::specs::Json::further_json))]
+fn push_further(
+    alloc: Global,
+    out: &mut Vec<u8>,
+    listed: &[Listed],
+    entries: &[(&String, &Key)],
+) -> Result<(), AllocError>
+    ensures { OnOk result (out.new.items ≡ out.old.items
+        ++ further_json (entry_json (map as_listed listed.now)) entries.now) }
+{
+    for entry in entries {
+        push_bytes(out, b",")?;
+        push_key(alloc, out, listed, entry.0, entry.1)?;
+    }
+    Ok(())
+}
+
+/// Writes a key at its reference.
+fn push_key(
+    alloc: Global,
+    out: &mut Vec<u8>,
+    listed: &[Listed],
+    reference: &String,
+    key: &Key,
+) -> Result<(), AllocError>
+    ensures { OnOk result (out.new.items ≡ out.old.items
+        ++ key_json (map as_listed listed.now) (string_bytes reference.now, key.now)) }
+{
+    push_front(alloc, out, reference, key)?;
+    push_end(alloc, out, listed, reference, key)
+}
+
+fn push_front(
+    alloc: Global,
+    out: &mut Vec<u8>,
+    reference: &String,
+    key: &Key,
+) -> Result<(), AllocError>
+    ensures { OnOk result (out.new.items ≡ out.old.items
+        ++ front_json (string_bytes reference.now) key.now) }
+{
+    push_bytes(out, b"{\"reference\":")?;
+    push_text(out, reference.as_bytes())?;
+    push_bytes(out, b",\"kind\":")?;
+    push_kind(out, key.keytype())?;
+    push_traits(alloc, out, key)?;
+    push_stamps(alloc, out, key.timestamps())
+}
+
+/// Writes whether a key may come in or be deleted, and its part in the rolls in progress.
+fn push_end(
+    alloc: Global,
+    out: &mut Vec<u8>,
+    listed: &[Listed],
+    reference: &String,
+    key: &Key,
+) -> Result<(), AllocError>
+    ensures { OnOk result (out.new.items ≡ out.old.items ++ end_json
+        (map as_listed listed.now) (string_bytes reference.now) key.now.keytype) }
+{
+    push_bytes(out, b",\"may_come_in\":")?;
+    push_flag(out, key.is_fresh())?;
+    push_bytes(out, b",\"may_be_deleted\":")?;
+    push_flag(out, key.is_stale())?;
+    push_bytes(out, b",\"old_in\":")?;
+    push_rolls_of(alloc, out, listed, Part::Old, reference)?;
+    push_bytes(out, b",\"new_in\":")?;
+    push_rolls_of(alloc, out, listed, Part::New, reference)?;
+    push_bytes(out, b"}")
+}
+
+/// Writes the names of the rolls that listed a key as this.
+fn push_rolls_of(
+    alloc: Global,
+    out: &mut Vec<u8>,
+    listed: &[Listed],
+    part: Part,
+    reference: &String,
+) -> Result<(), AllocError>
+    ensures { OnOk result (out.new.items ≡ out.old.items ++ array_json roll_json
+        (rolls_of part (string_bytes reference.now) (map as_listed listed.now))) }
+{
+    let rolls = rolls_of(alloc, listed, part, reference)?;
+    push_roll_names(out, &rolls)
+}
+
+/// The rolls that listed a key as this.
+#[tactic(auto, unfolding(crate::specs::Keys::rolls_of))]
+fn rolls_of(
+    alloc: Global,
+    listed: &[Listed],
+    part: Part,
+    reference: &String,
+) -> Result<Vec<RollType>, AllocError>
+    ensures { IfOk result (λ rolls. rolls.items
+        ≡ rolls_of part (string_bytes reference.now) (map as_listed listed.now)) }
+{
+    let mut rolls = Vec::new(alloc);
+    for key in listed {
+        note(&mut rolls, key, part, reference)?;
+    }
+    Ok(rolls)
+}
+
+fn note(
+    rolls: &mut Vec<RollType>,
+    key: &Listed,
+    part: Part,
+    reference: &String,
+) -> Result<(), AllocError>
+    ensures { OnOk result (rolls.new.items ≡ rolls.old.items
+        ++ roll_of part (string_bytes reference.now) (as_listed key.now)) }
+{
+    if same_part(part, key.part) && *reference == key.reference {
+        rolls.push(key.roll)?;
+    }
+    Ok(())
+}
+
+fn same_part(part: Part, other: Part) -> bool
+    ensures { result ≡ same_part part other }
+{
+    match (part, other) {
+        (Part::Old, Part::Old) | (Part::New, Part::New) => true,
+        (Part::Old, Part::New) | (Part::New, Part::Old) => false,
+    }
+}
+
+#[tactic(auto, unfolding(crate::specs::Keys::traits_json))]
+fn push_traits(alloc: Global, out: &mut Vec<u8>, key: &Key) -> Result<(), AllocError>
+    ensures { OnOk result (out.new.items ≡ out.old.items ++ traits_json key.now) }
+{
+    push_bytes(out, b",\"algorithm\":")?;
+    push_number(alloc, out, u128::from(key.algorithm().to_int()))?;
+    push_bytes(out, b",\"tag\":")?;
+    push_number(alloc, out, u128::from(key.key_tag()))?;
+    push_bytes(out, b",\"private\":")?;
+    push_private(out, key.privref())?;
+    push_bytes(out, b",\"decoupled\":")?;
+    push_flag(out, key.decoupled())
+}
+
+#[tactic(auto, unfolding(crate::specs::Json::option_json))]
+fn push_private(out: &mut Vec<u8>, privref: Option<&str>) -> Result<(), AllocError>
+    ensures { OnOk result (out.new.items ≡ out.old.items
+        ++ option_json text_json (option_map now privref.entry)) }
+{
+    match privref {
+        None => push_bytes(out, b"null"),
+        Some(text) => push_text(out, text.as_bytes()),
+    }
+}
+
+#[tactic(auto, unfolding(crate::specs::Keys::stamps_json))]
+fn push_stamps(alloc: Global, out: &mut Vec<u8>, stamps: &KeyTimestamps) -> Result<(), AllocError>
+    ensures { OnOk result (out.new.items ≡ out.old.items ++ stamps_json stamps.now) }
+{
+    push_bytes(out, b",\"creation\":")?;
+    push_stamp(alloc, out, stamps.creation())?;
+    push_bytes(out, b",\"published\":")?;
+    push_stamp(alloc, out, stamps.published())?;
+    push_bytes(out, b",\"visible\":")?;
+    push_stamp(alloc, out, stamps.visible())?;
+    push_bytes(out, b",\"ds_visible\":")?;
+    push_stamp(alloc, out, stamps.ds_visible())?;
+    push_bytes(out, b",\"rrsig_visible\":")?;
+    push_stamp(alloc, out, stamps.rrsig_visible())?;
+    push_bytes(out, b",\"withdrawn\":")?;
+    push_stamp(alloc, out, stamps.withdrawn())
+}
+
+#[tactic(auto, unfolding(crate::specs::Json::option_json))]
+fn push_stamp(alloc: Global, out: &mut Vec<u8>, stamp: Option<UnixTime>) -> Result<(), AllocError>
+    ensures { OnOk result (out.new.items ≡ out.old.items ++ option_json seconds stamp) }
+{
+    match stamp {
+        None => push_bytes(out, b"null"),
+        Some(moment) => {
+            let nanos = Duration::from(moment).as_nanos();
+            push_number(alloc, out, nanos / 1_000_000_000)
+        }
+    }
+}
+
+#[tactic(auto, unfolding(crate::specs::Keys::kind_json))]
+fn push_kind(out: &mut Vec<u8>, keytype: KeyType) -> Result<(), AllocError>
+    ensures { OnOk result (out.new.items ≡ out.old.items ++ kind_json keytype) }
+{
+    match keytype {
+        KeyType::Ksk(state) => push_only(out, b"\"ksk\",\"roles\":[", "ksk", state),
+        KeyType::Zsk(state) => push_only(out, b"\"zsk\",\"roles\":[", "zsk", state),
+        KeyType::Csk(ksk, zsk) => push_csk(out, ksk, zsk),
+        KeyType::Include(state) => push_only(out, b"\"public\",\"roles\":[", "public", state),
+    }
+}
+
+fn push_only(
+    out: &mut Vec<u8>,
+    before: &[u8],
+    role: &str,
+    state: KeyState,
+) -> Result<(), AllocError>
+    ensures { OnOk result (out.new.items ≡ out.old.items
+        ++ (before.now ++ role_json role.now state ++ codes "]")) }
+{
+    push_bytes(out, before)?;
+    push_role(out, role, state)?;
+    push_bytes(out, b"]")
+}
+
+fn push_csk(out: &mut Vec<u8>, ksk: KeyState, zsk: KeyState) -> Result<(), AllocError>
+    ensures { OnOk result (out.new.items ≡ out.old.items ++ kind_json (KeyType.Csk ksk zsk)) }
+{
+    push_bytes(out, b"\"csk\",\"roles\":[")?;
+    push_role(out, "ksk", ksk)?;
+    push_bytes(out, b",")?;
+    push_role(out, "zsk", zsk)?;
+    push_bytes(out, b"]")
+}
+
+#[tactic(auto, unfolding(crate::specs::Keys::role_json))]
+fn push_role(out: &mut Vec<u8>, role: &str, state: KeyState) -> Result<(), AllocError>
+    ensures { OnOk result (out.new.items ≡ out.old.items ++ role_json role.now state) }
+{
+    push_bytes(out, b"{\"role\":\"")?;
+    push_bytes(out, role.as_bytes())?;
+    push_bytes(out, b"\",\"state\":\"")?;
+    push_bytes(
+        out,
+        state_word(state.old(), state.signer(), state.present()).as_bytes(),
+    )?;
+    push_bytes(out, b"\"")?;
+    push_flags(out, state)?;
+    push_bytes(out, b"}")
+}
+
+#[tactic(auto, unfolding(crate::specs::Keys::state_word))]
+fn state_word(old: bool, signer: bool, present: bool) -> &'static str
+    ensures { result.now ≡ state_word old signer present }
+{
+    match (old, signer, present) {
+        (false, false, false) => "future",
+        (false, false, true) => "incoming",
+        (false, true, true) => "active",
+        (true, true, true) => "leaving",
+        (true, false, true) => "retired",
+        (true, false, false) => "stale",
+        (_, true, false) => "signer",
+    }
+}
+
+#[tactic(auto, unfolding(crate::specs::Keys::flags_json))]
+fn push_flags(out: &mut Vec<u8>, state: KeyState) -> Result<(), AllocError>
+    ensures { OnOk result (out.new.items ≡ out.old.items ++ flags_json state) }
+{
+    push_bytes(out, b",\"old\":")?;
+    push_flag(out, state.old())?;
+    push_bytes(out, b",\"signer\":")?;
+    push_flag(out, state.signer())?;
+    push_bytes(out, b",\"present\":")?;
+    push_flag(out, state.present())?;
+    push_bytes(out, b",\"at_parent\":")?;
+    push_flag(out, state.at_parent())
+}

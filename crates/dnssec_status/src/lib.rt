@@ -1,0 +1,120 @@
+//! The status of a zone, as JSON: where each key is, what is due, what comes next, and when.
+#![tactic(auto)]
+
+ghost use Rattle.std.specs.Prelude.{◌≡◌, ◌++◌, ℕ, List, IfOk, OnOk, codes, map, string_bytes};
+ghost use Rattle.dnssec_record.specs.Courses.{as_listed};
+ghost use Rattle.dnssec_record.specs.Session.{StandsAfter};
+ghost use Rattle.dnssec_run.specs.declared.call.Call.{Call};
+ghost use Rattle.dnssec_run.specs.declared.record.Entry.{Entry};
+ghost use Rattle.dnssec_status.specs.Inner.Entries.{entry_json};
+ghost use Rattle.dnssec_status.specs.Json.{array_json, text_json};
+ghost use Rattle.dnssec_status.specs.Rolls.{ended_json, going_json};
+ghost use Rattle.dnssec_status.specs.Sets.{chain_json, sets_json};
+ghost use Rattle.dnssec_status.specs.Status.{IsStatus};
+
+mod json;
+mod keys;
+mod names;
+mod rolls;
+mod sets;
+
+use crate::json::{push_bytes, push_text};
+use crate::keys::{in_order, push_keys};
+use crate::rolls::{Going, in_progress, push_ended, push_rolls};
+use crate::sets::{push_chain, push_sets};
+use dnssec_keyset::{Key, RollType};
+use dnssec_record::{Broken, Listed, Published, Session};
+use std::alloc::{AllocError, Global};
+
+/// The status of a zone after the calls of a session, as one line of JSON with its line feed.
+///
+/// Every member is always there, and what is missing is `null`. Moments are whole seconds. Keys
+/// stand in the order of their references' bytes, rolls in that of their kinds.
+///
+/// | Member | What |
+/// |---|---|
+/// | `zone` | its name |
+/// | `chain` | the verdict on the record |
+/// | `published` | the references of the four sets |
+/// | `keys` | each key: its kind and roles, what it was added with, its stamps, whether it may come in by a roll or be deleted, and the rolls in progress that listed it as old or new |
+/// | `rolls` | each roll in progress: its phase, the call that leaves it, the first second from which a wait is accepted, for whom it waits, and what is due |
+/// | `ended` | each roll that was ended early, with what that asked for, until a roll starts that may not go beside it |
+///
+/// # Errors
+///
+/// If there is no memory.
+///
+/// ```rust
+/// let text = status(alloc, &session)?;
+/// rt.stdout().write_all(&text)?;
+/// ```
+pub fn status(alloc: Global, session: &Session) -> Result<Vec<u8>, AllocError>
+    ensures { IfOk result (λ text. (name : List ℕ) (calls : List Call) (entries : List Entry) →
+        StandsAfter name calls entries session.now → IsStatus name calls entries text.items) }
+{
+    let mut out = Vec::new(alloc);
+    let keyset = session.keyset();
+    let zone = format!(in alloc; "{}", keyset.name())?;
+    push_zone(
+        alloc,
+        &mut out,
+        &zone,
+        session.verdict(),
+        session.published(),
+    )?;
+    let keys = in_order(alloc, keyset.keys())?;
+    let rolls = in_progress(alloc, keyset)?;
+    push_rest(
+        alloc,
+        &mut out,
+        session.listed(),
+        &keys,
+        &rolls,
+        session.ended_early(),
+    )?;
+    Ok(out)
+}
+
+/// Writes the zone, the verdict, and what is published.
+fn push_zone(
+    alloc: Global,
+    out: &mut Vec<u8>,
+    zone: &String,
+    verdict: Option<Broken>,
+    sets: &Published,
+) -> Result<(), AllocError>
+    ensures { OnOk result (out.new.items ≡ out.old.items
+        ++ (codes "{\"zone\":" ++ text_json (string_bytes zone.now)
+        ++ codes ",\"chain\":" ++ chain_json verdict
+        ++ codes ",\"published\":" ++ sets_json sets.now)) }
+{
+    push_bytes(out, b"{\"zone\":")?;
+    push_text(out, zone.as_bytes())?;
+    push_bytes(out, b",\"chain\":")?;
+    push_chain(alloc, out, verdict)?;
+    push_bytes(out, b",\"published\":")?;
+    push_sets(out, sets)
+}
+
+/// Writes the keys and the rolls.
+fn push_rest(
+    alloc: Global,
+    out: &mut Vec<u8>,
+    listed: &[Listed],
+    keys: &[(&String, &Key)],
+    rolls: &[Going],
+    ended: &[RollType],
+) -> Result<(), AllocError>
+    ensures { OnOk result (out.new.items ≡ out.old.items
+        ++ (codes ",\"keys\":" ++ array_json (entry_json (map as_listed listed.now)) keys.now
+        ++ codes ",\"rolls\":" ++ array_json going_json rolls.now
+        ++ codes ",\"ended\":" ++ array_json ended_json ended.now ++ codes "}\n")) }
+{
+    push_bytes(out, b",\"keys\":")?;
+    push_keys(alloc, out, listed, keys)?;
+    push_bytes(out, b",\"rolls\":")?;
+    push_rolls(alloc, out, rolls)?;
+    push_bytes(out, b",\"ended\":")?;
+    push_ended(out, ended)?;
+    push_bytes(out, b"}\n")
+}

@@ -1,0 +1,273 @@
+//! The rolls of a status.
+ghost use Rattle.std.specs.Prelude.{◌≡◌, ◌++◌, IfOk, OnOk, Some, decimal, map};
+ghost use Rattle.std.specs.List.{All, list_any};
+ghost use Rattle.dnssec_keyset.specs.WaitEnd.{TellsEnd};
+ghost use Rattle.dnssec_status.specs.Json.{array_json, further_json};
+ghost use Rattle.dnssec_status.specs.Rolls.{end_json, ended_json, going_json};
+ghost use Rattle.dnssec_status.specs.Rolls.{is_for_parent, next_second, parts_json, phase_json};
+ghost use Rattle.dnssec_status.specs.Rolls.{phase_pair, rolls_in_progress, waits_for};
+ghost use Rattle.dnssec_status.specs.Rolls.{with_its_phase};
+ghost use Rattle.dnssec_status.specs.declared.rolls.Going.{Going as GoingRoll};
+ghost use Rattle.dnssec_zone.specs.Rolls.{phase_of};
+
+use crate::json::{push_bytes, push_number};
+use crate::names::{push_actions, push_roll_name};
+use dnssec_keyset::{Action, KeySet, RollState, RollType, UnixTime, WaitEnd};
+use std::alloc::{AllocError, Global};
+use std::time::Duration;
+
+/// A roll in progress, and when its wait ends.
+#[derive(Clone, Copy)]
+pub(crate) struct Going {
+    pub(crate) roll: RollType,
+    pub(crate) phase: RollState,
+    pub(crate) end: Option<WaitEnd>,
+}
+
+/// The rolls in progress, in the order of their kinds.
+pub(crate) fn in_progress(alloc: Global, keyset: &KeySet) -> Result<Vec<Going>, AllocError>
+    ensures all { IfOk result (λ rolls.
+        map phase_pair rolls.items ≡ rolls_in_progress keyset.now) }
+    ensures ends { IfOk result (λ rolls.
+        All (λ (g : GoingRoll). TellsEnd g.roll keyset.now g.end) rolls.items) }
+{
+    let mut rolls = Vec::new(alloc);
+    note(&mut rolls, keyset, RollType::KskRoll)?;
+    note(&mut rolls, keyset, RollType::KskDoubleDsRoll)?;
+    note(&mut rolls, keyset, RollType::ZskRoll)?;
+    note(&mut rolls, keyset, RollType::ZskDoubleSignatureRoll)?;
+    note(&mut rolls, keyset, RollType::CskRoll)?;
+    note(&mut rolls, keyset, RollType::AlgorithmRoll)?;
+    Ok(rolls)
+}
+
+/// Notes a roll, if it is in progress.
+#[tactic(auto, unfolding(crate::specs::Rolls::with_its_phase))]
+fn note(rolls: &mut Vec<Going>, keyset: &KeySet, roll: RollType) -> Result<(), AllocError>
+    ensures all { OnOk result (map phase_pair rolls.new.items ≡ map phase_pair rolls.old.items
+        ++ with_its_phase roll (phase_of keyset.now.rolls roll)) }
+    ensures ends { OnOk result (
+        All (λ (g : GoingRoll). TellsEnd g.roll keyset.now g.end) rolls.old.items →
+        All (λ (g : GoingRoll). TellsEnd g.roll keyset.now g.end) rolls.new.items) }
+{
+    match keyset.rollstates().get(&roll) {
+        None => Ok(()),
+        Some(phase) => {
+            let end = keyset.wait_end(roll);
+            rolls.push(Going {
+                roll,
+                phase: *phase,
+                end,
+            })?;
+            Ok(())
+        }
+    }
+}
+
+/// Writes the rolls in progress.
+#[tactic(auto, unfolding(crate::specs::Json::array_json))]
+pub(crate) fn push_rolls(
+    alloc: Global,
+    out: &mut Vec<u8>,
+    rolls: &[Going],
+) -> Result<(), AllocError>
+    ensures { OnOk result (out.new.items ≡ out.old.items ++ array_json going_json rolls.now) }
+{
+    match rolls.split_first() {
+        None => push_bytes(out, b"[]"),
+        Some((first, rest)) => {
+            push_bytes(out, b"[")?;
+            push_roll(alloc, out, first)?;
+            push_further(alloc, out, rest)?;
+            push_bytes(out, b"]")
+        }
+    }
+}
+
+#[tactic(auto, unfolding(crate::specs::Json::further_json))]
+fn push_further(alloc: Global, out: &mut Vec<u8>, rolls: &[Going]) -> Result<(), AllocError>
+    ensures { OnOk result (out.new.items ≡ out.old.items ++ further_json going_json rolls.now) }
+{
+    for roll in rolls {
+        push_bytes(out, b",")?;
+        push_roll(alloc, out, roll)?;
+    }
+    Ok(())
+}
+
+#[tactic(auto, unfolding(crate::specs::Rolls::going_json))]
+fn push_roll(alloc: Global, out: &mut Vec<u8>, going: &Going) -> Result<(), AllocError>
+    ensures { OnOk result (out.new.items ≡ out.old.items ++ going_json going.now) }
+{
+    let due = going.roll.actions_in(going.phase);
+    push_parts(alloc, out, going.roll, going.phase, going.end, due)
+}
+
+fn push_parts(
+    alloc: Global,
+    out: &mut Vec<u8>,
+    roll: RollType,
+    phase: RollState,
+    end: Option<WaitEnd>,
+    due: &[Action],
+) -> Result<(), AllocError>
+    ensures { OnOk result (out.new.items ≡ out.old.items ++ parts_json roll phase end due.now) }
+{
+    push_bytes(out, b"{\"roll\":")?;
+    push_roll_name(out, roll)?;
+    push_phase(alloc, out, phase)?;
+    push_bytes(out, b",\"not_before\":")?;
+    push_end(alloc, out, end)?;
+    push_bytes(out, b",\"waits_for\":")?;
+    push_waits_for(out, phase, due)?;
+    push_bytes(out, b",\"due\":")?;
+    push_actions(out, due)?;
+    push_bytes(out, b"}")
+}
+
+fn push_phase(alloc: Global, out: &mut Vec<u8>, phase: RollState) -> Result<(), AllocError>
+    ensures { OnOk result (out.new.items ≡ out.old.items ++ phase_json phase) }
+{
+    match phase {
+        RollState::Propagation1 => push_bytes(
+            out,
+            b",\"phase\":\"propagation1\",\"ttl\":null,\"next\":\"report1\"",
+        ),
+        RollState::CacheExpire1(ttl) => push_ttl(
+            alloc,
+            out,
+            b",\"phase\":\"cache-expire1\",\"ttl\":",
+            ttl,
+            b",\"next\":\"wait1\"",
+        ),
+        RollState::Propagation2 => push_bytes(
+            out,
+            b",\"phase\":\"propagation2\",\"ttl\":null,\"next\":\"report2\"",
+        ),
+        RollState::CacheExpire2(ttl) => push_ttl(
+            alloc,
+            out,
+            b",\"phase\":\"cache-expire2\",\"ttl\":",
+            ttl,
+            b",\"next\":\"wait2\"",
+        ),
+        RollState::Done => push_bytes(out, b",\"phase\":\"done\",\"ttl\":null,\"next\":\"done\""),
+    }
+}
+
+fn push_ttl(
+    alloc: Global,
+    out: &mut Vec<u8>,
+    before: &[u8],
+    ttl: u32,
+    after: &[u8],
+) -> Result<(), AllocError>
+    ensures { OnOk result (out.new.items
+        ≡ out.old.items ++ (before.now ++ decimal ttl ++ after.now)) }
+{
+    push_bytes(out, before)?;
+    push_number(alloc, out, u128::from(ttl))?;
+    push_bytes(out, after)
+}
+
+/// Writes the first whole second from which a wait is accepted.
+#[tactic(auto, unfolding(crate::specs::Rolls::end_json))]
+fn push_end(alloc: Global, out: &mut Vec<u8>, end: Option<WaitEnd>) -> Result<(), AllocError>
+    ensures { OnOk result (out.new.items ≡ out.old.items ++ end_json end) }
+{
+    match end {
+        None => push_bytes(out, b"null"),
+        Some(end) => push_wait_end(alloc, out, &end),
+    }
+}
+
+#[tactic(auto, unfolding(crate::specs::Rolls::end_json))]
+fn push_wait_end(alloc: Global, out: &mut Vec<u8>, end: &WaitEnd) -> Result<(), AllocError>
+    ensures { OnOk result (out.new.items ≡ out.old.items ++ end_json (Some end.now)) }
+{
+    match end {
+        WaitEnd::PastTime => push_bytes(out, b"null"),
+        WaitEnd::At(moment) => push_next_second(alloc, out, moment),
+    }
+}
+
+#[tactic(auto, unfolding(crate::specs::Rolls::next_second))]
+fn push_next_second(alloc: Global, out: &mut Vec<u8>, moment: &UnixTime) -> Result<(), AllocError>
+    ensures { OnOk result (out.new.items ≡ out.old.items ++ next_second moment.now) }
+{
+    let nanos = Duration::from(*moment).as_nanos();
+    push_number(alloc, out, (nanos + 999_999_999) / 1_000_000_000)
+}
+
+/// Writes for whom a roll waits.
+#[tactic(auto, unfolding(crate::specs::Rolls::waits_for))]
+fn push_waits_for(out: &mut Vec<u8>, phase: RollState, due: &[Action]) -> Result<(), AllocError>
+    ensures { OnOk result (out.new.items ≡ out.old.items ++ waits_for phase due.now) }
+{
+    match phase {
+        RollState::CacheExpire1(_) | RollState::CacheExpire2(_) => push_bytes(out, b"\"caches\""),
+        RollState::Propagation1 | RollState::Propagation2 | RollState::Done => {
+            if has_parent_action(due) {
+                push_bytes(out, b"\"parent\"")
+            } else {
+                push_bytes(out, b"\"you\"")
+            }
+        }
+    }
+}
+
+/// Whether some action is for the parent.
+fn has_parent_action(due: &[Action]) -> bool
+    ensures { result ≡ list_any is_for_parent due.now }
+{
+    for action in due {
+        if is_for_parent(*action) {
+            return true;
+        }
+    }
+    false
+}
+
+fn is_for_parent(action: Action) -> bool
+    ensures { result ≡ is_for_parent action }
+{
+    matches!(action, Action::UpdateDsRrset)
+}
+
+/// Writes the rolls that were ended early.
+#[tactic(auto, unfolding(crate::specs::Json::array_json))]
+pub(crate) fn push_ended(out: &mut Vec<u8>, rolls: &[RollType]) -> Result<(), AllocError>
+    ensures { OnOk result (out.new.items ≡ out.old.items ++ array_json ended_json rolls.now) }
+{
+    match rolls.split_first() {
+        None => push_bytes(out, b"[]"),
+        Some((first, rest)) => {
+            push_bytes(out, b"[")?;
+            push_end_of(out, *first)?;
+            push_further_ended(out, rest)?;
+            push_bytes(out, b"]")
+        }
+    }
+}
+
+#[tactic(auto, unfolding(crate::specs::Json::further_json))]
+fn push_further_ended(out: &mut Vec<u8>, rolls: &[RollType]) -> Result<(), AllocError>
+    ensures { OnOk result (out.new.items ≡ out.old.items ++ further_json ended_json rolls.now) }
+{
+    for roll in rolls {
+        push_bytes(out, b",")?;
+        push_end_of(out, *roll)?;
+    }
+    Ok(())
+}
+
+#[tactic(auto, unfolding(crate::specs::Rolls::ended_json))]
+fn push_end_of(out: &mut Vec<u8>, roll: RollType) -> Result<(), AllocError>
+    ensures { OnOk result (out.new.items ≡ out.old.items ++ ended_json roll) }
+{
+    push_bytes(out, b"{\"roll\":")?;
+    push_roll_name(out, roll)?;
+    push_bytes(out, b",\"asked\":")?;
+    push_actions(out, roll.asks_at_early_end())?;
+    push_bytes(out, b"}")
+}

@@ -1,0 +1,85 @@
+//! The published sets and the verdict of a status.
+ghost use Rattle.std.specs.Prelude.{◌≡◌, ◌++◌, Some, OnOk};
+ghost use Rattle.dnssec_status.specs.Json.{array_json, further_json, text_json};
+ghost use Rattle.dnssec_status.specs.Sets.{chain_json, published_json, sets_json};
+
+use crate::json::{push_bytes, push_number, push_text};
+use dnssec_record::{Broken, Published, PublishedKey};
+use std::alloc::{AllocError, Global};
+
+/// Writes the four sets.
+#[tactic(auto, unfolding(crate::specs::Sets::sets_json))]
+pub(crate) fn push_sets(out: &mut Vec<u8>, sets: &Published) -> Result<(), AllocError>
+    ensures { OnOk result (out.new.items ≡ out.old.items ++ sets_json sets.now) }
+{
+    push_bytes(out, b"{\"ds\":")?;
+    push_set(out, &sets.ds)?;
+    push_bytes(out, b",\"dnskey\":")?;
+    push_set(out, &sets.dnskey)?;
+    push_bytes(out, b",\"signers\":")?;
+    push_set(out, &sets.dnskey_signers)?;
+    push_bytes(out, b",\"zone\":")?;
+    push_set(out, &sets.zone_signers)?;
+    push_bytes(out, b"}")
+}
+
+#[tactic(auto, unfolding(crate::specs::Json::array_json))]
+fn push_set(out: &mut Vec<u8>, keys: &[PublishedKey]) -> Result<(), AllocError>
+    ensures { OnOk result (out.new.items ≡ out.old.items
+        ++ array_json published_json keys.now) }
+{
+    match keys.split_first() {
+        None => push_bytes(out, b"[]"),
+        Some((first, rest)) => {
+            push_bytes(out, b"[")?;
+            push_text(out, first.reference.as_bytes())?;
+            push_further(out, rest)?;
+            push_bytes(out, b"]")
+        }
+    }
+}
+
+#[tactic(auto, unfolding(crate::specs::Json::further_json))]
+fn push_further(out: &mut Vec<u8>, keys: &[PublishedKey]) -> Result<(), AllocError>
+    ensures { OnOk result (out.new.items ≡ out.old.items
+        ++ further_json published_json keys.now) }
+{
+    for key in keys {
+        push_bytes(out, b",")?;
+        push_text(out, key.reference.as_bytes())?;
+    }
+    Ok(())
+}
+
+/// Writes the verdict.
+#[tactic(auto, unfolding(crate::specs::Sets::chain_json))]
+pub(crate) fn push_chain(
+    alloc: Global,
+    out: &mut Vec<u8>,
+    verdict: Option<Broken>,
+) -> Result<(), AllocError>
+    ensures { OnOk result (out.new.items ≡ out.old.items ++ chain_json verdict) }
+{
+    match verdict {
+        None => push_bytes(
+            out,
+            b"{\"safe\":true,\"at\":null,\"ds\":null,\"dnskey\":null,\"zone\":null}",
+        ),
+        Some(broken) => push_broken(alloc, out, &broken),
+    }
+}
+
+#[tactic(auto, unfolding(crate::specs::Sets::chain_json))]
+fn push_broken(alloc: Global, out: &mut Vec<u8>, broken: &Broken) -> Result<(), AllocError>
+    ensures { OnOk result (out.new.items ≡ out.old.items ++ chain_json (Some broken.now)) }
+{
+    push_bytes(out, b"{\"safe\":false,\"at\":")?;
+    push_number(alloc, out, broken.at as u128)?;
+    push_bytes(out, b",\"ds\":")?;
+    push_number(alloc, out, broken.ds as u128)?;
+    push_bytes(out, b",\"dnskey\":")?;
+    push_number(alloc, out, broken.dnskey as u128)?;
+    push_bytes(out, b",\"zone\":")?;
+    push_number(alloc, out, broken.zone as u128)?;
+    push_bytes(out, b"}")
+}
