@@ -44,12 +44,6 @@ def data_of(answer, kind):
     }
 
 
-def ttl_of(answer, kind):
-    """The TTL of a set in an answer, or None."""
-    number = dns.rdatatype.from_text(kind)
-    return next((rrset.ttl for rrset in answer.answer if rrset.rdtype == number), None)
-
-
 async def watch(servers, port, zone, kind, is_so, what):
     """Asks the servers one by one, until each gives what is awaited."""
     until = time.monotonic() + PATIENCE

@@ -131,7 +131,7 @@ class Signing:
     def __init__(self, folder, zone, providers, letter=""):
         self.folder, self.zone, self.providers = folder, zone, providers
         self.numbers = (f"{letter}{number}" for number in itertools.count())
-        self.last = []
+        self.last, self.lifetime = [], 24 * 3600
 
     async def text(self, version):
         """The zone's file with the signatures that a version asks for. Of a key that is lost the
@@ -165,6 +165,6 @@ class Signing:
             return records
         await run(
             self.folder, "dnssec-signzone", "-q", "-z", "-P", "-O", "full", "-o", self.zone,
-            "-f", str(result), str(source), *able,
+            "-e", f"now+{self.lifetime}", "-f", str(result), str(source), *able,
         )
         return [line for line in result.read_text().splitlines() if not line.startswith(";")]

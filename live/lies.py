@@ -68,6 +68,7 @@ def lying(name, roll):
     """Rolls with a lie, in a zone with TTLs by which it shows."""
 
     async def scene(zone):
+        zone.reads_cds = False
         zone.ttls.zone, zone.ttls.dnskey, zone.ttls.ds = 3, 2, 2
         setattr(zone.ttls, long_kind(name, roll), LONG)
         provider = await first_keys(zone, "K1", "Z1")
@@ -98,7 +99,17 @@ async def ds_of_one_signer(zone):
     await Roll(a, ALGORITHM).whole([], ["K1", "Z1"])
 
 
-LYING = {f"{name}-{lie}": lying(name, roll) for lie, roll in LIES.items() for name in KEYS}
+async def signatures_not_renewed(zone):
+    provider = await first_keys(zone, "K1", "Z1")
+    provider.signing.lifetime = 10
+    await provider.publish()
+    await asyncio.sleep(12)
+
+
+LYING = {
+    **{f"{name}-{lie}": lying(name, roll) for lie, roll in LIES.items() for name in KEYS},
+    "signatures-not-renewed": signatures_not_renewed,
+}
 LYING_TWO = {
     "two-ttl-of-the-other-left-out": ttl_of_the_other,
     "two-ds-of-one-signer-too-early": ds_of_one_signer,

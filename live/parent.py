@@ -2,7 +2,7 @@
 
 import asyncio
 
-from asking import data_of, ttl_of, watch
+from asking import data_of, watch
 from keys import make_key, run
 from places import CHILD, PARENT
 
@@ -49,17 +49,21 @@ class Parent:
         )
         return result.read_text()
 
-    async def change(self, zone, keys, ttl):
-        """Has the DS set of a zone be that of these keys."""
+    async def change(self, zone, data, ttl):
+        """Publishes the DS set of a zone."""
         async with self.lock:
-            self.ds[zone] = sorted(key.ds for key in keys), ttl
+            self.ds[zone] = sorted(data), ttl
             self.fleet.publish(PARENT, ".", await self.text())
 
     async def watch(self, zone):
-        """Watches until all servers give the DS set that was asked for last."""
-        data, ttl = self.ds[zone]
+        """Watches until all servers give the DS set of now, or of a later version."""
+        serial = self.serial
+
+        def has_serial(answer):
+            return any(int(text.split()[2]) >= serial for text in data_of(answer, "SOA"))
 
         def has_set(answer):
-            return data_of(answer, "DS") == set(data) and ttl_of(answer, "DS") in (None, ttl)
+            return data_of(answer, "DS") == set(self.ds[zone][0])
 
+        await watch(PARENT, self.port, ".", "SOA", has_serial, f"version {serial}")
         await watch(PARENT, self.port, zone, "DS", has_set, "the new DS set")

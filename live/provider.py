@@ -12,8 +12,6 @@ KINDS = {"K": "ksk", "Z": "zsk", "C": "csk"}
 UPDATES = {
     "UpdateDnskeyRrset": "dnskey",
     "UpdateRrsig": "zone",
-    "CreateCdsRrset": "cds",
-    "RemoveCdsRrset": "cds",
 }
 
 
@@ -28,15 +26,20 @@ class Provider:
 
     def __init__(self, zone, servers, letter=""):
         self.zone, self.servers, self.letter = zone, servers, letter
-        self.script = Script(zone.world.keyset, zone.name.rstrip("."))
+        self.begin_script()
         self.keys, self.notes = {}, Notes()
         # Each of two signers chooses TTLs of its own.
         self.ttls = Ttls.any(zone.dice) if letter else zone.ttls
         self.signing = Signing(zone.folder, zone.name, zone.letters, letter)
         self.version = Version(1, zone.ttls.zone, zone.ttls.zone)
         self.versions, self.publishing = {}, asyncio.Lock()
+        # Whether the DNSKEY TTL must not rise.
+        self.is_steady = False
         self.note_version()
         zone.providers.append(self)
+
+    def begin_script(self):
+        self.script = Script(self.zone.world.keyset, self.zone.name.rstrip("."))
 
     # Keys
 
@@ -113,14 +116,18 @@ class Provider:
     async def act(self, actions):
         """Does what an answer asks: publishes it in one version, and has the parent changed."""
         kinds = [kind for action, kind in UPDATES.items() if action in actions]
+        before = self.zone.cds
         if "CreateCdsRrset" in actions:
             await self.take_cds_out()
-            self.zone.cds = self.zone.ds_keys()
+            # Without a key that can sign them the parent is told by another way.
+            if not any(key.lost for key in self.version.signers):
+                self.zone.cds = self.zone.ds_keys()
         if "RemoveCdsRrset" in actions:
             self.zone.cds = None
-        if kinds:
+        is_of_cds = self.zone.cds != before
+        if kinds or is_of_cds:
             await self.publish(*kinds)
-        if "cds" in kinds:
+        if is_of_cds:
             for other in self.others():
                 await other.publish()
         if "UpdateDsRrset" in actions:
@@ -189,8 +196,8 @@ class Provider:
         counted = self.zone.providers if kind == "dnskey" else [self]
         return max(provider.notes.highest(kind, moment) for provider in counted)
 
-    def present(self, kind):
-        """The TTL of the set that is published now."""
-        if kind == "ds":
-            return self.zone.ttls.ds
-        return max(provider.version.dnskey_ttl for provider in self.zone.providers)
+    def sum_of_ds_and_dnskey(self, moment):
+        """The TTL to report if a validator may check a DNSKEY set by an old DS set once more: that
+        of the present DNSKEY set counts too."""
+        present = (provider.version.dnskey_ttl for provider in self.zone.providers)
+        return self.highest("ds", moment) + max(self.highest("dnskey", moment), *present)

@@ -17,6 +17,11 @@ def spoken_of(actions):
     ]
 
 
+async def at_moment(moment):
+    """Waits until the clock has reached a moment."""
+    await asyncio.sleep(max(0, moment - time.time()) + 0.01)
+
+
 class Roll:
     """One roll of a provider. Before a call that has the parent changed it takes the turn of the
     zone, and gives it back when CDS is out again."""
@@ -55,9 +60,9 @@ class Roll:
         """Reports once the clock has reached the moment (rule 2), with the TTL of rule 1."""
         if not spoken_of(self.actions):
             return
-        moment = rounded_up()
-        await asyncio.sleep(max(0, moment - time.time()))
-        self.moment = moment
+        self.moment = moment = rounded_up()
+        await at_moment(moment)
+        self.provider.is_steady = self.is_last_of_algorithm(number)
         self.reported = self.ttl(number, moment) if ttl is None else ttl
         self.provider.call(
             f"report{number} {self.name} {self.reported} {moment}", self.may_break
@@ -72,7 +77,9 @@ class Roll:
         """Asks again until the wait is over."""
         while True:
             try:
-                return await self.make(lambda: f"wait{number} {self.name} {rounded_down()}")
+                await self.make(lambda: f"wait{number} {self.name} {rounded_down()}")
+                self.provider.is_steady = False
+                return
             except Refused as refused:
                 await self.sleep(str(refused))
 
@@ -82,7 +89,7 @@ class Roll:
         if not early:
             raise Refused(refused)
         moment = rounded_down() + int(seconds.rstrip("s"))
-        await asyncio.sleep(max(0, moment - time.time()) + 0.01)
+        await at_moment(moment)
 
     async def done(self):
         self.provider.call(f"done {self.name}", self.may_break)
@@ -131,11 +138,14 @@ class Roll:
             self.zone.turn.release()
             self.has_turn = False
 
+    def is_last_of_algorithm(self, number):
+        """Whether a report is the second one of a roll by which old algorithms may leave."""
+        return self.name == ALGORITHM and number == 2 and bool(self.old)
+
     def ttl(self, number, moment):
         """The highest TTL of what the report speaks of; when old algorithms leave, the sum of the
         DS TTL and the DNSKEY TTL, the present one too."""
         provider = self.provider
-        if self.name == ALGORITHM and number == 2 and self.old:
-            dnskey = max(provider.highest("dnskey", moment), provider.present("dnskey"))
-            return provider.highest("ds", moment) + dnskey
+        if self.is_last_of_algorithm(number):
+            return provider.sum_of_ds_and_dnskey(moment)
         return max(provider.highest(kind, moment) for kind in spoken_of(self.actions))

@@ -42,6 +42,7 @@ async def play(zone, scene):
     anything did."""
     clients, wrong = zone.clients, None
     await clients.begin()
+    reading = asyncio.ensure_future(zone.read_cds())
     try:
         await asyncio.sleep(1)
         await scene.play(zone)
@@ -49,6 +50,7 @@ async def play(zone, scene):
     except Exception as error:
         wrong = f"{type(error).__name__}: {error}"
     finally:
+        reading.cancel()
         await clients.end()
     if wrong is None and scene.is_lie != bool(clients.faults):
         wrong = "no failure was seen" if scene.is_lie else "clients saw faults"

@@ -2,6 +2,7 @@
 
 from typing import Callable, NamedTuple
 
+import emergencies
 import one_signer
 import two_signers
 from lies import LYING, LYING_TWO
@@ -29,6 +30,7 @@ SCENES = [
     *(Scene(name, play, "A", True) for name, play in LYING.items()),
     *(Scene(name, play, "AB", True) for name, play in LYING_TWO.items()),
     *(Scene(name, play, "A", False) for name, play in one_signer.HONEST.items()),
+    *(Scene(name, play, "A", False) for name, play in emergencies.HONEST.items()),
     *(Scene(name, play, "AB", False) for name, play in two_signers.HONEST.items()),
 ]
 

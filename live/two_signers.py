@@ -3,7 +3,8 @@
 
 import asyncio
 
-from one_signer import CSK, KSK, ZSK, DOUBLE_SIGNATURE, hold_back, start_unsigned
+from emergencies import restless
+from one_signer import CSK, DOUBLE_SIGNATURE, KEYS, KSK, ZSK, hold_back, start_unsigned
 from places import CHILD
 from provider import Provider
 from rolls import ALGORITHM, DOUBLE_DS, Roll
@@ -213,7 +214,50 @@ async def leave(a, b):
     await b.take_out(*(key for key in b.version.dnskey if not b.is_own(key)))
 
 
+async def changing_ttls(zone):
+    """Both roll at once while their TTLs rise and fall."""
+    a, b = await in_step_keys(zone, "K1", "Z1")
+    async with restless(a), restless(b):
+        await asyncio.gather(
+            roll_of_one(a, b, ZSK, ["Z1"], ["Z2"]), roll_of_one(b, a, KSK, ["K1"], ["K2"])
+        )
+        await asyncio.gather(
+            roll_of_one(a, b, KSK, ["K1"], ["K2"]), roll_of_one(b, a, ZSK, ["Z1"], ["Z2"])
+        )
+
+
+def ended_early(name):
+    """A roll of A that is ended early, and begun anew with another key, while B rolls its KSK."""
+
+    async def scene(zone):
+        a, b = await in_step_keys(zone, "K1", "Z1")
+        await b.make("K2")
+        await asyncio.gather(
+            early_and_anew(a, b, name), Roll(b, KSK).whole(["K1"], ["K2"])
+        )
+
+    return scene
+
+
+async def early_and_anew(a, b, name):
+    old, new, third = KEYS[name]
+    await a.make(*new)
+    keys = shared(a, new)
+    if keys:
+        await b.take_in(*keys)
+    roll = Roll(a, name)
+    await roll.start(old, new)
+    await roll.abort()
+    for ref in new:
+        a.call(f"set-stale {a.named(ref)}")
+    if keys:
+        await b.take_out(*keys)
+    await roll_of_one(a, b, name, old, third)
+
+
 HONEST = {
+    "two-changing-ttls": changing_ttls,
+    **{f"two-{name}-ended-early": ended_early(name) for name in (ZSK, DOUBLE_DS, CSK)},
     "two-in-step-and-unsigned": in_step_and_unsigned,
     "two-rolls-of-each": rolls_of_each,
     "two-csk-rolls-of-each": csk_rolls_of_each,

@@ -6,8 +6,13 @@ import time
 from dataclasses import dataclass
 from typing import Optional
 
+from asking import PATIENCE, ask, data_of, tags_of
 from parent import NEGATIVE
 from places import CHILD
+from processes import Failed
+
+# The CDS record that asks to delete the DS set (RFC 8078, section 4).
+DELETE = "0 0 0 00"
 
 
 @dataclass
@@ -67,6 +72,7 @@ class Zone:
         self.notes, self.serials, self.ds_number = Notes(), itertools.count(2), 0
         self.notes.published("ds", NEGATIVE, 0)
         self.cds, self.turn = None, asyncio.Lock()
+        self.reads_cds, self.wanted = dice.random() < 0.5, set()
         self.folder = world.folder / f"keys-{name.rstrip('.')}"
         self.folder.mkdir()
 
@@ -84,14 +90,49 @@ class Zone:
         before."""
         self.clients.secure_from = time.time() + self.longest() + 3
 
+    # The parent
+
     async def change_ds(self, keys):
-        """Has the parent's DS set changed, which the parent does after a while."""
-        await asyncio.sleep(self.dice.uniform(0, 1))
+        """Has the parent's DS set changed to these keys: the parent reads CDS, or, also where it
+        can't, is told by another way, and does it after a while."""
+        self.wanted = {key.ds for key in keys}
+        if not (self.reads_cds and self.cds is not None and self.ds()):
+            await asyncio.sleep(self.dice.uniform(0, 1))
+            await self.publish_ds(self.wanted)
+
+    def ds(self):
+        """The DS set of the parent."""
+        return set(self.world.parent.ds.get(self.name, ((), 0))[0])
+
+    async def publish_ds(self, data):
+        """The parent publishes a DS set; again the same, with the TTL of now."""
         self.ds_number += 1
-        ttl = self.ttls.ds if keys else NEGATIVE
+        ttl = self.ttls.ds if data else NEGATIVE
         self.notes.published("ds", ttl, self.ds_number)
-        await self.world.parent.change(self.name, keys, ttl)
+        await self.world.parent.change(self.name, data, ttl)
 
     async def watch_ds(self):
+        """Watches until the parent has acted, and all its servers give the new DS set."""
+        until = time.monotonic() + PATIENCE
+        while self.ds() != self.wanted:
+            if time.monotonic() > until:
+                raise Failed(f"the parent doesn't take {self.wanted} from CDS of {self.name}")
+            await asyncio.sleep(0.1)
+        number = self.ds_number
         await self.world.parent.watch(self.name)
-        self.notes.seen("ds", self.ds_number)
+        self.notes.seen("ds", number)
+
+    async def read_cds(self):
+        """The parent reads CDS of one of the servers now and then. It takes them if a key signs
+        them that is in the DS set (RFC 7344, section 4.1)."""
+        while True:
+            await asyncio.sleep(self.dice.uniform(0.3, 1.5))
+            servers = [address for provider in self.providers for address in provider.servers]
+            if not (self.reads_cds and self.ds() and servers):
+                continue
+            answer = await ask(self.dice.choice(servers), self.world.port, self.name, "CDS")
+            data = data_of(answer, "CDS") if answer else set()
+            signed = {str(tag) for tag in tags_of(answer, "CDS")} if answer else set()
+            data, is_there = data - {DELETE}, bool(data)
+            if is_there and data != self.ds() and signed & {one.split()[0] for one in self.ds()}:
+                await self.publish_ds(data)
