@@ -151,12 +151,21 @@ class Clients:
         if flags & AD:
             self.counts["AD"] += 1
         elif asked >= self.secure_from:
-            self.fault(resolver, question, asked, "not checked")
+            self.fault(resolver, question, asked, f"not checked: {records(answer)}")
 
     def fault(self, resolver, question, asked, what):
-        self.counts["SERVFAIL" if what.startswith("SERVFAIL") else what] += 1
+        self.counts[what.split(" ")[0]] += 1
         self.by_resolver[resolver] += 1
         self.faults.append(Fault(asked, resolver, question, what))
+
+
+def records(answer):
+    """The records of an answer, in short."""
+    message = dns.message.from_wire(answer)
+    return "; ".join(
+        f"{dns.rdatatype.to_text(rrset.rdtype)} {rrset.ttl}"
+        for section in (message.answer, message.authority) for rrset in section
+    )
 
 
 def told(answer):

@@ -6,7 +6,7 @@ from dataclasses import replace
 from asking import data_of, tags_of, watch
 from keys import Signing, Version, make_key
 from script import Script, rounded_down
-from zone import Notes, Ttls
+from zone import Notes
 
 KINDS = {"K": "ksk", "Z": "zsk", "C": "csk"}
 UPDATES = {
@@ -28,8 +28,7 @@ class Provider:
         self.zone, self.servers, self.letter = zone, servers, letter
         self.begin_script()
         self.keys, self.notes = {}, Notes()
-        # Each of two signers chooses TTLs of its own.
-        self.ttls = Ttls.any(zone.dice) if letter else zone.ttls
+        self.ttls = zone.ttls_of.get(letter, zone.ttls)
         self.signing = Signing(zone.folder, zone.name, zone.letters, letter)
         self.version = Version(1, zone.ttls.zone, zone.ttls.zone)
         self.versions, self.publishing = {}, asyncio.Lock()

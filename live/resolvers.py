@@ -18,7 +18,7 @@ server:
   pidfile: ""
   access-control: 127.0.0.0/8 allow
   do-not-query-localhost: no
-  module-config: "validator iterator"
+  module-config: "{modules}"
   trust-anchor: "{anchor}"
   harden-algo-downgrade: {strict}
   max-udp-size: 4096
@@ -68,7 +68,7 @@ local-port={port}
 socket-dir={folder}
 config-dir={folder}
 dont-query=
-dnssec={dnssec}
+dnssec=validate
 lua-config-file={folder}/anchor.lua
 forward-zones-file={folder}/zones
 hint-file=no
@@ -92,13 +92,14 @@ class Resolvers:
         self.processes, self.port, self.zones, self.anchor = processes, port, zones, anchor
 
     def start(self):
-        self.unbound("unbound", UNBOUND, "no", self.stubs())
-        self.unbound("unbound-strict", STRICT, "yes", self.stubs())
+        stubs = self.stubs()
+        self.unbound("unbound", UNBOUND, stubs)
+        self.unbound("unbound-strict", STRICT, stubs, strict="yes")
         self.named("bind", BIND)
-        self.recursor("powerdns", POWERDNS, "validate")
-        self.recursor("cache", CACHE, "process-no-validate")
+        self.recursor("powerdns", POWERDNS)
+        self.unbound("cache", CACHE, stubs, modules="iterator")
         forward = UNBOUND_FORWARD.format(address=CACHE, port=self.port)
-        self.unbound("unbound-behind-cache", BEHIND, "no", forward)
+        self.unbound("unbound-behind-cache", BEHIND, forward)
 
     def folder(self, name):
         folder = self.processes.folder / name
@@ -119,10 +120,11 @@ class Resolvers:
                 text += UNBOUND_ADDRESS.format(address=address, port=self.port)
         return text
 
-    def unbound(self, name, address, strict, more):
+    def unbound(self, name, address, more, strict="no", modules="validator iterator"):
         folder = self.folder(name)
         text = UNBOUND_SERVER.format(
-            address=address, port=self.port, folder=folder, anchor=self.anchor, strict=strict
+            address=address, port=self.port, folder=folder, anchor=self.anchor, strict=strict,
+            modules=modules,
         )
         (folder / "conf").write_text(text + more)
         self.processes.start(name, "unbound", "-d", "-c", str(folder / "conf"))
@@ -142,7 +144,7 @@ class Resolvers:
         (folder / "conf").write_text(text)
         self.processes.start(name, "named", "-g", "-n", "1", "-c", str(folder / "conf"))
 
-    def recursor(self, name, address, dnssec):
+    def recursor(self, name, address):
         folder = self.folder(name)
         zones = "".join(
             f"{zone}={';'.join(f'{address}:{self.port}' for address in addresses)}\n"
@@ -151,6 +153,6 @@ class Resolvers:
         anchor = " ".join(self.anchor.split()[-4:])
         (folder / "anchor.lua").write_text(f'clearTA()\naddTA(".", "{anchor}")\n')
         (folder / "zones").write_text(zones)
-        text = RECURSOR.format(address=address, port=self.port, folder=folder, dnssec=dnssec)
+        text = RECURSOR.format(address=address, port=self.port, folder=folder)
         (folder / "recursor.conf").write_text(text)
         self.processes.start(name, "pdns_recursor", f"--config-dir={folder}")

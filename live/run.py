@@ -32,8 +32,10 @@ def given():
     parser.add_argument("--list", action="store_true", help="print the names of the scenes")
     parser.add_argument("--port", type=int, default=PORT)
     parser.add_argument("--seed", default=str(int(time.time())), help="of TTLs and of delays")
+    parser.add_argument("--rounds", type=int, default=1, help="so often each honest scene")
     parser.add_argument("--at-once", type=int, default=8, help="scenes side by side")
     parser.add_argument("--keyset", default=str(KEYSET), help="the program")
+    parser.add_argument("--folder", help="a new folder for its files and logs, which is left")
     return parser.parse_args()
 
 
@@ -60,12 +62,23 @@ async def play(zone, scene):
 def row(scene, counts, wrong):
     others = counts["asked"] - counts["answered"] - counts["SERVFAIL"]
     return (
-        f"{scene.name:52} {counts['asked']:9} {counts['AD']:9} {counts['SERVFAIL']:9} {others:6}"
+        f"{scene.zone:52} {counts['asked']:9} {counts['AD']:9} {counts['SERVFAIL']:9} {others:6}"
         f"  {'FAILED: ' + wrong.splitlines()[0] if wrong else 'ok'}"
     )
 
 
 HEAD = f"{'scene':52} {'questions':>9} {'with AD':>9} {'SERVFAIL':>9} {'other':>6}"
+
+
+@contextlib.contextmanager
+def folder_of(arguments):
+    """The folder in which all files of the run are."""
+    if arguments.folder:
+        Path(arguments.folder).mkdir(parents=True)
+        yield str(Path(arguments.folder).resolve())
+    else:
+        with tempfile.TemporaryDirectory(prefix="live-") as folder:
+            yield folder
 
 
 class Run:
@@ -129,12 +142,12 @@ def main():
         sys.exit(wrong)
     from scenes import chosen
     from world import World
-    scenes = chosen(arguments.scenes, arguments.short)
+    scenes = chosen(arguments.scenes, arguments.short, arguments.rounds)
     if arguments.list:
         print(*(scene.name for scene in scenes), sep="\n")
         return 0
     print(f"seed {arguments.seed}")
-    with tempfile.TemporaryDirectory(prefix="live-") as folder:
+    with folder_of(arguments) as folder:
         zones = {scene.zone: scene.letters for scene in scenes}
         world = World(Path(folder), arguments.port, arguments.keyset, zones, arguments.seed)
         run = Run(world, scenes, arguments.at_once)

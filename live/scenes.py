@@ -15,10 +15,11 @@ class Scene(NamedTuple):
     play: Callable
     letters: str
     is_lie: bool
+    round: int = 1
 
     @property
     def zone(self):
-        return f"{self.name}."
+        return f"{self.name}-{self.round}."
 
 
 # The short form leaves these out.
@@ -35,12 +36,15 @@ SCENES = [
 ]
 
 
-def chosen(names, is_short):
-    """The scenes of these names, or all; the short form without the long ones."""
+def chosen(names, is_short, rounds):
+    """The scenes of these names, or all; the short form without the long ones. Those with a lie are
+    played once."""
     unknown = set(names) - {scene.name for scene in SCENES}
     if unknown:
         raise SystemExit(f"no scene: {' '.join(sorted(unknown))}")
     return [
-        scene for scene in SCENES
+        scene._replace(round=number)
+        for number in range(1, rounds + 1) for scene in SCENES
         if scene.name in names or not names and not (is_short and scene.name in LONG)
+        if number == 1 or not scene.is_lie
     ]

@@ -36,7 +36,7 @@ class World:
     async def zone(self, name):
         """A zone, whose servers give it unsigned."""
         zone = Zone(self, name, self.zones[name], random.Random(f"{self.seed} {name}"))
-        zone.clients = Clients(name, zone.dice, self.port)
+        zone.clients = Clients(name, random.Random(f"{self.seed} clients {name}"), self.port)
         signing = Signing(zone.folder, name, zone.letters)
         text = await signing.text(Version(1, zone.ttls.zone, zone.ttls.dnskey))
         self.fleet.write(zone.servers, name, text)

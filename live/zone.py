@@ -67,7 +67,9 @@ class Zone:
     def __init__(self, world, name, providers, dice):
         self.world, self.name, self.dice = world, name, dice
         self.servers = [address for provider in providers for address in CHILD[provider]]
+        # Each of two signers chooses TTLs of its own; those of one are the zone's.
         self.ttls = Ttls.any(dice)
+        self.ttls_of = {letter: Ttls.any(dice) for letter in providers}
         self.providers, self.letters = [], providers
         self.notes, self.serials, self.ds_number = Notes(), itertools.count(2), 0
         self.notes.published("ds", NEGATIVE, 0)
