@@ -21,7 +21,7 @@ async def ask(address, port, zone, kind, is_recursive=False):
         query.flags &= ~dns.flags.RD
     try:
         answer, _ = await dns.asyncquery.udp_with_fallback(query, address, timeout=2, port=port)
-    except (dns.exception.DNSException, OSError):
+    except (dns.exception.DNSException, OSError, EOFError):
         return None
     return answer
 

@@ -229,7 +229,7 @@ async def restless(provider):
             provider.ttls.zone, provider.ttls.ds = dice.randint(1, 7), dice.randint(1, 7)
             await provider.publish()
             if dice.random() < 0.5 and zone.ds():
-                await zone.publish_ds(zone.ds())
+                await zone.publish_ds()
 
     task = asyncio.ensure_future(go_on())
     try:

@@ -52,8 +52,9 @@ LIES = {
     "ttl-of-0": TtlOf0,
     "report-before-publishing": BeforePublishing,
 }
-# The TTL of the set that caches have to hold for the lie to show.
-LONG = 20
+# The TTL of the set that caches have to hold for the lie to show, if the operator waits for it too,
+# and if he doesn't.
+LONG, LONGER = 20, 60
 
 
 def long_kind(name, roll):
@@ -70,7 +71,8 @@ def lying(name, roll):
     async def scene(zone):
         zone.reads_cds = False
         zone.ttls.zone, zone.ttls.dnskey, zone.ttls.ds = 3, 2, 2
-        setattr(zone.ttls, long_kind(name, roll), LONG)
+        long = LONG if roll is BeforePublishing else LONGER
+        setattr(zone.ttls, long_kind(name, roll), long)
         provider = await first_keys(zone, "K1", "Z1")
         old, *more = KEYS[name]
         for new, algorithm in zip(more, (15, 13)):
@@ -83,7 +85,7 @@ def lying(name, roll):
 
 async def ttl_of_the_other(zone):
     a, b = await in_step_keys(zone, "K1", "Z1")
-    a.ttls.dnskey, b.ttls.dnskey = 2, LONG
+    a.ttls.dnskey, b.ttls.dnskey = 2, LONGER
     await b.publish()
     await b.watch()
     await asyncio.sleep(LONG / 2)

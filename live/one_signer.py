@@ -133,7 +133,45 @@ async def unsigned(zone):
     await go_unsigned(provider, "C1")
 
 
+async def first_keys_ended_early(zone):
+    """First keys with a longer DNSKEY TTL, ended early, and others in their place."""
+    provider = Provider(zone, zone.servers)
+    zone.ttls.dnskey = 7
+    await provider.make("K1", "Z1")
+    roll = Roll(provider, ALGORITHM)
+    await roll.start([], ["K1", "Z1"])
+    await asyncio.sleep(2)
+    await roll.abort()
+    for ref in ("K1", "Z1"):
+        provider.call(f"set-stale {ref}")
+        provider.call(f"delete {ref}")
+    zone.ttls.dnskey = 2
+    await provider.make("K2", "Z2")
+    await Roll(provider, ALGORITHM).whole([], ["K2", "Z2"])
+    zone.is_secure()
+    await asyncio.sleep(zone.longest() + 4)
+
+
+async def ended_early_beside(zone):
+    """Of a KSK roll and a ZSK roll side by side first the one is ended early, then the other."""
+    provider = await first_keys(zone, "K1", "Z1")
+    for ended, other, old, new, third in (
+        (Roll(provider, KSK), Roll(provider, DOUBLE_SIGNATURE), "K1", "K2", "Z2"),
+        (Roll(provider, ZSK), Roll(provider, DOUBLE_DS), "Z2", "Z3", "K3"),
+    ):
+        await provider.make(new, third)
+        await ended.start([old], [new])
+        going = asyncio.ensure_future(
+            other.whole(["Z1"] if third == "Z2" else ["K1"], [third])
+        )
+        await asyncio.sleep(zone.dice.uniform(0, 2))
+        await ended.abort()
+        await going
+
+
 HONEST = {
+    "first-keys-ended-early": first_keys_ended_early,
+    "ended-early-beside": ended_early_beside,
     **{name: one_roll(name) for name in KEYS},
     "csks": csks,
     "ksk-beside-zsk": beside(KSK, ZSK),

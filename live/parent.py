@@ -50,9 +50,9 @@ class Parent:
         return result.read_text()
 
     async def change(self, zone, data, ttl):
-        """Publishes the DS set of a zone."""
+        """Publishes a DS set of a zone; without data that of now, with another TTL."""
         async with self.lock:
-            self.ds[zone] = sorted(data), ttl
+            self.ds[zone] = self.ds[zone][0] if data is None else sorted(data), ttl
             self.fleet.publish(PARENT, ".", await self.text())
 
     async def watch(self, zone):

@@ -1,6 +1,7 @@
 """A provider that signs a zone and serves it, as docs/OPERATORS.md has it."""
 
 import asyncio
+import time
 from dataclasses import replace
 
 from asking import data_of, tags_of, watch
@@ -195,8 +196,17 @@ class Provider:
         counted = self.zone.providers if kind == "dnskey" else [self]
         return max(provider.notes.highest(kind, moment) for provider in counted)
 
+    def longest_held(self):
+        """The highest TTL of its sets that caches may hold, now that no server gives them."""
+        for kind in ("dnskey", "zone"):
+            self.notes.seen(kind, self.version.serial + 1)
+        return max(self.notes.highest(kind, time.time()) for kind in ("dnskey", "zone"))
+
     def sum_of_ds_and_dnskey(self, moment):
         """The TTL to report if a validator may check a DNSKEY set by an old DS set once more: that
-        of the present DNSKEY set counts too."""
-        present = (provider.version.dnskey_ttl for provider in self.zone.providers)
+        of the present DNSKEY set counts too, and of one that is on its way."""
+        present = [
+            ttl for provider in self.zone.providers
+            for ttl in (provider.version.dnskey_ttl, provider.ttls.dnskey)
+        ]
         return self.highest("ds", moment) + max(self.highest("dnskey", moment), *present)

@@ -23,6 +23,8 @@ PORT = 15353
 # The most seconds that the short form and the whole may take.
 SHORT, WHOLE = 600, 3600
 FAULTS_SHOWN = 8
+# The most seconds for which clients go on after a scene.
+AFTER = 8
 
 
 def given():
@@ -44,15 +46,15 @@ async def play(zone, scene):
     anything did."""
     clients, wrong = zone.clients, None
     await clients.begin()
-    reading = asyncio.ensure_future(zone.read_cds())
+    zone.reading = asyncio.ensure_future(zone.read_cds())
     try:
         await asyncio.sleep(1)
         await scene.play(zone)
-        await asyncio.sleep(2 + zone.longest())
+        await asyncio.sleep(2 + min(zone.longest(), AFTER))
     except Exception as error:
         wrong = f"{type(error).__name__}: {error}"
     finally:
-        reading.cancel()
+        zone.reading.cancel()
         await clients.end()
     if wrong is None and scene.is_lie != bool(clients.faults):
         wrong = "no failure was seen" if scene.is_lie else "clients saw faults"

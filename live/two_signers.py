@@ -22,17 +22,36 @@ def shared(provider, refs):
 
 async def in_step(signers, old, new):
     """Both make an `algorithm-roll`, and each call only when both have made the one before."""
+    await go_on_in_step(await start_in_step(signers, old, new))
+    for signer, other in (signers, signers[::-1]):
+        keys = shared(signer, old)
+        if keys and signer.version.dnskey:
+            await other.take_out(*keys)
+
+
+async def start_in_step(signers, old, new):
     rolls = [Roll(signer, ALGORITHM) for signer in signers]
     for signer, other in (signers, signers[::-1]):
         for key in shared(signer, new):
             other.add_public(key)
     for roll in rolls:
         await roll.started(old, new)
-    await go_on_in_step(rolls)
+    return rolls
+
+
+async def algorithms_ended_early(zone):
+    """Both end a change of the algorithm early, in step, and begin it anew."""
+    signers = await in_step_keys(zone, "K1", "Z1")
+    for signer in signers:
+        await signer.make("K2", "Z2", "K3", "Z3", algorithm=15)
+    rolls = await start_in_step(signers, ["K1", "Z1"], ["K2", "Z2"])
+    await both_perform(rolls)
+    for roll in rolls:
+        await roll.make(lambda: f"abort {ALGORITHM}")
+    await both_perform(rolls)
     for signer, other in (signers, signers[::-1]):
-        keys = shared(signer, old)
-        if keys and signer.version.dnskey:
-            await other.take_out(*keys)
+        await other.take_out(*shared(signer, ["Z2"]))
+    await in_step(signers, ["K1", "Z1"], ["K3", "Z3"])
 
 
 async def go_on_in_step(rolls):
@@ -158,33 +177,48 @@ async def algorithms(zone):
     await in_step(signers, ["K1", "Z1"], ["K2", "Z2"])
 
 
-async def join_and_leave(zone):
-    """B joins A, each rolls its ZSK, A leaves, and B rolls its KSK.
-
-    Who isn't named in the NS sets has no servers here: those of its addresses give the other's
-    versions."""
+async def alone(zone, *refs):
+    """A, which has all servers. Who isn't named in the NS sets has no servers here: those of its
+    addresses give the other's versions."""
     a = Provider(zone, zone.servers, "A")
-    await a.make("K1", "Z1")
-    await Roll(a, ALGORITHM).whole([], ["K1", "Z1"])
+    await a.make(*refs)
+    await Roll(a, ALGORITHM).whole([], refs)
     zone.is_secure()
-    b = await join(a)
+    return a
+
+
+async def join_and_leave(zone):
+    """B joins A, each rolls its ZSK, A leaves, and B rolls its KSK."""
+    a = await alone(zone, "K1", "Z1")
+    b = await join(a, ["Z1"], ["K1", "Z1"])
     await roll_of_one(b, a, ZSK, ["Z1"], ["Z2"])
     await roll_of_one(a, b, ZSK, ["Z1"], ["Z2"])
     await leave(a, b)
     await roll_of_one(b, a, KSK, ["K1"], ["K2"])
 
 
-async def join(a):
+async def csk_joins_and_leaves(zone):
+    """B joins with a CSK, while TTLs rise and fall, and leaves again."""
+    a = await alone(zone, "C1")
+    async with restless(a):
+        b = await join(a, ["C1"], ["C1"])
+        async with restless(b):
+            await roll_of_one(b, a, CSK, ["C1"], ["C2"])
+        await leave(b, a)
+        await roll_of_one(a, b, CSK, ["C1"], ["K2", "Z2"])
+
+
+async def join(a, of_a, refs):
     """The table "B joins"."""
     zone = a.zone
     b = Provider(zone, [], "B")
-    await b.make("K1", "Z1")
-    for key in shared(a, ["Z1"]):
+    await b.make(*refs)
+    for key in shared(a, of_a):
         b.add_public(key)
     roll = Roll(b, ALGORITHM)
-    await roll.started([], ["K1", "Z1"])
+    await roll.started([], refs)
     await b.act(roll.actions)
-    await a.take_in(*shared(b, ["Z1"]))
+    await a.take_in(*shared(b, refs))
     await roll.watch()
     await roll.finish()
     # Only after B's second wait its servers are named.
@@ -202,7 +236,7 @@ async def leave(a, b):
     a.servers, b.servers = [], zone.servers
     await b.publish()
     await b.watch()
-    await asyncio.sleep(max(a.ttls.dnskey, a.ttls.zone))
+    await asyncio.sleep(a.longest_held())
     zone.providers.remove(a)
     async with zone.turn:
         zone.cds = zone.ds_keys()
@@ -265,5 +299,7 @@ HONEST = {
     "two-ksk-rolls-at-once": at_once(KSK, DOUBLE_DS),
     "two-ksk-and-zsk-roll-at-once": at_once(KSK, ZSK),
     "two-algorithms": algorithms,
+    "two-algorithms-ended-early": algorithms_ended_early,
     "two-join-and-leave": join_and_leave,
+    "two-csk-joins-and-leaves": csk_joins_and_leaves,
 }

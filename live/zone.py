@@ -73,7 +73,7 @@ class Zone:
         self.providers, self.letters = [], providers
         self.notes, self.serials, self.ds_number = Notes(), itertools.count(2), 0
         self.notes.published("ds", NEGATIVE, 0)
-        self.cds, self.turn = None, asyncio.Lock()
+        self.cds, self.turn, self.at_parent = None, asyncio.Lock(), asyncio.Lock()
         self.reads_cds, self.wanted = dice.random() < 0.5, set()
         self.folder = world.folder / f"keys-{name.rstrip('.')}"
         self.folder.mkdir()
@@ -106,21 +106,25 @@ class Zone:
         """The DS set of the parent."""
         return set(self.world.parent.ds.get(self.name, ((), 0))[0])
 
-    async def publish_ds(self, data):
-        """The parent publishes a DS set; again the same, with the TTL of now."""
-        self.ds_number += 1
-        ttl = self.ttls.ds if data else NEGATIVE
-        self.notes.published("ds", ttl, self.ds_number)
-        await self.world.parent.change(self.name, data, ttl)
+    async def publish_ds(self, data=None):
+        """The parent publishes a DS set; without data that of now, with the TTL of now."""
+        async with self.at_parent:
+            ttl = self.ttls.ds if data is None or data else NEGATIVE
+            await self.world.parent.change(self.name, data, ttl)
+            self.ds_number += 1
+            self.notes.published("ds", ttl, self.ds_number)
 
     async def watch_ds(self):
         """Watches until the parent has acted, and all its servers give the new DS set."""
         until = time.monotonic() + PATIENCE
         while self.ds() != self.wanted:
+            if self.reading.done():
+                self.reading.result()
             if time.monotonic() > until:
                 raise Failed(f"the parent doesn't take {self.wanted} from CDS of {self.name}")
             await asyncio.sleep(0.1)
-        number = self.ds_number
+        async with self.at_parent:
+            number = self.ds_number
         await self.world.parent.watch(self.name)
         self.notes.seen("ds", number)
 
