@@ -10,11 +10,13 @@
 -- | `Recorder::new`           | `agrees-new`, `published-new` | Next                         |
 -- | `Recorder::advance`, `ok` | `entry-of`, `world_more`      | Next, Grow                   |
 -- | `advance`, both           | `agrees-accepted`             | Next; the key set's After    |
--- | `published`, `ok`         | `shows-all`                   | Positions                    |
+-- | `read_sets`, `ok`         | `shows-all`                   | Positions                    |
+-- | `renew_key`, `read`       | `published-then`              | OneKey                       |
 -- | `starts_suffice`          | `starts-suffice`              | Starts                       |
 -- | the premise of plain lists| `plain-by-sets`               | Premise                      |
 -- | for callers of `Recorder` | `last-ds` and the like        | Recorded                     |
 pub mod Positions
+pub mod OneKey
 pub mod Next
 pub mod Grow
 pub mod Laws

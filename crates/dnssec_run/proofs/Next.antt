@@ -1,7 +1,7 @@
 -- The positions that the recorder keeps go along with each call.
 use Rattle.std.proofs.Common.{◌≡◌, ℕ, Bool, true, false, cond, List, Some, None, refl, sym, ap, ◌∙◌}
 use Rattle.std.proofs.Common.{◌∷◌, subst, map}
-use Rattle.std.specs.Prelude.{Option}
+use Rattle.std.specs.Prelude.{Option, if◌then◌else◌}
 use Rattle.std.specs.Option.{option_map}
 use Rattle.std.specs.Str.{bytes_eq}
 use Rattle.std.specs.FinMap.{get, get-empty}
@@ -14,6 +14,7 @@ use Rattle.std.specs.Cmp.Lexicographic.{slice_cmp}
 use Rattle.std.specs.declared.string.String.{String}
 use Rattle.std.proofs.Common.{[], string_bytes, Global}
 use Rattle.dnssec_key.specs.Key.{KeyParts}
+use Rattle.dnssec_key.specs.Setters.{Setting, set_by}
 use Rattle.dnssec_keyset.specs.KeySet.{KeySetParts, new_set}
 use Rattle.dnssec_keyset.specs.Step as keyset
 use Rattle.dnssec_keyset.specs.Step.{AddKey, Set, DeleteKey, StartRoll, Report, Wait, RollDone}
@@ -32,7 +33,7 @@ use Rattle.dnssec_run.specs.Record.{call_of, reply_of, is_accepted, mark_of, mar
 use Rattle.dnssec_run.specs.Record.{IsEntry, reference_added, with_added, world_after, new_world}
 use Rattle.dnssec_run.specs.declared.record.Mark.TheVariants.{Other}
 use Rattle.dnssec_run.specs.Recorder.{Agrees, HasSameKeys, IsOutcome, TellsOutcome, positions_after}
-use Rattle.dnssec_run.specs.Recorder.{reference_deleted}
+use Rattle.dnssec_run.specs.Recorder.{ChangesAt, ChangesOnly, reference_deleted, reference_set}
 use Rattle.dnssec_run.proofs.Positions.{shown-none}
 
 -- who is there stays who is there, whatever happens to it
@@ -120,6 +121,45 @@ pub mark-refused : (call : Call) (reply : Reply) → is_accepted reply ≡ false
 mark-refused call Done ok = cc
 mark-refused call (Actions actions) ok = cc
 mark-refused call (Refused cause) ok = refl
+
+-- what is there after a call, as the key set sees it
+abbrev world_then : ℕ → World → keyset.Call → Reply → World
+world_then n w c reply = record {
+  set = after_reply (reply_of reply) c w.set;
+  added = if is_accepted reply then with_added n (reference_added c) w.added else w.added;
+}
+
+-- a call that sets a key by hand changes no other, and adds none
+pub changes-only : (n : ℕ) (w : World) (call : Call) (reply : Reply)
+    → ChangesOnly (reference_set (call_of call)) w (world_after n w call reply)
+changes-only n w call reply = by (call_of call) reply
+  where
+    same : (r q : List ℕ) (f : KeyParts → KeyParts) (o : Option KeyParts) → bytes_eq r q ≡ false
+        → option_map (λ (k : KeyParts). if bytes_eq r q then f k else k) o ≡ o
+    same r q f None apart = refl
+    same r q f (Some k) apart = ap (λ b. Some (cond b (f k) k)) apart
+
+    accepted : (r : List ℕ) (setting : Setting)
+        → ChangesAt r w (record { set = after (Set r setting) w.set; added = w.added })
+    accepted r setting = record {
+      others = λ q apart. (after-changes w.set (Set r setting)).keys q
+          ∙ same r q (set_by setting) (get w.set.keys q) apart;
+      added = λ q. refl;
+    }
+
+    by : (c : keyset.Call) (reply : Reply)
+        → ChangesOnly (reference_set c) w (world_then n w c reply)
+    by (Set r setting) Done = accepted r setting
+    by (Set r setting) (Actions actions) = accepted r setting
+    by (Set r setting) (Refused cause) =
+        record { others = λ q apart. refl; added = λ q. refl }
+    by (AddKey r key) reply = tt
+    by (DeleteKey r) reply = tt
+    by (StartRoll roll olds news now) reply = tt
+    by (Report roll half ttl now) reply = tt
+    by (Wait roll half now) reply = tt
+    by (RollDone roll) reply = tt
+    by (AbortRoll roll) reply = tt
 
 -- clones of the positions are the same positions
 pub positions-cloned : {Y : Type 0} (es fs : List (String Y × ℕ))

@@ -24,7 +24,8 @@ use Rattle.dnssec_keyset.specs.KeySet.{KeySetParts, new_set}
 use Rattle.dnssec_zone.proofs.Quantified.{apart, first, itself, same_key, second}
 use Rattle.dnssec_run.specs.Published.{Id, World, keys_where}
 use Rattle.dnssec_run.specs.Record.{new_world}
-use Rattle.dnssec_run.specs.Recorder.{Agrees, ids_where, shown_once}
+use Rattle.dnssec_run.specs.Recorder.{Agrees, IsAscending, ids_where, position_in, position_shown}
+use Rattle.dnssec_run.specs.Recorder.{shown_once}
 
 both : (a b : Bool) → T a → T b → T (a && b)
 both true b p q = q
@@ -309,3 +310,53 @@ shown-none p name =
     (slice_cmp-IsAntisymmetric nat_cmp-IsAntisymmetric) (entries (new_set name).keys) []
     (entries_sorted (new_set name).keys) tt
     (λ q. sym (get-entries (new_set name).keys q) ∙ get-empty (slice_cmp nat_cmp) q))
+
+-- ---- a set by its look-ups
+
+module _ (passes : KeyType → Bool) (w : World) where
+  abbrev all : List (List ℕ × KeyParts)
+  all = entries w.set.keys
+
+  abbrev at : List ℕ → Option KeyParts
+  at q = find (slice_cmp nat_cmp) q all
+
+  -- the set is what passes of all keys with their positions
+  shown-filtered : filter (test passes at) (placed w.added all) ≡ keys_where passes w
+  unfolding placed
+  shown-filtered = filter-placed w.added passes at all (all_found all (entries_sorted w.set.keys))
+
+  pub shown-ascending : IsAscending (keys_where passes w)
+  unfolding test
+  shown-ascending = subst IsAscending shown-filtered
+      (is_sorted-where_key (slice_cmp nat_cmp)
+      (λ q. option_map_or (λ (k : KeyParts). passes k.keytype) (at q) false) (placed w.added all)
+      (sorted-placed w.added all (entries_sorted w.set.keys)))
+
+  pub shown-found : (q : List ℕ) → position_in (keys_where passes w) q
+      ≡ position_shown passes (get w.set.keys q) (Some (w.added q))
+  unfolding test
+  shown-found q =
+      ap (λ l. position_in l q) (sym shown-filtered)
+      ∙ find-where_key (slice_cmp nat_cmp)
+      (λ q. option_map_or (λ (k : KeyParts). passes k.keytype) (at q) false) q
+      (λ x e. ap (λ q. option_map_or (λ (k : KeyParts). passes k.keytype) (at q) false)
+      (sym (slice_cmp-IsAntisymmetric nat_cmp-IsAntisymmetric q x e))) (placed w.added all)
+      ∙ ap (λ o. cond (option_map_or (λ (k : KeyParts). passes k.keytype) (at q) false) o None)
+      (find-placed w.added all q)
+      ∙ by (at q)
+      ∙ ap (λ o. position_shown passes o (Some (w.added q))) (sym (get-entries w.set.keys q))
+    where
+      by : (o : Option KeyParts)
+          → cond (option_map_or (λ (k : KeyParts). passes k.keytype) o false)
+          (option_map (λ (k : KeyParts). w.added q) o) None
+          ≡ position_shown passes o (Some (w.added q))
+      by None = refl
+      by (Some k) = refl
+
+  pub shown-by : (ids : List Id) → IsAscending ids
+      → ((q : List ℕ) → position_in ids q
+      ≡ position_shown passes (get w.set.keys q) (Some (w.added q)))
+      → ids ≡ keys_where passes w
+  shown-by ids up found = same_entries (slice_cmp nat_cmp) nat_list_cmp_total
+      (slice_cmp-IsAntisymmetric nat_cmp-IsAntisymmetric) ids (keys_where passes w) up
+      shown-ascending (λ q. found q ∙ sym (shown-found q))

@@ -1,13 +1,14 @@
 -- What the recorder of a run keeps beside the key set.
 use denote.Ref.{Bor}
-use Rattle.std.specs.Prelude.{◌≡◌, ℕ, Bool, false, List, [], ◌∷◌, length, map, filter}
+use Rattle.std.specs.Prelude.{◌≡◌, ℕ, Bool, false, T, List, [], ◌∷◌, length, map, filter}
 use Rattle.std.specs.Prelude.{Option, None, Some}
 use Rattle.std.specs.Prelude.{if◌then◌else◌, string_bytes}
 use Rattle.std.specs.Prelude.{IsPermutation, IsSortedByKey}
 use Rattle.std.specs.Option.{option_map, option_map_or}
 use Rattle.std.specs.List.{All}
 use Rattle.std.specs.Str.{bytes_eq}
-use Rattle.std.specs.FinMap.{get}
+use Rattle.std.specs.FinMap.{get, find}
+use Rattle.std.specs.FinMap.Entries.{is_sorted}
 use Rattle.std.specs.BTreeMap as tree
 use Rattle.std.specs.Cmp.Lexicographic.{slice_cmp}
 use Rattle.std.specs.HashMap.{HashMap}
@@ -41,6 +42,11 @@ abbrev pub reference_deleted : keyset.Call → Option (List ℕ)
 reference_deleted (keyset.DeleteKey reference) = Some reference
 reference_deleted _ = None
 
+-- the reference of the key that a call sets by hand, if any
+abbrev pub reference_set : keyset.Call → Option (List ℕ)
+reference_set (keyset.Set reference setting) = Some reference
+reference_set _ = None
+
 -- the positions of the keys that are there, after one is put or taken
 abbrev pub positions_after : ℕ → Option (List ℕ) → Option (List ℕ) → (List ℕ → Option ℕ) → List ℕ
     → Option ℕ
@@ -52,6 +58,45 @@ positions_after n None None at q = at q
 pub record Agrees (set : KeySetParts) (at : List ℕ → Option ℕ) (w : World) : Type 0 where
   pub same : set ≡ w.set
   pub positions : (q : List ℕ) → at q ≡ option_map (λ k. w.added q) (get w.set.keys q)
+
+-- w has the keys of v, except at this reference
+pub record ChangesAt (reference : List ℕ) (v w : World) : Type 0 where
+  pub others : (q : List ℕ) → bytes_eq reference q ≡ false → get w.set.keys q ≡ get v.set.keys q
+  pub added : (q : List ℕ) → w.added q ≡ v.added q
+
+-- a call that sets a key by hand changes no other; of any other call this says nothing
+abbrev pub ChangesOnly : Option (List ℕ) → World → World → Type 0
+ChangesOnly None v w = Unit {0}
+ChangesOnly (Some reference) v w = ChangesAt reference v w
+
+-- ---- the place of one key in a set
+
+-- a set is in the order of its references' bytes, and has none twice
+abbrev pub IsAscending : List Id → Type 0
+IsAscending ids = T (is_sorted (slice_cmp nat_cmp) ids)
+
+-- the position of the key with this reference in a set, if it is there
+abbrev pub position_in : List Id → List ℕ → Option ℕ
+position_in ids q = find (slice_cmp nat_cmp) q ids
+
+-- the position of a key, if a set shows it
+abbrev pub position_shown : (KeyType → Bool) → Option KeyParts → Option ℕ → Option ℕ
+position_shown passes None at = None
+position_shown passes (Some k) at = if passes k.keytype then at else None
+
+-- a key that is there stays as it is
+abbrev pub position_after : Option ℕ → Option ℕ → Option ℕ
+position_after None was = None
+position_after (Some n) None = Some n
+position_after (Some n) (Some m) = Some m
+
+-- one key is put into a set at its position, or taken out if it has none, and the others stay
+pub record SetsPlace (reference : List ℕ) (at : Option ℕ) (old new : List Id) : Type 0 where
+  pub ascending : IsAscending new
+  pub found : (q : List ℕ) → position_in new q
+      ≡ (if bytes_eq reference q then position_after at (position_in old q) else position_in old q)
+
+-- ---- a walk over the keys
 
 -- the entries whose key passes, as keys of a record
 abbrev pub ids_where : {Y : Type 0} → (KeyType → Bool) → (List ℕ → Option KeyParts)

@@ -3,7 +3,7 @@ ghost use Rattle.std.specs.Prelude.{◌≡◌};
 ghost use Rattle.std.specs.Option.{option_map};
 ghost use Rattle.dnssec_keyset.specs.Step.{Step, reply_done, reply_list};
 ghost use Rattle.dnssec_run.specs.Asked.{sets_flag};
-ghost use Rattle.dnssec_run.specs.Recorder.{reference_deleted};
+ghost use Rattle.dnssec_run.specs.Recorder.{reference_deleted, reference_set};
 ghost use Rattle.dnssec_run.specs.Record.{call_of, mark_of, call_moment, reference_added};
 ghost use Rattle.dnssec_run.specs.Record.{reply_of};
 
@@ -171,6 +171,23 @@ impl<'a> Call<'a> {
     {
         match self {
             Call::DeleteKey { pubref } => Some(*pubref),
+            _ => None,
+        }
+    }
+
+    /// The reference of the key that the call sets by hand, if any.
+    pub(crate) fn reference_set(&self) -> Option<&'a str>
+        ensures { option_map (λ r. r.now) result ≡ reference_set (call_of self.now) }
+    {
+        match self {
+            Call::SetDecoupled { pubref, .. }
+            | Call::SetPresent { pubref, .. }
+            | Call::SetSigner { pubref, .. }
+            | Call::SetAtParent { pubref, .. }
+            | Call::SetStale { pubref }
+            | Call::SetVisible { pubref, .. }
+            | Call::SetDsVisible { pubref, .. }
+            | Call::SetRrsigVisible { pubref, .. } => Some(*pubref),
             _ => None,
         }
     }

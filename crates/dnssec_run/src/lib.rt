@@ -6,6 +6,7 @@
 
 mod caches;
 mod call;
+mod places;
 mod plain;
 mod record;
 mod running;

@@ -165,14 +165,15 @@ impl Recorder {
         let Some(at) = self.at.checked_add(1) else {
             return Err(Error::OutOfMemory);
         };
-        let outcome = advance(alloc, &mut self.keyset, &mut self.added, call, at)?;
-        let may_publish = outcome.may_publish;
-        renew(
+        let set_by_hand = call.reference_set();
+        let mut outcome = advance(alloc, &mut self.keyset, &mut self.added, call, at)?;
+        outcome.may_publish = renew(
             alloc,
             &self.keyset,
             &self.added,
             &mut self.published,
-            may_publish,
+            outcome.may_publish,
+            set_by_hand,
         )?;
         self.at = at;
         Ok(outcome)
@@ -228,8 +229,8 @@ impl Recorder {
         &self.keyset
     }
 
-    /// A recorder at the same position, with equal parts. A call can be tried on it first, while this
-    /// one stays as it is.
+    /// A recorder at the same position, with equal parts. A call can be tried on it first, while
+    /// this one stays as it is.
     ///
     /// # Errors
     ///

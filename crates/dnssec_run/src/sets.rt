@@ -6,9 +6,10 @@ ghost use Rattle.std.specs.HashMap as hash;
 ghost use Rattle.std.specs.Option.{option_map};
 ghost use Rattle.dnssec_base.specs.declared.error.Error.TheVariants.{OutOfMemory};
 ghost use Rattle.dnssec_run.specs.Published.{IsPublished, World, id_of};
-ghost use Rattle.dnssec_run.specs.Recorder.{Agrees, AreFound, AreInOrder, HasSameKeys, shown_once};
-ghost use Rattle.dnssec_run.specs.Recorder.{shows};
+ghost use Rattle.dnssec_run.specs.Recorder.{Agrees, AreFound, AreInOrder, ChangesOnly, HasSameKeys};
+ghost use Rattle.dnssec_run.specs.Recorder.{shown_once, shows};
 
+use crate::places::renew_key;
 use crate::record::{Published, PublishedKey};
 use dnssec_keyset::{Error, Key, KeySet, KeyType};
 use std::alloc::Global;
@@ -26,7 +27,7 @@ pub enum Shown {
 
 impl Shown {
     /// Whether the set shows a key of this kind, in its state.
-    fn shows(self, keytype: KeyType) -> bool
+    pub(crate) fn shows(self, keytype: KeyType) -> bool
         ensures { result ≡ shows self keytype }
     {
         match (self, keytype) {
@@ -256,24 +257,34 @@ fn read_sets(
     })
 }
 
-/// Reads the sets anew, where the last call may have changed them.
+/// Renews the sets after a call that may have changed them, and says whether it may have. After a
+/// setter only its key is looked at.
 pub(crate) fn renew(
     alloc: Global,
     keyset: &KeySet,
     added: &BTreeMap<String, usize>,
     sets: &mut Published,
     may_publish: bool,
-) -> Result<(), Error>
-    ensures kept { OnOk result (may_publish ≡ false → sets.new ≡ sets.old) }
-    ensures read { OnOk result (may_publish ≡ true → (w : World) →
+    set_by_hand: Option<&str>,
+) -> Result<bool, Error>
+    ensures kept { IfOk result (λ changed. changed ≡ false → sets.new ≡ sets.old) }
+    ensures calm { IfOk result (λ changed. may_publish ≡ false → changed ≡ false) }
+    ensures read { OnOk result (may_publish ≡ true → (v w : World) → IsPublished sets.old v →
+        ChangesOnly (option_map (λ r. r.now) set_by_hand.entry) v w →
         Agrees keyset.now (tree.get_by_text added.now) w → IsPublished sets.new w) }
     ensures err { IfErr result (λ e. e ≡ OutOfMemory) }
 {
-    if may_publish {
-        let before = mem::replace(sets, Published::none(alloc));
-        *sets = read_sets(alloc, keyset, added, before)?;
+    if !may_publish {
+        return Ok(false);
     }
-    Ok(())
+    match set_by_hand {
+        Some(reference) => renew_key(alloc, keyset, added, sets, reference),
+        None => {
+            let before = mem::replace(sets, Published::none(alloc));
+            *sets = read_sets(alloc, keyset, added, before)?;
+            Ok(true)
+        }
+    }
 }
 
 /// A copy of what is published.

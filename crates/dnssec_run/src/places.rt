@@ -1,0 +1,98 @@
+//! The places of one key in the sets.
+ghost use Rattle.std.specs.Prelude.{◌≡◌, ◌||◌, map, IfOk, IfErr, OnOk, false};
+ghost use Rattle.std.specs.BTreeMap as tree;
+ghost use Rattle.std.specs.Option.{option_map};
+ghost use Rattle.dnssec_base.specs.declared.error.Error.TheVariants.{OutOfMemory};
+ghost use Rattle.dnssec_run.specs.Published.{IsPublished, World, id_of};
+ghost use Rattle.dnssec_run.specs.Recorder.{Agrees, ChangesAt, IsAscending, SetsPlace};
+ghost use Rattle.dnssec_run.specs.Recorder.{position_shown, shows};
+
+use crate::record::{Published, PublishedKey};
+use crate::sets::Shown;
+use dnssec_keyset::{Error, Key, KeySet};
+use std::alloc::Global;
+use std::collections::BTreeMap;
+
+/// Renews what is published of one key, and says whether that is another than before.
+pub(crate) fn renew_key(
+    alloc: Global,
+    keyset: &KeySet,
+    added: &BTreeMap<String, usize>,
+    sets: &mut Published,
+    reference: &str,
+) -> Result<bool, Error>
+    ensures kept { IfOk result (λ changed. changed ≡ false → sets.new ≡ sets.old) }
+    ensures read { OnOk result ((v w : World) → IsPublished sets.old v →
+        ChangesAt reference.now v w → Agrees keyset.now (tree.get_by_text added.now) w →
+        IsPublished sets.new w) }
+    ensures err { IfErr result (λ e. e ≡ OutOfMemory) }
+{
+    let key = keyset.keys().get(reference);
+    let at = added.get(reference).copied();
+    let ds = position(Shown::Ds, key, at);
+    let ds = set_place(alloc, &mut sets.ds, ds, reference)?;
+    let dnskey = position(Shown::Dnskey, key, at);
+    let dnskey = set_place(alloc, &mut sets.dnskey, dnskey, reference)?;
+    let signers = position(Shown::DnskeySigners, key, at);
+    let signers = set_place(alloc, &mut sets.dnskey_signers, signers, reference)?;
+    let zone = position(Shown::ZoneSigners, key, at);
+    let zone = set_place(alloc, &mut sets.zone_signers, zone, reference)?;
+    Ok(is_any(ds, dnskey, signers, zone))
+}
+
+fn is_any(ds: bool, dnskey: bool, signers: bool, zone: bool) -> bool
+    ensures { result ≡ (ds || dnskey || signers || zone) }
+{
+    ds || dnskey || signers || zone
+}
+
+/// The position of a key, if the set shows it.
+fn position(shown: Shown, key: Option<&Key>, at: Option<usize>) -> Option<usize>
+    ensures { result ≡ position_shown (shows shown) (option_map (λ k. k.now) key.entry) at }
+{
+    match key {
+        Some(key) if shown.shows(key.keytype()) => at,
+        _ => None,
+    }
+}
+
+/// Puts a key into a set at its position, or takes it out if it has none, and says whether the set
+/// is another than before.
+fn set_place(
+    alloc: Global,
+    keys: &mut Vec<PublishedKey>,
+    at: Option<usize>,
+    reference: &str,
+) -> Result<bool, Error>
+    ensures kept { IfOk result (λ changed. changed ≡ false → keys.new ≡ keys.old) }
+    ensures ok { OnOk result (IsAscending (map id_of keys.old.items) →
+        SetsPlace reference.now at (map id_of keys.old.items) (map id_of keys.new.items)) }
+    ensures err { IfErr result (λ e. e ≡ OutOfMemory) }
+{
+    let found = keys.binary_search_by(|key| key.reference.as_str().cmp(reference));
+    match (found, at) {
+        (Ok(place), None) => {
+            keys.remove(place);
+            Ok(true)
+        }
+        (Err(place), Some(added)) => {
+            let key = published_key(alloc, reference, added)?;
+            let Ok(()) = keys.insert(place, key) else {
+                return Err(Error::OutOfMemory);
+            };
+            Ok(true)
+        }
+        _ => Ok(false),
+    }
+}
+
+/// A key of a record, with a copy of its reference.
+fn published_key(alloc: Global, reference: &str, added: usize) -> Result<PublishedKey, Error>
+    ensures ok { IfOk result (λ k. id_of k ≡ (reference.now, added)) }
+    ensures err { IfErr result (λ e. e ≡ OutOfMemory) }
+{
+    match String::from_str(alloc, reference) {
+        Ok(reference) => Ok(PublishedKey { added, reference }),
+        Err(_) => Err(Error::OutOfMemory),
+    }
+}
