@@ -3,7 +3,6 @@ use denote.Ref.{Bor}
 use Rattle.std.specs.Prelude.{◌≡◌, ℕ, Bool, false, T, List, [], ◌∷◌, length, map, filter}
 use Rattle.std.specs.Prelude.{Option, None, Some}
 use Rattle.std.specs.Prelude.{if◌then◌else◌, string_bytes}
-use Rattle.std.specs.Prelude.{IsPermutation, IsSortedByKey}
 use Rattle.std.specs.Option.{option_map, option_map_or}
 use Rattle.std.specs.List.{All}
 use Rattle.std.specs.Str.{bytes_eq}
@@ -11,7 +10,6 @@ use Rattle.std.specs.FinMap.{get, find}
 use Rattle.std.specs.FinMap.Entries.{is_sorted}
 use Rattle.std.specs.BTreeMap as tree
 use Rattle.std.specs.Cmp.Lexicographic.{slice_cmp}
-use Rattle.std.specs.HashMap.{HashMap}
 use Rattle.std.specs.Ordering.{nat_cmp}
 use Rattle.std.specs.declared.string.String.{String}
 use Rattle.dnssec_key.specs.declared.kind.KeyType.{KeyType}
@@ -114,12 +112,6 @@ AreFound key = All (λ e. key (string_bytes e.0.now) ≡ Some e.1.now)
 -- an entry of a map, as a walk lends it
 abbrev pub entry_lent : {Y : Type 0} → Bor (String Y) × Bor KeyParts → String Y × KeyParts
 entry_lent e = (e.0.now, e.1.now)
-
--- the entries are all those of the map, in the order of their references' bytes
-pub record AreInOrder {Y S : Type 0} (m : HashMap (String Y) KeyParts S)
-    (entries : List (Bor (String Y) × Bor KeyParts)) : Type 0 where
-  pub all : IsPermutation m.entries (map entry_lent entries)
-  pub sorted : IsSortedByKey (λ e. string_bytes e.0.now) (slice_cmp nat_cmp) entries
 
 -- a key as one of a record, where it is there and passes
 abbrev pub shown_once : (KeyType → Bool) → Option KeyParts → Id → List Id

@@ -105,6 +105,13 @@ fn advance(
     })
 }
 
+/// Forgets the order of the keys, where the call adds or deletes one.
+fn forget(order: &mut Vec<usize>, call: &Call<'_>) {
+    if call.reference_added().is_some() || call.reference_deleted().is_some() {
+        order.clear();
+    }
+}
+
 /// Makes calls one by one on a new key set, and tells what each came to: what `run` records.
 ///
 /// It keeps no entry, but the sets that are published behind the last call. So a caller that needs
@@ -123,6 +130,9 @@ pub struct Recorder {
     keyset: KeySet,
     /// Of each key that is there the position of its add.
     added: BTreeMap<String, usize>,
+    /// The places of the keys in a walk over them, in the order of their references; none after a
+    /// key came or went.
+    order: Vec<usize>,
     /// What is published.
     published: Published,
     /// How many calls were made.
@@ -138,6 +148,7 @@ impl Recorder {
         Recorder {
             keyset: KeySet::new(alloc, name),
             added: BTreeMap::new(alloc),
+            order: Vec::new(alloc),
             published: Published::none(alloc),
             at: 0,
         }
@@ -166,11 +177,13 @@ impl Recorder {
             return Err(Error::OutOfMemory);
         };
         let set_by_hand = call.reference_set();
+        forget(&mut self.order, &call);
         let mut outcome = advance(alloc, &mut self.keyset, &mut self.added, call, at)?;
         outcome.may_publish = renew(
             alloc,
             &self.keyset,
             &self.added,
+            &mut self.order,
             &mut self.published,
             outcome.may_publish,
             set_by_hand,
@@ -248,6 +261,7 @@ impl Recorder {
         Ok(Recorder {
             keyset: self.keyset.try_clone()?,
             added,
+            order: Vec::new(alloc),
             published: copy_sets(alloc, &self.published)?,
             at: self.at,
         })

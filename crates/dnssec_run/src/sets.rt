@@ -6,7 +6,7 @@ ghost use Rattle.std.specs.HashMap as hash;
 ghost use Rattle.std.specs.Option.{option_map};
 ghost use Rattle.dnssec_base.specs.declared.error.Error.TheVariants.{OutOfMemory};
 ghost use Rattle.dnssec_run.specs.Published.{IsPublished, World, id_of};
-ghost use Rattle.dnssec_run.specs.Recorder.{Agrees, AreFound, AreInOrder, ChangesOnly, HasSameKeys};
+ghost use Rattle.dnssec_run.specs.Recorder.{Agrees, AreFound, ChangesOnly, HasSameKeys};
 ghost use Rattle.dnssec_run.specs.Recorder.{shown_once, shows};
 
 use crate::places::renew_key;
@@ -192,20 +192,37 @@ fn kept_or_new(
     }
 }
 
-/// The keys of a set with their references, in the order of these.
-fn in_order(alloc: Global, keys: &HashMap<String, Key>) -> Result<Vec<(&String, &Key)>, Error>
-    ensures ok { IfOk result (λ entries. AreInOrder keys.now entries.items) }
+/// The keys of a set with their references, as a walk over the map lends them.
+fn walk(alloc: Global, keys: &HashMap<String, Key>) -> Result<Vec<(&String, &Key)>, Error>
     ensures found { IfOk result (λ entries. AreFound (hash.get_by_text keys.now) entries.items) }
     ensures err { IfErr result (λ e. e ≡ OutOfMemory) }
 {
-    let Ok(mut entries) = keys.iter().collect::<Vec<_>>(alloc) else {
+    let Ok(entries) = keys.iter().collect::<Vec<_>>(alloc) else {
         return Err(Error::OutOfMemory);
     };
-    entries.sort_unstable_by(|one, other| one.0.cmp(other.0));
     Ok(entries)
 }
 
-/// The key at a reference: that of this entry, as they are in order. Else it is looked up.
+/// The places of entries in a walk, in the order of their references.
+fn places_in_order(alloc: Global, entries: &[(&String, &Key)]) -> Result<Vec<usize>, Error>
+    ensures err { IfErr result (λ e. e ≡ OutOfMemory) }
+{
+    let Ok(mut placed) = Vec::with_capacity(alloc, entries.len()) else {
+        return Err(Error::OutOfMemory);
+    };
+    for (place, (reference, _)) in entries.iter().enumerate() {
+        if placed.push((*reference, place)).is_err() {
+            return Err(Error::OutOfMemory);
+        }
+    }
+    placed.sort_unstable_by(|one, other| one.0.cmp(other.0));
+    match placed.iter().map(|(_, place)| *place).collect(alloc) {
+        Ok(places) => Ok(places),
+        Err(_) => Err(Error::OutOfMemory),
+    }
+}
+
+/// The key at a reference: that of the entry at this place, if it is there. Else it is looked up.
 fn key_at<'a>(
     keys: &'a HashMap<String, Key>,
     entries: &[(&'a String, &'a Key)],
@@ -223,11 +240,13 @@ fn key_at<'a>(
 }
 
 /// Reads what is published of a key set, with the positions of its keys: one walk in the order of
-/// the references. What was published before is used again.
+/// the references. What was published before is used again. `order` has the places of the keys in
+/// that order, and is told anew if it has none.
 fn read_sets(
     alloc: Global,
     keyset: &KeySet,
     added: &BTreeMap<String, usize>,
+    order: &mut Vec<usize>,
     before: Published,
 ) -> Result<Published, Error>
     ensures ok { IfOk result (λ sets. (w : World) →
@@ -239,11 +258,15 @@ fn read_sets(
     let mut dnskey = Renewal::new(alloc, before.dnskey)?;
     let mut dnskey_signers = Renewal::new(alloc, before.dnskey_signers)?;
     let mut zone_signers = Renewal::new(alloc, before.zone_signers)?;
-    let entries = in_order(alloc, keys)?;
-    let mut at = 0;
+    let entries = walk(alloc, keys)?;
+    if order.len() != entries.len() {
+        *order = places_in_order(alloc, &entries)?;
+    }
+    let mut rank = 0usize;
     for (reference, position) in added.iter() {
-        let key = key_at(keys, &entries, at, reference);
-        at = at.saturating_add(1);
+        let place = order.get(rank).copied().unwrap_or(rank);
+        let key = key_at(keys, &entries, place, reference);
+        rank = rank.saturating_add(1);
         ds.show(Shown::Ds, key, reference, *position)?;
         dnskey.show(Shown::Dnskey, key, reference, *position)?;
         dnskey_signers.show(Shown::DnskeySigners, key, reference, *position)?;
@@ -263,6 +286,7 @@ pub(crate) fn renew(
     alloc: Global,
     keyset: &KeySet,
     added: &BTreeMap<String, usize>,
+    order: &mut Vec<usize>,
     sets: &mut Published,
     may_publish: bool,
     set_by_hand: Option<&str>,
@@ -281,7 +305,7 @@ pub(crate) fn renew(
         Some(reference) => renew_key(alloc, keyset, added, sets, reference),
         None => {
             let before = mem::replace(sets, Published::none(alloc));
-            *sets = read_sets(alloc, keyset, added, before)?;
+            *sets = read_sets(alloc, keyset, added, order, before)?;
             Ok(true)
         }
     }

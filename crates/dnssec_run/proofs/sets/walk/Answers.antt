@@ -1,0 +1,35 @@
+-- A walk over the map lends its entries.
+use Rattle.std.proofs.Common.{◌≡◌, ◌++◌, ◌∷◌, ◌∙◌, ℕ, List, [], map, Some, sym, ap, subst}
+use Rattle.std.proofs.Common.{Bor, String, string_bytes}
+use Rattle.std.specs.HashMap as hash
+use Rattle.std.specs.List.{All}
+use Rattle.std.specs.Global.{Global}
+use Rattle.std.proofs.lemmas.List.{append-nil}
+use Rattle.std.proofs.lemmas.List.Elements.{All-nil, All-cons, All-head, All-tail}
+use Rattle.std.proofs.lemmas.Map.Iter.{rest_so_far}
+use Rattle.dnssec_key.specs.Key.{KeyParts}
+use Rattle.dnssec_run.specs.Recorder.{entry_lent}
+use Rattle.dnssec_run.proofs.sets.walk.Goals as goal
+
+-- an entry as it is lent
+abbrev Lent : Type 0
+Lent = Bor (String Global) × Bor KeyParts
+
+-- what holds of the entries of the map holds of those that are lent
+lends : {A X : Type 0} (P : X → Type 0) (f : A → X) (xs : List A) → All P (map f xs)
+    → All (λ a. P (f a)) xs
+lends P f [] h = All-nil (λ a. P (f a))
+lends P f (x ∷ xs) h = All-cons (λ a. P (f a)) x xs (All-head P (f x) (map f xs) h)
+    (lends P f xs (All-tail P (f x) (map f xs) h))
+
+pub returns-clause-found : goal.returns-clause-found
+returns-clause-found c =
+    let P : String Global × KeyParts → Type 0 =
+    λ e. hash.get_by_text c.args.keys.now (string_bytes e.0) ≡ Some e.1 in
+    let ran = c.in-Ok.ensures.ran in
+    let lent : List Lent → List (String Global × KeyParts) = map entry_lent in
+    let walked = sym c.iter.ensures.rest
+    ∙ rest_so_far entry_lent ran.0 c.iter.result ran.1.0 ran.1.1
+    ∙ ap (λ rest. lent ran.0 ++ rest) (ran.1.2 tt).1.0 ∙ append-nil (lent ran.0)
+    ∙ ap lent (sym ran.2.0) in
+    lends P entry_lent c.in-Ok.entries.items (subst (All P) walked c.iter.ensures.found)
