@@ -15,7 +15,6 @@ DOES = {
     "dnskey": r"\bpublish the DNSKEY set\b",
     "zone": r"\bthe zone (signed by|without their signatures)\b",
     "cds": r"\bpublish CDS and CDNSKEY\b",
-    "no cds": r"\b(no|without) CDS and CDNSKEY\b",
     "ds": r"\bhave the parent('s DS set changed| set its DS)\b",
 }
 WATCHES = {
@@ -25,8 +24,7 @@ WATCHES = {
     "both": "dnskey zone",
     "the DS set": "ds",
     "the DS set at the parent, and all signatures": "ds zone",
-    "CDS and CDNSKEY, and the DS set": "ds version",
-    "this version": "version",
+    "CDS and CDNSKEY, and the DS set": "ds cds",
 }
 # The TTLs that a report gives. Rule 1 of docs/OPERATORS.md says which sets they are of.
 TTLS = {"the DNSKEY TTL": "dnskey", "the zone's TTL": "zone", "the DS TTL": "ds"}
@@ -40,7 +38,7 @@ class Wrong(Exception):
 
 class Step(NamedTuple):
     """A row of a runbook: what to do, what to watch, which TTL to report, if any, whether the
-    DNSKEY TTL must not rise then, and whether CDS has to come out behind it all."""
+    DNSKEY TTL must not rise then, and whether CDS has to come out before."""
 
     does: set
     watches: set
@@ -72,7 +70,7 @@ def step_of(does, watches, then):
         set(watched),
         report_of(report[1], watched) if report else None,
         "don't raise the DNSKEY TTL" in then,
-        "take CDS and CDNSKEY out" in then,
+        "CDS and CDNSKEY out" in then,
     )
 
 
@@ -110,6 +108,6 @@ def left_out(points):
 
 # What docs/EMERGENCY.md says behind the two waits of going unsigned.
 UNSIGNED = (
-    Step({"cds", "ds"}, {"ds"}, (sum, ["ds", "dnskey"]), True, False),
-    Step({"no cds", "dnskey", "zone"}, {"dnskey", "zone"}, None, False, False),
+    Step({"cds", "ds"}, {"ds"}, (sum, ["ds", "dnskey"]), True, True),
+    Step({"dnskey", "zone"}, {"dnskey", "zone"}, None, False, False),
 )

@@ -2,10 +2,10 @@
 
 from tables import ROLLS, KeySet
 
-from game.book import EARLY_END, FIRST_KEYS, UNSIGNED, Step, Wrong
+from game.book import EARLY_END, FIRST_KEYS, UNSIGNED, Wrong
 from game.points import (
-    ALGORITHM, BACK_AT_ONCE, CSK, CSK_FIRST, DOUBLE_DS, KSK_FIRST, MIXED, NOT_HELD_BACK, NOT_IN_USE,
-    ONE_SIDE, PARENT_FIRST, SAME_KEY, UNSIGNED_ONLY,
+    ALGORITHM, ALL_AT_ONCE, BACK_AT_ONCE, CDS_STAYS, CSK, CSK_FIRST, DOUBLE_DS, KSK_FIRST, MIXED,
+    NOT_HELD_BACK, NOT_IN_USE, ONE_SIDE, PARENT_FIRST, SAME_KEY, UNSIGNED_ONLY,
 )
 from game.signer import GONE, Operator
 from game.zone import SECOND
@@ -13,6 +13,7 @@ from game.zone import SECOND
 BESIDE, SLIPS = "beside", "false lines"
 ALGORITHMS = (8, 13, 14, 15)
 KINDS = {"K": "ksk", "Z": "zsk", "C": "csk"}
+KSK_ROLLS = "ksk-roll", DOUBLE_DS
 
 
 class Follower(Operator):
@@ -21,9 +22,8 @@ class Follower(Operator):
     def roll(self, roll, old, new, name=None):
         """A roll, or the first keys, from the start to the deletion of the old keys."""
         if not self.in_step and self.dice.random() < (0.6 if SAME_KEY in self.leaves else 0.15):
-            # (It may have been the other roll of such keys.)
-            kinds = ROLLS[roll]["kinds"]
-            like = [roll] if " " in kinds else [r for r in ROLLS if ROLLS[r]["kinds"] == kinds]
+            # (It may have been the other roll of such KSKs.)
+            like = KSK_ROLLS if roll in KSK_ROLLS else [roll]
             early = self.dice.choice(like)
             yield from self.ended_early(early, old, new)
             must = DOUBLE_DS == early == roll and SAME_KEY not in self.leaves
@@ -36,20 +36,21 @@ class Follower(Operator):
             self.world.tell(frozenset(name for name in new if name[0] in "KC"))
         since = None
         for half, step in enumerate(steps, 1):
-            since = since or (yield from self.do(step, actions))
+            if since is None:
+                since = yield from self.do(step, actions)
             yield from self.watch(step, since)
-            if "no cds" in step.does:
-                self.lets_go()
+            if step.takes_cds_out and (half == 3 or CDS_STAYS not in self.leaves):
+                yield from self.takes_cds_out()
             if half < 3:
                 unsigned_only = UNSIGNED_ONLY in self.leaves and (name, half) == (FIRST_KEYS, 1)
                 call = f"report{half}"
                 ttl = yield from self.report(call, roll, step, since, began, unsigned_only)
                 yield from self.comes_to(steps[half])
                 since = yield from self.slip(half, roll, ttl, steps[half])
-                actions = since or (yield from self.wait(f"wait{half}", roll, ttl))
+                if since is None:
+                    actions = yield from self.wait(f"wait{half}", roll, ttl)
         self.leaving -= set(old)
         self.call(f"done {roll}")
-        yield from self.end(step)
         for key in old:
             self.call(f"delete {key}")
         self.done[name or roll] += 1
@@ -95,21 +96,12 @@ class Follower(Operator):
             yield from self.watch(step._replace(watches={"ds"}), {})
             yield from self.takes_cds_out()
 
-    def takes_cds_out(self):
-        since = yield from self.publish({"no cds"})
-        yield from self.watch(Step({"no cds"}, set(), None, False, False), since)
-
     def run(self):
         """Runs the script anew."""
         self.keyset = KeySet()
         for line in self.script:
             if not self.keyset.call(line).startswith("ok"):
                 raise Wrong(f"{line}: it was accepted before")
-
-    def end(self, step):
-        if step.takes_cds_out:
-            yield from self.takes_cds_out()
-            self.lets_go()
 
     def ended_early(self, roll, old, new):
         """A start of the roll that is taken back after a while."""
@@ -124,7 +116,8 @@ class Follower(Operator):
         self.leaving -= set(old)
         since = yield from self.do(step, actions)
         yield from self.watch(step, since)
-        yield from self.end(step)
+        if step.takes_cds_out:
+            yield from self.takes_cds_out()
         self.done[EARLY_END] += 1
 
     def another(self, key):
@@ -148,6 +141,7 @@ class Follower(Operator):
         actions = self.call(f"wait1 {roll} {began}")
         since = yield from self.do(UNSIGNED[0], actions)
         yield from self.watch(UNSIGNED[0], since)
+        yield from self.takes_cds_out()
         ttl = yield from self.report("report2", roll, UNSIGNED[0], since, began)
         yield from self.comes_to(UNSIGNED[1])
         over = 0 if NOT_HELD_BACK in self.leaves else self.rounded_up() + ttl
@@ -158,7 +152,6 @@ class Follower(Operator):
         since = yield from self.do(UNSIGNED[1], actions)
         yield from self.watch(UNSIGNED[1], since)
         self.is_steady = False
-        self.lets_go()
         self.leaving -= set(old)
         self.call(f"done {roll}")
         for name in [*old, key]:
@@ -199,25 +192,25 @@ class Follower(Operator):
             pair = [rolls.pop(0)]
             if rolls and rolls[0] in ROLLS[pair[0]]["tolerates"].split():
                 pair += [rolls.pop(0)] if self.dice.random() < 0.7 else []
-            is_split = all(len(keys) == 2 for keys in self.keys.values())
-            if pair[0] not in (CSK, ALGORITHM) and not is_split:
-                yield from self.roll(*self.plan(CSK, True))
+            for each in [each for each, keys in self.keys.items() if len(keys) == 1]:
+                if pair[0] not in (CSK, ALGORITHM):
+                    yield from self.roll(*self.plan(CSK, [each]))
             going = [self.roll(*self.plan(roll)) for roll in pair]
             self.done[BESIDE] += len(pair) - 1
             while going:
                 going = [roll for roll in going if next(roll, roll) is None]
                 yield
 
-    def plan(self, roll, splits=False):
-        """A roll with its old and its new keys: of all algorithms, or of one."""
-        before, dice = dict(self.keys), self.dice
+    def plan(self, roll, algorithms=None):
+        """A roll with its old and its new keys, of one algorithm."""
         if roll == ALGORITHM:
-            return self.plan_algorithms(dice.sample(ALGORITHMS, dice.choice((1, 1, 2))))
-        algorithms = [*before] if splits or dice.random() < 0.5 else [dice.choice([*before])]
+            return self.plan_algorithm(*self.choose())
+        before = dict(self.keys)
+        chosen = [*before] if ALL_AT_ONCE in self.leaves else [self.dice.choice([*before])]
         old, new = [], []
-        for each in algorithms:
+        for each in algorithms or chosen:
             if roll == CSK:
-                self.keys[each] = self.whole(each, not splits and len(before[each]) == 2)
+                self.keys[each] = self.whole(each, not algorithms and len(before[each]) == 2)
                 old, new = old + before[each], new + self.keys[each]
             else:
                 ksk, zsk = before[each]
@@ -229,7 +222,18 @@ class Follower(Operator):
                     self.keys[each] = [new[-1], self.keys[each][1]]
         return roll, old, new
 
-    def plan_algorithms(self, algorithms):
-        old = sum(self.keys.values(), [])
-        self.keys = {each: self.whole(each, self.dice.random() < 0.3) for each in algorithms}
-        return ALGORITHM, old, sum(self.keys.values(), [])
+    def choose(self):
+        """Which algorithms leave, and which come: one each at most, and at most two stay."""
+        here, others = [*self.keys], [each for each in ALGORITHMS if each not in self.keys]
+        if ALL_AT_ONCE in self.leaves:
+            return here, self.dice.sample(others, 2)
+        old, new = [self.dice.choice(here)], [self.dice.choice(others)]
+        if self.dice.random() < 0.5:
+            return (old, []) if len(here) > 1 else ([], new)
+        return old, new
+
+    def plan_algorithm(self, leaving, coming):
+        old = sum((self.keys.pop(each) for each in leaving), [])
+        for each in coming:
+            self.keys[each] = self.whole(each, self.dice.random() < 0.3)
+        return ALGORITHM, old, sum((self.keys[each] for each in coming), [])

@@ -1,16 +1,16 @@
 """A zone of the game with two signers."""
 
 from game.book import FIRST_KEYS
-from game.course import ALGORITHMS, Follower
+from game.course import Follower
 from game.points import (
-    ALGORITHM, ALGORITHM_ALONE, CSK, DOUBLE_DS, DS_ALONE, JOINS_EARLY, LEAVES_EARLY, NS_TTL,
+    ALGORITHM, ALGORITHM_ALONE, CSK, DOUBLE_DS, DOUBLE_SIGNATURE, DS_ALONE, JOINS_EARLY, LEAVES_EARLY, NS_TTL,
     UNSIGNED_ALONE,
 )
 from game.zone import SECOND
 
 JOINED, LEFT = "joined", "left"
 # The rolls that each makes for itself.
-OWN = ("ksk-roll", DOUBLE_DS, "zsk-roll", "zsk-double-signature-roll", CSK)
+OWN = ("ksk-roll", DOUBLE_DS, "zsk-roll", CSK)
 
 
 class Pair:
@@ -73,12 +73,14 @@ class Pair:
 
     def each(self):
         """Each signer makes some rolls of its own."""
-        orders = [self.dice.sample(OWN, self.dice.randint(0, 3)) for _ in self.signers()]
+        others = {"zsk-roll": "zsk-double-signature-roll"} if DOUBLE_SIGNATURE in self.leaves else {}
+        rolls = [others.get(roll, roll) for roll in OWN]
+        orders = [self.dice.sample(rolls, self.dice.randint(0, 3)) for _ in self.signers()]
         yield from self.at_once(*(one.rolls(order) for one, order in zip(self.signers(), orders)))
 
     def change_algorithm(self):
-        algorithms = self.dice.sample(ALGORITHMS, self.dice.choice((1, 1, 2)))
-        plans = [signer.plan_algorithms(algorithms) for signer in self.signers()]
+        changes = self.first.choose()
+        plans = [signer.plan_algorithm(*changes) for signer in self.signers()]
         if ALGORITHM_ALONE in self.leaves:
             for signer, plan in zip(self.signers(), plans):
                 yield from signer.roll(*plan)
@@ -138,8 +140,4 @@ class Pair:
         while any(parent.versions[at]["ds"].value != wanted for at in parent.at):
             other.passes()
             yield
-        yield from other.publish({"no cds"})
-        while any(other.gives_cds(zone) for zone in (other.zone, one.zone) if zone.is_asked):
-            other.passes()
-            yield
-        other.lets_go()
+        yield from other.takes_cds_out()

@@ -68,21 +68,13 @@ POINTS = (
         "nobody watches until CDS is out",
         "watch until no server gives them any more",
     ),
+    CDS_STAYS := Point(
+        "CDS is taken out when the old keys leave",
+        "Then take them out",
+    ),
     CDS_BY_ZONE := Point(
         "CDS is signed by the keys of zone= only",
-        "Every key of signers= and every key of zone= signs them",
-    ),
-    CDS_BY_SIGNERS := Point(
-        "CDS is signed by the keys of signers= only",
-        "Every key of signers= and every key of zone= signs them",
-    ),
-    CDS_UNCOUNTED := Point(
-        "the TTL of CDS isn't counted in the zone's TTL",
-        "they count in the zone's TTL",
-    ),
-    CDS_UNCHANGED := Point(
-        "the signatures of CDS don't change with those of the zone",
-        "and UpdateRrsig signs them too",
+        "One key of signers= signs them",
     ),
     NOT_RENEWED := Point(
         "signatures aren't renewed while a roll waits",
@@ -112,7 +104,11 @@ POINTS = (
     ),
     ONE_SIDE := Point(
         "an algorithm roll of the KSKs only",
-        "Change algorithms only by an algorithm-roll that lists all old keys and all new ones",
+        "An algorithm comes and goes only by an algorithm-roll that lists all its keys",
+    ),
+    ALL_AT_ONCE := Point(
+        "a zone of two algorithms rolls both at once",
+        "a roll lists at most one old and one new key of each kind",
     ),
     NOT_IN_USE := Point(
         "a CSK roll brings in an algorithm, by an old key that was never in use",
@@ -154,6 +150,26 @@ PAIRS = (
         "CDS comes and goes on the servers of one signer only",
         "which both publish",
     ),
+    CDS_BY_SIGNERS := Point(
+        "CDS is signed by a key of signers= only",
+        "and every key of zone=",
+    ),
+    CDS_BY_ALL := Point(
+        "CDS is signed by each key of signers=",
+        "More signatures do harm",
+    ),
+    CDS_UNCOUNTED := Point(
+        "the TTL of CDS isn't counted in the zone's TTL",
+        "they count in the zone's TTL",
+    ),
+    CDS_UNCHANGED := Point(
+        "the signatures of CDS don't change with those of the zone",
+        "and UpdateRrsig signs them too",
+    ),
+    DOUBLE_SIGNATURE := Point(
+        "two signers roll ZSKs by a double-signature roll",
+        "ZSKs by zsk-roll",
+    ),
     AT_ONCE := Point(
         "both ask for a change of the DS set at once, each by what it saw before",
         "Make one change at a time",
@@ -181,10 +197,10 @@ PAIRS = (
 )
 
 # How a zone breaks: some caches hold no chain of trust, or one and not a signature by every
-# algorithm, or no signature of CDS that they can check, or one that is no longer valid, or a step
-# never comes to its end.
+# algorithm, or no signature of CDS that they can check, or more than two signatures of which they
+# don't know two, or one that is no longer valid, or a step never comes to its end.
 NO_CHAIN, NOT_EVERY, NO_CDS = "no chain", "not every algorithm", "no chain to CDS"
-EXPIRED, NO_END = "a signature expired", "no end of a step"
+TOO_MANY, EXPIRED, NO_END = "too many signatures", "a signature expired", "no end of a step"
 
 # How it breaks by a point, where that isn't NO_CHAIN.
 BREAKS = {
@@ -192,6 +208,10 @@ BREAKS = {
     CDS_BY_SIGNERS: NO_CDS,
     CDS_UNCOUNTED: NO_CDS,
     CDS_UNCHANGED: NO_CDS,
+    CDS_STAYS: TOO_MANY,
+    CDS_BY_ALL: TOO_MANY,
+    DOUBLE_SIGNATURE: TOO_MANY,
+    ALL_AT_ONCE: TOO_MANY,
     NOT_RENEWED: EXPIRED,
     RAISED: NOT_EVERY,
     MIXED: NOT_EVERY,
@@ -205,9 +225,7 @@ BREAKS = {
 ORDERS = {
     SAME_KEY: [DOUBLE_DS] * 8,
     CDS_LEFT: [DOUBLE_DS] * 8,
-    CDS_BY_SIGNERS: [DOUBLE_DS] * 8,
-    CDS_UNCOUNTED: [DOUBLE_DS, "zsk-roll"] * 4,
-    CDS_UNCHANGED: [DOUBLE_DS, "zsk-roll"] * 4,
+    CDS_STAYS: [ALGORITHM] * 8,
     RAISED: [ALGORITHM] * 8,
     UNSIGNED_ONLY: [],
     BACK_AT_ONCE: ["ksk-roll"] * 8,
@@ -217,4 +235,5 @@ WORLDS = {
     CDS_LEFT: {"slow": 0.5, "takes_cds": True},
     CDS_BY_ZONE: {"takes_cds": True},
     CDS_ON_ONE: {"takes_cds": True},
+    CDS_UNCOUNTED: {"ttls": {"cds": (8,), "zone": (1,)}},
 }

@@ -6,8 +6,8 @@ from tables import SETS, KeySet
 
 from game.book import BOOK, Wrong
 from game.points import (
-    AT_ONCE, BEFORE_START, CDS_BY_SIGNERS, CDS_BY_ZONE, CDS_LEFT, CDS_ON_ONE, CDS_UNCHANGED,
-    CDS_UNCOUNTED, DS_OWN, EARLY, EARLY_ENDS, KEYS_UNSEEN, LOWERED, NOT_KEPT, NOT_RENEWED, NO_END,
+    AT_ONCE, BEFORE_START, CDS_BY_ALL, CDS_BY_SIGNERS, CDS_BY_ZONE, CDS_LEFT, CDS_ON_ONE,
+    CDS_STAYS, CDS_UNCHANGED, CDS_UNCOUNTED, DS_OWN, EARLY, EARLY_ENDS, KEYS_UNSEEN, LOWERED, NOT_KEPT, NOT_RENEWED, NO_END,
     NO_MARGIN, NO_SUM, OTHER_TTL, RAISED, ROUNDED, SKIPPED, TAKEN_OUT, TTL_OF_0,
 )
 from game.zone import SECOND, SLOWEST
@@ -21,7 +21,6 @@ ASKS = {
     "UpdateDnskeyRrset": "dnskey",
     "UpdateRrsig": "zone",
     "CreateCdsRrset": "cds",
-    "RemoveCdsRrset": "no cds",
     "UpdateDsRrset": "ds",
 }
 WATCHED = {
@@ -120,7 +119,7 @@ class Operator:
         """A set with some TTL; that of a DNSKEY set doesn't rise where it must not."""
         steady = self.is_steady or (self.other and self.other.is_steady)
         now = self.zone.versions[-1]["dnskey"].ttl if kind == "dnskey" and steady else None
-        return self.world.kept(value, now)
+        return self.world.kept(value, now, kind)
 
     def before(self, kind, since):
         """The sets of this kind from before the version `since`, or all of them, that were given to
@@ -149,8 +148,8 @@ class Operator:
             return 0
         sets, now, keeps = self.before(kind, since), self.rounded_down(), self.world.keeps
         if LOWERED in self.leaves:
-            last = (self.world.parent if kind == "ds" else self.zone).versions[-1]
-            return keeps(last[kind].ttl)
+            last = (self.world.parent if kind == "ds" else self.zone).versions[-1][kind]
+            return keeps(last.ttl) if last else 0
         if unsigned_only:
             sets = [kept for kept in sets if kind == "zone" and not kept.value]
         if NOT_KEPT in self.leaves:
@@ -250,10 +249,6 @@ class Operator:
                 yield
             self.world.changes_ds = self
 
-    def lets_go(self):
-        if self.world.changes_ds is self:
-            self.world.changes_ds = None
-
     # Steps
 
     def publish(self, parts):
@@ -266,7 +261,7 @@ class Operator:
             if at_once and part != parts[-1]:
                 continue
             number = len(self.zone.versions)
-            since |= {kind: number for kind in changed} | {"version": number}
+            since |= {kind: number for kind in changed}
             for kind in ("dnskey", "zone"):
                 if kind not in changed and self.dice.random() < 0.2:
                     changed[kind] = self.again(kind)
@@ -286,21 +281,41 @@ class Operator:
             if cds and CDS_UNCHANGED not in self.leaves:
                 beside["cds"] = self.cds(cds.value[0])
             return {part: self.kept(part, due["zone"])}
-        cds = self.cds(self.ds()) if part == "cds" else None
+        keys = self.ds()
         if self.other and self.other.zone.is_asked and CDS_ON_ONE not in self.leaves:
-            self.other.zone.publish(cds=cds and self.other.cds(cds.value[0]))
-        return {"cds": cds}
+            self.other.zone.publish(cds=self.other.cds(keys))
+        return {"cds": self.cds(keys)}
 
     def cds(self, keys):
-        due = self.due()
-        signers = (due["signers"] if CDS_BY_ZONE not in self.leaves else frozenset()) | (
-            due["zone"] if CDS_BY_SIGNERS not in self.leaves else frozenset()
-        )
-        return self.kept("cds", (keys, signers))
+        """CDS for these keys, signed by one that has a DS now and by those that sign the zone."""
+        due, present = self.due(), self.world.parent.versions[-1]["ds"].value
+        signers = sorted(due["signers"] & present or due["signers"])
+        if CDS_BY_ALL not in self.leaves:
+            signers = signers[:1]
+        if CDS_BY_ZONE in self.leaves:
+            signers = []
+        zone = due["zone"] if CDS_BY_SIGNERS not in self.leaves else frozenset()
+        return self.kept("cds", (keys, zone.union(signers)))
+
+    def takes_cds_out(self):
+        """Takes CDS out, and watches until no server gives it: then the other may change the DS
+        set."""
+        zones = [self.zone]
+        if self.other and CDS_ON_ONE not in self.leaves:
+            zones.append(self.other.zone)
+        for zone in zones:
+            zone.publish(cds=None)
+        while CDS_LEFT not in self.leaves and any(map(gives_cds, zones)):
+            self.passes()
+            yield
+        if self.world.changes_ds is self:
+            self.world.changes_ds = None
 
     def do(self, step, actions):
         """Does what the step says. Gives the versions with its sets."""
         self.compare(step, actions)
+        if "RemoveCdsRrset" in actions and CDS_STAYS in self.leaves:
+            yield from self.takes_cds_out()
         if "ds" in step.does:
             yield from self.meets()
         since, world = (yield from self.publish(step.does - {"ds"})), self.world
@@ -319,15 +334,12 @@ class Operator:
         watched = {WATCHED[action] for action in actions if action in WATCHED}
         if step.does - asked or asked - step.does - as_is:
             raise Wrong(f"{BOOK.name}: {step.does} is done where {asked} is asked for")
-        if step.watches - watched - {"version"} or watched - step.watches - as_is:
+        if step.watches - watched - {"cds"} or watched - step.watches - as_is:
             raise Wrong(f"{BOOK.name}: {step.watches} is watched where {watched} is asked for")
 
     def watch(self, step, since):
-        """Watches until all servers have what the step says, and until none gives CDS where it was
-        taken out."""
+        """Watches until all servers have what the step says."""
         kinds = step.watches
-        if "no cds" in step.does and CDS_LEFT not in self.leaves:
-            kinds = kinds | {"version"}
         first = max((since[kind] for kind in kinds if kind in since), default=0)
         while not self.is_everywhere(kinds, first):
             self.passes()
@@ -341,12 +353,7 @@ class Operator:
             seen = seen and every(self.has_ds(parent.versions[at]) for at in parent.at)
         if self.other and "dnskey" in kinds and KEYS_UNSEEN not in self.leaves:
             seen = seen and every(number >= self.seen_from() for number in self.other.zone.at)
-        if self.other and "version" in kinds and not self.zone.versions[-1]["cds"]:
-            seen = seen and not self.gives_cds(self.other.zone)
         return seen
-
-    def gives_cds(self, zone):
-        return any(zone.versions[at]["cds"] for at in zone.at)
 
     def report(self, call, roll, step, since, began, unsigned_only=False):
         """Reports once the clock has reached the report's moment. Gives the TTL."""
@@ -364,6 +371,8 @@ class Operator:
         firsts = [since[kind] if kind in step.watches else None for kind in kinds]
         ttls = [self.highest(*pair, unsigned_only) for pair in zip(kinds, firsts)]
         ttl = ttls[0] if NO_SUM in self.leaves else join(ttls)
+        if step.takes_cds_out and CDS_STAYS not in self.leaves:
+            ttl = max(ttl, self.highest("cds", None))
         if BEFORE_START in self.leaves:
             moment = began - ttl
         self.is_steady = step.is_steady and RAISED not in self.leaves
@@ -381,6 +390,10 @@ class Operator:
             last = max(last, moment)
             self.passes()
             yield
+
+
+def gives_cds(zone):
+    return any(zone.versions[at]["cds"] for at in zone.at)
 
 
 def listed(names):

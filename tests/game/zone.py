@@ -7,13 +7,14 @@ from math import inf
 from judge import has_chain
 from tables import SETS
 
-from game.points import EXPIRED, NO_CDS, NO_CHAIN, NOT_EVERY, WORLDS
+from game.points import EXPIRED, NO_CDS, NO_CHAIN, NOT_EVERY, TOO_MANY, WORLDS
 
 # So many instants are in a second.
 SECOND = 8
 BEGIN = 1000 * SECOND
 
-# For so many seconds signatures are valid, and so long a server takes at most.
+# The TTLs of sets; for so many seconds signatures are valid; so long a server takes at most.
+TTLS = (1, 2, 2, 3, 5, 8)
 VALID, SLOWEST = (60, 120), 16
 
 
@@ -105,6 +106,8 @@ class World:
         self.least, self.more = dice.choice(((0, 0), (0, 0), (4, 0), (0, 3)))
         # How often a server takes long; whether the parent reads CDS.
         self.slow, self.takes_cds = dice.choice((0, 0.1, 0.4)), dice.random() < 0.6
+        # TTLs of some kinds of sets, if they have others.
+        self.ttls = {}
         for point in leaves:
             vars(self).update(WORLDS.get(point, {}))
         # The servers of each signer, and who has the DS set changed just now.
@@ -124,9 +127,10 @@ class World:
         self.zones.append(servers)
         return servers
 
-    def kept(self, value, most=None):
+    def kept(self, value, most=None, kind=None):
         """A set with some TTL, which may be at most that of another set."""
-        ttl = self.dice.choice([ttl for ttl in (1, 2, 2, 3, 5, 8) if ttl <= (most or 8)])
+        ttls = self.ttls.get(kind, TTLS)
+        ttl = self.dice.choice([ttl for ttl in ttls if ttl <= (most or max(ttls))])
         expires = self.now + self.dice.randint(*VALID) * SECOND
         return Kept(value, ttl, self.keeps(ttl) * SECOND, expires)
 
@@ -228,11 +232,15 @@ class World:
         if not has_chain(ds, keys, signers, zone):
             return NO_CHAIN
         entry, signing = self.each_of(ds & keys & signers), self.each_of(keys & zone)
-        return NOT_EVERY if self.each_of(ds) - (entry & signing) else None
+        if self.each_of(ds) - (entry & signing):
+            return NOT_EVERY
+        return TOO_MANY if ds and (hides(signers, ds) or hides(zone, keys)) else None
 
     def lacks_cds(self, ds, keys, _, signers):
         """The same for CDS, if such sets have a chain."""
-        return NO_CDS if self.each_of(ds) - self.each_of(keys & signers) else None
+        if self.each_of(ds) - self.each_of(keys & signers):
+            return NO_CDS
+        return TOO_MANY if ds and hides(signers, keys) else None
 
     def each_of(self, names):
         """The algorithms of these keys."""
@@ -241,3 +249,8 @@ class World:
     def told(self, *sets):
         named = (",".join(sorted(names)) or "-" for names in sets)
         return " ".join(f"{label}={names}" for label, names in zip(SETS, named))
+
+
+def hides(signers, known):
+    """Whether a resolver that looks at two signatures only may see none of a known key."""
+    return len(signers) > 2 and len(signers - known) > 1
