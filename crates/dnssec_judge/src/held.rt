@@ -1,0 +1,132 @@
+//! A set as a judge holds it.
+ghost use Rattle.std.specs.Prelude.{◌≡◌, [], map, IfOk, IfErr, nat_lt, true};
+ghost use Rattle.dnssec_base.specs.declared.error.Error.TheVariants.{OutOfMemory};
+ghost use Rattle.dnssec_run.specs.Published.{id_of};
+ghost use Rattle.dnssec_judge.specs.Inner.Chained.{is_none};
+ghost use Rattle.dnssec_judge.specs.Inner.Window.{keys_hold, parts_of, set_of_held, zone_holds};
+
+use crate::shared::{SharedKey, are_same, share_all, share_keys, trusts_keys, trusts_zone};
+use dnssec_keyset::Error;
+use dnssec_run::PublishedKey;
+use std::alloc::Global;
+
+/// A set of keys, with its signers if it is a DNSKEY set: once for all positions of a window that
+/// publish it.
+#[derive(Debug, Drop)]
+pub(crate) struct Held {
+    pub(crate) keys: Vec<SharedKey>,
+    pub(crate) signers: Vec<SharedKey>,
+    /// Since this position caches may hold it without a break.
+    pub(crate) since: usize,
+    /// The last position at which it was published and hadn't been at the one before.
+    pub(crate) last: usize,
+}
+
+impl Held {
+    /// No keys, as at position 0.
+    pub(crate) fn none(alloc: Global) -> Self
+        ensures set { set_of_held result ≡ ([], []) }
+        ensures last { result.last ≡ 0 }
+    {
+        Held {
+            keys: Vec::new(alloc),
+            signers: Vec::new(alloc),
+            since: 0,
+            last: 0,
+        }
+    }
+
+    /// The set of a position. Keys that it has in common with another set are shared.
+    pub(crate) fn new(
+        alloc: Global,
+        at: usize,
+        keys: &[PublishedKey],
+        signers: &[PublishedKey],
+        before: &[SharedKey],
+    ) -> Result<Self, Error>
+        ensures ok { IfOk result (λ h. (set_of_held h ≡ (map id_of keys.now, map id_of signers.now))
+            × (h.since ≡ at) × (h.last ≡ at)) }
+        ensures err { IfErr result (λ e. e ≡ OutOfMemory) }
+    {
+        let keys = share_keys(alloc, keys, before)?;
+        let signers = share_keys(alloc, signers, &keys)?;
+        Ok(Held {
+            keys,
+            signers,
+            since: at,
+            last: at,
+        })
+    }
+
+    /// The same set, which shares its keys.
+    fn try_clone(&self, alloc: Global) -> Result<Self, Error>
+        ensures ok { IfOk result (λ h. parts_of h ≡ parts_of self.now) }
+        ensures err { IfErr result (λ e. e ≡ OutOfMemory) }
+    {
+        Ok(Held {
+            keys: share_all(alloc, &self.keys)?,
+            signers: share_all(alloc, &self.signers)?,
+            since: self.since,
+            last: self.last,
+        })
+    }
+
+    /// Whether it is this set.
+    pub(crate) fn is(&self, keys: &[PublishedKey], signers: &[PublishedKey]) -> bool
+        ensures { result ≡ true →
+            set_of_held self.now ≡ (map id_of keys.now, map id_of signers.now) }
+    {
+        are_same(&self.keys, keys) && are_same(&self.signers, signers)
+    }
+
+    /// Whether it has no keys.
+    pub(crate) fn has_no_keys(&self) -> bool
+        ensures { result ≡ is_none (set_of_held self.now).0 }
+    {
+        self.keys.is_empty()
+    }
+
+    /// Whether it has left a window that begins at the position.
+    pub(crate) fn has_left(&self, begin: usize) -> bool
+        ensures { result ≡ nat_lt self.now.last begin }
+    {
+        self.last < begin
+    }
+
+    /// Whether all that was tested before the position was tested with it.
+    pub(crate) fn is_tested(&self, tested: usize) -> bool
+        ensures { result ≡ nat_lt self.now.since tested }
+    {
+        self.since < tested
+    }
+
+    /// Whether it is a DS set with no key, or one of its keys is in the DNSKEY set and signs it.
+    pub(crate) fn trusts_keys_of(&self, dnskey: &Held) -> bool
+        ensures { result ≡ keys_hold (set_of_held self.now) (set_of_held dnskey.now) }
+    {
+        self.has_no_keys() || trusts_keys(&self.keys, &dnskey.keys, &dnskey.signers)
+    }
+
+    /// Whether a key of it as a DNSKEY set signs the zone.
+    pub(crate) fn trusts_signers(&self, zone: &Held) -> bool
+        ensures { result ≡ zone_holds (set_of_held self.now) (set_of_held zone.now) }
+    {
+        trusts_zone(&self.keys, &zone.keys)
+    }
+}
+
+/// The same sets, which share their keys.
+pub(crate) fn clone_sets(alloc: Global, sets: &[Held]) -> Result<Vec<Held>, Error>
+    ensures ok { IfOk result (λ copies. map parts_of copies.items ≡ map parts_of sets.now) }
+    ensures err { IfErr result (λ e. e ≡ OutOfMemory) }
+{
+    let Ok(mut copies) = Vec::with_capacity(alloc, sets.len()) else {
+        return Err(Error::OutOfMemory);
+    };
+    for held in sets {
+        if copies.push(held.try_clone(alloc)?).is_err() {
+            return Err(Error::OutOfMemory);
+        }
+    }
+    Ok(copies)
+}

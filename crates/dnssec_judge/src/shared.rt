@@ -1,0 +1,228 @@
+//! Keys that the sets of a judge share, and tests of lists of them.
+ghost use Rattle.std.specs.Prelude.{◌≡◌, ◌<◌, ◌≤◌, length, map, IfOk, IfErr};
+ghost use Rattle.std.specs.Prelude.{true, false};
+ghost use Rattle.dnssec_base.specs.declared.error.Error.TheVariants.{OutOfMemory};
+ghost use Rattle.dnssec_run.specs.Published.{id_of};
+ghost use Rattle.dnssec_judge.specs.Inner.Chained.{IsInOrder, is_in, same_id, shared_id};
+ghost use Rattle.dnssec_judge.specs.Inner.Chained.{trusts_keys, trusts_zone};
+
+use dnssec_keyset::Error;
+use dnssec_run::PublishedKey;
+use std::alloc::Global;
+use std::rc::Rc;
+
+/// Lists of at most so many keys are looked through.
+const SHORT: usize = 8;
+
+/// A key of a record, which the sets that have it share.
+#[derive(Debug, Drop, PartialEq)]
+pub(crate) struct SharedKey {
+    key: Rc<PublishedKey>,
+}
+
+impl SharedKey {
+    /// A key of its own, with a copy of the reference.
+    fn new(alloc: Global, key: &PublishedKey) -> Result<Self, Error>
+        ensures ok { IfOk result (λ shared. shared_id shared ≡ id_of key.now) }
+        ensures err { IfErr result (λ e. e ≡ OutOfMemory) }
+    {
+        let Ok(reference) = key.reference.clone() else {
+            return Err(Error::OutOfMemory);
+        };
+        let added = key.added;
+        match Rc::new(alloc, PublishedKey { added, reference }) {
+            Ok(key) => Ok(SharedKey { key }),
+            Err(_) => Err(Error::OutOfMemory),
+        }
+    }
+
+    /// The same key, for one set more.
+    fn share(&self) -> Result<Self, Error>
+        ensures ok { IfOk result (λ shared. shared_id shared ≡ shared_id self.now) }
+        ensures err { IfErr result (λ e. e ≡ OutOfMemory) }
+    {
+        match self.key.clone() {
+            Ok(key) => Ok(SharedKey { key }),
+            Err(_) => Err(Error::OutOfMemory),
+        }
+    }
+
+    /// Whether it is this key.
+    fn is(&self, key: &PublishedKey) -> bool
+        ensures { result ≡ same_id (shared_id self.now) (id_of key.now) }
+    {
+        *self.key == *key
+    }
+}
+
+/// The keys of a list, each shared with those of before if it is one of them. Both lists are in the
+/// order of their references; of other lists fewer keys are shared.
+pub(crate) fn share_keys(
+    alloc: Global,
+    keys: &[PublishedKey],
+    before: &[SharedKey],
+) -> Result<Vec<SharedKey>, Error>
+    ensures ok { IfOk result (λ shared. map shared_id shared.items ≡ map id_of keys.now) }
+    ensures err { IfErr result (λ e. e ≡ OutOfMemory) }
+{
+    let Ok(mut shared) = Vec::with_capacity(alloc, keys.len()) else {
+        return Err(Error::OutOfMemory);
+    };
+    let mut before = before;
+    for key in keys {
+        before = skip_to(before, key);
+        let copy = shared_or_new(alloc, before.first(), key)?;
+        if shared.push(copy).is_err() {
+            return Err(Error::OutOfMemory);
+        }
+    }
+    Ok(shared)
+}
+
+/// These keys without those whose references come before that of the key.
+fn skip_to<'a>(keys: &'a [SharedKey], key: &PublishedKey) -> &'a [SharedKey] {
+    let mut rest = keys;
+    while let Some((first, others)) = rest.split_first() {
+        if first.key.added == key.added || key.reference <= first.key.reference {
+            break;
+        }
+        rest = others;
+    }
+    rest
+}
+
+fn shared_or_new(
+    alloc: Global,
+    found: Option<&SharedKey>,
+    key: &PublishedKey,
+) -> Result<SharedKey, Error>
+    ensures ok { IfOk result (λ shared. shared_id shared ≡ id_of key.now) }
+    ensures err { IfErr result (λ e. e ≡ OutOfMemory) }
+{
+    match found {
+        Some(shared) if shared.is(key) => shared.share(),
+        _ => SharedKey::new(alloc, key),
+    }
+}
+
+/// A list of the same keys.
+pub(crate) fn share_all(alloc: Global, keys: &[SharedKey]) -> Result<Vec<SharedKey>, Error>
+    ensures ok { IfOk result (λ shared. map shared_id shared.items ≡ map shared_id keys.now) }
+    ensures err { IfErr result (λ e. e ≡ OutOfMemory) }
+{
+    let Ok(mut shared) = Vec::with_capacity(alloc, keys.len()) else {
+        return Err(Error::OutOfMemory);
+    };
+    for key in keys {
+        if shared.push(key.share()?).is_err() {
+            return Err(Error::OutOfMemory);
+        }
+    }
+    Ok(shared)
+}
+
+/// Whether the lists have the same keys.
+pub(crate) fn are_same(shared: &[SharedKey], keys: &[PublishedKey]) -> bool
+    ensures { result ≡ true → map shared_id shared.now ≡ map id_of keys.now }
+{
+    if shared.len() != keys.len() {
+        return false;
+    }
+    let mut rest = shared;
+    for key in keys {
+        let Some((first, others)) = rest.split_first() else {
+            return false;
+        };
+        if !first.is(key) {
+            return false;
+        }
+        rest = others;
+    }
+    rest.is_empty()
+}
+
+/// Whether a list has the key. It is looked for at its place first: the lists of a run are in
+/// order, but a record of another origin may have others.
+fn is_in(keys: &[SharedKey], key: &SharedKey) -> bool
+    ensures { result ≡ is_in (map shared_id keys.now) (shared_id key.now) }
+{
+    is_at_its_place(keys, key) || keys.contains(key)
+}
+
+/// Whether a search in a list that is in the order of its references finds the key. A short one is
+/// sooner looked through.
+fn is_at_its_place(keys: &[SharedKey], key: &SharedKey) -> bool
+    ensures short { length keys.now ≤ 8 → result ≡ false }
+    ensures sorted { 8 < length keys.now → IsInOrder keys.now →
+        result ≡ is_in (map shared_id keys.now) (shared_id key.now) }
+    ensures found { result ≡ true → is_in (map shared_id keys.now) (shared_id key.now) ≡ true }
+{
+    if keys.len() <= SHORT {
+        return false;
+    }
+    match keys.binary_search_by(|other| other.key.reference.cmp(&key.key.reference)) {
+        Ok(place) => keys[place] == *key,
+        Err(_) => false,
+    }
+}
+
+/// Whether a search finds the key in a list: in a short one, or at its place. In a list that isn't
+/// in order a key may stand elsewhere.
+fn is_found(keys: &[SharedKey], key: &SharedKey) -> bool
+    ensures { result ≡ true → is_in (map shared_id keys.now) (shared_id key.now) ≡ true }
+{
+    if keys.len() <= SHORT {
+        is_in(keys, key)
+    } else {
+        is_at_its_place(keys, key)
+    }
+}
+
+/// Whether a search finds a DS key in the DNSKEY set and among its signers.
+fn finds_keys(ds: &[SharedKey], dnskey: &[SharedKey], signers: &[SharedKey]) -> bool
+    ensures { result ≡ true → trusts_keys (map shared_id ds.now) (map shared_id dnskey.now)
+        (map shared_id signers.now) ≡ true }
+{
+    for key in ds {
+        if is_found(dnskey, key) && is_found(signers, key) {
+            return true;
+        }
+    }
+    false
+}
+
+/// Whether a search finds a zone signer in the DNSKEY set.
+fn finds_zone(dnskey: &[SharedKey], zone: &[SharedKey]) -> bool
+    ensures { result ≡ true → trusts_zone (map shared_id dnskey.now) (map shared_id zone.now)
+        ≡ true }
+{
+    for key in zone {
+        if is_found(dnskey, key) {
+            return true;
+        }
+    }
+    false
+}
+
+/// Whether a DS key is in the DNSKEY set and signs it. Lists are looked through to the end only if
+/// no search finds one: those of a run are in order, so at most once.
+pub(crate) fn trusts_keys(ds: &[SharedKey], dnskey: &[SharedKey], signers: &[SharedKey]) -> bool
+    ensures { result ≡ trusts_keys (map shared_id ds.now) (map shared_id dnskey.now)
+        (map shared_id signers.now) }
+{
+    if finds_keys(ds, dnskey, signers) {
+        return true;
+    }
+    ds.iter()
+        .any(|key| is_in(dnskey, key) && is_in(signers, key))
+}
+
+/// Whether a key of the DNSKEY set signs the zone.
+pub(crate) fn trusts_zone(dnskey: &[SharedKey], zone: &[SharedKey]) -> bool
+    ensures { result ≡ trusts_zone (map shared_id dnskey.now) (map shared_id zone.now) }
+{
+    if finds_zone(dnskey, zone) {
+        return true;
+    }
+    zone.iter().any(|key| is_in(dnskey, key))
+}
