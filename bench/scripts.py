@@ -1,24 +1,23 @@
 """What scripts of some kinds cost the program, beside the original.
 
-    python3 bench/scripts.py crates/keyset/out/keyset [--original ORIGINAL]
+    python3 bench/scripts.py crates/keyset/out/keyset [--original FOLDER]
 
 Printed are the lines of a script, and for each program the instructions that it runs, as valgrind
 counts them, the least processor seconds of some runs, and the memory in MB; then the ratios of ours
-to the original's. The memory is at least that of Python, some 14 MB, of which a program begins as a
-copy. The growth is that of our instructions from half as many lines to all: 1 where twice the lines
-take twice as many. The original keeps no record and judges none; both read the script and write all
-answers.
+to the original's. The growth is that of our instructions from half as many lines to all: 1 where
+twice the lines take twice as many. The original keeps no record and judges none; both read the
+script and write all answers.
+
+FOLDER has a `build.sh OUT`, which makes the original's program of the folder's `main.rs` and of the
+original's text. It is built anew without its check of each answer by another call. A program in
+place of the folder is taken as it is.
 """
 
 import argparse
 import math
-import os
-import re
-import subprocess
-import sys
-import tempfile
 
-from successive_rolls import COUNT, FIRST, script
+from programs import Bench
+from successive_rolls import FIRST, script
 
 RUNS = 9
 
@@ -40,6 +39,20 @@ def setters(count, keys=4):
     return FIRST + "\n".join(adds + lines) + "\n"
 
 
+def flags(count, keys=4):
+    """A key of another signer comes into the DNSKEY set and leaves it, beside keys that don't."""
+    adds = [f"add-zsk A{i} - 13 {i + 2} 150 yes" for i in range(keys - 3)]
+    adds += ["add-public P 13 65000 150 yes"]
+    lines = [f"set-present P {'no' if i % 2 else 'yes'} 160" for i in range(count)]
+    return FIRST + "\n".join(adds + lines) + "\n"
+
+
+def stale(count):
+    """Keys that were never published are set stale."""
+    adds = [f"add-zsk A{i} - 13 {i + 2} 150 yes" for i in range(count)]
+    return FIRST + "\n".join(adds + [f"set-stale A{i}" for i in range(count)]) + "\n"
+
+
 def waits(count):
     """A wait that is claimed too early again and again."""
     begun = "add-zsk Z1 - 13 2 150 yes\nstart zsk-roll Z0 Z1 200\nreport1 zsk-roll 3600 210\n"
@@ -50,13 +63,16 @@ def adds(count):
     return FIRST + "".join(f"add-zsk A{i} - 13 {i + 2} 150 yes\n" for i in range(count))
 
 
-def crowded_rolls(pairs):
-    """Rolls beside 400 public keys that are published."""
+def crowded_rolls(pairs, keys=400, kind="public"):
+    """Rolls beside keys that are published, and that sign the zone if they are ZSKs."""
     lines = rolls(pairs).splitlines(keepends=True)
     first = FIRST.count("\n")
-    public = [f"add-public P{i} 13 {i + 60002} 150 yes\n" for i in range(400)]
-    published = [f"set-present P{i} yes 150\n" for i in range(400)]
-    return "".join(lines[:first] + public + published + lines[first:])
+    given = "" if kind == "public" else " -"
+    beside = [f"add-{kind} P{i}{given} 13 {i + 60002} 150 yes\n" for i in range(keys)]
+    beside += [f"set-present P{i} yes 150\n" for i in range(keys)]
+    if kind != "public":
+        beside += [f"set-signer P{i} yes\n" for i in range(keys)]
+    return "".join(lines[:first] + beside + lines[first:])
 
 
 # What is made so many times, and the maker of its script.
@@ -65,33 +81,20 @@ KINDS = [
     ("setters on 4 keys", 65536, setters),
     ("refused waits on 4 keys", 65536, waits),
     ("setters on 1,000 keys", 2048, lambda count: setters(count, 1000)),
+    ("flag setters on 4 keys", 65536, flags),
+    ("flag setters on 1,000 keys", 2048, lambda count: flags(count, 1000)),
+    *(("keys, each set stale", count, stale) for count in (4, 64, 1024, 4096)),
     ("adds", 4096, adds),
     ("pairs of rolls beside 400 public keys", 256, crowded_rolls),
+    *((f"pairs of rolls beside {keys:,} ZSKs in use", pairs,
+       lambda count, keys=keys: crowded_rolls(count, keys, "zsk"))
+      for keys, pairs in ((16, 1024), (256, 256), (4096, 64))),
 ]
 
 
-def run(command, given):
-    """The processor seconds of a run, its memory in MB, and its standard error."""
-    with open(given) as text, tempfile.TemporaryFile() as written:
-        child = subprocess.Popen(command, stdin=text, stdout=written, stderr=subprocess.PIPE)
-        said = child.stderr.read().decode()
-        _, status, used = os.wait4(child.pid, 0)
-    if status != 0:
-        sys.exit(f"{command}: status {status}, {said}")
-    return used.ru_utime + used.ru_stime, used.ru_maxrss / 1024, said
-
-
-def count(program, given):
-    """The instructions that the program runs."""
-    said = run([*COUNT, program], given)[2]
-    return int(re.search(r"I +refs: +([0-9,]+)", said)[1].replace(",", ""))
-
-
-def measure(program, given):
+def measure(bench, program, given):
     """Millions of instructions, seconds and MB."""
-    runs = [run([program], given) for _ in range(RUNS)]
-    seconds, memory = min(one[0] for one in runs), max(one[1] for one in runs)
-    return count(program, given) / 1e6, seconds, memory
+    return bench.instructions(program, given) / 1e6, *bench.least(program, given, RUNS)
 
 
 def cells(figures):
@@ -105,20 +108,16 @@ def main():
     parser.add_argument("program")
     parser.add_argument("--original")
     given = parser.parse_args()
-    programs = [os.path.abspath(path) for path in (given.program, given.original) if path]
     heads = ["Script", "Lines", "Growth"]
     for unit in ("Million instructions", "Seconds", "MB"):
         heads += [unit, "Original", "Ratio"] if given.original else [unit]
     print(f"| {' | '.join(heads)} |\n|{'---|' * len(heads)}", flush=True)
-    with tempfile.TemporaryDirectory() as folder:
-        whole, half = os.path.join(folder, "whole"), os.path.join(folder, "half")
+    with Bench() as bench:
+        programs = bench.programs(given.program, given.original)
         for kind, number, make in KINDS:
-            with open(whole, "w") as file:
-                file.write(make(number))
-            with open(half, "w") as file:
-                file.write(make(number // 2))
-            measured = [measure(program, whole) for program in programs]
-            growth = math.log2(measured[0][0] * 1e6 / count(programs[0], half))
+            whole, half = bench.script("whole", make(number)), bench.script("half", make(number // 2))
+            measured = [measure(bench, program, whole) for program in programs]
+            growth = math.log2(measured[0][0] * 1e6 / bench.instructions(programs[0], half))
             lines = make(number).count("\n")
             row = [f"{number:,} {kind}", f"{lines:,}", f"{growth:.2f}"]
             for figures in zip(*measured):

@@ -1,0 +1,36 @@
+/* Runs a program, and writes its processor seconds and its greatest memory in KB into a file.
+
+       measure FILE PROGRAM ARGUMENTS..
+
+   A program that Python starts begins as a copy of Python, and its memory would be at least
+   Python's; one that this program starts begins with a small one. */
+#include <stdio.h>
+#include <sys/resource.h>
+#include <sys/wait.h>
+#include <unistd.h>
+
+int main(int count, char **words)
+{
+    struct rusage used;
+    int status;
+    FILE *told;
+    pid_t child;
+
+    if (count < 3)
+        return 64;
+    child = fork();
+    if (child == 0) {
+        execv(words[2], words + 2);
+        _exit(127);
+    }
+    if (child < 0 || wait4(child, &status, 0, &used) < 0 || !WIFEXITED(status))
+        return 70;
+    told = fopen(words[1], "w");
+    if (!told)
+        return 70;
+    fprintf(told, "%f %ld\n",
+            used.ru_utime.tv_sec + used.ru_stime.tv_sec
+                + (used.ru_utime.tv_usec + used.ru_stime.tv_usec) / 1e6,
+            used.ru_maxrss);
+    return fclose(told) ? 70 : WEXITSTATUS(status);
+}

@@ -1,0 +1,299 @@
+"""What the worst scripts cost that we know, beside the original.
+
+    python3 bench/worst.py crates/keyset/out/keyset [--original FOLDER] [--only WORD] [--long]
+
+Each row is a script that makes one length long which a user controls. Printed are its lines, the
+least processor seconds of some runs, the growth of these from half as many (1 where twice the lines
+take twice as long; only if there is enough to measure), the greatest memory in MB, the memory's
+growth, and the same of the original, which keeps no record and judges none; then the bound that the
+row has, as ARCHITECTURE says it. The original has no cells for a script with `abort`, which it has
+not. `--long` has the rows too that take a minute or more. `FOLDER` is that of `bench/scripts.py`.
+"""
+
+import argparse
+import math
+
+from programs import Bench
+from successive_rolls import FIRST
+
+RUNS = 3
+# Below these a growth would be that of the program's start.
+LEAST_SECONDS, LEAST_MEMORY = 0.03, 4
+TTL = 4294967295
+
+
+def lines(*parts):
+    return FIRST + "".join(f"{line}\n" for part in parts for line in part)
+
+
+def early_ends(count):
+    """Two rolls, started and ended early in turn."""
+    keys = ["add-ksk K1 - 13 2 150 yes", "add-zsk Z1 - 13 3 150 yes"]
+    turn = [
+        "start ksk-double-ds-roll K0 K1 200", "abort ksk-double-ds-roll",
+        "start zsk-double-signature-roll Z0 Z1 200", "abort zsk-double-signature-roll",
+    ]
+    return lines(keys, turn * (count // 4))
+
+
+def toggles(count):
+    """A key comes into each set and leaves it again."""
+    keys = ["add-ksk K1 - 13 2 150 yes", "add-zsk Z1 - 13 3 150 yes", "add-public P1 13 4 150 yes"]
+    turn = [
+        f"{line} {value}{moment}" for value in ("yes", "no") for line, moment in (
+            ("set-at-parent K1", ""), ("set-present P1", " 200"), ("set-signer Z1", ""),
+        )
+    ]
+    return lines(keys, turn * (count // 6))
+
+
+def growing_sets(count):
+    """Each round brings a key more into each set. The keys with a chain are the last in order."""
+    keys = [
+        "add-ksk zK - 13 65000 0 yes", "add-zsk zZ - 13 65001 0 yes",
+        "set-present zK yes 160", "set-signer zK yes", "set-at-parent zK yes",
+        "set-present zZ yes 160", "set-signer zZ yes",
+    ]
+    rounds = []
+    for i in range(count // 12):
+        kinds = ("ksk", "ksk", "zsk", "zsk", "zsk")
+        rounds += [f"add-{kind} {name}{i} - 13 {5 * i + n + 2} 150 yes"
+                   for n, (kind, name) in enumerate(zip(kinds, "ABCDE"))]
+        rounds += [f"add-public F{i} 13 {i + 60000} 150 yes"]
+        rounds += [f"set-at-parent A{i} yes", f"set-signer B{i} yes", f"set-present C{i} yes 160",
+                   f"set-signer D{i} yes", f"set-present F{i} yes 160", f"set-signer E{i} yes"]
+    return lines(keys, rounds)
+
+
+def subsets(count):
+    """The sets of some keys in turn, no two of them the same (a Gray code), in each kind."""
+    names = [(f"A{i}", f"B{i}", f"C{i}") for i in range(16)]
+    keys = [line for i, (a, b, c) in enumerate(names) for line in (
+        f"add-ksk {a} - 13 {3 * i + 2} 150 yes", f"add-zsk {b} - 13 {3 * i + 3} 150 yes",
+        f"add-zsk {c} - 13 {3 * i + 4} 150 yes",
+    )]
+    turns, on = [], set()
+    for number in range(1, count // 3 + 1):
+        i = min((number & -number).bit_length() - 1, 15)
+        on ^= {i}
+        value = "yes" if i in on else "no"
+        a, b, c = names[i]
+        turns += [f"set-at-parent {a} {value}", f"set-present {b} {value} 200",
+                  f"set-signer {c} {value}"]
+    return lines(keys, turns)
+
+
+def in_use(count, keys=2000):
+    """Many keys sign the zone, and one of them leaves and comes."""
+    adds = [f"add-zsk A{i} - 13 {i + 2} 150 yes" for i in range(keys)]
+    shown = [line for i in range(keys)
+             for line in (f"set-present A{i} yes 160", f"set-signer A{i} yes")]
+    turns = [f"set-signer A{keys // 2} {'yes' if i % 2 else 'no'}" for i in range(count)]
+    return lines(adds, shown, turns)
+
+
+def published(count):
+    """Keys of another signer are published one by one."""
+    return lines(
+        line for i in range(count // 2)
+        for line in (f"add-public P{i} 13 {i + 2} 150 yes", f"set-present P{i} yes 160")
+    )
+
+
+def long_reference(count, size=1_000_000):
+    """A key with a very long reference is in use, and others are published one by one."""
+    long = "L" * size
+    keys = [f"add-zsk {long} - 13 65000 150 yes", f"set-present {long} yes 160",
+            f"set-signer {long} yes"]
+    return lines(keys, (
+        line for i in range(count // 2)
+        for line in (f"add-public P{i} 13 {i + 2} 150 yes", f"set-present P{i} yes 160")
+    ))
+
+
+def long_reference_beside(count, size=1_000_000):
+    """A key with a very long reference is in use, and another leaves and comes."""
+    long = "L" * size
+    keys = [f"add-zsk {long} - 13 65000 150 yes", f"set-present {long} yes 160",
+            f"set-signer {long} yes", "add-public P 13 2 150 yes"]
+    return lines(keys, (f"set-present P {'no' if i % 2 else 'yes'} 160" for i in range(count)))
+
+
+def never_due(count):
+    """Reports with the greatest TTL, each of a roll that is then ended early."""
+    keys = ["add-zsk Z1 - 13 2 150 yes"]
+    turns = [
+        line for i in range(count // 3)
+        for line in (f"start zsk-roll Z0 Z1 {200 + i}", f"report1 zsk-roll {TTL} {200 + i}",
+                     "abort zsk-roll")
+    ]
+    return lines(keys, turns)
+
+
+def due_one_by_one(count):
+    """Reports that are all waited for, and then one is over with each call."""
+    keys = ["add-zsk Z1 - 13 2 150 yes", "add-ksk K1 - 13 3 150 yes"]
+    half = count // 4
+    turns = [
+        line for i in range(half)
+        for line in (f"start zsk-roll Z0 Z1 {200 + i}", f"report1 zsk-roll {count} {200 + i}",
+                     "abort zsk-roll")
+    ]
+    refused = [f"start ksk-roll - - {200 + count + i}" for i in range(half)]
+    return lines(keys, turns, refused)
+
+
+def broken_first(count):
+    """The chain is broken by the first call, and keys are published after it."""
+    return lines(["set-at-parent K0 no", "set-signer K0 no", "set-at-parent K0 yes"], (
+        line for i in range(count // 2)
+        for line in (f"add-public P{i} 13 {i + 2} 150 yes", f"set-present P{i} yes 160")
+    ))
+
+
+def broken_last(count):
+    """As sets of some keys in turn, and the chain is broken by the last call."""
+    return subsets(count) + "set-signer Z0 no\n"
+
+
+def adds(count):
+    return lines(f"add-zsk A{i} - 13 {i + 2} 150 yes" for i in range(count))
+
+
+def long_lists(count):
+    """A start from many keys to many keys, and its early end."""
+    half = count // 4
+    old = [f"A{i}" for i in range(half)]
+    new = [f"B{i}" for i in range(half)]
+    adds = [f"add-zsk {name} - 13 {i + 2} 150 yes" for i, name in enumerate(old + new)]
+    shown = [line for name in old
+             for line in (f"set-present {name} yes 160", f"set-signer {name} yes")]
+    start = f"start zsk-roll {','.join(old)} {','.join(new)} 200"
+    return lines(adds, shown, [start, "abort zsk-roll"] * 2)
+
+
+def stale(count):
+    """Keys that were never published are set stale, one after another."""
+    keys = [f"add-zsk A{i} - 13 {i + 2} 150 yes" for i in range(count // 2)]
+    return lines(keys, (f"set-stale A{i}" for i in range(count // 2)))
+
+
+def crowded_rolls(count):
+    """Rolls of a ZSK beside as many keys as lines."""
+    keys = [f"add-public P{i} 13 {i + 2} 150 yes" for i in range(count // 3)]
+    shown = [f"set-present P{i} yes 160" for i in range(count // 3)]
+    turns = []
+    for i in range(64):
+        old, new = ("Z0", "Z1") if i % 2 == 0 else ("Z1", "Z0")
+        t = 1000 * (i + 1)
+        turns += [f"add-zsk {new} - 13 {65000 + i % 2} {t} yes"] if i else [
+            f"add-zsk {new} - 13 65000 {t} yes"]
+        turns += [f"start zsk-roll {old} {new} {t}", f"report1 zsk-roll 60 {t}",
+                  f"wait1 zsk-roll {t + 60}", f"report2 zsk-roll 60 {t + 60}",
+                  f"wait2 zsk-roll {t + 120}", "done zsk-roll", f"delete {old}"]
+    return lines(keys, shown, turns)
+
+
+def folded(one, other):
+    product = one * other
+    return (product & (1 << 64) - 1) ^ product >> 64
+
+
+def colliding(count):
+    """References that have one hash: of 32 bytes, of which the last eight don't matter.
+
+    The hash multiplies two halves of 16 bytes, each mixed with what came before. So where the first
+    half undoes what came before, the product is zero, whatever the second is.
+    """
+    multiplier, seed = 0x9E3779B97F4A7C15, 0x243F6A8885A308D3
+    visible = [c for c in range(0x21, 0x7F) if c != ord(",")]
+    for number in range(1 << 20):
+        begin = f"{number:016d}".encode()
+        state = folded(
+            int.from_bytes(begin[:8], "little") ^ seed + 32,
+            int.from_bytes(begin[8:], "little") ^ multiplier,
+        )
+        undone = state.to_bytes(8, "little")
+        if all(c in visible for c in undone):
+            break
+    start = (begin + undone).decode("ascii")
+    return lines(
+        f"add-zsk {start}{i:08d} - 13 {i + 2} 150 yes" for i in range(count)
+    )
+
+
+def line_feeds(count):
+    return b"\n" * count
+
+
+class Row:
+    """A script of so many lines; what bounds its time and its memory."""
+
+    def __init__(self, name, count, make, bound, long=False, status=0):
+        self.name, self.count, self.make, self.bound = name, count, make, bound
+        self.long, self.status = long, status
+
+
+ROWS = [
+    Row("starts ended early", 8192, early_ends, "lines"),
+    Row("three setters toggled", 8192, toggles, "lines"),
+    Row("a key more in each set a round", 1024, growing_sets, "lines² · keys; lines · keys"),
+    Row("no two sets the same", 8192, subsets, "lines²; lines · keys in use"),
+    Row("2,000 keys in use, one toggled", 2048, in_use, "lines · keys in use; both"),
+    Row("public keys published one by one", 4096, published, "lines²"),
+    Row("the same beside a reference of 1 MB", 512, long_reference, "lines², and the reference"),
+    Row("a reference of 1 MB, another toggled", 1024, long_reference_beside,
+        "lines, and the reference"),
+    Row("reports that never come due", 8192, never_due, "lines²; lines"),
+    Row("reports that come due one by one", 8192, due_one_by_one, "lines²; lines"),
+    Row("broken at once, then keys published", 4096, broken_first, "lines²; lines"),
+    Row("no two sets the same, broken at last", 8192, broken_last, "lines²"),
+    Row("65,536 keys", 65534, adds, "lines"),
+    Row("a start from many keys to many", 65532, long_lists, "lines"),
+    Row("set-stale of unpublished keys", 8192, stale, "lines"),
+    Row("64 rolls beside published keys", 12288, crowded_rolls, "lines²"),
+    Row("10,000 references of one hash", 10000, colliding, "lines²; lines"),
+    Row("40,000 references of one hash", 40000, colliding, "lines²; lines", long=True),
+    Row("100 MB of line feeds", 100_000_000, line_feeds, "bytes", status=1),
+]
+
+
+def growth(whole, half, least):
+    return f"{math.log2(whole / half):.2f}" if half >= least else ""
+
+
+def main():
+    parser = argparse.ArgumentParser()
+    parser.add_argument("program")
+    parser.add_argument("--original")
+    parser.add_argument("--only")
+    parser.add_argument("--long", action="store_true")
+    given = parser.parse_args()
+    heads = ["Script", "Lines", "Seconds", "Growth", "MB", "Growth"]
+    heads += ["Original: seconds", "MB"] if given.original else []
+    heads += ["Bound: time; memory"]
+    print(f"| {' | '.join(heads)} |\n|{'---|' * len(heads)}", flush=True)
+    with Bench() as bench:
+        ours, *originals = bench.programs(given.program, given.original)
+        for row in ROWS:
+            if row.long and not given.long or given.only and given.only not in row.name:
+                continue
+            text = row.make(row.count)
+            whole = bench.script("whole", text)
+            half = bench.script("half", row.make(row.count // 2))
+            seconds, memory = bench.least(ours, whole, RUNS, row.status)
+            before = bench.least(ours, half, RUNS, row.status)
+            count = text.count(b"\n" if isinstance(text, bytes) else "\n")
+            cells = [
+                row.name, f"{count:,}", f"{seconds:.3f}",
+                growth(seconds, before[0], LEAST_SECONDS), f"{memory:.1f}",
+                growth(memory, before[1], LEAST_MEMORY),
+            ]
+            for original in originals:
+                taken = bench.least(original, whole, RUNS, row.status)
+                cells += [f"{taken[0]:.3f}", f"{taken[1]:.1f}"] if taken else ["", ""]
+            print(f"| {' | '.join([*cells, row.bound])} |", flush=True)
+
+
+if __name__ == "__main__":
+    main()
