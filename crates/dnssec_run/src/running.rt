@@ -21,7 +21,7 @@ ghost use Rattle.dnssec_run.specs.declared.record.Entry.{Entry};
 
 use crate::call::Call;
 use crate::record::{Entry, Mark, Outcome, Published, Run};
-use crate::sets::{copy_sets, renew};
+use crate::sets::{WalkOrder, copy_sets, renew};
 use dnssec_base::Name;
 use dnssec_keyset::{Error, KeySet};
 use std::alloc::Global;
@@ -105,10 +105,10 @@ fn advance(
     })
 }
 
-/// Forgets the order of the keys, where the call adds or deletes one.
-fn forget(order: &mut Vec<usize>, call: &Call<'_>) {
+/// The order of the keys is another, if the call adds or deletes one.
+fn forget(order: &mut WalkOrder, call: &Call<'_>) {
     if call.reference_added().is_some() || call.reference_deleted().is_some() {
-        order.clear();
+        order.forget();
     }
 }
 
@@ -130,9 +130,7 @@ pub struct Recorder {
     keyset: KeySet,
     /// Of each key that is there the position of its add.
     added: BTreeMap<String, usize>,
-    /// The places of the keys in a walk over them, in the order of their references; none after a
-    /// key came or went.
-    order: Vec<usize>,
+    order: WalkOrder,
     /// What is published.
     published: Published,
     /// How many calls were made.
@@ -148,7 +146,7 @@ impl Recorder {
         Recorder {
             keyset: KeySet::new(alloc, name),
             added: BTreeMap::new(alloc),
-            order: Vec::new(alloc),
+            order: WalkOrder::new(alloc),
             published: Published::none(alloc),
             at: 0,
         }
@@ -261,7 +259,7 @@ impl Recorder {
         Ok(Recorder {
             keyset: self.keyset.try_clone()?,
             added,
-            order: Vec::new(alloc),
+            order: WalkOrder::new(alloc),
             published: copy_sets(alloc, &self.published)?,
             at: self.at,
         })

@@ -203,21 +203,86 @@ fn walk(alloc: Global, keys: &HashMap<String, Key>) -> Result<Vec<(&String, &Key
     Ok(entries)
 }
 
-/// The places of entries in a walk, in the order of their references.
-fn places_in_order(alloc: Global, entries: &[(&String, &Key)]) -> Result<Vec<usize>, Error>
+/// The order of the keys of a set: the places of their references in a walk over the map.
+#[derive(Drop)]
+pub(crate) struct WalkOrder {
+    places: Vec<usize>,
+    /// Whether a key came or went since.
+    is_stale: bool,
+}
+
+impl WalkOrder {
+    /// The order of no keys.
+    pub(crate) fn new(alloc: Global) -> Self {
+        WalkOrder {
+            places: Vec::new(alloc),
+            is_stale: true,
+        }
+    }
+
+    /// A key may come or go.
+    pub(crate) fn forget(&mut self) {
+        self.is_stale = true;
+    }
+
+    /// The order of these entries. Few of them stand elsewhere than before, so the sort begins with
+    /// the order of before.
+    fn renew(&mut self, alloc: Global, entries: &[(&String, &Key)]) -> Result<(), Error>
+        ensures err { IfErr result (λ e. e ≡ OutOfMemory) }
+    {
+        if !self.is_stale {
+            return Ok(());
+        }
+        let placed = in_order(alloc, entries, &self.places)?;
+        let Ok(places) = placed.iter().map(|(_, place)| *place).collect(alloc) else {
+            return Err(Error::OutOfMemory);
+        };
+        self.places = places;
+        self.is_stale = false;
+        Ok(())
+    }
+
+    /// The place of the entry with this rank.
+    fn place(&self, rank: usize) -> usize {
+        self.places.get(rank).copied().unwrap_or(rank)
+    }
+}
+
+/// The references of the entries with their places, in order.
+fn in_order<'a>(
+    alloc: Global,
+    entries: &[(&'a String, &'a Key)],
+    before: &[usize],
+) -> Result<Vec<(&'a String, usize)>, Error>
     ensures err { IfErr result (λ e. e ≡ OutOfMemory) }
 {
     let Ok(mut placed) = Vec::with_capacity(alloc, entries.len()) else {
         return Err(Error::OutOfMemory);
     };
-    for (place, (reference, _)) in entries.iter().enumerate() {
-        if placed.push((*reference, place)).is_err() {
-            return Err(Error::OutOfMemory);
-        }
+    for place in before {
+        push_placed(&mut placed, entries, *place)?;
     }
-    placed.sort_unstable_by(|one, other| one.0.cmp(other.0));
-    match placed.iter().map(|(_, place)| *place).collect(alloc) {
-        Ok(places) => Ok(places),
+    for place in before.len()..entries.len() {
+        push_placed(&mut placed, entries, place)?;
+    }
+    match placed.sort_by(|one, other| one.0.cmp(other.0)) {
+        Ok(()) => Ok(placed),
+        Err(_) => Err(Error::OutOfMemory),
+    }
+}
+
+fn push_placed<'a>(
+    placed: &mut Vec<(&'a String, usize)>,
+    entries: &[(&'a String, &'a Key)],
+    place: usize,
+) -> Result<(), Error>
+    ensures err { IfErr result (λ e. e ≡ OutOfMemory) }
+{
+    let Some((reference, _)) = entries.get(place) else {
+        return Ok(());
+    };
+    match placed.push((*reference, place)) {
+        Ok(()) => Ok(()),
         Err(_) => Err(Error::OutOfMemory),
     }
 }
@@ -240,13 +305,12 @@ fn key_at<'a>(
 }
 
 /// Reads what is published of a key set, with the positions of its keys: one walk in the order of
-/// the references. What was published before is used again. `order` has the places of the keys in
-/// that order, and is told anew if it has none.
+/// the references. What was published before is used again.
 fn read_sets(
     alloc: Global,
     keyset: &KeySet,
     added: &BTreeMap<String, usize>,
-    order: &mut Vec<usize>,
+    order: &mut WalkOrder,
     before: Published,
 ) -> Result<Published, Error>
     ensures ok { IfOk result (λ sets. (w : World) →
@@ -259,13 +323,10 @@ fn read_sets(
     let mut dnskey_signers = Renewal::new(alloc, before.dnskey_signers)?;
     let mut zone_signers = Renewal::new(alloc, before.zone_signers)?;
     let entries = walk(alloc, keys)?;
-    if order.len() != entries.len() {
-        *order = places_in_order(alloc, &entries)?;
-    }
+    order.renew(alloc, &entries)?;
     let mut rank = 0usize;
     for (reference, position) in added.iter() {
-        let place = order.get(rank).copied().unwrap_or(rank);
-        let key = key_at(keys, &entries, place, reference);
+        let key = key_at(keys, &entries, order.place(rank), reference);
         rank = rank.saturating_add(1);
         ds.show(Shown::Ds, key, reference, *position)?;
         dnskey.show(Shown::Dnskey, key, reference, *position)?;
@@ -286,7 +347,7 @@ pub(crate) fn renew(
     alloc: Global,
     keyset: &KeySet,
     added: &BTreeMap<String, usize>,
-    order: &mut Vec<usize>,
+    order: &mut WalkOrder,
     sets: &mut Published,
     may_publish: bool,
     set_by_hand: Option<&str>,
