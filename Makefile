@@ -35,6 +35,10 @@ build:
 	@$(call prove,keyset,run <stdin)
 	@$(call prove,keyset_status,run <stdin)
 
+# The same of the program that tells which reports are due, as crates/keyset_notes/out/keyset_notes.
+notes:
+	@$(call prove,keyset_notes,run <stdin)
+
 # Proves the library and the crates below it, and makes of it what callers link: library/out has an
 # archive, a shared object, their header and a file for pkg-config.
 lib:

@@ -1,6 +1,6 @@
 #!/usr/bin/env python3
 """The gate: `tests/docs.py`, then `rt ci`, beside its first proofs `tests/runbooks.py`, and beside
-its edits `tests/memory.py`, `tests/sets.py` and `tests/library.py`. Before the last line of `rt ci`
+its edits `tests/memory.py`, `tests/sets.py`, `tests/notes.py` and `tests/library.py`. Before the last line of `rt ci`
 it tells when, in minutes and seconds since the start, each step was done, so that a rise is
 seen."""
 
@@ -133,6 +133,7 @@ def main():
     behind = [
         Behind("memory", "memory_of_calls"),
         Behind("sets", "callers"),
+        Behind("notes", "keyset_notes"),
         Behind("library", "keyset", "keyset_c"),
     ]
     status, last = prove(behind)

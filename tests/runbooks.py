@@ -48,15 +48,16 @@ from game.signer import GONE, Stuck  # noqa: E402
 from game.zone import Broken, World  # noqa: E402
 
 
-def play(seed, order, book, leaves):
+def play(seed, order, book, leaves, noted=None):
     """Plays a zone with one signer, or without an order with two. Gives its world, its signers, and
-    what broke, if anything did."""
+    what broke, if anything did. `noted` makes the notes of one signer."""
     world = World(random.Random(seed), leaves)
     if order is None:
         pair = Pair(world, book, leaves)
         course, signers = pair.course(), pair.signers
     else:
         one = Follower(world, book, leaves)
+        one.notes = noted and noted(one)
         course, signers = one.course(order), lambda: [one]
     ever = {}
     try:

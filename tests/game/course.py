@@ -59,7 +59,7 @@ class Follower(Operator):
         """Now and then a wait is accepted too early, by a false line, and acted upon; then the line
         is mended as docs/EMERGENCY.md has it. Gives the versions of the step, if it stays."""
         wait = f"wait{half} {roll}"
-        if self.in_step or self.dice.random() > 0.1:
+        if self.in_step or self.notes or self.dice.random() > 0.1:
             return None
         if not self.keyset.refusal(f"{wait} {self.rounded_down()}"):
             return None

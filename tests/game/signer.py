@@ -56,6 +56,7 @@ class Operator:
         self.keys = {}  # by algorithm: a KSK and a ZSK, or a CSK
         self.leaving = set()  # old keys of rolls up to their second wait
         self.idle, self.is_steady = 0, False
+        self.notes = None  # where it notes what was published and seen, if anywhere
         # In a roll that goes in step: how often this one has waited for the other.
         self.in_step, self.met = False, 0
 
@@ -84,6 +85,8 @@ class Operator:
             kinds.append(self.dice.choice(("dnskey", "zone")))
         if kinds:
             self.zone.publish(**{kind: self.again(kind) for kind in kinds})
+        if self.notes:
+            self.notes.look()
 
     def is_due(self, kept):
         """Whether its signatures have to be renewed."""
@@ -166,6 +169,8 @@ class Operator:
     # Calls
 
     def call(self, line):
+        if self.notes:
+            self.notes.look()
         answer = self.keyset.call(line)
         if not answer.startswith("ok"):
             raise Wrong(f"{line}: {answer}")
@@ -376,6 +381,8 @@ class Operator:
         if BEFORE_START in self.leaves:
             moment = began - ttl
         self.is_steady = step.is_steady and RAISED not in self.leaves
+        if self.notes:
+            moment, ttl = yield from self.notes.report(call, roll, moment, ttl, join is sum)
         self.call(f"{call} {roll} {ttl} {moment}")
         return ttl
 

@@ -1,9 +1,11 @@
-//! The callers that the READMEs show: one of each crate that a user names, and one of `dnssec_run`.
+//! The callers that the READMEs show: one of each crate that a user names, and one of
+//! `dnssec_run`.
 //! Where standard input has scripts, the whole sets behind their calls are told instead.
 #![tactic(auto)]
 
 mod first_keys;
 mod names;
+mod noted;
 mod runs;
 mod verdicts;
 mod whole_sets;
@@ -31,5 +33,6 @@ fn main(rt: HostRuntime) -> Result<()> {
     println!(rt; "{:?}", first_keys::bring_in(rt.alloc())?)?;
     println!(rt; "{}", verdicts::judge(rt.alloc(), TOO_SOON)?)?;
     println!(rt; "{}", runs::publish(rt.alloc())?)?;
+    println!(rt; "{}", noted::first_report(rt.alloc())?)?;
     Ok(())
 }

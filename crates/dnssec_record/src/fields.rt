@@ -191,15 +191,15 @@ fn references<'a>(alloc: Global, texts: &[&'a [u8]]) -> Result<Option<Vec<&'a st
 }
 
 /// What stands between the separators.
-fn parts(alloc: Global, text: &[u8], separator: u8) -> Result<Vec<&[u8]>, AllocError>
+pub(crate) fn parts(alloc: Global, text: &[u8], separator: u8) -> Result<Vec<&[u8]>, AllocError>
     ensures { IfOk result (λ v. map now v.items ≡ slice_split (λ b. b == separator) text.now) }
 {
     text.split(|byte| *byte == separator).collect(alloc)
 }
 
-/// The fields of a line that haven't been read yet.
+/// The fields of a line that haven't been read yet, each between single spaces.
 #[derive(Drop)]
-pub(crate) struct Fields<'a> {
+pub struct Fields<'a> {
     rest: Option<&'a [u8]>,
 }
 
@@ -216,14 +216,14 @@ impl<'a> Model for Fields<'a> {
 
 impl<'a> Fields<'a> {
     /// The fields of a line.
-    pub(crate) fn of(line: &'a [u8]) -> Self
+    pub fn of(line: &'a [u8]) -> Self
         ensures { result ≡ fields_of line.now }
     {
         Fields { rest: Some(line) }
     }
 
     /// The next field, and those after it.
-    fn next(self) -> Option<(&'a [u8], Fields<'a>)>
+    pub fn next(self) -> Option<(&'a [u8], Fields<'a>)>
         ensures { option_map (λ x. (x.0.now, x.1)) result ≡ first_field self.entry }
     {
         let rest = self.rest?;
@@ -239,7 +239,7 @@ impl<'a> Fields<'a> {
     }
 
     /// Whether no field is left.
-    pub(crate) fn end(self) -> Option<()>
+    pub fn end(self) -> Option<()>
         ensures { option_map (λ _. []) result ≡ values_of [] self.entry }
     {
         match self.next() {
@@ -307,7 +307,7 @@ impl<'a> Fields<'a> {
     }
 
     /// The next field as a TTL.
-    pub(crate) fn ttl(self) -> Option<(u32, Fields<'a>)>
+    pub fn ttl(self) -> Option<(u32, Fields<'a>)>
         ensures { option_map (λ x. (Number x.0, x.1)) result ≡ value_at as_ttl self.entry }
     {
         let (number, fields) = self.number(4_294_967_295)?;
@@ -316,7 +316,7 @@ impl<'a> Fields<'a> {
 
     /// The next field as a number up to `most`.
     #[tactic(auto, unfolding(crate::specs::Script::as_number))]
-    fn number(self, most: u64) -> Option<(u64, Fields<'a>)>
+    pub fn number(self, most: u64) -> Option<(u64, Fields<'a>)>
         ensures read { option_map (λ x. (Number x.0, x.1)) result
             ≡ value_at (as_number most) self.entry }
         ensures bound { IfSome result (λ x. x.0 ≤ most) }
@@ -326,7 +326,7 @@ impl<'a> Fields<'a> {
     }
 
     /// The next field as a moment.
-    pub(crate) fn time(self) -> Option<(UnixTime, Fields<'a>)>
+    pub fn time(self) -> Option<(UnixTime, Fields<'a>)>
         ensures { option_map (λ x. (Moment x.0, x.1)) result ≡ value_at as_time self.entry }
     {
         let (text, fields) = self.next()?;

@@ -22,5 +22,7 @@ pub use dnssec_run::{
     Call, Entry, Mark, Outcome, Published, PublishedKey, Recorder, Reply, Run, run, starts_suffice,
 };
 pub use fault::ScriptFault;
+pub use fields::Fields;
+pub use lines::all_lines;
 pub use script::{record_script, run_script};
 pub use session::{Session, Told};

@@ -1,6 +1,7 @@
 //! The lines of a script.
 ghost use Rattle.std.specs.Prelude.{◌≡◌, ℕ, List, map, position, IfOk, IfErr, IfSome, IfNone, Some};
 ghost use Rattle.std.specs.Prelude.{◌==◌};
+ghost use denote.Bor.{now};
 ghost use Rattle.std.specs.Option.{option_map};
 ghost use Rattle.dnssec_base.specs.NameText as names;
 ghost use Rattle.dnssec_record.specs.Answer.{AnswerFault};
@@ -9,6 +10,7 @@ ghost use Rattle.dnssec_record.specs.Inner.Statement.{statement_says};
 ghost use Rattle.dnssec_record.specs.Inner.Reading.{CallsFault, IsOfStatements};
 
 use crate::fault::ScriptFault;
+use crate::fields::parts;
 use crate::statement::{Statement, read_line};
 use dnssec_base::{Name, NameError};
 use std::alloc::{AllocError, Global};
@@ -62,6 +64,18 @@ fn line_feed(text: &[u8]) -> Option<usize>
     ensures { result ≡ position (λ b. b == 10) text.now }
 {
     text.iter().position(|byte| *byte == b'\n')
+}
+
+/// The lines of a text, for who reads other lines than those of a script: a line feed at the very
+/// end only ends the last one.
+///
+/// # Errors
+///
+/// If there is no memory.
+pub fn all_lines(alloc: Global, text: &[u8]) -> Result<Vec<&[u8]>, AllocError>
+    ensures { IfOk result (λ lines. map now lines.items ≡ lines_of text.now) }
+{
+    parts(alloc, without_end(text), b'\n')
 }
 
 /// The script without a line feed at its end.

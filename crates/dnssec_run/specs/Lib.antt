@@ -5,4 +5,5 @@ pub mod Published
 pub mod Record
 pub mod Recorder
 pub mod Safe
+pub mod Steps
 pub mod WholeRolls

@@ -11,6 +11,7 @@ mod plain;
 mod record;
 mod running;
 mod sets;
+mod steps;
 
 pub use caches::{SetKind, retires};
 pub use call::Call;
@@ -18,3 +19,4 @@ pub use plain::starts_suffice;
 pub use record::{Entry, Mark, Outcome, Published, PublishedKey, Reply, Run};
 pub use running::{Recorder, run};
 pub use sets::{Shown, copy_keys};
+pub use steps::Steps;

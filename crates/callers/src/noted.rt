@@ -1,0 +1,37 @@
+//! A caller of `dnssec_network`.
+use anyhow::{Result, bail};
+use dnssec_keyset::{RollType, UnixTime};
+use dnssec_network::{Before, News, Notes, SetKind};
+use std::alloc::Global;
+use std::time::Duration;
+
+/// Notes what is seen of a zone's DNSKEY sets while call 12 starts a KSK roll, and tells the TTL of
+/// its first report.
+pub fn first_report(alloc: Global) -> Result<String> {
+    let mut notes = Notes::new(
+        alloc,
+        Before {
+            ds: 3_600,
+            dnskey: 43_200,
+            zone: 3_600,
+        },
+    );
+    // Before the first server gets it.
+    let published = News::Published {
+        position: 12,
+        ttl: 7_200,
+        moment: at(100),
+    };
+    notes.note(12, SetKind::Dnskey, published)?;
+    // Once all servers were seen to give it.
+    let everywhere = News::Everywhere { moment: at(130) };
+    notes.note(12, SetKind::Dnskey, everywhere)?;
+    match notes.ttl_due(RollType::KskRoll, false, 12, at(150)) {
+        Ok(ttl) => Ok(format!(in alloc; "report at 150 with a TTL of {ttl}")?),
+        Err(kind) => bail!("{kind:?} isn't on all servers yet"),
+    }
+}
+
+fn at(seconds: u64) -> UnixTime {
+    UnixTime::from(Duration::from_secs(seconds))
+}

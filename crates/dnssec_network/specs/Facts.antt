@@ -1,0 +1,55 @@
+-- What an operator notes of a zone, and when that is true of the network.
+use Rattle.std.specs.Prelude.{◌≡◌, ℕ, suc, ◌<◌, ◌≤◌, Bool, List, [], ◌∷◌, map, filter, nat_eq}
+use Rattle.dnssec_run.specs.Safe.{SetKind, Ds, Dnskey, ZoneSigners, kind_of}
+use Rattle.dnssec_network.specs.declared.fact.Before.{Before}
+use Rattle.dnssec_network.specs.declared.fact.Fact.{Fact}
+use Rattle.dnssec_network.specs.declared.fact.News.{News}
+use Rattle.dnssec_network.specs.declared.fact.News.TheVariants.{Published, Everywhere}
+use Rattle.dnssec_network.specs.Network.{Network}
+
+-- ---- kinds
+
+abbrev pub kind_number : SetKind → ℕ
+kind_number Ds = 0
+kind_number Dnskey = 1
+kind_number ZoneSigners = 2
+
+abbrev pub same_kind : SetKind → SetKind → Bool
+same_kind a b = nat_eq (kind_number a) (kind_number b)
+
+-- ---- what is noted
+
+-- of a kind, before the first call: the highest TTL
+abbrev pub ttl_before : Before → SetKind → ℕ
+ttl_before before Ds = before.ds
+ttl_before before Dnskey = before.dnskey
+ttl_before before ZoneSigners = before.zone
+
+-- of a kind, in the order in which it was noted
+abbrev pub news_of : SetKind → List Fact → List News
+news_of kind facts =
+    map (λ (fact : Fact). fact.news)
+    (filter (λ (fact : Fact). same_kind (kind_of fact.kind) kind) facts)
+
+-- ---- when it is true
+
+-- The news of a kind are true, from the version of this number on, which is the newest so far.
+abbrev pub AreTrueFrom : Network → SetKind → ℕ → List News → Type 0
+AreTrueFrom network kind n [] = Unit {0}
+-- the next version has the sets of this position, is given with no higher TTL than this, and by no
+-- server before this moment
+AreTrueFrom network kind n (Published position ttl moment ∷ later) =
+    (network.position kind (suc n) ≡ position)
+    × (network.ttl kind (suc n) ≤ ttl)
+    × ((server time : ℕ) → server < network.servers kind → n < network.version kind server time →
+    moment ≤ time)
+    × AreTrueFrom network kind (suc n) later
+-- at this moment each server gave the newest version, or a later one
+AreTrueFrom network kind n (Everywhere moment ∷ later) =
+    ((server : ℕ) → server < network.servers kind → n ≤ network.version kind server moment)
+    × AreTrueFrom network kind n later
+
+-- the facts are true of the network, and what was there before the first call had no higher TTLs
+abbrev pub AreTrue : Before → List Fact → Network → Type 0
+AreTrue before facts network = (kind : SetKind) →
+    (network.ttl kind 0 ≤ ttl_before before kind) × AreTrueFrom network kind 0 (news_of kind facts)

@@ -1,0 +1,110 @@
+-- With which TTL a report is due by what is noted, and that it is true then.
+use Rattle.std.specs.Prelude.{◌≡◌, ℕ, ◌≤◌, Bool, max, List, Option, None, Some, Result, Ok, Err}
+use Rattle.std.specs.Prelude.{if◌then◌else◌, false, true, option_and_then}
+use Rattle.std.specs.Option.{option_map}
+use Rattle.dnssec_key.specs.declared.roll.RollState.{RollState}
+use Rattle.dnssec_key.specs.declared.roll.RollState.TheVariants.{Propagation1, Propagation2}
+use Rattle.dnssec_key.specs.declared.roll.RollType.{RollType}
+use Rattle.dnssec_run.specs.declared.call.Call.{Call}
+use Rattle.dnssec_run.specs.declared.record.Entry.{Entry}
+use Rattle.dnssec_run.specs.declared.record.Mark.TheVariants.{Report}
+use Rattle.dnssec_run.specs.Plain.{IsPlain}
+use Rattle.dnssec_run.specs.Record.{IsRun}
+use Rattle.dnssec_run.specs.declared.caches.SetKind.{SetKind as Kind}
+use Rattle.dnssec_run.specs.declared.caches.SetKind.TheVariants.{Ds, Dnskey, ZoneSigners}
+use Rattle.dnssec_run.specs.Safe.{base_below, kind_of, position_at, retires}
+use Rattle.dnssec_network.specs.declared.due.DueReport.{DueReport}
+use Rattle.dnssec_network.specs.declared.fact.Before.{Before}
+use Rattle.dnssec_network.specs.declared.fact.Fact.{Fact}
+use Rattle.dnssec_network.specs.Facts.{AreTrue, news_of, ttl_before}
+use Rattle.dnssec_network.specs.Network.{FindChain, IsNetworkOf, Network, NeverGoesBack}
+use Rattle.dnssec_network.specs.Network.{NoneLiesAhead, ReportsAreTrue}
+use Rattle.dnssec_network.specs.Spread.{due_for, known}
+
+-- ---- which TTL is due
+
+-- a TTL, or the kind that it is not yet due for
+abbrev pub due_or : Kind → Option ℕ → Result ℕ Kind
+due_or kind None = Err kind
+due_or kind (Some ttl) = Ok ttl
+
+-- the higher of two TTLs, or the first kind that none is due for
+abbrev pub higher : Result ℕ Kind → Result ℕ Kind → Result ℕ Kind
+higher (Ok a) (Ok b) = Ok (max a b)
+higher (Ok a) (Err kind) = Err kind
+higher (Err kind) other = Err kind
+
+-- the TTL for a kind that the report speaks of; for another any will do
+abbrev pub due_of : Before → List Fact → Kind → Bool → ℕ → ℕ → Result ℕ Kind
+due_of before facts kind speaks base now =
+    if speaks then due_or kind (due_for base
+    (known base (ttl_before before (kind_of kind)) (news_of (kind_of kind) facts)) now)
+    else Ok 0
+
+-- the highest of those for all kinds that a report of the roll speaks of, whose step is at `base`;
+-- or the first kind of them of which servers may still give older sets
+abbrev pub due : Before → List Fact → RollType → Bool → ℕ → ℕ → Result ℕ Kind
+due before facts roll second base now =
+    higher (higher (due_of before facts Ds (retires roll second (kind_of Ds)) base now)
+    (due_of before facts Dnskey (retires roll second (kind_of Dnskey)) base now))
+    (due_of before facts ZoneSigners (retires roll second (kind_of ZoneSigners)) base now)
+
+-- ---- which report is due
+
+-- which report a roll in this phase waits for, if any: its second one, or its first
+abbrev pub waited_for : Option RollState → Option Bool
+waited_for (Some Propagation1) = Some false
+waited_for (Some Propagation2) = Some true
+waited_for _ = None
+
+-- the report that a roll waits for in its phase, with its last step
+abbrev pub due_report : Before → List Fact → Option RollState → Option ℕ → RollType → ℕ
+    → Option DueReport
+due_report before facts phase step roll now =
+    option_and_then (λ second. option_map (λ base. record {
+      roll = roll;
+      second = second;
+      ttl = due before facts roll second base now;
+    }) step) (waited_for phase)
+
+-- ---- reports by notes
+
+-- a report of this roll was made with the TTL that is due by facts that are true, or a higher one
+pub record IsByNotes (network : Network) (roll : RollType) (second : Bool) (base moment ttl : ℕ)
+    : Type 0 where
+  pub before : Before
+  pub facts : List Fact
+  pub are_true : AreTrue before facts network
+  pub least : ℕ
+  pub is_due : due before facts roll second base moment ≡ Ok least
+  pub enough : least ≤ ttl
+
+-- so was each report that was made by this time
+abbrev pub ReportsAreByNotes : List Entry → Network → ℕ → Type 0
+ReportsAreByNotes entries network time =
+    (n moment ttl base : ℕ) (roll : RollType) (second : Bool) →
+    network.made n ≤ time →
+    (position_at entries n).mark ≡ Report roll second ttl →
+    (position_at entries n).moment ≡ Some moment →
+    base_below entries roll n ≡ Some base →
+    IsByNotes network roll second base moment ttl
+
+-- then the reports are true, if nothing goes back
+abbrev pub NotesMakeReportsTrue : Type 0
+NotesMakeReportsTrue = (entries : List Entry) (network : Network) (time : ℕ) →
+    NeverGoesBack network → ReportsAreByNotes entries network time →
+    ReportsAreTrue entries network time
+
+-- so an operator who reports by notes owes nothing but what can be seen: that servers give what was
+-- published, and go back to nothing; that the notes are true; and that no moment lay ahead of the
+-- clock
+abbrev pub NotedReportsReachResolvers : Type 0
+NotedReportsReachResolvers =
+    (name : List ℕ) (calls : List Call) (entries : List Entry) (network : Network) (time : ℕ) →
+    IsRun name calls entries →
+    IsPlain name calls entries →
+    IsNetworkOf entries network →
+    NeverGoesBack network →
+    ReportsAreByNotes entries network time →
+    NoneLiesAhead entries network time →
+    FindChain entries network time

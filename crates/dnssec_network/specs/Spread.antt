@@ -1,0 +1,76 @@
+-- How far the versions of one kind of sets have spread, by what is noted of them, and with which
+-- TTL a report is true then.
+use Rattle.std.specs.Prelude.{ℕ, ◌+◌, ◌-◌, ◌/◌, ◌&&◌, Bool, false, true, max, fold, List}
+use Rattle.std.specs.Prelude.{Option, None, Some, if◌then◌else◌, nat_le, nat_lt, unwrap_or}
+use Rattle.dnssec_network.specs.declared.fact.News.{News}
+use Rattle.dnssec_network.specs.declared.fact.News.TheVariants.{Published, Everywhere}
+use Rattle.dnssec_network.specs.declared.spread.Spread.{Spread}
+
+-- A report speaks of the sets that its step published at position `base`. Older versions are those
+-- that have the sets of positions before it.
+
+-- before the first call: one version, with its TTL
+abbrev pub first_spread : ℕ → Spread
+first_spread ttl = record { position = 0; ttl = ttl; older = None; seen = 0; expired = 0 }
+
+-- the highest TTL of older versions that servers may still give, once the newest has a successor
+abbrev pub older_after : ℕ → Spread → Option ℕ
+older_after base s =
+    if nat_lt s.position base then Some (max (unwrap_or s.older 0) s.ttl) else s.older
+
+-- a version is published
+abbrev pub after_publishing : ℕ → ℕ → ℕ → Spread → Spread
+after_publishing base position ttl s = record {
+  position = position;
+  ttl = ttl;
+  older = older_after base s;
+  seen = s.seen;
+  expired = s.expired;
+}
+
+-- the first whole second that isn't before a moment
+abbrev pub next_second : ℕ → ℕ
+next_second moment = (moment + 999_999_999) / 1_000_000_000
+
+-- the second from which no cache holds an older version, once no server gives one any more. Caches
+-- count whole seconds, so the moment is rounded up
+abbrev pub expired_after : ℕ → Option ℕ → ℕ → ℕ
+expired_after moment None expired = expired
+expired_after moment (Some ttl) expired = max expired (next_second moment + ttl)
+
+-- all servers gave the newest version
+abbrev pub after_seeing : ℕ → Spread → Spread
+after_seeing moment s = record {
+  position = s.position;
+  ttl = s.ttl;
+  older = None;
+  seen = moment;
+  expired = expired_after moment s.older s.expired;
+}
+
+-- one thing more is noted
+abbrev pub after : ℕ → Spread → News → Spread
+after base s (Published position ttl moment) = after_publishing base position ttl s
+after base s (Everywhere moment) = after_seeing moment s
+
+-- all that is noted, of a kind that had this TTL before the first call
+abbrev pub known : ℕ → ℕ → List News → Spread
+known base ttl news = fold (after base) (first_spread ttl) news
+
+-- the seconds from a moment to a whole second since 1970, if so many are a TTL
+abbrev pub seconds_until : ℕ → ℕ → Option ℕ
+seconds_until end now =
+    if nat_le (end - now / 1_000_000_000) 4_294_967_295 then Some (end - now / 1_000_000_000)
+    else None
+
+-- no server gives an older version any more
+abbrev pub is_none_older : Option ℕ → Bool
+is_none_older None = true
+is_none_older (Some ttl) = false
+
+-- the least TTL with which a report at the moment is true: none as long as servers may give an
+-- older version
+abbrev pub due_for : ℕ → Spread → ℕ → Option ℕ
+due_for base s now =
+    if nat_le base s.position && is_none_older s.older && nat_le s.seen now
+    then seconds_until s.expired now else None

@@ -1,0 +1,110 @@
+//! What an operator can see of a zone's sets, and note.
+ghost use Rattle.std.specs.Prelude.{◌≡◌, Some};
+ghost use Rattle.dnssec_run.specs.Safe.{kind_of};
+ghost use Rattle.dnssec_network.specs.Facts.{same_kind, ttl_before};
+ghost use Rattle.dnssec_network.specs.Texts.{fault_text};
+ghost use Rattle.dnssec_network.specs.declared.fact.NoteFault.TheVariants.{OutOfMemory};
+
+use dnssec_keyset::UnixTime;
+use dnssec_run::SetKind;
+use std::alloc::AllocFailed;
+use std::fmt;
+
+/// What is new of a kind of sets.
+#[derive(Clone, Copy, Debug)]
+pub enum News {
+    /// A version is published: from this moment on servers may give it, and none gave it before. It
+    /// has the sets that are due after the call of this position, and no TTL above this one.
+    Published {
+        position: usize,
+        /// In seconds: the highest of the sets of this kind, and of answers that there is none.
+        ttl: u32,
+        moment: UnixTime,
+    },
+    /// At this moment all servers gave the version that was noted last, or a later one.
+    Everywhere {
+        moment: UnixTime,
+    },
+}
+
+/// What is noted of one kind of sets.
+#[derive(Clone, Copy, Debug)]
+pub struct Fact {
+    pub kind: SetKind,
+    pub news: News,
+}
+
+/// The highest TTLs, in seconds, of what servers gave before the first call, or of their answers
+/// that there is no such set.
+#[derive(Clone, Copy, Debug)]
+pub struct Before {
+    pub ds: u32,
+    pub dnskey: u32,
+    pub zone: u32,
+}
+
+/// Why a fact was not noted.
+#[derive(Clone, Copy, Debug, PartialEq)]
+pub enum NoteFault {
+    /// A version has the sets of a call that wasn't made yet.
+    CallNotMade,
+    /// A version has the sets of an earlier call than the version before it.
+    GoesBack,
+    /// All servers are said to have given a version before it was published.
+    SeenBeforePublished,
+    /// The moment of a publication lies before that of the last one of this kind, or that of a
+    /// sight before the last sight: a clock was set back, or there are two.
+    MomentFalls,
+    /// Memory has run out.
+    OutOfMemory,
+}
+
+impl Fact {
+    pub(crate) fn is_of(self, kind: SetKind) -> bool
+        ensures { result ≡ same_kind (kind_of self.kind) (kind_of kind) }
+    {
+        match (self.kind, kind) {
+            (SetKind::Ds, SetKind::Ds)
+            | (SetKind::Dnskey, SetKind::Dnskey)
+            | (SetKind::ZoneSigners, SetKind::ZoneSigners) => true,
+            _ => false,
+        }
+    }
+}
+
+impl Before {
+    pub(crate) fn ttl(self, kind: SetKind) -> u32
+        ensures { result ≡ ttl_before self (kind_of kind) }
+    {
+        match kind {
+            SetKind::Ds => self.ds,
+            SetKind::Dnskey => self.dnskey,
+            SetKind::ZoneSigners => self.zone,
+        }
+    }
+}
+
+impl fmt::Display for NoteFault {
+    ghost output = { λ fault. Some (fault_text fault) };
+
+    /// Writes the cause, as `seen before it was published`.
+    fn fmt<W: fmt::Write>(&self, f: &mut fmt::Formatter<W>) -> fmt::Result {
+        f.write_str(match self {
+            NoteFault::CallNotMade => "no such call yet",
+            NoteFault::GoesBack => "goes back to an earlier call",
+            NoteFault::SeenBeforePublished => "seen before it was published",
+            NoteFault::MomentFalls => "moment before the last one",
+            NoteFault::OutOfMemory => "out of memory",
+        })
+    }
+}
+
+impl std::error::Error for NoteFault {}
+
+impl<T: Drop> From<AllocFailed<T>> for NoteFault {
+    ghost from_gives = { λ _ fault. fault ≡ OutOfMemory };
+
+    fn from(_: AllocFailed<T>) -> Self {
+        NoteFault::OutOfMemory
+    }
+}

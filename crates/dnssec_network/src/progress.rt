@@ -1,0 +1,160 @@
+//! How far notes have come: the newest version of each kind.
+ghost use Rattle.std.specs.Prelude.{◌≡◌};
+ghost use Rattle.dnssec_network.specs.Notes.{fall, first_newest, first_progress, newest_after};
+ghost use Rattle.dnssec_network.specs.Notes.{newest_of, news_refusal, progress_after};
+
+use crate::fact::{News, NoteFault};
+use dnssec_keyset::UnixTime;
+use dnssec_run::SetKind;
+use std::time::Duration;
+
+/// The newest version of a kind.
+#[derive(Clone, Copy, Debug)]
+pub(crate) struct Newest {
+    /// The position whose sets it has.
+    pub(crate) position: usize,
+    pub(crate) published: UnixTime,
+    /// When all servers were last seen to give it, or one before it.
+    pub(crate) seen: UnixTime,
+}
+
+/// How far notes have come.
+#[derive(Clone, Copy, Debug)]
+pub(crate) struct Progress {
+    pub(crate) ds: Newest,
+    pub(crate) dnskey: Newest,
+    pub(crate) zone: Newest,
+}
+
+/// The start of 1970.
+fn start() -> UnixTime
+    ensures { result ≡ 0 }
+{
+    UnixTime::from(Duration::from_secs(0))
+}
+
+impl Newest {
+    /// What was there before the first call.
+    fn first() -> Self
+        ensures { result ≡ first_newest }
+    {
+        Newest {
+            position: 0,
+            published: start(),
+            seen: start(),
+        }
+    }
+
+    fn after(self, news: News) -> Self
+        ensures { result ≡ newest_after news self }
+    {
+        match news {
+            News::Published {
+                position,
+                moment,
+                ..
+            } => Newest {
+                position,
+                published: moment,
+                seen: self.seen,
+            },
+            News::Everywhere { moment } => Newest {
+                position: self.position,
+                published: self.published,
+                seen: moment,
+            },
+        }
+    }
+
+    /// Why news of this kind are refused, if they are, with so many calls made.
+    fn refusal(self, calls: usize, news: News) -> Option<NoteFault>
+        ensures { result ≡ news_refusal calls self news }
+    {
+        match news {
+            News::Published {
+                position,
+                moment,
+                ..
+            } => {
+                if calls < position {
+                    Some(NoteFault::CallNotMade)
+                } else if position < self.position {
+                    Some(NoteFault::GoesBack)
+                } else {
+                    fall(self.published, moment)
+                }
+            }
+            News::Everywhere { moment } => {
+                if moment < self.published {
+                    Some(NoteFault::SeenBeforePublished)
+                } else {
+                    fall(self.seen, moment)
+                }
+            }
+        }
+    }
+}
+
+/// A moment must not lie before the last one.
+fn fall(last: UnixTime, moment: UnixTime) -> Option<NoteFault>
+    ensures { result ≡ fall last moment }
+{
+    if moment < last {
+        Some(NoteFault::MomentFalls)
+    } else {
+        None
+    }
+}
+
+impl Progress {
+    /// Nothing is noted.
+    pub(crate) fn first() -> Self
+        ensures { result ≡ first_progress }
+    {
+        Progress {
+            ds: Newest::first(),
+            dnskey: Newest::first(),
+            zone: Newest::first(),
+        }
+    }
+
+    /// After one fact more.
+    pub(crate) fn after(&self, kind: SetKind, news: &News) -> Self
+        ensures { result ≡ progress_after self.now (record { kind = kind; news = news.now }) }
+    {
+        match kind {
+            SetKind::Ds => Progress {
+                ds: self.ds.after(*news),
+                dnskey: self.dnskey,
+                zone: self.zone,
+            },
+            SetKind::Dnskey => Progress {
+                ds: self.ds,
+                dnskey: self.dnskey.after(*news),
+                zone: self.zone,
+            },
+            SetKind::ZoneSigners => Progress {
+                ds: self.ds,
+                dnskey: self.dnskey,
+                zone: self.zone.after(*news),
+            },
+        }
+    }
+
+    fn newest(&self, kind: SetKind) -> Newest
+        ensures { result ≡ newest_of self.now kind }
+    {
+        match kind {
+            SetKind::Ds => self.ds,
+            SetKind::Dnskey => self.dnskey,
+            SetKind::ZoneSigners => self.zone,
+        }
+    }
+
+    /// Why a fact is refused, if it is, with so many calls made.
+    pub(crate) fn refusal(&self, calls: usize, kind: SetKind, news: &News) -> Option<NoteFault>
+        ensures { result ≡ news_refusal calls (newest_of self.now kind) news.now }
+    {
+        self.newest(kind).refusal(calls, *news)
+    }
+}

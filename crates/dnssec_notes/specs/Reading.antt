@@ -1,0 +1,72 @@
+-- Which lines are notes, and which line of others is the first that is not.
+use Rattle.std.specs.Prelude.{◌≡◌, ◌⊎◌, ℕ, ◌+◌, ◌<◌, ◌++◌, List, [], ◌∷◌, map, length, take, Option}
+use Rattle.std.specs.Prelude.{None, Some, slice_index_or}
+use Rattle.dnssec_network.specs.declared.fact.Before.{Before}
+use Rattle.dnssec_network.specs.declared.fact.Fact.{Fact}
+use Rattle.dnssec_network.specs.Notes.{NotesParts, refusal}
+use Rattle.dnssec_record.specs.Script.{lines_of}
+use Rattle.dnssec_notes.specs.Lines.{as_before, as_fact, before_says, fact_says}
+use Rattle.dnssec_notes.specs.declared.fault.NotesFault.{NotesFault}
+use Rattle.dnssec_notes.specs.declared.fault.NotesFault.TheVariants.{Malformed, Refused}
+use Rattle.dnssec_notes.specs.declared.fault.NotesFault.TheVariants.{OutOfMemory}
+
+-- ---- notes
+
+-- with so many calls made, none of these facts is refused behind the old ones and those before it
+abbrev pub AreTaken : ℕ → List Fact → List Fact → Type 0
+AreTaken calls old [] = Unit {0}
+AreTaken calls old (fact ∷ facts) =
+    (refusal calls old fact ≡ None) × AreTaken calls (old ++ fact ∷ []) facts
+
+-- the lines say these facts, one each, and none is refused
+pub record AreFacts (calls : ℕ) (lines : List (List ℕ)) (facts : List Fact) : Type 0 where
+  pub said : map as_fact lines ≡ map (λ (fact : Fact). Some (fact_says fact)) facts
+  pub taken : AreTaken calls [] facts
+
+-- the lines are notes: the first says the TTLs from before the first call, and each further line a
+-- fact
+abbrev pub AreNotes : ℕ → List (List ℕ) → Before → List Fact → Type 0
+AreNotes calls [] before facts = ⊥
+AreNotes calls (first ∷ lines) before facts =
+    (as_before first ≡ Some (before_says before)) × AreFacts calls lines facts
+
+-- ---- other lines
+
+-- behind these facts a line says none, or one that is refused
+abbrev pub IsLineFault : ℕ → List Fact → List ℕ → ℕ → NotesFault → Type 0
+IsLineFault calls facts line n (Malformed m) = (m ≡ n) × (as_fact line ≡ None)
+IsLineFault calls facts line n (Refused m cause) = (m ≡ n) × ((fact : Fact)
+    × (as_fact line ≡ Some (fact_says fact)) × (refusal calls facts fact ≡ Some cause))
+IsLineFault calls facts line n OutOfMemory = Unit {0}
+
+-- the first such line of those behind the first, which is line 1
+pub record IsFactsFault (calls : ℕ) (lines : List (List ℕ)) (fault : NotesFault) : Type 0 where
+  pub i : ℕ
+  pub within : i < length lines
+  pub facts : List Fact
+  pub before : AreFacts calls (take i lines) facts
+  pub here : IsLineFault calls facts (slice_index_or lines i []) (i + 2) fault
+
+-- the fault of lines: the first isn't one, or a further line is the first with a fault
+abbrev pub IsFaultOf : ℕ → List (List ℕ) → NotesFault → Type 0
+IsFaultOf calls [] fault = ⊥
+IsFaultOf calls (first ∷ lines) fault =
+    ((as_before first ≡ None) × (fault ≡ Malformed 1))
+    ⊎ (((before : Before) × (as_before first ≡ Some (before_says before)))
+    × IsFactsFault calls lines fault)
+
+-- the text is no notes, and why
+abbrev pub IsNotesFault : ℕ → List ℕ → NotesFault → Type 0
+IsNotesFault calls text OutOfMemory = Unit {0}
+IsNotesFault calls text (Malformed n) = IsFaultOf calls (lines_of text) (Malformed n)
+IsNotesFault calls text (Refused n cause) = IsFaultOf calls (lines_of text) (Refused n cause)
+
+-- ---- one line more
+
+-- the notes have the fact of this line more
+pub record HasLine (calls : ℕ) (old : NotesParts) (line : List ℕ) (new : NotesParts)
+    : Type 0 where
+  pub fact : Fact
+  pub said : as_fact line ≡ Some (fact_says fact)
+  pub taken : refusal calls old.facts fact ≡ None
+  pub notes : new ≡ record old { facts = old.facts ++ fact ∷ [] }

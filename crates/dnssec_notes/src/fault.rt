@@ -1,0 +1,92 @@
+//! Why notes were not read, or a question about reports not answered.
+ghost use Rattle.std.specs.Prelude.{◌≡◌, Some};
+ghost use Rattle.dnssec_notes.specs.Texts.{due_fault_text, notes_fault_text};
+ghost use Rattle.dnssec_notes.specs.declared.fault.DueFault.TheVariants as due;
+ghost use Rattle.dnssec_notes.specs.declared.fault.NotesFault.TheVariants.{OutOfMemory};
+
+use dnssec_network::NoteFault;
+use dnssec_record::ScriptFault;
+use std::alloc::AllocError;
+use std::fmt;
+
+/// Why a text was not read as notes.
+#[derive(Clone, Copy, Debug, PartialEq)]
+pub enum NotesFault {
+    /// The line of this number, counted from 1, is the first that doesn't have the form of a line
+    /// of notes.
+    Malformed(usize),
+    /// The fact on the line of this number can't follow those before it.
+    Refused(usize, NoteFault),
+    /// Memory has run out.
+    OutOfMemory,
+}
+
+impl fmt::Display for NotesFault {
+    ghost output = { λ fault. Some (notes_fault_text fault) };
+
+    /// Writes what a program tells its user, as `line 3: seen before it was published`.
+    fn fmt<W: fmt::Write>(&self, f: &mut fmt::Formatter<W>) -> fmt::Result {
+        match self {
+            NotesFault::Malformed(number) => write!(f, "line {number}: malformed"),
+            NotesFault::Refused(number, fault) => write!(f, "line {number}: {fault}"),
+            NotesFault::OutOfMemory => f.write_str("out of memory"),
+        }
+    }
+}
+
+impl std::error::Error for NotesFault {}
+
+impl From<AllocError> for NotesFault {
+    ghost from_gives = { λ _ fault. fault ≡ OutOfMemory };
+
+    fn from(_: AllocError) -> Self {
+        NotesFault::OutOfMemory
+    }
+}
+
+/// Why it was not answered which reports are due.
+#[derive(Debug, Drop, PartialEq)]
+pub enum DueFault {
+    /// The script was not run.
+    Script(ScriptFault),
+    /// The notes were not read.
+    Notes(NotesFault),
+}
+
+impl fmt::Display for DueFault {
+    ghost output = { λ fault. Some (due_fault_text fault) };
+
+    /// Writes what a program tells its user, as `notes: line 3: malformed`.
+    fn fmt<W: fmt::Write>(&self, f: &mut fmt::Formatter<W>) -> fmt::Result {
+        match self {
+            DueFault::Script(fault) => write!(f, "script: {fault}"),
+            DueFault::Notes(fault) => write!(f, "notes: {fault}"),
+        }
+    }
+}
+
+impl std::error::Error for DueFault {}
+
+impl From<ScriptFault> for DueFault {
+    ghost from_gives = { λ fault given. given ≡ due.Script fault };
+
+    fn from(fault: ScriptFault) -> Self {
+        DueFault::Script(fault)
+    }
+}
+
+impl From<NotesFault> for DueFault {
+    ghost from_gives = { λ fault given. given ≡ due.Notes fault };
+
+    fn from(fault: NotesFault) -> Self {
+        DueFault::Notes(fault)
+    }
+}
+
+impl From<AllocError> for DueFault {
+    ghost from_gives = { λ _ fault. fault ≡ due.Notes OutOfMemory };
+
+    fn from(_: AllocError) -> Self {
+        DueFault::Notes(NotesFault::OutOfMemory)
+    }
+}

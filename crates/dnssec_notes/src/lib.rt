@@ -1,0 +1,14 @@
+//! Notes of a zone as a text beside its script, and the reports that are due by them.
+#![tactic(auto)]
+
+mod answer;
+mod fault;
+mod line;
+mod reading;
+mod reports;
+
+pub use answer::answer_due;
+pub use dnssec_network::{Before, DueReport, Fact, News, NoteFault, Notes, SetKind, Steps};
+pub use fault::{DueFault, NotesFault};
+pub use reading::read_notes;
+pub use reports::due_lines;

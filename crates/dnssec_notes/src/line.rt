@@ -1,0 +1,138 @@
+//! What a line of notes says.
+ghost use Rattle.std.specs.Prelude.{◌≡◌, List};
+ghost use Rattle.std.specs.Option.{option_map};
+ghost use Rattle.dnssec_record.specs.Script.{values_of};
+ghost use Rattle.dnssec_notes.specs.Lines.{as_before, as_fact, before_forms, before_says};
+ghost use Rattle.dnssec_notes.specs.Lines.{fact_says, kind_at, kind_name, kind_named, news_behind};
+ghost use Rattle.dnssec_notes.specs.Lines.{news_says, word_at, word_named};
+
+use dnssec_network::{Before, Fact, News, SetKind};
+use dnssec_record::Fields;
+
+/// The words of facts.
+#[derive(Clone, Copy)]
+pub(crate) enum Word {
+    Published,
+    Everywhere,
+}
+
+#[tactic(auto, unfolding(crate::specs::Lines::word_named))]
+fn word_named(name: &[u8]) -> Option<Word>
+    ensures { result ≡ word_named name.now }
+{
+    if name == b"published".as_slice() {
+        Some(Word::Published)
+    } else if name == b"everywhere".as_slice() {
+        Some(Word::Everywhere)
+    } else {
+        None
+    }
+}
+
+#[tactic(auto, unfolding(crate::specs::Lines::kind_named))]
+fn kind_named(name: &[u8]) -> Option<SetKind>
+    ensures { result ≡ kind_named name.now }
+{
+    if name == b"ds".as_slice() {
+        Some(SetKind::Ds)
+    } else if name == b"dnskey".as_slice() {
+        Some(SetKind::Dnskey)
+    } else if name == b"zone".as_slice() {
+        Some(SetKind::ZoneSigners)
+    } else {
+        None
+    }
+}
+
+/// The name of a kind, as notes have it.
+pub(crate) fn kind_name(kind: SetKind) -> &'static str
+    ensures { result.now ≡ kind_name kind }
+{
+    match kind {
+        SetKind::Ds => "ds",
+        SetKind::Dnskey => "dnskey",
+        SetKind::ZoneSigners => "zone",
+    }
+}
+
+/// The first field as a word.
+fn first_word<'a>(fields: Fields<'a>) -> Option<(Word, Fields<'a>)>
+    ensures { option_map (λ x. (x.0, x.1)) result ≡ word_at fields.entry }
+{
+    let (name, fields) = fields.next()?;
+    Some((word_named(name)?, fields))
+}
+
+/// The first field as a kind of sets.
+fn first_kind<'a>(fields: Fields<'a>) -> Option<(SetKind, Fields<'a>)>
+    ensures { option_map (λ x. (x.0, x.1)) result ≡ kind_at fields.entry }
+{
+    let (name, fields) = fields.next()?;
+    Some((kind_named(name)?, fields))
+}
+
+/// What a line says, if it has the form of a fact's line.
+#[tactic(auto, unfolding(crate::specs::Lines::as_fact))]
+pub(crate) fn read_fact(line: &[u8]) -> Option<Fact>
+    ensures { option_map fact_says result ≡ as_fact line.now }
+{
+    let (word, fields) = first_word(Fields::of(line))?;
+    let (kind, fields) = first_kind(fields)?;
+    let news = behind(word, fields)?;
+    Some(Fact { kind, news })
+}
+
+/// What the fields behind a word and a kind say.
+fn behind(word: Word, fields: Fields<'_>) -> Option<News>
+    ensures { option_map news_says result ≡ news_behind word fields.entry }
+{
+    match word {
+        Word::Published => published(fields),
+        Word::Everywhere => everywhere(fields),
+    }
+}
+
+fn published(fields: Fields<'_>) -> Option<News>
+    ensures { option_map news_says result ≡ news_behind Word.Published fields.entry }
+{
+    let (position, fields) = fields.number(u64::MAX)?;
+    let (ttl, fields) = fields.ttl()?;
+    let (moment, fields) = fields.time()?;
+    fields.end()?;
+    Some(News::Published {
+        position: position as usize,
+        ttl,
+        moment,
+    })
+}
+
+fn everywhere(fields: Fields<'_>) -> Option<News>
+    ensures { option_map news_says result ≡ news_behind Word.Everywhere fields.entry }
+{
+    let (moment, fields) = fields.time()?;
+    fields.end()?;
+    Some(News::Everywhere { moment })
+}
+
+/// What the first line says, if it has the form of one.
+#[tactic(auto, unfolding(crate::specs::Lines::as_before))]
+pub(crate) fn read_before(line: &[u8]) -> Option<Before>
+    ensures { option_map before_says result ≡ as_before line.now }
+{
+    let (word, fields) = Fields::of(line).next()?;
+    if word == b"before".as_slice() {
+        before(fields)
+    } else {
+        None
+    }
+}
+
+fn before(fields: Fields<'_>) -> Option<Before>
+    ensures { option_map before_says result ≡ values_of before_forms fields.entry }
+{
+    let (ds, fields) = fields.ttl()?;
+    let (dnskey, fields) = fields.ttl()?;
+    let (zone, fields) = fields.ttl()?;
+    fields.end()?;
+    Some(Before { ds, dnskey, zone })
+}

@@ -1,0 +1,82 @@
+//! Notes as a text.
+ghost use Rattle.std.specs.Prelude.{◌≡◌, ℕ, List, IfOk, IfErr, OnOk, map};
+ghost use denote.Bor.{now};
+ghost use Rattle.dnssec_record.specs.Script.{lines_of};
+ghost use Rattle.dnssec_notes.specs.Reading.{AreFacts, AreNotes, HasLine, IsFactsFault};
+ghost use Rattle.dnssec_notes.specs.Reading.{IsLineFault, IsNotesFault};
+
+use crate::fault::NotesFault;
+use crate::line::{read_before, read_fact};
+use dnssec_network::{Before, NoteFault, Notes};
+use dnssec_record::all_lines;
+use std::alloc::Global;
+
+/// Reads notes, which stand beside a script with so many calls.
+///
+/// # Errors
+///
+/// - `Malformed` with the number of the first line that is none of notes.
+/// - `Refused` with the number of the first fact that can't follow those before it, and the cause.
+/// - `OutOfMemory` where memory runs out.
+///
+/// ```rust
+/// let text = "before 3600 3600 3600\npublished dnskey 12 3600 100\neverywhere dnskey 130\n";
+/// let notes = read_notes(alloc, calls, text.as_bytes())?;
+/// ```
+pub fn read_notes(alloc: Global, calls: usize, text: &[u8]) -> Result<Notes, NotesFault>
+    ensures ok { IfOk result (λ notes.
+        AreNotes calls (lines_of text.now) notes.before notes.facts) }
+    ensures err { IfErr result (IsNotesFault calls text.now) }
+{
+    let lines = all_lines(alloc, text)?;
+    read_lines(alloc, calls, &lines)
+}
+
+/// Reads the lines of notes.
+fn read_lines(alloc: Global, calls: usize, lines: &[&[u8]]) -> Result<Notes, NotesFault>
+    ensures ok { (text : List ℕ) → map now lines.now ≡ lines_of text →
+        IfOk result (λ notes. AreNotes calls (lines_of text) notes.before notes.facts) }
+    ensures err { (text : List ℕ) → map now lines.now ≡ lines_of text →
+        IfErr result (IsNotesFault calls text) }
+{
+    let Some((first, rest)) = lines.split_first() else {
+        return Err(NotesFault::Malformed(1));
+    };
+    let Some(before) = read_before(first) else {
+        return Err(NotesFault::Malformed(1));
+    };
+    read_facts(alloc, calls, before, rest)
+}
+
+/// Notes the fact of each of the lines, which stand from line 2 on.
+fn read_facts(
+    alloc: Global,
+    calls: usize,
+    before: Before,
+    lines: &[&[u8]],
+) -> Result<Notes, NotesFault>
+    ensures before { IfOk result (λ notes. notes.before ≡ before) }
+    ensures ok { IfOk result (λ notes. AreFacts calls (map now lines.now) notes.facts) }
+    ensures err { IfErr result (IsFactsFault calls (map now lines.now)) }
+{
+    let mut notes = Notes::new(alloc, before);
+    for (index, line) in lines.iter().enumerate() {
+        note_line(&mut notes, calls, line, index + 2)?;
+    }
+    Ok(notes)
+}
+
+/// Notes the fact of a line of this number.
+fn note_line(notes: &mut Notes, calls: usize, line: &[u8], number: usize) -> Result<(), NotesFault>
+    ensures ok { OnOk result (HasLine calls notes.old line.now notes.new) }
+    ensures err { IfErr result (IsLineFault calls notes.old.facts line.now number) }
+{
+    match read_fact(line) {
+        None => Err(NotesFault::Malformed(number)),
+        Some(fact) => match notes.note(calls, fact.kind, fact.news) {
+            Ok(()) => Ok(()),
+            Err(NoteFault::OutOfMemory) => Err(NotesFault::OutOfMemory),
+            Err(fault) => Err(NotesFault::Refused(number, fault)),
+        },
+    }
+}

@@ -1,0 +1,134 @@
+//! The reports that are due, as lines.
+ghost use Rattle.std.specs.Prelude.{◌≡◌, ◌++◌, ◌*◌, ℕ, IfOk, OnOk, codes, decimal, string_bytes};
+ghost use Rattle.std.specs.List.{flat_map};
+ghost use Rattle.dnssec_key.specs.Texts.{roll_name};
+ghost use Rattle.dnssec_run.specs.Steps.{step_of};
+ghost use Rattle.dnssec_notes.specs.Due.{due_line, due_text, line_for, report_of, report_word};
+ghost use Rattle.dnssec_notes.specs.Due.{ttl_line};
+
+use crate::line::kind_name;
+use dnssec_keyset::{KeySet, RollType, UnixTime};
+use dnssec_network::{DueReport, Notes, Steps};
+use std::alloc::{AllocError, Global};
+use std::time::Duration;
+
+/// The reports that rolls wait for, as they would be made at this second since 1970. For each
+/// stands a line of a script, as `report1 ksk-roll 3600 130`; or, if it isn't due yet, which sets it
+/// waits for, as `not yet: report1 ksk-roll waits for dnskey`. `steps` are the last steps of the
+/// record of this key set.
+///
+/// # Errors
+///
+/// Where memory runs out.
+///
+/// ```rust
+/// let lines = due_lines(alloc, &run.keyset, Steps::of_record(&run.entries), &notes, seconds)?;
+/// ```
+pub fn due_lines(
+    alloc: Global,
+    keyset: &KeySet,
+    steps: Steps,
+    notes: &Notes,
+    seconds: u64,
+) -> Result<String, AllocError>
+    ensures { IfOk result (λ text. string_bytes text ≡ due_text keyset.now.rolls (step_of steps)
+        notes.now.before notes.now.facts seconds) }
+{
+    let rolls = [
+        RollType::KskRoll,
+        RollType::KskDoubleDsRoll,
+        RollType::ZskRoll,
+        RollType::ZskDoubleSignatureRoll,
+        RollType::CskRoll,
+        RollType::AlgorithmRoll,
+    ];
+    let mut text = String::new(alloc);
+    push_lines(&mut text, &rolls, keyset, steps, notes, seconds)?;
+    Ok(text)
+}
+
+fn push_lines(
+    text: &mut String,
+    rolls: &[RollType],
+    keyset: &KeySet,
+    steps: Steps,
+    notes: &Notes,
+    seconds: u64,
+) -> Result<(), AllocError>
+    ensures { OnOk result (string_bytes text.new ≡ string_bytes text.old
+        ++ flat_map (line_for keyset.now.rolls (step_of steps) notes.now.before notes.now.facts
+        seconds) rolls.now) }
+{
+    for roll in rolls {
+        let now = UnixTime::from(Duration::from_secs(seconds));
+        let report = notes.due_report(keyset, steps, *roll, now);
+        push_line(text, &report, seconds)?;
+    }
+    Ok(())
+}
+
+fn push_line(text: &mut String, report: &Option<DueReport>, seconds: u64) -> Result<(), AllocError>
+    ensures { OnOk result (string_bytes text.new
+        ≡ string_bytes text.old ++ due_line report.now seconds) }
+{
+    match report {
+        None => Ok(()),
+        Some(report) => push_report(text, report, seconds),
+    }
+}
+
+fn push_report(text: &mut String, report: &DueReport, seconds: u64) -> Result<(), AllocError>
+    ensures { OnOk result (string_bytes text.new ≡ string_bytes text.old
+        ++ ttl_line report.now.second report.now.roll report.now.ttl seconds) }
+{
+    match report.ttl {
+        Ok(ttl) => {
+            push_call(text, report.second, report.roll)?;
+            text.push_str(" ")?;
+            push_number(text, u64::from(ttl))?;
+            text.push_str(" ")?;
+            push_number(text, seconds)?;
+            text.push_str("\n")
+        }
+        Err(kind) => {
+            text.push_str("not yet: ")?;
+            push_call(text, report.second, report.roll)?;
+            text.push_str(" waits for ")?;
+            text.push_str(kind_name(kind))?;
+            text.push_str("\n")
+        }
+    }
+}
+
+fn push_call(text: &mut String, second: bool, roll: RollType) -> Result<(), AllocError>
+    ensures { OnOk result (string_bytes text.new ≡ string_bytes text.old ++ report_of second roll) }
+{
+    text.push_str(report_word(second))?;
+    text.push_str(" ")?;
+    text.push_str(roll_name(roll))
+}
+
+fn push_number(text: &mut String, number: u64) -> Result<(), AllocError>
+    ensures { OnOk result (string_bytes text.new ≡ string_bytes text.old ++ decimal number) }
+{
+    write!(text, "{number}")
+}
+
+fn report_word(second: bool) -> &'static str
+    ensures { result.now ≡ report_word second }
+{
+    if second { "report2" } else { "report1" }
+}
+
+fn roll_name(roll: RollType) -> &'static str
+    ensures { result.now ≡ roll_name roll }
+{
+    match roll {
+        RollType::KskRoll => "ksk-roll",
+        RollType::KskDoubleDsRoll => "ksk-double-ds-roll",
+        RollType::ZskRoll => "zsk-roll",
+        RollType::ZskDoubleSignatureRoll => "zsk-double-signature-roll",
+        RollType::CskRoll => "csk-roll",
+        RollType::AlgorithmRoll => "algorithm-roll",
+    }
+}

@@ -1,0 +1,157 @@
+"""Notes that an operator of the game keeps, as docs/NOTES.md has them, and the TTL that is due by
+them: by the rule as it stands there, written anew here."""
+
+from typing import NamedTuple
+
+from judge import SPEAKS_OF
+
+from game.zone import SECOND
+
+
+class Question(NamedTuple):
+    """What was due at a report: the script and the notes as they stood; the report's TTL, or None
+    if it was not due yet; and the most that rule 1 of docs/OPERATORS.md lets it be as it is played, if
+    each older set was seen to leave the servers as soon as it did."""
+
+    call: str
+    roll: str
+    script: str
+    notes: str
+    moment: int
+    due: int | None
+    most: int | None
+
+
+class Version:
+    """A version of a kind of sets. `left` is the moment at which all servers were seen to give a
+    later one."""
+
+    def __init__(self, position, ttl, sets):
+        self.position, self.ttl, self.sets, self.left = position, ttl, sets, None
+
+
+class Notes:
+    """Of one operator, who takes their moments from one machine. If it `reports` by them, it makes
+    each report with the TTL that they say, but for those that ask for a sum."""
+
+    def __init__(self, operator, reports):
+        self.operator, self.world, self.reports = operator, operator.world, reports
+        # How far notes and rule 1 may differ, by the clocks.
+        self.slack = 2 * (operator.margin // SECOND + 1)
+        self.questions = []
+        sources = {"ds": self.world.parent, "dnskey": operator.zone, "zone": operator.zone}
+        self.sources, self.looked = sources, dict.fromkeys(sources, 0)
+        # The number of the servers' version in which the newest of a kind came, if it wasn't seen
+        # everywhere yet.
+        self.waits = dict.fromkeys(sources)
+        self.versions = {
+            kind: [Version(0, self.ttl(kind, 0), self.sets(kind, 0))] for kind in sources
+        }
+        self.lines = ["before " + " ".join(str(self.ttl(kind, 0)) for kind in sources)]
+
+    def sets(self, kind, number):
+        """The sets of a kind in a version of the servers: for the zone those of CDS too."""
+        version = self.sources[kind].versions[number]
+        kinds = (kind, "cds") if kind == "zone" else (kind,)
+        return [version[each] for each in kinds if version[each]]
+
+    def ttl(self, kind, number):
+        return max(self.world.keeps(kept.ttl) for kept in self.sets(kind, number))
+
+    def value(self, kind, number):
+        return self.sets(kind, number)[0].value
+
+    def down(self):
+        return (self.world.now + self.operator.ahead[0]) // SECOND
+
+    def up(self):
+        return -(-(self.world.now + self.operator.ahead[0] + self.operator.margin) // SECOND)
+
+    def look(self):
+        """Notes what was published since, and what was seen on all servers."""
+        for kind, servers in self.sources.items():
+            for number in range(self.looked[kind] + 1, len(servers.versions)):
+                if self.sets(kind, number) != self.sets(kind, number - 1):
+                    self.published(kind, number)
+            self.looked[kind] = len(servers.versions) - 1
+            if self.waits[kind] is not None and min(servers.at) >= self.waits[kind]:
+                self.seen(kind)
+
+    def published(self, kind, number):
+        """The sets of the last call that asks for these, or those of the version before with
+        another TTL. (A parent that reads CDS may take those of a call before the last.)"""
+        value, at = self.value(kind, number), self.versions[kind][-1].position
+        if value != self.value(kind, number - 1):
+            record = self.operator.keyset.record
+            at = next(n for n in reversed(range(len(record))) if due(kind, record[n]) == value)
+        ttl, sets = self.ttl(kind, number), self.sets(kind, number)
+        self.versions[kind].append(Version(at, ttl, sets))
+        self.waits[kind] = number
+        self.lines.append(f"published {kind} {at} {ttl} {self.down()}")
+
+    def seen(self, kind):
+        self.waits[kind], moment = None, self.up()
+        for version in self.versions[kind][:-1]:
+            version.left = moment if version.left is None else version.left
+        self.lines.append(f"everywhere {kind} {moment}")
+
+    # Reports
+
+    def older(self, roll, second):
+        """Of each kind of sets that a report speaks of, the newest version, and those that are
+        older than what the roll's last step published."""
+        base = max(n for n, at in enumerate(self.operator.keyset.record) if at.step == roll)
+        for kind in SPEAKS_OF[roll][second].split():
+            versions = self.versions[kind]
+            yield base, versions[-1], [each for each in versions if each.position < base]
+
+    def least(self, roll, second, moment):
+        """The TTL of a report, or None if it is not due yet."""
+        ttl = 0
+        for base, newest, older in self.older(roll, second):
+            if newest.position < base or any(version.left is None for version in older):
+                return None
+            ttl = max([ttl, *(version.left + version.ttl - moment for version in older)])
+        return ttl
+
+    def is_sharp(self, roll, second):
+        """Whether each older set was seen to leave the servers as soon as it did."""
+        gone = self.operator.gone
+        return all(
+            version.left - max(gone.get(kept, 0) for kept in version.sets) <= self.slack
+            for _, _, older in self.older(roll, second)
+            for version in older
+        )
+
+    def report(self, call, roll, moment, ttl, is_sum):
+        """Asks which report is due, and goes on asking if it is made by the notes. Gives its moment
+        and its TTL: those of the notes, or as they would be."""
+        by_notes = self.reports and not is_sum
+        while self.asks(call, roll, ttl) is None and by_notes:
+            for _ in range(SECOND):
+                self.operator.passes()
+                yield
+        last = self.questions[-1]
+        while by_notes and self.operator.rounded_down() < last.moment:
+            self.operator.passes()
+            yield
+        return (last.moment, last.due) if by_notes else (moment, ttl)
+
+    def asks(self, call, roll, ttl):
+        self.look()
+        second, moment = call == "report2", self.up()
+        ttl_due, most = self.least(roll, second, moment), None
+        if ttl_due is not None and self.is_sharp(roll, second):
+            most = max(ttl, self.slack)
+        script = "\n".join(["zone example.com", *self.operator.script])
+        self.questions.append(Question(
+            call, roll, script, "\n".join(self.lines), moment, ttl_due, most
+        ))
+        return ttl_due
+
+
+def due(kind, position):
+    """The set of a kind that is due at a position of a record."""
+    labels = ("dnskey", "signers") if kind == "dnskey" else (kind,)
+    names = [frozenset(name for name, _ in getattr(position, label)) for label in labels]
+    return tuple(names) if kind == "dnskey" else names[0]

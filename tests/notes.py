@@ -1,0 +1,83 @@
+#!/usr/bin/env python3
+"""Operators of `tests/runbooks.py` who keep notes, as docs/NOTES.md has them.
+
+Each report is asked for by the program `keyset_notes`: what it answers has to be what the rule of
+docs/NOTES.md says, which `tests/game/notes.py` has in words of its own, and no more than rule 1 of
+docs/OPERATORS.md, as it is played, but for the difference of clocks. Half of the operators report
+what their notes say, and no zone breaks by it."""
+
+import random
+import subprocess
+import sys
+import time
+from itertools import permutations
+
+import runbooks
+
+from game.book import left_out, runbooks as book
+from game.notes import Notes
+from game.points import PAIRS, POINTS
+from tables import ROLLS
+
+PROGRAM = runbooks.TOP / "crates" / "keyset_notes" / "out" / "keyset_notes"
+
+
+def played(orders, wrong):
+    """The questions of all operators."""
+    questions, told, unsaid = [], book(), left_out(POINTS + PAIRS)
+    for seed, order in enumerate(orders):
+        world, signers, fault = runbooks.play(
+            seed, order, told, unsaid, lambda one: Notes(one, seed % 2 == 1)
+        )
+        if fault:
+            wrong.append(f"notes: zone {seed}: {fault}")
+        for one in signers:
+            questions += one.notes.questions
+    return questions
+
+
+def answers(questions):
+    """What the program answers to each question, as lines."""
+    text = "\n\n".join(f"{each.script}\n\n{each.notes}\ndue {each.moment}" for each in questions)
+    done = subprocess.run([PROGRAM], input=text, capture_output=True, text=True)
+    if done.returncode:
+        sys.exit(f"notes: status {done.returncode}: {done.stderr}")
+    return [answer.splitlines() for answer in done.stdout.split("\n\n")]
+
+
+def compare(question, lines, wrong):
+    """Compares an answer with both rules."""
+    call, roll, *_, due, most = question
+    told = [line for line in lines if roll in line.split()]
+    if due is None:
+        is_right = len(told) == 1 and told[0].startswith(f"not yet: {call} {roll} waits for ")
+    else:
+        is_right = told == [f"{call} {roll} {due} {question.moment}"]
+    if not is_right:
+        wrong.append(f"notes: {call} {roll} is due with {due}, and answered {told}")
+    elif most is not None and due > most:
+        wrong.append(f"notes: {told[0]}, and rule 1 says {most}")
+
+
+def main():
+    began, wrong = time.monotonic(), []
+    questions = played(random.Random(0).sample([*permutations(ROLLS)], 60), wrong)
+    told = answers(questions)
+    if len(told) != len(questions):
+        wrong.append(f"notes: {len(questions)} questions have {len(told)} answers")
+    for question, lines in zip(questions, told):
+        compare(question, lines, wrong)
+    if wrong:
+        print(*wrong[:20], sep="\n")
+        return 1
+    waits = sum(question.due is None for question in questions)
+    sharp = sum(question.most is not None for question in questions)
+    print(
+        f"notes: {len(questions)} answers, of which {waits} say not yet, are those of the rule, and"
+        f" {sharp} of them no more than rule 1; {time.monotonic() - began:.0f} s"
+    )
+    return 0
+
+
+if __name__ == "__main__":
+    sys.exit(main())
