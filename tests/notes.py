@@ -21,6 +21,29 @@ from tables import ROLLS
 
 PROGRAM = runbooks.TOP / "crates" / "keyset_notes" / "out" / "keyset_notes"
 
+# A script of one call, and notes that are refused beside it, with what is said of them.
+SCRIPT = "zone example.com\nadd-ksk K1 - 13 1 0 yes"
+FAULTS = {
+    "before 1 1": "notes: line 1: malformed",
+    "before 1 1 4294967296": "notes: line 1: malformed",
+    "published ds 1 5 9": "notes: line 1: malformed",
+    "before 1 1 1\npublished ds 1  5 9": "notes: line 2: malformed",
+    "before 1 1 1\npublished cds 1 5 9": "notes: line 2: malformed",
+    "before 1 1 1\npublished ds 1 5 9 ": "notes: line 2: malformed",
+    "before 1 1 1\neverywhere ds": "notes: line 2: malformed",
+    "before 1 1 1\neverywhere ds 9\nbefore 1 1 1": "notes: line 3: malformed",
+    "before 1 1 1\npublished ds 2 5 9": "notes: line 2: no such call yet",
+    "before 1 1 1\npublished ds 1 5 9\npublished ds 0 5 9":
+        "notes: line 3: goes back to an earlier call",
+    "before 1 1 1\npublished ds 1 5 9\neverywhere ds 8":
+        "notes: line 3: seen before it was published",
+    "before 1 1 1\npublished ds 1 5 9\npublished ds 1 5 8":
+        "notes: line 3: moment before the last one",
+    "before 1 1 1\neverywhere ds 9\neverywhere ds 8": "notes: line 3: moment before the last one",
+    # Each kind goes by itself, and a publication in the second of a sight comes after it.
+    "before 1 1 1\neverywhere ds 9\neverywhere zone 8\npublished ds 1 5 8": "",
+}
+
 
 def played(orders, wrong):
     """The questions of all operators."""
@@ -36,10 +59,26 @@ def played(orders, wrong):
     return questions
 
 
+def asked(text):
+    return subprocess.run([PROGRAM], input=text, capture_output=True, text=True)
+
+
+def refuse(wrong):
+    """Notes that are no notes are refused at their first line with a fault, and nothing is
+    answered."""
+    faults = {f"{SCRIPT}\n\n{notes}\ndue 9\n": fault for notes, fault in FAULTS.items()}
+    faults["zone\n\nbefore 1 1 1\ndue 9"] = "script: line 1: malformed"
+    for text, fault in faults.items():
+        done = asked(text)
+        told = (done.returncode, done.stdout, done.stderr.rstrip())
+        if told != (1 if fault else 0, "", fault):
+            wrong.append(f"notes: {fault!r} is to be said of {text!r}, and {told} was")
+
+
 def answers(questions):
     """What the program answers to each question, as lines."""
     text = "\n\n".join(f"{each.script}\n\n{each.notes}\ndue {each.moment}" for each in questions)
-    done = subprocess.run([PROGRAM], input=text, capture_output=True, text=True)
+    done = asked(text)
     if done.returncode:
         sys.exit(f"notes: status {done.returncode}: {done.stderr}")
     return [answer.splitlines() for answer in done.stdout.split("\n\n")]
@@ -62,6 +101,7 @@ def compare(question, lines, wrong):
 def main():
     began, wrong = time.monotonic(), []
     questions = played(random.Random(0).sample([*permutations(ROLLS)], 60), wrong)
+    refuse(wrong)
     told = answers(questions)
     if len(told) != len(questions):
         wrong.append(f"notes: {len(questions)} questions have {len(told)} answers")
@@ -74,7 +114,8 @@ def main():
     sharp = sum(question.most is not None for question in questions)
     print(
         f"notes: {len(questions)} answers, of which {waits} say not yet, are those of the rule, and"
-        f" {sharp} of them no more than rule 1; {time.monotonic() - began:.0f} s"
+        f" {sharp} of them no more than rule 1; {len(FAULTS)} notes with and without faults;"
+        f" {time.monotonic() - began:.0f} s"
     )
     return 0
 
