@@ -17,7 +17,7 @@ CALLERS = has-cc has-pkg-config has-cargo has-rustc
 prove = mkdir -p crates/$(1)/out && cd crates/$(1) && \
 	{ rt $(2) >out/build.log 2>&1 || { cat out/build.log >&2; exit 1; }; }
 
-.PHONY: run build lib test live docs memory test-lib valgrind asan fuzz python
+.PHONY: run build notes lib test live docs memory test-lib valgrind asan fuzz python
 
 # Answers SCRIPT. The proved program does it where `make build` has made it from these sources;
 # else one that is built at once, without a proof.
