@@ -126,6 +126,7 @@ async def unsigned_by_setters(zone):
         provider.call(f"set-at-parent {ref} no")
     await provider.act(["CreateCdsRrset", "UpdateDsRrset"])
     await zone.watch_ds()
+    await provider.take_cds_out()
     await asyncio.sleep(provider.sum_of_ds_and_dnskey(rounded_up()) + 1)
     for ref in ("K1", "K2", "Z1"):
         provider.call(f"set-stale {ref}", may_break=True)

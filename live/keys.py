@@ -69,7 +69,8 @@ async def make_key(folder, zone, ref, kind, algorithm):
 @dataclass(frozen=True)
 class Version:
     """What is published of a zone. `cds` has the keys of CDS and CDNSKEY: none at all for the entry
-    that deletes, and None where there are no such sets."""
+    that deletes, and None where there are no such sets. Those of `cds_signers` sign them beside
+    those of `zone`."""
 
     serial: int
     ttl: int
@@ -78,6 +79,7 @@ class Version:
     signers: tuple = ()
     zone: tuple = ()
     cds: Optional[tuple] = None
+    cds_signers: tuple = ()
 
 
 def plain_records(zone, version, providers):
@@ -141,6 +143,10 @@ class Signing:
             return "\n".join(plain) + "\n"
         keys = list(key_records(self.zone, version))
         entry = await self.signed([plain[0], *keys], version.signers)
+        tags = {key.tag for key in version.cds_signers}
+        entry = [
+            line for line in entry if covered(line) not in ("CDS", "CDNSKEY") or tag_of(line) in tags
+        ]
         if any(key.lost for key in version.zone):
             lines = [line for line in self.last if set_of(line) not in ("SOA", "DNSKEY")]
             lines += [line for line in entry if set_of(line) in ("SOA", "DNSKEY")]

@@ -105,13 +105,21 @@ class Provider:
                 changes.update(dnskey=self.keys_of("dnskey"), signers=self.keys_of("signers"))
             if "zone" in kinds:
                 changes.update(zone=self.keys_of("zone"))
+            signers = changes.get("signers", self.version.signers)
             self.version = replace(
                 self.version, serial=next(self.zone.serials), ttl=self.ttls.zone,
-                dnskey_ttl=self.ttls.dnskey, cds=self.zone.cds, **changes,
+                dnskey_ttl=self.ttls.dnskey, cds=self.zone.cds,
+                cds_signers=self.cds_signers(signers), **changes,
             )
             self.note_version()
             text = await self.signing.text(self.version)
             self.zone.world.fleet.publish(self.servers, self.zone.name, text)
+
+    def cds_signers(self, signers):
+        """The keys of `signers=` that sign CDS and CDNSKEY (rule 3): those that have a DS now, by
+        which the parent checks them."""
+        with_ds = [key for key in signers if key.ds in self.zone.ds()]
+        return tuple(with_ds or signers)
 
     async def act(self, actions):
         """Does what an answer asks: publishes it in one version, and has the parent changed."""
@@ -122,8 +130,7 @@ class Provider:
             # Without a key that can sign them the parent is told by another way.
             if not any(key.lost for key in self.version.signers):
                 self.zone.cds = self.zone.ds_keys()
-        if "RemoveCdsRrset" in actions:
-            self.zone.cds = None
+        # (At `RemoveCdsRrset` they are out already.)
         is_of_cds = self.zone.cds != before
         if kinds or is_of_cds:
             await self.publish(*kinds)

@@ -24,7 +24,7 @@ async def at_moment(moment):
 
 class Roll:
     """One roll of a provider. Before a call that has the parent changed it takes the turn of the
-    zone, and gives it back when CDS is out again."""
+    zone, and gives it back when the parent has acted and CDS is out again (rule 3)."""
 
     def __init__(self, provider, name):
         self.provider, self.zone, self.name = provider, provider.zone, name
@@ -93,18 +93,11 @@ class Roll:
 
     async def done(self):
         self.provider.call(f"done {self.name}", self.may_break)
-        # No action asks to take CDS and CDNSKEY out (the runbook of ksk-double-ds-roll).
-        if self.name == DOUBLE_DS:
-            await self.provider.take_cds_out()
-            self.give_turn_back()
 
     async def abort(self):
         """Ends the roll early, and watches until that is seen everywhere."""
         await self.make(lambda: f"abort {self.name}")
         await self.perform()
-        if self.name == DOUBLE_DS:
-            await self.provider.take_cds_out()
-        self.give_turn_back()
 
     # What they do
 
@@ -121,13 +114,13 @@ class Roll:
         """Does what the last answer asks, and watches."""
         await self.provider.act(self.actions)
         await self.watch()
-        if "RemoveCdsRrset" in self.actions:
-            self.give_turn_back()
 
     async def watch(self):
         """Watches what the answer asks to report or to wait for."""
         if "UpdateDsRrset" in self.actions:
             await self.zone.watch_ds()
+            await self.provider.take_cds_out()
+            self.give_turn_back()
         if set(self.actions) - {"UpdateDsRrset", "ReportDsPropagated", "WaitDsPropagated"}:
             await self.provider.watch()
         if "dnskey" in spoken_of(self.actions):
@@ -138,6 +131,12 @@ class Roll:
             self.zone.turn.release()
             self.has_turn = False
 
+    def counted(self):
+        """The kinds of the sets whose TTL counts in a report: also that of CDS, which are sets of
+        the zone and have come and gone in this step."""
+        more = ["zone"] if "UpdateDsRrset" in self.actions else []
+        return [*spoken_of(self.actions), *more]
+
     def is_last_of_algorithm(self, number):
         """Whether a report is the second one of a roll by which old algorithms may leave."""
         return self.name == ALGORITHM and number == 2 and bool(self.old)
@@ -147,5 +146,5 @@ class Roll:
         DS TTL and the DNSKEY TTL, the present one too."""
         provider = self.provider
         if self.is_last_of_algorithm(number):
-            return provider.sum_of_ds_and_dnskey(moment)
-        return max(provider.highest(kind, moment) for kind in spoken_of(self.actions))
+            return max(provider.sum_of_ds_and_dnskey(moment), provider.highest("zone", moment))
+        return max(provider.highest(kind, moment) for kind in self.counted())

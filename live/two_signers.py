@@ -72,20 +72,18 @@ async def both_perform(rolls):
 
 async def change_in_step(rolls):
     """When both waits are accepted, one change at the parent, for both."""
-    for roll in rolls:
-        await roll.accepted(1)
-        rolls[1].has_turn = True
-    await rolls[0].provider.act(rolls[0].actions)
-    for roll in rolls:
-        await roll.watch()
+    await rolls[0].accepted(1)
+    # (The turn is that of both.)
+    rolls[1].has_turn = True
+    await rolls[1].accepted(1)
+    rolls[1].has_turn = False
+    await rolls[0].perform()
 
 
 async def end_in_step(rolls):
     for roll in rolls:
         await roll.accepted(2)
     await both_perform(rolls)
-    rolls[1].has_turn = False
-    rolls[0].give_turn_back()
     for roll in rolls:
         await roll.done()
 
