@@ -84,7 +84,7 @@ class Clients:
 
     def __init__(self, zone, dice, port):
         self.zone, self.dice, self.port = zone, dice, port
-        self.counts, self.faults, self.by_resolver = Counter(), [], Counter()
+        self.counts, self.faults = Counter(), []
         self.secure_from, self.tasks, self.lines = float("inf"), [], []
 
     async def begin(self):
@@ -147,7 +147,6 @@ class Clients:
             return self.fault(resolver, question, asked, told(answer))
         if question.has_address and ADDRESS not in answer:
             return self.fault(resolver, question, asked, "another address")
-        self.counts["answered"] += 1
         if flags & AD:
             self.counts["AD"] += 1
         elif asked >= self.secure_from:
@@ -155,7 +154,6 @@ class Clients:
 
     def fault(self, resolver, question, asked, what):
         self.counts[what.split(" ")[0]] += 1
-        self.by_resolver[resolver] += 1
         self.faults.append(Fault(asked, resolver, question, what))
 
 

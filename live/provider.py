@@ -10,10 +10,7 @@ from script import Script, rounded_down
 from zone import Notes
 
 KINDS = {"K": "ksk", "Z": "zsk", "C": "csk"}
-UPDATES = {
-    "UpdateDnskeyRrset": "dnskey",
-    "UpdateRrsig": "zone",
-}
+UPDATES = {"UpdateDnskeyRrset": "dnskey", "UpdateRrsig": "zone"}
 
 
 def soa_signers(version):
@@ -116,10 +113,10 @@ class Provider:
             self.zone.world.fleet.publish(self.servers, self.zone.name, text)
 
     def cds_signers(self, signers):
-        """The keys of `signers=` that sign CDS and CDNSKEY (rule 3): those that have a DS now, by
-        which the parent checks them."""
+        """The key of `signers=` that signs CDS and CDNSKEY (rule 3): one that has a DS now, by
+        which the parent checks them; before the first DS one that gets it."""
         with_ds = [key for key in signers if key.ds in self.zone.ds()]
-        return tuple(with_ds or signers)
+        return tuple((with_ds or signers)[:1])
 
     async def act(self, actions):
         """Does what an answer asks: publishes it in one version, and has the parent changed."""

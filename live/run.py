@@ -10,6 +10,7 @@ import signal
 import sys
 import tempfile
 import time
+from collections import Counter
 from importlib.util import find_spec
 from pathlib import Path
 
@@ -61,15 +62,13 @@ async def play(zone, scene):
     return wrong
 
 
-def row(scene, counts, wrong):
-    others = counts["asked"] - counts["answered"] - counts["SERVFAIL"]
-    return (
-        f"{scene.zone:52} {counts['asked']:9} {counts['AD']:9} {counts['SERVFAIL']:9} {others:6}"
-        f"  {'FAILED: ' + wrong.splitlines()[0] if wrong else 'ok'}"
-    )
-
-
 HEAD = f"{'scene':52} {'questions':>9} {'with AD':>9} {'SERVFAIL':>9} {'other':>6}"
+
+
+def row(name, counts, faults):
+    """A row of the table; other faults are all but SERVFAIL."""
+    servfail = counts["SERVFAIL"]
+    return f"{name:52} {counts['asked']:9} {counts['AD']:9} {servfail:9} {faults - servfail:6}"
 
 
 @contextlib.contextmanager
@@ -84,35 +83,35 @@ def folder_of(arguments):
 
 
 class Run:
-    """A run of some scenes."""
+    """A run of some scenes, so many of them side by side."""
 
     def __init__(self, world, scenes, at_once):
-        self.world, self.scenes = world, scenes
-        self.places, self.failed = asyncio.Semaphore(at_once), 0
+        self.world, self.scenes, self.at_once = world, scenes, at_once
+        self.failed = 0
 
     async def run(self):
         await self.world.begin()
         print(HEAD, flush=True)
-        await asyncio.gather(*(self.one(scene) for scene in self.scenes))
-        total = sum((self.clients(scene).counts for scene in self.scenes if not scene.is_lie),
-                    start=type(self.clients(self.scenes[0]).counts)())
-        print(f"{'all honest scenes':52} {total['asked']:9} {total['AD']:9} {total['SERVFAIL']:9}")
+        places = asyncio.Semaphore(self.at_once)
+        await asyncio.gather(*(self.one(scene, places) for scene in self.scenes))
+        for words, is_lie in (("all honest scenes", False), ("all with a lie", True)):
+            clients = [self.clients(scene) for scene in self.scenes if scene.is_lie == is_lie]
+            counts = sum((one.counts for one in clients), start=Counter())
+            print(row(words, counts, sum(len(one.faults) for one in clients)))
 
     def clients(self, scene):
         return self.world.made[scene.zone].clients
 
-    async def one(self, scene):
-        async with self.places:
+    async def one(self, scene, places):
+        async with places:
             self.world.processes.check()
             wrong = await play(self.world.made[scene.zone], scene)
         clients = self.clients(scene)
-        print(row(scene, clients.counts, wrong), flush=True)
+        said = "FAILED" if wrong else "ok"
+        print(row(scene.zone, clients.counts, len(clients.faults)), said, flush=True)
         if wrong:
             self.failed += 1
-            print(wrong)
-            for fault in clients.faults[:FAULTS_SHOWN]:
-                print(f"    {fault}")
-            sys.stdout.flush()
+            print(f"    {wrong}", *clients.faults[:FAULTS_SHOWN], sep="\n    ", flush=True)
 
 
 def problem(arguments):

@@ -4,7 +4,7 @@
 import asyncio
 
 from emergencies import restless
-from one_signer import CSK, DOUBLE_SIGNATURE, KEYS, KSK, ZSK, hold_back, start_unsigned
+from one_signer import CSK, KEYS, KSK, ZSK, hold_back, start_unsigned
 from places import CHILD
 from provider import Provider
 from rolls import ALGORITHM, DOUBLE_DS, Roll
@@ -142,7 +142,7 @@ async def rolls_of_each(zone):
     await roll_of_one(a, b, ZSK, ["Z1"], ["Z2"])
     await roll_of_one(b, a, KSK, ["K1"], ["K2"])
     await roll_of_one(a, b, DOUBLE_DS, ["K1"], ["K2"])
-    await roll_of_one(b, a, DOUBLE_SIGNATURE, ["Z1"], ["Z2"])
+    await roll_of_one(b, a, ZSK, ["Z1"], ["Z2"])
 
 
 async def csk_rolls_of_each(zone):
@@ -158,7 +158,7 @@ def at_once(of_a, of_b):
 
     async def scene(zone):
         a, b = await in_step_keys(zone, "K1", "Z1")
-        refs = {KSK: "K", DOUBLE_DS: "K", ZSK: "Z", DOUBLE_SIGNATURE: "Z"}
+        refs = {KSK: "K", DOUBLE_DS: "K", ZSK: "Z"}
         await asyncio.gather(*(
             roll_of_one(signer, other, name, [f"{refs[name]}1"], [f"{refs[name]}2"])
             for signer, other, name in ((a, b, of_a), (b, a, of_b))
@@ -293,7 +293,7 @@ HONEST = {
     "two-in-step-and-unsigned": in_step_and_unsigned,
     "two-rolls-of-each": rolls_of_each,
     "two-csk-rolls-of-each": csk_rolls_of_each,
-    "two-zsk-rolls-at-once": at_once(ZSK, DOUBLE_SIGNATURE),
+    "two-zsk-rolls-at-once": at_once(ZSK, ZSK),
     "two-ksk-rolls-at-once": at_once(KSK, DOUBLE_DS),
     "two-ksk-and-zsk-roll-at-once": at_once(KSK, ZSK),
     "two-algorithms": algorithms,
