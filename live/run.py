@@ -37,6 +37,7 @@ def given():
     parser.add_argument("--seed", default=str(int(time.time())), help="of TTLs and of delays")
     parser.add_argument("--rounds", type=int, default=1, help="so often each honest scene")
     parser.add_argument("--at-once", type=int, default=8, help="scenes side by side")
+    parser.add_argument("--limit", type=int, help="the most seconds for it")
     parser.add_argument("--keyset", default=str(KEYSET), help="the program")
     parser.add_argument("--folder", help="a new folder for its files and logs, which is left")
     return parser.parse_args()
@@ -114,14 +115,17 @@ class Run:
             print(f"    {wrong}", *clients.faults[:FAULTS_SHOWN], sep="\n    ", flush=True)
 
 
-def problem(arguments):
-    """What is missing for a run, if anything."""
+def missing_packages():
+    """Which packages are missing, with the command that installs them; None if all are there."""
     packages = missing()
     if find_spec("dns") is None:
         packages.append("python3-dnspython")
-    if packages:
-        names = " ".join(packages)
-        return f"missing: {names}\nto install them: apt-get install {names}"
+    names = " ".join(packages)
+    return f"missing: {names}\nto install them: apt-get install {names}" if packages else None
+
+
+def problem(arguments):
+    """What else is in the way of a run, if anything."""
     if not Path(arguments.keyset).exists():
         return f"{arguments.keyset} is not there: make build"
     if is_taken(arguments.port):
@@ -139,7 +143,7 @@ async def main_task(run, limit):
 
 def main():
     arguments = given()
-    if wrong := problem(arguments):
+    if wrong := missing_packages() or (None if arguments.list else problem(arguments)):
         sys.exit(wrong)
     from scenes import chosen
     from world import World
@@ -147,6 +151,7 @@ def main():
     if arguments.list:
         print(*(scene.name for scene in scenes), sep="\n")
         return 0
+    limit = arguments.limit or (SHORT if arguments.short else WHOLE)
     print(f"seed {arguments.seed}")
     with folder_of(arguments) as folder:
         zones = {scene.zone: scene.letters for scene in scenes}
@@ -154,7 +159,7 @@ def main():
         run = Run(world, scenes, arguments.at_once)
         with contextlib.closing(world):
             try:
-                asyncio.run(main_task(run, SHORT if arguments.short else WHOLE))
+                asyncio.run(main_task(run, limit))
             except asyncio.TimeoutError:
                 sys.exit("it took too long")
             except asyncio.CancelledError:

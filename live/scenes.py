@@ -1,5 +1,6 @@
 """The scenes of a run."""
 
+import re
 from typing import Callable, NamedTuple
 
 import emergencies
@@ -22,29 +23,42 @@ class Scene(NamedTuple):
         return f"{self.name}-{self.round}."
 
 
-# The short form leaves these out.
-LONG = {
-    *(name for name in one_signer.HONEST if name.endswith("-ended-early")),
-    *(name for name in LYING if not name.startswith(("zsk-roll", "ksk-roll"))),
-}
+# The longest come first.
 SCENES = [
-    *(Scene(name, play, "A", True) for name, play in LYING.items()),
-    *(Scene(name, play, "AB", True) for name, play in LYING_TWO.items()),
-    *(Scene(name, play, "A", False) for name, play in one_signer.HONEST.items()),
-    *(Scene(name, play, "A", False) for name, play in emergencies.HONEST.items()),
     *(Scene(name, play, "AB", False) for name, play in two_signers.HONEST.items()),
+    *(Scene(name, play, "AB", True) for name, play in LYING_TWO.items()),
+    *(Scene(name, play, "A", False) for name, play in emergencies.HONEST.items()),
+    *(Scene(name, play, "A", False) for name, play in one_signer.HONEST.items()),
+    *(Scene(name, play, "A", True) for name, play in LYING.items()),
 ]
 
+# What the short form plays of those scenes that are alike.
+ALIKE = re.compile(r"-(ended-early|stolen-new-\w+|changing-ttls|of-the-clock|ttl-of-0|publishing)$")
+OF_THEM = {
+    "ksk-roll-ended-early",
+    "ksk-double-ds-roll-ended-early",
+    "ksk-roll-stolen-new-key",
+    "algorithm-roll-changing-ttls",
+    "two-changing-ttls",
+    "zsk-roll-wait-ahead-of-the-clock",
+    "ksk-roll-ttl-of-0",
+    "csk-roll-report-before-publishing",
+}
 
-def chosen(names, is_short, rounds):
-    """The scenes of these names, or all; the short form without the long ones. Those with a lie are
-    played once."""
+
+def is_short(name):
+    return not ALIKE.search(name) or name in OF_THEM
+
+
+def chosen(names, short, rounds):
+    """The scenes of these names, or all, or those of the short form. Those with a lie are played
+    once."""
     unknown = set(names) - {scene.name for scene in SCENES}
     if unknown:
         raise SystemExit(f"no scene: {' '.join(sorted(unknown))}")
     return [
         scene._replace(round=number)
         for number in range(1, rounds + 1) for scene in SCENES
-        if scene.name in names or not names and not (is_short and scene.name in LONG)
+        if scene.name in names or not names and (is_short(scene.name) or not short)
         if number == 1 or not scene.is_lie
     ]
