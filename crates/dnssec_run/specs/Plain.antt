@@ -23,13 +23,13 @@ use Rattle.dnssec_run.specs.Safe.{IsSafe}
 -- before: `add_public_key` adds such a key, which signs nothing here and has no DS (RFC 8901,
 -- section 2.1); the other adds add a key of this signer, and after a deletion no key is named
 abbrev pub others_after : Call → List ℕ → Bool → Bool
-others_after (AddPublicKey pubref algorithm key_tag created available) q before =
+others_after (AddPublicKey pubref algorithm key_tag created usable) q before =
     if bytes_eq (string_bytes pubref) q then true else before
-others_after (AddKeyKsk pubref privref algorithm key_tag created available) q before =
+others_after (AddKeyKsk pubref privref algorithm key_tag created usable) q before =
     if bytes_eq (string_bytes pubref) q then false else before
-others_after (AddKeyZsk pubref privref algorithm key_tag created available) q before =
+others_after (AddKeyZsk pubref privref algorithm key_tag created usable) q before =
     if bytes_eq (string_bytes pubref) q then false else before
-others_after (AddKeyCsk pubref privref algorithm key_tag created available) q before =
+others_after (AddKeyCsk pubref privref algorithm key_tag created usable) q before =
     if bytes_eq (string_bytes pubref) q then false else before
 others_after (DeleteKey pubref) q before = if bytes_eq pubref.now q then false else before
 others_after _ q before = before
