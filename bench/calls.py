@@ -32,7 +32,7 @@ import sys
 import tempfile
 from pathlib import Path
 
-from successive_rolls import COUNT
+from programs import COUNT
 
 BENCH = Path(__file__).resolve().parent
 TOP = BENCH.parent

@@ -37,11 +37,12 @@ def build_original(original, folder):
 
 
 class Bench:
-    """A folder for scripts, with the program that measures others. Use it by `with`."""
+    """A folder for scripts, with the program that measures others, and what the last run answered.
+    Use it by `with`."""
 
     def __enter__(self):
         self.folder = tempfile.TemporaryDirectory()
-        self.measure = self.path("measure")
+        self.measure, self.answers = self.path("measure"), self.path("answers")
         subprocess.run(["cc", "-O2", "-o", self.measure, MEASURE], check=True)
         return self
 
@@ -70,9 +71,9 @@ class Bench:
         """The processor seconds of a run, and its greatest memory in MB; or None if the program has
         no `abort`, and the script has."""
         told = self.path("told")
-        with open(given) as text:
+        with open(given) as text, open(self.answers, "w") as written:
             status = subprocess.run(
-                [self.measure, told, program], stdin=text, stdout=subprocess.DEVNULL,
+                [self.measure, told, program], stdin=text, stdout=written,
                 stderr=subprocess.DEVNULL, check=False,
             ).returncode
         if status == NO_ABORT:

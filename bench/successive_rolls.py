@@ -5,16 +5,13 @@
 Each script gives a zone its first keys, and then rolls its ZSK and its KSK in turn, each roll to
 its end, with the deletion of the old key. So all that is old is retired, and a judge's window stays
 as it is. Printed are the calls, the instructions that the program runs, as valgrind counts them,
-the ratio to those of half as many calls, the least time of some runs, and their greatest memory.
-The time has that of the program's start in it, and what else the machine does.
+the ratio to those of half as many calls, the least processor time of some runs, and their greatest
+memory. The time has that of the program's start in it.
 """
 
-import os
-import re
-import subprocess
 import sys
-import tempfile
-import time
+
+from programs import Bench
 
 FIRST = """\
 zone example.com
@@ -38,7 +35,6 @@ done {kind}-roll
 delete {old}
 """
 RUNS = 50
-COUNT = ["valgrind", "--tool=cachegrind", "--cache-sim=no", "--cachegrind-out-file=/dev/null"]
 
 
 def script(calls):
@@ -55,41 +51,24 @@ def script(calls):
     return "".join(parts)
 
 
-def run(command, text):
-    """The milliseconds, the memory in MB and the standard error of one run."""
-    with tempfile.TemporaryFile() as given, tempfile.TemporaryFile() as written:
-        given.write(text.encode())
-        given.seek(0)
-        began = time.perf_counter()
-        child = subprocess.Popen(command, stdin=given, stdout=written, stderr=subprocess.PIPE)
-        told = child.stderr.read().decode()
-        _, status, used = os.wait4(child.pid, 0)
-        taken = (time.perf_counter() - began) * 1000
-        written.seek(0)
-        last = written.read().decode().splitlines()[-1]
-    if status != 0 or last != "chain safe":
-        sys.exit(f"status {status}, {last}")
-    return taken, used.ru_maxrss / 1024, told
-
-
-def instructions(program, text):
-    """The instructions that the program runs."""
-    told = run([*COUNT, program], text)[2]
-    return int(re.search(r"I +refs: +([0-9,]+)", told)[1].replace(",", ""))
-
-
 def main():
-    program, before = os.path.abspath(sys.argv[1]), None
+    before = None
     print("| Calls | Instructions in millions | To half as many | Milliseconds | Memory in MB |")
     print("|---|---|---|---|---|")
-    for calls in (1000, 2000, 4000, 8000, 16000):
-        text = script(calls)
-        count = instructions(program, text)
-        runs = [run([program], text) for _ in range(RUNS)]
-        taken, memory = min(one[0] for one in runs), max(one[1] for one in runs)
-        ratio = f"{count / before:.2f}" if before else ""
-        print(f"| {calls:,} | {count / 1e6:.1f} | {ratio} | {taken:.1f} | {memory:.1f} |")
-        before = count
+    with Bench() as bench:
+        program = bench.programs(sys.argv[1], None)[0]
+        for calls in (1000, 2000, 4000, 8000, 16000):
+            given = bench.script("given", script(calls))
+            count = bench.instructions(program, given)
+            seconds, memory = bench.least(program, given, RUNS)
+            with open(bench.answers) as file:
+                last = file.read().splitlines()[-1]
+            if last != "chain safe":
+                sys.exit(last)
+            ratio = f"{count / before:.2f}" if before else ""
+            row = [f"{calls:,}", f"{count / 1e6:.1f}", ratio, f"{seconds * 1000:.1f}"]
+            print(f"| {' | '.join([*row, f'{memory:.1f}'])} |", flush=True)
+            before = count
 
 
 if __name__ == "__main__":
