@@ -1,26 +1,29 @@
 /* keyset.h: a proved DNSSEC key set for C, and for what calls C.
 
-   A script goes in, its answers come out. The script is the whole state: keep the lines that were
-   accepted, add one, and ask again. docs/CALLERS.md is the page for callers, docs/SCRIPTS.md has
-   the form of scripts and of answers.
+   There are two ways to use it. `keyset_answer` takes a script and writes its answers; it keeps
+   nothing, and the script is the whole state. A session keeps a zone between two calls: a line goes
+   in, its answer comes out, and a call costs what the call costs, however many came before it.
+   docs/CALLERS.md is the page for callers, docs/SCRIPTS.md has the form of scripts and of answers.
 
-   Who owns what: both buffers are the caller's. The library reads the script and writes the answer
-   while it is called, and keeps no pointer. What it allocates it frees before it returns.
+   Who owns what: all buffers are the caller's. The library reads and writes them while it is called,
+   and keeps no pointer. What it allocates it frees before it returns, except what a session keeps
+   until `keyset_close`.
 
    Reentrant: it has no data of its own, takes no lock, opens no file and reads no clock, so threads
-   may call it side by side, each with an `out` of its own. It calls malloc, realloc and free, and
-   so is not for signal handlers, nor for the forked child of a process with threads.
+   may call it side by side, each with sessions and an `out` of its own. It calls malloc, realloc and
+   free, and so is not for signal handlers, nor for the forked child of a process with threads.
 
    Links against the C library, and nothing else: `cc caller.c -lkeyset`.
 
    What is proved is the contract of each function, in crates/keyset_c/src/lib.rt: the clauses that
    are named below. They take for granted what C asks of every caller: each pointer has as many
-   bytes as its length says, the two pieces lie apart, and nobody writes to them during the call. A
-   pointer is never NULL, also where its length is 0. */
+   bytes as its length says, the pieces lie apart, and nobody else writes to them during the call. A
+   pointer may be NULL if its length is 0; that is tested, and not proved. */
 
 #ifndef KEYSET_H
 #define KEYSET_H
 
+#include <stdbool.h>
 #include <stddef.h>
 #include <stdint.h>
 
@@ -29,20 +32,22 @@ extern "C" {
 #endif
 
 /* What this header was written for: see keyset_version. */
-#define KEYSET_VERSION 1
+#define KEYSET_VERSION 2
 
 /* The statuses. 0, 1 and 3 are those that the program keyset ends with. */
 enum {
-    KEYSET_ANSWERED = 0,      /* the answer was written */
+    KEYSET_ANSWERED = 0,      /* the answer was written; of a session: it was opened */
     KEYSET_MALFORMED = 1,     /* a line doesn't have the form of a script's line */
     KEYSET_OUT_OF_MEMORY = 3, /* the library got no memory */
-    KEYSET_SHORT = 4          /* the answer is longer than `out` */
+    KEYSET_SHORT = 4,         /* the answer is longer than `out` */
+    KEYSET_CLOSED = 5,        /* the session is closed */
+    KEYSET_IS_OPEN = 6        /* the session is open */
 };
 
 struct keyset_answered {
     uint32_t status;
     size_t length; /* answered: the bytes written; short: the bytes needed; else 0 */
-    size_t line;   /* malformed: the first malformed line, counted from 1; else 0 */
+    size_t line;   /* malformed script: the first malformed line, counted from 1; else 0 */
 };
 
 /* Answers `script` into the front of `out`, with the bytes that the program keyset writes.
@@ -61,8 +66,68 @@ struct keyset_answered {
 struct keyset_answered keyset_answer(const uint8_t *script, size_t script_length,
                                      uint8_t *out, size_t out_length);
 
-/* The version of the library that is linked: of the two functions, of the struct and of the
-   statuses. It is KEYSET_VERSION where header and library belong together. */
+/* A session: a zone with its key set, what is published, and what the verdict needs. All zeros is a
+   closed one: `struct keyset_session session = {0};`. Its members are the library's.
+
+   The proofs take for granted that a session is used as one value: it may be moved, but a copy of
+   its bytes is no second session (`keyset_copy` makes one); it is all zeros before it is opened;
+   nobody else writes to it; and one thread at a time has it, whichever that is. A closed session is
+   told as such by each call, and stays closed. */
+struct keyset_session {
+    void *place;
+    bool is_open;
+};
+
+/* Opens a session for the zone that the line names, as the first line of a script does. No line has
+   a line feed.
+
+   answered       it is open, and has made no call (opened)
+   malformed      the line names no zone (malformed)
+   is open        it was open (is_open)
+   out of memory  asking again may help
+
+   Unless it is answered, the session is as it was (unchanged). */
+uint32_t keyset_open(const uint8_t *line, size_t line_length, struct keyset_session *session);
+
+/* Makes the call of the line, and answers it as its line in a script of all lines so far. A call
+   that is refused is answered too, and is one of the lines.
+
+   answered       `out` begins with the answer and its line feed (answered, fits, rest)
+   malformed      the line makes no call, and the session is as it was (malformed, kept)
+   short          the call is made, and its answer has `length` bytes (short, needed): `keyset_told`
+                  writes it
+   out of memory  the session is closed (lost): open it anew with its lines
+   closed         it was closed (closed)
+
+   Unless it was answered, `out` is as it was (silent). */
+struct keyset_answered keyset_call(struct keyset_session *session, const uint8_t *line,
+                                   size_t line_length, uint8_t *out, size_t out_length);
+
+/* These write into the front of `out`, and leave the session as it was (same), whatever the status:
+   answered (told, fits, rest), short (short), out of memory, closed (closed). Unless it was answered,
+   `out` is as it was (silent).
+
+   keyset_told     the answer to the last line again; before the first one nothing
+   keyset_closing  the last two lines of the answers to all lines so far: the published sets, and the
+                   verdict on the record
+   keyset_status   the status of the zone: one line of JSON, whose form docs/STATUS.md has */
+struct keyset_answered keyset_told(struct keyset_session *session, uint8_t *out,
+                                   size_t out_length);
+struct keyset_answered keyset_closing(struct keyset_session *session, uint8_t *out,
+                                      size_t out_length);
+struct keyset_answered keyset_status(struct keyset_session *session, uint8_t *out,
+                                     size_t out_length);
+
+/* Opens another session after the same calls, to see what a call would do (copied). The first one
+   stays as it is (same); unless it is answered, the other does too (unchanged): out of memory,
+   closed for the first, is open for the other (is_open). */
+uint32_t keyset_copy(struct keyset_session *session, struct keyset_session *copy);
+
+/* Closes a session, and frees what it keeps. A closed one stays closed. */
+void keyset_close(struct keyset_session *session);
+
+/* The version of the library that is linked: of the functions, of the structs and of the statuses.
+   It is KEYSET_VERSION if header and library belong together. */
 uint32_t keyset_version(void);
 
 #ifdef __cplusplus

@@ -12,6 +12,7 @@ damaged scripts and long ones beside the library.
 
 import os
 import random
+import re
 import shutil
 import subprocess
 import sys
@@ -27,7 +28,8 @@ PROGRAM = CRATES / "keyset" / "out" / "keyset"
 STORED = TOP / "replay" / "scripts.txt"
 EXAMPLES = sorted((TOP / "examples").rglob("*.script"))
 
-EXPORTS = {"keyset_answer", "keyset_version"}
+# What the header declares.
+EXPORTS = set(re.findall(r"^\S.* \*?(keyset_\w+)\(", (LIBRARY / "keyset.h").read_text(), re.M))
 WRAPPED = [f"-Wl,--wrap={name}" for name in ("malloc", "realloc", "free")]
 # Under a checker of memory each length is too much.
 STEP = 61
@@ -55,12 +57,14 @@ def kit():
 def build(archive):
     """Builds the static library over what `rt ci` has proved, and proves it once more by this."""
     top, crates = kit(), stands_on()
+    libc = top / "rlibs" / "libc.rlib"
     # A copy of it: at its end `rt ci` puts back what stood in its place before.
     proved = archive.parent / "proved"
     for name in below("keyset_c", crates):
         shutil.copytree(CRATES / name / "out" / "rlib", proved, dirs_exist_ok=True)
     words = ["--crate-name", "keyset_c", "src/lib.rt", "--crate-type", "staticlib"]
     words += ["--extern", f"std={top}/rlibs/std.rlib", "-L", f"dependency={top}/rlibs"]
+    words += ["--extern", f"libc={libc}"]
     for name in crates["keyset_c"]:
         words += ["--extern", f"{name}={proved}/{name}.rlib"]
     words += ["-L", f"dependency={proved}"]
@@ -91,24 +95,42 @@ def build_in_c(folder, program, *flags, more=()):
     return program
 
 
+def build_sessions(folder, program, *flags):
+    """Builds the tests of sessions in C as a program."""
+    source = TOP / "tests" / "sessions.c"
+    run("cc", *STRICT, *WRAPPED, *flags, "-o", program, source, *c_flags(folder))
+    return program
+
+
 def test_in_c(folder, room):
     return run(build_in_c(folder, room / "library"), STORED).strip()
+
+
+def test_sessions(folder, room):
+    return run(build_sessions(folder, room / "sessions"), STORED).strip()
+
+
+def test_statuses(folder):
+    return run(sys.executable, "-B", TOP / "tests" / "sessions.py", folder).strip()
 
 
 def under_valgrind(folder, room):
     before = ["valgrind", "--error-exitcode=9", "--leak-check=full"]
     before += ["--errors-for-leak-kinds=all"]
-    return run(*before, build_in_c(folder, room / "library", "-g"), STORED, STEP).strip()
+    library = build_in_c(folder, room / "library", "-g")
+    programs = library, build_sessions(folder, room / "sessions", "-g")
+    return "".join(run(*before, program, STORED, STEP) for program in programs).strip()
 
 
 def under_asan(folder, room):
     flags = ["-g", "-fsanitize=address,undefined"]
     try:
-        program = build_in_c(folder, room / "library", *flags)
+        library = build_in_c(folder, room / "library", *flags)
+        programs = library, build_sessions(folder, room / "sessions", *flags)
     except Wrong as wrong:
         text = f"{wrong}\nthe C compiler wants its runtime libraries of {flags[1]} here"
         raise Wrong(text) from None
-    return run(program, STORED, STEP).strip()
+    return "".join(run(program, STORED, STEP) for program in programs).strip()
 
 
 CHECKERS = {"valgrind": under_valgrind, "asan": under_asan}
@@ -282,6 +304,8 @@ def test(folder, room):
     expect_exports(folder)
     yield test_in_c(folder, room)
     yield test_static_buffer(folder, room)
+    yield test_sessions(folder, room)
+    yield test_statuses(folder)
     yield test_c_caller(room, "C", c_flags(folder))
     yield test_c_caller(room, "C over the shared object", shared_flags(folder))
     yield test_rust_caller(folder, room)

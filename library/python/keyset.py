@@ -18,7 +18,7 @@ from pathlib import Path
 if sys.version_info < (3, 9):
     raise ImportError("keyset wants Python 3.9 or later")
 
-VERSION = 1
+VERSION = 2
 EARLY = "wait for duration "
 MADE = Path(__file__).resolve().parent.parent / "out" / "lib" / "libkeyset.so"
 

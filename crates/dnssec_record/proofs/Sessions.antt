@@ -2,7 +2,10 @@
 use Rattle.std.proofs.Common.{◌≡◌, ℕ, List, [], ◌∷◌, ◌++◌, Option, None, Some, refl, sym, ◌∙◌}
 use Rattle.std.proofs.Common.{ap, Bool, true, false, length, map, subst, fold, suc, arith}
 use Rattle.std.proofs.lemmas.List.Sums.{fold-append}
-use Rattle.std.specs.Prelude.{codes, if◌then◌else◌}
+use Rattle.std.specs.List.{flat_map}
+use Rattle.std.specs.Prelude.{codes, if◌then◌else◌, string_bytes}
+use Rattle.dnssec_run.specs.Published.{Id, id_of}
+use Rattle.dnssec_run.specs.declared.record.PublishedKey.{PublishedKey}
 use Rattle.dnssec_run.specs.declared.call.Call.{Call}
 use Rattle.dnssec_run.specs.declared.record.Entry.{Entry}
 use Rattle.dnssec_run.specs.declared.record.Outcome.{Outcome}
@@ -12,7 +15,7 @@ use Rattle.dnssec_run.specs.Recorder.{HasSameKeys, Records, TellsOutcome}
 use Rattle.dnssec_judge.specs.Judge.{ComesNext, Knows}
 use Rattle.dnssec_record.specs.Courses.{Listed, as_listed, ended_after, ended_by, listed_after}
 use Rattle.dnssec_record.specs.Courses.{listed_by, turn_after, turn_of, turns}
-use Rattle.dnssec_record.specs.Output.{reply_text, sets_text}
+use Rattle.dnssec_record.specs.Output.{published_text, reply_text, set_text, sets_text}
 use Rattle.dnssec_record.specs.Script.{AreLinesOf, AreScript, IsLineOf, IsZoneLine, call_says, says}
 use Rattle.dnssec_record.specs.Inner.Reading.{IsOfStatements}
 use Rattle.dnssec_record.specs.Inner.Statement.{statement_says}
@@ -105,6 +108,50 @@ advances name calls entries old new call outcome news so made kept handed judged
       };
       is_reply = refl;
     }
+
+-- ---- copies
+
+-- the text of a set tells no more than its keys
+abbrev ids_text : List Id → List ℕ
+ids_text [] = codes "-"
+ids_text (id ∷ ids) = id.0 ++ flat_map (λ (i : Id). codes "," ++ i.0) ids
+
+further_of_ids : (keys : List PublishedKey)
+    → flat_map (λ (k : PublishedKey). codes "," ++ string_bytes k.reference) keys
+    ≡ flat_map (λ (i : Id). codes "," ++ i.0) (map id_of keys)
+further_of_ids [] = refl
+further_of_ids (k ∷ ks) = ap (λ t. codes "," ++ string_bytes k.reference ++ t) (further_of_ids ks)
+
+of_ids : (keys : List PublishedKey) → set_text keys ≡ ids_text (map id_of keys)
+of_ids [] = refl
+of_ids (k ∷ ks) = ap (λ t. string_bytes k.reference ++ t) (further_of_ids ks)
+
+same_set : (ks ls : List PublishedKey) → map id_of ks ≡ map id_of ls → set_text ks ≡ set_text ls
+same_set ks ls same = of_ids ks ∙ ap ids_text same ∙ sym (of_ids ls)
+
+same_sets : (p q : Published) → HasSameKeys p q → published_text p ≡ published_text q
+same_sets p q same =
+    let a = same_set p.ds.items q.ds.items same.ds in
+    let b = same_set p.dnskey.items q.dnskey.items same.dnskey in
+    let c = same_set p.dnskey_signers.items q.dnskey_signers.items same.dnskey_signers in
+    let d = same_set p.zone_signers.items q.zone_signers.items same.zone_signers in
+    λ i. codes "ds=" ++ a i ++ codes " dnskey=" ++ b i ++ codes " signers=" ++ c i
+    ++ codes " zone=" ++ d i ++ codes "\n"
+
+-- a copy stands after the same calls
+pub copied : (name : List ℕ) (calls : List Call) (entries : List Entry) (s copy : Session)
+    → StandsAfter name calls entries s → Records name calls entries copy.recorder
+    → Knows entries copy.judge → HasSameKeys copy.recorder.published s.recorder.published
+    → map as_listed copy.courses.listed.items ≡ map as_listed s.courses.listed.items
+    → copy.courses.ended.items ≡ s.courses.ended.items
+    → StandsAfter name calls entries copy
+copied name calls entries s copy so records knows same listed ended = record {
+  records = records;
+  knows = knows;
+  shown = same_sets copy.recorder.published s.recorder.published same ∙ so.shown;
+  listed = listed ∙ so.listed;
+  ended = ended ∙ so.ended;
+}
 
 -- ---- statements
 

@@ -1,5 +1,5 @@
 //! The rolls of a session: which keys their starts listed, and which were ended early.
-ghost use Rattle.std.specs.Prelude.{◌≡◌, [], ◌++◌, filter, map, OnOk};
+ghost use Rattle.std.specs.Prelude.{◌≡◌, [], ◌++◌, filter, map, IfOk, OnOk};
 ghost use Rattle.dnssec_record.specs.Courses.{as_listed, ended_after, is_another, is_of_other};
 ghost use Rattle.dnssec_record.specs.Courses.{listed_after, listings, turn_after, turn_of};
 ghost use Rattle.dnssec_zone.specs.Start.{texts, together};
@@ -91,6 +91,24 @@ impl Courses {
             listed: Vec::new(alloc),
             ended: Vec::new(alloc),
         }
+    }
+
+    /// The same rolls.
+    pub(crate) fn try_clone(&self, alloc: Global) -> Result<Self, AllocError>
+        ensures listed { IfOk result (λ copy.
+            map as_listed copy.listed.items ≡ map as_listed self.now.listed.items) }
+        ensures ended { IfOk result (λ copy. copy.ended.items ≡ self.now.ended.items) }
+    {
+        let mut listed = Vec::new(alloc);
+        for key in &self.listed {
+            listed.push(Listed {
+                roll: key.roll,
+                part: key.part,
+                reference: key.reference.clone()?,
+            })?;
+        }
+        let ended = self.ended.clone()?;
+        Ok(Courses { listed, ended })
     }
 
     /// Takes the next turn.

@@ -120,6 +120,30 @@ impl Session {
         }
     }
 
+    /// Another session after the same calls, to see what a call would do. It takes its memory from
+    /// `alloc`.
+    ///
+    /// # Errors
+    ///
+    /// If there is no memory.
+    pub fn try_clone(&self, alloc: Global) -> Result<Self, AllocError>
+        ensures { IfOk result (λ copy. (name : List ℕ) (calls : List Call) (entries : List Entry) →
+            StandsAfter name calls entries self.now → StandsAfter name calls entries copy) }
+    {
+        let Ok(recorder) = self.recorder.try_clone(alloc) else {
+            return Err(AllocError);
+        };
+        let Ok(judge) = self.judge.try_clone(alloc) else {
+            return Err(AllocError);
+        };
+        let courses = self.courses.try_clone(alloc)?;
+        Ok(Session {
+            recorder,
+            judge,
+            courses,
+        })
+    }
+
     /// Makes the call of the line, and answers it with a line of its own. A call that is refused is
     /// answered too.
     ///

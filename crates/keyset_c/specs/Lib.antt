@@ -1,1 +1,4 @@
 pub mod Answered
+pub mod Handles
+pub mod Owned
+pub mod Sessions

@@ -1,42 +1,36 @@
-//! The key set for C, and for what calls C: a script in, its answers out.
+//! The key set for C, and for what calls C.
 //!
-//! A script is the whole state, so nothing is kept between two calls. A caller keeps the lines that
-//! were accepted, adds one, and asks again.
+//! `keyset_answer` takes a script and writes its answers, and keeps nothing. A session keeps a zone
+//! between two calls, so that a call costs what the call costs, and shows the zone's status.
 #![tactic(auto)]
 
-ghost use Rattle.std.specs.Prelude.{◌≡◌, ◌≢◌, ◌⊎◌, ℕ, ◌<◌, ◌≤◌, List, length, take, drop};
+ghost use Rattle.std.specs.Prelude.{◌≡◌, ◌≢◌, ◌⊎◌, ◌↔◌, ℕ, ◌<◌, ◌≤◌, List, length, take, drop};
+ghost use Rattle.std.specs.Prelude.{None, IsSome};
 ghost use Rattle.dnssec_record.specs.Answer.{IsAnswerOf};
-ghost use Rattle.dnssec_record.specs.Script.{IsFirstMalformed, IsScript};
+ghost use Rattle.dnssec_record.specs.Script.{IsFirstMalformed, IsScript, IsZoneLine, says};
 ghost use Rattle.dnssec_run.specs.declared.call.Call.{Call};
 ghost use Rattle.keyset_c.specs.Answered.{TextEndsSafe, IsAnswerOfLength, StaysSafeIfPlain};
+ghost use Rattle.keyset_c.specs.Handles.{IsWhole, kept_by};
+ghost use Rattle.keyset_c.specs.Sessions.{Calls, CallsAtLength, ClosesWith, Copies, Opens, Repeats};
+ghost use Rattle.keyset_c.specs.Sessions.{ShowsStatus};
 
-use dnssec_record::{ScriptFault, Std, run_script};
+mod answered;
+mod handle;
+mod kept;
+mod parts;
+mod place;
+mod sessions;
+
+pub use crate::answered::Answered;
+use crate::answered::{ANSWERED, CLOSED, IS_OPEN, MALFORMED, OUT_OF_MEMORY, fault, hand_out};
+pub use crate::handle::Handle;
+use crate::kept::Kept;
+use crate::sessions::{copy_of, put_back, put_next, tell_closing, tell_status};
+use dnssec_record::{ScriptFault, Session, Std, Told, run_script};
 use std::alloc::Global;
 
-/// The answer was written.
-const ANSWERED: u32 = 0;
-/// A line doesn't have the form of a script's line.
-const MALFORMED: u32 = 1;
-/// Memory has run out.
-const OUT_OF_MEMORY: u32 = 3;
-/// The answer is longer than the room for it.
-const SHORT: u32 = 4;
-
-/// The version of what is exported here: of the two calls, of `Answered` and of its statuses.
-const VERSION: u32 = 1;
-
-/// How a script was answered.
-#[repr(C)]
-#[derive(Drop)]
-pub struct Answered {
-    /// 0 answered, 1 malformed, 3 out of memory: what the program `keyset` ends with. 4 short of
-    /// room. It is never 2, the program's status where a device has failed.
-    pub status: u32,
-    /// Answered: how many bytes were written. Short of room: how many there have to be. Else 0.
-    pub length: usize,
-    /// Malformed: the first malformed line, counted from 1. Else 0.
-    pub line: usize,
-}
+/// The version of what is exported here: of the calls, of their structs and of the statuses.
+const VERSION: u32 = 2;
 
 /// Answers the script into the front of `out`, with the bytes that the program `keyset` writes.
 ///
@@ -83,46 +77,224 @@ pub extern "C" fn keyset_answer(alloc: Global, script: &[u8], out: &mut [u8]) ->
             line,
         },
         // A slice never fails, and a vector only for lack of memory.
-        Err(ScriptFault::Device | ScriptFault::OutOfMemory) => Answered {
-            status: OUT_OF_MEMORY,
-            length: 0,
-            line: 0,
-        },
+        Err(ScriptFault::Device | ScriptFault::OutOfMemory) => fault(OUT_OF_MEMORY),
     }
 }
 
 /// The version of what is exported here.
 #[unsafe(no_mangle)]
 pub extern "C" fn keyset_version() -> u32
-    ensures { result ≡ 1 }
+    ensures { result ≡ 2 }
 {
     VERSION
 }
 
-/// Writes the text into the front of `out`, where it fits.
-fn hand_out(text: &[u8], out: &mut [u8]) -> Answered
-    ensures status { (result.status ≡ 0) ⊎ (result.status ≡ 4) }
-    ensures length { result.length ≡ length text.now }
-    ensures line { result.line ≡ 0 }
-    ensures written { result.status ≡ 0 → take result.length out.new ≡ text.now }
+/// Opens a session for the zone that the line names, as the first line of a script does.
+///
+/// 0 if it is open now; else it is as it was: 1 for a line that names no zone, 3 for lack of
+/// memory, 6 if it was open.
+#[unsafe(no_mangle)]
+pub extern "C" fn keyset_open(alloc: Global, line: &[u8], session: &mut Handle) -> u32
+    requires { IsWhole session.old }
+    ensures whole { IsWhole session.new }
+    ensures opened { result ≡ 0 → Opens (kept_by session.new) line.now }
+    ensures malformed { result ≡ 1 → (name : List ℕ) → ¬ IsZoneLine line.now name }
+    ensures is_open { (result ≡ 6) ↔ IsSome (kept_by session.old) }
+    ensures unchanged { result ≢ 0 → kept_by session.new ≡ kept_by session.old }
+    ensures status { (result ≡ 0) ⊎ (result ≡ 1) ⊎ (result ≡ 3) ⊎ (result ≡ 6) }
+{
+    if session.is_open() {
+        return IS_OPEN;
+    }
+    match Session::open(alloc, line) {
+        Ok(opened) => {
+            let kept = Kept {
+                session: opened,
+                told: String::new(alloc),
+            };
+            match Box::new(alloc, kept) {
+                Ok(kept) => {
+                    session.put(kept);
+                    ANSWERED
+                }
+                Err(_) => OUT_OF_MEMORY,
+            }
+        }
+        Err(ScriptFault::Malformed(_)) => MALFORMED,
+        Err(ScriptFault::Device | ScriptFault::OutOfMemory) => OUT_OF_MEMORY,
+    }
+}
+
+/// Makes the call of the line, and writes its answer into the front of `out`.
+///
+/// After a status of 0 or 4 the call is made, and `keyset_told` writes the answer again. A session
+/// without memory for its call is closed: its lines open it anew.
+#[unsafe(no_mangle)]
+pub extern "C" fn keyset_call(
+    alloc: Global,
+    session: &mut Handle,
+    line: &[u8],
+    out: &mut [u8],
+) -> Answered
+    // C holds what the library left there, or zeros.
+    requires { IsWhole session.old }
+    ensures whole { IsWhole session.new }
+
+    // Answered: whatever record the run of its lines has, it has one entry more, and the front of
+    // `out` is the answer to this line.
+    ensures answered { result.status ≡ 0 →
+        Calls (kept_by session.old) (kept_by session.new) line.now (take result.length out.new) }
+    ensures fits { result.status ≡ 0 → result.length ≤ length out.new }
+    ensures rest { result.status ≡ 0 → drop result.length out.new ≡ drop result.length out.old }
+
+    // Short of room: the call is made, and its answer has this length.
+    ensures short { result.status ≡ 4 → length out.old < result.length }
+    ensures needed { result.status ≡ 4 →
+        CallsAtLength (kept_by session.old) (kept_by session.new) line.now result.length }
+
+    // A malformed line makes no call.
+    ensures malformed { result.status ≡ 1 → says line.now ≡ None }
+    ensures kept { result.status ≡ 1 → kept_by session.new ≡ kept_by session.old }
+
+    // Out of memory it is closed, and a closed one makes no call.
+    ensures lost { result.status ≡ 3 → kept_by session.new ≡ None }
+    ensures closed { (result.status ≡ 5) ↔ (kept_by session.old ≡ None) }
+    ensures stays_closed { result.status ≡ 5 → kept_by session.new ≡ None }
+
+    // Without an answer nothing is written, and there is no other status.
+    ensures silent { result.status ≢ 0 → out.new ≡ out.old }
+    ensures status { (result.status ≡ 0) ⊎ (result.status ≡ 1) ⊎ (result.status ≡ 3)
+        ⊎ (result.status ≡ 4) ⊎ (result.status ≡ 5) }
+{
+    let Some(kept) = session.take(alloc) else {
+        return fault(CLOSED);
+    };
+    let Kept {
+        session: before,
+        told,
+    } = Box::into_inner(kept);
+    match before.call(alloc, line) {
+        Ok(Told::Answered(after, text)) => {
+            let kept = Kept {
+                session: after,
+                told: text,
+            };
+            put_next(alloc, session, kept, out)
+        }
+        Ok(Told::Malformed(same)) => {
+            let kept = Kept {
+                session: same,
+                told,
+            };
+            put_back(alloc, session, kept)
+        }
+        Err(_) => fault(OUT_OF_MEMORY),
+    }
+}
+
+/// Writes the answer to the last line again.
+#[unsafe(no_mangle)]
+pub extern "C" fn keyset_told(alloc: Global, session: &mut Handle, out: &mut [u8]) -> Answered
+    requires { IsWhole session.old }
+    ensures whole { IsWhole session.new }
+    ensures same { kept_by session.new ≡ kept_by session.old }
+    ensures told { result.status ≡ 0 → Repeats (kept_by session.old) (take result.length out.new) }
     ensures fits { result.status ≡ 0 → result.length ≤ length out.new }
     ensures rest { result.status ≡ 0 → drop result.length out.new ≡ drop result.length out.old }
     ensures short { result.status ≡ 4 → length out.old < result.length }
-    ensures silent { result.status ≡ 4 → out.new ≡ out.old }
+    ensures closed { (result.status ≡ 5) ↔ (kept_by session.old ≡ None) }
+    ensures silent { result.status ≢ 0 → out.new ≡ out.old }
 {
-    let length = text.len();
-    if length <= out.len() {
-        out[..length].copy_from_slice(text);
-        Answered {
-            status: ANSWERED,
-            length,
-            line: 0,
-        }
-    } else {
-        Answered {
-            status: SHORT,
-            length,
-            line: 0,
-        }
+    let Some(kept) = session.take(alloc) else {
+        return fault(CLOSED);
+    };
+    let answered = hand_out(kept.told.as_bytes(), out);
+    session.put(kept);
+    answered
+}
+
+/// Writes the last two lines of the answers so far: the sets that are published after the last
+/// call, and the verdict on the record.
+#[unsafe(no_mangle)]
+pub extern "C" fn keyset_closing(alloc: Global, session: &mut Handle, out: &mut [u8]) -> Answered
+    requires { IsWhole session.old }
+    ensures whole { IsWhole session.new }
+    ensures same { kept_by session.new ≡ kept_by session.old }
+    ensures told { result.status ≡ 0 →
+        ClosesWith (kept_by session.old) (take result.length out.new) }
+    ensures fits { result.status ≡ 0 → result.length ≤ length out.new }
+    ensures rest { result.status ≡ 0 → drop result.length out.new ≡ drop result.length out.old }
+    ensures short { result.status ≡ 4 → length out.old < result.length }
+    ensures closed { (result.status ≡ 5) ↔ (kept_by session.old ≡ None) }
+    ensures silent { result.status ≢ 0 → out.new ≡ out.old }
+{
+    let Some(kept) = session.take(alloc) else {
+        return fault(CLOSED);
+    };
+    let answered = tell_closing(alloc, &kept.session, out);
+    session.put(kept);
+    answered
+}
+
+/// Writes the status of the zone after the calls so far, as one line of JSON.
+#[unsafe(no_mangle)]
+pub extern "C" fn keyset_status(alloc: Global, session: &mut Handle, out: &mut [u8]) -> Answered
+    requires { IsWhole session.old }
+    ensures whole { IsWhole session.new }
+    ensures same { kept_by session.new ≡ kept_by session.old }
+    ensures told { result.status ≡ 0 →
+        ShowsStatus (kept_by session.old) (take result.length out.new) }
+    ensures fits { result.status ≡ 0 → result.length ≤ length out.new }
+    ensures rest { result.status ≡ 0 → drop result.length out.new ≡ drop result.length out.old }
+    ensures short { result.status ≡ 4 → length out.old < result.length }
+    ensures closed { (result.status ≡ 5) ↔ (kept_by session.old ≡ None) }
+    ensures silent { result.status ≢ 0 → out.new ≡ out.old }
+{
+    let Some(kept) = session.take(alloc) else {
+        return fault(CLOSED);
+    };
+    let answered = tell_status(alloc, &kept.session, out);
+    session.put(kept);
+    answered
+}
+
+/// Opens another session after the same calls, to try one: 0, or 3 for lack of memory, 5 if the
+/// session is closed, 6 if the other is open. Unless it is 0, both are as they were.
+#[unsafe(no_mangle)]
+pub extern "C" fn keyset_copy(alloc: Global, session: &mut Handle, copy: &mut Handle) -> u32
+    requires session { IsWhole session.old }
+    requires copy { IsWhole copy.old }
+    ensures whole { IsWhole session.new }
+    ensures whole_copy { IsWhole copy.new }
+    ensures copied { result ≡ 0 → Copies (kept_by session.old) (kept_by copy.new) }
+    ensures same { kept_by session.new ≡ kept_by session.old }
+    ensures unchanged { result ≢ 0 → kept_by copy.new ≡ kept_by copy.old }
+    ensures is_open { (result ≡ 6) ↔ IsSome (kept_by copy.old) }
+    ensures status { (result ≡ 0) ⊎ (result ≡ 3) ⊎ (result ≡ 5) ⊎ (result ≡ 6) }
+{
+    if copy.is_open() {
+        return IS_OPEN;
     }
+    let Some(kept) = session.take(alloc) else {
+        return CLOSED;
+    };
+    let made = copy_of(alloc, &kept);
+    session.put(kept);
+    match made {
+        Ok(made) => {
+            copy.put(made);
+            ANSWERED
+        }
+        Err(_) => OUT_OF_MEMORY,
+    }
+}
+
+/// Closes a session, and frees what it keeps. A closed one stays closed.
+#[unsafe(no_mangle)]
+pub extern "C" fn keyset_close(alloc: Global, session: &mut Handle)
+    requires { IsWhole session.old }
+    ensures whole { IsWhole session.new }
+    ensures closed { kept_by session.new ≡ None }
+{
+    drop(session.take(alloc));
 }

@@ -1,6 +1,6 @@
 use Rattle.std.proofs.Common.{arith}
 use Rattle.std.proofs.lemmas.Grind.{common_steps}
-use Rattle.keyset_c.proofs.hand_out.Goals as goal
+use Rattle.keyset_c.proofs.answered.hand_out.Goals as goal
 
 pub returns-then-length-out-clause-written : goal.returns-then-length-out-clause-written
 returns-then-length-out-clause-written c = grind (arith, common_steps)

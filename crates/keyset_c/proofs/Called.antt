@@ -1,0 +1,24 @@
+-- A session that is kept after a call stands after one line more.
+use Rattle.std.proofs.Common.{◌≡◌, ℕ, List, Option, Some, refl, string_bytes, subst, sym}
+use Rattle.dnssec_run.specs.declared.record.Entry.{Entry}
+use Rattle.dnssec_record.specs.Session.{GoesOn, Stands}
+use Rattle.keyset_c.specs.Sessions.{Calls}
+use Rattle.keyset_c.specs.declared.kept.Kept.{Kept}
+
+-- the one that was kept before is that which made the call
+pub called : (old new : Option Kept) (line text : List ℕ) (kept before after : Kept)
+    → old ≡ Some kept → before ≡ kept → new ≡ Some after → string_bytes after.told ≡ text
+    → ((lines : List (List ℕ)) (entries : List Entry) → Stands lines entries before.session
+    → GoesOn lines entries line after.session (string_bytes after.told))
+    → Calls old new line text
+called old new line text kept before after was same is tells goes = record {
+  before = kept;
+  is_before = was;
+  after = after;
+  is_after = is;
+  tells = tells;
+  goes_on = λ lines entries stands.
+      subst (GoesOn lines entries line after.session) tells
+      (goes lines entries
+      (subst (λ (k : Kept). Stands lines entries k.session) (sym same) stands));
+}

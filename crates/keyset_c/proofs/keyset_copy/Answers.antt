@@ -1,0 +1,16 @@
+-- What the other one keeps stands after the same calls.
+use Rattle.std.proofs.Common.{sym, subst}
+use Rattle.dnssec_record.specs.Session.{StandsAfter}
+use Rattle.keyset_c.specs.declared.kept.Kept.{Kept}
+use Rattle.keyset_c.proofs.keyset_copy.Goals as goal
+
+pub returns-in-Ok-clause-copied : goal.returns-in-Ok-clause-copied
+returns-in-Ok-clause-copied c = λ copied. record {
+  kept = c.in-Some.kept.value;
+  is = c.in-Some.ensures.taken;
+  copied = c.in-Ok.made.value;
+  is_copy = c.put-in-Ok.ensures.kept;
+  stands = λ name calls entries stands.
+      c.in-Ok.ensures name calls entries
+      (subst (λ (k : Kept). StandsAfter name calls entries k.session) (sym c.deref.ensures) stands);
+}

@@ -1,0 +1,12 @@
+-- What C holds of a session, as the library left it.
+use Rattle.std.specs.Prelude.{◌≡◌, Option, is_some}
+use Rattle.keyset_c.specs.declared.handle.Handle.{Handle}
+use Rattle.keyset_c.specs.declared.kept.Kept.{Kept}
+
+-- what it keeps, if it is open
+abbrev pub kept_by : Handle → Option Kept
+kept_by h = h.place.value
+
+-- it is open exactly while it keeps something
+abbrev pub IsWhole : Handle → Type 0
+IsWhole h = h.is_open ≡ is_some (kept_by h)

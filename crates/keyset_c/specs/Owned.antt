@@ -1,0 +1,13 @@
+-- What a pointer that C keeps stands for.
+use base.Fml.{Fml, ftrue}
+use denote.RawPtr.{Ptr}
+use Rattle.std.specs.Prelude.{Option, Some, None}
+use Rattle.std.specs.Box.Ownership.{box_owns}
+use Rattle.libc.specs.Heap.{chunk}
+use Rattle.keyset_c.specs.contracts.kept.Kept.{the_row}
+use Rattle.keyset_c.specs.declared.kept.Kept.{Kept}
+
+-- nothing, or the value on the heap behind it
+abbrev pub kept_owned : Ptr → Option Kept → Fml
+kept_owned p None = ftrue
+kept_owned p (Some kept) = box_owns chunk the_row p kept

@@ -1,0 +1,69 @@
+//! How C is answered.
+ghost use Rattle.std.specs.Prelude.{◌≡◌, ◌⊎◌, ◌<◌, ◌≤◌, length, take, drop};
+
+/// The answer was written.
+pub(crate) const ANSWERED: u32 = 0;
+/// A line doesn't have the form of a script's line.
+pub(crate) const MALFORMED: u32 = 1;
+/// Memory has run out.
+pub(crate) const OUT_OF_MEMORY: u32 = 3;
+/// The answer is longer than the room for it.
+pub(crate) const SHORT: u32 = 4;
+/// The session is closed.
+pub(crate) const CLOSED: u32 = 5;
+/// The session is open.
+pub(crate) const IS_OPEN: u32 = 6;
+
+/// How a call of the library was answered.
+#[repr(C)]
+#[derive(Drop)]
+pub struct Answered {
+    /// 0 answered, 1 malformed, 3 out of memory: what the program `keyset` ends with. 4 short of
+    /// room, 5 for a closed session. It is never 2, the program's status if a device has failed.
+    pub status: u32,
+    /// Answered: how many bytes were written. Short of room: how many there have to be. Else 0.
+    pub length: usize,
+    /// Malformed script: the first malformed line, counted from 1. Else 0.
+    pub line: usize,
+}
+
+/// A status without an answer.
+pub(crate) fn fault(status: u32) -> Answered
+    ensures status { result.status ≡ status }
+    ensures length { result.length ≡ 0 }
+    ensures line { result.line ≡ 0 }
+{
+    Answered {
+        status,
+        length: 0,
+        line: 0,
+    }
+}
+
+/// Writes the text into the front of `out`, if it fits.
+pub(crate) fn hand_out(text: &[u8], out: &mut [u8]) -> Answered
+    ensures status { (result.status ≡ 0) ⊎ (result.status ≡ 4) }
+    ensures length { result.length ≡ length text.now }
+    ensures line { result.line ≡ 0 }
+    ensures written { result.status ≡ 0 → take result.length out.new ≡ text.now }
+    ensures fits { result.status ≡ 0 → result.length ≤ length out.new }
+    ensures rest { result.status ≡ 0 → drop result.length out.new ≡ drop result.length out.old }
+    ensures short { result.status ≡ 4 → length out.old < result.length }
+    ensures silent { result.status ≡ 4 → out.new ≡ out.old }
+{
+    let length = text.len();
+    if length <= out.len() {
+        out[..length].copy_from_slice(text);
+        Answered {
+            status: ANSWERED,
+            length,
+            line: 0,
+        }
+    } else {
+        Answered {
+            status: SHORT,
+            length,
+            line: 0,
+        }
+    }
+}

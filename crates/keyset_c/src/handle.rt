@@ -1,0 +1,53 @@
+//! What C holds of a session.
+ghost use Rattle.std.specs.Prelude.{◌≡◌, Some, None, IfNone, IfSome, is_some};
+ghost use Rattle.keyset_c.specs.Handles.{IsWhole, kept_by};
+
+use crate::kept::Kept;
+use crate::parts::Parts;
+use crate::place::Place;
+use std::alloc::Global;
+use std::mem;
+
+/// What C holds of a session: a closed one is all zeros.
+#[repr(C)]
+#[derive(Drop)]
+pub struct Handle {
+    place: Place,
+    is_open: bool,
+}
+
+impl Handle {
+    pub(crate) fn is_open(&self) -> bool
+        requires { IsWhole self.now }
+        ensures { result ≡ is_some (kept_by self.now) }
+    {
+        self.is_open
+    }
+
+    /// Takes out what an open one keeps, and leaves it closed.
+    pub(crate) fn take(&mut self, alloc: Global) -> Option<Box<Kept>>
+        requires { IsWhole self.old }
+        ensures whole { IsWhole self.new }
+        ensures taken { IfSome result (λ kept. kept_by self.old ≡ Some kept.value) }
+        ensures closed { IfNone result (kept_by self.old ≡ None) }
+        ensures none { kept_by self.new ≡ None }
+    {
+        if self.is_open {
+            let place = mem::replace(&mut self.place, Place::none());
+            self.is_open = false;
+            Some(place.into_parts(alloc).into_box())
+        } else {
+            None
+        }
+    }
+
+    /// Keeps this, and is open.
+    pub(crate) fn put(&mut self, kept: Box<Kept>)
+        requires { kept_by self.old ≡ None }
+        ensures whole { IsWhole self.new }
+        ensures kept { kept_by self.new ≡ Some kept.value }
+    {
+        self.place = Place::of_parts(Parts::of(kept));
+        self.is_open = true;
+    }
+}

@@ -1,0 +1,56 @@
+//! A box as a pointer to bytes.
+ghost use Rattle.std.specs.Prelude.{◌≡◌, Option, Some, None, IsSome};
+ghost use Rattle.std.specs.Coded.{coded_option};
+ghost use Rattle.keyset_c.specs.declared.kept.Kept.{Kept as Value};
+ghost use Rattle.keyset_c.specs.contracts.kept.Kept.{the_row};
+ghost use Rattle.keyset_c.specs.Owned.{kept_owned};
+
+use crate::kept::Kept;
+use crate::parts::Parts;
+use std::alloc::Global;
+use std::marker::Model;
+use std::ptr::null_mut;
+
+/// A pointer of which C knows no more than that it is one: null, or what a box of `value` was.
+///
+/// No type with a vector may be behind a pointer that crosses to C, so this one points to bytes,
+/// and what it owns is said of the ghost value.
+#[repr(C)]
+#[derive(Drop)]
+pub struct Place {
+    ptr: *mut u8,
+    pub ghost value: { Option Value } by { coded_option the_row.coded },
+}
+
+impl Model for Place {
+    ghost also_owns = { λ p. kept_owned p.ptr p.value };
+}
+
+impl Place {
+    /// Keeps nothing.
+    pub(crate) fn none() -> Place
+        ensures { result.value ≡ None }
+    {
+        Place { ptr: null_mut() }
+    }
+
+    pub(crate) fn of_parts(parts: Parts<Kept, Global>) -> Place
+        ensures { result.value ≡ Some parts.value }
+    {
+        let Parts { ptr, alloc: _ } = parts;
+        Place {
+            ptr: ptr as *mut u8,
+        }
+    }
+
+    pub(crate) fn into_parts(self, alloc: Global) -> Parts<Kept, Global>
+        requires { IsSome self.value }
+        ensures { Some result.value ≡ self.value }
+    {
+        let Place { ptr } = self;
+        Parts {
+            ptr: ptr as *mut Kept,
+            alloc,
+        }
+    }
+}

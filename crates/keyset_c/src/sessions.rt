@@ -1,0 +1,109 @@
+//! The parts of the calls of a session.
+ghost use Rattle.std.specs.Prelude.{◌≡◌, ◌≢◌, ◌⊎◌, ℕ, ◌<◌, ◌≤◌, List, length, take, drop};
+ghost use Rattle.std.specs.Prelude.{None, Some, IfOk, string_bytes};
+ghost use Rattle.dnssec_record.specs.Session.{Closes, StandsAfter};
+ghost use Rattle.dnssec_run.specs.declared.call.Call.{Call};
+ghost use Rattle.dnssec_run.specs.declared.record.Entry.{Entry};
+ghost use Rattle.dnssec_status.specs.Status.{IsStatus};
+ghost use Rattle.keyset_c.specs.Handles.{IsWhole, kept_by};
+
+use crate::answered::{Answered, MALFORMED, OUT_OF_MEMORY, fault, hand_out};
+use crate::handle::Handle;
+use crate::kept::Kept;
+use dnssec_record::Session;
+use dnssec_status::status;
+use std::alloc::{AllocError, Global};
+
+/// Lets a session keep this after a call, and writes what it told.
+pub(crate) fn put_next(alloc: Global, session: &mut Handle, kept: Kept, out: &mut [u8]) -> Answered
+    requires whole { IsWhole session.old }
+    requires closed { kept_by session.old ≡ None }
+    ensures whole { IsWhole session.new }
+    ensures status { (result.status ≡ 0) ⊎ (result.status ≡ 3) ⊎ (result.status ≡ 4) }
+    ensures kept { result.status ≢ 3 → kept_by session.new ≡ Some kept }
+    ensures lost { result.status ≡ 3 → kept_by session.new ≡ None }
+    ensures written { result.status ≡ 0 → take result.length out.new ≡ string_bytes kept.told }
+    ensures fits { result.status ≡ 0 → result.length ≤ length out.new }
+    ensures rest { result.status ≡ 0 → drop result.length out.new ≡ drop result.length out.old }
+    ensures short { result.status ≡ 4 → length out.old < result.length }
+    ensures needed { result.status ≡ 4 → result.length ≡ length (string_bytes kept.told) }
+    ensures silent { result.status ≢ 0 → out.new ≡ out.old }
+{
+    match Box::new(alloc, kept) {
+        Ok(kept) => {
+            let answered = hand_out(kept.told.as_bytes(), out);
+            session.put(kept);
+            answered
+        }
+        Err(_) => fault(OUT_OF_MEMORY),
+    }
+}
+
+/// Lets a session keep this after a malformed line.
+pub(crate) fn put_back(alloc: Global, session: &mut Handle, kept: Kept) -> Answered
+    requires whole { IsWhole session.old }
+    requires closed { kept_by session.old ≡ None }
+    ensures whole { IsWhole session.new }
+    ensures status { (result.status ≡ 1) ⊎ (result.status ≡ 3) }
+    ensures kept { result.status ≡ 1 → kept_by session.new ≡ Some kept }
+    ensures lost { result.status ≡ 3 → kept_by session.new ≡ None }
+{
+    match Box::new(alloc, kept) {
+        Ok(kept) => {
+            session.put(kept);
+            fault(MALFORMED)
+        }
+        Err(_) => fault(OUT_OF_MEMORY),
+    }
+}
+
+/// Writes the last two lines of the answers so far.
+pub(crate) fn tell_closing(alloc: Global, session: &Session, out: &mut [u8]) -> Answered
+    ensures told { result.status ≡ 0 →
+        (name : List ℕ) (calls : List Call) (entries : List Entry) →
+        StandsAfter name calls entries session.now → Closes entries (take result.length out.new) }
+    ensures status { (result.status ≡ 0) ⊎ (result.status ≡ 3) ⊎ (result.status ≡ 4) }
+    ensures fits { result.status ≡ 0 → result.length ≤ length out.new }
+    ensures rest { result.status ≡ 0 → drop result.length out.new ≡ drop result.length out.old }
+    ensures short { result.status ≡ 4 → length out.old < result.length }
+    ensures silent { result.status ≢ 0 → out.new ≡ out.old }
+{
+    match session.closing(alloc) {
+        Ok(text) => hand_out(text.as_bytes(), out),
+        Err(_) => fault(OUT_OF_MEMORY),
+    }
+}
+
+/// Writes the status of the zone.
+pub(crate) fn tell_status(alloc: Global, session: &Session, out: &mut [u8]) -> Answered
+    ensures told { result.status ≡ 0 →
+        (name : List ℕ) (calls : List Call) (entries : List Entry) →
+        StandsAfter name calls entries session.now →
+        IsStatus name calls entries (take result.length out.new) }
+    ensures status { (result.status ≡ 0) ⊎ (result.status ≡ 3) ⊎ (result.status ≡ 4) }
+    ensures fits { result.status ≡ 0 → result.length ≤ length out.new }
+    ensures rest { result.status ≡ 0 → drop result.length out.new ≡ drop result.length out.old }
+    ensures short { result.status ≡ 4 → length out.old < result.length }
+    ensures silent { result.status ≢ 0 → out.new ≡ out.old }
+{
+    match status(alloc, session) {
+        Ok(text) => hand_out(&text, out),
+        Err(_) => fault(OUT_OF_MEMORY),
+    }
+}
+
+/// A copy of what a session keeps.
+pub(crate) fn copy_of(alloc: Global, kept: &Kept) -> Result<Box<Kept>, AllocError>
+    ensures { IfOk result (λ copy. (name : List ℕ) (calls : List Call) (entries : List Entry) →
+        StandsAfter name calls entries kept.now.session →
+        StandsAfter name calls entries copy.value.session) }
+{
+    let copy = Kept {
+        session: kept.session.try_clone(alloc)?,
+        told: kept.told.clone()?,
+    };
+    match Box::new(alloc, copy) {
+        Ok(copy) => Ok(copy),
+        Err(_) => Err(AllocError),
+    }
+}

@@ -1,0 +1,506 @@
+/* Tests sessions of the library at their border, over stored scripts with their answers:
+
+       sessions STORED [STEP]
+
+   Each script is played line by line: what the session says, put together, is the stored answer, in
+   a buffer of each length too (every STEP of these, as a checker of memory makes it slow), beside
+   malformed lines that change nothing, and side by side in threads, each with its sessions in an
+   order of its own. Each request for memory fails in turn: a session that it closes says so, and
+   goes on from its lines. A closed handle is told as such by each call. The linker has malloc,
+   realloc and free of the library come here: -Wl,--wrap=malloc,--wrap=realloc,--wrap=free */
+
+#define _GNU_SOURCE
+#include <keyset.h>
+
+#include <pthread.h>
+#include <stdio.h>
+#include <stdlib.h>
+#include <string.h>
+
+#define THREADS 4
+#define BESIDE 8
+#define REFUSED "refused: out of memory\n"
+#define FILLER 0xA5
+/* Room for any answer to a line, and for any status of the stored scripts. */
+#define LINE_ROOM 512
+#define ROOM (1 << 16)
+
+static const char *const MALFORMED[] = {
+    "", " ", "\n", "zone example.com", "abort", "abort ksk-roll ", "delete K1\n",
+    "delete K1\ndelete K2",
+    "report1 ksk-roll 4294967296 0", "wait1 ksk-roll 18446744073709551616", "delete \xFF",
+};
+#define MALFORMED_LINES (sizeof MALFORMED / sizeof *MALFORMED)
+
+void *__real_malloc(size_t size);
+void *__real_realloc(void *block, size_t size);
+void __real_free(void *block);
+
+/* What the library asks for while it is called: how often, which request is to fail, and how many
+   blocks it holds. */
+static _Thread_local struct {
+    bool is_called;
+    size_t made, failing, held;
+} requests;
+
+static bool is_to_fail(void)
+{
+    return requests.is_called && ++requests.made == requests.failing;
+}
+
+void *__wrap_malloc(size_t size)
+{
+    void *block = is_to_fail() ? NULL : __real_malloc(size);
+    requests.held += requests.is_called && block != NULL;
+    return block;
+}
+
+void *__wrap_realloc(void *block, size_t size)
+{
+    void *grown = is_to_fail() ? NULL : __real_realloc(block, size);
+    requests.held += requests.is_called && block == NULL && grown != NULL;
+    return grown;
+}
+
+void __wrap_free(void *block)
+{
+    requests.held -= requests.is_called && block != NULL;
+    __real_free(block);
+}
+
+static void expect(bool holds, const char *what, const char *name)
+{
+    if (!holds) {
+        fprintf(stderr, "%s: not as expected: %s\n", name, what);
+        exit(EXIT_FAILURE);
+    }
+}
+
+struct stored {
+    const char *name;
+    const char *script, *answer;
+};
+
+static struct stored *stored;
+static size_t scripts;
+
+static void read_stored(const char *path)
+{
+    static char text[1 << 22];
+    FILE *file = fopen(path, "r");
+    expect(file != NULL, "the file of stored scripts", path);
+    text[fread(text, 1, sizeof text - 1, file)] = '\0';
+    fclose(file);
+    char *at = strstr(text, "\n== ");
+    while (at != NULL) {
+        char *name = at + strlen("\n== "), *next = strstr(name, "\n== ");
+        if (next != NULL)
+            *next = '\0';
+        char *script = strchr(name, '\n') + 1, *end = strstr(script, "-- answers\n");
+        expect(end != NULL, "a script with answers", path);
+        script[-1] = *end = '\0';
+        stored = realloc(stored, (scripts + 1) * sizeof *stored);
+        expect(stored != NULL, "memory for the scripts", path);
+        stored[scripts++] = (struct stored){name, script, end + strlen("-- answers\n")};
+        at = next;
+    }
+}
+
+/* ---- the calls of the library, with its requests counted */
+
+static uint32_t open_line(struct keyset_session *session, const char *line, size_t length)
+{
+    requests.is_called = true;
+    uint32_t status = keyset_open((const uint8_t *)line, length, session);
+    requests.is_called = false;
+    return status;
+}
+
+static struct keyset_answered call(struct keyset_session *session, const char *line, size_t length,
+                                   uint8_t *out, size_t room)
+{
+    requests.is_called = true;
+    struct keyset_answered told =
+        keyset_call(session, (const uint8_t *)line, length, out, room);
+    requests.is_called = false;
+    return told;
+}
+
+typedef struct keyset_answered (*question)(struct keyset_session *, uint8_t *, size_t);
+static const question QUESTIONS[] = {keyset_told, keyset_closing, keyset_status};
+
+static struct keyset_answered ask(question asked, struct keyset_session *session, uint8_t *out,
+                                  size_t room)
+{
+    requests.is_called = true;
+    struct keyset_answered told = asked(session, out, room);
+    requests.is_called = false;
+    return told;
+}
+
+static uint32_t copy(struct keyset_session *session, struct keyset_session *other)
+{
+    requests.is_called = true;
+    uint32_t status = keyset_copy(session, other);
+    requests.is_called = false;
+    return status;
+}
+
+static void close_session(struct keyset_session *session)
+{
+    requests.is_called = true;
+    keyset_close(session);
+    requests.is_called = false;
+    expect(session->place == NULL && !session->is_open, "all zeros once closed", "close");
+}
+
+/* ---- what is expected */
+
+/* A buffer of this length, of its own, so that a checker of memory sees what is past its end. */
+static uint8_t *filled(size_t length)
+{
+    uint8_t *bytes = malloc(length > 0 ? length : 1);
+    expect(bytes != NULL, "memory for a buffer", "sessions");
+    memset(bytes, FILLER, length);
+    return bytes;
+}
+
+static bool is_filled(const uint8_t *bytes, size_t length)
+{
+    for (size_t i = 0; i < length; i++)
+        if (bytes[i] != FILLER)
+            return false;
+    return true;
+}
+
+/* What a question is answered, as a text of its own. */
+static char *answer_of(question asked, struct keyset_session *session)
+{
+    uint8_t *out = filled(ROOM);
+    struct keyset_answered told = ask(asked, session, out, ROOM);
+    expect(told.status == KEYSET_ANSWERED && told.line == 0, "answered", "a question");
+    expect(is_filled(out + told.length, ROOM - told.length), "what stands behind", "a question");
+    out[told.length] = '\0';
+    char *text = strdup((const char *)out);
+    expect(text != NULL, "memory for a text", "a question");
+    free(out);
+    return text;
+}
+
+static void expect_told(question asked, struct keyset_session *session, const char *wanted,
+                        const char *name)
+{
+    char *text = answer_of(asked, session);
+    expect(strcmp(text, wanted) == 0, "the same answer", name);
+    free(text);
+}
+
+/* In a room that is too short nothing is written, and nothing is lost. */
+static void expect_short(question asked, struct keyset_session *session, size_t step)
+{
+    char *text = answer_of(asked, session);
+    size_t needed = strlen(text);
+    for (size_t room = 0; room < needed; room += step) {
+        uint8_t *out = filled(room);
+        struct keyset_answered told = ask(asked, session, room > 0 ? out : NULL, room);
+        expect(told.status == KEYSET_SHORT && told.length == needed, "short", text);
+        expect(is_filled(out, room), "nothing is written where it is short", text);
+        free(out);
+    }
+    uint8_t *out = filled(needed);
+    struct keyset_answered told = ask(asked, session, out, needed);
+    expect(told.status == KEYSET_ANSWERED && memcmp(out, text, needed) == 0, "exact room", text);
+    free(out);
+    free(text);
+}
+
+/* Each call tells that a session is closed, and does nothing. */
+static void expect_closed(struct keyset_session *session)
+{
+    uint8_t out[8];
+    memset(out, FILLER, sizeof out);
+    struct keyset_session other = {0};
+    requests.made = requests.held = requests.failing = 0;
+    struct keyset_answered told = call(session, "delete K1", 9, out, sizeof out);
+    expect(told.status == KEYSET_CLOSED && told.length == 0, "a call", "closed");
+    for (size_t i = 0; i < 3; i++) {
+        told = ask(QUESTIONS[i], session, out, sizeof out);
+        expect(told.status == KEYSET_CLOSED && told.length == 0, "a question", "closed");
+    }
+    expect(copy(session, &other) == KEYSET_CLOSED, "copied", "closed");
+    expect(!other.is_open && is_filled(out, sizeof out), "nothing is done", "closed");
+    close_session(session);
+    expect(requests.made == 0 && requests.held == 0, "no memory is asked for", "closed");
+}
+
+/* Each malformed line leaves the session as it was. */
+static void expect_malformed(struct keyset_session *session)
+{
+    char *closing = answer_of(keyset_closing, session), *last = answer_of(keyset_told, session);
+    for (size_t i = 0; i < MALFORMED_LINES; i++) {
+        uint8_t out[64];
+        memset(out, FILLER, sizeof out);
+        size_t length = strlen(MALFORMED[i]);
+        struct keyset_answered told =
+            call(session, length > 0 ? MALFORMED[i] : NULL, length, out, sizeof out);
+        expect(told.status == KEYSET_MALFORMED && told.length == 0, "malformed", MALFORMED[i]);
+        expect(is_filled(out, sizeof out), "nothing is written", MALFORMED[i]);
+    }
+    expect_told(keyset_closing, session, closing, "after malformed lines");
+    expect_told(keyset_told, session, last, "after malformed lines");
+    free(closing);
+    free(last);
+}
+
+/* A copy makes the call in a room that is too short; the session stays as it was. */
+static void expect_short_call(struct keyset_session *session, const char *line, size_t length,
+                              const char *wanted, size_t needed, size_t step)
+{
+    char *before = answer_of(keyset_closing, session);
+    for (size_t room = 0; room < needed; room += step) {
+        struct keyset_session tried = {0};
+        expect(copy(session, &tried) == KEYSET_ANSWERED, "a copy", line);
+        uint8_t *out = filled(room);
+        struct keyset_answered told = call(&tried, line, length, room > 0 ? out : NULL, room);
+        expect(told.status == KEYSET_SHORT && told.length == needed, "a short call", line);
+        expect(is_filled(out, room), "nothing is written where it is short", line);
+        char *again = answer_of(keyset_told, &tried);
+        expect(strncmp(again, wanted, needed) == 0 && strlen(again) == needed, "told again", line);
+        free(again);
+        free(out);
+        close_session(&tried);
+    }
+    expect_told(keyset_closing, session, before, "after its copies");
+    free(before);
+}
+
+/* ---- a script, line by line */
+
+struct play {
+    const struct stored *it;
+    struct keyset_session session;
+    const char *line, *wanted;
+};
+
+static size_t length_of_line(const char *line)
+{
+    return strcspn(line, "\n");
+}
+
+static bool begin(struct play *play, const struct stored *it)
+{
+    *play = (struct play){.it = it, .wanted = it->answer};
+    size_t length = length_of_line(it->script);
+    play->line = it->script + length + (it->script[length] == '\n');
+    return open_line(&play->session, it->script, length) == KEYSET_ANSWERED;
+}
+
+/* The next line, with the answer that the stored one has for it. */
+static void next(struct play *play)
+{
+    uint8_t *out = filled(LINE_ROOM);
+    size_t length = length_of_line(play->line), needed = length_of_line(play->wanted) + 1;
+    struct keyset_answered told = call(&play->session, play->line, length, out, LINE_ROOM);
+    expect(told.status == KEYSET_ANSWERED && told.length == needed, "a line", play->it->name);
+    expect(memcmp(out, play->wanted, needed) == 0, "its answer", play->it->name);
+    expect(is_filled(out + needed, LINE_ROOM - needed), "what stands behind", play->it->name);
+    free(out);
+    play->line += length + (play->line[length] == '\n');
+    play->wanted += needed;
+}
+
+static void end(struct play *play)
+{
+    expect_told(keyset_closing, &play->session, play->wanted, play->it->name);
+    close_session(&play->session);
+}
+
+static size_t play_alone(const struct stored *it, size_t step)
+{
+    struct play play;
+    size_t lines = 0;
+    requests.held = requests.failing = 0;
+    expect(begin(&play, it), "opened", it->name);
+    expect_told(keyset_told, &play.session, "", it->name);
+    expect(open_line(&play.session, "zone .", 6) == KEYSET_IS_OPEN, "opened twice", it->name);
+    for (; *play.line != '\0'; lines++) {
+        size_t length = length_of_line(play.line), needed = length_of_line(play.wanted) + 1;
+        if (lines % step == 0)
+            expect_short_call(&play.session, play.line, length, play.wanted, needed, step);
+        next(&play);
+        if (lines % step == 0)
+            expect_malformed(&play.session);
+    }
+    expect_short(keyset_closing, &play.session, step);
+    expect_short(keyset_status, &play.session, step);
+    end(&play);
+    expect(requests.held == 0, "nothing is kept", it->name);
+    expect_closed(&play.session);
+    return lines;
+}
+
+/* ---- requests for memory that fail */
+
+/* Opens the session that a call has closed anew, with the lines before this one. */
+static void open_anew(struct play *play)
+{
+    expect(requests.held == 0, "all is freed", play->it->name);
+    expect_closed(&play->session);
+    struct play again;
+    expect(begin(&again, play->it), "opened anew", play->it->name);
+    while (again.line < play->line)
+        next(&again);
+    play->session = again.session;
+}
+
+/* Plays a script in which the request of this number fails, and tells whether there was one. What
+   the session says is what is stored, but one refusal for memory may come before. */
+static bool play_failing(const struct stored *it, size_t failing, size_t *closed)
+{
+    struct play play;
+    bool has_failed = false, was_refused = false;
+    requests.made = requests.held = 0;
+    requests.failing = failing;
+    if (!begin(&play, it)) {
+        expect(requests.made == failing && requests.held == 0, "not opened", it->name);
+        expect_closed(&play.session);
+        return true;
+    }
+    while (*play.line != '\0') {
+        uint8_t *out = filled(LINE_ROOM);
+        size_t length = length_of_line(play.line), needed = length_of_line(play.wanted) + 1;
+        struct keyset_answered told = call(&play.session, play.line, length, out, LINE_ROOM);
+        bool fails_now = !has_failed && requests.made >= failing;
+        has_failed = has_failed || fails_now;
+        if (fails_now)
+            requests.failing = 0;
+        if (told.status == KEYSET_OUT_OF_MEMORY) {
+            expect(fails_now && is_filled(out, LINE_ROOM), "out of memory", it->name);
+            open_anew(&play);
+            (*closed)++;
+        } else if (told.length == strlen(REFUSED) && memcmp(out, REFUSED, told.length) == 0) {
+            expect(fails_now, "refused for memory", it->name);
+            was_refused = true;
+        } else {
+            expect(told.length == needed && memcmp(out, play.wanted, needed) == 0, "as stored",
+                   it->name);
+            play.line += length + (play.line[length] == '\n');
+            play.wanted += needed;
+        }
+        free(out);
+    }
+    requests.failing = 0;
+    char *closing = answer_of(keyset_closing, &play.session);
+    /* A refused call has a position too, so that those of a verdict may be others. */
+    const char *chain = strstr(play.wanted, "chain ");
+    size_t alike = (size_t)(chain - play.wanted) + strlen("chain safe");
+    expect(strncmp(closing, play.wanted, alike) == 0, "the closing", it->name);
+    expect(was_refused || strcmp(closing, play.wanted) == 0, "the verdict", it->name);
+    free(closing);
+    close_session(&play.session);
+    expect(requests.held == 0, "nothing is kept", it->name);
+    return has_failed;
+}
+
+/* Lets each request of a question or a copy fail: the session stays as it was. */
+static size_t fail_questions(struct keyset_session *session)
+{
+    size_t failed = 0;
+    char *closing = answer_of(keyset_closing, session), *shown = answer_of(keyset_status, session);
+    for (size_t i = 0; i < 4; i++) {
+        for (size_t failing = 1;; failing++, failed++) {
+            struct keyset_session other = {0};
+            uint8_t *out = filled(ROOM);
+            requests.made = requests.held = 0;
+            requests.failing = failing;
+            uint32_t status = i < 3 ? ask(QUESTIONS[i], session, out, ROOM).status
+                                    : copy(session, &other);
+            bool has_failed = requests.made >= failing;
+            requests.failing = 0;
+            expect((status == KEYSET_OUT_OF_MEMORY) == has_failed, "out of memory", "a question");
+            if (has_failed)
+                expect(is_filled(out, ROOM) && !other.is_open, "nothing is done", "a question");
+            close_session(&other);
+            expect(requests.held == 0, "nothing is kept", "a question");
+            free(out);
+            if (!has_failed)
+                break;
+        }
+        expect_told(keyset_closing, session, closing, "after questions without memory");
+        expect_told(keyset_status, session, shown, "after questions without memory");
+    }
+    free(closing);
+    free(shown);
+    return failed;
+}
+
+/* ---- threads */
+
+/* Plays BESIDE scripts at a time, a line of each in turn, from this place of the list on. */
+static void *play_beside(void *first)
+{
+    struct play plays[BESIDE] = {0};
+    size_t from = (size_t)(uintptr_t)first, done = 0, begun = 0;
+    requests.failing = 0;
+    while (done < scripts)
+        for (size_t i = 0; i < BESIDE; i++) {
+            struct play *play = &plays[i];
+            if (!play->session.is_open) {
+                if (begun < scripts) {
+                    const struct stored *it = &stored[(from + begun++) % scripts];
+                    expect(begin(play, it), "opened", it->name);
+                }
+            } else if (*play->line != '\0') {
+                next(play);
+            } else {
+                end(play);
+                done++;
+            }
+        }
+    return NULL;
+}
+
+int main(int argc, char **argv)
+{
+    size_t step = argc > 2 ? strtoul(argv[2], NULL, 10) : 1;
+    size_t lines = 0, failed = 0, closed = 0, asked = 0;
+    expect(argc > 1, "sessions STORED [STEP]", argv[0]);
+    expect(keyset_version() == KEYSET_VERSION, "the version", argv[0]);
+    read_stored(argv[1]);
+
+    struct keyset_session never = {0};
+    expect_closed(&never);
+    expect(open_line(&never, NULL, 0) == KEYSET_MALFORMED, "an empty line", argv[0]);
+    expect(open_line(&never, "zone ..", 7) == KEYSET_MALFORMED, "a name that is none", argv[0]);
+    expect(open_line(&never, "zone .\n", 7) == KEYSET_MALFORMED, "a line feed", argv[0]);
+    expect_closed(&never);
+
+    for (size_t i = 0; i < scripts; i++) {
+        lines += play_alone(&stored[i], step);
+        if (i % step != 0)
+            continue;
+        for (size_t failing = 1; play_failing(&stored[i], failing, &closed); failing++)
+            failed++;
+        struct play play;
+        requests.failing = 0;
+        expect(begin(&play, &stored[i]), "opened", stored[i].name);
+        while (*play.line != '\0')
+            next(&play);
+        asked += fail_questions(&play.session);
+        end(&play);
+    }
+
+    pthread_t threads[THREADS];
+    for (size_t i = 0; i < THREADS; i++) {
+        void *first = (void *)(uintptr_t)(i * scripts / THREADS);
+        expect(pthread_create(&threads[i], NULL, play_beside, first) == 0, "a thread", argv[0]);
+    }
+    for (size_t i = 0; i < THREADS; i++)
+        expect(pthread_join(threads[i], NULL) == 0, "its end", argv[0]);
+
+    printf("%zu scripts in sessions, %zu lines, %zu requests failed in turn, %zu of these closed a"
+           " session, %zu more of questions and copies, %d threads\n",
+           scripts, lines, failed, closed, asked, THREADS);
+    free(stored);
+    return EXIT_SUCCESS;
+}

@@ -1,0 +1,265 @@
+#!/usr/bin/env python3
+"""Tests the status that sessions of the library show, over each stored script after each line.
+
+    tests/sessions.py FOLDER    takes the library that `make lib` has left there
+
+Each status is JSON of one shape. Its sets and its verdict are those of the closing lines. What it
+says can be done is done on a copy of the session: a key that may be deleted is, and no other; a wait
+is accepted at its moment, and refused a second before; the next call of a roll is accepted, and no
+other call of that roll. What it says of listed keys and of early ends is what the lines say.
+"""
+
+import ctypes
+import json
+import sys
+from pathlib import Path
+
+TOP = Path(__file__).resolve().parent.parent
+STORED = TOP / "replay" / "scripts.txt"
+
+ROOM = 1 << 16
+# Later than all moments of the stored scripts and their TTLs, and a moment of the format still.
+LATE = 1 << 40
+
+SIDES = {
+    "ksk-roll": "k",
+    "ksk-double-ds-roll": "k",
+    "zsk-roll": "z",
+    "zsk-double-signature-roll": "z",
+    "csk-roll": "kz",
+    "algorithm-roll": "kz",
+}
+ORDER = list(SIDES)
+
+MEMBERS = {
+    "": ["zone", "chain", "published", "keys", "rolls", "ended"],
+    "chain": ["safe", "at", "ds", "dnskey", "zone"],
+    "published": ["ds", "dnskey", "signers", "zone"],
+    "keys": [
+        *["reference", "kind", "roles", "algorithm", "tag", "private", "decoupled"],
+        *["creation", "published", "visible", "ds_visible", "rrsig_visible", "withdrawn"],
+        *["may_come_in", "may_be_deleted", "old_in", "new_in"],
+    ],
+    "roles": ["role", "state", "old", "signer", "present", "at_parent"],
+    "rolls": ["roll", "phase", "ttl", "next", "not_before", "waits_for", "due"],
+    "ended": ["roll", "asked"],
+}
+
+
+class Wrong(Exception):
+    pass
+
+
+class Answered(ctypes.Structure):
+    _fields_ = [
+        ("status", ctypes.c_uint32),
+        ("length", ctypes.c_size_t),
+        ("line", ctypes.c_size_t),
+    ]
+
+
+class Handle(ctypes.Structure):
+    _fields_ = [("place", ctypes.c_void_p), ("is_open", ctypes.c_bool)]
+
+
+class Library:
+    def __init__(self, path):
+        self.code = ctypes.CDLL(str(path))
+        for name in ("call", "told", "closing", "status"):
+            getattr(self.code, f"keyset_{name}").restype = Answered
+        self.code.keyset_close.restype = None
+        self.out = ctypes.create_string_buffer(ROOM)
+
+    def open(self, line):
+        handle = Handle()
+        if self.code.keyset_open(line, ctypes.c_size_t(len(line)), ctypes.byref(handle)):
+            raise Wrong(f"not opened: {line}")
+        return handle
+
+    def text(self, name, handle, *line):
+        told = getattr(self.code, f"keyset_{name}")(
+            ctypes.byref(handle), *line, self.out, ctypes.c_size_t(ROOM)
+        )
+        if told.status:
+            raise Wrong(f"{name}: status {told.status}")
+        return self.out.raw[: told.length].decode()
+
+    def call(self, handle, line):
+        line = line.encode()
+        return self.text("call", handle, line, ctypes.c_size_t(len(line)))
+
+    def would(self, handle, line):
+        """What the session would answer to the line."""
+        copy = Handle()
+        if self.code.keyset_copy(ctypes.byref(handle), ctypes.byref(copy)):
+            raise Wrong("not copied")
+        told = self.call(copy, line)
+        self.code.keyset_close(ctypes.byref(copy))
+        return told
+
+    def close(self, handle):
+        self.code.keyset_close(ctypes.byref(handle))
+
+
+def expect(holds, what):
+    if not holds:
+        raise Wrong(what)
+
+
+def expect_shape(status):
+    expect(list(status) == MEMBERS[""], "the members")
+    expect(list(status["chain"]) == MEMBERS["chain"], "the members of the verdict")
+    expect(list(status["published"]) == MEMBERS["published"], "the sets")
+    for part in ("keys", "rolls", "ended"):
+        for one in status[part]:
+            expect(list(one) == MEMBERS[part], f"the members of {part}")
+    for key in status["keys"]:
+        for role in key["roles"]:
+            expect(list(role) == MEMBERS["roles"], "the members of a role")
+    references = [key["reference"].encode() for key in status["keys"]]
+    expect(references == sorted(references), "the order of keys")
+    rolls = [ORDER.index(roll["roll"]) for roll in status["rolls"]]
+    expect(rolls == sorted(rolls), "the order of rolls")
+
+
+def closing_of(status):
+    """The closing lines that say what the status says."""
+    sets = " ".join(
+        f"{name}={','.join(references) or '-'}" for name, references in status["published"].items()
+    )
+    chain = status["chain"]
+    if chain["safe"]:
+        return f"{sets}\nchain safe\n"
+    found = " ".join(f"{name}={chain[name]}" for name in ("at", "ds", "dnskey", "zone"))
+    return f"{sets}\nchain broken {found}\n"
+
+
+class Lines:
+    """What the accepted lines say of listed keys and of early ends."""
+
+    def __init__(self):
+        self.listed, self.ended = {}, []
+
+    def take(self, line):
+        word, *fields = line.split(" ")
+        if word == "start":
+            roll, old, new = fields[:3]
+            parts = [[key for key in keys.split(",") if key != "-"] for keys in (old, new)]
+            self.listed[roll] = parts
+            self.ended = [one for one in self.ended if not set(SIDES[one]) & set(SIDES[roll])]
+        elif word in ("done", "abort"):
+            del self.listed[fields[0]]
+            if word == "abort":
+                self.ended.append(fields[0])
+        elif word == "delete":
+            for parts in self.listed.values():
+                for keys in parts:
+                    keys[:] = [key for key in keys if key != fields[0]]
+
+    def rolls_of(self, part, reference):
+        return [roll for roll, parts in self.listed.items() for key in parts[part] if key == reference]
+
+
+def is_ok(answer):
+    return answer.split()[0] == "ok"
+
+
+def calls_of(roll, moment):
+    return {
+        "report1": f"report1 {roll} 60 {moment}",
+        "wait1": f"wait1 {roll} {moment}",
+        "report2": f"report2 {roll} 60 {moment}",
+        "wait2": f"wait2 {roll} {moment}",
+        "done": f"done {roll}",
+    }
+
+
+def expect_roll(library, handle, roll, counts):
+    name, end = roll["roll"], roll["not_before"]
+    for word, line in calls_of(name, LATE).items():
+        accepted = word == roll["next"] and (not word.startswith("wait") or end is not None)
+        expect(is_ok(library.would(handle, line)) == accepted, f"{line}: next is {roll['next']}")
+        counts["next"] += accepted
+    if end is not None:
+        wait = f"{roll['next']} {name}"
+        expect(is_ok(library.would(handle, f"{wait} {end}")), f"{wait} {end}")
+        early = library.would(handle, f"{wait} {end - 1}")
+        expect(early.startswith("refused: wait for duration"), f"{wait} {end - 1}: {early}")
+        counts["waits"] += 1
+    if "UpdateDsRrset" in roll["due"]:
+        expect(roll["waits_for"] == "parent", "it waits for the parent")
+    else:
+        waits = roll["next"].startswith("wait")
+        expect(roll["waits_for"] == ("caches" if waits else "you"), "whom it waits for")
+
+
+def expect_status(library, handle, lines, counts):
+    text = library.text("status", handle)
+    expect(text.endswith("}\n") and text.count("\n") == 1, "one line")
+    status = json.loads(text)
+    expect_shape(status)
+    expect(closing_of(status) == library.text("closing", handle), "the closing lines")
+    for key in status["keys"]:
+        reference = key["reference"]
+        deleted = is_ok(library.would(handle, f"delete {reference}"))
+        expect(deleted == key["may_be_deleted"], f"delete {reference}")
+        counts["deletions"] += deleted
+        stale = all(role["state"] == "stale" and not role["at_parent"] for role in key["roles"])
+        expect(stale == key["may_be_deleted"], f"{reference}: its states")
+        expect(key["old_in"] == lines.rolls_of(0, reference), f"{reference}: old in")
+        expect(key["new_in"] == lines.rolls_of(1, reference), f"{reference}: new in")
+    expect({roll["roll"] for roll in status["rolls"]} == set(lines.listed), "the rolls")
+    for roll in status["rolls"]:
+        expect_roll(library, handle, roll, counts)
+    expect([one["roll"] for one in status["ended"]] == lines.ended, "the early ends")
+    counts["statuses"] += 1
+    return status
+
+
+def stored_scripts():
+    for part in STORED.read_text().split("\n== ")[1:]:
+        name, _, rest = part.partition("\n")
+        script, _, answers = rest.partition("-- answers\n")
+        yield name, script.splitlines(), answers.splitlines(keepends=True)
+
+
+def play(library, script, answers, counts):
+    handle, lines = library.open(script[0].encode()), Lines()
+    due = {}
+    for line, wanted in zip(script[1:], answers):
+        answer = library.call(handle, line)
+        expect(answer == wanted, f"{line}: {answer}")
+        word, *fields = line.split(" ")
+        if is_ok(answer):
+            lines.take(line)
+            due[fields[0]] = answer.split()[1:]
+        status = expect_status(library, handle, lines, counts)
+        for one in status["rolls"]:
+            expect(one["due"] == due[one["roll"]], f"{line}: what is due")
+        for one in status["ended"]:
+            expect(one["asked"] == due[one["roll"]], f"{line}: what an early end asked")
+    library.close(handle)
+
+
+def main():
+    folder = Path(sys.argv[1]).resolve()
+    library = Library(folder / "lib" / "libkeyset.so")
+    counts = dict.fromkeys(("statuses", "deletions", "waits", "next"), 0)
+    for name, script, answers in stored_scripts():
+        try:
+            play(library, script, answers, counts)
+        except Wrong as wrong:
+            print(f"{name}: {wrong}")
+            return 1
+    if not all(counts.values()):
+        print(f"too little was tried: {counts}")
+        return 1
+    print(
+        f"{counts['statuses']} statuses are as the lines say; on copies {counts['deletions']}"
+        f" deletions, {counts['waits']} waits and {counts['next']} next calls went as they say"
+    )
+    return 0
+
+
+if __name__ == "__main__":
+    sys.exit(main())
