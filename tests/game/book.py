@@ -26,6 +26,18 @@ WATCHES = {
     "the DS set at the parent, and all signatures": "ds zone",
     "CDS and CDNSKEY, and the DS set": "ds cds",
 }
+# The actions of the key set in the same words.
+ASKS = {
+    "UpdateDnskeyRrset": "dnskey",
+    "UpdateRrsig": "zone",
+    "CreateCdsRrset": "cds",
+    "UpdateDsRrset": "ds",
+}
+WATCHED = {
+    f"{word}{record}Propagated": kind
+    for word in ("Report", "Wait")
+    for record, kind in (("Dnskey", "dnskey"), ("Rrsig", "zone"), ("Ds", "ds"))
+}
 # The TTLs that a report gives. Rule 1 of docs/OPERATORS.md says which sets they are of.
 TTLS = {"the DNSKEY TTL": "dnskey", "the zone's TTL": "zone", "the DS TTL": "ds"}
 JOINED = re.compile(r"the (?P<join>higher|\*\*sum\*\*) of (?P<of>both|.* and .*)")

@@ -4,8 +4,8 @@ from tables import ROLLS, KeySet
 
 from game.book import EARLY_END, FIRST_KEYS, UNSIGNED, Wrong
 from game.points import (
-    ALGORITHM, ALL_AT_ONCE, BACK_AT_ONCE, CDS_STAYS, CSK, CSK_FIRST, DOUBLE_DS, KSK_FIRST, MIXED,
-    NOT_HELD_BACK, NOT_IN_USE, ONE_SIDE, PARENT_FIRST, SAME_KEY, UNSIGNED_ONLY,
+    ALGORITHM, ALL_AT_ONCE, BACK_AT_ONCE, CDS_STAYS, CSK, CSK_FIRST, DOUBLE_DS, EARLY_ENDS,
+    KSK_FIRST, MIXED, NOT_HELD_BACK, NOT_IN_USE, ONE_SIDE, PARENT_FIRST, SAME_KEY, UNSIGNED_ONLY,
 )
 from game.signer import GONE, Operator
 from game.zone import SECOND
@@ -21,7 +21,8 @@ class Follower(Operator):
 
     def roll(self, roll, old, new, name=None):
         """A roll, or the first keys, from the start to the deletion of the old keys."""
-        if not self.in_step and self.dice.random() < (0.6 if SAME_KEY in self.leaves else 0.15):
+        often = 0.6 if {SAME_KEY, EARLY_ENDS} & self.leaves else 0.15
+        if not self.in_step and self.dice.random() < often:
             # (It may have been the other roll of such KSKs.)
             like = KSK_ROLLS if roll in KSK_ROLLS else [roll]
             early = self.dice.choice(like)

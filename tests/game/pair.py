@@ -3,8 +3,8 @@
 from game.book import FIRST_KEYS
 from game.course import Follower
 from game.points import (
-    ALGORITHM, ALGORITHM_ALONE, CSK, DOUBLE_DS, DOUBLE_SIGNATURE, DS_ALONE, JOINS_EARLY, LEAVES_EARLY, NS_TTL,
-    UNSIGNED_ALONE,
+    ALGORITHM, ALGORITHM_ALONE, CSK, DOUBLE_DS, DOUBLE_SIGNATURE, DS_ALONE, JOINS_EARLY,
+    LEAVES_EARLY, NS_TTL, UNSIGNED_ALONE,
 )
 from game.zone import SECOND
 
@@ -45,7 +45,10 @@ class Pair:
             yield
 
     def both(self, together):
-        yield from self.first_keys() if together else self.joins()
+        if together:
+            yield from self.first_keys()
+        else:
+            yield from self.at_once(self.joins(), self.first.rolls(self.dice.sample(OWN, 1)))
         yield from self.each()
         yield from self.change_algorithm()
         yield from self.each()
@@ -73,8 +76,9 @@ class Pair:
 
     def each(self):
         """Each signer makes some rolls of its own."""
-        others = {"zsk-roll": "zsk-double-signature-roll"} if DOUBLE_SIGNATURE in self.leaves else {}
-        rolls = [others.get(roll, roll) for roll in OWN]
+        rolls = OWN
+        if DOUBLE_SIGNATURE in self.leaves:
+            rolls = ["zsk-double-signature-roll" if roll == "zsk-roll" else roll for roll in OWN]
         orders = [self.dice.sample(rolls, self.dice.randint(0, 3)) for _ in self.signers()]
         yield from self.at_once(*(one.rolls(order) for one, order in zip(self.signers(), orders)))
 

@@ -163,8 +163,8 @@ PAIRS = (
         "they count in the zone's TTL",
     ),
     CDS_UNCHANGED := Point(
-        "the signatures of CDS don't change with those of the zone",
-        "and UpdateRrsig signs them too",
+        "the signatures of CDS don't change with the keys",
+        "While they are out, each change of these keys signs them anew",
     ),
     DOUBLE_SIGNATURE := Point(
         "two signers roll ZSKs by a double-signature roll",
@@ -236,4 +236,10 @@ WORLDS = {
     CDS_BY_ZONE: {"takes_cds": True},
     CDS_ON_ONE: {"takes_cds": True},
     CDS_UNCOUNTED: {"ttls": {"cds": (8,), "zone": (1,)}},
+    UNSIGNED_ONLY: {"ttls": {"dnskey": (8,), "zone": (1,)}},
+    EARLY_ENDS: {"ttls": {"dnskey": (1, 8)}},
+    CDS_UNCHANGED: {"ttls": {"cds": (8,), "zone": (1,)}},
+    RAISED: {"ttls": {"dnskey": (1, 8)}},
+    BACK_AT_ONCE: {"takes_cds": False, "slow": 0},
+    NS_TTL: {"slow": 0},
 }

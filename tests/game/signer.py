@@ -4,30 +4,18 @@ from collections import Counter
 
 from tables import SETS, KeySet
 
-from game.book import BOOK, Wrong
+from game.book import ASKS, BOOK, WATCHED, Wrong
 from game.points import (
-    AT_ONCE, BEFORE_START, CDS_BY_ALL, CDS_BY_SIGNERS, CDS_BY_ZONE, CDS_LEFT, CDS_ON_ONE,
-    CDS_STAYS, CDS_UNCHANGED, CDS_UNCOUNTED, DS_OWN, EARLY, EARLY_ENDS, KEYS_UNSEEN, LOWERED, NOT_KEPT, NOT_RENEWED, NO_END,
-    NO_MARGIN, NO_SUM, OTHER_TTL, RAISED, ROUNDED, SKIPPED, TAKEN_OUT, TTL_OF_0,
+    AT_ONCE, BEFORE_START, CDS_BY_ALL, CDS_BY_SIGNERS, CDS_BY_ZONE, CDS_LEFT, CDS_ON_ONE, CDS_STAYS,
+    CDS_UNCHANGED, CDS_UNCOUNTED, DS_OWN, EARLY, EARLY_ENDS, KEYS_UNSEEN, LOWERED, NOT_KEPT,
+    NOT_RENEWED, NO_END, NO_MARGIN, NO_SUM, OTHER_TTL, RAISED, ROUNDED, SKIPPED, TAKEN_OUT,
+    TTL_OF_0,
 )
 from game.zone import SECOND, SLOWEST
 
 # So many seconds after its last step a roll that doesn't go on is stuck.
 STUCK = 200
 GONE = "unsigned"
-
-# The actions of the key set in the words of the book.
-ASKS = {
-    "UpdateDnskeyRrset": "dnskey",
-    "UpdateRrsig": "zone",
-    "CreateCdsRrset": "cds",
-    "UpdateDsRrset": "ds",
-}
-WATCHED = {
-    f"{word}{record}Propagated": kind
-    for word in ("Report", "Wait")
-    for record, kind in (("Dnskey", "dnskey"), ("Rrsig", "zone"), ("Ds", "ds"))
-}
 
 
 class Stuck(Exception):
@@ -279,13 +267,12 @@ class Operator:
     def changed(self, part, beside):
         """The sets of a part of the zone, by their kinds, beside those that change with it."""
         due = self.due()
-        if part == "dnskey":
-            return {part: self.kept(part, (due["dnskey"], due["signers"]))}
-        if part == "zone":
+        if part != "cds":
             cds = {**self.zone.versions[-1], **beside}["cds"]
             if cds and CDS_UNCHANGED not in self.leaves:
                 beside["cds"] = self.cds(cds.value[0])
-            return {part: self.kept(part, due["zone"])}
+            keys = (due["dnskey"], due["signers"]) if part == "dnskey" else due["zone"]
+            return {part: self.kept(part, keys)}
         keys = self.ds()
         if self.other and self.other.zone.is_asked and CDS_ON_ONE not in self.leaves:
             self.other.zone.publish(cds=self.other.cds(keys))
@@ -344,9 +331,8 @@ class Operator:
 
     def watch(self, step, since):
         """Watches until all servers have what the step says."""
-        kinds = step.watches
-        first = max((since[kind] for kind in kinds if kind in since), default=0)
-        while not self.is_everywhere(kinds, first):
+        first = max((since[kind] for kind in step.watches if kind in since), default=0)
+        while not self.is_everywhere(step.watches, first):
             self.passes()
             yield
 
