@@ -24,8 +24,7 @@ use Rattle.std.proofs.ResultValues.{and_tt}
 use Rattle.std.specs.Box.Ownership.{box_owns}
 use Rattle.std.specs.contracts.alloc.Global as heap
 use Rattle.std.specs.contracts.impls.GlobalAllocator.TheImpl.{ghosts}
-use Rattle.libc.specs.Heap.{chunk}
-use Rattle.keyset_c.specs.Owned.{kept_owned}
+use Rattle.keyset_c.specs.Owned.{chunk, kept_owned}
 use Rattle.keyset_c.specs.contracts.kept.Kept as store
 use Rattle.keyset_c.specs.contracts.parts.Parts as parts
 use Rattle.keyset_c.specs.contracts.place.Place as place

@@ -1,11 +1,16 @@
 -- What a pointer that C keeps stands for.
 use base.Fml.{Fml, ftrue}
 use denote.RawPtr.{Ptr}
+use mir.Syntax.{Ty}
 use Rattle.std.specs.Prelude.{Option, Some, None}
 use Rattle.std.specs.Box.Ownership.{box_owns}
-use Rattle.libc.specs.Heap.{chunk}
+use Rattle.std.specs.contracts.impls.GlobalAllocator.TheImpl.{ghosts}
 use Rattle.keyset_c.specs.contracts.kept.Kept.{the_row}
 use Rattle.keyset_c.specs.declared.kept.Kept.{Kept}
+
+-- the right to free a block of the heap
+abbrev pub chunk : Ty → Ptr → Fml
+chunk = ghosts.dealloc_token (record { memory = record { seal = tt } })
 
 -- nothing, or the value on the heap behind it
 abbrev pub kept_owned : Ptr → Option Kept → Fml
