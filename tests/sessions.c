@@ -362,7 +362,7 @@ static bool play_failing(const struct stored *it, size_t failing, size_t *closed
     requests.made = requests.held = 0;
     requests.failing = failing;
     if (!begin(&play, it)) {
-        expect(requests.made == failing && requests.held == 0, "not opened", it->name);
+        expect(requests.made >= failing && requests.held == 0, "not opened", it->name);
         expect_closed(&play.session);
         return true;
     }
@@ -402,30 +402,41 @@ static bool play_failing(const struct stored *it, size_t failing, size_t *closed
     return has_failed;
 }
 
-/* Lets each request of a question or a copy fail: the session stays as it was. */
+/* A question or a copy in which the request of this number fails. It is answered as ever where the
+   library does without that memory. */
+static bool fail_one(size_t kind, struct keyset_session *session, size_t failing)
+{
+    struct keyset_session other = {0};
+    char *wanted = kind < 3 ? answer_of(QUESTIONS[kind], session) : NULL;
+    uint8_t *out = filled(ROOM);
+    requests.made = requests.held = 0;
+    requests.failing = failing;
+    uint32_t status = kind < 3 ? ask(QUESTIONS[kind], session, out, ROOM).status
+                               : copy(session, &other);
+    bool has_failed = requests.made >= failing;
+    requests.failing = 0;
+    if (status == KEYSET_OUT_OF_MEMORY) {
+        expect(has_failed, "out of memory", "a question");
+        expect(is_filled(out, ROOM) && !other.is_open, "nothing is done", "a question");
+    } else {
+        expect(status == KEYSET_ANSWERED, "answered, or out of memory", "a question");
+        expect(kind == 3 || memcmp(out, wanted, strlen(wanted)) == 0, "the answer", "a question");
+    }
+    close_session(&other);
+    expect(requests.held == 0, "nothing is kept", "a question");
+    free(out);
+    free(wanted);
+    return has_failed;
+}
+
+/* Lets each request of the questions and of a copy fail: the session stays as it was. */
 static size_t fail_questions(struct keyset_session *session)
 {
     size_t failed = 0;
     char *closing = answer_of(keyset_closing, session), *shown = answer_of(keyset_status, session);
-    for (size_t i = 0; i < 4; i++) {
-        for (size_t failing = 1;; failing++, failed++) {
-            struct keyset_session other = {0};
-            uint8_t *out = filled(ROOM);
-            requests.made = requests.held = 0;
-            requests.failing = failing;
-            uint32_t status = i < 3 ? ask(QUESTIONS[i], session, out, ROOM).status
-                                    : copy(session, &other);
-            bool has_failed = requests.made >= failing;
-            requests.failing = 0;
-            expect((status == KEYSET_OUT_OF_MEMORY) == has_failed, "out of memory", "a question");
-            if (has_failed)
-                expect(is_filled(out, ROOM) && !other.is_open, "nothing is done", "a question");
-            close_session(&other);
-            expect(requests.held == 0, "nothing is kept", "a question");
-            free(out);
-            if (!has_failed)
-                break;
-        }
+    for (size_t kind = 0; kind < 4; kind++) {
+        for (size_t failing = 1; fail_one(kind, session, failing); failing++)
+            failed++;
         expect_told(keyset_closing, session, closing, "after questions without memory");
         expect_told(keyset_status, session, shown, "after questions without memory");
     }

@@ -32,7 +32,7 @@ class Version:
 
 class Notes:
     """Of one operator, who takes their moments from one machine. If it `reports` by them, it makes
-    each report with the TTL that they say, but for those that ask for a sum."""
+    each report with the TTL that they say, except those that ask for a sum or speak of DS sets."""
 
     def __init__(self, operator, reports):
         self.operator, self.world, self.reports = operator, operator.world, reports
@@ -126,7 +126,9 @@ class Notes:
     def report(self, call, roll, moment, ttl, is_sum):
         """Asks which report is due, and goes on asking if it is made by the notes. Gives its moment
         and its TTL: those of the notes, or as they would be."""
-        by_notes = self.reports and not is_sum
+        # (With a DS set the TTL of CDS counts too, which is no kind of the notes.)
+        speaks_of_ds = "ds" in SPEAKS_OF[roll][call == "report2"].split()
+        by_notes = self.reports and not is_sum and not speaks_of_ds
         while self.asks(call, roll, ttl) is None and by_notes:
             for _ in range(SECOND):
                 self.operator.passes()
