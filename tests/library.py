@@ -57,14 +57,12 @@ def kit():
 def build(archive):
     """Builds the static library over what `rt ci` has proved, and proves it once more by this."""
     top, crates = kit(), stands_on()
-    libc = top / "rlibs" / "libc.rlib"
     # A copy of it: at its end `rt ci` puts back what stood in its place before.
     proved = archive.parent / "proved"
     for name in below("keyset_c", crates):
         shutil.copytree(CRATES / name / "out" / "rlib", proved, dirs_exist_ok=True)
     words = ["--crate-name", "keyset_c", "src/lib.rt", "--crate-type", "staticlib"]
     words += ["--extern", f"std={top}/rlibs/std.rlib", "-L", f"dependency={top}/rlibs"]
-    words += ["--extern", f"libc={libc}"]
     for name in crates["keyset_c"]:
         words += ["--extern", f"{name}={proved}/{name}.rlib"]
     words += ["-L", f"dependency={proved}"]
@@ -201,7 +199,8 @@ def test_resumed(keyset):
                     raise Wrong(f"{path.name}: {line}: refused, and changed the key set") from None
                 continue
             resumed = keyset.KeySet.resume(before + line[:-1])
-            if (resumed.call(line), vars(resumed)) != (due, vars(keys)):
+            told = resumed.call(line), resumed.script, resumed.status()
+            if told != (due, keys.script, keys.status()):
                 raise Wrong(f"{path.name}: {line}: another key set goes on")
             calls += 1
     return f"a key set in Python goes on after each of {calls} calls"
@@ -297,6 +296,7 @@ def test_rust_caller(folder, room):
 
 def test_python_caller(folder):
     made = {**os.environ, "KEYSET_LIBRARY": str(folder / "lib" / "libkeyset.so")}
+    run(sys.executable, "-B", LIBRARY / "python" / "test_keyset.py", env=made)
     return expect_rolls("Python", [sys.executable, "-B", LIBRARY / "python" / "roll.py"], env=made)
 
 

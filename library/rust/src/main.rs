@@ -20,11 +20,14 @@ fn main() -> Result<(), Box<dyn std::error::Error>> {
                 println!("ok{asked}");
             }
             // Nothing has changed: a wait that is too early may be made again.
-            Err(error @ (Error::Early { .. } | Error::Refused { .. })) => println!("{error}"),
+            Err(error @ (Error::Wait { .. } | Error::Refused(_))) => println!("{error}"),
             Err(error) => return Err(error.into()),
         }
     }
-    println!("{}", keys.published());
-    println!("chain {}", keys.chain());
+    println!("{}", keys.published()?);
+    match keys.verdict()? {
+        None => println!("chain safe"),
+        Some(broken) => println!("chain {broken}"),
+    }
     Ok(())
 }

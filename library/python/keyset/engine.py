@@ -1,0 +1,230 @@
+"""Sessions of the proved key set: over the shared library, or over the programs where that isn't
+there. Both take a script line by line and tell the same.
+
+The library is that of the variable KEYSET_LIBRARY, or what `make lib` has made; the programs are
+those of the folder KEYSET_PROGRAMS, or what `make build` has made, or those on the path."""
+
+import ctypes
+import functools
+import json
+import os
+import re
+import shutil
+import subprocess
+from pathlib import Path
+
+from .lines import why_malformed
+from .values import Malformed, Unavailable
+
+VERSION = 2
+TREE = Path(__file__).resolve().parents[3]
+MADE = TREE / "library" / "out" / "lib" / "libkeyset.so"
+ANSWERED, MALFORMED, OUT_OF_MEMORY, SHORT = 0, 1, 3, 4
+
+
+class _Handle(ctypes.Structure):
+    """What C keeps of a session."""
+
+    _fields_ = [("place", ctypes.c_void_p), ("is_open", ctypes.c_bool)]
+
+
+class _Answered(ctypes.Structure):
+    _fields_ = [
+        ("status", ctypes.c_uint32),
+        ("length", ctypes.c_size_t),
+        ("line", ctypes.c_size_t),
+    ]
+
+
+@functools.lru_cache(maxsize=None)
+def _library():
+    """The shared library, or None."""
+    path = os.environ.get("KEYSET_LIBRARY", str(MADE))
+    if not Path(path).is_file():
+        return None
+    library = ctypes.CDLL(path)
+    library.keyset_version.restype = ctypes.c_uint32
+    if library.keyset_version() != VERSION:
+        raise Unavailable(f"{path}: the library is of another version")
+    text = [ctypes.c_char_p, ctypes.c_size_t]
+    handle = ctypes.POINTER(_Handle)
+    library.keyset_answer.restype = _Answered
+    library.keyset_answer.argtypes = [*text, *text]
+    library.keyset_open.restype = ctypes.c_uint32
+    library.keyset_open.argtypes = [*text, handle]
+    library.keyset_call.argtypes = [handle, *text, *text]
+    library.keyset_call.restype = _Answered
+    for name in ("keyset_told", "keyset_closing", "keyset_status"):
+        getattr(library, name).argtypes = [handle, *text]
+        getattr(library, name).restype = _Answered
+    library.keyset_copy.restype = ctypes.c_uint32
+    library.keyset_copy.argtypes = [handle, handle]
+    library.keyset_close.restype = None
+    library.keyset_close.argtypes = [handle]
+    return library
+
+
+class Session:
+    """A key set of the shared library."""
+
+    def __init__(self, line):
+        self._handle, data = _Handle(), line.encode()
+        status = _library().keyset_open(data, len(data), ctypes.byref(self._handle))
+        if status == MALFORMED:
+            raise Malformed(1, why_malformed(line, is_first=True))
+        if status:
+            raise MemoryError
+        self._number = 1
+
+    def call(self, line):
+        """The reply to a line. It may be a refusal."""
+        data = line.encode()
+        library, handle = _library(), ctypes.byref(self._handle)
+        ask = functools.partial(library.keyset_call, handle, data, len(data))
+        text = self._answer(ask, library.keyset_told, line)
+        self._number += 1
+        return text.rstrip("\n")
+
+    def closing(self):
+        """The line of the published sets and the verdict, after the calls so far."""
+        library, handle = _library(), ctypes.byref(self._handle)
+        ask = functools.partial(library.keyset_closing, handle)
+        return self._answer(ask, library.keyset_closing).splitlines()
+
+    def status(self):
+        """The status of the zone, as JSON tells it."""
+        library, handle = _library(), ctypes.byref(self._handle)
+        ask = functools.partial(library.keyset_status, handle)
+        return json.loads(self._answer(ask, library.keyset_status))
+
+    def copy(self):
+        """Another session, as this one is."""
+        made = Session.__new__(Session)
+        made._handle, made._number = _Handle(), self._number
+        if _library().keyset_copy(ctypes.byref(self._handle), ctypes.byref(made._handle)):
+            raise MemoryError
+        return made
+
+    def close(self):
+        _library().keyset_close(ctypes.byref(self._handle))
+
+    def _answer(self, ask, again, line=""):
+        """What is answered; where the buffer was too short, it is told again."""
+        room = 4096
+        while True:
+            out = ctypes.create_string_buffer(room)
+            told = ask(out, room)
+            if told.status == ANSWERED:
+                return out.raw[: told.length].decode()
+            if told.status == MALFORMED:
+                raise Malformed(self._number + 1, why_malformed(line))
+            if told.status != SHORT:
+                raise MemoryError
+            room, ask = told.length, functools.partial(again, ctypes.byref(self._handle))
+
+
+class Replay:
+    """A key set of the programs: each question runs the lines so far anew."""
+
+    def __init__(self, line, *more):
+        self._lines = [line, *more]
+        self.closing()
+
+    def call(self, line):
+        reply = run([*self._lines, line])[-3]
+        self._lines.append(line)
+        return reply
+
+    def closing(self):
+        return run(self._lines)[-2:]
+
+    def status(self):
+        return json.loads(_program("keyset_status", self._lines))
+
+    def copy(self):
+        return Replay(*self._lines)
+
+    def close(self):
+        self._lines = None
+
+
+def answer(script):
+    """What a whole script, in bytes, is answered by the library, as the program `keyset` writes
+    it."""
+    room = 4096
+    while True:
+        out = ctypes.create_string_buffer(room)
+        told = _library().keyset_answer(script, len(script), out, room)
+        if told.status == ANSWERED:
+            return out.raw[: told.length].decode()
+        if told.status == MALFORMED:
+            raise Malformed(told.line)
+        if told.status != SHORT:
+            raise MemoryError
+        room = told.length
+
+
+def open_session(line):
+    """A session for the zone that a script's first line names."""
+    return Replay(line) if _library() is None else Session(line)
+
+
+def run(lines):
+    """The answers to a whole script: a line for each call, then the sets and the verdict."""
+    if _library() is None:
+        return _program("keyset", lines).splitlines()
+    session = _opened(lines[:1])
+    replies = [session.call(line) for line in lines[1:]]
+    told = [*replies, *session.closing()]
+    session.close()
+    return told
+
+
+def status(lines):
+    """The status of the zone after a script's last line."""
+    if _library() is None:
+        return json.loads(_program("keyset_status", lines))
+    session = _opened(lines[:1])
+    for line in lines[1:]:
+        session.call(line)
+    told = session.status()
+    session.close()
+    return told
+
+
+def due(lines, notes, moment):
+    """The reports that are due at a moment, by the notes: the TTL by the roll that waits for one,
+    or None if a set isn't everywhere yet."""
+    told = _program("keyset_notes", [*lines, "", *notes, f"due {moment}"])
+    found = {}
+    for line in told.splitlines():
+        word, roll, *rest = line.removeprefix("not yet: ").split(" ")
+        found[roll] = int(rest[0]) if line.startswith(word) else None
+    return found
+
+
+def _opened(first):
+    return Session(*first) if first else Session("")
+
+
+def _find(name):
+    folder = os.environ.get("KEYSET_PROGRAMS")
+    place = Path(folder) / name if folder else TREE / "crates" / name / "out" / name
+    found = str(place) if place.is_file() else shutil.which(name)
+    if found is None:
+        raise Unavailable(f"the program {name} isn't there: 'make build' makes it")
+    return found
+
+
+def _program(name, lines):
+    text = "".join(f"{line}\n" for line in lines)
+    done = subprocess.run(_find(name), input=text, capture_output=True, text=True)
+    if found := re.fullmatch(r"line (\d+): malformed\n", done.stderr):
+        number = int(found[1])
+        line = lines[number - 1] if number <= len(lines) else ""
+        raise Malformed(number, why_malformed(line, is_first=number == 1))
+    if done.returncode == OUT_OF_MEMORY:
+        raise MemoryError
+    if done.returncode:
+        raise Unavailable(f"{name}: status {done.returncode}: {done.stderr.strip()}")
+    return done.stdout

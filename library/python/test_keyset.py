@@ -1,0 +1,127 @@
+"""What a caller relies on, over the library that `make lib` has made, or over the programs."""
+
+import os
+import tempfile
+import threading
+import unittest
+from pathlib import Path
+
+from keyset import Action, Damaged, KeySet, Locked, Malformed, Refusal, Refused, RollType, Wait
+
+FIRST = [
+    "add-ksk K1 - 13 0 0 yes",
+    "add-zsk Z1 - 13 1 0 yes",
+    "start algorithm-roll - K1,Z1 0",
+    "report1 algorithm-roll 3600 100",
+    "wait1 algorithm-roll 3700",
+]
+ROLL = RollType.ALGORITHM_ROLL
+
+
+def after(lines):
+    keys = KeySet("example.com")
+    for line in lines:
+        keys.call(line)
+    return keys
+
+
+class Calls(unittest.TestCase):
+    def test_a_roll_goes_on_after_a_crash(self):
+        keys = KeySet.resume(after(FIRST[:4]).script + "wait1 algorithm-roll 37")
+        self.assertEqual(keys.actions(ROLL), [])
+        self.assertEqual(keys.wait_end(ROLL), 3700)
+        self.assertEqual(keys.rolls()[ROLL].waits_for, "caches")
+        asked = keys.cache_expired1(ROLL, 3700)
+        self.assertIn(Action.UPDATE_DS_RRSET, asked)
+        self.assertEqual(keys.actions(ROLL), asked)
+        self.assertEqual(keys.published.ds, ["K1"])
+        self.assertIsNone(keys.verdict())
+
+    def test_a_refused_call_changes_nothing(self):
+        keys = after(FIRST[:4])
+        before = keys.script
+        with self.assertRaises(Wait) as early:
+            keys.cache_expired1(ROLL, 3699)
+        self.assertEqual(early.exception.seconds, 1)
+        with self.assertRaises(Refused) as twice:
+            keys.add_key_ksk("K1", algorithm=13, key_tag=2, creation=0)
+        self.assertEqual(twice.exception.kind, Refusal.KEY_EXISTS)
+        self.assertIn(Action.CREATE_CDS_RRSET, keys.would(FIRST[4]))
+        self.assertEqual(keys.script, before)
+
+    def test_a_broken_chain_is_told(self):
+        keys = after([*FIRST, "report2 algorithm-roll 60 3710", "wait2 algorithm-roll 3770"])
+        keys.set_stale("K1")
+        self.assertEqual((keys.verdict().at, keys.verdict().ds), (8, 5))
+
+    def test_a_malformed_line_is_told(self):
+        keys = after(FIRST[:1])
+        for line in ("delete", "delete K1\ndelete K1"):
+            with self.assertRaises(Malformed) as malformed:
+                keys.call(line)
+            self.assertEqual(malformed.exception.line, 3)
+        for zone in ("a..b", "a\nadd-zsk Z1 - 13 1 0 yes"):
+            with self.assertRaises(Malformed):
+                KeySet(zone)
+        with self.assertRaises(Malformed):
+            KeySet.resume("")
+
+    def test_threads_have_sessions_of_their_own(self):
+        told = {}
+
+        def play(number):
+            keys = after(FIRST[: number % 5 + 1])
+            told[number] = len(keys.lines)
+
+        threads = [threading.Thread(target=play, args=(number,)) for number in range(20)]
+        for thread in threads:
+            thread.start()
+        for thread in threads:
+            thread.join()
+        self.assertEqual(told, {number: number % 5 + 2 for number in range(20)})
+
+
+class Files(unittest.TestCase):
+    def setUp(self):
+        self.folder = tempfile.TemporaryDirectory()
+        self.path = Path(self.folder.name) / "example.com.script"
+
+    def tearDown(self):
+        self.folder.cleanup()
+
+    def test_a_file_keeps_the_accepted_lines(self):
+        with KeySet.create(self.path, "example.com") as keys:
+            keys.call(FIRST[0])
+            with self.assertRaises(Refused):
+                keys.delete_key("K1")
+            with self.assertRaises(Locked):
+                KeySet.open(self.path)
+        with open(self.path, "a") as file:
+            file.write("delete K9\nadd-zsk Z")
+        with KeySet.open(self.path) as keys:
+            self.assertEqual(keys.refused, [(3, "key not found")])
+            keys.call(FIRST[1])
+            self.assertEqual(sorted(keys.keys()), ["K1", "Z1"])
+        self.assertTrue(self.path.read_text().endswith("delete K9\nadd-zsk Z1 - 13 1 0 yes\n"))
+        with self.assertRaises(FileExistsError):
+            KeySet.create(self.path, "example.com")
+
+    def test_a_damaged_file_is_told_by_its_line(self):
+        for text, line in (("", 1), ("zone a\n\n", 2), ("zone a\nadd-ksk K\u00e9\n", 2)):
+            self.path.write_text(text, encoding="utf-8")
+            with self.assertRaises(Damaged) as damaged:
+                KeySet.open(self.path)
+            self.assertEqual(damaged.exception.line, line)
+
+    def test_a_line_that_cannot_be_kept_is_not_made(self):
+        with KeySet.create(self.path, "example.com") as keys:
+            os.unlink(self.path)
+            os.mkdir(self.path)
+            with self.assertRaises(OSError):
+                keys.call(FIRST[0])
+            self.assertEqual(keys.keys(), {})
+            os.rmdir(self.path)
+
+
+if __name__ == "__main__":
+    unittest.main()
