@@ -3,6 +3,7 @@
 import re
 from typing import Callable, NamedTuple
 
+import by_command
 import emergencies
 import one_signer
 import two_signers
@@ -30,6 +31,7 @@ SCENES = [
     *(Scene(name, play, "A", False) for name, play in emergencies.HONEST.items()),
     *(Scene(name, play, "A", False) for name, play in one_signer.HONEST.items()),
     *(Scene(name, play, "A", True) for name, play in LYING.items()),
+    Scene("by-command", by_command.tour, "A", False),
 ]
 
 # What the short form plays of those scenes that are alike.

@@ -19,7 +19,6 @@ What is compared:
   a script that is shown without answers one of that script's;
 - each `NAME.answers` with what `replay/tables.py` answers to `NAME.script`, and both with the
   script of this name in `replay/scripts.txt`: so the gate compares them with the program;
-- what `examples/due.py` prints with `examples/due.stdout`;
 - each link with the file and the heading that it leads to.
 """
 
@@ -207,18 +206,6 @@ def check_examples(scripts, wrong):
         wrong.append(f"{STORED.relative_to(TOP)}: its examples are not those of examples/")
 
 
-def check_due(wrong):
-    """Runs the caller in Python, with stored answers in the program's place."""
-    folder = TOP / "examples"
-    script = folder / "algorithm-roll.script"
-    done = subprocess.run(
-        [sys.executable, folder / "due.py", "cat", script.with_suffix(".answers")],
-        stdin=script.open(), capture_output=True, text=True,
-    )
-    if done.returncode or done.stdout != (folder / "due.stdout").read_text():
-        wrong.append(f"examples/due.py: status {done.returncode}\n{done.stdout}{done.stderr}")
-
-
 def write(scripts):
     """Writes anew what is compared, from the scripts and the sources."""
     for path in scripts.values():
@@ -235,7 +222,6 @@ def main():
         write(scripts)
     wrong, blocks, quoted, links = [], 0, 0, 0
     check_examples(scripts, wrong)
-    check_due(wrong)
     known = set()
     for path in scripts.values():
         beside = path.with_suffix(".answers")

@@ -1,8 +1,8 @@
 #!/usr/bin/env python3
 """The gate: `tests/docs.py`, then `rt ci`, beside its first proofs `tests/runbooks.py`, and beside
-its edits `tests/memory.py`, `tests/sets.py`, `tests/notes.py` and `tests/library.py`. Before the last line of `rt ci`
-it tells when, in minutes and seconds since the start, each step was done, so that a rise is
-seen."""
+its edits `tests/memory.py`, `tests/sets.py`, `tests/notes.py`, `tests/library.py` and
+`tests/command.py`. Before the last line of `rt ci` it tells when, in minutes and seconds since the
+start, each step was done, so that a rise is seen."""
 
 import os
 import re
@@ -135,6 +135,7 @@ def main():
         Behind("sets", "callers"),
         Behind("notes", "keyset_notes"),
         Behind("library", "keyset", "keyset_c"),
+        Behind("command", "keyset", "keyset_status", "keyset_notes"),
     ]
     status, last = prove(behind)
     for beside in (runbooks, *behind):

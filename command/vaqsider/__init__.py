@@ -1,0 +1,9 @@
+"""The command of an operator: clock, files and words for people over the proved key set."""
+
+import sys
+from pathlib import Path
+
+try:
+    import keyset  # noqa: F401
+except ImportError:
+    sys.path.append(str(Path(__file__).resolve().parents[2] / "library" / "python"))

@@ -1,0 +1,77 @@
+"""Key files of BIND and ldns: `Kzone.+alg+tag.key`, with the private key beside it.
+
+What a key is, is read from its DNSKEY record, not from the name of its file."""
+
+import base64
+import binascii
+import calendar
+import re
+import struct
+import time
+from pathlib import Path
+
+from .errors import Failure, Missing
+
+SEP, ZONE_KEY, REVOKED = 0x0001, 0x0100, 0x0080
+RECORD = re.compile(
+    r"(?P<owner>\S+)\s+(?:\d+\s+)?(?:IN\s+)?(?:\d+\s+)?DNSKEY\s+"
+    r"(?P<flags>\d+)\s+(?P<protocol>\d+)\s+(?P<algorithm>\d+)\s+(?P<key>[^;]+)",
+    re.IGNORECASE,
+)
+CREATED = re.compile(r"^;\s*Created:\s*(\d{14})", re.MULTILINE)
+
+
+class KeyFile:
+    """A public key in a file."""
+
+    def __init__(self, path):
+        self.path = Path(path)
+        if self.path.suffix != ".key":
+            self.path = self.path.with_name(self.path.name + ".key")
+        try:
+            text = self.path.read_text(encoding="ascii")
+        except (OSError, UnicodeDecodeError) as error:
+            raise Missing(f"{self.path}: {getattr(error, 'strerror', 'not a text')}") from None
+        record = next(filter(None, map(RECORD.match, text.splitlines())), None)
+        if record is None:
+            raise Failure(f"{self.path}: no DNSKEY record")
+        self.owner = record["owner"].rstrip(".") or "."
+        self.flags, self.algorithm = int(record["flags"]), int(record["algorithm"])
+        if not self.flags & ZONE_KEY or self.flags & REVOKED:
+            raise Failure(f"{self.path}: it is no zone key, or it is revoked")
+        self.tag = key_tag(self.flags, int(record["protocol"]), self.algorithm, record["key"])
+        created = CREATED.search(text)
+        stamp = time.strptime(created[1], "%Y%m%d%H%M%S") if created else None
+        self.creation = calendar.timegm(stamp) if stamp else int(self.path.stat().st_mtime)
+
+    @property
+    def is_ksk(self):
+        return bool(self.flags & SEP)
+
+    def line(self, is_csk):
+        """The line that adds the key."""
+        private = self.path.with_suffix(".private")
+        word = ("add-csk" if is_csk else "add-ksk") if self.is_ksk else "add-zsk"
+        parts = [word, self.path.name, private.name if private.is_file() else "-"]
+        return " ".join(map(str, [*parts, self.algorithm, self.tag, self.creation, "yes"]))
+
+
+def key_tag(flags, protocol, algorithm, key):
+    """The tag of a DNSKEY record (RFC 4034, appendix B)."""
+    try:
+        public = base64.b64decode("".join(key.split()), validate=True)
+    except binascii.Error:
+        raise Failure("a DNSKEY record whose key isn't in base 64") from None
+    data = struct.pack("!HBB", flags, protocol, algorithm) + public
+    total = sum(byte << 8 if index % 2 == 0 else byte for index, byte in enumerate(data))
+    return (total + (total >> 16)) & 0xFFFF
+
+
+def find(reference, folders):
+    """The file of the key with this reference, which is its name, with or without `.key`."""
+    name = reference.rpartition("/")[2]
+    for folder in folders:
+        for candidate in (Path(folder) / name, Path(folder) / f"{name}.key"):
+            if candidate.suffix == ".key" and candidate.is_file():
+                return candidate
+    raise Missing(f"no key file for {reference} in {', '.join(map(str, folders))}")
