@@ -59,6 +59,31 @@ def played(orders, wrong):
     return questions
 
 
+def back(notes):
+    """The number of the first line of notes by which a kind goes back to an earlier call, or None. A
+    parent that reads CDS does so: after an early end it may publish what was asked first."""
+    last = {}
+    for number, line in enumerate(notes.split("\n"), start=1):
+        word, kind, *rest = line.split(" ")
+        if word == "published":
+            if int(rest[0]) < last.get(kind, 0):
+                return number
+            last[kind] = int(rest[0])
+    return None
+
+
+def refuse_back(questions, wrong):
+    """Notes of a parent that goes back are refused at that line. Gives the other questions."""
+    going = [question for question in questions if back(question.notes)]
+    for one in going:
+        done = asked(f"{one.script}\n\n{one.notes}\ndue {one.moment}\n")
+        told = (done.returncode, done.stdout, done.stderr.rstrip())
+        fault = f"notes: line {back(one.notes)}: goes back to an earlier call"
+        if told != (1, "", fault):
+            wrong.append(f"notes: {fault!r} is to be said, and {told} was")
+    return [question for question in questions if not back(question.notes)]
+
+
 def asked(text):
     return subprocess.run([PROGRAM], input=text, capture_output=True, text=True)
 
@@ -102,6 +127,7 @@ def main():
     began, wrong = time.monotonic(), []
     questions = played(random.Random(0).sample([*permutations(ROLLS)], 60), wrong)
     refuse(wrong)
+    every, questions = len(questions), refuse_back(questions, wrong)
     told = answers(questions)
     if len(told) != len(questions):
         wrong.append(f"notes: {len(questions)} questions have {len(told)} answers")
@@ -115,6 +141,7 @@ def main():
     print(
         f"notes: {len(questions)} answers, of which {waits} say not yet, are those of the rule, and"
         f" {sharp} of them no more than rule 1; {len(FAULTS)} notes with and without faults;"
+        f" {every - len(questions)} questions refused, as a parent goes back;"
         f" {time.monotonic() - began:.0f} s"
     )
     return 0

@@ -402,9 +402,10 @@ static bool play_failing(const struct stored *it, size_t failing, size_t *closed
     return has_failed;
 }
 
-/* A question or a copy in which the request of this number fails. It is answered as ever where the
-   library does without that memory. */
-static bool fail_one(size_t kind, struct keyset_session *session, size_t failing)
+/* A question or a copy in which the request of this number fails: it is out of memory. Only the
+   status does without memory, for one request of each time, and is then as ever: `without` counts
+   these. */
+static bool fail_one(size_t kind, struct keyset_session *session, size_t failing, size_t *without)
 {
     struct keyset_session other = {0};
     char *wanted = kind < 3 ? answer_of(QUESTIONS[kind], session) : NULL;
@@ -421,6 +422,7 @@ static bool fail_one(size_t kind, struct keyset_session *session, size_t failing
     } else {
         expect(status == KEYSET_ANSWERED, "answered, or out of memory", "a question");
         expect(kind == 3 || memcmp(out, wanted, strlen(wanted)) == 0, "the answer", "a question");
+        *without += has_failed;
     }
     close_session(&other);
     expect(requests.held == 0, "nothing is kept", "a question");
@@ -435,8 +437,10 @@ static size_t fail_questions(struct keyset_session *session)
     size_t failed = 0;
     char *closing = answer_of(keyset_closing, session), *shown = answer_of(keyset_status, session);
     for (size_t kind = 0; kind < 4; kind++) {
-        for (size_t failing = 1; fail_one(kind, session, failing); failing++)
+        size_t without = 0;
+        for (size_t failing = 1; fail_one(kind, session, failing, &without); failing++)
             failed++;
+        expect(without <= (QUESTIONS[kind % 3] == keyset_status && kind < 3), "memory", "a question");
         expect_told(keyset_closing, session, closing, "after questions without memory");
         expect_told(keyset_status, session, shown, "after questions without memory");
     }

@@ -32,7 +32,8 @@ class Version:
 
 class Notes:
     """Of one operator, who takes their moments from one machine. If it `reports` by them, it makes
-    each report with the TTL that they say, except those that ask for a sum or speak of DS sets."""
+    each report with the TTL that they say, except those that ask for a sum; of DS sets
+    at least with the TTL of CDS."""
 
     def __init__(self, operator, reports):
         self.operator, self.world, self.reports = operator, operator.world, reports
@@ -126,9 +127,7 @@ class Notes:
     def report(self, call, roll, moment, ttl, is_sum):
         """Asks which report is due, and goes on asking if it is made by the notes. Gives its moment
         and its TTL: those of the notes, or as they would be."""
-        # (With a DS set the TTL of CDS counts too, which is no kind of the notes.)
-        speaks_of_ds = "ds" in SPEAKS_OF[roll][call == "report2"].split()
-        by_notes = self.reports and not is_sum and not speaks_of_ds
+        by_notes = self.reports and not is_sum
         while self.asks(call, roll, ttl) is None and by_notes:
             for _ in range(SECOND):
                 self.operator.passes()
@@ -137,7 +136,11 @@ class Notes:
         while by_notes and self.operator.rounded_down() < last.moment:
             self.operator.passes()
             yield
-        return (last.moment, last.due) if by_notes else (moment, ttl)
+        if not by_notes:
+            return moment, ttl
+        # (With a DS set the TTL of CDS counts too, which is no kind of the notes.)
+        speaks_of_ds = "ds" in SPEAKS_OF[roll][call == "report2"].split()
+        return last.moment, max(last.due, ttl) if speaks_of_ds else last.due
 
     def asks(self, call, roll, ttl):
         self.look()
