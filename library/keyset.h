@@ -31,8 +31,13 @@
 extern "C" {
 #endif
 
-/* What this header was written for: see keyset_version. */
+/* The version of the interface that this header was written for: see keyset_version. */
 #define KEYSET_VERSION 2
+
+/* The release that this header is part of. A release may leave the interface as it is; one that
+   changes a function, a struct or a status in a way that breaks callers has the next
+   KEYSET_VERSION, after which the shared object is named: libkeyset.so.2. */
+#define KEYSET_RELEASE "1.0.0"
 
 /* The statuses. 0, 1 and 3 are those that the program keyset ends with. */
 enum {
@@ -126,8 +131,8 @@ uint32_t keyset_copy(struct keyset_session *session, struct keyset_session *copy
 /* Closes a session, and frees what it keeps. A closed one stays closed. */
 void keyset_close(struct keyset_session *session);
 
-/* The version of the library that is linked: of the functions, of the structs and of the statuses.
-   It is KEYSET_VERSION if header and library belong together. */
+/* The version of the interface of the library that is linked: of the functions, of the structs and
+   of the statuses. It is KEYSET_VERSION if header and library belong together. */
 uint32_t keyset_version(void);
 
 #ifdef __cplusplus

@@ -176,6 +176,7 @@ def parser():
         epilog=f"exit statuses:\n{statuses}",
         formatter_class=argparse.RawDescriptionHelpFormatter,
     )
+    top.add_argument("--version", action="version", version=f"vaqsider {keyset.__version__}")
     subparsers = top.add_subparsers(dest="word", required=True, metavar="WORD", parser_class=Parser)
     for name, says, does, options in WORDS:
         word = subparsers.add_parser(name, help=says, description=f"{says}.")

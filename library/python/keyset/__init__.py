@@ -6,6 +6,9 @@ import sys
 if sys.version_info < (3, 9):
     raise ImportError("keyset wants Python 3.9 or later")
 
+# The release that this package is part of.
+__version__ = "1.0.0"
+
 from .engine import answer, due, open_session, run, status
 from .file import Damaged, Lines, Locked, create, locked
 from .keyset import KeySet

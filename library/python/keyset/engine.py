@@ -16,7 +16,8 @@ from pathlib import Path
 from .lines import why_malformed
 from .values import Malformed, Unavailable
 
-VERSION = 2
+# The version of the library's interface: KEYSET_VERSION of its header.
+INTERFACE = 2
 TREE = Path(__file__).resolve().parents[3]
 MADE = TREE / "library" / "out" / "lib" / "libkeyset.so"
 ANSWERED, MALFORMED, OUT_OF_MEMORY, SHORT = 0, 1, 3, 4
@@ -44,7 +45,7 @@ def _library():
         return None
     library = ctypes.CDLL(path)
     library.keyset_version.restype = ctypes.c_uint32
-    if library.keyset_version() != VERSION:
+    if library.keyset_version() != INTERFACE:
         raise Unavailable(f"{path}: the library is of another version")
     text = [ctypes.c_char_p, ctypes.c_size_t]
     handle = ctypes.POINTER(_Handle)
