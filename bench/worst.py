@@ -6,7 +6,7 @@ Each row is a script that makes one length long which a user controls. Printed a
 least processor seconds of some runs, the growth of these from half as many (1 where twice the lines
 take twice as long; only if there is enough to measure), the greatest memory in MB, the memory's
 growth, and the same of the original, which keeps no record and judges none; then the bound that the
-row has, as ARCHITECTURE says it. The original has no cells for a script with `abort`, which it has
+row has, as README says it. The original has no cells for a script with `abort`, which it has
 not. `--long` has the rows too that take a minute or more. `FOLDER` is that of `bench/scripts.py`.
 """
 
