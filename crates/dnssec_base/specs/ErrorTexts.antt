@@ -1,4 +1,4 @@
--- The texts that a user reads of a duration and of an error. How they read is no matter of an RFC.
+-- The texts of durations and of errors that a user reads. No RFC says how they read.
 use Rattle.std.specs.Prelude.{ℕ, List, ◌∷◌, codes, nat_le, if◌then◌else◌, zero, suc, ◌+◌, ◌/◌, ◌%◌}
 use Rattle.std.specs.Prelude.{◌^◌, [], ◌==◌, ◌++◌, decimal}
 use Rattle.std.specs.List.{list_all}
@@ -17,20 +17,20 @@ use Rattle.dnssec_base.specs.declared.error.Error.TheVariants.{UnknownRollType, 
 
 -- ---- durations
 
--- of a unit of time: how many nanoseconds it has, how many decimals, and how it is written
+-- a unit of time: how many nanoseconds it has, how many decimals, and how it is written
 pub record UnitEntry : Type 0 where
   pub nanos : ℕ
   pub places : ℕ
   pub name : List ℕ
 
--- the table of the units, where `µ` is the bytes C2 and B5
+-- the table of the units; `µ` is the bytes C2 and B5
 abbrev pub in_table : TimeUnit → UnitEntry
 in_table Second = record { nanos = 1_000_000_000; places = 9; name = codes "s" }
 in_table Millisecond = record { nanos = 1_000_000; places = 6; name = codes "ms" }
 in_table Microsecond = record { nanos = 1_000; places = 3; name = 0xC2 ∷ 0xB5 ∷ codes "s" }
 in_table Nanosecond = record { nanos = 1; places = 0; name = codes "ns" }
 
--- the largest unit that is no longer than n nanoseconds, or else the nanosecond
+-- the largest unit that is no longer than n nanoseconds; for 0 the nanosecond
 abbrev pub unit_of : ℕ → TimeUnit
 unit_of n =
     if nat_le 1_000_000_000 n then Second
@@ -48,7 +48,7 @@ without_end_zeros [] = []
 without_end_zeros (d ∷ ds) =
     if list_all (λ e. e == 48) (d ∷ ds) then [] else d ∷ without_end_zeros ds
 
--- a dot and the decimals, or nothing where the unit goes in with no rest
+-- a dot and the decimals; nothing if there is no rest
 abbrev pub decimals_text : UnitEntry → ℕ → List ℕ
 decimals_text unit rest =
     if rest == 0 then [] else codes "." ++ without_end_zeros (last_digits unit.places rest)

@@ -1,4 +1,4 @@
--- What only the inside of the crate needs: no contract of a public call names it, but for that of
+-- Definitions for the inside of the crate. No contract of a public call names them, except that of
 -- `KeyTimestamps::write`, which `dnssec_key` calls.
 pub mod Draft
 pub mod DraftName

@@ -1,4 +1,4 @@
--- A moment is the time since the start of 1970, as its nanoseconds (RFC 6781, section 4.4: DNSSEC
+-- A moment is the time since the start of 1970, in nanoseconds (RFC 6781, section 4.4: DNSSEC
 -- brings absolute time into the DNS).
 use Rattle.std.specs.Prelude.{◌≡◌, ℕ, ◌+◌, ◌*◌, ◌/◌, ◌%◌, ◌<◌}
 use Rattle.std.proofs.Common.{arith}
@@ -16,7 +16,7 @@ IsMoment t = t.nanos < 1_000_000_000
 abbrev pub inside_of : ℕ → Inside
 inside_of n = record { secs = n / 1_000_000_000; nanos = n % 1_000_000_000 }
 
--- the whole seconds of a moment that is so kept
+-- the whole seconds of a moment that is kept in this way
 secs_of : (s r : ℕ) → r < 1_000_000_000 → (s * 1_000_000_000 + r) / 1_000_000_000 ≡ s
 secs_of s r h = omega arith
 

@@ -1,4 +1,4 @@
--- The laws of names and their texts, each promised by a function of this crate.
+-- The laws of names and their texts. A function of this crate promises each of them.
 use Rattle.std.specs.Prelude.{◌≡◌, List, ℕ}
 use Rattle.dnssec_base.specs.WireName.{IsWireName}
 use Rattle.dnssec_base.specs.NameText.{Spells, HasNoFault, StandsFirst, name_text}

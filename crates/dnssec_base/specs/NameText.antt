@@ -38,16 +38,16 @@ decimal_of x y z = 100 * (x - 48) + 10 * (y - 48) + (z - 48)
 
 -- A symbol, and the byte of a label that it stands for. RFC 1035, section 5.1
 pub data IsSymbol : List ℕ → ℕ → Type 0 where
-  -- a visible character but the dot and the backslash stands for itself
+  -- a visible character stands for itself, except the dot and the backslash
   plain : (x : ℕ) → IsVisible x → x ≢ dot → x ≢ backslash → IsSymbol (x ∷ []) x
-  -- `\X`: behind a backslash a space or a visible character that is no digit stands for itself
+  -- `\X`: after a backslash a space, or a visible character that is no digit, stands for itself
   escaped : (x : ℕ) → 0x20 ≤ x → x ≤ 0x7E → ¬ IsDigit x → IsSymbol (backslash ∷ x ∷ []) x
-  -- `\DDD`: behind a backslash three digits stand for the byte that they write
+  -- `\DDD`: after a backslash three digits stand for the byte that they write
   decimal : (x y z : ℕ) → IsDigit x → IsDigit y → IsDigit z → decimal_of x y z ≤ 255
       → IsSymbol (backslash ∷ x ∷ y ∷ z ∷ []) (decimal_of x y z)
 
--- A place in the text. RFC 1035, section 5.1: before it labels as on the wire, each ended by a dot,
--- and the bytes so far of one more; behind it this text.
+-- A place in the text. Before it stand labels as on the wire, each ended by a dot, and the bytes so
+-- far of one more; after it this text. RFC 1035, section 5.1
 pub data Place (text : List ℕ) : List ℕ → List ℕ → List ℕ → Type 0 where
   at_start : Place text [] [] text
   after_symbol : (labels label symbol after : List ℕ) (byte : ℕ) → IsSymbol symbol byte
@@ -55,7 +55,7 @@ pub data Place (text : List ℕ) : List ℕ → List ℕ → List ℕ → Type 0
   after_dot : (labels label after : List ℕ) → Place text labels label (dot ∷ after)
       → Place text (labels ++ wire_label label) [] after
 
--- the last label and the root on the wire; after a final dot the root alone. RFC 1035, section 3.1
+-- the last label and the root on the wire; after a final dot only the root. RFC 1035, section 3.1
 abbrev pub wire_end : List ℕ → List ℕ
 wire_end [] = root_name
 wire_end (byte ∷ label) = wire_label (byte ∷ label) ++ root_name
@@ -79,14 +79,14 @@ pub record BeginsWithSymbol (text : List ℕ) : Type 0 where
   pub is : IsSymbol symbol byte
   pub split : text ≡ symbol ++ after
 
--- The fault at a place: before it these labels and bytes of one more, behind it this text.
+-- The fault at a place: before it these labels and bytes of one more, after it this text.
 abbrev pub IsFault : NameError → List ℕ → List ℕ → List ℕ → Type 0
--- no text at all, or a dot behind no byte of a label. RFC 1035, section 3.1
+-- no text at all, or a dot that ends a label without bytes. RFC 1035, section 3.1
 IsFault EmptyLabel labels label after =
     (label ≡ []) × ((labels ++ after ≡ []) ⊎ BeginsWith (λ byte. byte ≡ dot) after)
 -- a symbol for the 64th byte of a label. RFC 1035, section 2.3.4
 IsFault LongLabel labels label after = BeginsWithSymbol after × (length label ≡ 63)
--- a symbol whose byte, with the root, takes the name past 255. RFC 1035, section 2.3.4
+-- a symbol whose byte, with the root, takes the name past 255 bytes. RFC 1035, section 2.3.4
 IsFault LongName labels label after =
     BeginsWithSymbol after × (255 < length (labels ++ wire_label label) + 2)
 -- a backslash that begins no escape. RFC 1035, section 5.1
@@ -96,7 +96,7 @@ IsFault BadEscape labels label after =
 IsFault BadByte labels label after = BeginsWith (λ byte. ¬ IsVisible byte) after
 IsFault OutOfMemory labels label after = ⊥
 
--- a fault stands at the place behind this many bytes of the text, which is not the root's
+-- a fault stands at the place after this many bytes of the text, which is not the root's
 pub record Stands (text : List ℕ) (fault : NameError) (place : ℕ) : Type 0 where
   pub other : text ≢ root_text
   pub labels : List ℕ
@@ -106,7 +106,7 @@ pub record Stands (text : List ℕ) (fault : NameError) (place : ℕ) : Type 0 w
   pub is : IsFault fault labels label after
   pub behind : place + length after ≡ length text
 
--- the fault stands first; at one place a long label goes before a long name
+-- the fault stands first; at the same place a long label goes before a long name
 pub record StandsFirst (text : List ℕ) (fault : NameError) : Type 0 where
   pub place : ℕ
   pub stands : Stands text fault place
@@ -128,7 +128,7 @@ printed_byte byte =
     else if is_visible byte then byte ∷ []
     else backslash ∷ (48 + byte / 100) ∷ (48 + byte / 10 % 10) ∷ (48 + byte % 10) ∷ []
 
--- what is printed of `left` more bytes of a label, and of the labels behind it, a dot before each
+-- what is printed of `left` more bytes of a label, and of the labels after it, a dot before each
 abbrev pub printed_after : ℕ → List ℕ → List ℕ
 printed_after left [] = []
 printed_after (suc left) (byte ∷ bytes) = printed_byte byte ++ printed_after left bytes

@@ -5,7 +5,7 @@ use Rattle.dnssec_base.specs.declared.stamps.Stamp.{Stamp}
 use Rattle.dnssec_base.specs.declared.stamps.Stamp.TheVariants.{Visible, DsVisible, RrsigVisible}
 use Rattle.dnssec_base.specs.declared.stamps.Stamp.TheVariants.{Published, Withdrawn}
 
--- when a key passed the stages of its life, where it did (RFC 7583, section 3: the events of a key)
+-- when a key passed each stage of its life, if it did (RFC 7583, section 3: the events of a key)
 pub record Stamps : Type 0 where
   pub creation : Option ℕ  -- made
   pub published : Option ℕ  -- put into the DNSKEY set
@@ -25,7 +25,7 @@ no_stamps = record {
   withdrawn = None;
 }
 
--- the stamp of this name, where it was written
+-- the stamp of this name, if it was written
 abbrev pub stamp_named : Stamp → Stamps → Option ℕ
 stamp_named Published t = t.published
 stamp_named Visible t = t.visible
@@ -33,7 +33,7 @@ stamp_named DsVisible t = t.ds_visible
 stamp_named RrsigVisible t = t.rrsig_visible
 stamp_named Withdrawn t = t.withdrawn
 
--- a key put into the DNSKEY set was published then, unless it was before
+-- a key that is put into the DNSKEY set was published then, unless it was before
 abbrev pub first_published : Bool → ℕ → Option ℕ → Option ℕ
 first_published true now None = Some now
 first_published value now before = before

@@ -1,8 +1,8 @@
 -- What a zone name is on the wire.
 use Rattle.std.specs.Prelude.{ℕ, zero, suc, ◌<◌, ◌≤◌, List, [], ◌∷◌, length, All}
 
--- `left` more bytes of a label, then labels, each a length byte of 1 to 63 and that many bytes, and
--- last the zero byte of the root. RFC 1035, section 3.1
+-- First `left` more bytes of a label. Then labels, each a length byte of 1 to 63 and that many
+-- bytes. Last the zero byte of the root. RFC 1035, section 3.1
 abbrev pub AreLabels : ℕ → List ℕ → Type 0
 AreLabels left [] = ⊥
 AreLabels (suc left) (byte ∷ bytes) = AreLabels left bytes

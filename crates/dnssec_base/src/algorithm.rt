@@ -63,7 +63,7 @@ impl SecurityAlgorithm {
     }
 
     /// The algorithm with this name, if it is that of a constant above: `ED25519` names number 15.
-    /// Upper case alone is read, and `15` is no name.
+    /// The name is in upper case, and `15` is no name.
     ///
     /// ```rust
     /// let algorithm = match SecurityAlgorithm::from_name(word) {
@@ -94,7 +94,7 @@ impl SecurityAlgorithm {
     }
 }
 
-/// Algorithms are equal where their numbers are. The function does nothing: its contract is a law.
+/// Algorithms are equal if their numbers are. The function does nothing: its contract is a law.
 pub fn equal_algorithms_are_one(a: &SecurityAlgorithm, b: &SecurityAlgorithm)
     ensures { IsTrue (⟦<SecurityAlgorithm as PartialEq>⟧.eq a.now b.now) ↔ (a.now ≡ b.now) }
 {}

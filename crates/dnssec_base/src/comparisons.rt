@@ -11,12 +11,12 @@ pub fn moments_are_in_order_of_time(a: &UnixTime, b: &UnixTime)
     ensures { ⟦<UnixTime as Ord>⟧.cmp a.now b.now ≡ nat_cmp a.now b.now }
 {}
 
-/// Moments are equal where they are as long after the start of 1970.
+/// Moments are equal if they are as long after the start of 1970.
 pub fn equal_moments_are_one(a: &UnixTime, b: &UnixTime)
     ensures { IsTrue (⟦<UnixTime as PartialEq>⟧.eq a.now b.now) ↔ (a.now ≡ b.now) }
 {}
 
-/// Refusals are equal where the refusal and what is left to wait are.
+/// Refusals are equal if their kind is, and the time that is left to wait.
 pub fn equal_errors_are_one(a: &Error, b: &Error)
     ensures { IsTrue (⟦<Error as PartialEq>⟧.eq a.now b.now) ↔ (a.now ≡ b.now) }
 {}

@@ -17,7 +17,7 @@ pub enum Error {
     KeyNotOld,
     /// A key has this key tag already.
     DuplicateKeyTag,
-    /// A key of this kind has no part in the call.
+    /// The call doesn't take a key of this kind.
     WrongKeyType,
     /// The key can't come in by a roll, or lacks a stamp that the call reads.
     WrongKeyState,
@@ -42,8 +42,7 @@ impl std::error::Error for Error {}
 impl fmt::Display for Error {
     ghost output = { λ e. Some (error_text e) };
 
-    /// Writes the reason, with the time that is left where it is to wait, as
-    /// `wait for duration 1.5s`.
+    /// Writes the reason. A `Wait` has the time that is left, as `wait for duration 1.5s`.
     fn fmt<W: fmt::Write>(&self, f: &mut fmt::Formatter<W>) -> fmt::Result {
         match self {
             Error::KeyExists => f.write_str("key already exists"),

@@ -1,11 +1,10 @@
 //! The lower layers of a key set: zone names, the numbers of DNSSEC algorithms with the names of
-//! six, timestamps; and moments, the stamps of a key, and errors with their texts.
+//! six, timestamps, moments, the stamps of a key, and errors with their texts.
 //!
-//! A contract sees each of them as a plain value: a name as its wire bytes, an algorithm, a
-//! timestamp and a moment as numbers, stamps as moments. What a wire name is, which text spells it
-//! and where a fault stands in a text is in `specs/`: read `WireName`, `NameText` and then
-//! `NameLaws`. `AlgorithmNames` has the names of algorithms, and `Moment`, `Stamps` and
-//! `ErrorTexts` have the others.
+//! A contract sees each of them as a plain value: a name as its wire bytes; an algorithm, a
+//! timestamp and a moment as numbers; stamps as moments. `specs/` says what a wire name is, which
+//! text spells it and where a fault stands in a text: read `WireName`, `NameText` and then
+//! `NameLaws`. `AlgorithmNames`, `Moment`, `Stamps` and `ErrorTexts` have the rest.
 #![tactic(auto)]
 
 mod algorithm;

@@ -25,9 +25,9 @@ use std::fmt;
 use std::marker::Model;
 use wire::{is_wire_name, split_label};
 
-/// A zone name, by its bytes on the wire (RFC 1035, section 3.1), which `Octs` holds.
+/// A zone name: `Octs` holds its bytes on the wire (RFC 1035, section 3.1).
 ///
-/// The names of this crate are `Name<Vec<u8>>`. Each is a whole wire name, by the type's invariant.
+/// The names of this crate are `Name<Vec<u8>>`. By the type's invariant each is a whole wire name.
 #[derive(Debug, Drop)]
 pub struct Name<Octs: AsSlice<u8>> {
     octets: Octs,
@@ -46,20 +46,20 @@ impl<Octs: AsSlice<u8>> Model for Name<Octs> {
 }
 
 impl Name<Vec<u8>> {
-    /// The name that a text spells, in the way of a master file (RFC 1035, section 5.1).
+    /// The name that a text spells, as in a zone file (RFC 1035, section 5.1).
     ///
     /// `.` is the root. In any other text dots stand between the labels, and one more may stand at
-    /// the end. A byte from `!` to `~` but for `.` and `\` stands for itself, `\DDD` for the byte
-    /// with this decimal number, and `\X` for a character from the space to `~` that is no digit.
-    /// Case is kept.
+    /// the end. A byte from `!` to `~` stands for itself, except `.` and `\`. `\DDD` stands for the
+    /// byte with this decimal number. `\X` stands for the character `X`, from the space to `~`, but
+    /// no digit. Case is kept.
     ///
-    /// The text is read once, from its start to its end or to a fault. Then `alloc` is asked for
-    /// the memory of the wire bytes.
+    /// The text is read once, from its start to its end or to a fault. After that `alloc` gives the
+    /// memory for the wire bytes.
     ///
     /// # Errors
     ///
-    /// The fault that stands first in the text. Where a label and the name get too long at one
-    /// place, it is `LongLabel`. `OutOfMemory` comes only where the text has no fault.
+    /// The fault that stands first in the text. If a label and the name get too long at the same
+    /// place, it is `LongLabel`. `OutOfMemory` comes only if the text has no fault.
     ///
     /// # Example
     ///
@@ -89,7 +89,7 @@ impl Name<Vec<u8>> {
     ///
     /// # Errors
     ///
-    /// The vector comes back as it was where its bytes are no wire name.
+    /// If the bytes are no wire name, the vector comes back as it was.
     pub fn from_octets(octets: Vec<u8>) -> Result<Self, Vec<u8>>
         ensures ok { IsOk result ↔ IsWireName octets.items }
         ensures bytes { IfOk result (λ name. name ≡ octets.items) }
@@ -114,7 +114,7 @@ impl Name<Vec<u8>> {
     ///
     /// # Errors
     ///
-    /// `OutOfMemory` where there is none for them.
+    /// `OutOfMemory` if there is no memory for them.
     pub fn try_clone(&self) -> Result<Self, NameError>
         ensures ok { IfOk result (λ clone. clone ≡ self.now) }
         ensures memory { IsOkUnless result NameError.OutOfMemory }
@@ -126,9 +126,9 @@ impl Name<Vec<u8>> {
 
 /// Prints a text that spells the name (RFC 1035, section 5.1).
 ///
-/// The root prints `.`, any other name its labels with dots between them and no final dot. In a
-/// label `.` and `\` have a `\` before them, other bytes from `!` to `~` print as themselves, and
-/// all others as `\DDD`.
+/// The root prints as `.`. Any other name prints its labels with dots between them, and no final
+/// dot. In a label `.` and `\` have a `\` before them, other bytes from `!` to `~` print as
+/// themselves, and all others as `\DDD`.
 impl fmt::Display for Name<Vec<u8>> {
     ghost output = { λ name. Some (name_text name) };
 

@@ -26,7 +26,7 @@ pub struct Stamped {
     pub withdrawn: bool,
 }
 
-/// When a key passed the stages of its life, as far as it did.
+/// When a key passed the stages of its life. A stage that it has not passed has no stamp.
 #[derive(Clone, Copy, Debug, Default)]
 pub struct KeyTimestamps {
     pub(crate) creation: Option<UnixTime>,
@@ -62,7 +62,7 @@ impl Model for KeyTimestamps {
 }
 
 impl KeyTimestamps {
-    /// Those of a key that was made at this moment, and has passed no other stage.
+    /// The stamps of a key that was made at this moment and has passed no other stage.
     pub fn of_new_key(creation: UnixTime) -> KeyTimestamps
         ensures { result ≡ record no_stamps { creation = Some creation } }
     {
@@ -79,7 +79,7 @@ impl KeyTimestamps {
         self.creation
     }
 
-    /// When a roll last stamped the key as put into the DNSKEY set, or `set_present` did first.
+    /// When a roll last put the key into the DNSKEY set, or `set_present` did so first.
     pub fn published(&self) -> Option<UnixTime>
         ensures { result ≡ self.now.published }
     {
@@ -107,8 +107,8 @@ impl KeyTimestamps {
         self.rrsig_visible
     }
 
-    /// When a roll last stamped the key as withdrawn: from the DNSKEY set, or by `KskDoubleDsRoll`
-    /// its DS record from the parent.
+    /// When a roll last took the key out of the DNSKEY set; in a `KskDoubleDsRoll`, its DS record
+    /// out of the parent.
     pub fn withdrawn(&self) -> Option<UnixTime>
         ensures { result ≡ self.now.withdrawn }
     {
@@ -156,7 +156,7 @@ impl KeyTimestamps {
         }
     }
 
-    /// These stamps of a key that is put into the DNSKEY set, or not, by hand.
+    /// These stamps once the key is put into the DNSKEY set by hand, or taken out.
     pub fn first_published(self, value: bool, now: UnixTime) -> KeyTimestamps
         ensures { result ≡ record self { published = first_published value now self.published } }
     {

@@ -70,8 +70,8 @@ impl TimeUnit {
     }
 }
 
-/// Writes a dot and `rest` nanoseconds as decimals of the unit, up to the last that isn't zero.
-/// Where nothing is left it writes nothing.
+/// Writes a dot and `rest` nanoseconds as decimals of the unit, up to the last that isn't zero. It
+/// writes nothing if `rest` is zero.
 fn write_decimals<W: fmt::Write>(
     f: &mut fmt::Formatter<W>,
     mut rest: u128,

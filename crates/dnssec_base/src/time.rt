@@ -9,7 +9,7 @@ use std::time::Duration;
 
 /// A moment: the time since the start of 1970.
 ///
-/// Nothing here reads a clock. A caller asks its own, and hands the moment in.
+/// Nothing here reads a clock. The caller reads its own, and hands the moment in.
 ///
 /// ```rust
 /// let reported = UnixTime::from(Timestamp::from(1_700_000_000));
@@ -84,21 +84,21 @@ impl Add<Duration> for UnixTime {
 
     ghost add_gives = { λ moment d sum. sum ≡ moment + as_nanos d };
 
-    /// The moment so much later. `fits` is the test that there is one.
+    /// The moment so much later. `fits` says whether there is one.
     fn add(self, d: Duration) -> UnixTime {
         UnixTime::from(self.since_epoch() + d)
     }
 }
 
 impl UnixTime {
-    /// Whether the moment `d` later can still be told: its time since 1970 has to fit a `Duration`.
+    /// Whether there is a moment `d` later: its time since 1970 has to fit a `Duration`.
     pub fn fits(&self, d: Duration) -> bool
         ensures { IsTrue result ↔ (self.now + as_nanos d < 2 ^ 64 * 1_000_000_000) }
     {
         self.since_epoch().checked_add(d).is_some()
     }
 
-    /// How long ago this moment was at `now`: zero where it lies ahead.
+    /// How long ago this moment was at `now`: zero if it lies ahead.
     pub fn elapsed(&self, now: &UnixTime) -> Duration
         ensures { as_nanos result ≡ now.now - self.now }
     {

@@ -1,5 +1,5 @@
--- What a contract sees of a key, and which of its roles a sentence speaks of: those of a KSK, of a
--- ZSK, or both (RFC 6781, section 3.1).
+-- What a contract sees of a key, and which of its roles a sentence speaks of: that of a KSK, that
+-- of a ZSK, or both (RFC 6781, section 3.1).
 use Rattle.std.specs.Prelude.{ℕ, List, Bool, true, false, ◌&&◌, ◌||◌, Option, None, Some}
 use Rattle.std.specs.Option.{option_map_or}
 use Rattle.dnssec_key.specs.declared.kind.KeyType.{KeyType}
@@ -20,12 +20,12 @@ pub record KeyParts : Type 0 where
 
 -- ---- the roles of a key
 
--- the role of a KSK, and of no CSK
+-- the role of a KSK, but not of a CSK
 abbrev pub ksk_state : KeyType → Option Flags
 ksk_state (Ksk s) = Some s
 ksk_state _ = None
 
--- the role of a ZSK, and of no CSK
+-- the role of a ZSK, but not of a CSK
 abbrev pub zsk_state : KeyType → Option Flags
 zsk_state (Zsk s) = Some s
 zsk_state _ = None
@@ -49,22 +49,22 @@ first_state (Zsk s) = s
 first_state (Csk s t) = s
 first_state (Include s) = s
 
--- the same, but none of another signer's key
+-- the same, but nothing for another signer's key
 abbrev pub key_state : KeyType → Option Flags
 key_state (Include s) = None
 key_state k = Some (first_state k)
 
--- the same of the keys that can sign the zone, ZSKs and CSKs
+-- the same for the keys that can sign the zone, ZSKs and CSKs
 abbrev pub zone_key_state : KeyType → Option Flags
 zone_key_state (Zsk s) = Some s
 zone_key_state (Csk s t) = Some s
 zone_key_state _ = None
 
--- a KSK, and no CSK, whose state passes
+-- a KSK, but not a CSK, whose state passes
 abbrev pub ksk : (Flags → Bool) → KeyType → Bool
 ksk p k = option_map_or p (ksk_state k) false
 
--- a ZSK, and no CSK, whose state passes
+-- a ZSK, but not a CSK, whose state passes
 abbrev pub zsk : (Flags → Bool) → KeyType → Bool
 zsk p k = option_map_or p (zsk_state k) false
 
@@ -76,11 +76,11 @@ ksk_role p k = option_map_or p (ksk_role_state k) false
 abbrev pub zsk_role : (Flags → Bool) → KeyType → Bool
 zsk_role p k = option_map_or p (zsk_role_state k) false
 
--- a key of this signer whose state passes: of a CSK that of its KSK role
+-- a key of this signer whose state passes; for a CSK the state of its KSK role
 abbrev pub any_key : (Flags → Bool) → KeyType → Bool
 any_key p k = option_map_or p (key_state k) false
 
--- a ZSK or a CSK whose state passes: of a CSK that of its KSK role
+-- a ZSK or a CSK whose state passes; for a CSK the state of its KSK role
 abbrev pub zone_key : (Flags → Bool) → KeyType → Bool
 zone_key p k = option_map_or p (zone_key_state k) false
 
@@ -110,7 +110,7 @@ abbrev pub is_available : Availability → Bool
 is_available Available = true
 is_available NotAvailable = false
 
--- no flag but the one that lets it come in
+-- no flag, except the one that lets it come in
 abbrev pub new_state : Bool → Flags
 new_state available = record {
   available = available;
@@ -120,7 +120,7 @@ new_state available = record {
   at_parent = false;
 }
 
--- a key that was only made
+-- a key that was made, and nothing more
 abbrev pub new_key : Option (List ℕ) → KeyType → ℕ → ℕ → ℕ → KeyParts
 new_key privref keytype algorithm key_tag created = record {
   privref = privref;

@@ -1,7 +1,8 @@
 -- The six rolls as columns of one table (RFC 6781, section 4.1; stamps: RFC 7583, section 3). A
--- column says what a start does to a new key, and for each half of the roll which stamps its report
--- writes, which keys its wait checks and what the wait then does; what an early end takes back; and
--- the actions due. Tests are on the flags before the call; what a column doesn't name stays.
+-- column says what a start does to a new key. For each half of the roll it says which stamps the
+-- report writes, which keys the wait checks, and what the wait does once it is over. It says what
+-- an early end takes back, and which actions are due. Tests are on the flags before the call. What
+-- a column doesn't name stays as it was.
 use Rattle.std.specs.Prelude.{true, not, if◌then◌else◌, false, Bool, List, ◌||◌, [], ◌∷◌, ℕ, Some}
 use Rattle.std.specs.Prelude.{Option, None}
 use Rattle.dnssec_base.specs.declared.stamps.Stamp.{Stamp}
@@ -67,7 +68,7 @@ leaves_parent s = record s { at_parent = false }
 abbrev pub leaves_silently : Flags → Flags
 leaves_silently s = record s { present = false }
 
--- those that leave drop out, those with a DS that stay come in for them (RFC 6781, section 4.1.2)
+-- keys that leave drop out; keys with a DS that stay come in for them (RFC 6781, section 4.1.2)
 abbrev pub keys_change_places : Flags → Flags
 keys_change_places s =
     if old_present s then leaves_dnskey s
@@ -77,7 +78,7 @@ keys_change_places s =
 abbrev pub turns_old : Flags → Flags
 turns_old s = record s { old = true }
 
--- it is on its way out no more
+-- it is no longer on its way out
 abbrev pub turns_back : Flags → Flags
 turns_back s = record s { old = false }
 
@@ -85,7 +86,7 @@ turns_back s = record s { old = false }
 abbrev pub stays : {A : Type 0} → A → A
 stays x = x
 
--- it happens to those alone that pass: roles, or keys
+-- it happens only to roles, or keys, that pass
 abbrev pub only : {A : Type 0} → (A → Bool) → (A → A) → A → A
 only p f x = if p x then f x else x
 
@@ -102,11 +103,11 @@ at_roles f g (Include s) = Include s
 abbrev pub at_each_role : (Flags → Flags) → KeyType → KeyType
 at_each_role f = at_roles f f
 
--- f at the role of a KSK, and of no CSK
+-- f at the role of a KSK, but not of a CSK
 abbrev pub at_ksk : (Flags → Flags) → KeyType → KeyType
 at_ksk f = only (ksk is_any) (at_roles f stays)
 
--- f at the role of a ZSK, and of no CSK
+-- f at the role of a ZSK, but not of a CSK
 abbrev pub at_zsk : (Flags → Flags) → KeyType → KeyType
 at_zsk f = only (zsk is_any) (at_roles stays f)
 
@@ -140,7 +141,7 @@ abbrev pub which : HalfOfCode → Half
 which code.First = First
 which code.Second = Second
 
--- half of a roll: a change spreads, is reported, and its wait passes
+-- half of a roll: a change spreads and is reported, then old data leaves the caches
 pub record HalfRoll : Type 0 where
   pub report : Writes  -- the stamps that the report writes
   pub checks : KeyType → Bool  -- the keys that the wait checks
@@ -270,7 +271,7 @@ zsk_double_signature = record {
   asks_last = [];
 }
 
--- CSK roll: the DNSKEY set, then DS and signatures (no way of RFC 6781, section 4.1.3, is like it)
+-- CSK roll: the DNSKEY set, then DS and signatures (RFC 6781, section 4.1.3, has no roll like it)
 abbrev pub csk_roll : Column
 csk_roll = record {
   comes = at_roles comes_in_signing comes_in;
@@ -350,7 +351,7 @@ half_of roll Second = (column roll).second
 
 -- ---- the table at one key
 
--- the stamps of a key of this kind after an event at now: what isn't written stays as it was
+-- the stamps of a key of this kind after an event at now; what isn't written stays as it was
 abbrev pub stamps_after : Writes → KeyType → ℕ → Stamps → Stamps
 stamps_after writes kind now t = record {
   creation = t.creation;
@@ -376,13 +377,13 @@ old_at_start k = record k { keytype = at_each_role turns_old k.keytype }
 abbrev pub new_at_start : RollType → ℕ → KeyParts → KeyParts
 new_at_start roll = key_by (column roll).comes (column roll).writes
 
--- a key after a start, by whether it is listed as old, and whether as new
+-- a key after a start: is it listed as old, is it listed as new?
 abbrev pub after_start : RollType → ℕ → Bool → Bool → KeyParts → KeyParts
 after_start roll now as_old as_new k =
     let marked = (if as_old then old_at_start k else k) in
     if as_new then new_at_start roll now marked else marked
 
--- an old key of a roll that is ended early: it is old no more, and no stamp changes
+-- an old key of a roll that is ended early: it is no longer old, and no stamp changes
 abbrev pub old_at_early_end : RollType → KeyParts → KeyParts
 old_at_early_end roll k = record k { keytype = (column roll).returns k.keytype }
 
@@ -390,7 +391,7 @@ old_at_early_end roll k = record k { keytype = (column roll).returns k.keytype }
 abbrev pub new_at_early_end : RollType → KeyParts → KeyParts
 new_at_early_end roll k = record k { keytype = (column roll).goes k.keytype }
 
--- a key after an early end, by whether it is still listed as old, and whether as new
+-- a key after an early end: is it still listed as old, is it still listed as new?
 abbrev pub after_early_end : RollType → Bool → Bool → KeyParts → KeyParts
 after_early_end roll as_old as_new k =
     let unmarked = (if as_old then old_at_early_end roll k else k) in
@@ -411,7 +412,7 @@ abbrev pub cache_expire : Half → ℕ → RollState
 cache_expire First ttl = CacheExpire1 ttl
 cache_expire Second ttl = CacheExpire2 ttl
 
--- the phase behind the wait
+-- the phase after the wait
 abbrev pub behind : Half → RollState
 behind First = Propagation2
 behind Second = Done
@@ -424,7 +425,7 @@ actions_of roll Propagation2 = (column roll).asks_between
 actions_of roll (CacheExpire2 ttl) = []
 actions_of roll Done = (column roll).asks_last
 
--- the actions due now: none where the roll is in no phase
+-- the actions due now; none if the roll is in no phase
 abbrev pub actions_due : RollType → Option RollState → List Action
 actions_due roll None = []
 actions_due roll (Some phase) = actions_of roll phase

@@ -1,4 +1,4 @@
--- What each setter changes of a key, and what a key refuses it for. By a setter an operator does by
+-- What each setter changes in a key, and why a key refuses it. With a setter an operator does by
 -- hand what a roll does to many keys (RFC 6781, section 4.1).
 use Rattle.std.specs.Prelude.{ℕ, Bool, true, false, Some, Option, None, if◌then◌else◌}
 use Rattle.dnssec_base.specs.Stamps.{first_published}
@@ -53,7 +53,7 @@ with_signer value s = record s { signer = value }
 abbrev pub with_at_parent : Bool → Flags → Flags
 with_at_parent value s = record s { at_parent = value }
 
--- it has left: old, and in use in no way
+-- it has left: it is old, and in no use
 abbrev pub stale_by_hand : Flags → Flags
 stale_by_hand s = record s { old = true; signer = false; present = false; at_parent = false }
 
@@ -73,7 +73,7 @@ set_by (DsVisibleAt time) k =
 set_by (RrsigVisibleAt time) k =
     record k { timestamps = record k.timestamps { rrsig_visible = Some time } }
 
--- it sets a flag: neither a time, nor whether the key is decoupled
+-- it sets a flag, not a time, and not whether the key is decoupled
 abbrev pub is_flag_setting : Setting → Bool
 is_flag_setting (Present value now) = true
 is_flag_setting (Signer value) = true
@@ -81,7 +81,7 @@ is_flag_setting (AtParent value) = true
 is_flag_setting Stale = true
 is_flag_setting _ = false
 
--- ---- what it is refused for
+-- ---- why it is refused
 
 -- another signer's key signs nothing here, and only a KSK role has a DS
 abbrev pub suits_kind : Setting → KeyType → Bool

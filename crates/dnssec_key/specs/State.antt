@@ -10,7 +10,7 @@ pub record Flags : Type 0 where
   pub present : Bool  -- is in the DNSKEY set
   pub at_parent : Bool  -- has to have a DS record at the parent
 
--- something of it is in the zone or at the parent
+-- it signs, is in the DNSKEY set, or has a DS at the parent
 abbrev pub is_used : Flags → Bool
 is_used s = s.signer || s.present || s.at_parent
 
@@ -30,7 +30,7 @@ is_active_zsk s = not s.old && s.present && s.signer
 abbrev pub is_active_ksk : Flags → Bool
 is_active_ksk s = is_active_zsk s && s.at_parent
 
--- has left, so that the key may be deleted
+-- has left, so the key may be deleted
 abbrev pub is_stale : Flags → Bool
 is_stale s = s.old && not (is_used s)
 
@@ -38,7 +38,7 @@ is_stale s = s.old && not (is_used s)
 abbrev pub is_leaving : Flags → Bool
 is_leaving s = s.old && is_used s
 
--- ---- tests that the tables of the rolls name: kept is what is not old
+-- ---- tests that the tables of the rolls name; a role that is not old stays
 
 -- any state
 abbrev pub is_any : Flags → Bool

@@ -1,5 +1,5 @@
--- The texts that a user reads of a roll, its name, and of the state of a role. How they read is no
--- matter of an RFC.
+-- The texts that a user reads: the names of rolls, and the states of roles. No RFC says how they
+-- read.
 use Rattle.std.specs.Prelude.{ℕ, List, codes, ◌≡◌, ◌≢◌, Result, MatchResult, Bool, [], ◌∷◌, filter}
 use Rattle.std.specs.Prelude.{map, true, false, ◌++◌}
 use Rattle.std.specs.List.{join_by}
@@ -22,7 +22,7 @@ roll_name ZskDoubleSignatureRoll = codes "zsk-double-signature-roll"
 roll_name CskRoll = codes "csk-roll"
 roll_name AlgorithmRoll = codes "algorithm-roll"
 
--- the roll that has this name, or that none has it
+-- the roll that has this name, or the refusal if none has it
 abbrev pub NamesRoll : List ℕ → Result RollType Error → Type 0
 NamesRoll text r = MatchResult r (λ roll. text ≡ roll_name roll)
     (λ e. (e ≡ UnknownRollType) × ((roll : RollType) → text ≢ roll_name roll))
@@ -43,7 +43,7 @@ set_words flags = map (λ (f : Bool × List ℕ). f.1) (filter (λ f. f.0) flags
 abbrev pub comma_list : List (List ℕ) → List ℕ
 comma_list words = join_by (λ w. w) (codes ", ") words
 
--- what stands at the end, by the flags old, signer and present
+-- the word at the end, from the flags old, signer and present
 abbrev pub ending : Bool → Bool → Bool → List ℕ
 ending false false false = codes "(Future)"
 ending false false true = codes " (Incoming)"

@@ -20,11 +20,11 @@ pub record KeySetParts : Type 0 where
   pub rolls : Rolls
   pub lists : Lists  -- what the starts of rolls in `Propagation1` listed
 
--- a set without keys and rolls
+-- a set without keys or rolls
 abbrev pub new_set : List ℕ → KeySetParts
 new_set name = record { name = name; keys = empty; rolls = no_rolls; lists = no_lists }
 
--- only the key at the reference is changed, by f; these lists are kept
+-- only the key at the reference changes, by f; the lists stay
 pub record ChangesKey (old new : KeySetParts) (reference : List ℕ) (f : KeyParts → KeyParts)
     (kept : Lists) : Type 0 where
   pub name : new.name ≡ old.name
@@ -33,7 +33,7 @@ pub record ChangesKey (old new : KeySetParts) (reference : List ℕ) (f : KeyPar
   pub keys : (q : List ℕ) →
       get new.keys q ≡ option_map (λ k. if bytes_eq reference q then f k else k) (get old.keys q)
 
--- only the key at the reference is another one, or none; these lists are kept
+-- only the key at the reference changes, to this one or to none; the lists stay
 pub record PutsKey (old new : KeySetParts) (reference : List ℕ) (key : Option KeyParts)
     (kept : Lists) : Type 0 where
   pub name : new.name ≡ old.name
@@ -41,7 +41,7 @@ pub record PutsKey (old new : KeySetParts) (reference : List ℕ) (key : Option 
   pub lists : new.lists ≡ kept
   pub keys : (q : List ℕ) → get new.keys q ≡ (if bytes_eq reference q then key else get old.keys q)
 
--- every key goes by f, none comes or goes; the roll is in the phase, if any; these lists are kept
+-- every key changes by f, and none comes or goes; the roll is in this phase, or in none
 pub record MovesOn (old new : KeySetParts) (roll : RollType) (phase : Option RollState)
     (kept : Lists) (f : List ℕ → KeyParts → KeyParts) : Type 0 where
   pub name : new.name ≡ old.name

@@ -16,7 +16,7 @@ use Rattle.dnssec_keyset.specs.KeySet.{KeySetParts}
 abbrev pub in_progress : Rolls → RollType → Bool
 in_progress rolls roll = is_some (phase_of rolls roll)
 
--- of two rolls in progress one changes KSKs alone, the other ZSKs alone
+-- of two rolls in progress one changes only KSKs, the other only ZSKs
 abbrev pub RollsTogether : Rolls → Type 0
 RollsTogether rolls = (a b : RollType) → in_progress rolls a ≡ true → in_progress rolls b ≡ true →
     (same_roll a b ≡ true) ⊎ (together a b ≡ true)
@@ -30,7 +30,7 @@ roll_of (RollDone roll) = Some roll
 roll_of (AbortRoll roll) = Some roll
 roll_of _ = None
 
--- a call on a roll leaves every key as it was that the roll doesn't change
+-- a call on a roll leaves every key as it was whose kind the roll doesn't change
 abbrev pub LeavesOthers : KeySetParts → Call → KeySetParts → Type 0
 LeavesOthers old call new = (roll : RollType) (q : List ℕ) (k : KeyParts) →
     roll_of call ≡ Some roll →

@@ -1,6 +1,7 @@
 -- The allowed step: from a key set, which reply a call may have and which key set it then leaves
--- (RFC 6781, section 4.1). A cause is answered before anything is changed; without one the call is
--- accepted, or has run out of memory where it takes some, and then too nothing is changed.
+-- (RFC 6781, section 4.1). If there is a cause to refuse the call, it is answered, and nothing is
+-- changed. Else the call is accepted; or, if it takes memory, it may have run out of memory, and
+-- then too nothing is changed.
 use Rattle.std.specs.Prelude.{Option, None, List, [], ◌∷◌, ℕ, ◌≡◌, Result, Err, ◌⊎◌, IsOk, Ok}
 use Rattle.std.specs.Prelude.{if◌then◌else◌, Some, ◌≢◌, map}
 use Rattle.std.specs.Option.{option_or}
@@ -33,7 +34,7 @@ use Rattle.dnssec_keyset.specs.KeySet.{KeySetParts, PutsKey, MovesOn, ChangesKey
 
 -- ---- what a start and a wait answer
 
--- the first cause that stands, if any
+-- the first cause that applies, if any
 abbrev pub first_of_causes : List (Option Error) → Option Error
 first_of_causes [] = None
 first_of_causes (cause ∷ causes) = option_or cause (first_of_causes causes)
@@ -48,16 +49,16 @@ start_refusal roll set olds news = first_of_causes (
     ∷ suitability_fault roll set.keys olds news
     ∷ [])
 
--- what bars the wait of a roll, or clears it, in the phase that the roll is in
+-- whether the wait of a roll is barred, early or clear, in the phase that the roll is in
 abbrev pub wait_clearance : RollType → Half → ℕ → KeySetParts → Clearance
 wait_clearance roll half now set =
     wait_in_phase roll half (ttl_in half (phase_of set.rolls roll)) now set.keys
 
--- the answer is to wait for so many nanoseconds
+-- the answer is to wait for that many nanoseconds
 abbrev pub IsToldToWait : {T : Type 0} → ℕ → Result T Error → Type 0
 IsToldToWait left r = (d : Duration) × (r ≡ Err (WaitFor d)) × (as_nanos d ≡ left)
 
--- a wait answers by its clearance, and takes memory for a list of actions alone
+-- a wait answers by its clearance, and takes memory only for a list of actions
 abbrev pub AnswersWait : {T : Type 0} → Clearance → List Action → Result T Error → Type 0
 AnswersWait (Barred cause) actions r = r ≡ Err cause
 AnswersWait (Early left) actions r = IsToldToWait left r
@@ -93,7 +94,7 @@ abbrev pub reply_list : Result (Vec Action Global) Error → Reply
 reply_list (Ok actions) = Actions actions.items
 reply_list (Err cause) = Refused cause
 
--- what bars each call, or clears it
+-- whether each call is barred, early or clear
 abbrev pub clearance : KeySetParts → Call → Clearance
 clearance set (AddKey reference key) = barred_by (add_refusal set.keys reference key.key_tag)
 clearance set (Set reference setting) = barred_by (setting_refusal setting (get set.keys reference))
@@ -104,7 +105,7 @@ clearance set (Wait roll half now) = wait_clearance roll half now set
 clearance set (RollDone roll) = barred_by (end_refusal (phase_of set.rolls roll))
 clearance set (AbortRoll roll) = barred_by (early_end_refusal (phase_of set.rolls roll))
 
--- what an accepted call answers: the actions due in the phase behind it
+-- what an accepted call answers: the actions due in the phase after it
 abbrev pub accepted_reply : Call → Reply
 accepted_reply (AddKey reference key) = Done
 accepted_reply (Set reference setting) = Done
@@ -117,7 +118,7 @@ accepted_reply (AbortRoll roll) = Actions (column roll).asks_early
 
 -- ---- what a call changes
 
--- a key whose flag is set by hand is kept in no list
+-- a key whose flag is set by hand goes from all lists
 abbrev pub lists_after_setting : Setting → List ℕ → Lists → Lists
 lists_after_setting setting reference lists =
     if is_flag_setting setting then without reference lists else lists
@@ -170,7 +171,7 @@ Step old call reply new = StepBy (clearance old call) old call reply new
 
 -- ---- the set afterwards, as a function of the set before, the call and the reply
 
--- every key by f, under its reference
+-- every key changed by f, under its reference
 abbrev pub keys_by : (List ℕ → KeyParts → KeyParts) → Keys → Keys
 keys_by f keys = from_entries (map (λ (e : List ℕ × KeyParts). (e.0, f e.0 e.1)) (entries keys))
 

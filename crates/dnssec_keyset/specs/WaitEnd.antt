@@ -1,6 +1,6 @@
--- When the wait of a roll is over, said by what a wait at any moment is told: so a tool that sleeps
--- until then asks neither too early nor longer than it must (RFC 7583, section 3: the interval is a
--- TTL from the event on).
+-- When the wait of a roll is over: what a wait at any moment is answered says it. So a tool that
+-- sleeps until then asks neither too early nor later than it must (RFC 7583, section 3: the
+-- interval is a TTL from the event on).
 use Rattle.std.specs.Prelude.{◌≡◌, ℕ, Some, ◌*◌, ◌^◌, ◌≤◌, Option, None}
 use Rattle.dnssec_base.specs.declared.error.Error.{Error}
 use Rattle.dnssec_key.specs.declared.roll.RollType.{RollType}
@@ -18,12 +18,12 @@ EndsAt roll set end =
     (half : Half) × (ttl : ℕ) × (ttl_in half (phase_of set.rolls roll) ≡ Some ttl)
     × IsOverFrom roll half ttl set.keys end
 
--- each wait of a roll is refused for a cause, its phase or a missing stamp
+-- each wait of a roll is refused, for the phase or for a missing stamp
 abbrev pub HasNoWait : RollType → KeySetParts → Type 0
 HasNoWait roll set =
     (half : Half) (now : ℕ) → (cause : Error) × (wait_clearance roll half now set ≡ Barred cause)
 
--- what is told of the end of a roll's wait. A moment is told in less than 2 ^ 64 seconds
+-- what is answered for the end of a roll's wait; a moment has less than 2 ^ 64 seconds
 abbrev pub TellsEnd : RollType → KeySetParts → Option WaitEnd → Type 0
 TellsEnd roll set None = HasNoWait roll set
 TellsEnd roll set (Some (At moment)) = EndsAt roll set moment

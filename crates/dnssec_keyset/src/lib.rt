@@ -1,9 +1,9 @@
 //! The keys that sign one DNS zone, and the steps of their rollover.
 //!
-//! A [`KeySet`] keeps the keys of a zone by their public references, and the rolls in progress.
-//! Keys are added; a roll is started, each of its changes is reported once all servers have it,
-//! a wait is claimed once old data has left the caches, and the roll ends. Each call answers the
-//! actions that are now due, or a named refusal, and a refusal changes nothing. The rolls are
+//! A [`KeySet`] keeps the keys of a zone by their public references, and the rolls in progress. A
+//! caller adds keys and starts a roll. It reports each change of the roll once all servers have it,
+//! and goes on once old data has left the caches. At the end it ends the roll. Each call answers
+//! the actions that are now due, or a named refusal. A refused call changes nothing. The rolls are
 //! those of RFC 6781, section 4.1.
 #![tactic(auto)]
 

@@ -17,25 +17,25 @@ use std::alloc::Global;
 impl KeySet {
     /// Starts a roll from the keys of `old` to those of `new`, at the moment `now`.
     ///
-    /// Both lists are of public references. Answers the actions that are due now. An old key
-    /// may be one that has not come in yet or has left already, and may be listed twice.
+    /// Both lists are of public references. Answers the actions that are due now. An old key may
+    /// have left already, or not have come in yet, and may be listed twice.
     ///
     /// # Errors
     ///
-    /// The first of these that stands, and then nothing is changed:
+    /// The first that applies, in this order. Nothing is then changed.
     ///
-    /// - `WrongStateForRollOperation` where this roll is in progress.
-    /// - `ConflictingRollInProgress` where one is that doesn't go with it: only a roll of KSKs goes
-    ///   with one of ZSKs.
-    /// - `KeyNotFound`, or `WrongKeyType` for a key that the roll doesn't change: of each old key
-    ///   in turn, then of each new one. `WrongKeyState` for a new key that isn't available and
-    ///   unused, or is listed as old too or a second time.
-    /// - `AlgorithmSetsMismatch` where old and new keys differ in their algorithms, which only an
-    ///   algorithm roll allows.
-    /// - `NoSuitableKeyPresent` where the roll would leave no KSK (or ZSK; for `CskRoll` and
-    ///   `AlgorithmRoll` no KSK role or no ZSK role) that is present and not old.
-    ///   `KskDoubleDsRoll` asks at the parent in place of present.
-    /// - `OutOfMemory` where memory runs out.
+    /// - `WrongStateForRollOperation` if this roll is in progress.
+    /// - `ConflictingRollInProgress` if another roll is that doesn't go with it. Only a roll of
+    ///   KSKs and one of ZSKs go together.
+    /// - `KeyNotFound`, or `WrongKeyType` for a key that the roll doesn't change: for each old key
+    ///   in turn, then for each new one. `WrongKeyState` for a new key that isn't available, was
+    ///   used before, is listed as old too, or is listed twice.
+    /// - `AlgorithmSetsMismatch` if old and new keys differ in their algorithms. Only an algorithm
+    ///   roll allows that.
+    /// - `NoSuitableKeyPresent` if the roll would leave no KSK that is present and not old. A roll
+    ///   of ZSKs asks this of ZSKs, `CskRoll` and `AlgorithmRoll` of both roles. `KskDoubleDsRoll`
+    ///   asks for a DS at the parent in place of present.
+    /// - `OutOfMemory` if memory runs out.
     ///
     /// ```rust
     /// // The actions: publish the DNSKEY set with Z2, and report when all servers have it.
@@ -60,7 +60,7 @@ impl KeySet {
         self.check_start(rolltype, old, new)?;
         let actions = list_actions(self.alloc, rolltype, RollState::Propagation1)?;
         let lists = self.lists.with_start(&self.keys, rolltype, old, new)?;
-        // The last growth is the first write: what comes behind it can't fail.
+        // The last request for memory comes before the first write: nothing after it can fail.
         self.rolls.put_in(rolltype, RollState::Propagation1)?;
         self.lists = lists;
         self.keys.mark_old(old);
@@ -68,15 +68,15 @@ impl KeySet {
         Ok(actions)
     }
 
-    /// Reports that what the start changed has reached all servers, at the moment `now`.
+    /// Reports that all servers have what the start changed, at the moment `now`.
     ///
-    /// `ttl` is the highest TTL, in seconds, under which a cache may still hold an older set of the
-    /// kinds that the actions asked to report. No new action is due, so the answer is empty; no
-    /// memory is taken.
+    /// The start's actions name the kinds of sets to report. `ttl` is the highest TTL, in seconds,
+    /// that a cache may still have for an older set of these kinds. No new action is due, so the
+    /// answer is empty, and no memory is taken.
     ///
     /// # Errors
     ///
-    /// `WrongStateForRollOperation` where the roll isn't waiting for this report. Nothing is then
+    /// `WrongStateForRollOperation` if the roll isn't waiting for this report. Nothing is then
     /// changed.
     ///
     /// ```rust
@@ -99,18 +99,18 @@ impl KeySet {
         self.report(rolltype, Half::First, ttl, now)
     }
 
-    /// Goes on to the second half of a roll, once old data has left the caches at `now`.
+    /// Goes on to the second half of a roll, if old data has left the caches by the moment `now`.
     ///
     /// Answers the actions that are due now.
     ///
     /// # Errors
     ///
-    /// The first of these that stands, and then nothing is changed:
+    /// The first that applies, in this order. Nothing is then changed.
     ///
-    /// - `WrongStateForRollOperation` where the roll isn't waiting for the caches.
-    /// - `WrongKeyState` where a key that the wait checks lacks the stamp that it reads.
-    /// - `Wait` with the longest time that is left for such a key, while there is some.
-    /// - `OutOfMemory` where there is no memory for the answer.
+    /// - `WrongStateForRollOperation` if the roll isn't waiting for the caches.
+    /// - `WrongKeyState` if a key that the wait checks lacks the stamp that the wait reads.
+    /// - `Wait` with the longest time that is left for such a key, if there is some.
+    /// - `OutOfMemory` if there is no memory for the answer.
     ///
     /// ```rust
     /// match set.cache_expired1(RollType::ZskRoll, &now) {
@@ -135,8 +135,8 @@ impl KeySet {
         self.go_on(rolltype, Half::First, now)
     }
 
-    /// Reports that what the first wait changed has reached all servers, at the moment `now`, as
-    /// `propagation1_complete` does for the start.
+    /// Reports that all servers have what the end of the first wait changed, at the moment `now`,
+    /// as `propagation1_complete` does for the start.
     ///
     /// # Errors
     ///
@@ -157,9 +157,9 @@ impl KeySet {
         self.report(rolltype, Half::Second, ttl, now)
     }
 
-    /// Goes on to the end of a roll, once old data has left the caches at `now`, as
-    /// `cache_expired1` does to its second half. Where no action is due, which is so for
-    /// `ZskDoubleSignatureRoll`, no memory is taken.
+    /// Goes on to the last phase of a roll, if old data has left the caches by the moment `now`, as
+    /// `cache_expired1` does to the second half. For `ZskDoubleSignatureRoll` no action is due, and
+    /// no memory is taken.
     ///
     /// # Errors
     ///
@@ -180,12 +180,11 @@ impl KeySet {
         self.go_on(rolltype, Half::Second, now)
     }
 
-    /// Ends a roll whose last actions are performed. The answer is empty; no memory is taken.
+    /// Ends a roll after its last actions are done. The answer is empty, and no memory is taken.
     ///
     /// # Errors
     ///
-    /// `WrongStateForRollOperation` where the roll isn't in its last phase. Nothing is then
-    /// changed.
+    /// `WrongStateForRollOperation` if the roll isn't in its last phase. Nothing is then changed.
     ///
     /// ```rust
     /// set.roll_done(RollType::ZskRoll)?;
@@ -205,18 +204,18 @@ impl KeySet {
 
     /// Ends a roll early, before its first report.
     ///
-    /// The roll is taken out. The keys that its start made old are not old any more, and the flags
-    /// that the start set on its new keys are cleared, so that each may come in by another roll;
-    /// stamps stay. A key whose flag was set by hand since the start, or that was deleted, is left
-    /// alone. Answers the actions that are due now.
+    /// The roll is no longer in progress. Its old keys are no longer old. The flags that the start
+    /// set on its new keys are cleared, so each may come in by another roll; stamps stay. A key
+    /// that was deleted, or got a flag by hand since the start, is left as it is. Answers the
+    /// actions that are due now.
     ///
     /// # Errors
     ///
-    /// The first of these that stands, and then nothing is changed:
+    /// The first that applies, in this order. Nothing is then changed.
     ///
-    /// - `WrongStateForRollOperation` where the roll isn't waiting for its first report: from then
-    ///   on caches may hold what the start changed.
-    /// - `OutOfMemory` where there is no memory for the answer.
+    /// - `WrongStateForRollOperation` if the roll isn't waiting for its first report: after it,
+    ///   caches may hold what the start changed.
+    /// - `OutOfMemory` if there is no memory for the answer.
     ///
     /// ```rust
     /// set.start_roll(RollType::ZskRoll, &["Z1"], &["Z2"], &now)?;
@@ -238,14 +237,14 @@ impl KeySet {
         Ok(actions)
     }
 
-    /// The actions of a roll in its phase: what the accepted call before answered.
+    /// The actions of a roll in its phase: those that its last accepted call answered.
     ///
-    /// Empty for a roll that isn't in progress, while caches expire, and at the end of
+    /// The list is empty for a roll that isn't in progress, while caches expire, and at the end of
     /// `ZskDoubleSignatureRoll`. An empty list takes no memory.
     ///
     /// # Errors
     ///
-    /// `OutOfMemory` alone, where there is no memory for the list.
+    /// Only `OutOfMemory`, if there is no memory for the list.
     pub fn actions(&self, rolltype: RollType) -> Result<Vec<Action>, Error>
         ensures list { IfOk result (λ actions.
             actions.items ≡ actions_due rolltype (phase_of self.now.rolls rolltype)) }
@@ -258,7 +257,7 @@ impl KeySet {
         }
     }
 
-    /// A report of either half.
+    /// A report of the first or the second half.
     #[tactic(auto, using(crate::proofs::Steps::steps))]
     fn report(
         &mut self,
@@ -274,14 +273,14 @@ impl KeySet {
             (Changes self.old (Report rolltype (which half) ttl now.now) self.new) }
         ensures err { OnErr result (self.new ≡ self.old) }
     {
-        // It takes no memory, so its check is its first write at once.
+        // A report takes no memory, so one step checks the phase and writes it.
         self.rolls.take_report(rolltype, half, ttl)?;
         self.keys.report_all(rolltype, half, ttl, *now);
         self.lists.report(rolltype, half);
         Ok(Vec::new(self.alloc))
     }
 
-    /// A wait of either half.
+    /// The end of a wait of the first or the second half.
     #[tactic(auto, using(crate::proofs::Steps::steps))]
     fn go_on(
         &mut self,

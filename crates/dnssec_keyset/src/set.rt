@@ -40,12 +40,12 @@ pub struct KeySet {
     name: Name<Vec<u8>>,
     pub(crate) keys: Keys,
     pub(crate) rolls: Rolls,
-    /// What the starts of rolls that may be ended early listed.
+    /// The keys that starts listed, of the rolls that may still be ended early.
     pub(crate) lists: Lists,
     pub(crate) alloc: Global,
 }
 
-// By hand, so that a caller drops a key set by one call.
+// Written by hand, so that a caller drops a key set by one call.
 impl Drop for KeySet {
     fn drop(self) {
         let KeySet {
@@ -79,8 +79,8 @@ impl Model for KeySet {
 }
 
 impl KeySet {
-    /// A key set for the zone of this name, without keys and rolls. It takes its memory from
-    /// `alloc`, and none yet.
+    /// A key set for the zone of this name, without keys or rolls. It will take its memory from
+    /// `alloc`, and takes none yet.
     pub fn new(alloc: Global, name: Name<Vec<u8>>) -> Self
         ensures { result ≡ new_set name }
     {
@@ -93,11 +93,11 @@ impl KeySet {
         }
     }
 
-    /// A key set with equal name, keys and rolls.
+    /// A copy: a key set with the same name, keys and rolls.
     ///
     /// # Errors
     ///
-    /// `OutOfMemory` alone, where there is no memory for the copy.
+    /// Only `OutOfMemory`, if there is no memory for the copy.
     pub fn try_clone(&self) -> Result<KeySet, Error>
         ensures same { IfOk result (λ set. set ≡ self.now) }
         ensures err { IfErr result (λ e. e ≡ OutOfMemory) }
@@ -118,7 +118,7 @@ impl KeySet {
         &self.name
     }
 
-    /// The keys by their public references, in no order that may be relied on.
+    /// The keys by their public references, in no particular order.
     pub fn keys(&self) -> &HashMap<String, Key>
         ensures shown { keys_in_map result.now ≡ self.now.keys }
         ensures at { (q : List ℕ) → hash.get_by_text result.now q ≡ map.get self.now.keys q }
@@ -137,17 +137,17 @@ impl KeySet {
 
     /// Adds a KSK, which may come in by a roll if it is available.
     ///
-    /// `pubref` names the key from now on, `privref` its private part in the caller's storage.
+    /// `pubref` names the key from now on, and `privref` its private part in the caller's storage.
     /// `algorithm` and `key_tag` are those of its DNSKEY record (RFC 4034, section 2 and appendix
-    /// B). It was made at `creation_ts`, and no other stamp is set.
+    /// B). `creation_ts` is the moment when it was made; no other stamp is set.
     ///
     /// # Errors
     ///
-    /// The first of these that stands. The strings are then dropped, and nothing is changed:
+    /// The first that applies, in this order. The strings are then dropped, and nothing is changed.
     ///
-    /// - `DuplicateKeyTag` where a key has the tag.
-    /// - `KeyExists` where a key has the reference.
-    /// - `OutOfMemory` where memory runs out.
+    /// - `DuplicateKeyTag` if a key has the tag.
+    /// - `KeyExists` if a key has the reference.
+    /// - `OutOfMemory` if memory runs out.
     pub fn add_key_ksk(
         &mut self,
         pubref: String,
@@ -225,7 +225,7 @@ impl KeySet {
         self.add(pubref, key)
     }
 
-    /// Adds a key of another signer, which may be published beside those of the set. It has no
+    /// Adds the key of another signer, which may be published beside those of the set. It has no
     /// private part. `available` is kept, but no roll takes such a key.
     ///
     /// # Errors
@@ -259,7 +259,7 @@ impl KeySet {
     ///
     /// # Errors
     ///
-    /// `KeyNotFound` where no key has the reference. Nothing is then changed.
+    /// `KeyNotFound` if no key has the reference. Nothing is then changed.
     pub fn set_decoupled(&mut self, pubref: &str, value: bool) -> Result<(), Error>
         ensures reply { AnswersExactly
             (setting_refusal (Decoupled value) (map.get self.old.keys pubref.now)) result }
@@ -270,13 +270,13 @@ impl KeySet {
         self.set(pubref, Setting::Decoupled(value))
     }
 
-    /// Puts a key into the DNSKEY set, or takes it out, by hand, in each of its roles. A key that
-    /// is put in at `now` for the first time is stamped as published then; no other stamp changes.
-    /// No memory is taken.
+    /// Puts a key into the DNSKEY set by hand, or takes it out, in each of its roles. A key that is
+    /// put in for the first time is stamped as published at `now`; no other stamp changes. No
+    /// memory is taken.
     ///
     /// # Errors
     ///
-    /// `KeyNotFound` where no key has the reference. Nothing is then changed.
+    /// `KeyNotFound` if no key has the reference. Nothing is then changed.
     pub fn set_present(&mut self, pubref: &str, value: bool, now: &UnixTime) -> Result<(), Error>
         ensures reply { AnswersExactly
             (setting_refusal (Present value now.now) (map.get self.old.keys pubref.now)) result }
@@ -287,11 +287,11 @@ impl KeySet {
         self.set(pubref, Setting::Present(value, *now))
     }
 
-    /// Sets whether a key signs, by hand, in each of its roles. No memory is taken.
+    /// Sets by hand whether a key signs, in each of its roles. No memory is taken.
     ///
     /// # Errors
     ///
-    /// `KeyNotFound` where no key has the reference, `WrongKeyType` for a key of another signer.
+    /// `KeyNotFound` if no key has the reference, `WrongKeyType` for a key of another signer.
     /// Nothing is then changed.
     pub fn set_signer(&mut self, pubref: &str, value: bool) -> Result<(), Error>
         ensures reply { AnswersExactly
@@ -303,13 +303,13 @@ impl KeySet {
         self.set(pubref, Setting::Signer(value))
     }
 
-    /// Sets whether the parent has to have a DS record for a KSK or a CSK, by hand. No memory is
+    /// Sets by hand whether the parent has to have a DS record for a KSK or a CSK. No memory is
     /// taken.
     ///
     /// # Errors
     ///
-    /// `KeyNotFound` where no key has the reference, `WrongKeyType` for a key of another kind.
-    /// Nothing is then changed.
+    /// `KeyNotFound` if no key has the reference, `WrongKeyType` for a key of another kind. Nothing
+    /// is then changed.
     pub fn set_at_parent(&mut self, pubref: &str, value: bool) -> Result<(), Error>
         ensures reply { AnswersExactly
             (setting_refusal (AtParent value) (map.get self.old.keys pubref.now)) result }
@@ -320,12 +320,12 @@ impl KeySet {
         self.set(pubref, Setting::AtParent(value))
     }
 
-    /// Makes a key stale by hand: in each role old, and neither signer, present nor at the parent.
-    /// No memory is taken.
+    /// Makes a key stale by hand. In each of its roles it is then old, and neither signs, nor is in
+    /// the DNSKEY set, nor has a DS at the parent. No memory is taken.
     ///
     /// # Errors
     ///
-    /// `KeyNotFound` where no key has the reference. Nothing is then changed.
+    /// `KeyNotFound` if no key has the reference. Nothing is then changed.
     pub fn set_stale(&mut self, pubref: &str) -> Result<(), Error>
         ensures reply { AnswersExactly
             (setting_refusal Stale (map.get self.old.keys pubref.now)) result }
@@ -340,7 +340,7 @@ impl KeySet {
     ///
     /// # Errors
     ///
-    /// `KeyNotFound` where no key has the reference. Nothing is then changed.
+    /// `KeyNotFound` if no key has the reference. Nothing is then changed.
     pub fn set_visible(&mut self, pubref: &str, time: UnixTime) -> Result<(), Error>
         ensures reply { AnswersExactly
             (setting_refusal (VisibleAt time) (map.get self.old.keys pubref.now)) result }
@@ -356,7 +356,7 @@ impl KeySet {
     ///
     /// # Errors
     ///
-    /// `KeyNotFound` where no key has the reference. Nothing is then changed.
+    /// `KeyNotFound` if no key has the reference. Nothing is then changed.
     pub fn set_ds_visible(&mut self, pubref: &str, time: UnixTime) -> Result<(), Error>
         ensures reply { AnswersExactly
             (setting_refusal (DsVisibleAt time) (map.get self.old.keys pubref.now)) result }
@@ -371,7 +371,7 @@ impl KeySet {
     ///
     /// # Errors
     ///
-    /// `KeyNotFound` where no key has the reference. Nothing is then changed.
+    /// `KeyNotFound` if no key has the reference. Nothing is then changed.
     pub fn set_rrsig_visible(&mut self, pubref: &str, time: UnixTime) -> Result<(), Error>
         ensures reply { AnswersExactly
             (setting_refusal (RrsigVisibleAt time) (map.get self.old.keys pubref.now)) result }
@@ -382,13 +382,13 @@ impl KeySet {
         self.set(pubref, Setting::RrsigVisibleAt(time))
     }
 
-    /// Deletes a key that has left in each of its roles, whether rolls are in progress or not. No
+    /// Deletes a key that is stale in each of its roles, also while rolls are in progress. No
     /// memory is taken.
     ///
     /// # Errors
     ///
-    /// `KeyNotFound` where no key has the reference, `KeyNotOld` while some role isn't stale.
-    /// Nothing is then changed.
+    /// `KeyNotFound` if no key has the reference, `KeyNotOld` if the key isn't stale in one of its
+    /// roles. Nothing is then changed.
     pub fn delete_key(&mut self, pubref: &str) -> Result<(), Error>
         ensures reply { AnswersExactly
             (deletion_refusal (map.get self.old.keys pubref.now)) result }
@@ -412,7 +412,7 @@ impl KeySet {
         self.keys.add(self.alloc, pubref, key)
     }
 
-    /// Sets something of a key. A key whose flag is set by hand is left alone by an early end.
+    /// Changes a key by hand. An early end leaves a key alone whose flag was set by hand.
     fn set(&mut self, pubref: &str, setting: Setting) -> Result<(), Error>
         ensures reply { AnswersExactly
             (setting_refusal (setting_of setting) (map.get self.old.keys pubref.now)) result }

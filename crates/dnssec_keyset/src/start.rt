@@ -1,4 +1,4 @@
-//! What a start is refused for: the first cause that stands. Nothing is changed here.
+//! Why a start is refused: the first cause that applies. Nothing is changed here.
 ghost use Rattle.dnssec_zone.specs.Refusals.{AnswersExactly};
 ghost use Rattle.dnssec_zone.specs.Start.{texts};
 ghost use Rattle.dnssec_keyset.specs.Step.{start_refusal};
@@ -8,7 +8,7 @@ use dnssec_key::{Error, RollType};
 use dnssec_zone::may_go_over;
 
 impl KeySet {
-    /// Refuses a start for the first cause that stands.
+    /// Refuses a start for the first cause that applies.
     pub(crate) fn check_start(
         &self,
         rolltype: RollType,

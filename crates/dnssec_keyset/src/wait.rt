@@ -1,4 +1,4 @@
-//! When a wait is over, and what it is refused for until then. Nothing is changed here.
+//! When a wait is over, and why it is refused before. Nothing is changed here.
 ghost use Rattle.std.specs.Prelude.{◌≡◌, ◌-◌, ◌*◌, ◌^◌, ◌≤◌, [], min, OnOk, IsSome, IfSome, IfNone};
 ghost use Rattle.std.specs.Duration.{as_nanos};
 ghost use Rattle.dnssec_key.specs.RollTable.{which};
@@ -16,12 +16,12 @@ use std::time::Duration;
 pub enum WaitEnd {
     /// From this moment on.
     At(UnixTime),
-    /// Past the greatest moment that a `UnixTime` can tell.
+    /// After the greatest moment that a `UnixTime` can have.
     PastTime,
 }
 
-/// What is left at `now` of a wait that is over at `end`, both in nanoseconds since 1970: at most
-/// the TTL.
+/// What is left at `now` of a wait that is over at `end`, but at most the TTL. Both moments are in
+/// nanoseconds since 1970.
 fn left_until(end: u128, now: u128, ttl: u32) -> Duration
     ensures { as_nanos result ≡ min (ttl * 1_000_000_000) (end - now) }
 {
@@ -29,7 +29,7 @@ fn left_until(end: u128, now: u128, ttl: u32) -> Duration
     Duration::from_nanos(end.saturating_sub(now).min(u128::from(ttl)) as u64)
 }
 
-/// The moment of a nanosecond since 1970, where one can be told.
+/// The moment of a nanosecond since 1970, if a `UnixTime` can have it.
 fn moment_of(nanos: u128) -> Option<UnixTime>
     ensures told { IfSome result (λ moment. moment ≡ nanos) }
     ensures past { IfNone result (2 ^ 64 * 1_000_000_000 ≤ nanos) }
@@ -40,8 +40,8 @@ fn moment_of(nanos: u128) -> Option<UnixTime>
 }
 
 impl KeySet {
-    /// The nanosecond since 1970 from which a wait of `ttl` seconds is over, or `None` where a
-    /// stamp is missing.
+    /// The nanosecond since 1970 from which a wait of `ttl` seconds is over, or `None` if a stamp
+    /// is missing.
     fn over_from(&self, rolltype: RollType, half: Half, ttl: u32) -> Option<u128>
         ensures over { IfSome result (λ end.
             IsOverFrom rolltype (which half) ttl self.now.keys end) }
@@ -50,7 +50,8 @@ impl KeySet {
         self.keys.over_from(rolltype, half, ttl)
     }
 
-    /// Whether a wait is over: refused out of its phase, then for a missing stamp, then early.
+    /// Whether a wait is over. It is refused in another phase, then for a missing stamp, then if it
+    /// is early.
     pub(crate) fn check_wait(
         &self,
         rolltype: RollType,
@@ -74,8 +75,8 @@ impl KeySet {
         Ok(())
     }
 
-    /// The nanosecond since 1970 from which the wait of a roll is over, where it is in a phase that
-    /// waits and no stamp is missing.
+    /// The nanosecond since 1970 from which the wait of a roll is over, or `None` if the roll isn't
+    /// in a phase that waits or a stamp is missing.
     fn over_in_phase(&self, rolltype: RollType) -> Option<u128>
         ensures end { IfSome result (EndsAt rolltype self.now) }
         ensures none { IfNone result (HasNoWait rolltype self.now) }
@@ -90,12 +91,12 @@ impl KeySet {
         }
     }
 
-    /// When the wait of a roll is over, by the stamps that it reads: a tool can sleep until then.
+    /// When the wait of a roll is over, so that a tool can sleep until then.
     ///
-    /// `None` where the roll isn't in a phase that waits, or where a key that the wait checks lacks
-    /// its stamp. A wait at a moment before the end is told to wait for what is left until then,
-    /// but for no longer than the TTL that was reported; at the end and later it is accepted,
-    /// memory aside (RFC 7583, section 3). No memory is taken.
+    /// `None` if the roll isn't in a phase that waits, or if a key that the wait checks lacks its
+    /// stamp. A wait before this moment is refused with the time that is left, at most the TTL that
+    /// was reported. At this moment and later it is accepted, unless memory runs out (RFC 7583,
+    /// section 3). No memory is taken.
     ///
     /// ```rust
     /// if let Some(WaitEnd::At(end)) = &set.wait_end(RollType::ZskRoll) {

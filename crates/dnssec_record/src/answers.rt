@@ -13,9 +13,9 @@ use dnssec_keyset::Action;
 use dnssec_run::{Published, PublishedKey, Recorder, Reply};
 use std::alloc::{AllocError, Global};
 
-/// Makes the calls of the statements in turn on a new key set for the zone of this name, and tells
-/// what each is answered, then the sets that are published, and the verdict on the record. Of the
-/// record there is what a recorder and a judge keep, and of the calls the one whose turn it is.
+/// Makes the calls of the statements in turn on a new key set for the zone of this name. Says what
+/// each is answered, then which sets are published, and last the verdict on the record. At any time
+/// it keeps only one call, and of the record only what a recorder and a judge keep.
 pub(crate) fn answer(
     alloc: Global,
     name: Name<Vec<u8>>,

@@ -11,20 +11,20 @@ pub struct DeviceFault;
 
 /// A device that gives bytes.
 pub trait Source {
-    // The bytes that are left to give, where the device tells them.
+    // The bytes that are left to give, if the device says which.
     ghost left: { Self → Option (List ℕ) };
 
     // How often the device has failed.
     ghost faults: { Self → ℕ };
 
-    /// Reads the next bytes into the front of `buf`, and answers how many these are.
+    /// Reads the next bytes into the front of `buf`, and answers how many.
     ///
-    /// For a buffer that isn't empty the answer is 0 only at the end. The caller sees to it that
+    /// For a buffer that isn't empty the answer is 0 only at the end. The caller makes sure that
     /// the count of faults has room for one more.
     ///
     /// # Errors
     ///
-    /// `DeviceFault` where the device has failed. It gave nothing then, and the fault is counted.
+    /// `DeviceFault` if the device fails. It then gave nothing, and the fault is counted.
     fn read(&mut self, buf: &mut [u8]) -> Result<usize, DeviceFault>
         requires { faults self.old < u64.MAX }
         ensures bound { IfOk result (λ n. n ≤ length buf.new) }
@@ -38,18 +38,18 @@ pub trait Source {
 
 /// A device that takes bytes.
 pub trait Sink {
-    // The bytes that were taken, where the device tells them.
+    // The bytes that were taken, if the device says which.
     ghost taken: { Self → Option (List ℕ) };
 
     // How often the device has failed.
     ghost faults: { Self → ℕ };
 
-    /// Writes first bytes of `buf`, and answers how many were taken: at least one of a piece that
-    /// isn't empty. The caller sees to it that the count of faults has room for one more.
+    /// Writes bytes from the front of `buf`, and answers how many were taken: at least one if `buf`
+    /// isn't empty. The caller makes sure that the count of faults has room for one more.
     ///
     /// # Errors
     ///
-    /// `DeviceFault` where the device has failed. It took nothing then, and the fault is counted.
+    /// `DeviceFault` if the device fails. It then took nothing, and the fault is counted.
     fn write(&mut self, buf: &[u8]) -> Result<usize, DeviceFault>
         requires { faults self.old < u64.MAX }
         ensures bound { IfOk result (λ n. n ≤ length buf.now) }
@@ -62,8 +62,8 @@ pub trait Sink {
         ensures { result ≡ faults self.now };
 }
 
-/// A reader or a writer of the standard library as a device, which counts its errors. A write that
-/// takes nothing of a piece that isn't empty is one too.
+/// A reader or a writer of the standard library as a device that counts its errors. A write that
+/// takes nothing of bytes that it was given counts as an error too.
 ///
 /// ```rust
 /// let mut input = Std::new(script.as_bytes());
@@ -80,7 +80,7 @@ pub struct Std<T> {
 impl<T> Std<T> {
     ghost use Rattle.dnssec_record.specs.Std.{std_inner, std_faults};
 
-    /// A device over `inner`, which hasn't failed yet.
+    /// A device that reads or writes `inner`, and has not failed yet.
     pub fn new(inner: T) -> Self
         ensures inner { std_inner result ≡ inner }
         ensures faults { std_faults result ≡ 0 }
@@ -88,7 +88,7 @@ impl<T> Std<T> {
         Std { inner, faults: 0 }
     }
 
-    /// Gives back what the device was made over.
+    /// The reader or writer that the device was made from.
     pub fn into_inner(self) -> T
         ensures { result ≡ std_inner self }
     {

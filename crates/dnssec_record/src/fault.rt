@@ -36,7 +36,7 @@ impl ScriptFault {
 impl fmt::Display for ScriptFault {
     ghost output = { λ fault. Some (script_fault_text fault) };
 
-    /// Writes what a program tells its user, as `line 3: malformed`.
+    /// Writes what a program shows its user, as `line 3: malformed`.
     fn fmt<W: fmt::Write>(&self, f: &mut fmt::Formatter<W>) -> fmt::Result {
         match self {
             ScriptFault::Malformed(number) => write!(f, "line {number}: malformed"),

@@ -175,7 +175,7 @@ fn list(alloc: Global, text: &[u8]) -> Result<Option<Vec<&str>>, AllocError>
     references(alloc, &parts)
 }
 
-/// The texts as references, where all are.
+/// The texts as references, if each is one.
 fn references<'a>(alloc: Global, texts: &[&'a [u8]]) -> Result<Option<Vec<&'a str>>, AllocError>
     ensures { IfOk result (λ found. option_map (λ v. map now v.items) found
         ≡ if list_all is_reference (map now texts.now) then Some (map now texts.now) else None) }

@@ -1,5 +1,5 @@
-//! Recorded runs of a key set: lists of calls, what each answered and what was then published;
-//! the verdict on a record; and scripts, their text form.
+//! Recorded runs of a key set: lists of calls, what each call answered and what was then published;
+//! the verdict on a record; and scripts, which are lists of calls as text.
 #![tactic(auto)]
 
 mod answers;

@@ -66,12 +66,12 @@ fn line_feed(text: &[u8]) -> Option<usize>
     text.iter().position(|byte| *byte == b'\n')
 }
 
-/// The lines of a text, for who reads other lines than those of a script: a line feed at the very
-/// end only ends the last one.
+/// The lines of a text, for a caller who reads other lines than those of a script. A line feed at
+/// the very end only ends the last line.
 ///
 /// # Errors
 ///
-/// If there is no memory.
+/// `AllocError` if memory runs out.
 pub fn all_lines(alloc: Global, text: &[u8]) -> Result<Vec<&[u8]>, AllocError>
     ensures { IfOk result (λ lines. map now lines.items ≡ lines_of text.now) }
 {
@@ -116,8 +116,8 @@ fn zone_name(alloc: Global, text: &[u8]) -> Result<Option<Name<Vec<u8>>>, AllocE
     }
 }
 
-/// What the lines of a script say: the name of its zone, and a statement for each further line. Each
-/// line is read in turn, so that of a malformed script nothing is kept but the statements before it.
+/// What the lines of a script say: the name of its zone, and a statement for each line after that.
+/// A malformed line ends the reading, so only the statements before it take memory.
 pub(crate) fn read_script<'a>(
     alloc: Global,
     script: &'a [u8],
@@ -135,7 +135,7 @@ pub(crate) fn read_script<'a>(
     Ok((name, statements))
 }
 
-/// What each of the lines says, which stand from line 2 on.
+/// What each line from line 2 on says.
 fn read_statements<'a>(alloc: Global, lines: Lines<'a>) -> Result<Vec<Statement<'a>>, ScriptFault>
     ensures ok { IfOk result (λ statements.
         map Some (map statement_says statements.items) ≡ map says lines.entry) }

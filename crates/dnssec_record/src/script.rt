@@ -18,26 +18,26 @@ use crate::statement::calls_of;
 use dnssec_run::{Run, run};
 use std::alloc::Global;
 
-/// How many bytes are asked of the input at once.
+/// How many bytes the input is asked for at once.
 const PIECE: usize = 4096;
 
 /// Runs the script that `input` gives, and writes its answers to `output`.
 ///
-/// The whole input is read and checked before anything is run. Each call is answered on a line:
-/// `ok` with the actions that are due, or `refused: ` and the reason. A call that is refused
-/// doesn't stop the script. Then comes the line of the sets that are published at the end, and
-/// last the verdict on the record: `chain safe`, or `chain broken at=N ds=I dnskey=J zone=L` with
-/// the first sets without a chain. The verdict is there before the first byte is written.
+/// The whole input is read and checked before anything is run. Each call has a line with its
+/// answer: `ok` and the actions that are due, or `refused: ` and the reason. A refused call doesn't
+/// stop the script. After the answers comes a line with the sets that are published at the end. The
+/// last line is the verdict on the record: `chain safe`, or
+/// `chain broken at=N ds=I dnskey=J zone=L` with the first sets without a chain. Nothing is written
+/// before the verdict is known.
 ///
-/// `alloc` is where the script, its calls and the answers get their memory. The caller sees to it
-/// that the counts of faults of both devices have room for one more.
+/// `alloc` gives the memory for the script, its calls and the answers. The caller makes sure that
+/// the counts of faults of both devices have room for one more.
 ///
 /// # Errors
 ///
 /// - `Malformed` with the number of the first malformed line. Nothing was written.
-/// - `Device` where `input` or `output` has failed. What was written is a beginning of the
-///   answers.
-/// - `OutOfMemory` where memory runs out. Nothing was written.
+/// - `Device` if `input` or `output` fails. What was written is a beginning of the answers.
+/// - `OutOfMemory` if memory runs out. Nothing was written.
 ///
 /// ```rust
 /// let mut input = Std::new(rt.stdin());
@@ -54,18 +54,18 @@ pub fn run_script<R: Source, W: Sink>(
     requires input_counts { R.faults input.old < u64.MAX }
     requires output_counts { W.faults output.old < u64.MAX }
 
-    // An accepted input is a script, and what was taken is the output of a run of its calls.
+    // An accepted input is a script, and the output took what a run of its calls says.
     ensures ok { OnOk result (IfSome (R.left input.old)
         (λ script. TakesAnswer script (W.taken output.old) (W.taken output.new))) }
     ensures ok_end { OnOk result (IsAtEnd (R.left input.new)) }
 
-    // Where the list of its calls is plain, the run is safe, and the last line says so.
+    // If the list of its calls is plain, the run is safe, and the last line says so.
     ensures safe { OnOk result (IfSome (R.left input.old)
         (λ script. IsSafeAnswer script (W.taken output.old) (W.taken output.new))) }
     ensures chain { OnOk result (IfSome (R.left input.old)
         (λ script. EndsSafe script (W.taken output.old) (W.taken output.new))) }
 
-    // A malformed input is told by its first malformed line, and nothing is written.
+    // Of a malformed input the first malformed line is named, and nothing is written.
     ensures malformed { (n : ℕ) → result ≡ Err (ScriptFault.Malformed n) →
         IfSome (R.left input.old) (λ script. IsFirstMalformed script n) }
     ensures malformed_end { (n : ℕ) → result ≡ Err (ScriptFault.Malformed n) →
@@ -73,7 +73,7 @@ pub fn run_script<R: Source, W: Sink>(
     ensures malformed_silent { (n : ℕ) → result ≡ Err (ScriptFault.Malformed n) →
         Keeps (W.taken output.old) (W.taken output.new) }
 
-    // That memory ran out is told before anything is written.
+    // If memory runs out, nothing is written.
     ensures memory_silent { result ≡ Err OutOfMemory →
         Keeps (W.taken output.old) (W.taken output.new) }
 
@@ -82,11 +82,11 @@ pub fn run_script<R: Source, W: Sink>(
         (λ script. (name : List ℕ) (calls : List Call) → IsScript script name calls →
         (n : ℕ) → result ≢ Err (ScriptFault.Malformed n)) }
 
-    // A device is blamed exactly where one has failed.
+    // A device is blamed if and only if one has failed.
     ensures device { (result ≡ Err ScriptFault.Device)
         ↔ (R.faults input.old < R.faults input.new ⊎ W.faults output.old < W.faults output.new) }
 
-    // After a fault what was taken is at most a beginning of an answer.
+    // After a fault the output has taken at most a beginning of the answers.
     ensures begun { OnErr result
         (TakesAtMost (R.left input.old) (W.taken output.old) (W.taken output.new)) }
 {
@@ -126,13 +126,13 @@ fn answer_to(alloc: Global, script: &[u8]) -> Result<String, ScriptFault>
     Ok(text)
 }
 
-/// Runs the calls of a script, and hands out the run with its record, for a caller who looks at its
+/// Runs the calls of a script, and answers the run with its record, for a caller who looks at its
 /// positions. The whole script is checked before anything is run.
 ///
 /// # Errors
 ///
 /// - `Malformed` with the number of the first malformed line. Nothing was run.
-/// - `OutOfMemory` where there is no memory for the script or its record.
+/// - `OutOfMemory` if there is no memory for the script or its record.
 ///
 /// ```rust
 /// let run = record_script(alloc, script.as_bytes())?;

@@ -15,7 +15,7 @@ use dnssec_keyset::{RollType, UnixTime};
 use dnssec_run::Call;
 use std::alloc::{AllocError, Global};
 
-/// What a line says, in texts of the line itself.
+/// What a line says. Its texts are parts of the line.
 #[derive(Drop)]
 pub(crate) enum Statement<'a> {
     /// With the public reference of the key, and the private one.
@@ -38,7 +38,7 @@ pub(crate) enum Statement<'a> {
 }
 
 impl<'a> Statement<'a> {
-    /// The call that the line makes. An add gets texts of its own.
+    /// The call that the line makes. An add copies its texts.
     pub(crate) fn call<'s>(&'s self, alloc: Global) -> Result<Call<'s>, AllocError>
         ensures { IfOk result (λ call. call_says call ≡ statement_says self.now) }
     {
@@ -101,7 +101,7 @@ pub(crate) fn read_line<'a>(
     }
 }
 
-/// What the fields behind a word say.
+/// What the fields after a word say.
 fn behind<'a>(
     alloc: Global,
     word: Word,

@@ -1,7 +1,7 @@
 //! The words of a script: their names, and the calls that they make.
 //!
-//! A word stands in a group of those with the same fields behind them. A new word of a group is one
-//! more variant of it, with its name in `WORDS` and its call in the function of the group.
+//! Words that have the same fields after them form a group. A new word of a group is one more
+//! variant of its enum, with its name in `WORDS` and its call in the function of the group.
 ghost use Rattle.std.specs.Prelude.{◌≡◌, List, [], ◌∷◌, map, IfOk, Option, string_bytes};
 ghost use denote.Bor.{now};
 ghost use Rattle.std.specs.Option.{option_map};
@@ -40,7 +40,7 @@ pub(crate) enum AddWord {
     Csk,
 }
 
-/// The words that set a flag of a key, and ask for no moment.
+/// The words that set a flag of a key, and have no moment after them.
 #[derive(Clone, Copy)]
 pub(crate) enum FlagWord {
     Decoupled,
@@ -56,7 +56,7 @@ pub(crate) enum StampWord {
     RrsigVisible,
 }
 
-/// The words that say nothing but a key.
+/// The words that have only a key after them.
 #[derive(Clone, Copy)]
 pub(crate) enum KeyWord {
     SetStale,
@@ -104,7 +104,7 @@ impl Word {
     }
 }
 
-/// What an add says of its key, apart from its references.
+/// What an add says of its key, besides its references.
 #[derive(Drop)]
 pub(crate) struct KeyTraits {
     pub(crate) algorithm: SecurityAlgorithm,
@@ -132,7 +132,7 @@ impl AddWord {
         Ok(self.with_texts(pubref, privref, key))
     }
 
-    /// The same, with texts that the call may keep.
+    /// The same, with texts that belong to the call.
     fn with_texts<'a>(self, pubref: String, privref: Option<String>, key: &KeyTraits) -> Call<'a>
         ensures { call_says result ≡ (
           Word.Add self,
@@ -266,7 +266,7 @@ pub(crate) fn wait_call<'a>(half: Half, rolltype: RollType, now: UnixTime) -> Ca
 }
 
 impl EndWord {
-    /// The call that ends a roll so.
+    /// The call that ends a roll in this way.
     pub(crate) fn call<'a>(self, rolltype: RollType) -> Call<'a>
         ensures { call_says result ≡ (Word.End self, Roll rolltype ∷ []) }
     {

@@ -1,5 +1,5 @@
--- What a user of the key set needn't read. Of these the contracts that `dnssec_keyset` stands on
--- name `Kinds` and `Entries`, and so does what a contract sees of a `KeySet`: its lists.
+-- A user of the key set needn't read these. Contracts of `dnssec_zone` that `dnssec_keyset` calls
+-- name `Kinds` and `Entries`. So does what a contract sees of a `KeySet`: its lists.
 pub mod Code
 pub mod Change
 pub mod Tags

@@ -13,7 +13,7 @@ use Rattle.dnssec_key.specs.Key.{KeyParts}
 abbrev pub Keys : Type 0
 Keys = FinMap (slice_cmp nat_cmp) KeyParts
 
--- how they are stored, from how a key is
+-- how the keys are stored, given how one key is
 abbrev pub keys_code : Coded KeyParts → Coded Keys
 keys_code c = code (coded_list coded_ℕ) c
 
@@ -27,7 +27,7 @@ some_entry p keys = list_any (λ e. p e.0 e.1) (entries keys)
 
 -- ---- tags
 
--- some key has the tag, which no two may share here (RFC 4034, appendix B: two keys may)
+-- some key has the tag; here no two keys may share one (RFC 4034, appendix B, lets them)
 abbrev pub has_tag : ℕ → Keys → Bool
 has_tag tag = some_key (λ k. nat_eq k.key_tag tag)
 

@@ -1,4 +1,4 @@
--- What starts have listed, kept for rolls that may be ended early.
+-- What starts have listed. It is kept for rolls that may still be ended early.
 use Rattle.std.specs.Prelude.{ℕ, List, [], if◌then◌else◌, filter, not, Bool, false}
 use Rattle.std.specs.Str.{bytes_eq}
 use Rattle.std.specs.FinMap.{get}
@@ -40,7 +40,7 @@ listed_by lists ZskDoubleSignatureRoll = lists.zsk_double_signature_roll
 listed_by lists CskRoll = lists.csk_roll
 listed_by lists AlgorithmRoll = lists.algorithm_roll
 
--- the lists that f tells
+-- the lists that f gives
 abbrev pub lists_by : (RollType → Listed) → Lists
 lists_by f = record {
   ksk_roll = f KskRoll;
@@ -55,7 +55,7 @@ lists_by f = record {
 abbrev pub no_lists : Lists
 no_lists = lists_by (λ roll. nothing_listed)
 
--- the lists with those of one roll put in place
+-- the lists with these put in for one roll
 abbrev pub with_listed : Lists → RollType → Listed → Lists
 with_listed lists roll listed =
     lists_by (λ other. if same_roll roll other then listed else listed_by lists other)

@@ -18,7 +18,7 @@ use Rattle.dnssec_zone.specs.Keys.{Keys, has_tag}
 
 -- ---- of keys
 
--- why an add is refused for its reference, with the key that has it
+-- why an add is refused for its reference, given the key that has it
 abbrev pub reference_refusal : Option KeyParts → Option Error
 reference_refusal found = if is_some found then Some KeyExists else None
 
@@ -27,7 +27,7 @@ abbrev pub add_refusal : Keys → List ℕ → ℕ → Option Error
 add_refusal keys reference tag =
     if has_tag tag keys then Some DuplicateKeyTag else reference_refusal (get keys reference)
 
--- why a setter is refused, with the key that it names
+-- why a setter is refused, given the key that it names
 abbrev pub setting_refusal : Setting → Option KeyParts → Option Error
 setting_refusal setting None = Some KeyNotFound
 setting_refusal setting (Some k) = kind_refusal setting k.keytype
@@ -39,7 +39,7 @@ deletion_refusal (Some k) = if all_states is_stale k.keytype then None else Some
 
 -- ---- of rolls
 
--- why a report is refused: it belongs to the phase of its change
+-- why a report is refused: it belongs to the phase in which its change spreads
 abbrev pub report_refusal : Half → Option RollState → Option Error
 report_refusal First (Some Propagation1) = None
 report_refusal Second (Some Propagation2) = None
@@ -50,8 +50,7 @@ abbrev pub end_refusal : Option RollState → Option Error
 end_refusal (Some Finishing) = None
 end_refusal _ = Some WrongStateForRollOperation
 
--- why a roll can't be ended early: only until its first report, as from then on caches may hold
--- what its start changed
+-- why an early end is refused: after the first report caches may hold what the start changed
 abbrev pub early_end_refusal : Option RollState → Option Error
 early_end_refusal (Some Propagation1) = None
 early_end_refusal _ = Some WrongStateForRollOperation

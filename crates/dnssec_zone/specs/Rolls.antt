@@ -8,7 +8,7 @@ use Rattle.dnssec_key.specs.declared.roll.RollType.TheVariants.{KskRoll, KskDoub
 use Rattle.dnssec_key.specs.declared.roll.RollType.TheVariants.{ZskDoubleSignatureRoll, CskRoll}
 use Rattle.dnssec_key.specs.declared.roll.RollType.TheVariants.{AlgorithmRoll}
 
--- the phase of each roll, where it is in progress
+-- the phase of each roll, if it is in progress
 pub record Rolls : Type 0 where
   pub ksk_roll : Option RollState
   pub ksk_double_ds_roll : Option RollState
@@ -17,7 +17,7 @@ pub record Rolls : Type 0 where
   pub csk_roll : Option RollState
   pub algorithm_roll : Option RollState
 
--- the phase of one roll, where it is in progress
+-- the phase of one roll, if it is in progress
 abbrev pub phase_of : Rolls → RollType → Option RollState
 phase_of r KskRoll = r.ksk_roll
 phase_of r KskDoubleDsRoll = r.ksk_double_ds_roll
@@ -26,7 +26,7 @@ phase_of r ZskDoubleSignatureRoll = r.zsk_double_signature_roll
 phase_of r CskRoll = r.csk_roll
 phase_of r AlgorithmRoll = r.algorithm_roll
 
--- the rolls whose phases f tells
+-- the rolls whose phases f gives
 abbrev pub rolls_by : (RollType → Option RollState) → Rolls
 rolls_by f = record {
   ksk_roll = f KskRoll;
@@ -41,7 +41,7 @@ rolls_by f = record {
 abbrev pub no_rolls : Rolls
 no_rolls = rolls_by (λ roll. None)
 
--- a number for each roll, by which rolls are told apart
+-- a number for each roll, to tell rolls apart
 abbrev pub roll_number : RollType → ℕ
 roll_number KskRoll = 0
 roll_number KskDoubleDsRoll = 1

@@ -1,5 +1,5 @@
 -- Why a start is refused: another roll, an old entry, a new entry, the algorithms, or no key to go
--- on with (RFC 6781, section 4.1). All of it is said of the keys and rolls before the call.
+-- on with (RFC 6781, section 4.1). All is said of the keys and rolls before the call.
 use Rattle.std.specs.Prelude.{Bool, true, false, not, ◌&&◌, is_some, Option, None, Some}
 use Rattle.std.specs.Prelude.{if◌then◌else◌, ℕ, List, map, [], ◌∷◌, ◌||◌, ◌++◌, nat_eq}
 use Rattle.std.specs.List.{list_any, list_all}
@@ -25,7 +25,7 @@ use Rattle.dnssec_zone.specs.Keys.{Keys, some_entry}
 
 -- ---- rolls side by side
 
--- which keys a roll changes: KSKs alone, ZSKs alone, or KSKs, ZSKs and CSKs
+-- which keys a roll changes: only KSKs, only ZSKs, or KSKs, ZSKs and CSKs
 pub data Side : Type 0 where
   KskSide : Side
   ZskSide : Side
@@ -40,7 +40,7 @@ side_of ZskDoubleSignatureRoll = ZskSide
 side_of CskRoll = BothSides
 side_of AlgorithmRoll = BothSides
 
--- one side is that of KSKs alone, and the other that of ZSKs alone
+-- one side has only KSKs, and the other only ZSKs
 abbrev pub are_apart : Side → Side → Bool
 are_apart KskSide ZskSide = true
 are_apart ZskSide KskSide = true
@@ -50,7 +50,7 @@ are_apart ZskSide ZskSide = false
 are_apart ZskSide BothSides = false
 are_apart BothSides _ = false
 
--- two rolls go together where one changes KSKs alone, the other ZSKs alone
+-- two rolls go together if one changes only KSKs, the other only ZSKs
 abbrev pub together : RollType → RollType → Bool
 together roll other = are_apart (side_of roll) (side_of other)
 
@@ -59,7 +59,7 @@ abbrev pub has_conflict : RollType → Rolls → Bool
 has_conflict roll rolls =
     list_any (λ other. is_some (phase_of rolls other) && not (together roll other)) all_rolls
 
--- the same roll in progress, or one beside which this may not begin
+-- the same roll is in progress, or one beside which this roll may not begin
 unfoldable pub conflict : RollType → Rolls → Option Error
 conflict roll rolls =
     if is_some (phase_of rolls roll) then Some WrongStateForRollOperation
@@ -81,7 +81,7 @@ lists_kind KskSide = ksk is_any
 lists_kind ZskSide = zsk is_any
 lists_kind BothSides = any_key is_any
 
--- what is wrong with an old entry, with the key that it names
+-- what is wrong with an old entry, given the key that it names
 abbrev pub old_entry_fault : RollType → Option KeyParts → Option Error
 old_entry_fault roll None = Some KeyNotFound
 old_entry_fault roll (Some k) =
@@ -92,7 +92,7 @@ abbrev pub old_fault : RollType → (List ℕ → Option KeyParts) → List (Lis
 old_fault roll at [] = None
 old_fault roll at (q ∷ qs) = option_or (old_entry_fault roll (at q)) (old_fault roll at qs)
 
--- what is wrong with a new entry; taken: it stands in a list before
+-- what is wrong with a new entry; `taken`: it was listed before
 abbrev pub new_entry_fault : RollType → Option KeyParts → Bool → Option Error
 new_entry_fault roll None taken = Some KeyNotFound
 new_entry_fault roll (Some k) taken =
@@ -100,7 +100,7 @@ new_entry_fault roll (Some k) taken =
     then (if all_states is_fresh k.keytype && not taken then None else Some WrongKeyState)
     else Some WrongKeyType
 
--- the first fault among the new entries, those before them given
+-- the first fault among the new entries, given those listed before them
 abbrev pub new_fault : RollType → (List ℕ → Option KeyParts)
     → List (List ℕ) → List (List ℕ) → List (List ℕ) → Option Error
 new_fault roll at olds earlier [] = None
@@ -139,8 +139,8 @@ algorithm_fault roll at olds news =
 
 -- ---- the keys to go on with
 
--- a key that a start has to leave: a KSK in the DNSKEY set or one with a DS, a ZSK in the DNSKEY
--- set, or there a KSK or CSK, or a ZSK or CSK
+-- a key that a start has to leave: a KSK in the DNSKEY set, a KSK with a DS, a ZSK in the DNSKEY
+-- set; or there a KSK or CSK, or a ZSK or CSK
 pub data Want : Type 0 where
   PresentKsk : Want
   KskAtParent : Want
@@ -181,7 +181,7 @@ some_listed p at qs = list_any (λ q. option_map_or (λ k. p k.keytype) (at q) f
 abbrev pub some_kept : (KeyType → Bool) → Keys → List (List ℕ) → Bool
 some_kept p keys olds = some_entry (λ q k. p k.keytype && not (is_listed olds q)) keys
 
--- a new key serves so, or a key that isn't listed as old
+-- a new key serves, or a key that isn't listed as old
 abbrev pub is_met : Keys → List (List ℕ) → List (List ℕ) → Want → Bool
 is_met keys olds news want =
     some_listed (serves_as_new want) (get keys) news || some_kept (serves_as_kept want) keys olds

@@ -1,7 +1,7 @@
 -- When a wait is over, and what bars it until then. A wait checks keys, each by the stamp of the
--- event that it waits on: old data is gone from the caches once the reported TTL has passed since
--- (RFC 6781, section 4.1: data of earlier versions of the zone lives on in caches; RFC 7583,
--- section 3: the interval is a TTL from the event on).
+-- event that it waits on: once the reported TTL has passed since the event, old data is gone from
+-- the caches (RFC 6781, section 4.1: data of earlier versions of the zone lives on in caches; RFC
+-- 7583, section 3: the interval is a TTL from the event on).
 use Rattle.std.specs.Prelude.{ℕ, Option, None, Some, ◌*◌, ◌-◌, Bool, ◌&&◌, is_none, if◌then◌else◌}
 use Rattle.std.specs.Prelude.{max, map, nat_eq, ◌≡◌, ◌≤◌, ◌<◌, min}
 use Rattle.std.specs.Option.{option_map_or}
@@ -18,7 +18,7 @@ use Rattle.dnssec_key.specs.declared.roll.RollType.{RollType}
 use Rattle.dnssec_key.specs.Key.{KeyParts}
 use Rattle.dnssec_zone.specs.Keys.{Keys, some_key}
 
--- the TTL that this half of a roll waits for, in that phase alone
+-- the TTL that this half of a roll waits for; it has one only in its phase of waiting
 abbrev pub ttl_in : Half → Option RollState → Option ℕ
 ttl_in First (Some (CacheExpire1 ttl)) = Some ttl
 ttl_in Second (Some (CacheExpire2 ttl)) = Some ttl
@@ -28,7 +28,7 @@ ttl_in half _ = None
 abbrev pub stamp_read : RollType → Half → KeyParts → Option ℕ
 stamp_read roll half k = stamp_named (half_of roll half).reads k.timestamps
 
--- the nanoseconds left of a wait of ttl seconds since a stamp: all of them up to its moment
+-- the nanoseconds left of a wait of ttl seconds since a stamp; before the stamp, all of them
 abbrev pub left_since : ℕ → ℕ → ℕ → ℕ
 left_since ttl now stamp = ttl * 1_000_000_000 - (now - stamp)
 
@@ -37,8 +37,8 @@ abbrev pub lacks_stamp : RollType → Half → KeyParts → Bool
 lacks_stamp roll half k =
     (half_of roll half).checks k.keytype && is_none (stamp_read roll half k)
 
--- the nanoseconds left for a key: 0 for one that the wait doesn't check. (Also 0 for one that lacks
--- its stamp, but that bars the wait before any time is asked for.)
+-- the nanoseconds left for a key; 0 for one that the wait doesn't check. It is also 0 for a key
+-- that lacks its stamp, but that bars the wait before any time is asked for.
 abbrev pub time_left : RollType → Half → ℕ → ℕ → KeyParts → ℕ
 time_left roll half ttl now k =
     if (half_of roll half).checks k.keytype
@@ -51,35 +51,35 @@ longest_left roll half ttl now keys = fold max 0 (map (time_left roll half ttl n
 
 -- ---- what bars a call, or clears it
 
--- whether a call may be made: barred by a cause; too early by so many nanoseconds, a wait alone; or
--- clear
+-- whether a call may be made: barred by a cause; too early by so many nanoseconds, which is so only
+-- for a wait; or clear
 pub data Clearance : Type 0 where
   Barred : Error → Clearance
   Early : ℕ → Clearance
   Clear : Clearance
 
--- barred by the cause, or clear where there is none
+-- barred by the cause, or clear if there is none
 abbrev pub barred_by : Option Error → Clearance
 barred_by None = Clear
 barred_by (Some cause) = Barred cause
 
--- too early by what is left, or clear where nothing is
+-- too early by what is left, or clear if nothing is
 abbrev pub early_by : ℕ → Clearance
 early_by left = if nat_eq left 0 then Clear else Early left
 
--- a wait, by the TTL that it waits for: barred in a phase that has none, and where some key lacks
--- its stamp; else too early by the longest that is left for a key
+-- a wait, by the TTL that it waits for: barred if its phase has none, or if some key lacks its
+-- stamp; else too early by the longest time that is left for a key
 abbrev pub wait_in_phase : RollType → Half → Option ℕ → ℕ → Keys → Clearance
 wait_in_phase roll half None now keys = Barred WrongStateForRollOperation
 wait_in_phase roll half (Some ttl) now keys =
     if some_key (lacks_stamp roll half) keys then Barred WrongKeyState
     else early_by (longest_left roll half ttl now keys)
 
--- ---- from when on it is over
+-- ---- the moment from which a wait is over
 
--- a wait of ttl seconds is over from `end` on. Before, it is told what is left until then, but no
--- more than the TTL: so it is told where the moment lies before the event that is waited on. (Of a
--- TTL of 0 nothing is ever left, and `end` is 0.)
+-- A wait of ttl seconds is over from `end` on. Before, its answer says what is left until then, but
+-- at most the TTL; the TTL is said if now lies before the event. (Of a TTL of 0 nothing is ever
+-- left, and `end` is 0.)
 pub record IsOverFrom (roll : RollType) (half : Half) (ttl : ℕ) (keys : Keys) (end : ℕ) : Type 0
   where
     pub early : (now : ℕ) → now < end →

@@ -1,5 +1,4 @@
--- A name while its text is read, which the contracts of the reader's steps speak of. No public
--- clause does.
+-- A name while its text is read, for the contracts of the reader's steps. No public clause uses it.
 use Rattle.std.specs.Prelude.{◌≡◌, ◌⊎◌, ℕ, ◌+◌, ◌-◌, ◌<◌, ◌≤◌}
 use Rattle.std.specs.Prelude.{List, [], ◌++◌, take, drop, slice_index, length}
 use Rattle.dnssec_base.specs.Inner.DraftName.{DraftName}
@@ -9,15 +8,16 @@ use Rattle.dnssec_base.specs.declared.name.draft.Draft.TheInside.{Inside}
 use Rattle.dnssec_base.specs.declared.name.error.NameError.{NameError}
 use Rattle.dnssec_base.specs.declared.name.error.NameError.TheVariants.{LongLabel, LongName}
 
--- the labels that have ended, and behind the byte for its length the label that has not
+-- the labels that have ended, and the label that has not, which stands after the byte for its
+-- length
 abbrev pub draft_of : Inside → DraftName
 draft_of d = record {
   labels = take d.head d.octets;
   label = take (d.len - (d.head + 1)) (drop (d.head + 1) d.octets);
 }
 
--- The last label's length is yet to be written: there is a zero, which is the root's where the
--- label stays empty. A label that has bytes leaves room for the root.
+-- The last label's length is still to be written, and a zero stands there. If the label stays
+-- empty, that zero is the root. A label that has bytes leaves room for the root.
 pub record IsDraft (d : Inside) : Type 0 where
   pub begun : d.head < d.len
   pub zero_length : slice_index d.octets d.head ≡ 0
@@ -30,7 +30,7 @@ pub record HasRoom (d : DraftName) : Type 0 where
   pub in_label : length d.label < 63
   pub in_name : length (d.labels ++ wire_label d.label) + 2 ≤ 255
 
--- the limit that one more byte would pass, that of the label before that of the name
+-- the limit that one more byte would pass: first that of the label, then that of the name
 abbrev pub IsLimit : NameError → DraftName → Type 0
 IsLimit error d =
     ((error ≡ LongLabel) × (length d.label ≡ 63))

@@ -1,4 +1,4 @@
--- The pieces of a text, which the contracts of the reader's steps speak of. No public clause does.
+-- The pieces of a text, for the contracts of the reader's steps. No public clause uses them.
 use Rattle.std.specs.Prelude.{◌≡◌, ◌⊎◌, ℕ, ◌≤◌, List, ◌∷◌, ◌++◌}
 use Rattle.dnssec_base.specs.NameText.{IsSymbol, IsDigit, IsVisible, BeginsWith}
 use Rattle.dnssec_base.specs.NameText.{BeginsWithSymbol, decimal_of, dot, backslash}
@@ -19,7 +19,7 @@ pub record IsDecimal (byte : ℕ) (text after : List ℕ) : Type 0 where
   pub byte_is : byte ≡ decimal_of x y z
   pub fits : byte ≤ 255
 
--- behind a backslash the text is a symbol for this byte, and then this rest
+-- after a backslash the text is a symbol for this byte, and then this rest
 pub record IsEscape (byte : ℕ) (text after : List ℕ) : Type 0 where
   pub escape : List ℕ
   pub symbol : IsSymbol (backslash ∷ escape) byte

@@ -1,5 +1,5 @@
-//! The wire bytes of a name while its text is read. They take no memory but the stack's, so that
-//! lack of memory is no answer to a text with a fault.
+//! The wire bytes of a name while its text is read. They stand on the stack, so a text with a fault
+//! is never answered by lack of memory.
 ghost use Rattle.std.specs.Prelude.{◌≡◌, ◌≢◌, [], ◌∷◌, ◌++◌, length, OnOk, IfErr};
 ghost use Rattle.dnssec_base.specs.Inner.Draft.{HasRoom, IsLimit};
 ghost use Rattle.dnssec_base.specs.NameText.{wire_end};
@@ -9,7 +9,7 @@ use super::NameError;
 use super::wire::{MAX_LABEL, MAX_NAME};
 use std::marker::Model;
 
-/// Labels that have ended and one that has not, whose length is still to be written.
+/// Labels that have ended, and a last one that has not: its length is still to be written.
 #[derive(Drop)]
 pub struct Draft {
     octets: [u8; MAX_NAME],

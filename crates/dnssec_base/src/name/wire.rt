@@ -15,7 +15,7 @@ pub fn is_wire_name(octets: &[u8]) -> bool
     octets.len() <= MAX_NAME && are_labels(octets)
 }
 
-/// Whether these bytes are whole labels up to the root, which ends them.
+/// Whether these bytes are whole labels, ended by the root.
 #[tactic(auto, using(crate::proofs::WireLabels::label_front))]
 fn are_labels(octets: &[u8]) -> bool
     ensures { IsTrue result ↔ AreLabels 0 octets.now }
@@ -34,7 +34,7 @@ pub fn split_label(octets: &[u8]) -> Option<(&[u8], &[u8])>
     ensures split { IfSome result (λ split.
         octets.now ≡ wire_label split.0.now ++ split.1.now) }
 
-    // The root alone has no label at its front.
+    // Only the root has no label at its front.
     ensures root { IsNone result → AreLabels 0 octets.now → octets.now ≡ 0 ∷ [] }
 {
     let (&length, after) = octets.split_first()?;

@@ -4,6 +4,6 @@ use Rattle.std.specs.Option.{option_map}
 use Rattle.dnssec_key.specs.Inner.Bits.{is_set}
 use Rattle.dnssec_key.specs.declared.tag_index.TagIndex.{TagIndex}
 
--- whether a tag is in use, where there is an index
+-- whether a tag is in use; nothing if there is no index
 abbrev pub has : TagIndex → ℕ → Option Bool
 has index t = option_map (λ tags. is_set tags.value t) index.tags

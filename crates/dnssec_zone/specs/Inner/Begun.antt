@@ -15,12 +15,12 @@ IsKnown (Some wait) keys =
     IfSome wait.over (IsOverFrom wait.roll (which wait.half) wait.ttl keys)
     × IfNone wait.over (LacksStamp wait.roll (which wait.half) wait.ttl keys)
 
--- all that it sees of a key: from when on nothing is left for the key
+-- all that the wait sees of a key: the moment from which nothing is left for the key
 abbrev pub over_for : Option BegunWait → KeyParts → Option ℕ
 over_for None k = None
 over_for (Some wait) k = over_at wait.roll (which wait.half) wait.ttl k
 
--- what is known of it once a key has changed: as much as before where it sees the key as it was
+-- what is known of the wait after a key has changed: as much as before, if the wait sees no change
 abbrev pub begun_after : Option BegunWait → KeyParts → KeyParts → Option BegunWait
 begun_after begun old new =
     if option_eq nat_eq (over_for begun new) (over_for begun old) then begun else None

@@ -1,4 +1,4 @@
--- A change of one key, of the inside of the crate.
+-- A change of one key, for the inside of the crate.
 use Rattle.dnssec_key.specs.Key.{KeyParts}
 use Rattle.dnssec_key.specs.RollTable.{old_at_start, new_at_start}
 use Rattle.dnssec_zone.specs.declared.keys.Change.{Change}

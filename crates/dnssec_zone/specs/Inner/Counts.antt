@@ -55,7 +55,7 @@ count_of c PresentZsk = c.present_zsk
 count_of c PresentKskRole = c.present_ksk_role
 count_of c PresentZskRole = c.present_zsk_role
 
--- the counts that f tells
+-- the counts that f gives
 abbrev pub counts_by : (Want → ℕ) → Counts
 counts_by f = record {
   present_ksk = f PresentKsk;
@@ -65,11 +65,11 @@ counts_by f = record {
   present_zsk_role = f PresentZskRole;
 }
 
--- those of no keys
+-- the counts of no keys
 abbrev pub no_counts : Counts
 no_counts = counts_by (λ w. 0)
 
--- where a key serves, one more as it comes in, up to the greatest number that is kept, and one less
+-- a key that serves adds one as it comes in, up to the greatest number that is kept, and takes one
 -- as it goes out
 abbrev pub one_step : Bool → Step → ℕ → ℕ
 one_step false step n = n
@@ -80,24 +80,24 @@ one_step true Out n = n - 1
 abbrev pub counts_stepped : Step → KeyType → Counts → Counts
 counts_stepped step t c = counts_by (λ w. one_step (serves_as_kept w t) step (count_of c w))
 
--- those with one key more
+-- the counts with one key more
 abbrev pub with_key : KeyType → Counts → Counts
 with_key = counts_stepped In
 
--- those with one key less
+-- the counts with one key less
 abbrev pub without_key : KeyType → Counts → Counts
 without_key = counts_stepped Out
 
--- a setter may move them: none of them asks whether a key signs
+-- a setter may change the counts; none of them asks whether a key signs
 abbrev pub moves_counts : Setting → Bool
 moves_counts (Present value now) = true
 moves_counts (AtParent value) = true
 moves_counts Stale = true
 moves_counts _ = false
 
--- a wait may move them: by it a DS follows its key, or keys come in for others; and an algorithm
--- roll takes the ZSK role of a CSK from the DNSKEY set by its KSK role. The other waits change no
--- flag that a count asks for of a key that stays
+-- A wait may change the counts. By it a DS follows its key, or keys come in for others; and an
+-- algorithm roll takes the ZSK role of a CSK out of the DNSKEY set by its KSK role. The other waits
+-- change no flag that a count asks for in a key that stays.
 abbrev pub wait_moves_counts : RollType → Half → Bool
 wait_moves_counts KskRoll First = true
 wait_moves_counts KskDoubleDsRoll First = true

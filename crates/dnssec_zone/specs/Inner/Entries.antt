@@ -1,5 +1,5 @@
--- What starts have listed, as it is kept: the tag of each key, with its roll, and as what it is
--- listed.
+-- What starts have listed, as it is kept: the tag of each key, its roll, and whether it is listed
+-- as old or new.
 use Rattle.std.specs.Prelude.{◌≡◌, ℕ, Bool, true, false, not, ◌&&◌, nat_eq, List, [], ◌∷◌, ◌++◌}
 use Rattle.std.specs.Prelude.{if◌then◌else◌, Option, None, Some, map, filter}
 use Rattle.std.specs.List.{list_any}
@@ -62,7 +62,7 @@ abbrev pub entries_after_report : RollType → Half → List Entry → List Entr
 entries_after_report roll First es = without_roll roll es
 entries_after_report roll Second es = es
 
--- ---- the lists of references that are meant
+-- ---- the lists of references that the entries mean
 
 abbrev pub first_with : ℕ → List (List ℕ × KeyParts) → List ℕ
 first_with tag [] = []

@@ -1,4 +1,4 @@
--- Of which kinds the new keys of a start are: whether one serves depends on no more.
+-- The kinds of the new keys of a start. Whether a new key serves depends only on its kind.
 use Rattle.std.specs.Prelude.{◌≡◌, ℕ, Bool, ◌||◌, Option, List}
 use Rattle.dnssec_key.specs.Key.{KeyParts}
 use Rattle.dnssec_zone.specs.declared.side.Kinds.{Kinds}
@@ -15,7 +15,7 @@ some_serves kinds PresentZsk = kinds.zsk
 some_serves kinds PresentKskRole = kinds.ksk || kinds.csk
 some_serves kinds PresentZskRole = kinds.zsk || kinds.csk
 
--- the kinds are those of the listed keys, by all that a start asks
+-- the kinds are those of the listed keys, as far as a start asks
 abbrev pub AreOf : (List ℕ → Option KeyParts) → List (List ℕ) → Kinds → Type 0
 AreOf at qs kinds = (w : Want) → some_serves kinds w ≡ some_listed (serves_as_new w) at qs
 

@@ -1,4 +1,4 @@
--- From when on a wait is over, for one key and for all.
+-- The moment from which a wait is over, for one key and for all.
 use Rattle.std.specs.Prelude.{ℕ, ◌+◌, ◌*◌, Option, Some, if◌then◌else◌, max, nat_eq}
 use Rattle.std.specs.Option.{option_and_then, option_map, option_map_or}
 use Rattle.dnssec_key.specs.declared.roll.RollType.{RollType}
@@ -6,20 +6,20 @@ use Rattle.dnssec_key.specs.Key.{KeyParts}
 use Rattle.dnssec_key.specs.RollTable.{Half, half_of}
 use Rattle.dnssec_zone.specs.Wait.{stamp_read}
 
--- the moment from which nothing is left of a wait of ttl seconds since a stamp: the first of all
--- where the TTL is 0, as no cache keeps data then
+-- the moment from which nothing is left of a wait of ttl seconds since a stamp; if the TTL is 0,
+-- the first moment of all, as no cache keeps data then
 abbrev pub over_since : ℕ → ℕ → ℕ
 over_since ttl stamp = if nat_eq ttl 0 then 0 else stamp + ttl * 1_000_000_000
 
--- the moment from which nothing is left for a key: the first of all for one that the wait doesn't
--- check, and unknown for one that lacks its stamp
+-- the moment from which nothing is left for a key; the first moment of all for a key that the wait
+-- doesn't check, and unknown for one that lacks its stamp
 abbrev pub over_at : RollType → Half → ℕ → KeyParts → Option ℕ
 over_at roll half ttl k =
     if (half_of roll half).checks k.keytype
     then option_map (over_since ttl) (stamp_read roll half k)
     else Some 0
 
--- the later of the moment so far and of a key's, where both are known
+-- the later of the moment so far and that of a key, if both are known
 abbrev pub over_with : RollType → Half → ℕ → Option ℕ → KeyParts → Option ℕ
 over_with roll half ttl a k =
     option_and_then (λ x. option_map (λ y. max x y) (over_at roll half ttl k)) a

@@ -1,4 +1,4 @@
--- Sets of key tags: of those in use, and of listed keys.
+-- Sets of key tags: the tags in use, and those of listed keys.
 use Rattle.std.specs.Prelude.{◌≡◌, ℕ, Bool, false, Option, None, Some, List, IfSome}
 use Rattle.std.specs.FinMap.{get}
 use Rattle.dnssec_key.specs.Key.{KeyParts}
