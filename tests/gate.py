@@ -1,8 +1,8 @@
 #!/usr/bin/env python3
-"""The gate: `tests/docs.py`, then `rt ci`, beside its first proofs `tests/runbooks.py`, and beside
-its edits `tests/memory.py`, `tests/sets.py`, `tests/notes.py`, `tests/library.py` and
-`tests/command.py`. Before the last line of `rt ci` it tells when, in minutes and seconds since the
-start, each step was done, so that a rise is seen."""
+"""The gate: `tests/docs.py` and `tests/release.py`, then `rt ci`. Beside its first proofs runs
+`tests/runbooks.py`, and beside its edits run `tests/memory.py`, `tests/sets.py`, `tests/notes.py`,
+`tests/library.py` and `tests/command.py`. Before the last line of `rt ci` it tells when, in minutes
+and seconds since the start, each step was done, so that a rise is seen."""
 
 import os
 import re
@@ -124,9 +124,10 @@ def prove(behind):
 
 
 def main():
-    if subprocess.run([TOP / "tests" / "docs.py"]).returncode:
-        return 1
-    note("docs")
+    for name in ("docs", "release"):
+        if subprocess.run([TOP / "tests" / f"{name}.py"]).returncode:
+            return 1
+        note(name)
     # At low priority: each crate waits for the proofs of those below it.
     runbooks = Beside("runbooks", under=["nice"])
     runbooks.start()

@@ -21,6 +21,7 @@ import time
 from pathlib import Path
 
 import long
+import release
 from tools import CRATES, STRICT, TOP, Wrong, run
 
 LIBRARY = TOP / "library"
@@ -243,6 +244,21 @@ def test_long(keyset):
     return f"long scripts: {'; '.join(names)}"
 
 
+def test_frozen(keyset):
+    """What a release answered, the program and the library answer."""
+    count = 0
+    for version in release.frozen():
+        for name, script, told in release.frozen_scripts(version):
+            for answerer, given in (
+                ("program", as_program(script.encode())),
+                ("library", as_library(keyset, script.encode())),
+            ):
+                if given != (0, told, ""):
+                    raise Wrong(f"{name}: the {answerer} doesn't answer as release {version} did")
+            count += 1
+    return f"{count} frozen scripts answered as by their releases"
+
+
 def test_devices():
     """A full disk, a pipe that nobody reads, and a folder to read from end the program with
     status 2 and its text."""
@@ -313,6 +329,7 @@ def test(folder, room):
     keyset = python_module(folder)
     yield test_resumed(keyset)
     yield test_damaged(keyset)
+    yield test_frozen(keyset)
     yield test_long(keyset)
     yield test_devices()
 

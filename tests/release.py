@@ -1,0 +1,144 @@
+#!/usr/bin/env python3
+"""Tests what a release says of itself, without a build.
+
+    tests/release.py             compares, and fails with each difference
+    tests/release.py --freeze    stores the scripts of a new release
+
+- `VERSION` has the number of the release, and whoever else names it has the same.
+- The newest release of `CHANGELOG.md` is this one.
+- `tests/frozen/N/` has the scripts of release N with their answers, and they are answered the same
+  today: here by the tables of `replay/`, and by the program and the library in `tests/library.py`.
+- Each word of these scripts has its version in `docs/SCRIPTS.md`, which is none after N.
+"""
+
+import re
+import sys
+from pathlib import Path
+
+sys.dont_write_bytecode = True
+TOP = Path(__file__).resolve().parent.parent
+sys.path.insert(0, str(TOP / "replay"))
+
+import compare  # noqa: E402
+from make_sample import examples  # noqa: E402
+from make_scripts import by_hand, read_scripts  # noqa: E402
+from tables import KeySet, answers  # noqa: E402
+
+FROZEN = TOP / "tests" / "frozen"
+STORED = TOP / "replay" / "scripts.txt"
+
+# Who names the release, and how. (`keyset.pc` and the library have the number of VERSION itself.)
+NAMED = {
+    "library/keyset.h": r'#define KEYSET_RELEASE "(.*)"',
+    "library/rust/Cargo.toml": r'version = "(.*)"',
+    "library/rust/Cargo.lock": r'name = "keyset"\nversion = "(.*)"',
+    "library/python/keyset/__init__.py": r'__version__ = "(.*)"',
+    "command/pyproject.toml": r'version = "(.*)"',
+}
+CHANGES = re.compile(r"^## \[?(?P<version>[\w.]+)", re.MULTILINE)
+# A word of a script in the table of SCRIPTS, and the version that brought it.
+WORD = re.compile(r"^\| `(?P<word>[\w-]+)[^|]*\|[^|]*\| (?P<since>\d+\.\d+\.\d+) \|$", re.MULTILINE)
+
+
+def release():
+    return (TOP / "VERSION").read_text().rstrip("\n")
+
+
+def order(version):
+    """By this versions are compared: 1.10.0 comes after 1.9.0."""
+    return [int(part) for part in version.split(".")]
+
+
+def differing_names(version):
+    for path, form in NAMED.items():
+        found = re.search(f"^{form}$", (TOP / path).read_text(), re.MULTILINE)
+        if found is None:
+            yield f"{path} names no release"
+        elif found[1] != version:
+            yield f"{path} has {found[1]}, and VERSION has {version}"
+
+
+def unlisted_changes(version):
+    listed = CHANGES.findall((TOP / "CHANGELOG.md").read_text())
+    if [name for name in listed if name != "Unreleased"][:1] != [version]:
+        yield f"the newest release of CHANGELOG.md isn't {version}"
+
+
+def frozen():
+    """The releases with frozen scripts."""
+    return sorted((path.name for path in FROZEN.iterdir() if path.is_dir()), key=order)
+
+
+def frozen_scripts(version):
+    """The scripts of a release, by their names: each with the lines of its answers."""
+    parts = (FROZEN / version / "scripts.txt").read_text().split("\n== ")[1:]
+    for part in parts:
+        name, _, rest = part.partition("\n")
+        script, _, told = rest.partition("-- answers\n")
+        yield name, script, told.rstrip("\n") + "\n"
+
+
+def other_answers(version):
+    names = []
+    for name, script, told in frozen_scripts(version):
+        names.append(name)
+        if answers(script.splitlines()) != told.splitlines():
+            yield f"the tables don't answer {name} as {version} did"
+    rows = (FROZEN / version / "sources.txt").read_text().splitlines()
+    if [row.partition(":")[0] for row in rows] != names:
+        yield f"tests/frozen/{version}/sources.txt doesn't name each script"
+
+
+def undated_words(version):
+    since = dict(WORD.findall((TOP / "docs" / "SCRIPTS.md").read_text()))
+    lines = (line for _, script, _ in frozen_scripts(version) for line in script.splitlines()[1:])
+    for word in sorted({line.split(" ")[0] for line in lines}):
+        brought = since.get("set-" if word.startswith("set-") else word)
+        if brought is None:
+            yield f"docs/SCRIPTS.md doesn't say which version brought {word}"
+        elif order(brought) > order(version):
+            yield f"docs/SCRIPTS.md says that {brought} brought {word}, which {version} has"
+
+
+def source(name, lines):
+    """Where a script comes from, and whose answers it has."""
+    kept = "replay/by_hand.txt" if name in by_hand() else "replay/make_sample.py"
+    if name in (paths := examples()):
+        kept = str(paths[name].relative_to(TOP))
+    keyset = KeySet()
+    for number, line in enumerate(lines[1:], 1):
+        if meant := compare.intended(keyset, line):
+            return f"{name}: {kept}; the original before call {number}, then the tables: {meant[0]}"
+        keyset.call(line)
+    return f"{name}: {kept}; the original"
+
+
+def freeze(version):
+    """Stores the scripts of a release. What was stored once is never written again."""
+    folder = FROZEN / version
+    folder.mkdir(parents=True)
+    text = STORED.read_text()
+    (folder / "scripts.txt").write_text(text)
+    rows = [source(name, lines) for name, lines in read_scripts(text).items()]
+    (folder / "sources.txt").write_text("".join(f"{row}\n" for row in rows))
+
+
+def main():
+    version = release()
+    if sys.argv[1:] == ["--freeze"]:
+        freeze(version)
+    wrong = [*differing_names(version), *unlisted_changes(version)]
+    if version not in frozen():
+        wrong.append(f"tests/frozen/{version} isn't there: tests/release.py --freeze makes it")
+    for old in frozen():
+        wrong += [*other_answers(old), *undated_words(old)]
+    if wrong:
+        print(*wrong, f"release: {len(wrong)} differences", sep="\n")
+        return 1
+    count = sum(len(list(frozen_scripts(old))) for old in frozen())
+    print(f"release: {version} in {len(NAMED)} places; {count} frozen scripts answered as stored")
+    return 0
+
+
+if __name__ == "__main__":
+    sys.exit(main())
