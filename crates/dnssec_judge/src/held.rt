@@ -10,15 +10,15 @@ use dnssec_keyset::Error;
 use dnssec_run::PublishedKey;
 use std::alloc::Global;
 
-/// A set of keys, with its signers if it is a DNSKEY set: once for all positions of a window that
-/// publish it.
+/// A set of keys, with its signers if it is a DNSKEY set. It is held once for all positions of a
+/// window that publish it.
 #[derive(Debug, Drop)]
 pub(crate) struct Held {
     pub(crate) keys: Vec<SharedKey>,
     pub(crate) signers: Vec<SharedKey>,
     /// Since this position caches may hold it without a break.
     pub(crate) since: usize,
-    /// The last position at which it was published and hadn't been at the one before.
+    /// The last position at which it was published, but not at the one before.
     pub(crate) last: usize,
 }
 
@@ -93,7 +93,7 @@ impl Held {
         self.last < begin
     }
 
-    /// Whether all that was tested before the position was tested with it.
+    /// Whether every set that was tested before this position was tested with it.
     pub(crate) fn is_tested(&self, tested: usize) -> bool
         ensures { result ≡ nat_lt self.now.since tested }
     {
@@ -107,7 +107,7 @@ impl Held {
         self.has_no_keys() || trusts_keys(&self.keys, &dnskey.keys, &dnskey.signers)
     }
 
-    /// Whether a key of it as a DNSKEY set signs the zone.
+    /// Whether one of its keys, as those of a DNSKEY set, signs the zone.
     pub(crate) fn trusts_signers(&self, zone: &Held) -> bool
         ensures { result ≡ zone_holds (set_of_held self.now) (set_of_held zone.now) }
     {

@@ -11,7 +11,7 @@ use dnssec_run::PublishedKey;
 use std::alloc::Global;
 use std::rc::Rc;
 
-/// Lists of at most so many keys are looked through.
+/// Lists of at most this many keys are read from front to end.
 const SHORT: usize = 8;
 
 /// A key of a record, which the sets that have it share.
@@ -55,8 +55,8 @@ impl SharedKey {
     }
 }
 
-/// The keys of a list, each shared with those of before if it is one of them. Both lists are in the
-/// order of their references; of other lists fewer keys are shared.
+/// The keys of a list, each shared with the key of before if that is the same. Both lists should be
+/// in the order of their references; else fewer keys are shared.
 pub(crate) fn share_keys(
     alloc: Global,
     keys: &[PublishedKey],
@@ -141,16 +141,16 @@ pub(crate) fn are_same(shared: &[SharedKey], keys: &[PublishedKey]) -> bool
     rest.is_empty()
 }
 
-/// Whether a list has the key. It is looked for at its place first: the lists of a run are in
-/// order, but a record of another origin may have others.
+/// Whether a list has the key. It is first looked for at its place: the lists of a run are in
+/// order, but those of another record may not be.
 fn is_in(keys: &[SharedKey], key: &SharedKey) -> bool
     ensures { result ≡ is_in (map shared_id keys.now) (shared_id key.now) }
 {
     is_at_its_place(keys, key) || keys.contains(key)
 }
 
-/// Whether a search in a list that is in the order of its references finds the key. A short one is
-/// sooner looked through.
+/// Whether a search in a list that is in the order of its references finds the key. A short list is
+/// faster read from front to end.
 fn is_at_its_place(keys: &[SharedKey], key: &SharedKey) -> bool
     ensures short { length keys.now ≤ 8 → result ≡ false }
     ensures sorted { 8 < length keys.now → IsInOrder keys.now →
@@ -204,8 +204,8 @@ fn finds_zone(dnskey: &[SharedKey], zone: &[SharedKey]) -> bool
     false
 }
 
-/// Whether a DS key is in the DNSKEY set and signs it. Lists are looked through to the end only if
-/// no search finds one: those of a run are in order, so at most once.
+/// Whether a DS key is in the DNSKEY set and signs it. Lists are read to the end only if no search
+/// finds a key. The lists of a run are in order, so for a run this happens at most once.
 pub(crate) fn trusts_keys(ds: &[SharedKey], dnskey: &[SharedKey], signers: &[SharedKey]) -> bool
     ensures { result ≡ trusts_keys (map shared_id ds.now) (map shared_id dnskey.now)
         (map shared_id signers.now) }

@@ -44,7 +44,7 @@ impl RollType {
         }
     }
 
-    /// The actions due once the roll is ended early.
+    /// The actions due after the roll is ended early.
     pub fn asks_at_early_end(self) -> &'static [Action]
         ensures { result.now ≡ (column self).asks_early }
     {

@@ -1,4 +1,4 @@
-//! Sets of numbers as bits in words of 64, which take no memory of the allocator.
+//! Sets of numbers as bits in words of 64. They take no memory of the allocator.
 ghost use Rattle.std.specs.Prelude.{◌≡◌, ◌<◌, ◌/◌, ℕ, length, nat_eq, true, false};
 ghost use Rattle.std.specs.Prelude.{if◌then◌else◌};
 ghost use Rattle.dnssec_key.specs.Inner.Bits.{is_set};

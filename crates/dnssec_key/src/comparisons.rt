@@ -5,17 +5,17 @@ ghost use Rattle.dnssec_key.specs.Key.{new_state};
 
 use crate::{KeyState, KeyType, RollState};
 
-/// States are equal where all their flags are.
+/// States are equal if all their flags are.
 pub fn equal_states_are_one(a: &KeyState, b: &KeyState)
     ensures { IsTrue (⟦<KeyState as PartialEq>⟧.eq a.now b.now) ↔ (a.now ≡ b.now) }
 {}
 
-/// Kinds of keys are equal where the kind and all flags of each role are.
+/// Kinds of keys are equal if the kind and all flags of each role are.
 pub fn equal_kinds_are_one(a: &KeyType, b: &KeyType)
     ensures { IsTrue (⟦<KeyType as PartialEq>⟧.eq a.now b.now) ↔ (a.now ≡ b.now) }
 {}
 
-/// Phases are equal where the phase and its TTL are.
+/// Phases are equal if the phase and its TTL are.
 pub fn equal_phases_are_one(a: &RollState, b: &RollState)
     ensures { IsTrue (⟦<RollState as PartialEq>⟧.eq a.now b.now) ↔ (a.now ≡ b.now) }
 {}

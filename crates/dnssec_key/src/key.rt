@@ -82,11 +82,11 @@ impl Key {
         }
     }
 
-    /// A key with equal parts.
+    /// A copy of the key.
     ///
     /// # Errors
     ///
-    /// `OutOfMemory` alone, where there is no memory for the copy.
+    /// Only `OutOfMemory`, if there is no memory for the copy.
     pub fn try_clone(&self) -> Result<Key, Error>
         ensures same { IfOk result (λ key. key ≡ self.now) }
         ensures err { IfErr result (λ e. e ≡ OutOfMemory) }
@@ -97,7 +97,7 @@ impl Key {
         }
     }
 
-    /// The name of the private part in the caller's storage, where there is one.
+    /// The name of the private part in the caller's storage, if there is one.
     pub fn privref(&self) -> Option<&str>
         ensures { option_map (λ r. r.now) result ≡ self.now.privref }
     {
@@ -179,7 +179,7 @@ impl Key {
         self.keytype.is_checked(roll, half)
     }
 
-    /// Sets what is set, whatever the kind of the key.
+    /// Applies a setter, whatever the kind of the key.
     pub fn set(&mut self, setting: Setting)
         ensures { self.new ≡ set_by (setting_of setting) self.old }
     {

@@ -20,7 +20,7 @@ pub enum KeyType {
 
 /// The roles that the rows speak of.
 impl KeyType {
-    /// The role of a KSK, and of no CSK.
+    /// The role of a KSK, but not of a CSK.
     pub fn ksk(&self) -> Option<KeyState>
         ensures { result ≡ ksk_state self.now }
     {
@@ -30,7 +30,7 @@ impl KeyType {
         }
     }
 
-    /// The role of a ZSK, and of no CSK.
+    /// The role of a ZSK, but not of a CSK.
     pub fn zsk(&self) -> Option<KeyState>
         ensures { result ≡ zsk_state self.now }
     {
@@ -70,7 +70,7 @@ impl KeyType {
         }
     }
 
-    /// The same of a key that can sign the zone.
+    /// The same, for a key that can sign the zone.
     pub(crate) fn zone_key(&self) -> Option<KeyState>
         ensures { result ≡ zone_key_state self.now }
     {

@@ -1,7 +1,7 @@
-//! Keys of a zone, and what the steps of each roll do to one of them: the states of a key's roles,
-//! and the table of the six rolls. Beside them sets of key tags.
+//! Keys of a zone, and what the steps of each roll do to one key: the states of a key's roles, and
+//! the table of the six rolls. It also has sets of key tags.
 //!
-//! `dnssec_keyset` re-exports what its callers name. What it needs besides, it finds here.
+//! `dnssec_keyset` re-exports what its callers name, and itself uses the rest.
 #![tactic(auto)]
 
 mod actions;

@@ -46,7 +46,7 @@ impl KeyState {
         self.at_parent = true;
     }
 
-    /// In the DNSKEY set, what stays has a DS from now on, and what leaves has none.
+    /// From now on keys in the DNSKEY set that stay have a DS, and those that leave have none.
     pub(crate) fn ds_follows(&mut self)
         ensures { self.exit.now ≡ ds_follows self.entry.now }
     {
@@ -55,8 +55,8 @@ impl KeyState {
         }
     }
 
-    /// What leaves drops out of the DNSKEY set, and what stays comes in for it by its DS. Tells
-    /// whether it came in.
+    /// A key that leaves drops out of the DNSKEY set, and one that stays and has a DS comes in for
+    /// it. Answers whether it came in.
     pub(crate) fn changes_places(&mut self) -> bool
         ensures moved { self.exit.now ≡ keys_change_places self.entry.now }
         ensures came { result ≡ kept_at_parent self.entry.now }
@@ -70,7 +70,7 @@ impl KeyState {
         comes
     }
 
-    /// In the DNSKEY set, what stays signs the zone from now on, and what leaves doesn't.
+    /// From now on keys in the DNSKEY set that stay sign the zone, and those that leave don't.
     pub(crate) fn signatures_follow(&mut self)
         ensures { self.exit.now ≡ signatures_follow self.entry.now }
     {
@@ -101,7 +101,7 @@ impl KeyState {
     }
 }
 
-/// What happens to one role if it is old. Each tells whether it happened.
+/// What happens to one role if it is old. Each answers whether it happened.
 impl KeyState {
     pub(crate) fn leaves_dnskey_if_old(&mut self) -> bool
         ensures moved { self.exit.now ≡ only is_old leaves_dnskey self.entry.now }

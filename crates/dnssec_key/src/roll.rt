@@ -81,20 +81,20 @@ pub enum Action {
     UpdateDsRrset,
     /// Publish a version of the zone with updated signatures.
     UpdateRrsig,
-    /// Report once all secondaries of the zone have the DNSKEY set, with the
-    /// highest TTL under which a cache may still hold an older one.
+    /// Report once all secondaries of the zone have the DNSKEY set, with the highest TTL that a
+    /// cache may still have for an older set.
     ReportDnskeyPropagated,
     /// Wait until all secondaries of the zone have the DNSKEY set. A correct roll doesn't need it,
     /// but without it the key set may run ahead of what is published.
     WaitDnskeyPropagated,
-    /// Report once all secondaries of the parent zone have the DS records, with
-    /// the highest TTL under which a cache may still hold older ones.
+    /// Report once all secondaries of the parent zone have the DS records, with the highest TTL
+    /// that a cache may still have for older ones.
     ReportDsPropagated,
-    /// Wait until all secondaries of the parent zone have the DS records. This is needed, so that
-    /// the CDS and CDNSKEY sets aren't removed too soon.
+    /// Wait until all secondaries of the parent zone have the DS records, so that the CDS and
+    /// CDNSKEY sets aren't removed too soon.
     WaitDsPropagated,
-    /// Report once all secondaries of the zone have the signatures (those of the SOA record tell
-    /// enough), with the highest TTL under which a cache may still hold older ones.
+    /// Report once all secondaries of the zone have the signatures, with the highest TTL that a
+    /// cache may still have for older ones. The signature of the SOA record is enough to see it.
     ReportRrsigPropagated,
     /// Wait until all secondaries of the zone have the signatures. A correct roll doesn't need it,
     /// but without it the key set may run ahead of what is published.
@@ -112,7 +112,7 @@ impl Half {
         }
     }
 
-    /// The phase behind the wait.
+    /// The phase after the wait.
     pub fn behind(self) -> RollState
         ensures { result ≡ behind (which self) }
     {

@@ -23,7 +23,7 @@ pub enum Setting {
 }
 
 impl Setting {
-    /// Whether a flag is set: neither a time, nor whether the key is decoupled.
+    /// Whether a flag is set, not a time, and not whether the key is decoupled.
     pub fn sets_flag(&self) -> bool
         ensures { result ≡ is_flag_setting (setting_of self.now) }
     {

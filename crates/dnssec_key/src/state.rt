@@ -16,9 +16,9 @@ pub enum Available {
 
 /// The state of a key in one of its roles.
 ///
-/// Before a roll takes it in, a role of an available key is fresh; then it is in use, as signer, in
-/// the DNSKEY set or with a DS that has to be at the parent; then old, and stale once nothing of it
-/// is left.
+/// Before a roll takes it in, a role of an available key is fresh. Then it is in use: it signs, is
+/// in the DNSKEY set, or has to have a DS at the parent. Then it is old, and once nothing of it is
+/// left, stale.
 #[derive(Clone, Copy, Debug, Default, PartialEq)]
 pub struct KeyState {
     pub(crate) available: bool,
@@ -89,7 +89,8 @@ impl KeyState {
         self.at_parent
     }
 
-    /// Whether the role has left: it is old, and neither signer, present nor at the parent.
+    /// Whether the role has left: it is old, doesn't sign, isn't in the DNSKEY set and has no DS at
+    /// the parent.
     pub fn stale(&self) -> bool
         ensures { result ≡ is_stale self.now }
     {

@@ -99,7 +99,7 @@ impl KeyType {
         }
     }
 
-    /// What an early end leaves of an old key: it is old no more.
+    /// What an early end does to an old key: it is no longer old.
     pub(crate) fn end_early_as_old(&mut self, roll: RollType)
         ensures { self.new ≡ (column roll).returns self.old }
     {

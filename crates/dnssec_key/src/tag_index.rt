@@ -10,8 +10,7 @@ use crate::bits::{TagSet, clear, is_set, set};
 use dnssec_base::Error;
 use std::alloc::Global;
 
-/// The tags in use, a bit for each; or no index, where the keys are so few that they are asked
-/// themselves.
+/// The tags in use, a bit for each; or no index, if there are so few keys that each is asked.
 #[derive(Drop)]
 pub struct TagIndex {
     tags: Option<Box<TagSet>>,
@@ -26,7 +25,7 @@ impl TagIndex {
     }
 
     /// An index in which no tag is.
-    // Out of line, as the next: so other calls need no stack for the bits.
+    // Out of line, as the next function, so that other calls need no stack for the bits.
     #[inline(never)]
     pub fn empty(alloc: Global) -> Result<TagIndex, Error>
         ensures empty { IfOk result (λ index. (t : ℕ) → has index t ≡ Some false) }
@@ -52,7 +51,7 @@ impl TagIndex {
         self.tags.is_none()
     }
 
-    /// Whether a tag is in use, where there is an index.
+    /// Whether a tag is in use; `None` if there is no index.
     pub fn has(&self, key_tag: u16) -> Option<bool>
         ensures { result ≡ has self.now key_tag }
     {

@@ -19,13 +19,13 @@ same_kind a b = nat_eq (kind_number a) (kind_number b)
 
 -- ---- what is noted
 
--- of a kind, before the first call: the highest TTL
+-- the highest TTL of a kind before the first call
 abbrev pub ttl_before : Before → SetKind → ℕ
 ttl_before before Ds = before.ds
 ttl_before before Dnskey = before.dnskey
 ttl_before before ZoneSigners = before.zone
 
--- of a kind, in the order in which it was noted
+-- what was noted of a kind, in this order
 abbrev pub news_of : SetKind → List Fact → List News
 news_of kind facts =
     map (λ (fact : Fact). fact.news)
@@ -33,11 +33,11 @@ news_of kind facts =
 
 -- ---- when it is true
 
--- The news of a kind are true, from the version of this number on, which is the newest so far.
+-- The news of a kind are true. They go on from the version of this number, the newest so far.
 abbrev pub AreTrueFrom : Network → SetKind → ℕ → List News → Type 0
 AreTrueFrom network kind n [] = Unit {0}
--- the next version has the sets of this position, is given with no higher TTL than this, and by no
--- server before this moment
+-- the next version has the sets of this position and no higher TTL than this, and no server gives
+-- it before this moment
 AreTrueFrom network kind n (Published position ttl moment ∷ later) =
     (network.position kind (suc n) ≡ position)
     × (network.ttl kind (suc n) ≤ ttl)

@@ -1,4 +1,4 @@
--- With which TTL a report is due by what is noted, and that it is true then.
+-- The TTL with which a report is due, by what is noted; and that the report is then true.
 use Rattle.std.specs.Prelude.{◌≡◌, ℕ, ◌≤◌, Bool, max, List, Option, None, Some, Result, Ok, Err}
 use Rattle.std.specs.Prelude.{if◌then◌else◌, false, true, option_and_then}
 use Rattle.std.specs.Option.{option_map}
@@ -28,7 +28,7 @@ abbrev pub due_or : Kind → Option ℕ → Result ℕ Kind
 due_or kind None = Err kind
 due_or kind (Some ttl) = Ok ttl
 
--- the higher of two TTLs, or the first kind that none is due for
+-- the higher of two TTLs, or the first kind that has none yet
 abbrev pub higher : Result ℕ Kind → Result ℕ Kind → Result ℕ Kind
 higher (Ok a) (Ok b) = Ok (max a b)
 higher (Ok a) (Err kind) = Err kind
@@ -41,8 +41,8 @@ due_of before facts kind speaks base now =
     (known base (ttl_before before (kind_of kind)) (news_of (kind_of kind) facts)) now)
     else Ok 0
 
--- the highest of those for all kinds that a report of the roll speaks of, whose step is at `base`;
--- or the first kind of them of which servers may still give older sets
+-- the highest TTL for all kinds that a report of the roll speaks of, if its step is at `base`; or
+-- the first of these kinds whose older sets servers may still give
 abbrev pub due : Before → List Fact → RollType → Bool → ℕ → ℕ → Result ℕ Kind
 due before facts roll second base now =
     higher (higher (due_of before facts Ds (retires roll second (kind_of Ds)) base now)
@@ -51,7 +51,7 @@ due before facts roll second base now =
 
 -- ---- which report is due
 
--- which report a roll in this phase waits for, if any: its second one, or its first
+-- which report a roll in this phase waits for, if any: `true` is its second one
 abbrev pub waited_for : Option RollState → Option Bool
 waited_for (Some Propagation1) = Some false
 waited_for (Some Propagation2) = Some true
@@ -79,7 +79,7 @@ pub record IsByNotes (network : Network) (roll : RollType) (second : Bool) (base
   pub is_due : due before facts roll second base moment ≡ Ok least
   pub enough : least ≤ ttl
 
--- so was each report that was made by this time
+-- each report that was made by this time was made so
 abbrev pub ReportsAreByNotes : List Entry → Network → ℕ → Type 0
 ReportsAreByNotes entries network time =
     (n moment ttl base : ℕ) (roll : RollType) (second : Bool) →
@@ -95,9 +95,8 @@ NotesMakeReportsTrue = (entries : List Entry) (network : Network) (time : ℕ) �
     NeverGoesBack network → ReportsAreByNotes entries network time →
     ReportsAreTrue entries network time
 
--- so an operator who reports by notes owes nothing but what can be seen: that servers give what was
--- published, and go back to nothing; that the notes are true; and that no moment lay ahead of the
--- clock
+-- So an operator who reports by notes answers only for what can be seen: that servers give what was
+-- published, and never go back; that the notes are true; and that no moment lay ahead of the clock.
 abbrev pub NotedReportsReachResolvers : Type 0
 NotedReportsReachResolvers =
     (name : List ℕ) (calls : List Call) (entries : List Entry) (network : Network) (time : ℕ) →

@@ -1,5 +1,5 @@
--- How far the versions of one kind of sets have spread, by what is noted of them, and with which
--- TTL a report is true then.
+-- How far the versions of one kind of sets have spread, by what is noted of them, and the TTL with
+-- which a report is then true.
 use Rattle.std.specs.Prelude.{ℕ, ◌+◌, ◌-◌, ◌/◌, ◌&&◌, Bool, false, true, max, fold, List}
 use Rattle.std.specs.Prelude.{Option, None, Some, if◌then◌else◌, nat_le, nat_lt, unwrap_or}
 use Rattle.dnssec_network.specs.declared.fact.News.{News}
@@ -13,7 +13,7 @@ use Rattle.dnssec_network.specs.declared.spread.Spread.{Spread}
 abbrev pub first_spread : ℕ → Spread
 first_spread ttl = record { position = 0; ttl = ttl; older = None; seen = 0; expired = 0 }
 
--- the highest TTL of older versions that servers may still give, once the newest has a successor
+-- the highest TTL of older versions that servers may still give, after the newest has a successor
 abbrev pub older_after : ℕ → Spread → Option ℕ
 older_after base s =
     if nat_lt s.position base then Some (max (unwrap_or s.older 0) s.ttl) else s.older
@@ -32,7 +32,7 @@ after_publishing base position ttl s = record {
 abbrev pub next_second : ℕ → ℕ
 next_second moment = (moment + 999_999_999) / 1_000_000_000
 
--- the second from which no cache holds an older version, once no server gives one any more. Caches
+-- the second from which no cache holds an older version, after no server gives one any more; caches
 -- count whole seconds, so the moment is rounded up
 abbrev pub expired_after : ℕ → Option ℕ → ℕ → ℕ
 expired_after moment None expired = expired
@@ -48,7 +48,7 @@ after_seeing moment s = record {
   expired = expired_after moment s.older s.expired;
 }
 
--- one thing more is noted
+-- one more thing is noted
 abbrev pub after : ℕ → Spread → News → Spread
 after base s (Published position ttl moment) = after_publishing base position ttl s
 after base s (Everywhere moment) = after_seeing moment s
@@ -57,7 +57,7 @@ after base s (Everywhere moment) = after_seeing moment s
 abbrev pub known : ℕ → ℕ → List News → Spread
 known base ttl news = fold (after base) (first_spread ttl) news
 
--- the seconds from a moment to a whole second since 1970, if so many are a TTL
+-- the seconds from a moment to a whole second since 1970, if that number can be a TTL
 abbrev pub seconds_until : ℕ → ℕ → Option ℕ
 seconds_until end now =
     if nat_le (end - now / 1_000_000_000) 4_294_967_295 then Some (end - now / 1_000_000_000)
@@ -68,7 +68,7 @@ abbrev pub is_none_older : Option ℕ → Bool
 is_none_older None = true
 is_none_older (Some ttl) = false
 
--- the least TTL with which a report at the moment is true: none as long as servers may give an
+-- the least TTL with which a report at the moment is true; none as long as servers may give an
 -- older version
 abbrev pub due_for : ℕ → Spread → ℕ → Option ℕ
 due_for base s now =

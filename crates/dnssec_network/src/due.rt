@@ -14,8 +14,8 @@ pub struct DueReport {
     pub roll: RollType,
     /// Whether it is the second report of the roll.
     pub second: bool,
-    /// The TTL, in seconds, with which it is due; or, if it isn't due yet, the first kind that it
-    /// speaks of of which servers may still give older sets.
+    /// The TTL, in seconds, with which it is due. If it isn't due yet, the first kind that it
+    /// speaks of whose older sets servers may still give.
     pub ttl: Result<u32, SetKind>,
 }
 

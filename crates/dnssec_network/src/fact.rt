@@ -13,11 +13,11 @@ use std::fmt;
 /// What is new of a kind of sets.
 #[derive(Clone, Copy, Debug)]
 pub enum News {
-    /// A version is published: from this moment on servers may give it, and none gave it before. It
-    /// has the sets that are due after the call of this position, and no TTL above this one.
+    /// A version is published: servers may give it from this moment on, and none gave it before. It
+    /// has the sets that are due after the call of this position, and no higher TTL than this.
     Published {
         position: usize,
-        /// In seconds: the highest of the sets of this kind, and of answers that there is none.
+        /// In seconds: the highest TTL of the sets of this kind, and of answers that there is none.
         ttl: u32,
         moment: UnixTime,
     },
@@ -52,8 +52,9 @@ pub enum NoteFault {
     GoesBack,
     /// All servers are said to have given a version before it was published.
     SeenBeforePublished,
-    /// The moment of a publication lies before that of the last one of this kind, or that of a
-    /// sight before the last sight: a clock was set back, or there are two.
+    /// The moment lies before the last one: that of a publication before the last publication of
+    /// this kind, or that of a sight before the last sight. A clock was set back, or there are two
+    /// clocks.
     MomentFalls,
     /// Memory has run out.
     OutOfMemory,

@@ -66,7 +66,7 @@ impl Newest {
         }
     }
 
-    /// Why news of this kind are refused, if they are, with so many calls made.
+    /// Why news of this kind are refused, if they are, given the number of calls made.
     fn refusal(self, calls: usize, news: News) -> Option<NoteFault>
         ensures { result ≡ news_refusal calls self news }
     {
@@ -118,7 +118,7 @@ impl Progress {
         }
     }
 
-    /// After one fact more.
+    /// After one more fact.
     pub(crate) fn after(&self, kind: SetKind, news: &News) -> Self
         ensures { result ≡ progress_after self.now (record { kind = kind; news = news.now }) }
     {
@@ -151,7 +151,7 @@ impl Progress {
         }
     }
 
-    /// Why a fact is refused, if it is, with so many calls made.
+    /// Why a fact is refused, if it is, given the number of calls made.
     pub(crate) fn refusal(&self, calls: usize, kind: SetKind, news: &News) -> Option<NoteFault>
         ensures { result ≡ news_refusal calls (newest_of self.now kind) news.now }
     {

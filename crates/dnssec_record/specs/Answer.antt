@@ -1,4 +1,4 @@
--- What a script is answered.
+-- The answer to a script.
 use Rattle.std.specs.Prelude.{◌≡◌, ◌⊎◌, ℕ, List, ◌++◌, codes, length, Option, IfSome}
 use Rattle.std.specs.Io.KnownBytes.{Appends, Keeps}
 use Rattle.dnssec_keyset.specs.KeySet.{KeySetParts}
@@ -37,7 +37,7 @@ pub record IsAnswerOf (script text : List ℕ) : Type 0 where
 abbrev pub TakesAnswer : List ℕ → Option (List ℕ) → Option (List ℕ) → Type 0
 TakesAnswer script old new = (text : List ℕ) × IsAnswerOf script text × Appends old new text
 
--- of whatever run a text is the output that a device took: if its list is plain, it stays safe
+-- every run whose output the device took stays safe, if its list is plain
 abbrev pub IsSafeAnswer : List ℕ → Option (List ℕ) → Option (List ℕ) → Type 0
 IsSafeAnswer script old new =
     (text : List ℕ) (a : IsAnswerOf script text) → Appends old new text →
@@ -54,7 +54,7 @@ abbrev pub TakesBeginning : List ℕ → Option (List ℕ) → Option (List ℕ)
 TakesBeginning script old new =
     (text : List ℕ) × (rest : List ℕ) × IsAnswerOf script (text ++ rest) × Appends old new text
 
--- it took nothing, or, where the script is known, a beginning of an answer to it
+-- it took nothing, or a beginning of an answer to the script, if that is known
 abbrev pub TakesAtMost : Option (List ℕ) → Option (List ℕ) → Option (List ℕ) → Type 0
 TakesAtMost left old new =
     Keeps old new ⊎ IfSome left (λ script. TakesBeginning script old new)

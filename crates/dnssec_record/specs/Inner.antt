@@ -1,3 +1,3 @@
--- What only the inside of the crate needs: no contract of a public call names it.
+-- Definitions for the inside of the crate. No contract of a public call names them.
 pub mod Statement
 pub mod Reading

@@ -53,7 +53,7 @@ reply_text (Refused error) = codes "refused: " ++ error_text error
 abbrev pub answers : List Entry → List ℕ
 answers entries = flat_map (λ entry. reply_text entry.reply ++ codes "\n") entries
 
--- references with commas between them, or `-` where there is none
+-- references with commas between them, or `-` if there is none
 abbrev pub set_text : List PublishedKey → List ℕ
 set_text [] = codes "-"
 set_text (key ∷ keys) =
@@ -66,7 +66,7 @@ published_text p =
     ++ codes " signers=" ++ set_text p.dnskey_signers.items
     ++ codes " zone=" ++ set_text p.zone_signers.items ++ codes "\n"
 
--- the sets of an entry; of none all are empty
+-- the sets of an entry; without an entry all are empty
 abbrev pub sets_text : Option Entry → List ℕ
 sets_text None = codes "ds=- dnskey=- signers=- zone=-\n"
 sets_text (Some entry) = published_text entry.published

@@ -53,15 +53,15 @@ pub data Value : Type 0 where
   Number : ℕ → Value
   Moment : ℕ → Value
 
--- what a field has to be: the value of each text that is so
+-- what a field has to be: the value of each text of this form
 abbrev pub Form : Type 0
 Form = List ℕ → Option Value
 
--- a visible ASCII character but the comma
+-- a visible ASCII character, except the comma
 abbrev pub is_reference_byte : ℕ → Bool
 is_reference_byte b = nat_le 0x21 b && nat_le b 0x7E && not (b == 44)
 
--- such bytes, at least one, and not `-` alone
+-- such bytes, at least one, but not a single `-`
 unfoldable pub is_reference : List ℕ → Bool
 is_reference text =
     not (length text == 0) && not (bytes_eq text (codes "-")) && list_all is_reference_byte text
@@ -105,7 +105,7 @@ is_digit b = nat_le 48 b && nat_le b 57
 abbrev pub number_of : List ℕ → ℕ
 number_of digits = fold (λ n d. n * 10 + (d - 48)) 0 digits
 
--- 1 to 20 digits, of a number up to this
+-- 1 to 20 digits that write a number up to this
 unfoldable pub is_number : ℕ → List ℕ → Bool
 is_number most text =
     nat_le 1 (length text) && nat_le (length text) 20 && list_all is_digit text
@@ -166,11 +166,11 @@ words =
 unfoldable pub word_named : List ℕ → Option Word
 word_named name = option_map (λ row. row.1) (find (λ row. bytes_eq row.0 name) words)
 
--- what an add says behind the references of its key
+-- what an add says after the references of its key
 abbrev pub trait_forms : List Form
 trait_forms = as_algorithm ∷ as_tag ∷ as_time ∷ as_yes_no ∷ []
 
--- what the fields behind a word have to be
+-- what the fields after a word have to be
 abbrev pub forms_behind : Word → List Form
 forms_behind (word.Add _) = as_reference ∷ as_private ∷ trait_forms
 forms_behind word.AddPublic = as_reference ∷ trait_forms
@@ -193,7 +193,7 @@ abbrev pub value_at : Form → List (List ℕ) → Option (Value × List (List �
 value_at form [] = None
 value_at form (field ∷ fields) = option_map (λ v. (v, fields)) (form field)
 
--- what the fields say, where they are these forms, one each
+-- what the fields say, if each has its form
 abbrev pub values_of : List Form → List (List ℕ) → Option (List Value)
 values_of [] [] = Some []
 values_of [] (field ∷ fields) = None
@@ -206,7 +206,7 @@ abbrev pub word_at : List (List ℕ) → Option (Word × List (List ℕ))
 word_at [] = None
 word_at (name ∷ fields) = option_map (λ w. (w, fields)) (word_named name)
 
--- what fields say behind a word
+-- what fields say after a word
 abbrev pub says_behind : Word → List (List ℕ) → Option (Word × List Value)
 says_behind w fields = option_map (λ values. (w, values)) (values_of (forms_behind w) fields)
 
@@ -216,7 +216,7 @@ says line = option_and_then (λ x. says_behind x.0 x.1) (word_at (fields_of line
 
 -- ---- calls
 
--- what an add says of its key behind the references
+-- what an add says of its key after the references
 abbrev pub trait_values : ℕ → ℕ → ℕ → Bool → List Value
 trait_values algorithm tag created available =
     Number algorithm ∷ Number tag ∷ Moment created ∷ Flag available ∷ []

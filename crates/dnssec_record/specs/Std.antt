@@ -2,7 +2,7 @@
 use Rattle.std.specs.Prelude.{ℕ}
 use Rattle.dnssec_record.specs.declared.device.Std.{Std}
 
--- what it was made over
+-- the reader or writer that it was made from
 abbrev pub std_inner : {T : Type 0} → Std T → T
 std_inner device = device.inner
 

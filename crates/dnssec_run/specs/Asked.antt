@@ -1,5 +1,5 @@
--- Nothing changes unasked: what is published changes only where the reply asks the operator to
--- publish it, and a report retires just what the operator was asked to report.
+-- Nothing changes unasked: what is published changes only if the reply asks the operator to publish
+-- it, and a report retires exactly what the operator was asked to report.
 use Rattle.std.specs.Prelude.{◌≡◌, ◌⊎◌, ◌↔◌, ℕ, zero, suc, Bool, true, false, List, []}
 use Rattle.std.specs.Prelude.{slice_get, Some}
 use Rattle.std.specs.List.{Contains}
@@ -35,8 +35,8 @@ abbrev pub asked_at : List Entry → ℕ → List Action
 asked_at entries zero = []
 asked_at entries (suc n) = option_map_or (λ entry. asked_by entry.reply) (slice_get entries n) []
 
--- the action that asks to publish the sets of this kind anew: the DNSKEY set with its signers is
--- one kind, since each version of it goes out with its signatures (RFC 4035, section 2.2)
+-- the action that asks to publish the sets of this kind anew; a DNSKEY set and its signers are one
+-- kind, since each version goes out with its signatures (RFC 4035, section 2.2)
 abbrev pub update_of : SetKind → Action
 update_of Ds = UpdateDsRrset
 update_of Dnskey = UpdateDnskeyRrset
@@ -61,8 +61,8 @@ SamePublished Ds p q = q.ds ≡ p.ds
 SamePublished Dnskey p q = (q.dnskey ≡ p.dnskey) × (q.signers ≡ p.signers)
 SamePublished ZoneSigners p q = q.zone ≡ p.zone
 
--- a call that sets no flag by hand asks to publish what it changes: of each kind the reply asks for
--- an update, or all is published as at the position before
+-- A call that sets no flag by hand asks to publish what it changes: for each kind the reply asks
+-- for an update, or the same is published as at the position before.
 abbrev pub ChangesAsAsked : List Call → List Entry → Type 0
 ChangesAsAsked calls entries = (n : ℕ) (call : Call) → slice_get calls n ≡ Some call →
     sets_flag (call_of call) ≡ false → (kind : SetKind) →
@@ -71,8 +71,8 @@ ChangesAsAsked calls entries = (n : ℕ) (call : Call) → slice_get calls n ≡
 
 -- ---- what is retired
 
--- an accepted report counts from a start or a first wait, and retires just the kinds of sets that
--- the reply there asked to report
+-- an accepted report counts from a start or a first wait, and retires exactly the kinds of sets
+-- that the reply there asked to report
 abbrev pub RetiresAsAsked : List Entry → Type 0
 RetiresAsAsked entries = (n : ℕ) (roll : RollType) (second : Bool) (ttl : ℕ) →
     (position_at entries n).mark ≡ Report roll second ttl →

@@ -1,5 +1,5 @@
--- What an early end undoes, in every run, whatever is set by hand: a roll that was ended early has
--- left no flag changed, but of keys whose flags were set by hand since it started.
+-- What an early end undoes, in every run, whatever is set by hand. A roll that was ended early
+-- leaves no flag changed, except those of keys whose flags were set by hand since it started.
 use Rattle.std.specs.Prelude.{◌≡◌, ℕ, suc, ◌<◌, Bool, true, false, ◌&&◌, ◌||◌, List, None, Some}
 use Rattle.std.specs.FinMap.{get}
 use Rattle.std.specs.Str.{bytes_eq}
@@ -32,22 +32,22 @@ abbrev pub HasSameFlags : World → World → List ℕ → Type 0
 HasSameFlags w v q = (k j : KeyParts) × (get w.set.keys q ≡ Some k) ×
     (get v.set.keys q ≡ Some j) × (j.keytype ≡ k.keytype)
 
--- an early end undoes a start: w is there before the start, u before the early end, and v after it;
--- `Own` tells which keys the start listed and no such call has touched since
+-- An early end undoes a start: w is there before the start, u before the early end, and v after it.
+-- `Own` says which keys the start listed and no such call has touched since.
 pub record Undoes (roll : RollType) (Own : List ℕ → Type 0) (w u v : World) : Type 0 where
   -- these have the flags that they had before the start
   pub flags : (q : List ℕ) → Own q → HasSameFlags w v q
   -- the early end changes no other key
   pub others : (q : List ℕ) → (Own q → ⊥) → get v.set.keys q ≡ get u.set.keys q
-  -- and of no key anything but its flags, so no stamp
+  -- and of each key only its flags, so no stamp
   pub alone : (q : List ℕ) (k j : KeyParts) → get u.set.keys q ≡ Some k →
       get v.set.keys q ≡ Some j → j ≡ record k { keytype = j.keytype }
-  -- the roll is in progress no more, and each other roll is in the phase that it was in
+  -- the roll is no longer in progress, and each other roll is in the phase that it was in
   pub rolls : v.set.rolls ≡ with_phase u.set.rolls roll None
 
--- an early end gives each key that the roll's last start listed the flags that it had before that
--- start, whatever calls came between, unless one of them set a flag of it by hand or deleted it;
--- and it changes nothing else
+-- An early end gives each key that the roll's last start listed the flags that it had before that
+-- start, whatever calls came between. A key is left out if one of these calls set a flag of it by
+-- hand or deleted it. The early end changes nothing else.
 abbrev pub UndoesStarts : List ℕ → List Call → List Entry → Type 0
 UndoesStarts name calls entries =
     (s n : ℕ) (roll : RollType) (olds news : List (List ℕ)) (now : ℕ) → s < n →

@@ -19,9 +19,9 @@ use Rattle.dnssec_run.specs.Safe.{IsSafe}
 
 -- ---- whose key a reference names
 
--- whether the reference names another signer's key after an accepted call, from whether it did
--- before: `add_public_key` adds such a key, which signs nothing here and has no DS (RFC 8901,
--- section 2.1); the other adds add a key of this signer, and after a deletion no key is named
+-- Whether the reference names another signer's key after an accepted call, given whether it did
+-- before. `add_public_key` adds such a key, which signs nothing here and has no DS (RFC 8901,
+-- section 2.1). The other adds add a key of this signer, and after a deletion no key is named.
 abbrev pub others_after : Call → List ℕ → Bool → Bool
 others_after (AddPublicKey pubref algorithm key_tag created usable) q before =
     if bytes_eq (string_bytes pubref) q then true else before
@@ -34,14 +34,14 @@ others_after (AddKeyCsk pubref privref algorithm key_tag created usable) q befor
 others_after (DeleteKey pubref) q before = if bytes_eq pubref.now q then false else before
 others_after _ q before = before
 
--- the same after a call with its entry, where both are there: a refused call changes nothing
+-- the same after a call with its entry, if both are there; a refused call changes nothing
 abbrev pub others_behind : Option Call → Option Entry → List ℕ → Bool → Bool
 others_behind (Some call) (Some entry) q before =
     if is_accepted entry.reply then others_after call q before else before
 others_behind _ _ q before = before
 
--- at position n the reference names another signer's key: of the accepted calls up to there that
--- added or deleted a key of this reference the last one is `add_public_key`
+-- at position n the reference names another signer's key: the last accepted call up to there that
+-- added or deleted a key of this reference is `add_public_key`
 unfoldable pub names_others : List Call → List Entry → ℕ → List ℕ → Bool
 names_others calls entries zero q = false
 names_others calls entries (suc n) q =
@@ -49,8 +49,8 @@ names_others calls entries (suc n) q =
 
 -- ---- what is set by hand
 
--- the call sets no flag and no time by hand, except that it may put a key of these references into
--- the DNSKEY set, or take it out
+-- The call sets no flag and no time by hand. Only the keys of these references it may put into the
+-- DNSKEY set, or take out.
 abbrev pub sets_only_others : (List ℕ → Bool) → Call → Bool
 sets_only_others others (SetPresent pubref value now) = others pubref.now
 sets_only_others others (SetSigner pubref value) = false
@@ -61,7 +61,8 @@ sets_only_others others (SetDsVisible pubref time) = false
 sets_only_others others (SetRrsigVisible pubref time) = false
 sets_only_others others _ = true
 
--- by hand the calls only put keys of other signers into the DNSKEY set, or take them out
+-- all that the calls set by hand is to put keys of other signers into the DNSKEY set or take them
+-- out
 abbrev pub SetsOnlyOthersPresent : List Call → List Entry → Type 0
 SetsOnlyOthersPresent calls entries = (n : ℕ) (call : Call) → slice_get calls n ≡ Some call →
     sets_only_others (names_others calls entries n) call ≡ true
@@ -88,7 +89,7 @@ abbrev pub EndsNoneEarly : List Call → Type 0
 EndsNoneEarly calls = (n : ℕ) (call : Call) (roll : RollType) → slice_get calls n ≡ Some call →
     early_end_of call ≢ Some roll
 
--- the call behind position n is accepted, and does this for the roll
+-- the call after position n is accepted, and does this for the roll
 pub record DoesAt (does : Call → Option RollType) (calls : List Call) (entries : List Entry)
     (n : ℕ) (roll : RollType) : Type 0 where
   pub call : Call
@@ -98,7 +99,7 @@ pub record DoesAt (does : Call → Option RollType) (calls : List Call) (entries
   pub accepted : is_accepted entry.reply ≡ true
   pub roll_is : does call ≡ Some roll
 
--- a roll of keys that the parent's DS has to follow already: it wants a first algorithm roll
+-- a roll of keys that the parent's DS already has to follow: it needs an algorithm roll before it
 abbrev pub needs_algorithm_roll : RollType → Bool
 needs_algorithm_roll KskRoll = true
 needs_algorithm_roll KskDoubleDsRoll = true
@@ -106,7 +107,7 @@ needs_algorithm_roll CskRoll = true
 needs_algorithm_roll _ = false
 
 -- before each accepted start of a KSK roll or of a CSK roll, an accepted call does this for an
--- algorithm roll, which brings the zone its first keys
+-- algorithm roll: that brings the zone its first keys
 abbrev pub AlgorithmRollFirst : (Call → Option RollType) → List Call → List Entry → Type 0
 AlgorithmRollFirst does calls entries = (n : ℕ) (roll : RollType) → needs_algorithm_roll roll ≡ true
     →
@@ -115,13 +116,13 @@ AlgorithmRollFirst does calls entries = (n : ℕ) (roll : RollType) → needs_al
 
 -- ---- plain lists
 
--- by hand only keys of other signers are put in or taken out, and before each accepted start of a
--- KSK roll or of a CSK roll the first wait of an algorithm roll is over
+-- By hand, only keys of other signers are put in or taken out. Before each accepted start of a KSK
+-- roll or of a CSK roll, the first wait of an algorithm roll is over.
 pub record IsPlain (name : List ℕ) (calls : List Call) (entries : List Entry) : Type 0 where
   pub setters : SetsOnlyOthersPresent calls entries
   pub first : AlgorithmRollFirst first_wait_of calls entries
 
--- where the list is plain, every position of its record is safe
+-- if the list is plain, every position of its record is safe
 abbrev pub StaysSafe : List ℕ → List Call → List Entry → Type 0
 StaysSafe name calls entries =
     IsPlain name calls entries → (n : ℕ) → n ≤ length entries → IsSafe entries n
@@ -134,7 +135,8 @@ pub record IsPlainByStarts (name : List ℕ) (calls : List Call) (entries : List
   pub no_early_end : EndsNoneEarly calls
   pub first : AlgorithmRollFirst start_of calls entries
 
--- that suffices: until an algorithm roll is past its first wait, no roll of KSKs or CSKs starts
+-- such a list is plain: until an algorithm roll is past its first wait, no roll of KSKs or CSKs
+-- starts
 abbrev pub StartsSuffice : Type 0
 StartsSuffice = (name : List ℕ) (calls : List Call) (entries : List Entry) →
     IsRun name calls entries → IsPlainByStarts name calls entries → IsPlain name calls entries

@@ -1,4 +1,4 @@
--- What is published of a map of keys, as lists of keys of a record.
+-- What is published of a key set, as lists of keys of a record.
 use Rattle.std.specs.Prelude.{◌≡◌, ℕ, Bool, List, map, filter, string_bytes}
 use Rattle.std.specs.FinMap.{entries}
 use Rattle.dnssec_key.specs.declared.kind.KeyType.{KeyType}
@@ -8,8 +8,8 @@ use Rattle.dnssec_keyset.specs.KeySet.{KeySetParts}
 use Rattle.dnssec_run.specs.declared.record.Published.{Published}
 use Rattle.dnssec_run.specs.declared.record.PublishedKey.{PublishedKey}
 
--- a key of a record: its reference, and the position of the call that added it, so that a reference
--- that is given again after a deletion is another key
+-- A key of a record: its reference, and the position of the call that added it. So a reference that
+-- is used again after a deletion is another key.
 abbrev pub Id : Type 0
 Id = List ℕ × ℕ
 
@@ -23,7 +23,7 @@ id_of k = (string_bytes k.reference, k.added)
 abbrev pub in_ds : KeyType → Bool
 in_ds = ksk_role is_at_parent
 
--- a key that is present, a CSK by its KSK role, and those of other signers too
+-- a key in the DNSKEY set; a CSK is there by its KSK role, and keys of other signers count too
 abbrev pub in_dnskey : KeyType → Bool
 in_dnskey k = (first_state k).present
 
@@ -37,8 +37,8 @@ signs_zone = zsk_role is_signer
 
 -- ---- the sets
 
--- what is there at a position: the key set, and for each reference the position of its last
--- accepted add
+-- what is there at a position: the key set, and the position of the last accepted add of each
+-- reference
 pub record World : Type 0 where
   pub set : KeySetParts
   pub added : List ℕ → ℕ

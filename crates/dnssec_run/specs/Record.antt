@@ -1,5 +1,5 @@
--- The record of a run: at each position the key set, and what the call there answered and what it
--- left published.
+-- The record of a run: the key set at each position, what the call there answered, and what it left
+-- published.
 use Rattle.std.specs.Prelude.{◌≡◌, ◌≤◌, ℕ, zero, suc, Bool, true, false, List, length, slice_get}
 use Rattle.std.specs.Prelude.{Option, None, Some, if◌then◌else◌, string_bytes}
 use Rattle.std.specs.Option.{option_map}
@@ -75,8 +75,8 @@ reply_of (Refused cause) = keyset.Refused cause
 
 -- ---- the moment and the mark of an entry
 
--- the moment that a call is given as now, if any: a creation stamp is none, nor is the time of a
--- setter
+-- the moment that a call is given as now, if any; a creation stamp is no such moment, nor is the
+-- time of a setter
 abbrev pub call_moment : Call → Option ℕ
 call_moment (SetPresent pubref value now) = Some now
 call_moment (StartRoll roll old new now) = Some now
@@ -86,8 +86,8 @@ call_moment (Propagation2Complete roll ttl now) = Some now
 call_moment (CacheExpired2 roll now) = Some now
 call_moment _ = None
 
--- what an accepted call means for the caches: a start or a first wait of a roll is what its next
--- report counts from, and a report tells for how long older data may be held
+-- What an accepted call means for the caches. The next report of a roll counts from its start or
+-- its first wait, and a report says for how long caches may hold older data.
 abbrev pub mark_of : Call → Mark
 mark_of (StartRoll roll old new now) = Step roll
 mark_of (CacheExpired1 roll now) = Step roll
@@ -95,7 +95,7 @@ mark_of (Propagation1Complete roll ttl now) = Report roll false ttl
 mark_of (Propagation2Complete roll ttl now) = Report roll true ttl
 mark_of _ = Other
 
--- and a refused one means nothing for them
+-- a refused call means nothing for them
 abbrev pub mark_after : Call → Reply → Mark
 mark_after call Done = mark_of call
 mark_after call (Actions actions) = mark_of call
@@ -131,7 +131,7 @@ world_after n w call reply = record {
   added = added_by n call reply w.added;
 }
 
--- the same with the entry of the call, where both are there
+-- the same with the entry of the call, if both are there
 abbrev pub world_behind : ℕ → World → Option Call → Option Entry → World
 world_behind n w (Some call) (Some entry) = world_after n w call entry.reply
 world_behind n w _ _ = w
@@ -148,8 +148,8 @@ world_at name calls entries (suc n) =
 
 -- ---- the record
 
--- an entry tells of a call that goes from w to v: its reply is allowed, and its parts are those of
--- the call and of v
+-- an entry is that of a call that goes from w to v: its reply is allowed, and its parts are those
+-- of the call and of v
 pub record IsEntry (w v : World) (call : Call) (entry : Entry) : Type 0 where
   pub step : keyset.Step w.set (call_of call) (reply_of entry.reply) v.set
   pub mark : entry.mark ≡ mark_after call entry.reply
@@ -165,7 +165,7 @@ pub record IsRun (name : List ℕ) (calls : List Call) (entries : List Entry) : 
 
 -- ---- what holds at every position
 
--- no two keys have one tag, and the rolls in progress may be so together
+-- no two keys have one tag, and the rolls in progress may be in progress together
 pub record IsSound (w : World) : Type 0 where
   pub tags : TagsApart w.set.keys
   pub rolls : RollsTogether w.set.rolls
@@ -175,16 +175,16 @@ abbrev pub StaysSound : List ℕ → List Call → List Entry → Type 0
 StaysSound name calls entries =
     (n : ℕ) → n ≤ length entries → IsSound (world_at name calls entries n)
 
--- a call on a roll leaves the keys as they were that the roll doesn't change
+-- a call on a roll leaves the keys as they were whose kind the roll doesn't change
 abbrev pub KeepsSidesApart : List ℕ → List Call → List Entry → Type 0
 KeepsSidesApart name calls entries = (n : ℕ) (call : Call) (entry : Entry) →
     slice_get calls n ≡ Some call → slice_get entries n ≡ Some entry →
     LeavesOthers (world_at name calls entries n).set (call_of call)
     (world_at name calls entries (suc n)).set
 
--- two neighbouring calls of rolls that go together, neither answered with lack of memory, may be
--- exchanged: the second with its reply and then the first with its reply are allowed steps too, and
--- end in the same set
+-- Two neighbouring calls of rolls that go together may be exchanged, unless one of them ran out of
+-- memory. The second with its reply and then the first with its reply are allowed steps too, and
+-- end in the same set.
 abbrev pub NeighboursMayBeExchanged : List ℕ → List Call → List Entry → Type 0
 NeighboursMayBeExchanged name calls entries = (n : ℕ) (first second : Call) (e f : Entry) →
     slice_get calls n ≡ Some first → slice_get entries n ≡ Some e →

@@ -1,4 +1,4 @@
--- What the recorder of a run keeps beside the key set.
+-- What the recorder of a run keeps besides the key set.
 use denote.Ref.{Bor}
 use Rattle.std.specs.Prelude.{◌≡◌, ℕ, Bool, false, T, List, [], ◌∷◌, length, map, filter}
 use Rattle.std.specs.Prelude.{Option, None, Some}
@@ -45,14 +45,14 @@ abbrev pub reference_set : keyset.Call → Option (List ℕ)
 reference_set (keyset.Set reference setting) = Some reference
 reference_set _ = None
 
--- the positions of the keys that are there, after one is put or taken
+-- the positions of the keys that are there, after one is put in or taken out
 abbrev pub positions_after : ℕ → Option (List ℕ) → Option (List ℕ) → (List ℕ → Option ℕ) → List ℕ
     → Option ℕ
 positions_after n (Some put) taken at q = if bytes_eq put q then Some n else at q
 positions_after n None (Some taken) at q = if bytes_eq taken q then None else at q
 positions_after n None None at q = at q
 
--- the positions are those of the keys that are there, and of no other
+-- the positions are those of the keys that are there, and of no other keys
 pub record Agrees (set : KeySetParts) (at : List ℕ → Option ℕ) (w : World) : Type 0 where
   pub same : set ≡ w.set
   pub positions : (q : List ℕ) → at q ≡ option_map (λ k. w.added q) (get w.set.keys q)
@@ -62,14 +62,14 @@ pub record ChangesAt (reference : List ℕ) (v w : World) : Type 0 where
   pub others : (q : List ℕ) → bytes_eq reference q ≡ false → get w.set.keys q ≡ get v.set.keys q
   pub added : (q : List ℕ) → w.added q ≡ v.added q
 
--- a call that sets a key by hand changes no other; of any other call this says nothing
+-- a call that sets a key by hand changes no other key; of any other call this says nothing
 abbrev pub ChangesOnly : Option (List ℕ) → World → World → Type 0
 ChangesOnly None v w = Unit {0}
 ChangesOnly (Some reference) v w = ChangesAt reference v w
 
 -- ---- the place of one key in a set
 
--- a set is in the order of its references' bytes, and has none twice
+-- a set is in the order of its references' bytes, and has no reference twice
 abbrev pub IsAscending : List Id → Type 0
 IsAscending ids = T (is_sorted (slice_cmp nat_cmp) ids)
 
@@ -113,7 +113,7 @@ AreFound key = All (λ e. key (string_bytes e.0.now) ≡ Some e.1.now)
 abbrev pub entry_lent : {Y : Type 0} → Bor (String Y) × Bor KeyParts → String Y × KeyParts
 entry_lent e = (e.0.now, e.1.now)
 
--- a key as one of a record, where it is there and passes
+-- a key as one of a record, if it is there and passes
 abbrev pub shown_once : (KeyType → Bool) → Option KeyParts → Id → List Id
 shown_once passes None id = []
 shown_once passes (Some k) id = if passes k.keytype then id ∷ [] else []
@@ -125,14 +125,14 @@ pub record HasSameKeys (one other : Published) : Type 0 where
   pub dnskey_signers : map id_of one.dnskey_signers.items ≡ map id_of other.dnskey_signers.items
   pub zone_signers : map id_of one.zone_signers.items ≡ map id_of other.zone_signers.items
 
--- an entry tells what its call came to
+-- an entry says what its call came to
 pub record TellsOutcome (entry : Entry) (outcome : Outcome) : Type 0 where
   pub reply : entry.reply ≡ outcome.reply
   pub mark : entry.mark ≡ outcome.mark
   pub moment : entry.moment ≡ outcome.moment
 
--- an outcome is that of a call that goes from w to v; and where it may not have published anything,
--- the sets of w are those of v
+-- an outcome is that of a call that goes from w to v; if it says that nothing was published, the
+-- sets of w are those of v
 pub record IsOutcome (w v : World) (call : Call) (outcome : Outcome) : Type 0 where
   pub step : keyset.Step w.set (call_of call) (reply_of outcome.reply) v.set
   pub mark : outcome.mark ≡ mark_after call outcome.reply
@@ -141,7 +141,7 @@ pub record IsOutcome (w v : World) (call : Call) (outcome : Outcome) : Type 0 wh
       IsPublished sets v
 
 -- the entries are the record of the calls so far on a new key set of this name, and the recorder
--- stands behind the last of them
+-- stands after the last of them
 pub record Records (name : List ℕ) (calls : List Call) (entries : List Entry) (r : Recorder)
     : Type 0 where
   pub run : IsRun name calls entries

@@ -1,5 +1,5 @@
--- When a record is safe: whatever of it caches may still hold has a chain of trust. Nothing here
--- knows of flags, stamps or phases: only of what was published, of reports, and of moments.
+-- When a record is safe: all of it that caches may still hold has a chain of trust. Nothing here
+-- knows of flags, stamps or phases, only of what was published, of reports, and of moments.
 use Rattle.std.specs.Prelude.{◌≡◌, ℕ, zero, suc, ◌+◌, ◌*◌, ◌<◌, ◌≤◌, ◌⊎◌, max, Bool, true, false}
 use Rattle.std.specs.Prelude.{List, [], map, if◌then◌else◌, slice_get, Option, None, Some}
 use Rattle.std.specs.Prelude.{unwrap_or}
@@ -17,7 +17,7 @@ use Rattle.dnssec_run.specs.declared.record.Mark.TheVariants.{Other, Step, Repor
 use Rattle.dnssec_run.specs.declared.record.Entry.{Entry}
 use Rattle.dnssec_run.specs.Published.{Id, id_of}
 
--- ---- what a position tells
+-- ---- what a position says
 
 -- the moment and the mark of its call, and what is published after it
 pub record Position : Type 0 where
@@ -32,7 +32,7 @@ pub record Position : Type 0 where
 abbrev pub blank : Position
 blank = record { moment = None; mark = Other; ds = []; dnskey = []; signers = []; zone = [] }
 
--- what an entry tells
+-- what an entry says
 abbrev pub position_of : Entry → Position
 position_of entry = record {
   moment = entry.moment;
@@ -85,7 +85,7 @@ abbrev pub is_step : RollType → Mark → Bool
 is_step roll (Step other) = same_roll roll other
 is_step roll _ = false
 
--- what a report at position n counts from: the last start or first wait of its roll below n
+-- what a report at position n counts from: the last start or first wait of its roll before n
 unfoldable pub base_below : List Entry → RollType → ℕ → Option ℕ
 base_below entries roll zero = None
 base_below entries roll (suc n) =
@@ -97,8 +97,8 @@ time_at entries zero = 0
 time_at entries (suc n) =
     max (time_at entries n) (unwrap_or (position_at entries (suc n)).moment 0)
 
--- the set of position q is in no cache at n: a report up to n spoke of its kind, q lies before what
--- the report counts from, and the report's TTL has passed since its moment
+-- The set of position q is in no cache at n. A report up to n spoke of its kind, q lies before what
+-- the report counts from, and the report's TTL has passed since its moment.
 pub record IsGone (entries : List Entry) (kind : SetKind) (q n : ℕ) : Type 0 where
   pub at : ℕ
   pub roll : RollType
@@ -120,7 +120,7 @@ MayBeCached entries kind q n = (q ≤ n) × (IsGone entries kind q n → ⊥)
 
 -- ---- the chain of trust (RFC 4035, section 5)
 
--- a DS key is in and signs the DNSKEY set (RFC 4035, section 5.2)
+-- a key named by the DS set is in the DNSKEY set and signs it (RFC 4035, section 5.2)
 abbrev pub TrustsKeys : Position → Position → Type 0
 TrustsKeys p q = (k : Id) × Contains p.ds k × Contains q.dnskey k × Contains q.signers k
 
@@ -128,7 +128,8 @@ TrustsKeys p q = (k : Id) × Contains p.ds k × Contains q.dnskey k × Contains 
 abbrev pub TrustsZone : Position → Position → Type 0
 TrustsZone q z = (k : Id) × Contains q.dnskey k × Contains z.zone k
 
--- the DS set of p, the DNSKEY set of q and the zone signers of z: there is no DS, or both hold
+-- the DS set of p, the DNSKEY set of q and the zone signers of z have a chain: there is no DS, or
+-- both hold
 abbrev pub HasChain : Position → Position → Position → Type 0
 HasChain p q z = (p.ds ≡ []) ⊎ (TrustsKeys p q × TrustsZone q z)
 

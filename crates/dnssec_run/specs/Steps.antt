@@ -8,7 +8,7 @@ use Rattle.dnssec_run.specs.declared.record.Entry.{Entry}
 use Rattle.dnssec_run.specs.declared.steps.Steps.{Steps}
 use Rattle.dnssec_run.specs.Safe.{base_below}
 
--- the last step of a roll
+-- the position of the last step of a roll
 abbrev pub step_of : Steps → RollType → Option ℕ
 step_of s KskRoll = s.ksk
 step_of s KskDoubleDsRoll = s.ksk_double_ds

@@ -1,4 +1,4 @@
--- The laws of whole rolls: what holds of every run in which by hand only keys of other signers are
+-- The laws of whole rolls. They hold for every run in which by hand only keys of other signers are
 -- put in or taken out. A roll that was started can be finished, its waits are over at an exact
 -- moment, and nothing is left half done.
 use Rattle.std.specs.Prelude.{◌≡◌, ◌≢◌, ℕ, suc, ◌+◌, ◌-◌, ◌*◌, ◌<◌, ◌≤◌, ◌⊎◌}
@@ -40,7 +40,7 @@ NeverFalls calls = (i j : ℕ) (c d : Call) (a b : ℕ) → i ≤ j →
     slice_get calls i ≡ Some c → slice_get calls j ≡ Some d →
     call_moment c ≡ Some a → call_moment d ≡ Some b → a ≤ b
 
--- behind position n this call is made, and has its entry
+-- after position n this call is made, and has its entry
 pub record IsMade (calls : List Call) (entries : List Entry) (n : ℕ) (call : keyset.Call)
     : Type 0 where
   pub made : Call
@@ -49,14 +49,14 @@ pub record IsMade (calls : List Call) (entries : List Entry) (n : ℕ) (call : k
   pub entry_is : slice_get entries n ≡ Some entry
   pub call_is : call_of made ≡ call
 
--- behind position n this call is made, and accepted
+-- after position n this call is made, and accepted
 abbrev pub IsAccepted : List Call → List Entry → ℕ → keyset.Call → Type 0
 IsAccepted calls entries n call =
     (m : IsMade calls entries n call) × (is_accepted m.entry.reply ≡ true)
 
 -- ---- no wait misses a stamp
 
--- no wait finds a key without the stamp that it reads: a report wrote it
+-- no wait finds a key without the stamp that it reads; a report wrote that stamp
 abbrev pub NeverMissesStamp : List ℕ → List Call → List Entry → Type 0
 NeverMissesStamp name calls entries = SetsOnlyOthersPresent calls entries →
     (n : ℕ) (roll : RollType) (half : Half) (now : ℕ)
@@ -65,7 +65,7 @@ NeverMissesStamp name calls entries = SetsOnlyOthersPresent calls entries →
 
 -- ---- between the rolls
 
--- each role of the key passes, its KSK role the first test and its ZSK role the second; a key of
+-- each role of the key passes: its KSK role the first test, its ZSK role the second; a key of
 -- another signer has no role here
 abbrev pub each_role : (Flags → Bool) → (Flags → Bool) → KeyType → Bool
 each_role p q (Ksk s) = p s
@@ -81,7 +81,7 @@ is_settled_ksk s = is_future s || is_active_ksk s || is_stale s
 abbrev pub is_settled_zsk : Flags → Bool
 is_settled_zsk s = is_future s || is_active_zsk s || is_stale s
 
--- where no roll is in progress, each role is future, active or stale: nothing is half done
+-- if no roll is in progress, each role is future, active or stale: nothing is half done
 abbrev pub SettlesBetweenRolls : List ℕ → List Call → List Entry → Type 0
 SettlesBetweenRolls name calls entries = SetsOnlyOthersPresent calls entries →
     (n : ℕ) → n ≤ length entries →
@@ -108,15 +108,15 @@ pub record LastReport (entries : List Entry) (roll : RollType) (half : Half) (n 
   pub last : (m ttl : ℕ) → at < m → m ≤ n →
       (position_at entries m).mark ≢ Report roll (is_second half) ttl
 
--- the report from whose moment a wait counts is that of its half; but both waits of a
--- Double-Signature ZSK roll count from the first, which tells of keys and signatures (RFC 6781,
--- section 4.1.1.2)
+-- A wait counts from the moment of the report of its half. But both waits of a Double-Signature ZSK
+-- roll count from the first report, which speaks of keys and signatures (RFC 6781, section
+-- 4.1.1.2).
 abbrev pub counts_from : RollType → Half → Half
 counts_from ZskDoubleSignatureRoll half = First
 counts_from roll half = half
 
--- what a call at a moment is answered that may succeed from `due` on: how long is left until then,
--- or from then on its success, memory aside
+-- The answer at a moment to a call that may succeed from `due` on. Before `due` it says how long is
+-- left. From then on it is success, or lack of memory.
 pub record WaitsUntil (due now : ℕ) (reply success : keyset.Reply) : Type 0 where
   pub early : now < due →
       (d : Duration) × (reply ≡ keyset.Refused (TooEarly d)) × (as_nanos d ≡ due - now)
@@ -151,7 +151,7 @@ pub record GoesOn (name : List ℕ) (calls : List Call) (entries : List Entry) :
       phase_of (world_at name calls entries n).set.rolls roll ≡ Some Done →
       is_accepted end.entry.reply ≡ true
 
--- the key that w has at the reference is stale in v, unless it was deleted meanwhile
+-- the key that w has at the reference is stale in v, unless it was deleted in between
 abbrev pub HasLeft : World → World → List ℕ → Type 0
 HasLeft w v q = v.added q ≡ w.added q → (k : KeyParts) → get v.set.keys q ≡ Some k →
     all_states is_stale k.keytype ≡ true
@@ -167,8 +167,8 @@ end_of (RollDone roll) = Some roll
 end_of (AbortRoll roll) = Some roll
 end_of _ = None
 
--- when a started roll ends that wasn't ended early, each key that it listed as old is stale or was
--- deleted, and each role of each key that it listed as new is at work
+-- When a started roll ends, and not early, each key that it listed as old is stale or was deleted,
+-- and each role of each key that it listed as new is at work.
 abbrev pub RollsFinish : List ℕ → List Call → List Entry → Type 0
 RollsFinish name calls entries = SetsOnlyOthersPresent calls entries →
     (s n : ℕ) (roll : RollType) (olds news : List (List ℕ)) (now : ℕ) → s < n →

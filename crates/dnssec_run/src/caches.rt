@@ -15,9 +15,9 @@ pub enum SetKind {
     ZoneSigners,
 }
 
-/// Whether a report of the roll retires sets of the kind: those of before the roll's last start or
-/// first wait, once the report's TTL is over (RFC 6781, section 4.1; RFC 7583, section 3). The
-/// second report of a roll retires other kinds than the first.
+/// Whether a report of the roll retires sets of this kind: once the report's TTL is over, it
+/// retires those from before the roll's last start or first wait (RFC 6781, section 4.1; RFC 7583,
+/// section 3). The second report of a roll retires other kinds than the first.
 ///
 /// ```rust
 /// // After the DS report of a KSK roll and its TTL no cache holds the DS set of before the wait.

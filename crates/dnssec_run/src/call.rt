@@ -13,7 +13,7 @@ use dnssec_keyset::{Action, Available, Error, KeySet, RollType, UnixTime};
 
 /// A call that can change a key set, with its arguments.
 ///
-/// Each is named after the call of `KeySet` that it makes.
+/// Each variant is named after the call of `KeySet` that it makes.
 #[derive(Drop)]
 pub enum Call<'a> {
     AddKeyKsk {

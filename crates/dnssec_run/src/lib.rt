@@ -1,7 +1,7 @@
-//! Recorded runs of a key set: lists of calls, what each answered, and what was then published.
+//! Recorded runs of a key set: lists of calls, what each call answered, and what was then
+//! published.
 //!
-//! `dnssec_record` re-exports what its callers name. What `dnssec_judge` needs besides, it finds
-//! here.
+//! `dnssec_record` re-exports what its callers name, and `dnssec_judge` uses the rest.
 #![tactic(auto)]
 
 mod caches;

@@ -13,7 +13,7 @@ use dnssec_keyset::{Error, Key, KeySet};
 use std::alloc::Global;
 use std::collections::BTreeMap;
 
-/// Renews what is published of one key, and says whether that is another than before.
+/// Renews what is published of one key, and says whether that has changed.
 pub(crate) fn renew_key(
     alloc: Global,
     keyset: &KeySet,
@@ -56,8 +56,8 @@ fn position(shown: Shown, key: Option<&Key>, at: Option<usize>) -> Option<usize>
     }
 }
 
-/// Puts a key into a set at its position, or takes it out if it has none, and says whether the set
-/// is another than before.
+/// Puts a key into a set at its position, or takes it out if it has none. Says whether the set has
+/// changed.
 fn set_place(
     alloc: Global,
     keys: &mut Vec<PublishedKey>,

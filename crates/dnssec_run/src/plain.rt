@@ -2,8 +2,9 @@
 //! which a caller knows once it has called the function.
 ghost use Rattle.dnssec_run.specs.Plain.{StartsSuffice};
 
-/// A list of calls is plain where no roll is ended early, and an algorithm roll starts before each
-/// roll of KSKs or CSKs: such a roll is refused until the algorithm roll is past its first wait.
+/// A list of calls that sets nothing by hand is plain if no roll is ended early, and an algorithm
+/// roll starts before each roll of KSKs or CSKs. Such a roll is refused until the algorithm roll is
+/// past its first wait.
 pub fn starts_suffice()
     ensures { StartsSuffice }
 {}

@@ -27,8 +27,8 @@ impl Reply {
         }
     }
 
-    /// Whether the call may have changed what is published: where it was accepted, and sets a flag
-    /// by hand or asks to perform an action.
+    /// Whether the call may have changed what is published: if it was accepted, and sets a flag by
+    /// hand or asks for an action.
     pub(crate) fn may_publish(&self, sets_flag: bool) -> bool
         ensures { (result ≡ false) ↔ (is_accepted self.now ≡ true →
             (sets_flag ≡ false) × (asked_by self.now ≡ [])) }
@@ -41,18 +41,18 @@ impl Reply {
     }
 }
 
-/// A key of a record: a reference, and the position of the call that added it. A reference that
-/// is given again after a deletion is another key.
+/// A key of a record: a reference, and the position of the call that added it. A reference that is
+/// used again after a deletion is another key.
 #[derive(Debug, Drop, PartialEq)]
 pub struct PublishedKey {
-    /// The position of its add, counted from 1. It stands first, so that keys are told apart by it
-    /// before their references are compared.
+    /// The position of its add, counted from 1. It stands first, so that keys are compared by it
+    /// before their references.
     pub added: usize,
     pub reference: String,
 }
 
-/// What is published at a position. Each list is sorted by its references' bytes, and has no key
-/// twice.
+/// What is published at a position. Each list is in the order of its references' bytes, and has no
+/// key twice.
 #[derive(Debug, Drop, PartialEq)]
 pub struct Published {
     /// The keys that have to have a DS record at the parent.
@@ -85,13 +85,13 @@ impl Published {
 /// What an accepted call means for the caches that hold what was published before.
 #[derive(Clone, Copy, Debug, PartialEq)]
 pub enum Mark {
-    /// Any other call, and each that is refused. It may change what is published, as a second wait
-    /// or a setter does.
+    /// Any other call, and each refused one. It may change what is published, as a second wait or a
+    /// setter does.
     Other,
     /// A start or a first wait of the roll: what its next report counts from.
     Step(RollType),
-    /// A report of the roll, with the TTL in seconds that it was given. Where it is true, no cache
-    /// holds older data for longer than that.
+    /// A report of the roll, with the TTL that it was given, in seconds. If the report is true, no
+    /// cache holds older data for longer than that.
     Report {
         roll: RollType,
         /// Whether it is the second report of the roll.
@@ -104,8 +104,8 @@ pub enum Mark {
 #[derive(Debug, Drop, PartialEq)]
 pub struct Entry {
     pub reply: Reply,
-    /// The moment that the call was given as `now`, whether it was accepted or refused. When a key
-    /// was made, or is stamped by hand as seen, is no such moment.
+    /// The moment that the call was given as `now`, also if it was refused. The creation of a key
+    /// is no such moment, nor is the time of a stamp that is set by hand.
     pub moment: Option<UnixTime>,
     pub mark: Mark,
     pub published: Published,
@@ -118,8 +118,8 @@ pub struct Outcome {
     /// The moment that the call was given as `now`, as in its entry.
     pub moment: Option<UnixTime>,
     pub mark: Mark,
-    /// Whether the call may have changed what is published. Where it has not, the sets are those of
-    /// the position before.
+    /// Whether the call may have changed what is published. If not, the sets are those of the
+    /// position before.
     pub may_publish: bool,
 }
 

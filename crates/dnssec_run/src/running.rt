@@ -68,7 +68,7 @@ fn clone_added(alloc: Global, call: &Call<'_>) -> Result<Option<String>, Error>
     }
 }
 
-/// Makes the call that stands at a position, and notes its key where it adds or deletes one.
+/// Makes the call that stands at a position, and notes its key if it adds or deletes one.
 fn advance(
     alloc: Global,
     keyset: &mut KeySet,
@@ -105,18 +105,18 @@ fn advance(
     })
 }
 
-/// The order of the keys is another, if the call adds or deletes one.
+/// The order of the keys changes, if the call adds or deletes one.
 fn forget(order: &mut WalkOrder, call: &Call<'_>) {
     if call.reference_added().is_some() || call.reference_deleted().is_some() {
         order.forget();
     }
 }
 
-/// Makes calls one by one on a new key set, and tells what each came to: what `run` records.
+/// Makes calls one by one on a new key set, and says what each came to, as `run` records it.
 ///
-/// It keeps no entry, but the sets that are published behind the last call. So a caller that needs
-/// only some of what a record tells, as the answers and a judge's verdict, has memory for its keys,
-/// and not for each call.
+/// It keeps no entry, only the sets that are published after the last call. So a caller who needs
+/// only a part of the record, as the answers and a judge's verdict, takes memory for its keys, and
+/// not for each call.
 ///
 /// ```rust
 /// let mut recorder = Recorder::new(alloc, name);
@@ -128,7 +128,7 @@ fn forget(order: &mut WalkOrder, call: &Call<'_>) {
 #[derive(Drop)]
 pub struct Recorder {
     keyset: KeySet,
-    /// Of each key that is there the position of its add.
+    /// The position of its add, for each key that is there.
     added: BTreeMap<String, usize>,
     order: WalkOrder,
     /// What is published.
@@ -152,15 +152,15 @@ impl Recorder {
         }
     }
 
-    /// Makes the next call, and tells what it came to. A call that is refused has an outcome too,
-    /// also where it was refused because memory ran out.
+    /// Makes the next call, and says what it came to. A refused call has an outcome too, also one
+    /// that was refused because memory ran out.
     ///
-    /// The sets are read anew only behind an accepted call that may have changed them.
+    /// The sets are read anew only after an accepted call that may have changed them.
     ///
     /// # Errors
     ///
-    /// `OutOfMemory` alone, where there is no memory to note the call. The recorder is then of no
-    /// more use: begin anew with the first call.
+    /// Only `OutOfMemory`, if there is no memory to note the call. The recorder is then of no more
+    /// use: begin anew with the first call.
     pub fn advance(&mut self, alloc: Global, call: Call<'_>) -> Result<Outcome, Error>
         ensures ok { IfOk result (λ outcome.
             (name : List ℕ) (calls : List Call) (entries : List Entry) (entry : Entry) →
@@ -190,11 +190,11 @@ impl Recorder {
         Ok(outcome)
     }
 
-    /// Makes the next call, and tells its entry, as a record has it.
+    /// Makes the next call, and answers its entry, as a record has it.
     ///
     /// # Errors
     ///
-    /// `OutOfMemory` alone, where there is no memory for the entry. The recorder is then of no more
+    /// Only `OutOfMemory`, if there is no memory for the entry. The recorder is then of no more
     /// use: begin anew with the first call.
     pub fn make(&mut self, alloc: Global, call: Call<'_>) -> Result<Entry, Error>
         ensures ok { IfOk result (λ entry.
@@ -213,15 +213,15 @@ impl Recorder {
         })
     }
 
-    /// What is published behind the calls so far.
+    /// What is published after the calls so far.
     pub fn published(&self) -> &Published
         ensures { result.now ≡ self.now.published }
     {
         &self.published
     }
 
-    /// What is published behind the calls so far, where the last of them, which came to this, may
-    /// have changed it.
+    /// What is published after the calls so far, if the last call may have changed it. `outcome` is
+    /// what that call came to.
     pub fn news(&self, outcome: &Outcome) -> Option<&Published>
         ensures { option_map (λ sets. sets.now) result
             ≡ (if outcome.now.may_publish then Some self.now.published else None) }
@@ -240,8 +240,7 @@ impl Recorder {
         &self.keyset
     }
 
-    /// A recorder at the same position, with equal parts. A call can be tried on it first, while
-    /// this one stays as it is.
+    /// A copy at the same position. A call can be tried on it, while this recorder stays as it is.
     ///
     /// # Errors
     ///
@@ -265,7 +264,7 @@ impl Recorder {
         })
     }
 
-    /// The key set behind the calls so far.
+    /// The key set after the calls so far.
     pub fn into_keyset(self) -> KeySet
         ensures { result ≡ self.keyset }
     {
@@ -275,30 +274,31 @@ impl Recorder {
 
 /// Makes the calls in turn on a new key set for the zone of this name, and records each.
 ///
-/// The key set and the record take their memory from `alloc`. A call that is refused, also because
-/// memory ran out, is recorded, and the run goes on.
+/// The key set and the record take their memory from `alloc`. A refused call is recorded too, also
+/// one that ran out of memory, and the run goes on.
 ///
-/// Where the list sets no flag and no time by hand, and the first wait of an algorithm roll is over
-/// before the first roll of KSKs or CSKs, every position of the record is safe: of any DS set,
-/// DNSKEY set and zone signers that no report has retired, there is no DS, or a DS key signs that
-/// DNSKEY set, and a key of it signs the zone (RFC 4035, section 5). Another signer's key may be
-/// published and taken out by hand at any time.
+/// A list is plain if it sets no flag and no time by hand, and the first wait of an algorithm roll
+/// is over before the first roll of KSKs or CSKs. Another signer's key may be published and taken
+/// out by hand at any time. In a plain list every position of the record is safe. That is: take any
+/// DS set, DNSKEY set and zone signers that no report has retired. Either there is no DS, or a key
+/// that the DS names is in that DNSKEY set and signs it, and a key of that set signs the zone (RFC
+/// 4035, section 5).
 ///
-/// Where nothing else is set by hand, no wait lacks a stamp, and between the rolls each role of a
-/// key is future, active or stale. A started roll goes on by its reports, waits and its end; then
-/// each key that it listed as old is stale or was deleted, and each that it listed as new is at
-/// work. If moreover the moments never fall, a wait is over once the TTL of its report has passed
-/// since (RFC 7583, section 3).
+/// If nothing is set by hand but other signers' keys, no wait lacks a stamp, and between the rolls
+/// each role of a key is future, active or stale. A started roll goes on by its reports, waits and
+/// its end. Each key that it listed as old is then stale or was deleted, and each that it listed as
+/// new is at work. If also the moments never fall, a wait is over once the TTL of its report has
+/// passed since the report (RFC 7583, section 3).
 ///
 /// An early end of a roll gives each key that the roll's start listed the flags that it had before
-/// that start, whatever calls came between, unless one of them set a flag of that key by hand or
-/// deleted it. It changes no other key, no stamp and no other roll.
+/// that start. Only a key that was deleted, or had a flag set by hand since, is left as it is. The
+/// early end changes no other key, no stamp and no other roll.
 ///
-/// Unless a flag is set by hand, what is published changes only where the reply asks to publish it.
+/// Unless a flag is set by hand, what is published changes only if the reply asks to publish it.
 ///
 /// # Errors
 ///
-/// `OutOfMemory` alone, where the record can't be stored. Nothing is then handed out.
+/// Only `OutOfMemory`, if there is no memory for the record. Then no part of the run is answered.
 ///
 /// ```rust
 /// let now = UnixTime::from(Timestamp::from(1_700_000_000));

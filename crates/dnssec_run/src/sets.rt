@@ -57,12 +57,12 @@ fn published_key(reference: &String, added: usize) -> Result<PublishedKey, Error
     }
 }
 
-/// Copies of keys of a record. `before` are copies that nothing needs any more: where both lists
-/// are in the order of their references, those of keys that stand in both are used again.
+/// Copies of keys of a record. `before` has copies that nothing needs any more. If both lists are
+/// in the order of their references, copies of keys that stand in both are used again.
 ///
 /// # Errors
 ///
-/// `OutOfMemory` alone.
+/// Only `OutOfMemory`.
 pub fn copy_keys(
     alloc: Global,
     keys: &[PublishedKey],
@@ -90,12 +90,12 @@ pub fn copy_keys(
 struct Renewal {
     keys: Vec<PublishedKey>,
     /// What was there before and wasn't met yet. A key that stays is taken from here, so that only
-    /// the references of new ones are copied.
+    /// references of new keys are copied.
     before: VecDeque<PublishedKey>,
 }
 
 impl Renewal {
-    /// With room for the keys of before and one more.
+    /// A renewal with room for the keys of before and one more.
     fn new(alloc: Global, before: Vec<PublishedKey>) -> Result<Self, Error>
         ensures ok { IfOk result (λ set. set.keys.items ≡ []) }
         ensures err { IfErr result (λ e. e ≡ OutOfMemory) }
@@ -109,8 +109,8 @@ impl Renewal {
         }
     }
 
-    /// Puts a key at the end of the set, where the set shows it. It is called four times for each
-    /// key, and mostly there is nothing to put.
+    /// Puts a key at the end of the set, if the set shows it. It is called four times for each key,
+    /// and mostly there is nothing to put.
     #[inline(always)]
     fn show(
         &mut self,
@@ -139,7 +139,7 @@ impl Renewal {
     }
 }
 
-/// This key, where it is the first of these, but for keys that come before it: those are dropped.
+/// This key, if it is in the list. Keys that come before it are dropped.
 fn find_next(
     keys: &mut VecDeque<PublishedKey>,
     reference: &String,
@@ -156,7 +156,7 @@ fn find_next(
     }
 }
 
-/// The first of these keys, where it is this one.
+/// The first of these keys, if it is this one.
 fn next_if(
     keys: &mut VecDeque<PublishedKey>,
     reference: &String,
@@ -225,8 +225,8 @@ impl WalkOrder {
         self.is_stale = true;
     }
 
-    /// The order of these entries. Few of them stand elsewhere than before, so the sort begins with
-    /// the order of before.
+    /// Brings the entries into order. Most of them stand where they stood before, so the sort
+    /// begins with the last order.
     fn renew(&mut self, alloc: Global, entries: &[(&String, &Key)]) -> Result<(), Error>
         ensures err { IfErr result (λ e. e ≡ OutOfMemory) }
     {
@@ -304,8 +304,8 @@ fn key_at<'a>(
     }
 }
 
-/// Reads what is published of a key set, with the positions of its keys: one walk in the order of
-/// the references. What was published before is used again.
+/// Reads what is published of a key set, with the positions of its keys, in one walk in the order
+/// of the references. What was published before is used again.
 fn read_sets(
     alloc: Global,
     keyset: &KeySet,
@@ -341,8 +341,8 @@ fn read_sets(
     })
 }
 
-/// Renews the sets after a call that may have changed them, and says whether it may have. After a
-/// setter only its key is looked at.
+/// Renews the sets after a call that may have changed them, and says whether they may have changed.
+/// After a setter it looks only at that key.
 pub(crate) fn renew(
     alloc: Global,
     keyset: &KeySet,

@@ -1,4 +1,4 @@
-//! The wait that a report has begun, and from when on a wait is over for a key.
+//! The wait that a report has begun, and the moment from which a wait is over for a key.
 ghost use Rattle.std.specs.Prelude.{◌≡◌, max, unwrap_or, IsTrue};
 ghost use Rattle.dnssec_key.specs.Setters.{setting_of, set_by};
 ghost use Rattle.dnssec_zone.specs.Inner.Begun.{begun_after, over_for};
@@ -7,7 +7,7 @@ ghost use Rattle.dnssec_zone.specs.Inner.Over.{over_by};
 use dnssec_key::{Half, Key, RollType, Setting, UnixTime};
 use std::time::Duration;
 
-/// A wait that a report has begun: from when on it is over, or that a key lacks its stamp.
+/// A wait that a report has begun: the moment from which it is over, or that a key lacks its stamp.
 #[derive(Clone, Copy)]
 pub(crate) struct BegunWait {
     pub(crate) roll: RollType,
@@ -28,7 +28,7 @@ impl BegunWait {
 }
 
 /// All that a begun wait sees of a key: the nanosecond since 1970 from which nothing is left for
-/// it, or `None` where its stamp is missing.
+/// it, or `None` if its stamp is missing.
 fn over_for(begun: &Option<BegunWait>, key: &Key) -> Option<u128>
     ensures { result ≡ over_for begun.now key.now }
 {
@@ -44,7 +44,7 @@ fn over_for(begun: &Option<BegunWait>, key: &Key) -> Option<u128>
     }
 }
 
-/// Sets something of a key. What is known of the begun wait stays where it sees the key as it was.
+/// Changes a key by hand. What is known of the begun wait stays, if the wait sees no change.
 pub(crate) fn set_key(key: &mut Key, setting: Setting, begun: &mut Option<BegunWait>)
     ensures key { key.new ≡ set_by (setting_of setting) key.old }
     ensures begun { begun.new ≡ begun_after begun.old key.old key.new }
@@ -67,7 +67,7 @@ pub(crate) fn later(latest: Option<UnixTime>, moment: UnixTime) -> UnixTime
 }
 
 /// The nanosecond since 1970 from which a wait is over, by the latest stamp of the keys that it
-/// checks: the first of all where it checks none.
+/// checks. If it checks none, the first of all.
 pub(crate) fn over_by(latest: Option<UnixTime>, ttl: u32) -> u128
     ensures { result ≡ over_by ttl latest }
 {

@@ -1,4 +1,4 @@
-//! What a start is refused for, of the keys. Nothing is changed here.
+//! Why a start is refused for its keys. Nothing is changed here.
 ghost use Rattle.std.specs.Prelude.{◌≡◌, ℕ, Bool, List, [], false, not, ◌&&◌, ◌||◌, length, None};
 ghost use Rattle.std.specs.Prelude.{Some, IfOk, IfErr, Option, nat_eq};
 ghost use Rattle.std.specs.List.{list_any, list_all};
@@ -22,7 +22,7 @@ use crate::keys::Keys;
 use crate::side::{Kinds, Want, may_change_algorithms, side_of, wants};
 use dnssec_key::{AlgorithmSet, Error, Key, RollType, TagSet, is_set, set};
 
-/// A list of more entries is long.
+/// A list of more entries counts as long.
 const FEW: usize = 4;
 
 /// What a start asks of its new keys together.
@@ -33,7 +33,7 @@ pub struct NewKeys {
 }
 
 impl NewKeys {
-    /// That of no keys.
+    /// What it asks of no keys.
     fn none() -> NewKeys
         ensures algorithms { (a : ℕ) → is_set result.algorithms a ≡ false }
         ensures kinds { (w : WantOfStart) → some_serves result.kinds w ≡ false }
@@ -44,7 +44,7 @@ impl NewKeys {
         }
     }
 
-    /// Adds that of one key more.
+    /// Adds one more key.
     fn add(&mut self, key: &Key)
         ensures algorithms { (a : ℕ) → is_set self.new.algorithms a
             ≡ (is_set self.old.algorithms a || nat_eq key.now.algorithm a) }
@@ -62,7 +62,7 @@ fn is_listed(references: &[&str], reference: &str) -> bool
     references.iter().any(|listed| reference == *listed)
 }
 
-/// Whether a new entry is an old one too, or stood earlier among the new.
+/// Whether a new entry is an old one too, or stands earlier among the new.
 #[tactic(auto, using(crate::proofs::TwoLists::lists))]
 fn is_taken(old: &[&str], earlier: &[&str], reference: &str) -> bool
     ensures { result ≡
@@ -96,7 +96,7 @@ pub fn may_go_over(roll: RollType, old: &AlgorithmSet, new: &AlgorithmSet) -> bo
     may_change_algorithms(roll) || *old == *new
 }
 
-/// What a start is refused for, of the keys.
+/// Why a start is refused for its keys.
 impl Keys {
     /// The key of an old entry, or what is wrong with the entry.
     fn old_key(&self, roll: RollType, reference: &str) -> Result<&Key, Error>
@@ -113,7 +113,7 @@ impl Keys {
         }
     }
 
-    /// What is wrong with a new entry, where the keys of these tags are listed before it.
+    /// What is wrong with a new entry, if the keys of these tags are listed before it.
     fn new_entry_fault(&self, roll: RollType, reference: &str, taken: &TagSet) -> Option<Error>
         ensures { result ≡ new_entry_fault roll (map.get self.now reference.now)
             (has_its_tag taken.now (map.get self.now reference.now)) }
@@ -124,7 +124,7 @@ impl Keys {
         }
     }
 
-    /// The key of a new entry, which stands in a list before or doesn't, or what is wrong with it.
+    /// The key of a new entry, or what is wrong with the entry. `is_taken`: it was listed before.
     fn new_key(&self, roll: RollType, reference: &str, is_taken: bool) -> Result<&Key, Error>
         ensures key { IfOk result (λ key. map.get self.now reference.now ≡ Some key.now) }
         ensures sound { IfOk result (λ key.
@@ -141,7 +141,7 @@ impl Keys {
         }
     }
 
-    /// Puts the tag of the key at a reference into a set, where there is such a key.
+    /// Puts the tag of the key at a reference into a set, if there is such a key.
     fn add_tag(&self, tags: &mut TagSet, reference: &str)
         ensures len { length tags.new ≡ length tags.old }
         ensures listed { (listed : List ℕ → Bool) → HasListed tags.old self.now listed
@@ -169,9 +169,8 @@ impl Keys {
     }
 
     /// Refuses the first new entry that has a fault, or answers what a start asks of the new keys.
-    /// What is listed before an entry is looked through where the lists are short, and asked of a
-    /// set of tags where they are long: to clear the set costs more than to look through a few
-    /// entries.
+    /// Was an entry listed before? Short lists are read, long ones are put into a set of tags: to
+    /// clear the set costs more than to read a few entries.
     pub fn check_new(&self, roll: RollType, old: &[&str], new: &[&str]) -> Result<NewKeys, Error>
         ensures fault { AnswersExactly
             (new_fault roll (map.get self.now) (texts old.now) [] (texts new.now)) result }
@@ -240,7 +239,7 @@ impl Keys {
         keys
     }
 
-    /// Refuses a start that leaves no key to go on with, where the new keys are of these kinds.
+    /// Refuses a start that leaves no key to go on with, if the new keys are of these kinds.
     pub fn check_suitability(&self, roll: RollType, old: &[&str], new: Kinds) -> Result<(), Error>
         ensures { (news : List (List ℕ)) → AreOf (map.get self.now) news new
             → AnswersExactly (suitability_fault roll self.now (texts old.now) news) result }
@@ -265,7 +264,7 @@ impl Keys {
         new.meet(want) || self.has_kept(want, old)
     }
 
-    /// Whether a key that isn't listed as old serves: more serve than the list has of them.
+    /// Whether a key that isn't listed as old serves: more keys serve than the list has of these.
     #[tactic(auto, using(crate::proofs::Counted::Lists::counts))]
     fn has_kept(&self, want: Want, old: &[&str]) -> bool
         ensures { result ≡ some_kept (serves_as_kept (as_want want)) self.now (texts old.now) }

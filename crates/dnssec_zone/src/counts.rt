@@ -28,7 +28,7 @@ enum Step {
 }
 
 impl Step {
-    /// Moves a count, where the key serves.
+    /// Changes a count, if the key serves.
     fn take(self, count: &mut usize, serves: bool)
         ensures { count.new ≡ one_step serves self count.old }
     {
@@ -41,7 +41,7 @@ impl Step {
     }
 }
 
-/// Whether a wait may move the counts. The others change no flag that a count asks for of a key
+/// Whether a wait may change the counts. Other waits change no flag that a count asks for, in a key
 /// that stays.
 pub(crate) fn wait_moves_counts(roll: RollType, half: Half) -> bool
     ensures { result ≡ wait_moves_counts roll (which half) }
@@ -55,7 +55,7 @@ pub(crate) fn wait_moves_counts(roll: RollType, half: Half) -> bool
 }
 
 impl Counts {
-    /// Those of no keys.
+    /// The counts of no keys.
     pub(crate) fn none() -> Counts
         ensures { result ≡ no_counts }
     {
@@ -80,7 +80,7 @@ impl Counts {
         }
     }
 
-    /// Those with one key more.
+    /// The counts with one key more.
     pub(crate) fn with(mut self, keytype: &KeyType) -> Counts
         ensures { result ≡ with_key keytype.now self }
     {
@@ -95,14 +95,14 @@ impl Counts {
         self.step(keytype, Step::In);
     }
 
-    /// Counts a key no more.
+    /// Counts a key no longer.
     pub(crate) fn take_out(&mut self, keytype: &KeyType)
         ensures { self.new ≡ without_key keytype.now self.old }
     {
         self.step(keytype, Step::Out);
     }
 
-    /// Moves the counts that the key is in.
+    /// Changes the counts that the key is in.
     fn step(&mut self, keytype: &KeyType, step: Step)
         ensures { self.new ≡ counts_stepped step keytype.now self.old }
     {
@@ -126,7 +126,7 @@ impl Counts {
         }
     }
 
-    /// Follows a setter that made a key another one. None of them asks whether a key signs.
+    /// Follows a setter that changed a key. No count asks whether a key signs.
     pub(crate) fn follow(&mut self, setting: &Setting, before: &KeyType, after: &KeyType)
         ensures { self.new ≡ (if moves_counts (setting_of setting.now)
             then with_key after.now (without_key before.now self.old) else self.old) }

@@ -38,20 +38,20 @@ use std::collections::HashMap;
 use std::collections::hash_map::Entry;
 use std::marker::Model;
 
-/// Up to as many keys are asked for their tags themselves; more have an index of them.
+/// Up to this many keys we read each key's tag; more keys have an index of their tags.
 const FEW: usize = 16;
 
 /// The keys of a zone by their public references.
 #[derive(Drop)]
 pub struct Keys {
     map: HashMap<String, Key>,
-    /// The tags of the keys, once these were many.
+    /// The tags of the keys, after there were many.
     tags: TagIndex,
     /// How many keys a start could go on with.
     counts: Counts,
-    /// What is known of the wait that the last report began. A setter drops it where the wait sees
-    /// something else of its key from then on, an add and the steps of rolls always, and a deletion
-    /// never: no wait checks a stale key.
+    /// What is known of the wait that the last report began. A setter drops it if the wait then
+    /// sees a change in its key. An add and the steps of rolls always drop it. A deletion never
+    /// does: no wait checks a stale key.
     begun: Option<BegunWait>,
 }
 
@@ -202,7 +202,7 @@ impl Keys {
         Ok(key_tag)
     }
 
-    /// Sets something of the key at a reference. Answers its tag.
+    /// Changes the key at a reference by hand. Answers its tag.
     #[tactic(auto, using(crate::proofs::Shown::shown))]
     pub fn set(&mut self, pubref: &str, setting: Setting) -> Result<u16, Error>
         ensures reply { AnswersExactly
@@ -264,7 +264,7 @@ impl Keys {
         self.counts = recount(&self.map);
     }
 
-    /// Changes the key at a reference, where there is one. Each caller has one change.
+    /// Changes the key at a reference, if there is one. Each caller has one change.
     #[inline(always)]
     #[tactic(auto, using(crate::proofs::Shown::shown))]
     fn change_at(&mut self, reference: &str, change: Change)
@@ -281,14 +281,14 @@ impl Keys {
         is_sound(&self.map);
     }
 
-    /// Stamps every key that a report speaks of. Tools ask again and again for the wait that it
-    /// begins, so what a walk finds for this one is kept.
+    /// Stamps every key that a report speaks of. Tools ask often for the wait that it begins, so
+    /// what a walk finds out about that wait is kept.
     pub fn report_all(&mut self, roll: RollType, half: Half, ttl: u32, now: UnixTime)
         ensures { (q : List ℕ) → map.get self.new q
             ≡ option_map (after_report roll (which half) now) (map.get self.old q) }
     {
         self.begun = None;
-        // `retain` says of each key what is written there; it keeps them all.
+        // `retain` says what is written on each key; it keeps them all.
         self.map.retain(|_, key| {
             key.report(roll, half, now);
             true
@@ -315,8 +315,8 @@ impl Keys {
         self.counts = counts_after_wait(&self.map, self.counts, roll, half);
     }
 
-    /// The nanosecond since 1970 from which a wait of `ttl` seconds is over, or `None` where a
-    /// stamp is missing.
+    /// The nanosecond since 1970 from which a wait of `ttl` seconds is over, or `None` if a stamp
+    /// is missing.
     pub fn over_from(&self, roll: RollType, half: Half, ttl: u32) -> Option<u128>
         ensures over { IfSome result (λ end.
             IsOverFrom roll (which half) ttl self.now end) }
@@ -368,8 +368,8 @@ fn put_new(map: &mut HashMap<String, Key>, pubref: String, key: Key) -> Result<(
     }
 }
 
-/// Begins an index of the tags where there is none, and with one more key there are many. That a
-/// key has the reference already is told first: an add that is refused takes no memory.
+/// Begins an index of the tags if there is none, and there are many keys with one more. First it
+/// refuses a reference that a key already has: a refused add takes no memory.
 // Inline, so that most adds make no call for it.
 #[inline(always)]
 fn index_many(
@@ -466,7 +466,7 @@ fn count_all(keys: &HashMap<String, Key>) -> Counts
         .fold(Counts::none(), |counts, key| counts.with(&key.keytype()))
 }
 
-/// What holds of every such map: no reference stands twice, and a `usize` tells how many do.
+/// What holds of every such map: no reference stands twice, and a `usize` holds their number.
 fn is_sound(keys: &HashMap<String, Key>)
     ensures unique { hash.IsUnique string_eq keys.now }
     ensures fits { length keys.now.entries ≤ 18446744073709551615 }
@@ -474,7 +474,7 @@ fn is_sound(keys: &HashMap<String, Key>)
     keys.len();
 }
 
-/// The last of the moments from which a wait is over for a key, or `None` where a stamp is missing.
+/// The last of the moments from which a wait is over for a key, or `None` if a stamp is missing.
 fn latest_over(keys: &HashMap<String, Key>, roll: RollType, half: Half, ttl: u32) -> Option<u128>
     ensures latest { result ≡ fold (over_with roll (which half) ttl) (Some 0)
         (hash.values keys.now) }

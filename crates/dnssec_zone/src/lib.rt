@@ -1,7 +1,7 @@
 //! The parts of a key set: the keys of a zone by their references, its rolls in progress, and what
-//! the starts of rolls listed; with what a start is refused for, and from when on a wait is over.
+//! the starts of rolls listed. Also why a start is refused, and from when on a wait is over.
 //!
-//! `dnssec_keyset` puts them together. Here each hash map is opened in one module.
+//! `dnssec_keyset` puts them together. Here only one module opens each hash map.
 #![tactic(auto)]
 
 mod begun_wait;

@@ -1,4 +1,4 @@
-//! What starts have listed, kept while their rolls may be ended early.
+//! What starts have listed. It is kept while their rolls may be ended early.
 ghost use Rattle.std.specs.Prelude.{◌≡◌, ℕ, List, [], ◌++◌, IfOk, IfErr, OnOk};
 ghost use Rattle.std.specs.Option.{option_map};
 ghost use Rattle.std.specs.FinMap as map;
@@ -15,7 +15,7 @@ use crate::keys::Keys;
 use dnssec_key::{Error, Half, Key, RollType, TagSet, set};
 use std::alloc::Global;
 
-/// As what a start lists a key.
+/// What a start lists a key as.
 #[derive(Clone, Copy, Debug, PartialEq, Eq)]
 pub(crate) enum Part {
     Old,
@@ -139,14 +139,14 @@ impl Lists {
         }
     }
 
-    /// Keeps nothing for a roll any more.
+    /// Drops what is kept for a roll.
     pub fn take_out(&mut self, roll: RollType)
         ensures { self.new.entries.items ≡ without_roll roll self.old.entries.items }
     {
         self.entries.retain(|entry| !entry.is_of_roll(roll));
     }
 
-    /// From its first report on a roll can't be ended early, and nothing is kept for it.
+    /// After its first report a roll can't be ended early, and nothing is kept for it.
     pub fn report(&mut self, roll: RollType, half: Half)
         ensures { self.new.entries.items
             ≡ entries_after_report roll (which half) self.old.entries.items }
@@ -157,7 +157,7 @@ impl Lists {
         }
     }
 
-    /// Keeps a key in no list any more.
+    /// Takes a key out of all lists.
     pub fn forget(&mut self, key_tag: u16)
         ensures { self.new.entries.items ≡ without_tag key_tag self.old.entries.items }
     {

@@ -72,7 +72,7 @@ impl Rolls {
         &self.phases
     }
 
-    /// The phase of a roll, where it is in progress.
+    /// The phase of a roll, if it is in progress.
     #[tactic(auto, using(crate::proofs::Phases::phases))]
     pub fn phase_of(&self, roll: RollType) -> Option<RollState>
         ensures { result ≡ phase_of self.now roll }
@@ -111,8 +111,8 @@ impl Rolls {
         }
     }
 
-    /// Moves a roll on by a report, or refuses one that the roll isn't waiting for. It is looked up
-    /// once, and no memory is taken.
+    /// Moves a roll on by a report, or refuses a report that the roll isn't waiting for. The roll
+    /// is looked up once, and no memory is taken.
     #[tactic(auto, using(crate::proofs::Phases::phases))]
     pub fn take_report(&mut self, roll: RollType, half: Half, ttl: u32) -> Result<(), Error>
         ensures reply { AnswersExactly
@@ -149,7 +149,7 @@ fn awaits_report(phase: RollState, half: Half) -> bool
     )
 }
 
-// What is read of the phases alone.
+// What reads only the phases.
 impl Rolls {
     fn has_conflict(&self, roll: RollType) -> bool
         ensures { result ≡ has_conflict roll self.now }
@@ -185,7 +185,7 @@ impl Rolls {
         }
     }
 
-    /// Refuses an early end of a roll behind its first report.
+    /// Refuses an early end of a roll after its first report.
     pub fn check_early_end(&self, roll: RollType) -> Result<(), Error>
         ensures { AnswersExactly (early_end_refusal (phase_of self.now roll)) result }
     {
@@ -195,7 +195,7 @@ impl Rolls {
         }
     }
 
-    /// The TTL that a wait goes by, in its phase alone.
+    /// The TTL that a wait goes by, if the roll is in the phase of this wait.
     pub fn ttl_in(&self, roll: RollType, half: Half) -> Option<u32>
         ensures { result ≡ ttl_in (which half) (phase_of self.now roll) }
     {

@@ -31,7 +31,7 @@ pub(crate) enum Want {
     PresentZskRole,
 }
 
-/// Of which kinds some keys are.
+/// The kinds of some keys.
 #[derive(Clone, Copy)]
 pub struct Kinds {
     ksk: bool,
@@ -40,7 +40,7 @@ pub struct Kinds {
 }
 
 impl Kinds {
-    /// Those of no keys.
+    /// The kinds of no keys.
     pub(crate) fn none() -> Kinds
         ensures { (w : WantOfStart) → some_serves result w ≡ false }
     {
@@ -78,7 +78,7 @@ impl Kinds {
 }
 
 impl Want {
-    /// Whether a key serves in its state, where it isn't listed as old.
+    /// Whether a key serves in its state, if it isn't listed as old.
     pub(crate) fn is_met_by_kept(self, keytype: KeyType) -> bool
         ensures { result ≡ serves_as_kept (as_want self) keytype }
     {

@@ -1,4 +1,4 @@
-//! Any two sets of the windows are tested once: each that is new with all of the other kinds.
+//! Any two sets of the windows are tested once: each new set with all sets of the other kinds.
 ghost use Rattle.std.specs.Prelude.{◌≡◌, ◌&&◌};
 ghost use Rattle.std.specs.List.{list_all};
 ghost use Rattle.dnssec_judge.specs.Inner.Window.{begin_of, keys_hold, lasting, newly};

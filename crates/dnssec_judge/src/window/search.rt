@@ -26,8 +26,8 @@ impl Window {
     }
 
     /// The first of these DNSKEY sets, with zone signers, that leaves the DS set without a chain.
-    /// None is looked for where the DS set is empty, or where it trusts them all and they trust all
-    /// zone signers: so of many DS sets but the first that is broken takes a search of both.
+    /// There is no search if the DS set is empty, or if it trusts them all and they trust all zone
+    /// signers. So among many DS sets only the first broken one takes a search of both.
     fn find_for(
         &self,
         zone: &Window,

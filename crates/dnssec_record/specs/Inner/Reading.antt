@@ -10,7 +10,7 @@ use Rattle.dnssec_record.specs.declared.fault.ScriptFault.{ScriptFault}
 use Rattle.dnssec_record.specs.declared.fault.ScriptFault.TheVariants.{Malformed, Device}
 use Rattle.dnssec_record.specs.declared.fault.ScriptFault.TheVariants.{OutOfMemory}
 
--- the script is of this zone, and of whatever calls say what these statements say
+-- the script is of this zone and of any calls that say what these statements say
 abbrev pub IsOfStatements : List ℕ → List ℕ → List Statement → Type 0
 IsOfStatements script name statements =
     (calls : List Call) → map call_says calls ≡ map statement_says statements →
@@ -20,13 +20,13 @@ IsOfStatements script name statements =
 abbrev pub says_some : List ℕ → Bool
 says_some line = is_some (says line)
 
--- the first line that says nothing stands behind i lines
+-- the first line that says nothing stands after i lines
 pub record SilentFirst (lines : List (List ℕ)) (i : ℕ) : Type 0 where
   pub within : i < length lines
   pub silent : says_some (slice_index_or lines i []) ≡ false
   pub before : (k : ℕ) → k < i → says_some (slice_index_or lines k []) ≡ true
 
--- the fault of lines of calls, which stand from line 2 on
+-- the fault of the lines of calls, from line 2 on
 abbrev pub CallsFault : List (List ℕ) → ScriptFault → Type 0
 CallsFault lines (Malformed n) = (i : ℕ) × (n ≡ i + 2) × SilentFirst lines i
 CallsFault lines Device = ⊥

@@ -14,7 +14,7 @@ use Rattle.dnssec_record.specs.declared.statement.Statement.TheVariants as state
 abbrev pub traits_say : KeyTraits → List Value
 traits_say k = trait_values k.algorithm k.key_tag k.creation_ts k.available
 
--- the word of a statement, and what each field behind it says
+-- the word of a statement, and what each field after it says
 abbrev pub statement_says : Statement → Word × List Value
 statement_says (statement.Add w p q k) =
     (word.Add w, Reference p.now ∷ Private (option_map now q) ∷ traits_say k)
