@@ -83,7 +83,7 @@ three_or_not (x ∷ y ∷ z ∷ rest) = ⊎_elim
         cc (first d.text_is, second d.text_is, third d.text_is) in
         omega (arith, large, same, d.byte_is, d.fits)
 
--- what stands behind the backslash of an escape
+-- what stands after the backslash of an escape
 record Escaped (text : List ℕ) : Type 0 where
   x : ℕ
   rest : List ℕ
@@ -177,7 +177,7 @@ symbol_byte s b (plain x visible nd nb) = omega arith
 symbol_byte s b (escaped x low high nod) = omega arith
 symbol_byte s b (decimal x y z dx dy dz fits) = omega (arith, fits)
 
--- where no fault stands, none stands first
+-- if no fault stands, none stands first
 no_first : (text : List ℕ) (error : NameError) → HasNoFault text → StandsFirst text error → ⊥
 no_first text error faultless first = faultless.none error first.place first.stands
 

@@ -1,4 +1,4 @@
--- Decimals written from the first until nothing is left are the digits without the end's zeros.
+-- Decimals that are written until nothing is left are the digits without the zeros at the end.
 use Rattle.std.proofs.Common.{◌≡◌, ℕ, zero, suc, ◌+◌, ◌*◌, ◌/◌, ◌%◌, ◌^◌, ◌<◌, ◌≤◌, eqb, true}
 use Rattle.std.proofs.Common.{false, List, [], ◌∷◌, ◌++◌, append-nil, refl, ap, sym, ◌∙◌, ⊎_elim}
 use Rattle.std.proofs.Common.{arith}
@@ -86,7 +86,7 @@ pub place_left : (k place : ℕ) → place ≡ 10 ^ k → 1 < place → 0 < plac
 place_left zero place e more = absurd (omega arith)
 place_left (suc k) place e more = rw (tenth k place e) (pow_pos k)
 
--- where something is left, a place is left for it
+-- if something is left, a place is left for it
 pub turn : (k place rest : ℕ) → place ≡ 10 ^ k → 0 < rest → rest < place → Turn k place rest
 turn zero place rest e some small = absurd (omega arith)
 turn (suc k) place rest e some small =
@@ -98,13 +98,13 @@ turn (suc k) place rest e some small =
       text = rw (tenth k place e) (decimals_more k rest some below);
     }
 
--- where nothing is left, all the decimals are written
+-- if nothing is left, all the decimals are written
 pub all_decimals : (k rest : ℕ) (done all : List ℕ) → rest ≡ 0
     → done ++ without_end_zeros (last_digits k rest) ≡ all → done ≡ all
 all_decimals k rest done all none whole =
     sym (rw (none, decimals_none k) (append-nil done)) ∙ whole
 
--- a unit's decimals tell apart all the nanoseconds that it has
+-- a unit has enough decimals for all the nanoseconds that it has
 pub nanos-in_table : (unit : TimeUnit) → (in_table unit).nanos ≡ 10 ^ (in_table unit).places
 nanos-in_table Second = refl
 nanos-in_table Millisecond = refl

@@ -36,7 +36,7 @@ fault_same error labels label after ls l t same fault =
     let R : List ℕ → Type 0 = λ v. IsFault error ls l v in
     subst R same.after_same (subst Q same.label_same (subst P same.labels_same fault))
 
--- behind a symbol
+-- after a symbol
 pub faults_symbol : (text labels label after s r : List ℕ) (b : ℕ) → IsSymbol s b → after ≡ s ++ r
     → NoFault labels label after → FaultsAhead text labels label after
     → FaultsAhead text labels (label ++ b ∷ []) r
@@ -48,7 +48,7 @@ faults_symbol text labels label after s r b is e none faults = record {
       (past_symbol ls l t labels label after s r b is e (faults.ahead error ls l t place fault));
 }
 
--- behind a dot
+-- after a dot
 pub faults_dot : (text labels label after r : List ℕ) → after ≡ dot ∷ r
     → NoFault labels label after → FaultsAhead text labels label after
     → FaultsAhead text (labels ++ wire_label label) [] r
@@ -96,7 +96,7 @@ symbol_no_fault labels label after s r b is e in_label in_name = go
     go BadByte fault = fronts _ _ after (λ c p q. q p.0) front fault
     go OutOfMemory fault = fault
 
--- a dot behind a label with bytes is no fault
+-- a dot after a label with bytes is no fault
 pub dot_no_fault : (labels label after r : List ℕ) → after ≡ dot ∷ r → label ≢ []
     → NoFault labels label after
 dot_no_fault labels label after r e some = go
@@ -167,7 +167,7 @@ no_symbol_end front = omega (
   symbol_length front.symbol front.byte front.is,
 )
 
--- no label and nothing behind it is the empty text
+-- no label and nothing after it is the empty text
 pub empty_start : (text labels label after : List ℕ) → text ≢ [] → Place text labels label after
     → label ≡ [] → labels ++ after ≡ [] → ⊥
 empty_start text [] label after some place empty nothing =

@@ -17,7 +17,7 @@ use Rattle.dnssec_base.proofs.Faults.{symbol_front, fronts, no_symbol_end, empty
 use Rattle.dnssec_base.proofs.Faults.{end_no_fault}
 use Rattle.dnssec_base.proofs.WireLabels.{label_bounds, skip}
 
--- what a name has behind the labels before a place: the rest of the label there, and more
+-- what a name has after the labels before a place: the rest of the label there, and more
 record GoesOn (tail label after : List ℕ) : Type 0 where
   more : List ℕ
   rest : List ℕ
@@ -27,7 +27,7 @@ record GoesOn (tail label after : List ℕ) : Type 0 where
   dotted : BeginsWith (λ c. c ≡ dot) after → more ≡ []
   piece : (after ≡ []) ⊎ (BeginsWithSymbol after ⊎ BeginsWith (λ c. c ≡ dot) after)
 
--- a name is the labels before a place, and what it has behind them
+-- a name is the labels before a place, and what it has after them
 record Tail (name labels label after : List ℕ) : Type 0 where
   tail : List ℕ
   name_is : name ≡ labels ++ tail
@@ -127,7 +127,7 @@ labels_tail text ls l t tail (after_dot labels label after place) some are =
     go [] a = absurd (root_only tail some a)
     go (x ∷ label) a = skip (x ∷ label) tail a.1
 
--- a name that goes on behind a place has no fault there
+-- a name that goes on after a place has no fault there
 go_fault : (text name labels label after tail : List ℕ) (error : NameError) → text ≢ []
     → Place text labels label after
     → name ≡ labels ++ tail → 0 < length tail → IsWireName name → GoesOn tail label after

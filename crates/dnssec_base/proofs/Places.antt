@@ -80,7 +80,7 @@ ahead_start text labels label after (after_symbol ls l s t b is place) =
 ahead_start text labels label after (after_dot ls l t place) =
     ahead-dot ls l (dot ∷ t) [] [] text t refl (ahead_start text ls l (dot ∷ t) place)
 
--- what lies ahead of a symbol is the place before it, or lies ahead of the place behind it
+-- what lies ahead of a symbol is the place before it, or lies ahead of the place after it
 pub past_symbol : (labels label after ls l t s r : List ℕ) (b : ℕ) → IsSymbol s b → t ≡ s ++ r
     → Ahead labels label after ls l t
     → SamePlace labels label after ls l t ⊎ Ahead labels label after ls (l ++ b ∷ []) r
@@ -93,7 +93,7 @@ past_symbol labels label after ls l t s r b is e (by_symbol x y z s' r' b' is' e
 past_symbol labels label after ls l t s r b is e (by_dot x y z r' e' rest) =
     absurd (symbol_dot s r r' b is (sym e ∙ e'))
 
--- what lies ahead of a dot is the place before it, or lies ahead of the place behind it
+-- what lies ahead of a dot is the place before it, or lies ahead of the place after it
 pub past_dot : (labels label after ls l t r : List ℕ) → t ≡ dot ∷ r
     → Ahead labels label after ls l t
     → SamePlace labels label after ls l t ⊎ Ahead labels label after (ls ++ wire_label l) [] r

@@ -21,14 +21,14 @@ mark n is = grind (arith, nat_tests)
 visible : (n : ℕ) → n ≢ dot → n ≢ backslash → 0x21 ≤ n → n ≤ 0x7E → printed_byte n ≡ n ∷ []
 visible n no_dot no_backslash low high = grind (arith, nat_tests)
 
--- a mark behind a backslash is a symbol
+-- a mark after a backslash is a symbol
 mark_symbol : (n : ℕ) → (n ≡ dot) ⊎ (n ≡ backslash) → IsSymbol (printed_byte n) n
 mark_symbol n is =
     let symbol : IsSymbol (backslash ∷ n ∷ []) n =
     escaped n (omega arith) (omega arith) (λ digit. omega arith) in
     subst (λ s. IsSymbol s n) (sym (mark n is)) symbol
 
--- a visible character is a symbol, as it is or behind a backslash
+-- a visible character is a symbol, as it is or after a backslash
 visible_symbol : (n : ℕ) → 0x21 ≤ n → n ≤ 0x7E → IsSymbol (printed_byte n) n
 visible_symbol n low high = ⊎_elim
     (λ is_dot. mark_symbol n (inl is_dot))

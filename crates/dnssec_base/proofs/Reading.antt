@@ -31,7 +31,7 @@ reads_start text d no_labels no_label =
     λ i. record { labels = sym no_labels i; label = sym no_label i } in
     subst (λ e. Reads text e text) same start
 
--- behind a dot
+-- after a dot
 pub reads_dot : (text : List ℕ) (d e : DraftName) (after rest : List ℕ) → Reads text d rest
     → rest ≡ dot ∷ after
     → d.label ≢ [] → e.labels ≡ d.labels ++ wire_label d.label → e.label ≡ [] → Reads text e after
@@ -47,7 +47,7 @@ reads_dot text d e after rest r split some labels_is label_is =
     λ i. record { labels = sym labels_is i; label = sym label_is i } in
     subst (λ e. Reads text e after) same next
 
--- behind a symbol
+-- after a symbol
 pub reads_byte : (text : List ℕ) (d e : DraftName) (byte : ℕ) (after rest : List ℕ)
     → Reads text d rest
     → IsPiece (Byte byte) rest after → byte < 256 → HasRoom d

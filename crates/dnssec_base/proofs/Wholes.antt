@@ -6,7 +6,7 @@ use Rattle.dnssec_base.specs.WireName.{AreLabels, IsLabel, IsWireName, wire_labe
 use Rattle.dnssec_base.specs.NameText.{wire_end, root_name}
 use Rattle.dnssec_base.proofs.WireLabels.{label_front}
 
--- whole labels, and behind them bytes of one more that fits with the root
+-- whole labels, and after them bytes of one more that fits with the root
 pub record IsWhole (labels label : List ℕ) : Type 0 where
   pub labels_whole : AreLabels 0 (labels ++ root_name)
   pub labels_octets : All (λ byte. byte < 256) labels
@@ -57,7 +57,7 @@ whole_start = record {
   name_fits = omega arith;
 }
 
--- behind one more byte
+-- after one more byte
 pub whole_symbol : (labels label : List ℕ) (byte : ℕ) → IsWhole labels label → byte < 256
     → length label < 63
     → length (labels ++ wire_label label) + 2 ≤ 255 → IsWhole labels (label ++ byte ∷ [])
@@ -75,7 +75,7 @@ whole_symbol labels label byte whole small room fits = record {
   );
 }
 
--- behind a dot
+-- after a dot
 pub whole_dot : (labels label : List ℕ) → IsWhole labels label → label ≢ []
     → IsWhole (labels ++ wire_label label) []
 whole_dot labels label whole some =
@@ -99,7 +99,7 @@ whole_dot labels label whole some =
       );
     }
 
--- at the end, behind a final dot
+-- at the end, after a final dot
 whole_dotted : (labels : List ℕ) → IsWhole labels [] → IsWireName (labels ++ root_name)
 whole_dotted labels whole = record {
   labels = whole.labels_whole;

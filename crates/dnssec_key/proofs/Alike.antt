@@ -14,7 +14,7 @@ both : {A B : Type 0} → (p q : Bool) → Decides p A → Decides q B → Decid
 both true q a b = (λ h. (a.0 refl, b.0 h), λ h. b.1 h.1)
 both false q a b = (λ h. absurd (false≢true h), λ h. absurd (false≢true (a.1 h.0)))
 
--- two states are one exactly where all five flags are
+-- two states are one if and only if all five flags are
 pub alike_states : (s t : Flags) → Decides (of_states.ghosts.eq s t) (s ≡ t)
 alike_states s t =
     let flags = both _ _ (booleans_Decides s.available t.available)
@@ -66,7 +66,7 @@ last (Include s) = s
 apart : (k l : KeyType) → kind k ≢ kind l → Decides false (k ≡ l)
 apart k l d = (λ h. absurd (false≢true h), λ e. absurd (d (ap kind e)))
 
--- two keys' kinds are one exactly where the kind and all states are
+-- two keys' kinds are one if and only if the kind and all states are
 pub alike_kinds : (k l : KeyType) → Decides (of_kinds.ghosts.eq k l) (k ≡ l)
 alike_kinds (Ksk s) (Ksk u) = (
   λ h. ap Ksk ((alike_states s u).0 h),

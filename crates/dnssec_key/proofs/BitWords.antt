@@ -41,7 +41,7 @@ module _ (ws : List ℕ) (tag w : ℕ) (b : Bool) (room : tag / 64 < length ws)
             same_word t e (λ x. apart (omega arith))
         by false h false g = other_word t (λ x. grind (arith, nat_tests))
 
--- no bit is set where all words are 0
+-- no bit is set if all words are 0
 zero_at : (n i : ℕ) → ◌≡◌ {A = ℕ} (get_or {A = ℕ} (replicate {A = ℕ} n 0) i 0) 0
 zero_at zero i = refl
 zero_at (suc n) zero = refl

@@ -1,4 +1,4 @@
--- What `retain` keeps of a list, where its closure stays as it is.
+-- What `retain` keeps of a list, if its closure stays as it is.
 use Rattle.std.proofs.Common.{◌≡◌, Bool, true, false, List, [], ◌∷◌, length, ◌∙◌, ap, arith, cond}
 use Rattle.std.proofs.Common.{refl, subst}
 use Rattle.std.specs.List.{filter, items_where_true}

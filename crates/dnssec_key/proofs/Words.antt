@@ -1,4 +1,4 @@
--- The words so far grow by a separator and the next word, where its flag is set.
+-- The words so far grow by a separator and the next word, if its flag is set.
 use Rattle.std.proofs.Common.{◌≡◌, ℕ, ◌+◌, ◌<◌, Bool, true, false, List, [], ◌∷◌, ◌++◌, codes}
 use Rattle.std.proofs.Common.{map, take, length, get_or, refl, sym, ◌∙◌, append-nil, append_assoc}
 use Rattle.std.proofs.lemmas.Grind.{flat_map-append}

@@ -78,7 +78,7 @@ module _ (old new : KeySetParts) (apart : TagsApart old.keys) where
       apart q r b.0 c.0 b.1 c.1 (sym (keeps q b.0) ∙ ap (λ (x : KeyParts). x.key_tag) b.2 ∙ same
       ∙ sym (ap (λ (x : KeyParts). x.key_tag) c.2) ∙ keeps r c.0)
 
-  -- a key put where its tag is no other key's
+  -- a key is put in whose tag no other key has
   apart-puts : (r : List ℕ) (o : Option KeyParts) (kept : Lists)
       → ((x k : KeyParts) (q : List ℕ) → o ≡ Some x → get old.keys q ≡ Some k → k.key_tag
       ≡ x.key_tag → q ≡ r) → PutsKey old new r o kept → TagsApart new.keys

@@ -1,5 +1,5 @@
--- What starts have listed, behind each call: the entries that are kept agree with the keys, and
--- mean the lists of the step.
+-- What starts have listed, after each call: the entries that are kept agree with the keys, and mean
+-- the lists of the step.
 use Rattle.std.proofs.Common.{◌≡◌, ℕ, Bool, true, false, not, List, [], Some, None, Ok, Err, refl}
 use Rattle.std.proofs.Common.{sym}
 use Rattle.std.proofs.Common.{ap, subst, ◌∙◌}

@@ -1,4 +1,4 @@
--- A call on a roll leaves the keys alone that the roll doesn't change.
+-- A call on a roll leaves keys alone whose kind the roll doesn't change.
 use Rattle.std.proofs.Common.{◌≡◌, ℕ, Bool, true, false, List, [], ◌∷◌, ◌++◌, Some, None, refl, inl}
 use Rattle.std.proofs.Common.{inr, sym, ap, ◌∙◌}
 use Rattle.std.specs.Prelude.{Option, ◌⊎◌, ◌||◌, ◌&&◌, not, if◌then◌else◌}

@@ -68,7 +68,7 @@ pub told-missing : (T : Type 0) (roll : RollType) (half : Half) (ttl : ℕ) (key
     AnswersWait {T = T} (wait_in_phase roll half t now keys) [] (Err WrongKeyState)
 told-missing T roll half ttl keys t phase lacks now = rw (phase, lacks now) refl
 
--- what is left, where the moment is told as a duration
+-- what is left, if the moment is given as a duration
 pub left-now : (ttl end : ℕ) {now nanos : ℕ} → nanos ≡ now →
     min (ttl * 1_000_000_000) (end - nanos) ≡ min (ttl * 1_000_000_000) (end - now)
 left-now ttl end e = ap (λ n. min (ttl * 1_000_000_000) (end - n)) e

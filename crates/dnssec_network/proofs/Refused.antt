@@ -1,4 +1,4 @@
--- A fact that is refused since it goes back, or was seen before it was published, is true of no
+-- A fact that is refused because it goes back, or was seen before it was published, is true of no
 -- network in which nothing goes back.
 use Rattle.std.proofs.Common.{◌≡◌, ℕ, suc, ◌<◌, ◌≤◌, ◌++◌, ◌⊎◌, inl, inr, refl, sym, ◌∙◌, ap, subst}
 use Rattle.std.proofs.Common.{arith, List, [], ◌∷◌, Option, None, Some, Bool, true, false}
@@ -25,7 +25,7 @@ use Rattle.dnssec_network.specs.Notes.{RefusedFactsAreUntrue, first_progress}
 use Rattle.dnssec_network.specs.Notes.{newest_after, newest_of, news_refusal, progress_of}
 use Rattle.dnssec_network.specs.Notes.{progress_after}
 
--- ---- the newest version of a kind, by its news alone
+-- ---- the newest version of a kind, only by its news
 
 abbrev next : Newest → News → Newest
 next newest news = newest_after news newest
@@ -167,7 +167,7 @@ untrue network kind calls newest (Everywhere moment) never serves last refused =
     last.tells.published 0 moment serves (last.true.0 0 serves) in
     absurd (omega (arith, lt, le))
 
--- the news of a kind, with a fact of it behind
+-- the news of a kind, with one more fact of it at the end
 one-behind : (kind : SetKind) (facts : List Fact) (fact : Fact)
     → filter (λ (f : Fact). same_kind (kind_of f.kind) kind) (fact ∷ []) ≡ fact ∷ []
     → news_of kind (facts ++ fact ∷ []) ≡ news_of kind facts ++ fact.news ∷ []

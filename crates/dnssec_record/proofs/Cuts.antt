@@ -20,7 +20,7 @@ none_before : (b : Bool) (n i : ℕ) → cond b (Some n) None ≡ None → b ≡
 none_before true n i e = cc
 none_before false n i e = refl
 
--- where none passes the text is one part
+-- if no byte passes, the text is one part
 pub no_cut : (p : ℕ → Bool) (xs : List ℕ) → position p xs ≡ None → slice_split p xs ≡ xs ∷ []
 no_cut p xs e =
     let past = ltb-false _ _ (none_before _ _ 0 e) in

@@ -85,7 +85,7 @@ zone_first zone lines none = record {
   before = λ k above below. absurd (omega arith);
 }
 
--- a first line that says nothing, behind the line of the zone
+-- a first line that says nothing, after the line of the zone
 call_first : (zone : List ℕ) (lines : List (List ℕ)) (name : List ℕ) (i : ℕ)
     → IsZoneLine zone name → SilentFirst lines i → IsFirstOf (zone ∷ lines) (suc (suc i))
 call_first zone lines name i is silent = record {

@@ -44,14 +44,14 @@ unended script text b split other =
     split ∙ ap (λ t. if t then text else text ++ b ∷ []) (sym no)
     ∙ sym (without_end-last text b) ∙ ap without_end (sym split)
 
--- what a line says, where nothing was read
+-- what a line says, if nothing was read
 pub silent : (found : Option Statement) (line : List ℕ)
     → option_map statement_says found ≡ says line → found ≡ None → false ≡ says_some line
 silent found line call_says none =
     ap (λ (o : Option Statement). is_some (option_map statement_says o)) (sym none)
     ∙ ap is_some call_says
 
--- what a line says, where a statement was read
+-- what a line says, if a statement was read
 pub spoken : (found : Option Statement) (line : List ℕ) (s : Statement)
     → option_map statement_says found ≡ says line → found ≡ Some s
     → Some (statement_says s) ≡ says line
@@ -139,7 +139,7 @@ line_next found x rest (line ∷ lines) read is = λ i. (sym same i).0 ∷ (sym 
     same : found_line (x, rest) ≡ (line, lines)
     same = some_same _ _ (sym (ap (option_map found_line) is) ∙ read)
 
--- and where it finds none
+-- and if it finds none
 pub line_none : (found : Option (Bor (List ℕ) × List (List ℕ))) (lines : List (List ℕ))
     → option_map found_line found ≡ first_field lines → found ≡ None → lines ≡ []
 line_none found [] read is = refl

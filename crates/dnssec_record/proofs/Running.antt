@@ -82,7 +82,7 @@ none_answered name text r j records knows empty = record {
       (sym (last-zone name [] [] r records));
 }
 
--- the entry behind some others
+-- the entry after some others
 pub last_of : (entries : List Entry) (e : Entry)
     → Some e ≡ slice_get (entries ++ e ∷ []) (length (entries ++ e ∷ []) - 1)
 last_of entries e =
@@ -105,7 +105,7 @@ told_held e Ds = refl
 told_held e Dnskey = refl
 told_held e ZoneSigners = refl
 
--- the entry of an outcome comes next, where the sets are handed in that may have changed
+-- the entry of an outcome comes next, if the sets are handed in that may have changed
 pub next_comes : (name : List ℕ) (calls : List Call) (entries : List Entry) (r s : Recorder)
     (outcome : Outcome) (e : Entry) (news : Option Published) (b : Bool)
     → Records name calls entries r → e.mark ≡ outcome.mark → e.moment ≡ outcome.moment
@@ -172,7 +172,7 @@ one_more name past now text after r s j k call outcome news so one made kept han
       sets_are = ap sets_text (last_of so.entries e);
     }
 
--- all statements of a script, with the sets and the verdict behind their answers
+-- all statements of a script, with the sets and the verdict after their answers
 pub all_answered : (script name : List ℕ) (statements : List Statement)
     (text sets whole : List ℕ) (r : Recorder) (j : Judge) (verdict : Option Broken)
     → IsOfStatements script name statements → HasAnswered name statements text r j

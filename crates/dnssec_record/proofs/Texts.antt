@@ -6,7 +6,7 @@ use Rattle.std.proofs.lemmas.List.{get_or-map, take_more, map-append, length-map
 use Rattle.std.proofs.lemmas.List.Folds.{list_all_at, list_all_more}
 use denote.Bor.{now}
 
--- what stands where a slice has no text
+-- what stands at a place of a slice without text
 abbrev pub blank : Bor (List ℕ)
 blank = record { ref_ptr = (0, 0); now = [] }
 

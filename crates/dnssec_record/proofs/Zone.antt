@@ -65,13 +65,13 @@ ascii_utf8 text is =
 pub spelled_utf8 : (text name : List ℕ) → Spells text name → IsUtf8 text
 spelled_utf8 text name spelled = ascii_utf8 text (spelled_below text name spelled)
 
--- where a fault stands, no name is spelled
+-- if a fault stands in a text, it spells no name
 pub faulty : (text : List ℕ) (fault : NameError) → StandsFirst text fault
     → (name : List ℕ) → ¬ Spells text name
 faulty text fault first name spelled =
     (spells_no_fault text name spelled).none fault first.place first.stands
 
--- the name that the text behind the word spells
+-- the name that the text after the word spells
 pub zone_found : {E : Type 0} (line text : List ℕ) → line ≡ codes "zone " ++ text
     → (r : Result (Option (List ℕ)) E) → IfOk r (λ found. IfSome found (Spells text))
     → IfOk r (λ found. IfSome found (IsZoneLine line))

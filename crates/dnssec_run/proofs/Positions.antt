@@ -1,4 +1,5 @@
--- A published list has just the keys that its set shows, in their order: for `run` and `changes`.
+-- A published list has exactly the keys that its set shows, in their order: for `run` and
+-- `changes`.
 use Rattle.std.proofs.Common.{◌≡◌, ℕ, Bool, true, false, cond, List, [], ◌∷◌, map, None, Some, refl}
 use Rattle.std.proofs.Common.{sym, ap, subst, ◌∙◌, string_bytes, ◌++◌, append_assoc}
 use Rattle.std.proofs.Common.{append-nil}
@@ -132,7 +133,7 @@ module _ (added : List ℕ → ℕ) where
         at true rest = ap (λ xs. (e.0, added e.0) ∷ xs) rest
         at false rest = rest
 
--- an entry that stands behind another is found behind it
+-- an entry that stands after another is found after it
 found_behind : (e : List ℕ × KeyParts) (es xs : List (List ℕ × KeyParts))
     → T (below_all (slice_cmp nat_cmp) e.0 xs)
     → AreFound (λ q. find (slice_cmp nat_cmp) q es) xs
@@ -216,7 +217,7 @@ module _ {Y : Type 0} (p : KeyType → Bool) (key : List ℕ → Option KeyParts
       ∙ ap (λ l. old ++ l) (sym (passing-first e es))
       ∙ ap (λ l. old ++ ids_where p key l) (sym steps) ∙ so
 
-  -- behind the whole walk
+  -- after the whole walk
   pub shows-all : (all whole : List Id) (left : List (String Y × ℕ)) → left ≡ []
       → all ++ ids_where p key left ≡ whole → all ≡ whole
   shows-all all whole left none so =
@@ -276,7 +277,7 @@ module _ (p : KeyType → Bool) (w : World) where
       (find-placed w.added (entries w.set.keys) q
       ∙ ap (option_map (λ k. w.added q)) (sym (get-entries w.set.keys q)))
 
--- where the same keys pass, each added at the same position, the same list is keys_where
+-- if the same keys pass, each added at the same position, `keys_where` is the same list
 pub same-shown : (p : KeyType → Bool) (w v : World)
     → ((q : List ℕ) → option_map_or (λ (k : KeyParts). p k.keytype) (get v.set.keys q) false
     ≡ option_map_or (λ (k : KeyParts). p k.keytype) (get w.set.keys q) false)

@@ -1,6 +1,6 @@
 -- What a plain list sets by hand and starts, said of the key set at each position, as the proofs
--- use it. On every run it is the same as what the definitions say of calls and replies alone: the
--- kind of a key never changes. For `chain` and the laws of whole rolls.
+-- use it. On every run it is the same as the definitions, which speak only of calls and replies:
+-- the kind of a key never changes. For `chain` and the laws of whole rolls.
 use Rattle.std.proofs.Common.{◌≡◌, ℕ, zero, suc, ◌<◌, Bool, true, false, List, Option, None, Some}
 use Rattle.std.proofs.Common.{refl, sym, ap, subst, ◌∙◌}
 use Rattle.std.specs.Prelude.{if◌then◌else◌, nat_eq, slice_get}
@@ -84,7 +84,7 @@ end_of (keyset.RollDone roll) = Some roll
 end_of (keyset.AbortRoll roll) = Some roll
 end_of _ = None
 
--- the call behind position n is accepted, and does this for the roll, as the key set sees it
+-- the call after position n is accepted, and does this for the roll, as the key set sees it
 abbrev pub DoesAt : (keyset.Call → Option RollType) → List Call → List Entry → ℕ → RollType
     → Type 0
 DoesAt does calls entries n roll =
@@ -338,7 +338,7 @@ module _ (calls : List Call) (entries : List Entry) (n : ℕ) (roll : RollType) 
 
 module _ (name : List ℕ) (calls : List Call) (entries : List Entry)
     (run : IsRun name calls entries) where
-  -- a reference names another signer's key where the key set has one there
+  -- a reference names another signer's key if the key set has one there
   pub names-others : (n : ℕ) (q : List ℕ) → plain.names_others calls entries n q
       ≡ others_key (get (world_at name calls entries n).set.keys q)
   unfolding plain.names_others world_at

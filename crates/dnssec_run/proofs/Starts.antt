@@ -118,7 +118,7 @@ module _ (old new : KeySetParts) where
   started (keyset.RollDone r) m s = absurd (none-some AlgorithmRoll s)
   started (keyset.AbortRoll r) m s = absurd (none-some AlgorithmRoll s)
 
--- where a roll is accepted to start, no algorithm roll is in progress
+-- if the start of a roll is accepted, no algorithm roll is in progress
 alone : (set : KeySetParts) (c : keyset.Call) → keyset.clearance set c ≡ waits.Clear
     → (roll : RollType) → start_of c ≡ Some roll → phase_of set.rolls AlgorithmRoll ≡ None
 alone set (keyset.AddKey q k) v roll s = absurd (none-some roll s)
@@ -204,7 +204,7 @@ module _ (name : List ℕ) (calls : List Call) (entries : List Entry) (run : IsR
         (step_of start_of m AlgorithmRoll s).1 s.roll_is))
   ]
 
-  -- so it is past its first wait where another roll starts
+  -- so it is past its first wait when another roll starts
   passed : (n : ℕ) (roll : RollType) → DoesAt start_of calls entries n roll → Began n
       → (m : ℕ) × (m < n) × DoesAt first_wait_of calls entries m AlgorithmRoll
   passed n roll s (inl w) = w

@@ -1,4 +1,4 @@
--- Two lists have the same algorithms where each one's are among the other's.
+-- Two lists have the same algorithms if each one's are among the other's.
 use Rattle.std.proofs.Common.{◌≡◌, ℕ, ◌+◌, ◌*◌, ◌/◌, ◌%◌, ◌<◌, ◌^◌, Bool, true, false, List, []}
 use Rattle.std.proofs.Common.{◌∷◌, length, get_or, Some, None, refl, sym, ap, subst, ◌∙◌, inl, inr}
 use Rattle.std.proofs.Common.{arith}

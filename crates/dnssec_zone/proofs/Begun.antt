@@ -1,5 +1,5 @@
--- What is known of a begun wait stays true as a key changes of which the wait sees no more than it
--- did, or goes of which it sees nothing.
+-- What is known of a begun wait stays true if a key changes and the wait sees no change in it, or
+-- if a key goes of which the wait sees nothing.
 use Rattle.std.proofs.Common.{◌≡◌, ℕ, ◌≤◌, Bool, true, false, not, List, Some, None, refl, sym, ap}
 use Rattle.std.proofs.Common.{subst, ◌∙◌, arith}
 use Rattle.std.specs.Prelude.{Option, IfSome, IfNone, nat_eq, is_some, if◌then◌else◌, ◌*◌}
@@ -27,7 +27,8 @@ use Rattle.dnssec_zone.proofs.Tests.{alike, alike-same, each_in_half-at, mp, ◌
 use Rattle.dnssec_zone.proofs.Waits.{left-over, left_of, left_of-unchecked, missing-same}
 
 module _ (roll : RollType) (half : Half) (ttl : ℕ) where
-  -- what the wait sees at a reference: where no key is, what it sees of one that it doesn't check
+  -- what the wait sees at a reference; if no key is there, what it sees of a key that it doesn't
+  -- check
   seen : Keys → List ℕ → Option ℕ
   seen keys q = option_map_or (over_at roll half ttl) (get keys q) (Some 0)
 

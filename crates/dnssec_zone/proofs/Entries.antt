@@ -51,7 +51,7 @@ module _ (roll : RollType) (keys : Keys) (olds : List (List ℕ)) (news : List (
       let e : all ≡ Some fault = apart ∙ ap (λ o. option_or o behind) (sym (is ∙ there)) in
       rw e refl
 
-  -- it isn't, and the first fault stands behind it
+  -- it isn't, and the first fault stands after it
   pub fault-behind : {found : Option Error} → found ≡ None
       → found ≡ new_entry_fault roll (get keys (get_or news i d).now)
       (has_its_tag tags (get keys (get_or news i d).now))
@@ -68,7 +68,7 @@ listed-behind keys olds news tags i d within has = listed-same keys tags _ _
     (λ q. ap (λ b. is_listed olds q || b) (listed_more referred news i d q within)
     ∙ or_joined (is_listed olds q) _ _) has
 
--- the entry at i counts where its key serves and isn't listed before
+-- the entry at i counts if its key serves and isn't listed before
 pub counted-more : (p : KeyType → Bool) (keys : Keys) (olds : List (Bor (List ℕ))) (i : ℕ)
     (d : Bor (List ℕ)) → i < length olds → (b : Bool)
     → b ≡ option_map_or (λ (k : KeyParts). p k.keytype
@@ -96,7 +96,7 @@ counted-behind p keys olds tags i d within has b first = counted-more p keys old
 pub no_more : (n : ℕ) → n + 0 ≡ n
 no_more n = omega arith
 
--- no more are counted than were looked at
+-- at most as many are counted as were looked at
 pub low : (n m i : ℕ) (b : Bool) → n ≤ i → m ≡ n + bit b → m ≤ i + 1
 low n m i true h e = omega (arith, h, e)
 low n m i false h e = omega (arith, h, e)

@@ -66,7 +66,7 @@ affects Zone KskRoll = false
 affects Zone KskDoubleDsRoll = false
 affects _ _ = true
 
--- where a side is: in no roll, before its first wait, or behind it
+-- how far a side is: in no roll, before its first wait, or after it
 pub data Stage : Type 0 where
   Quiet : Stage
   Early : RollType → Stage

@@ -1,5 +1,5 @@
--- The longest of the times that keys have left: no key of the set has more, and a bound of all of
--- them is no less; and whether a wait is early by it. For the end of a wait, for the exchange of
+-- The longest of the times that keys have left: no key of the set has more, and no bound of all of
+-- them is less. Also whether a wait is early by it. For the end of a wait, for the exchange of
 -- calls, and for the laws of runs.
 use Rattle.std.proofs.Common.{◌≡◌, ℕ, ◌<◌, ◌≤◌, Bool, true, false, List, [], ◌∷◌, map, Some, refl}
 use Rattle.std.proofs.Common.{inl, inr, sym, ap, ◌∙◌, max, arith}
@@ -86,14 +86,14 @@ pub none-left : (n : ℕ) → n ≤ 0 → early_by n ≡ Clear
 none-left n h = ap (λ b. if b then Clear else Early n)
     (let none : nat_eq n 0 ≡ true = grind (arith, nat_tests) in none)
 
--- and so with none alone
+-- and a clear wait has none left
 pub clear-left : (n : ℕ) → early_by n ≡ Clear → n ≤ 0
 clear-left n e = elim (cases_Bool (nat_eq n 0)) [
   | inl none ↦ grind (arith, nat_tests)
   | inr some ↦ absurd (let early = sym (ap (λ b. if b then Clear else Early n) some) ∙ e in cc)
 ]
 
--- with some left it is early by so much
+-- with some left a wait is early by that much
 pub some-left : (n : ℕ) → 0 < n → early_by n ≡ Early n
 some-left n h = ap (λ b. if b then Clear else Early n)
     (let some : nat_eq n 0 ≡ false = grind (arith, nat_tests) in some)

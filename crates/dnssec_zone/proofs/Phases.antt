@@ -66,7 +66,7 @@ no_phases ZskDoubleSignatureRoll = refl
 no_phases CskRoll = refl
 no_phases AlgorithmRoll = refl
 
--- the phases that f tells
+-- the phases that f gives
 phase_of-by : (f : RollType → Option RollState) (q : RollType) → phase_of (rolls_by f) q ≡ f q
 phase_of-by f KskRoll = refl
 phase_of-by f KskDoubleDsRoll = refl

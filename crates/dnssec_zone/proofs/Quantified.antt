@@ -1,5 +1,5 @@
--- A test of some key, against the look-ups: where some key passes one finds it, and where none does
--- none finds one.
+-- A test of some key, against the look-ups: if some key passes, a look-up finds it; if none passes,
+-- no look-up finds one.
 use Rattle.std.proofs.Common.{◌≡◌, ℕ, Bool, true, false, cond, List, [], ◌∷◌, map, Some, refl, sym}
 use Rattle.std.proofs.Common.{ap, subst, ◌∙◌, inl, inr}
 use Rattle.std.specs.Prelude.{◌&&◌, ◌||◌, T}
@@ -102,7 +102,7 @@ module _ (p : List ℕ → KeyParts → Bool) where
       → get keys q ≡ Some k → p q k ≡ false
   some_entry-none keys q k h f = none_entry (entries keys) q k h (sym (get-entries keys q) ∙ f)
 
--- ---- a test of the key alone is one that doesn't read the reference
+-- ---- a test of only the key doesn't read the reference
 
 any_key : (p : KeyParts → Bool) (es : List (List ℕ × KeyParts))
     → list_any (λ (e : List ℕ × KeyParts). p e.1) es
@@ -111,12 +111,12 @@ any_key p [] = refl
 any_key p (e ∷ es) = ap (λ b. p e.1 || b) (any_key p es)
 
 module _ (p : KeyParts → Bool) where
-  -- where some key passes, a look-up finds one
+  -- if some key passes, a look-up finds one
   pub some_key-found : (keys : Keys) → some_key p keys ≡ true → (q : List ℕ) × (k : KeyParts)
       × (get keys q ≡ Some k) × (p k ≡ true)
   some_key-found keys h = some_entry-found (λ q. p) keys (any_key p (entries keys) ∙ h)
 
-  -- where no key passes, none that a look-up finds does
+  -- if no key passes, no look-up finds one that does
   pub some_key-none : (keys : Keys) (q : List ℕ) (k : KeyParts) → some_key p keys ≡ false
       → get keys q ≡ Some k → p k ≡ false
   some_key-none keys q k h = some_entry-none (λ q. p) keys q k (any_key p (entries keys) ∙ h)

@@ -1,4 +1,4 @@
--- What keeps the index of the tags, whatever its form: `has` is what it says of a tag.
+-- What keeps the index of the tags right, whatever its form: `has` is what it says of a tag.
 use Rattle.std.proofs.Common.{◌≡◌, ℕ, Bool, true, false, List, Some, None, refl, sym, ap, subst}
 use Rattle.std.proofs.Common.{◌∙◌, inl, inr, arith}
 use Rattle.std.specs.Prelude.{Option, IfSome, nat_eq, if◌then◌else◌, ◌⊎◌, ◌||◌, ◌&&◌, not}
@@ -58,7 +58,7 @@ pub mapped : (o : Option KeyParts) (f : KeyParts → KeyParts) (l : KeyParts)
 mapped None f l e = cc
 mapped (Some k) f l e = (k, refl, cc)
 
--- tags are apart where keys are changed and keep theirs,
+-- tags stay apart if keys are changed and keep their tags,
 pub apart-mapped : (m n : Keys) (f : List ℕ → KeyParts → KeyParts) →
     ((q : List ℕ) (k : KeyParts) → (f q k).key_tag ≡ k.key_tag)
     → ((q : List ℕ) → get n q ≡ option_map (f q) (get m q)) → TagsApart m → TagsApart n
@@ -81,7 +81,7 @@ apart-removed m n r is old q s k l e d same = old q s k l (kept q k e) (kept s l
       | inr h ↦ sym (ap (λ (b : Bool). if b then None else get m q) h) ∙ sym (is q) ∙ e
     ]
 
--- a key that is there behind an add is the added one, or was there
+-- a key that is there after an add is the added one, or was there
 came : (m n : Keys) (r : List ℕ) (x : KeyParts)
     → ((q : List ℕ) → get n q ≡ (if bytes_eq r q then Some x else get m q)) → (q : List ℕ)
     (k : KeyParts) → get n q ≡ Some k → ((r ≡ q) × (x ≡ k)) ⊎ (get m q ≡ Some k)
@@ -117,7 +117,7 @@ apart-added m n r x absent free is old q s k l e d same = elim (came m n r x is 
   ]
 ]
 
--- ---- a test that tells the tags of the keys
+-- ---- a test that says which tags the keys have
 
 -- each key's tag passes, and each tag that passes is a key's
 record Tells (has : ℕ → Bool) (keys : Keys) : Type 0 where
@@ -272,13 +272,13 @@ has_tag-added m n r x absent is =
 
 -- ---- what an index says
 
--- where it says what it did before
+-- if it says what it did before
 said-same : (o p : Option Bool) (a b : Bool) → p ≡ o → b ≡ a
     → IfSome o (λ x. x ≡ a) → IfSome p (λ x. x ≡ b)
 said-same o p a b same is old =
     subst (λ b. IfSome p (λ x. x ≡ b)) (sym is) (subst (λ o. IfSome o (λ x. x ≡ a)) (sym same) old)
 
--- where it says something else for a reason
+-- if it says something else for a reason
 said-through : (f : Bool → Bool) (o p : Option Bool) (a b : Bool) → p ≡ option_map f o → b ≡ f a
     → IfSome o (λ x. x ≡ a) → IfSome p (λ x. x ≡ b)
 said-through f o p a b after is old = said-same (option_map f o) p (f a) b after is (at o old)

@@ -1,4 +1,4 @@
--- What the walk of a wait finds, that a stamp is missing or from when on the wait is over.
+-- What the walk of a wait finds: that a stamp is missing, or from when on the wait is over.
 use Rattle.std.proofs.Common.{◌≡◌, ℕ, zero, suc, ◌<◌, ◌≤◌, Bool, true, false, not, List, [], ◌∷◌}
 use Rattle.std.proofs.Common.{Some, None, refl, sym, ap, subst, ◌∙◌, inl, inr, max, min, arith}
 use Rattle.std.specs.Prelude.{Option, ◌⊎◌, ◌&&◌, nat_eq, nat_lt, is_some, is_none, ◌*◌, ◌+◌, ◌-◌}
@@ -165,7 +165,7 @@ module _ (roll : RollType) (half : Half) (ttl : ℕ) where
       at true None = refl
       at true (Some s) = refl
 
-  -- where some key keeps a wait up, there is a TTL
+  -- if some key holds a wait up, there is a TTL
   has-ttl : (k : KeyParts) (end : ℕ) → over_at roll half ttl k ≡ Some end → 0 < end → 0 < ttl
   has-ttl k end = at ((half_of roll half).checks k.keytype) (stamp_read roll half k)
     where

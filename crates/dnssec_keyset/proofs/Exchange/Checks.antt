@@ -1,4 +1,4 @@
--- A start and a report are told the same where their roll sees the same.
+-- A start and a report get the same answer if their roll sees the same.
 use Rattle.std.proofs.Common.{◌≡◌, ℕ, Bool, true, false, not, List, [], ◌∷◌, ◌++◌, Some, None, refl}
 use Rattle.std.proofs.Common.{inl, inr, sym, ap, ◌∙◌}
 use Rattle.std.specs.Prelude.{Option, ◌||◌, ◌&&◌, if◌then◌else◌, is_none, nat_eq}
@@ -27,7 +27,7 @@ use Rattle.dnssec_keyset.proofs.Exchange.Seen.{Alike, SameFor, alike-found, same
 use Rattle.std.proofs.lemmas.Bool.{cases_Bool, and_parts, not-true}
 use Rattle.dnssec_zone.proofs.Tests.{each_key, each_key-at, or_second}
 
--- ---- a roll's call is told the same where the roll sees the same
+-- ---- a roll's call gets the same answer if the roll sees the same
 
 -- a key of another kind has no time left
 pub left-others : (roll : RollType) (half : Half) (ttl now : ℕ) (k : KeyParts)
@@ -165,8 +165,7 @@ module _ (b : RollType) where
     listed-same f off [] = refl
     listed-same f off (q ∷ qs) = λ i. by-kind f off _ _ (same.keys q) i || listed-same f off qs i
 
--- some key passes in one set only if one does in the other, where only keys of the roll's kinds
--- pass
+-- some key passes in one set only if one does in the other, if only keys of the roll's kinds pass
 module _ (b : RollType) (p : List ℕ → KeyParts → Bool)
     (own : (q : List ℕ) (k : KeyParts) → p q k ≡ true → lists_kind (side_of b) k.keytype ≡ true)
   where

@@ -102,7 +102,7 @@ lists-swap a b l x y apart = same_lists _ _ (λ q.
     ∙ sym (ap (λ o. if same_roll a q then x else o) (listed_by-with_listed l b y q))
     ∙ sym (listed_by-with_listed (with_listed l b y) a x q))
 
--- what a start keeps is told by the keys that the roll sees
+-- what a start keeps depends on the keys that the roll sees
 kept-same : (b : RollType) (o p : Option KeyParts) → Alike b o p
     → old_entry_fault b o ≡ None → option_map_or (λ (k : KeyParts). all_states is_kept k.keytype) o
     false
@@ -180,7 +180,7 @@ module _ (a b : RollType) (apart : together a b ≡ true) (s s1 s2 m : KeySetPar
   mm : MovesBy s second b m
   mm = moves-on s m second b second_on between_changes
 
-  -- each call as the set before both tells it
+  -- each call as a change of the set before both
   key_first : List ℕ → KeyParts → KeyParts
   key_first = key_after s.lists first
 

@@ -1,4 +1,5 @@
--- So is every call on a roll, down to the longest time that is left.
+-- Every call on a roll gets the same answer if the roll sees the same, down to the longest time
+-- that is left.
 use Rattle.std.proofs.Common.{◌≡◌, ℕ, ◌≤◌, Bool, true, false, not, List, [], ◌∷◌, Some, None, refl}
 use Rattle.std.proofs.Common.{inl, inr, sym, ap, subst, ◌∙◌, arith}
 use Rattle.std.specs.Prelude.{Option, ◌||◌, ◌&&◌, if◌then◌else◌, is_some}
@@ -33,7 +34,7 @@ use Rattle.dnssec_keyset.proofs.Exchange.Checks.{listed-same, new-same, old-same
 use Rattle.dnssec_keyset.proofs.Exchange.Checks.{stamp-others}
 use Rattle.std.proofs.lemmas.Bool.{cases_Bool, and_parts}
 
--- what passes only where the roll's kind does
+-- what passes only if the roll's kind does
 own_kind : (b : RollType) (f : KeyType → Bool)
     → ((x : KeyType) → lists_kind (side_of b) x ≡ false → f x ≡ false) → (t : KeyType) → f t ≡ true
     → lists_kind (side_of b) t ≡ true
@@ -84,7 +85,7 @@ start-same b s t olds news same = λ i. first_of_causes (
     ∷ (if suits s t olds news b same i then None else Some NoSuitableKeyPresent)
     ∷ [])
 
--- ---- a wait is told the same
+-- ---- a wait gets the same answer
 
 lacks-own : (b : RollType) (half : Half) (k : KeyParts) → lacks_stamp b half k ≡ true
     → lists_kind (side_of b) k.keytype ≡ true
@@ -94,7 +95,7 @@ lacks-own b half k e = elim (cases_Bool (lists_kind (side_of b) k.keytype)) [
 ]
 
 module _ (b : RollType) (half : Half) (ttl now : ℕ) where
-  -- no key has more left than the longest that another set has, where the roll sees the same
+  -- no key has more left than the longest time of another set, if the roll sees the same
   no-longer : (s t : KeySetParts) → SameFor b s t
       → longest_left b half ttl now s.keys ≤ longest_left b half ttl now t.keys
   no-longer s t same =

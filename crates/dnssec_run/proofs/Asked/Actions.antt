@@ -19,7 +19,7 @@ use Rattle.dnssec_zone.proofs.Tests.{each_roll-at, ◌⇒◌, mp, alike, alike-s
 
 -- ---- an action in a list
 
--- a test that one action passes alone finds it in a list
+-- a test that only one action passes finds it in a list
 module _ (p : Action → Bool) (x : Action) (one : (a : Action) → p a ≡ true → a ≡ x)
     (passes : p x ≡ true) where
   pub found : (list : List Action) → list_any p list ≡ true → Contains list x

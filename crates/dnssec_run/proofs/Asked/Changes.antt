@@ -191,7 +191,7 @@ added-same n (keyset.Wait a b c) f set v q k there = refl
 added-same n (keyset.RollDone a) f set v q k there = refl
 added-same n (keyset.AbortRoll a) f set v q k there = refl
 
--- ---- what is there behind a call at position n
+-- ---- what is there after a call at position n
 
 module _ (n : ℕ) (w v : World) (c : Call) (r : Reply)
     (step : keyset.Step w.set (call_of c) (reply_of r) v.set)
@@ -249,7 +249,7 @@ module _ (n : ℕ) (w v : World) (c : Call) (r : Reply)
         zone_signers = p.zone_signers ∙ sym (same-shown signs_zone w v zone.keys zone.places);
       }
 
-  -- behind a call that was refused, or that set no flag and asked for nothing
+  -- after a call that was refused, or that set no flag and asked for nothing
   pub unasked : (is_accepted r ≡ true → (sets_flag (call_of c) ≡ false) × (asked_by r ≡ []))
       → (sets : Published) → IsPublished sets w → IsPublished sets v
   unasked calm = by (is_accepted r) refl
@@ -306,7 +306,7 @@ module _ (name : List ℕ) (calls : List Call) (entries : List Entry)
     | inr e ↦ absurd (omega (arith, e.0))
   ]
 
-  -- where the look-ups agree, the same is published
+  -- if the look-ups agree, the same is published
   published-same : (kind : SetKind) (n : ℕ) → suc n ≤ length entries
       → ((q : List ℕ) → Agree kind (get (at (suc n)).set.keys q) (get (at n).set.keys q))
       → ((q : List ℕ) (k : KeyParts) → get (at n).set.keys q ≡ Some k

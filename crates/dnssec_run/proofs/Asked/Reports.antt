@@ -45,7 +45,7 @@ opening Propagation2 = Propagation2
 opening (CacheExpire2 ttl) = Propagation2
 opening Done = Propagation2
 
--- behind position n the next report of the roll would count from this position, and this was asked
+-- after position n the next report of the roll would count from this position, and this was asked
 -- there
 record Based (entries : List Entry) (n : ℕ) (r : RollType) (p : RollState) : Type 0 where
   base : ℕ

@@ -1,4 +1,4 @@
--- What an accepted call tells of the keys before it.
+-- What an accepted call says of the keys before it.
 use Rattle.std.proofs.Common.{[], ◌≡◌, ℕ, ◌-◌, ◌*◌, ◌≤◌, ◌⊎◌, inl, inr, Bool, true, false, not}
 use Rattle.std.proofs.Common.{◌&&◌, ◌||◌, refl, sym, ◌∙◌, ap, arith, List, ◌∷◌, ◌++◌, Option, None}
 use Rattle.std.proofs.Common.{Some, subst}

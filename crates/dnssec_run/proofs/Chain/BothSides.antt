@@ -34,7 +34,7 @@ use Rattle.dnssec_keyset.proofs.Laws.{same-is}
 
 -- ---- the invariant
 
--- the call behind position n ends the first wait of an algorithm roll
+-- the call after position n ends the first wait of an algorithm roll
 abbrev pub PassesAt : Tale → ℕ → Type 0
 PassesAt tale n = DoesAt first_wait_of tale.calls tale.es n AlgorithmRoll
 
@@ -77,7 +77,7 @@ map_less : (p : KeyType → Bool) (f : Key → Key) → ((k : Key) → p (f k).k
 map_less p f h None e = e
 map_less p f h (Some k) e = sym (h k) ∙ e
 
--- where a key is in use on the side of keys, DS records have been published
+-- if a key is in use on the side of keys, DS records have been published
 pub born : (tale : Tale) (n : ℕ) → n ≤ length tale.es → Alive tale Keys n → NoDs tale.es n → ⊥
 born tale n le a d =
     let c : Contains (position_at tale.es n).ds a.0 =

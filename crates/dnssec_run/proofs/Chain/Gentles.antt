@@ -334,7 +334,7 @@ kept_deleted w r k at idle = record {
         let pass : p k.keytype ≡ true = subst (λ o. if_some p o ≡ true) at_q s in
         true≢false (sym idle ∙ busy k.keytype pass)
 
--- a call that changes only keys of other signers, but for what no wait reads
+-- a call that changes only keys of other signers, and what no wait reads
 abbrev pub with_keys : World → (List ℕ → Key → Key) → World
 with_keys w f = record w { key = λ q. option_map (f q) (w.key q) }
 

@@ -70,7 +70,7 @@ Serving Zone es Ds q k = Unit {0}
 Serving Zone es Dnskey q k = Contains (position_at es q).dnskey k
 Serving Zone es ZoneSigners q k = Contains (position_at es q).zone k
 
--- where the second set changes at the first wait, the second report retires it; else the first does
+-- if the second set changes at the first wait, the second report retires it; else the first does
 retires_table : SideOf → RollType → Bool
 retires_table sd r = affects sd r
     ⇒ (retires r false (first_kind sd r) && retires r (switches sd r) (second_kind sd r))

@@ -84,7 +84,7 @@ module _ (tale : Tale) (n : ℕ) where
     );
   }
 
-  -- one reference is taken out of all lists, where no key of the side is
+  -- one reference is taken out of all lists, and no key of the side is there
   pub keeps-without : (x : List ℕ)
       → ((q : RollType) → (world_at tale (suc n)).roll q ≡ (world_at tale n).roll q)
       → (real tale (suc n)).set.lists ≡ without x (real tale n).set.lists → (sd : SideOf)

@@ -1,4 +1,5 @@
--- What is so of each roll, case by case: whose DS sets it leaves alone, and which go together.
+-- What holds for each roll, case by case: whose DS sets it leaves alone, and which rolls go
+-- together.
 use Rattle.std.proofs.Common.{◌≡◌, ◌||◌, ◌⊎◌, inl, inr, Bool, true, false, refl, ◌&&◌}
 use Rattle.std.specs.Prelude.{if◌then◌else◌}
 use Rattle.std.proofs.lemmas.Bool.{true≢false}

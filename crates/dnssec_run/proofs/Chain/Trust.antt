@@ -74,7 +74,7 @@ accepted_reply reply.Done e = refl
 accepted_reply (reply.Actions actions) e = refl
 accepted_reply (reply.Refused cause) e = absurd (true≢false (sym e))
 
--- ---- marks, moments and new keys, as the key set's calls tell them
+-- ---- marks, moments and new keys, from the key set's calls
 
 abbrev pub mark : keyset.Call → Mark
 mark (keyset.StartRoll r o n t) = Step r
@@ -376,7 +376,7 @@ always : (tale : Tale) (n : ℕ) → n ≤ length tale.es → Inv tale n
 always tale zero le = first tale
 always tale (suc n) le = next tale n le (always tale n (omega arith))
 
--- where the list is plain, every position of its record is safe
+-- if the list is plain, every position of its record is safe
 pub chain-holds : (name : List ℕ) (calls : List Call) (entries : List Entry)
     → rec.IsRun name calls entries → StaysSafe name calls entries
 chain-holds name calls entries run plain n le =

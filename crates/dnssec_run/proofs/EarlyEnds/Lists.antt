@@ -1,4 +1,5 @@
--- What is kept of a start over one call: a reference drops out just where a call touches its key.
+-- What is kept of a start over one call: a reference drops out if and only if the call touches its
+-- key.
 use Rattle.std.proofs.Common.{◌≡◌, ℕ, Bool, true, false, not, ◌&&◌, ◌||◌, cond, refl, sym, ◌∙◌, ap}
 use Rattle.std.proofs.Common.{List, [], ◌∷◌}
 use Rattle.std.specs.Prelude.{filter, if◌then◌else◌}
@@ -65,7 +66,7 @@ IsAside roll (keyset.RollDone r) = same_roll r roll ≡ false
 IsAside roll (keyset.AbortRoll r) = same_roll r roll ≡ false
 IsAside roll _ = Unit {0}
 
--- it is kept where it was, but for a touched key
+-- it is kept if it was, except for a touched key
 pub record Follows (old new : Listed) (call : keyset.Call) (q : List ℕ) : Type 0 where
   pub olds : is_listed new.olds q ≡ (is_listed old.olds q && not (touches call q))
   pub news : is_listed new.news q ≡ (is_listed old.news q && not (touches call q))

@@ -81,7 +81,7 @@ module _ (name : List ℕ) (calls : List Call) (entries : List Entry)
 
     module _ (n : ℕ) (c : Call) (e : Entry) (ci : slice_get calls n ≡ Some c)
         (ei : slice_get entries n ≡ Some e) where
-      -- an accepted call behind n is that of the list
+      -- an accepted call after n is that of the list
       behind_n : (d : keyset.Call) → IsAccepted calls entries n d
           → (call_of c ≡ d) × (is_accepted e.reply ≡ true)
       behind_n d a = (
@@ -170,7 +170,7 @@ module _ (name : List ℕ) (calls : List Call) (entries : List Entry)
 
       -- ---- from the start on
 
-      -- what is kept of the key, and its flags; where U holds it is untouched
+      -- what is kept of the key, and its flags; if U holds, it is untouched
       record Standing (set : KeySetParts) (U : Type 0) : Type 0 where
         of_olds : is_listed (listed_by set.lists roll).olds q ≡ true → U
         of_news : is_listed (listed_by set.lists roll).news q ≡ true → U

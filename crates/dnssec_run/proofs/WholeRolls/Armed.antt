@@ -1,4 +1,4 @@
--- What the keys of a set tell of the wait to come, by the moment it counts from: for `waits`.
+-- What the keys of a set say of the wait to come, by the moment it counts from: for `waits`.
 use Rattle.std.proofs.Common.{◌≡◌, ℕ, ◌≤◌, ◌⊎◌, inl, inr, Bool, true, false, not, ◌&&◌, refl, sym}
 use Rattle.std.proofs.Common.{◌∙◌, ◌||◌, ap, arith, List, Option, None, Some}
 use Rattle.std.specs.Prelude.{if◌then◌else◌}
@@ -97,7 +97,7 @@ silent Visible now k = refl
 silent DsVisible now k = refl
 silent RrsigVisible now k = refl
 
--- ---- what a set tells of a waiting roll
+-- ---- what a set says of a waiting roll
 
 -- a key that the roll goes on with
 abbrev pub Reads : RollType → Bool → KeySetParts → Type 0
@@ -160,7 +160,7 @@ beside-same r old new e = record {
   aft = λ q k f l i. (k, ap (λ (s : KeySetParts). get s.keys q) e ∙ f, refl, λ s. refl);
 }
 
--- a key put or taken that is in no use, nor the one before it
+-- a key is put in or taken out, and neither it nor the key before it is in use
 pub beside-puts : {kept : Lists} (r : RollType) (old new : KeySetParts) (p : List ℕ)
     (o : Option KeyParts) → PutsKey old new p o kept
     → ((j : KeyParts) → o ≡ Some j → is_idle j.keytype ≡ true)
@@ -196,7 +196,7 @@ beside-puts r old new p o m fresh gone =
       λ s. refl,
     )
 
--- a call that changes neither flags nor stamps but of other signers' keys
+-- a call that changes flags and stamps only of other signers' keys
 pub beside-alike : (r : RollType) (old new : KeySetParts) (f : List ℕ → KeyParts → KeyParts)
     → ((q : List ℕ) → get new.keys q ≡ option_map (f q) (get old.keys q))
     → ((q : List ℕ) (k : KeyParts) → get old.keys q ≡ Some k → Harmless k (f q k))

@@ -1,4 +1,4 @@
--- What a wait is answered where its stamps are known: for the clause `waits`.
+-- What a wait is answered if its stamps are known: for the clause `waits`.
 use Rattle.std.proofs.Common.{◌≡◌, ℕ, zero, suc, ◌+◌, ◌-◌, ◌*◌, ◌≤◌, inl, inr, Bool, true}
 use Rattle.std.proofs.Common.{false, refl, sym, ◌∙◌, ap, subst, arith, List, Option, None, Some}
 use Rattle.std.specs.Prelude.{is_some, if◌then◌else◌}
@@ -21,7 +21,7 @@ use Rattle.dnssec_run.proofs.Chain.Tables.{half, read, reads-stamp, checked}
 use Rattle.dnssec_run.proofs.Chain.Tale.{stamp_of}
 use Rattle.dnssec_run.proofs.WholeRolls.Armed.{Armed}
 
--- ---- what a wait is answered where its stamps are known
+-- ---- what a wait is answered if its stamps are known
 
 -- the wait's clearance, from the latest stamp that it checks
 module _ (set : KeySetParts) (r : RollType) (second : Bool) (ttl now m : ℕ)

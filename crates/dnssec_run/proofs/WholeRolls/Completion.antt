@@ -156,7 +156,7 @@ module _ (name : List ℕ) (calls : List Call) (entries : List Entry) (run : IsR
       come : (q : List ℕ) → is_listed news q ≡ true → ((at n).added q ≡ (at (suc s)).added q)
           × (k : KeyParts) × (get (at n).set.keys q ≡ Some k) × (newly roll k.keytype ≡ true)
 
-    -- no call but an add changes where a key was added
+    -- only an add changes the position at which a key was added
     not_added : (n : ℕ) (c : Call) (e : Entry) → n ≤ length entries → s < n
         → slice_get calls n ≡ Some c → slice_get entries n ≡ Some e → (q : List ℕ)
         → (at (suc n)).added q ≡ (at (suc s)).added q → ((at n).added q ≡ (at (suc s)).added q)

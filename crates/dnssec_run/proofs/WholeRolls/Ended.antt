@@ -110,7 +110,7 @@ listed_filter p q (x ∷ xs) = at (p x) refl (bytes_eq q x) refl (listed_filter 
     at false t false u h = ap (λ b. is_listed (cond b (x ∷ filter p xs) (filter p xs)) q) t ∙ h
         ∙ sym (ap (λ c. (c || is_listed xs q) && p q) u)
 
--- the rolls of a side list the reference in b where they list it in a
+-- the rolls of a side list the reference in b if they list it in a
 abbrev pub Alike : SideOf → List ℕ → Lists → Lists → Type 0
 Alike sd q a b = (r : RollType) → affects sd r ≡ true →
     (is_listed (listed_by b r).olds q ≡ is_listed (listed_by a r).olds q)

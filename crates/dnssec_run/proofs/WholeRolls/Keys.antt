@@ -21,7 +21,7 @@ use Rattle.dnssec_run.proofs.Chain.Tables.{checked}
 use Rattle.dnssec_zone.proofs.Tests.{both, both-at, each_key, each_key-at, ◌⇒◌, mp, and-both}
 use Rattle.dnssec_zone.proofs.Tests.{each_roll, each_roll-at, implies}
 
--- where a side is in its roll, if any; the second half is true
+-- how far a side is in its roll, if any; the second half is true
 pub data Phase : Type 0 where
   Idle : Phase
   Spreading : Bool → RollType → Phase
@@ -74,7 +74,7 @@ ksk_dated _ s v d = (s.present && s.at_parent) ⇒ (v && d)
 abbrev pub can_read : RollType → Bool → KeyType → Bool → Bool → Bool → Bool
 can_read r second k v d g = checked r second k ⇒ has (read r second) v d g
 
--- the stamps that the coming wait reads; the second wait of an algorithm roll reads KSK roles alone
+-- the stamps that the coming wait reads; the second wait of an algorithm roll reads only KSK roles
 abbrev pub ready : SideOf → Phase → KeyType → Bool → Bool → Bool → Bool
 ready Zone (Expiring true AlgorithmRoll) k v d g = true
 ready sd (Expiring false ZskDoubleSignatureRoll) k v d g =

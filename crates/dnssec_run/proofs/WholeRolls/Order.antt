@@ -54,7 +54,7 @@ abbrev pub is_calm : KeySetParts → keyset.Call → Bool
 is_calm set (keyset.AddKey r k) = is_idle k.keytype
 is_calm set call = sets_nothing set call
 
--- a set as a world, for what a start or a wait tells
+-- a set as a world, for what a start or a wait says
 abbrev pub world_of : KeySetParts → RealWorld
 world_of set = record { set = set; added = λ q. 0 }
 

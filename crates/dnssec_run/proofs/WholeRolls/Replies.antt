@@ -35,7 +35,7 @@ refused_step v old new c (reply.Refused x) a h = refused_same v old new c x h
 
 -- ---- positions
 
--- what a position tells of its call
+-- what a position says of its call
 pub record At (calls : List Call) (entries : List Entry) (n : ℕ) (c : Call) (e : Entry)
     : Type 0 where
   pub call_is : slice_get calls n ≡ Some c
@@ -71,7 +71,7 @@ module _ (name : List ℕ) (calls : List Call) (entries : List Entry)
       (world_at name calls entries (suc n)).set) made.call_is
       (run.each n made.made made.entry made.made_is made.entry_is).step
 
-  -- where a key was added, from one position to the next
+  -- the position at which a key was added, from one position to the next
   pub added-next : (n : ℕ) (c : Call) (e : Entry) → slice_get calls n ≡ Some c
       → slice_get entries n ≡ Some e → (world_at name calls entries (suc n)).added
       ≡ added_by (suc n) c e.reply (world_at name calls entries n).added

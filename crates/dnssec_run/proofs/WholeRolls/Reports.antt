@@ -1,4 +1,4 @@
--- What the record tells of a roll in each phase, position by position: for the clause `waits`.
+-- What the record says of a roll in each phase, position by position: for the clause `waits`.
 use Rattle.std.proofs.Common.{◌≡◌, ℕ, suc, ◌<◌, ◌≤◌, inl, inr, Bool, true, false, not, ◌&&◌, refl}
 use Rattle.std.proofs.Common.{sym, ◌∙◌, ap, arith, List, Some}
 use Rattle.std.specs.Option.{option_map}
@@ -89,7 +89,7 @@ module _ (entries : List Entry) where
   abbrev pub Tells : ℕ → RollType → Bool → ℕ → Type 0
   Tells n r second ttl = (told : Last entries r second n) × (told.ttl ≡ ttl)
 
-  -- what the record and the set tell of a roll in a phase
+  -- what the record and the set say of a roll in a phase
   unfoldable pub Data : (set : KeySetParts) → ℕ → RollType → RollState → Type 0
   Data set n r Propagation1 = Reads r false set
   Data set n r (CacheExpire1 ttl) = Arms set n r false × Tells n r false ttl

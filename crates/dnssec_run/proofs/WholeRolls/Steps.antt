@@ -1,4 +1,4 @@
--- What the record tells of a roll is kept by each call: for the clause `waits`.
+-- What the record says of a roll is kept by each call: for the clause `waits`.
 use Rattle.dnssec_keyset.proofs.Accepted.{add_free, ends_early, finishes, spreads_first}
 use Rattle.dnssec_keyset.proofs.Accepted.{spreads_second}
 use Rattle.std.proofs.Common.{◌≡◌, ℕ, suc, inl, inr, Bool, true, false, ◌&&◌, refl, sym, ◌∙◌, ap}

@@ -215,7 +215,7 @@ module _ (name : List ℕ) (calls : List Call) (entries : List Entry) (run : IsR
       (λ q k at check. read_there (set_at n) ks zs r second ttl now e q k at check) new h reply
       which_half (no_lack (set_at n) ks zs r second ttl now e) step
 
-  -- what the record tells of the wait, and what it is answered
+  -- what the record says of the wait, and what the wait is answered
   exactly : (n : ℕ) (r : RollType) (h : Half) (now ttl : ℕ)
       → (wait : IsMade calls entries n (keyset.Wait r h now))
       → roll_now (set_at n) r ≡ Some (cache_expire h ttl)

@@ -68,7 +68,7 @@ module _ {Y S : Type 0} where
       let some = at_most p (entries_by_bytes m) in
       omega (arith, fits, all, some, length-by_bytes m.entries)
 
--- where the keys can be counted, one more is one more
+-- if the keys can be counted, one more key counts one more
 in-one : (serves : Bool) (n : ℕ) → n + bit serves ≤ 18446744073709551615
     → one_step serves In n ≡ n + bit serves
 in-one true n fits = omega (arith, fits)
@@ -269,7 +269,7 @@ module _ (step : KeyParts → KeyParts)
           at false h = h
 
     module _ {Y S : Type 0} where
-      -- a walk behind which each key serves as before
+      -- a walk after which each key serves as before
       pub counts-kept : (c : Counts) (m n : HashMap (String Y) KeyParts S) →
           IsUnique string_eq m → IsUnique string_eq n
           → n.entries ≡ map (λ (e : String Y × KeyParts). (e.0, step e.1)) m.entries

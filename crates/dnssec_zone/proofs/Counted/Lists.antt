@@ -136,7 +136,7 @@ module _ (p r : List ℕ → KeyParts → Bool) where
 -- ---- the keys of a list
 
 module _ (p : KeyType → Bool) where
-  -- one more listed key: it counts where it passes and wasn't listed
+  -- one more listed key: it counts if it passes and wasn't listed
   pub count-listed : (qs more : List (List ℕ)) (x : List ℕ) (m : Keys)
       → ((q : List ℕ) → is_listed more q ≡ (is_listed qs q || bytes_eq x q))
       → count_in (listed_passes p more) m ≡ count_in (listed_passes p qs) m
@@ -216,7 +216,7 @@ some_counted t (e ∷ es) = at (t e.0 e.1) (some_counted t es)
 less_more : (a b c : ℕ) → c ≡ a + b → nat_lt 0 b ≡ nat_lt a c
 less_more a b c e = grind (arith, nat_tests)
 
--- a key passes that isn't listed where more keys pass than those of the list
+-- a key passes that isn't listed, if more keys pass than those of the list
 pub some_kept-counted : (p : KeyType → Bool) (keys : Keys) (qs : List (List ℕ)) →
     some_kept p keys qs ≡ nat_lt (count_in (listed_passes p qs) keys) (count_in (passes p) keys)
 some_kept-counted p keys qs = some_counted (unlisted_passes p qs) (entries keys)

@@ -49,7 +49,7 @@ stale-serves t stale w = alike-same (serves_as_kept w t) false
     (each_key-at (λ t. all_states is_stale t
     ⇒ each_want (λ w. alike (serves_as_kept w t) false)) (λ a b. refl) t) stale) w)
 
--- a kind serves as it does behind a move
+-- a kind serves as it does after a move
 abbrev serves_alike : (KeyType → KeyType) → KeyType → Bool
 serves_alike f t = each_want (λ w. alike (serves_as_kept w (f t)) (serves_as_kept w t))
 
@@ -76,7 +76,7 @@ alike_tested CskRoll Second e t =
 alike_tested AlgorithmRoll half e t = cc
 
 module _ {Y S : Type 0} where
-  -- the counts after a wait, counted again where it may move them
+  -- the counts after a wait; they are counted again if the wait may change them
   pub counts-waited : (roll : RollType) (half : Half) (now : ℕ) (before after : Counts)
       (m n : HashMap (String Y) KeyParts S) → IsUnique string_eq m → IsUnique string_eq n
       → n.entries ≡ map (λ (e : String Y × KeyParts). (e.0, after_wait roll half now e.1)) m.entries

@@ -104,7 +104,7 @@ reference_of-is keys differ q k found =
 
 module _ (keys : Keys) (differ : TagsApart keys) (q : List ℕ) (k : KeyParts)
     (found : get keys q ≡ Some k) where
-  -- a tag that is there is a key's where its reference is
+  -- a tag that is there is the key's if and only if its reference is the key's
   same_tag-is : (tag : ℕ) → IsThere keys tag → nat_eq tag k.key_tag
       ≡ bytes_eq q (reference_of keys tag)
   same_tag-is tag there =
@@ -127,7 +127,7 @@ module _ (keys : Keys) (differ : TagsApart keys) (q : List ℕ) (k : KeyParts)
         ]
       ]
 
-  -- an entry has its tag where the reference is listed
+  -- an entry has the key's tag if and only if its reference is listed
   pub has_entry-is : (roll : RollType) (part : Part) (es : List Entry) → AreThere keys es
       → has_entry roll part k.key_tag es ≡ is_listed (references_of keys roll part es) q
   has_entry-is roll part [] there = refl

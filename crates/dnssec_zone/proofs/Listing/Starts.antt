@@ -276,7 +276,7 @@ fresh-kept t = mp (all_states is_fresh t) (all_states is_kept t) (each_key-at pa
     tested false true = refl
     tested false false = refl
 
--- where no cause of two stands, neither does
+-- if there is no cause among two, neither applies
 pub none_of_both : (a b : Option Error) → option_or a b ≡ None → (a ≡ None) × (b ≡ None)
 none_of_both None b h = (refl, h)
 none_of_both (Some x) b h = cc

@@ -1,4 +1,4 @@
--- Where the keys that are left are the same, all are.
+-- If the keys that are left are the same, all are.
 use Rattle.std.proofs.Common.{◌≡◌, map, drop}
 use Rattle.dnssec_run.specs.Published.{id_of}
 use Rattle.dnssec_judge.specs.Inner.Chained.{shared_id}

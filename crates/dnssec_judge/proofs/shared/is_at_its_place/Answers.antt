@@ -1,4 +1,4 @@
--- What a search finds is in the list, and where the list is in order, what is in it is found.
+-- What a search finds is in the list; if the list is in order, what is in it is found.
 use Rattle.std.proofs.Common.{◌≡◌, ◌<◌, ℕ, Bool, true, false, List, refl, sym, ap, ◌∙◌}
 use Rattle.std.proofs.Common.{get_or, length, string_bytes, arith, rules, ◌+◌}
 use Rattle.std.specs.Prelude.{nat_lt, ◌==◌, IsSortedBy}
@@ -57,7 +57,7 @@ module _ (key : SharedKey) (keys : List SharedKey) (order : IsInOrder keys) wher
       let above : k < j → ⊥ = λ lt. never _ (order k j key lt p) (tied key (at k) (at j) f e) in
       omega (arith, below, above)
 
-  -- the key is where a search found its reference, or nowhere
+  -- the key is at the place at which a search found its reference, or nowhere
   found : (place : ℕ) → place < length keys → stands key (at place) ≡ Equal
       → is_same key (at place) ≡ list_any (is_same key) keys
   found place bound e = by (is_same key (at place)) (list_any (is_same key) keys) refl refl
@@ -79,7 +79,7 @@ module _ (key : SharedKey) (keys : List SharedKey) (order : IsInOrder keys) wher
   sorted k d low high = ap is_lt (nat_list_cmp_total.antisymm (reference (get_or keys (k + 1) d))
       (reference (get_or keys k d)) ∙ ap ordering_reverse (order k (k + 1) d (omega arith) high))
 
-  -- where a search found no reference, the key isn't there
+  -- if a search found no reference, the key isn't there
   lost : (i : ℕ) → (IsNonDecreasingBy (λ y. ordering_index (stands key y)) keys
       → IsPartitionPoint (λ y. stands key y ≡ Less) (λ y. stands key y ≡ Greater) keys i)
       → false ≡ list_any (is_same key) keys

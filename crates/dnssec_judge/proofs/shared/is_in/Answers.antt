@@ -1,4 +1,4 @@
--- The `contains` of a slice, read at what its keys are, where a search hasn't found the key.
+-- The `contains` of a slice, read at what its keys are, if a search hasn't found the key.
 use Rattle.std.proofs.Common.{sym, ◌∙◌}
 use Rattle.dnssec_judge.specs.Inner.Chained.{same_id, shared_id}
 use Rattle.dnssec_judge.proofs.shared.is_in.Goals as goal

@@ -1,4 +1,4 @@
--- The lines of a script make its calls, and else one is the first malformed one.
+-- The lines of a script make its calls, or one is the first malformed line.
 use Rattle.std.proofs.Common.{Some, map, refl, sym, ap, ◌∙◌, subst}
 use Rattle.dnssec_record.specs.Script.{AreScript, IsFirstOf, IsZoneLine}
 use Rattle.dnssec_record.proofs.Judging.{calls_fault, if_none, if_some, not_empty, spell_each}

@@ -1,4 +1,4 @@
--- The text stands behind the word.
+-- The text stands after the word.
 use Rattle.std.proofs.Common.{rules}
 use Rattle.dnssec_record.proofs.Zone.{zone_found, zone_none}
 use Rattle.dnssec_record.proofs.lines.zone.Goals as goal

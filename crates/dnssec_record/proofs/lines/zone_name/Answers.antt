@@ -1,4 +1,4 @@
--- What spells a name is ASCII; and no name is spelled where a fault stands.
+-- What spells a name is ASCII; a text in which a fault stands spells no name.
 use Rattle.std.proofs.Common.{subst, rules}
 use Rattle.dnssec_base.specs.NameText as names
 use Rattle.dnssec_record.proofs.Zone.{spelled_utf8, faulty}

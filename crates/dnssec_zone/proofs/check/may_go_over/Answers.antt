@@ -1,4 +1,4 @@
--- Sets are the same where each list's algorithms are among the other's.
+-- Sets are the same if each list's algorithms are among the other's.
 use Rattle.std.proofs.Common.{rules, sym, ap, ◌∙◌}
 use Rattle.std.specs.Prelude.{◌||◌, ◌&&◌}
 use Rattle.dnssec_zone.specs.Start.{algorithms_within}

@@ -1,4 +1,4 @@
--- Where a key lacks its stamp, so does the walk over all.
+-- If a key lacks its stamp, the walk over all finds none.
 use Rattle.std.proofs.Common.{rules, sym, ◌∙◌}
 use Rattle.dnssec_key.specs.RollTable.{which}
 use Rattle.dnssec_zone.specs.Inner.Over.{over_by}

@@ -1,4 +1,5 @@
--- Written so far, and what the labels left print, are the whole text: for what a name displays.
+-- What is written so far and what the other labels print are the whole text: for what a name
+-- displays.
 use Rattle.std.proofs.Common.{◌≡◌, ℕ, List, ◌++◌, length}
 use Rattle.std.specs.Fmt.{HasWritten, IsPlainFormatter}
 use Rattle.dnssec_base.specs.WireName.{AreLabels}

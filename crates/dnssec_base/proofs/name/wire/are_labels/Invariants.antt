@@ -1,4 +1,4 @@
--- The bytes are labels exactly where those after the labels so far are: for `from_octets`.
+-- The bytes are labels if and only if those after the labels so far are: for `from_octets`.
 use Rattle.std.proofs.Common.{◌↔◌, length}
 use Rattle.dnssec_base.specs.WireName.{AreLabels}
 use Rattle.dnssec_base.proofs.name.wire.are_labels.Given as goal

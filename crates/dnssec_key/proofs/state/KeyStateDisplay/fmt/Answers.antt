@@ -1,4 +1,4 @@
--- Each turn writes a word where its flag is set, and nothing else.
+-- Each turn writes a word if its flag is set, and nothing else.
 use Rattle.std.proofs.Common.{rules, sym, ap}
 use Rattle.std.proofs.Output.{has_written_append, has_written_of_eq, has_written_to_eq}
 use Rattle.dnssec_key.specs.Texts.{comma_list}

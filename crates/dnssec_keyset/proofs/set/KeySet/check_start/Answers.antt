@@ -1,4 +1,4 @@
--- The first cause that stands is answered: the checks before it passed.
+-- The first cause that applies is answered: the checks before it passed.
 use Rattle.std.proofs.Common.{sym, ◌∙◌}
 use Rattle.std.specs.FinMap.{get}
 use Rattle.dnssec_base.specs.declared.error.Error.TheVariants.{AlgorithmSetsMismatch}

@@ -1,4 +1,4 @@
--- A wait is told by the end that the walk finds.
+-- A wait is answered by the end that the walk finds.
 use Rattle.std.proofs.Common.{sym, subst, ◌∙◌, arith}
 use Rattle.std.specs.Prelude.{IfNone}
 use Rattle.dnssec_key.specs.RollTable.{which}

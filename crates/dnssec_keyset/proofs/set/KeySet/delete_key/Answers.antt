@@ -1,4 +1,4 @@
--- The key is gone, and is listed no more.
+-- The key is gone, and no longer listed.
 use Rattle.std.proofs.Common.{refl}
 use Rattle.dnssec_keyset.proofs.Listing.{removed}
 use Rattle.dnssec_keyset.proofs.set.KeySet.delete_key.Goals as goal

@@ -1,4 +1,4 @@
--- The key is changed; where a flag was set, it is listed no more.
+-- The key is changed; if a flag was set, it is no longer listed.
 use Rattle.std.proofs.Common.{refl, sym, ap, ◌∙◌}
 use Rattle.std.specs.Prelude.{if◌then◌else◌}
 use Rattle.dnssec_key.specs.Setters.{setting_of}

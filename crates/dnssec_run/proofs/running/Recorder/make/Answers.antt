@@ -1,4 +1,4 @@
--- The entry that is told is that of the outcome.
+-- The entry that is answered is that of the outcome.
 use Rattle.std.proofs.Common.{refl}
 use Rattle.dnssec_run.proofs.running.Recorder.make.Goals as goal
 

@@ -1,4 +1,4 @@
--- Where no key has the reference, nothing is changed; else one key is, and is counted anew.
+-- If no key has the reference, nothing is changed; else one key is, and is counted anew.
 use Rattle.std.proofs.Common.{◌≡◌, ℕ, List, None, Some, rules, sym, ap, subst, ◌∙◌}
 use Rattle.std.specs.Prelude.{if◌then◌else◌}
 use Rattle.dnssec_key.specs.Inner.TagIndex.{has}

@@ -1,4 +1,4 @@
--- The index tells the keys apart by their tags.
+-- The index knows the keys by their tags.
 use Rattle.std.proofs.Common.{subst}
 use Rattle.dnssec_zone.specs.Keys.{TagsApart}
 use Rattle.dnssec_zone.proofs.keys.Keys.differ_in_tags.Goals as goal

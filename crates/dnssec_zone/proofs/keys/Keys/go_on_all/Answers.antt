@@ -1,4 +1,4 @@
--- The walk moves each key as an accepted wait does; where that may move a count, all are counted.
+-- The walk moves each key as an accepted wait does; if that may change a count, all are counted.
 use Rattle.std.proofs.Common.{refl, rules}
 use Rattle.dnssec_key.specs.Inner.TagIndex.{has}
 use Rattle.std.proofs.lemmas.Map.Made.{map_same_pairs}

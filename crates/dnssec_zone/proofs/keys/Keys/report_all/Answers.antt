@@ -1,5 +1,5 @@
--- The walk stamps each key as a report does, and leaves tags, kinds and flags. A second one tells
--- of the wait.
+-- The walk stamps each key as a report does, and leaves tags, kinds and flags. A second walk finds
+-- out about the wait.
 use Rattle.std.proofs.Common.{refl, rules}
 use Rattle.dnssec_key.specs.Inner.TagIndex.{has}
 use Rattle.std.proofs.lemmas.Map.Made.{map_same_pairs}

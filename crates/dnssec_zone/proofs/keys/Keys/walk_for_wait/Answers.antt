@@ -1,4 +1,4 @@
--- The walk over the keys tells from when on a wait is over.
+-- The walk over the keys says from when on a wait is over.
 use Rattle.std.proofs.Common.{◌≡◌, ℕ, Some, None, IfSome, ◌∙◌, refl}
 use Rattle.std.specs.Prelude.{Option, IfNone}
 use Rattle.dnssec_key.specs.RollTable.{which}

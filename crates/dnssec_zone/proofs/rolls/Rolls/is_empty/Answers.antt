@@ -1,4 +1,4 @@
--- No roll is in progress where the hash map is empty, and there alone.
+-- No roll is in progress if and only if the hash map is empty.
 use Rattle.std.proofs.Common.{◌∙◌, sym}
 use Rattle.dnssec_zone.proofs.Phases.{shown-none}
 use Rattle.dnssec_zone.proofs.rolls.Rolls.is_empty.Goals as goal
