@@ -10,7 +10,7 @@ A fenced block that shows a script, answers or a source names its file behind th
 
 that is: the lines from 10 on, each call with its answer behind it, and at the end the lines of the
 published sets and of the chain. Without `answered` the lines stand alone, and without a range all
-of them do. `after-first-roll` puts `(first roll)` in the place of a script's first nine lines.
+of them do.
 
 What is compared:
 
@@ -35,7 +35,6 @@ from make_sample import examples  # noqa: E402
 from tables import answers  # noqa: E402
 
 STORED = TOP / "replay" / "scripts.txt"
-FIRST_ROLL = (TOP / "examples" / "ksk-roll.script").read_text().splitlines()[:9]
 
 FENCE = re.compile(r"```(?P<language>\w*) ?(?P<path>\S*)(?P<how>.*)")
 RANGE = re.compile(r"(?P<first>\d+)-(?P<last>\d*)")
@@ -73,10 +72,6 @@ def in_range(lines, how):
 def rendered(path, how):
     """The lines of a block that shows a file."""
     lines = (TOP / path).read_text().splitlines()
-    if "after-first-roll" in how:
-        if lines[:9] != FIRST_ROLL:
-            raise ValueError(f"{path} doesn't begin with the first roll")
-        return ["(first roll)", *lines[9:]]
     if "answered" not in how:
         return in_range(lines, how)[0]
     told = (TOP / path).with_suffix(".answers").read_text().splitlines()
