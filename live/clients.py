@@ -86,6 +86,8 @@ class Clients:
         self.zone, self.dice, self.port = zone, dice, port
         self.counts, self.faults = Counter(), []
         self.secure_from, self.tasks, self.lines = float("inf"), [], []
+        # Until when a lie may be seen.
+        self.mended = float("inf")
 
     async def begin(self):
         loop = asyncio.get_running_loop()

@@ -93,6 +93,30 @@ async def lost_ksk(zone):
     await Roll(provider, DOUBLE_DS).whole(["K1"], ["K2"])
 
 
+def lost_in_mid_roll(name):
+    """The new KSK is lost when it has its DS and signs. The calls are made to the end, and the
+    DNSKEY set that it would have to sign stays as it is. Then comes a double-DS roll to a third
+    key."""
+
+    async def scene(zone):
+        provider = await first_keys(zone, "K1", "Z1")
+        await provider.make("K2")
+        roll = Roll(provider, name)
+        await roll.start(["K1"], ["K2"])
+        await roll.report(1)
+        await roll.wait(1)
+        provider.keys["K2"].lost = True
+        await roll.report(2)
+        await roll.accepted(2)
+        if "UpdateDnskeyRrset" not in roll.actions:
+            await roll.perform()
+        await roll.done()
+        await provider.make("K3")
+        await Roll(provider, DOUBLE_DS).whole(["K2"], ["K3"])
+
+    return scene
+
+
 async def lost_zsk(zone):
     """That of the ZSK is lost: the zone keeps its signatures, and the KSK signs the SOA record."""
     provider = await first_keys(zone, "K1", "Z1")
@@ -256,6 +280,7 @@ HONEST = {
     **{f"{name}-stolen-new-key": stolen_new_key(name) for name in KEYS},
     "algorithm-roll-stolen-new-zsk": stolen_new_key(ALGORITHM, 1),
     "lost-ksk": lost_ksk,
+    **{f"lost-in-mid-{name}": lost_in_mid_roll(name) for name in (KSK, DOUBLE_DS)},
     "lost-zsk": lost_zsk,
     "lost-csk": lost_csk,
     "unsigned-by-setters": unsigned_by_setters,

@@ -1,8 +1,9 @@
 """Scenes with one lie, each of which has to show failures: else the honest ones prove nothing."""
 
 import asyncio
+import time
 
-from one_signer import DOUBLE_SIGNATURE, KEYS, ZSK, first_keys
+from one_signer import DOUBLE_SIGNATURE, KEYS, KSK, ZSK, first_keys
 from rolls import ALGORITHM, DOUBLE_DS, Roll, spoken_of
 from script import rounded_down
 from two_signers import in_step_keys, providers, shared
@@ -101,6 +102,40 @@ async def ds_of_one_signer(zone):
     await Roll(a, ALGORITHM).whole([], ["K1", "Z1"])
 
 
+# So long a resolver may go on to say what it has found bogus (Unbound, `val-bogus-ttl`).
+BOGUS = 60
+
+
+async def taken_back(zone):
+    """docs/EMERGENCY.md, "A false line was accepted": a first wait was acted upon that is accepted
+    by a digit too many. Its line is taken out, and what it has published. Then the roll goes on,
+    and nobody sees a fault."""
+    zone.ttls.zone, zone.ttls.dnskey, zone.ttls.ds = 3, LONG, 2
+    provider = await first_keys(zone, "K1", "Z1")
+    await asyncio.sleep(LONG / 4)
+    script = provider.script
+    await provider.make("K2")
+    roll = Roll(provider, KSK)
+    await roll.start(["K1"], ["K2"])
+    await roll.report(1)
+    before = len(script.lines), script.sets
+    await roll.make(lambda: f"wait1 {KSK} {rounded_down()}0")
+    await roll.perform()
+    await asyncio.sleep(2)
+    # (The parent has ended the false change.)
+    del script.lines[before[0]:]
+    script.sets = before[1]
+    await provider.act(["CreateCdsRrset", "UpdateDsRrset"])
+    await zone.watch_ds()
+    await provider.take_cds_out()
+    zone.clients.mended = time.time() + zone.ttls.ds + BOGUS
+    for call in (roll.wait(1), roll.report(2), roll.wait(2), roll.done()):
+        await call
+    await asyncio.sleep(zone.clients.mended - time.time())
+    await provider.make("Z2")
+    await Roll(provider, ZSK).whole(["Z1"], ["Z2"])
+
+
 async def signatures_not_renewed(zone):
     provider = await first_keys(zone, "K1", "Z1")
     provider.signing.lifetime = 10
@@ -111,6 +146,7 @@ async def signatures_not_renewed(zone):
 LYING = {
     **{f"{name}-{lie}": lying(name, roll) for lie, roll in LIES.items() for name in KEYS},
     "signatures-not-renewed": signatures_not_renewed,
+    "false-line-taken-back": taken_back,
 }
 LYING_TWO = {
     "two-ttl-of-the-other-left-out": ttl_of_the_other,

@@ -1,8 +1,11 @@
 """The honest scenes of one signer. In none of them may a client get a SERVFAIL."""
 
 import asyncio
+import itertools
 import time
+from dataclasses import replace
 
+from places import RESOLVERS
 from provider import Provider
 from rolls import ALGORITHM, DOUBLE_DS, Roll
 from script import rounded_down
@@ -169,7 +172,63 @@ async def ended_early_beside(zone):
         await going
 
 
+class Raised(Roll):
+    """Just before each report all TTLs rise; they fall again after it."""
+
+    async def report(self, number, ttl=None):
+        ttls = self.provider.ttls
+        low = replace(ttls)
+        ttls.zone, ttls.dnskey, ttls.ds = (HIGH + ttl for ttl in (low.zone, low.dnskey, low.ds))
+        await self.provider.publish()
+        await self.zone.publish_ds()
+        await asyncio.sleep(1)
+        await super().report(number, ttl)
+        ttls.zone, ttls.dnskey, ttls.ds = low.zone, low.dnskey, low.ds
+        await self.provider.publish()
+        await self.zone.publish_ds()
+
+
+HIGH = 6
+
+
+async def raised_ttls(zone):
+    """Rolls in which TTLs rise just before each report, with a DS TTL that is longer than all
+    others."""
+    zone.ttls.ds = 9
+    provider = await first_keys(zone, "K1", "Z1")
+    await provider.make("K2", "Z2", "C3")
+    await Raised(provider, DOUBLE_DS).whole(["K1"], ["K2"])
+    await Raised(provider, ZSK).whole(["Z1"], ["Z2"])
+    await Raised(provider, CSK).whole(["K2", "Z2"], ["C3"])
+
+
+class Restarting(Roll):
+    """In each phase a resolver restarts, and has an empty cache."""
+
+    resolvers = itertools.cycle(RESOLVERS)
+
+    async def report(self, number, ttl=None):
+        await self.restart()
+        await super().report(number, ttl)
+        await self.restart()
+
+    async def restart(self):
+        await self.zone.world.resolvers.restart(next(self.resolvers))
+
+
+async def restarted(zone):
+    """Rolls of the KSK and the ZSK, and then of the algorithm, while resolvers restart."""
+    provider = await first_keys(zone, "K1", "Z1")
+    await provider.make("K2", "Z2")
+    await asyncio.gather(
+        Restarting(provider, KSK).whole(["K1"], ["K2"]), Roll(provider, ZSK).whole(["Z1"], ["Z2"])
+    )
+    await provider.make("C3", algorithm=15)
+    await Restarting(provider, ALGORITHM).whole(["K2", "Z2"], ["C3"])
+
+
 HONEST = {
+    "raised-ttls": raised_ttls,
     "first-keys-ended-early": first_keys_ended_early,
     "ended-early-beside": ended_early_beside,
     **{name: one_roll(name) for name in KEYS},

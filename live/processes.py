@@ -1,5 +1,6 @@
 """Starts servers as processes, and ends each of them, whatever happens."""
 
+import asyncio
 import os
 import shutil
 import signal
@@ -54,10 +55,11 @@ class Processes:
     process be killed."""
 
     def __init__(self, folder):
-        self.folder, self.running = folder, {}
+        self.folder, self.running, self.commands, self.restarting = folder, {}, {}, set()
 
     def start(self, name, *command):
         """Starts a server that stays in the foreground; what it says goes into a file."""
+        self.commands[name] = command
         log = open(self.folder / f"{name}.log", "ab")
         with log:
             self.running[name] = subprocess.Popen(
@@ -66,13 +68,23 @@ class Processes:
                 start_new_session=True,
             )
 
+    async def restart(self, name):
+        """Ends a server as a crash does, and starts it anew: what it kept in memory is gone."""
+        self.restarting.add(name)
+        process = self.running[name]
+        end(process, signal.SIGKILL)
+        while process.poll() is None:
+            await asyncio.sleep(0.05)
+        self.start(name, *self.commands[name])
+        self.restarting.discard(name)
+
     def signal(self, name, number):
         self.running[name].send_signal(number)
 
     def check(self):
         """Fails if a server has ended."""
         for name, process in self.running.items():
-            if process.poll() is not None:
+            if process.poll() is not None and name not in self.restarting:
                 said = (self.folder / f"{name}.log").read_text(errors="replace")[-2000:]
                 raise Failed(f"{name} ended with status {process.returncode}:\n{said}")
 

@@ -101,6 +101,10 @@ class Resolvers:
         forward = UNBOUND_FORWARD.format(address=CACHE, port=self.port)
         self.unbound("unbound-behind-cache", BEHIND, forward)
 
+    async def restart(self, name):
+        """One of them begins anew, with an empty cache."""
+        await self.processes.restart(name)
+
     def folder(self, name):
         folder = self.processes.folder / name
         folder.mkdir()

@@ -21,6 +21,7 @@ from processes import Failed, is_taken, missing  # noqa: E402
 TOP = Path(__file__).resolve().parent.parent
 KEYSET = TOP / "crates" / "keyset" / "out" / "keyset"
 PORT = 15353
+DEBIANS = "/usr/bin/python3"
 # The most seconds that the short form and the whole may take.
 SHORT, WHOLE = 600, 3600
 FAULTS_SHOWN = 8
@@ -58,18 +59,28 @@ async def play(zone, scene):
     finally:
         zone.reading.cancel()
         await clients.end()
-    if wrong is None and scene.is_lie != bool(clients.faults):
-        wrong = "no failure was seen" if scene.is_lie else "clients saw faults"
-    return wrong
+    return wrong or unlike(scene.is_lie, clients)
 
 
-HEAD = f"{'scene':52} {'questions':>9} {'with AD':>9} {'SERVFAIL':>9} {'other':>6}"
+def unlike(is_lie, clients):
+    """What clients saw that isn't as it has to be, if anything."""
+    early = [fault for fault in clients.faults if fault.moment < clients.mended]
+    if is_lie and not early:
+        return "no failure was seen"
+    if len(early) < len(clients.faults):
+        return "clients saw faults after the lie was mended"
+    return "clients saw faults" if early and not is_lie else None
 
 
-def row(name, counts, faults):
+HEAD = f"{'scene':48} {'seconds':>7} {'questions':>9} {'with AD':>9} {'SERVFAIL':>8} {'other':>6}"
+
+
+def row(name, seconds, counts, faults):
     """A row of the table; other faults are all but SERVFAIL."""
-    servfail = counts["SERVFAIL"]
-    return f"{name:52} {counts['asked']:9} {counts['AD']:9} {servfail:9} {faults - servfail:6}"
+    asked, checked, servfail = (counts[what] for what in ("asked", "AD", "SERVFAIL"))
+    return (
+        f"{name:48} {seconds:7.0f} {asked:9} {checked:9} {servfail:8} {faults - servfail:6}"
+    )
 
 
 @contextlib.contextmanager
@@ -88,7 +99,7 @@ class Run:
 
     def __init__(self, world, scenes, at_once):
         self.world, self.scenes, self.at_once = world, scenes, at_once
-        self.failed = 0
+        self.failed, self.began = 0, time.monotonic()
 
     async def run(self):
         await self.world.begin()
@@ -98,7 +109,8 @@ class Run:
         for words, is_lie in (("all honest scenes", False), ("all with a lie", True)):
             clients = [self.clients(scene) for scene in self.scenes if scene.is_lie == is_lie]
             counts = sum((one.counts for one in clients), start=Counter())
-            print(row(words, counts, sum(len(one.faults) for one in clients)))
+            seconds = time.monotonic() - self.began
+            print(row(words, seconds, counts, sum(len(one.faults) for one in clients)))
 
     def clients(self, scene):
         return self.world.made[scene.zone].clients
@@ -106,10 +118,11 @@ class Run:
     async def one(self, scene, places):
         async with places:
             self.world.processes.check()
+            began = time.monotonic()
             wrong = await play(self.world.made[scene.zone], scene)
-        clients = self.clients(scene)
+        clients, seconds = self.clients(scene), time.monotonic() - began
         said = "FAILED" if wrong else "ok"
-        print(row(scene.zone, clients.counts, len(clients.faults)), said, flush=True)
+        print(row(scene.zone, seconds, clients.counts, len(clients.faults)), said, flush=True)
         if wrong:
             self.failed += 1
             print(f"    {wrong}", *clients.faults[:FAULTS_SHOWN], sep="\n    ", flush=True)
@@ -119,6 +132,8 @@ def missing_packages():
     """Which packages are missing, with the command that installs them; None if all are there."""
     packages = missing()
     if find_spec("dns") is None:
+        if sys.executable != DEBIANS:
+            return f"{sys.executable} doesn't find the package dns: take {DEBIANS}, Debian's Python"
         packages.append("python3-dnspython")
     names = " ".join(packages)
     return f"missing: {names}\nto install them: apt-get install {names}" if packages else None

@@ -26,15 +26,33 @@ class Scene(NamedTuple):
 
 # The longest come first.
 SCENES = [
+    Scene("resolvers-restarted", one_signer.restarted, "A", False),
     *(Scene(name, play, "AB", False) for name, play in two_signers.HONEST.items()),
     *(Scene(name, play, "AB", True) for name, play in LYING_TWO.items()),
     *(Scene(name, play, "A", False) for name, play in emergencies.HONEST.items()),
-    *(Scene(name, play, "A", False) for name, play in one_signer.HONEST.items()),
     *(Scene(name, play, "A", True) for name, play in LYING.items()),
+    *(Scene(name, play, "A", False) for name, play in one_signer.HONEST.items()),
     Scene("by-command", by_command.tour, "A", False),
 ]
 
-# What the short form plays of those scenes that are alike.
+# What only the whole run plays, though it is like no other; and what the short form plays of those
+# scenes that are alike.
+ONLY_WHOLE = {
+    "two-csk-rolls-of-each",
+    "two-zsk-rolls-at-once",
+    "two-ksk-rolls-at-once",
+    "two-csk-joins-and-leaves",
+    "two-rolls-while-joining",
+    "lost-in-mid-ksk-roll",
+    "lost-in-mid-ksk-double-ds-roll",
+    "lost-csk",
+    "lost-ds",
+    "false-line-taken-back",
+    "ended-early-beside",
+    "raised-ttls",
+    "csks",
+    "double-ds-beside-double-signature",
+}
 ALIKE = re.compile(r"-(ended-early|stolen-new-\w+|changing-ttls|of-the-clock|ttl-of-0|publishing)$")
 OF_THEM = {
     "ksk-roll-ended-early",
@@ -49,7 +67,7 @@ OF_THEM = {
 
 
 def is_short(name):
-    return not ALIKE.search(name) or name in OF_THEM
+    return name not in ONLY_WHOLE and (not ALIKE.search(name) or name in OF_THEM)
 
 
 def chosen(names, short, rounds):

@@ -195,6 +195,35 @@ async def join_and_leave(zone):
     await roll_of_one(b, a, KSK, ["K1"], ["K2"])
 
 
+async def rolls_while_joining(zone):
+    """A rolls its KSK and its ZSK while B joins."""
+    a = await alone(zone, "K1", "Z1")
+    await a.make("K2")
+    going = asyncio.ensure_future(Roll(a, KSK).whole(["K1"], ["K2"]))
+    await join(
+        a, ["Z1"], ["K1", "Z1"], lambda b: roll_of_one(a, b, ZSK, ["Z1"], ["Z2"])
+    )
+    await going
+
+
+async def leaves_in_mid_roll(zone):
+    """A leaves in the middle of its own KSK roll, while B rolls its KSK and its ZSK."""
+    a, b = await in_step_keys(zone, "K1", "Z1")
+    await a.make("K2")
+    roll = Roll(a, KSK)
+    await roll.start(["K1"], ["K2"])
+    await roll.report(1)
+    await roll.wait(1)
+    await b.make("K2", "Z2")
+    await a.take_in(*shared(b, ["Z2"]))
+    going = asyncio.gather(
+        Roll(b, KSK).whole(["K1"], ["K2"]), Roll(b, ZSK).whole(["Z1"], ["Z2"])
+    )
+    await asyncio.sleep(zone.dice.uniform(0, 6))
+    await leave(a, b)
+    await going
+
+
 async def csk_joins_and_leaves(zone):
     """B joins with a CSK, while TTLs rise and fall, and leaves again."""
     a = await alone(zone, "C1")
@@ -206,8 +235,8 @@ async def csk_joins_and_leaves(zone):
         await roll_of_one(a, b, CSK, ["C1"], ["K2", "Z2"])
 
 
-async def join(a, of_a, refs):
-    """The table "B joins"."""
+async def join(a, of_a, refs, meanwhile=None):
+    """The table "B joins". What goes on meanwhile begins once each has the other's keys."""
     zone = a.zone
     b = Provider(zone, [], "B")
     await b.make(*refs)
@@ -218,11 +247,14 @@ async def join(a, of_a, refs):
     await b.act(roll.actions)
     await a.take_in(*shared(b, refs))
     await roll.watch()
+    going = meanwhile and asyncio.ensure_future(meanwhile(b))
     await roll.finish()
     # Only after B's second wait its servers are named.
     a.servers, b.servers = CHILD["A"], CHILD["B"]
     await b.publish()
     await b.watch()
+    if going:
+        await going
     return b
 
 
@@ -300,4 +332,6 @@ HONEST = {
     "two-algorithms-ended-early": algorithms_ended_early,
     "two-join-and-leave": join_and_leave,
     "two-csk-joins-and-leaves": csk_joins_and_leaves,
+    "two-rolls-while-joining": rolls_while_joining,
+    "two-leaves-in-mid-roll": leaves_in_mid_roll,
 }

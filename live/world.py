@@ -30,7 +30,8 @@ class World:
         self.made = {name: await self.zone(name) for name in self.zones}
         self.fleet.start(self.zones)
         anchor = f". 3600 IN DS {self.parent.key.ds}"
-        Resolvers(self.processes, self.port, self.zones, anchor).start()
+        self.resolvers = Resolvers(self.processes, self.port, self.zones, anchor)
+        self.resolvers.start()
         await self.are_up()
 
     async def zone(self, name):
