@@ -4,19 +4,19 @@
     tests/docs.py            compares, and fails with the place of each difference
     tests/docs.py --write    writes the answers, the stored examples and the blocks anew
 
-A fenced block that shows a script, answers or a source names its file behind the language:
+A fenced block that shows a script, answers or a source names its file after the language:
 
     ```text examples/ksk-roll.script 10- answered
 
-that is: the lines from 10 on, each call with its answer behind it, and at the end the lines of the
-published sets and of the chain. Without `answered` the lines stand alone, and without a range all
-of them do.
+that is: the lines from 10 on, each call with its answer after it, and at the end the lines of the
+published sets and of the chain. Without `answered` the block has only the lines, and without a
+range all of them.
 
 What is compared:
 
 - each block with its file; a block that names none may show neither calls nor answers;
-- each answer that a text quotes, as `chain safe`: it has to be an answer of an example, and behind
-  a script that is shown without answers one of that script's;
+- each answer that a text quotes, as `chain safe`: it has to be an answer of an example, and after a
+  script that is shown without answers one of that script's;
 - each `NAME.answers` with what `replay/tables.py` answers to `NAME.script`, and both with the
   script of this name in `replay/scripts.txt`: so the gate compares them with the program;
 - each link with the file and the heading that it leads to.
@@ -55,8 +55,8 @@ LINK = re.compile(r"\[[^][]*\]\(([^)\s]+)\)")
 
 def documents():
     """The texts that are compared."""
-    found = [TOP / "README.md", *sorted((TOP / "docs").glob("*.md"))]
-    return found + sorted(TOP.glob("crates/*/README.md")) + [TOP / "replay" / "README.md"]
+    places = ("*.md", "docs/*.md", "*/README.md", "crates/*/README.md", "tests/*/README.md")
+    return [path for place in places for path in sorted(TOP.glob(place))]
 
 
 def in_range(lines, how):
@@ -129,7 +129,7 @@ class Document:
             return body
         wanted = rendered(path, how)
         if body != wanted:
-            self.fault(number, f"the block is not that of {path}")
+            self.fault(number, f"the block differs from {path}")
         self.shown = None
         if path.endswith(".script") and "answered" not in how:
             self.shown = (TOP / path).with_suffix(".answers").read_text().splitlines()
@@ -143,7 +143,7 @@ class Document:
         for answer in QUOTED.findall(line):
             self.quoted += 1
             if answer not in (self.known if self.shown is None else self.shown):
-                self.fault(number, f"no example answers {answer!r} here")
+                self.fault(number, f"no example has the answer {answer!r}")
 
 
 def anchors(path):
@@ -176,7 +176,7 @@ def check_links(path, wrong):
 
 
 def stored_text(scripts):
-    """The stored scripts: all but the examples as they are, and behind them the examples."""
+    """The stored scripts: all but the examples as they are, and after them the examples."""
     text = STORED.read_text()
     parts = [text[: text.index("\n== example-")]]
     for name, path in scripts.items():
@@ -191,14 +191,14 @@ def check_examples(scripts, wrong):
         name = path.relative_to(TOP)
         beside = path.with_suffix(".answers")
         if not beside.is_file():
-            wrong.append(f"{name}: no answers stand beside it")
+            wrong.append(f"{name}: the file of its answers is missing")
         elif beside.read_text().splitlines() != answers(path.read_text().splitlines()):
-            wrong.append(f"{name}: the tables answer otherwise")
+            wrong.append(f"{name}: the tables give other answers")
     for path in (TOP / "examples").rglob("*.answers"):
         if not path.with_suffix(".script").is_file():
-            wrong.append(f"{path.relative_to(TOP)}: it has no script")
+            wrong.append(f"{path.relative_to(TOP)}: its script is missing")
     if not wrong and STORED.read_text() != stored_text(scripts):
-        wrong.append(f"{STORED.relative_to(TOP)}: its examples are not those of examples/")
+        wrong.append(f"{STORED.relative_to(TOP)}: its examples differ from those of examples/")
 
 
 def write(scripts):

@@ -77,7 +77,8 @@ def compare(path):
             continue
         compared.add(script)
         if answer != "\n".join(answers(lines)) + "\n":
-            raise Wrong(f"other answers than those of the tables:\n{script}-- answers\n{answer}")
+            text = f"the answers differ from those of the tables:\n{script}-- answers\n{answer}"
+            raise Wrong(text)
         replies = zip(lines[1:], answer.split("\n"))
         ended += any(line.startswith("done") and reply == "ok" for line, reply in replies)
     if not ended:

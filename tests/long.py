@@ -1,9 +1,9 @@
-"""Scripts and answers that are longer than every buffer on their way, so that it is seen who gives
-up on what is long: no contract says that memory is found.
+"""Scripts and answers that are longer than every buffer on their way, to see who gives up on what
+is long: no contract says that memory is found.
 
-What they are answered is by the tables (`replay/tables.py`), or follows from how many lines there
-are. Whether the chain of trust held is told by the second judge, of the same course with few keys
-or few rounds: it is too slow for this many.
+The answers are those of the tables (`replay/tables.py`), or follow from the number of lines.
+Whether the chain of trust held is said by the second judge, of the same course with few keys or few
+rounds: it is too slow for this many.
 """
 
 import sys
@@ -26,8 +26,8 @@ NOTHING = "ds=- dnskey=- signers=- zone=-"
 
 
 class Quick(KeySet):
-    """The tables without a record, and without the question whether an add is refused: where they
-    are asked here, each has a tag and a reference of its own."""
+    """The tables without a record, and without the question whether an add is refused: each add
+    here has a tag and a reference of its own."""
 
     def position(self, *_):
         return None

@@ -22,8 +22,8 @@ together: there has to be a chain of trust, and a signature by each algorithm of
 has it for CDS, and no cache may hold a set longer than its signatures are valid.
 
 Then come operators who don't follow the guides in one point. Each point has to break some zone, in
-the way that it breaks one: by `-v` it is told how many. A point that the guides don't say is left
-out by all.
+the way that it breaks one; `-v` prints how many. A point that the guides don't say is left out by
+all.
 """
 
 import random
@@ -107,7 +107,8 @@ def leave_out(book, points, orders, wrong):
             zones += 1
         wanted = BREAKS.get(point, NO_CHAIN)
         if not ways[wanted]:
-            wrong.append(f"runbooks: {wanted}: no zone of {zones} breaks so by this: {point.name}")
+            fault = f"without this point no zone of {zones} breaks so: {point.name}"
+            wrong.append(f"runbooks: {wanted}: {fault}")
         if "-v" in sys.argv:
             told = ", ".join(f"{how} {number}" for how, number in ways.items())
             print(f"{broken} of {zones} zones break ({told}): {point.name}")
@@ -122,7 +123,7 @@ def main():
     try:
         book, unsaid = runbooks(), left_out(POINTS + PAIRS)
         for point in unsaid:
-            wrong.append(f"runbooks: the guides don't say it: {point.words}")
+            wrong.append(f"runbooks: the guides don't say: {point.words}")
         told = [
             "one signer: " + follow(book, orders, unsaid, wrong),
             leave_out(book, POINTS, lambda n: random.Random(n).sample([*ROLLS], 6), wrong),

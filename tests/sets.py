@@ -1,10 +1,10 @@
 #!/usr/bin/env python3
 """Takes each roll through all its phases, and between any two of its calls puts each setter on each
 key, a deletion, a call made again, an early end and a moment that goes back. It also ends each roll
-early behind each of these, and starts it again. Each answer, the record, and the whole key set
-behind each call have to be those of the tables (`replay/tables.py`), which share no text with the
-key set; both audits have one verdict on each record. So it is with the stored scripts, whose
-answers are stored too, with the chain line.
+early after each of these, and starts it again. Each answer, the record, and the whole key set
+after each call have to be those of the tables (`replay/tables.py`), which share no text with the
+key set; both audits have one verdict on each record. The same for the stored scripts, whose answers
+are stored too, with the chain line.
 
 It asks the program `callers`, which `rt ci` has made by then.
 """
@@ -69,7 +69,7 @@ PHASES = {
 }
 FLAG_NAMES = ["old", "signer", "present", "at_parent"]
 SET_NAMES = ["ds", "dnskey", "dnskey_signers", "zone_signers"]
-# What a text has before these characters, where it is printed with quotes.
+# What a text has before these characters, if it is printed with quotes.
 ESCAPED = str.maketrans({'"': '\\"', "\\": "\\\\"})
 STAMP_NAMES = ["creation", "published", "visible", "ds_visible", "rrsig_visible", "withdrawn"]
 
@@ -166,7 +166,7 @@ def flags(state):
 
 
 def told(keyset):
-    """The whole key set, line by line, as the program tells it, in the order of the alphabet."""
+    """The whole key set, line by line, as the program prints it, in the order of the alphabet."""
     lines = [f"{len(keyset.keys)} keys, {len(keyset.phases)} rolls"]
     for name, key in keyset.keys.items():
         private = None if key.private is None else f'"{key.private.translate(ESCAPED)}"'
@@ -200,7 +200,7 @@ def keys_of(published):
 
 
 def entry(position):
-    """What a position of a record tells, as the program prints it."""
+    """What a position of a record has, as the program prints it."""
     moment = some(position.moment)
     sets = [position.ds, position.dnskey, position.signers, position.zone]
     named = ", ".join(f"{name}: {keys_of(keys)}" for name, keys in zip(SET_NAMES, sets))
@@ -208,7 +208,7 @@ def entry(position):
 
 
 def check(name, script, stored, parts):
-    """Compares what the program tells of a script, part by part, with the tables, and its answers
+    """Compares what the program prints of a script, part by part, with the tables, and its answers
     with those that are stored."""
     answers, entries = next(parts), next(parts).split("\n")
     keyset, wanted = KeySet(), []
@@ -216,12 +216,12 @@ def check(name, script, stored, parts):
         if i > 0:
             wanted.append(keyset.call(line))
         if sorted(next(parts).split("\n")) != told(keyset):
-            raise Wrong(f"{name}: another key set than that of the tables: {script[: i + 1]}")
+            raise Wrong(f"{name}: the key set differs from that of the tables: {script[: i + 1]}")
     if answers.split("\n")[:-1] != [*wanted, keyset.published()] or stored not in (None, answers):
-        raise Wrong(f"{name}: other answers than those of the tables: {script}")
+        raise Wrong(f"{name}: the answers differ from those of the tables: {script}")
     record = keyset.record[1:]
     if entries != [f"{len(record)} entries, one verdict: true", *map(entry, record)]:
-        raise Wrong(f"{name}: another record than that of the tables: {script}")
+        raise Wrong(f"{name}: the record differs from that of the tables: {script}")
 
 
 def stored_scripts():

@@ -15,12 +15,12 @@ class Wrong(Exception):
 
 
 def run(*command, **how):
-    """What a command writes, where it ends well."""
+    """What a command writes, if it ends well."""
     words = [str(word) for word in command]
     try:
         ran = subprocess.run(words, capture_output=True, **how)
     except FileNotFoundError:
-        raise Wrong(f"there is no {words[0]} here") from None
+        raise Wrong(f"{words[0]} is missing here, and is needed") from None
     if ran.returncode:
         raise Wrong(f"{' '.join(words)}: status {ran.returncode}\n{ran.stderr.decode()}")
     return ran.stdout.decode()
