@@ -70,7 +70,7 @@ async def make_key(folder, zone, ref, kind, algorithm):
 class Version:
     """What is published of a zone. `cds` has the keys of CDS and CDNSKEY: none at all for the entry
     that deletes, and None where there are no such sets. Those of `cds_signers` sign them beside
-    those of `zone`."""
+    those of `zone`. Answers that there is none have a TTL of their own, unless `negative` is 0."""
 
     serial: int
     ttl: int
@@ -80,6 +80,13 @@ class Version:
     zone: tuple = ()
     cds: Optional[tuple] = None
     cds_signers: tuple = ()
+    negative: int = 0
+    is_nsec3: bool = False
+
+    @property
+    def longest(self):
+        """The highest TTL of all but the DNSKEY set."""
+        return max(self.ttl, self.negative)
 
 
 def plain_records(zone, version, providers):
@@ -90,7 +97,9 @@ def plain_records(zone, version, providers):
         for provider in providers
         for number, address in enumerate(CHILD[provider], 1)
     }
-    yield f"{zone} {ttl} IN SOA {next(iter(servers))} mail.{zone} {version.serial} 60 60 9999 {ttl}"
+    none = version.negative or ttl
+    serial = f"{next(iter(servers))} mail.{zone} {version.serial}"
+    yield f"{zone} {none} IN SOA {serial} 60 60 9999 {none}"
     for server, address in servers.items():
         yield f"{zone} {ttl} IN NS {server}"
         yield f"{server} {ttl} IN A {address}"
@@ -151,7 +160,8 @@ class Signing:
             lines = [line for line in self.last if set_of(line) not in ("SOA", "DNSKEY")]
             lines += [line for line in entry if set_of(line) in ("SOA", "DNSKEY")]
         else:
-            lines = await self.signed([*plain, *keys], version.zone)
+            options = ("-3", "-", "-H", "0") if version.is_nsec3 else ()
+            lines = await self.signed([*plain, *keys], version.zone, *options)
             lines = [line for line in lines if covered(line) != "DNSKEY"]
             lines += [line for line in entry if covered(line) in ENTRY]
         lost = {key.tag for key in version.signers if key.lost}
@@ -161,7 +171,7 @@ class Signing:
         self.last = lines
         return "\n".join(lines) + "\n"
 
-    async def signed(self, records, keys):
+    async def signed(self, records, keys, *options):
         """The lines of these records, signed by these keys only."""
         able = [key.path for key in keys if not key.lost]
         number = next(self.numbers)
@@ -171,6 +181,6 @@ class Signing:
             return records
         await run(
             self.folder, "dnssec-signzone", "-q", "-z", "-P", "-O", "full", "-o", self.zone,
-            "-e", f"now+{self.lifetime}", "-f", str(result), str(source), *able,
+            "-e", f"now+{self.lifetime}", *options, "-f", str(result), str(source), *able,
         )
         return [line for line in result.read_text().splitlines() if not line.startswith(";")]

@@ -202,6 +202,21 @@ async def raised_ttls(zone):
     await Raised(provider, CSK).whole(["K2", "Z2"], ["C3"])
 
 
+async def nsec3(zone):
+    """Answers that there is none have the highest TTL, and go from NSEC to NSEC3 and back in
+    mid-roll."""
+    zone.ttls.negative = 9
+    provider = await first_keys(zone, "K1", "Z1")
+    await provider.make("Z2", "K2", "Z3", algorithm=13)
+    for roll, old, new in ((ZSK, ["Z1"], ["Z2"]), (CSK, ["K1", "Z2"], ["K2", "Z3"])):
+        roll = Roll(provider, roll)
+        await roll.start(old, new)
+        provider.is_nsec3 = not provider.is_nsec3
+        await provider.publish()
+        await provider.watch()
+        await roll.finish()
+
+
 class Restarting(Roll):
     """In each phase a resolver restarts, and has an empty cache."""
 
@@ -229,6 +244,7 @@ async def restarted(zone):
 
 HONEST = {
     "raised-ttls": raised_ttls,
+    "nsec3": nsec3,
     "first-keys-ended-early": first_keys_ended_early,
     "ended-early-beside": ended_early_beside,
     **{name: one_roll(name) for name in KEYS},

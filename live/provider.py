@@ -32,6 +32,7 @@ class Provider:
         self.versions, self.publishing = {}, asyncio.Lock()
         # Whether the DNSKEY TTL must not rise.
         self.is_steady = False
+        self.is_nsec3 = False
         self.note_version()
         zone.providers.append(self)
 
@@ -89,9 +90,9 @@ class Provider:
         answer that there is none."""
         version = self.version
         self.versions[version.serial] = version
-        dnskey = version.dnskey_ttl if version.dnskey else version.ttl
+        dnskey = version.dnskey_ttl if version.dnskey else version.longest
         self.notes.published("dnskey", dnskey, version.serial)
-        self.notes.published("zone", version.ttl, version.serial)
+        self.notes.published("zone", version.longest, version.serial)
 
     async def publish(self, *kinds):
         """Publishes a version of the zone, with the DNSKEY set or the signatures of the zone that
@@ -105,8 +106,8 @@ class Provider:
             signers = changes.get("signers", self.version.signers)
             self.version = replace(
                 self.version, serial=next(self.zone.serials), ttl=self.ttls.zone,
-                dnskey_ttl=self.ttls.dnskey, cds=self.zone.cds,
-                cds_signers=self.cds_signers(signers), **changes,
+                dnskey_ttl=self.ttls.dnskey, negative=self.ttls.negative, cds=self.zone.cds,
+                cds_signers=self.cds_signers(signers), is_nsec3=self.is_nsec3, **changes,
             )
             self.note_version()
             text = await self.signing.text(self.version)

@@ -50,6 +50,7 @@ ONLY_WHOLE = {
     "false-line-taken-back",
     "ended-early-beside",
     "raised-ttls",
+    "nsec3",
     "csks",
     "double-ds-beside-double-signature",
 }

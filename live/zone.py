@@ -55,6 +55,8 @@ class Ttls:
     zone: int
     dnskey: int
     ds: int
+    # Of answers that there is none, if it is another.
+    negative: int = 0
 
     @classmethod
     def any(cls, dice):
