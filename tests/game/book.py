@@ -12,19 +12,16 @@ FIRST_KEYS, EARLY_END, TWO = "The first keys", "Ending a roll early", "Two signe
 
 # What the cells of the tables say. A cell that says something else has to be taught here.
 DOES = {
-    "dnskey": r"\bpublish the DNSKEY set\b",
+    "dnskey": r"\bthe DNSKEY set\b",
     "zone": r"\bthe zone (signed by|without their signatures)\b",
-    "cds": r"\bpublish CDS and CDNSKEY\b",
-    "ds": r"\bhave the parent('s DS set changed| set its DS)\b",
+    "cds": r"\bCDS (for|without)\b",
+    "ds": r"\bthe DS set becomes\b",
 }
+# What to watch for is said of early ends; else it is what was done, without CDS.
 WATCHES = {
-    "": "",
-    "the DNSKEY set": "dnskey",
-    "all signatures": "zone",
-    "both": "dnskey zone",
-    "the DS set": "ds",
-    "the DS set at the parent, and all signatures": "ds zone",
-    "CDS and CDNSKEY, and the DS set": "ds cds",
+    "the DNSKEY set": {"dnskey"},
+    "both": {"dnskey", "zone"},
+    "CDS and the DS set": {"ds", "cds"},
 }
 # The actions of the key set in the same words.
 ASKS = {
@@ -40,8 +37,8 @@ WATCHED = {
 }
 # The TTLs that a report gives. Rule 1 of docs/OPERATORS.md says which sets they are of.
 TTLS = {"the DNSKEY TTL": "dnskey", "the zone's TTL": "zone", "the DS TTL": "ds"}
-JOINED = re.compile(r"the (?P<join>higher|\*\*sum\*\*) of (?P<of>both|.* and .*)")
-JOINS = {"higher": max, "**sum**": sum}
+BOTH = "the higher TTL of both"
+SUM = re.compile(r"the \*\*sum\*\* of (.*) and (.*)")
 
 
 class Wrong(Exception):
@@ -67,22 +64,23 @@ def known(table, cell):
 
 def report_of(words, watches):
     """How the TTL of a report is made of which TTLs: in these words, and no safer."""
-    match = JOINED.fullmatch(words)
-    if match and match["of"] == "both":
-        return JOINS[match["join"]], watches
-    parts = match["of"].split(" and ") if match else [words]
-    return JOINS[match["join"]] if match else max, [known(TTLS, part) for part in parts]
+    if words == BOTH:
+        return max, sorted(watches)
+    if match := SUM.fullmatch(words):
+        return sum, [known(TTLS, part) for part in match.groups()]
+    return max, [known(TTLS, words)]
 
 
-def step_of(does, watches, then):
+def step_of(does, *watched, then):
     report = re.search(r"`report[12]`: ([^;]*)", then)
-    watched = known(WATCHES, watches).split()
+    done = {part for part, words in DOES.items() if re.search(words, does)}
+    watches = known(WATCHES, *watched) if watched else done - {"cds"}
     return Step(
-        {part for part, words in DOES.items() if re.search(words, does)},
-        set(watched),
-        report_of(report[1], watched) if report else None,
+        done,
+        watches,
+        report_of(report[1], watches) if report else None,
         "don't raise the DNSKEY TTL" in then,
-        "CDS and CDNSKEY out" in then,
+        "CDS out" in then,
     )
 
 
@@ -93,10 +91,10 @@ def runbooks():
         cells = [cell.strip() for cell in line.split("|")[1:-1]]
         if line.startswith("## "):
             heading = line.removeprefix("## ")
-        elif len(cells) == 4 and cells[0].startswith("`") and heading != TWO:
-            step, names = step_of(*cells[1:]), re.findall(r"`(\S+)`", cells[0])
+        elif len(cells) > 2 and cells[0].startswith("`") and heading != TWO:
+            step = step_of(*cells[1:-1], then=cells[-1])
             if heading == EARLY_END:
-                book[EARLY_END].update({roll: step for roll in names})
+                book[EARLY_END].update({roll: step for roll in re.findall(r"`(\S+)`", cells[0])})
             else:
                 book.setdefault(heading, []).append(step)
     missing = {FIRST_KEYS, *ROLLS} - {name for name, steps in book.items() if len(steps) == 3}

@@ -144,7 +144,7 @@ PAIRS = (
     ),
     DS_OWN := Point(
         "CDS has the keys of one signer only, and so has what is asked of the parent",
-        "The DS set has the keys of both ds=, and so have CDS and CDNSKEY",
+        "The DS set has the keys of both ds=, and so has CDS",
     ),
     CDS_ON_ONE := Point(
         "CDS comes and goes on the servers of one signer only",
@@ -180,7 +180,7 @@ PAIRS = (
     ),
     LEAVES_EARLY := Point(
         "the DS of who leaves goes first",
-        "only then: have the parent's DS set changed to the keys of B's ds=",
+        "only then: CDS of B; the DS set becomes the keys of B's ds=",
     ),
     NS_TTL := Point(
         "when one leaves, nobody waits for the TTL of the NS sets",
