@@ -1,6 +1,6 @@
-//! The callers that the READMEs show: one of each crate that a user names, and one of
-//! `dnssec_run`.
-//! Where standard input has scripts, the whole sets behind their calls are told instead.
+//! The callers that the READMEs show: one for each crate that a user names, and one for
+//! `dnssec_run`. If standard input has scripts, the program writes the whole sets after their calls
+//! instead.
 #![tactic(auto)]
 
 mod first_keys;

@@ -5,8 +5,8 @@ use dnssec_network::{Before, News, Notes, SetKind};
 use std::alloc::Global;
 use std::time::Duration;
 
-/// Notes what is seen of a zone's DNSKEY sets while call 12 starts a KSK roll, and tells the TTL of
-/// its first report.
+/// Notes what is seen of a zone's DNSKEY sets while call 12 starts a KSK roll, and answers the TTL
+/// of its first report.
 pub fn first_report(alloc: Global) -> Result<String> {
     let mut notes = Notes::new(
         alloc,

@@ -5,7 +5,7 @@ use dnssec_run::{Call, run};
 use std::alloc::Global;
 use std::time::Duration;
 
-/// Publishes a key of another signer on a new key set, and tells what is then published.
+/// Publishes a key of another signer on a new key set, and answers what is then published.
 pub fn publish(alloc: Global) -> Result<String> {
     let now = UnixTime::from(Duration::from_secs(100));
     let mut calls = Vec::new(alloc);

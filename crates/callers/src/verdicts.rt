@@ -3,7 +3,7 @@ use anyhow::Result;
 use dnssec_record::{audit_window, record_script};
 use std::alloc::Global;
 
-/// Runs a script, and tells whether its chain of trust held after every call.
+/// Runs a script, and says whether its chain of trust held after every call.
 pub fn judge(alloc: Global, script: &str) -> Result<String> {
     let run = record_script(alloc, script.as_bytes())?;
     match audit_window(alloc, &run.entries)? {

@@ -1,6 +1,6 @@
-//! Tells of scripts what they are answered, what their records say, whether `audit` and
-//! `audit_window` have one verdict on these, and the whole key set behind each of their calls, by
-//! what its getters give. `tests/sets.py` compares it with the tables and with stored answers.
+//! Writes what scripts are answered, what their records say, whether `audit` and `audit_window`
+//! agree on these, and the whole key set after each call, as its getters give it. `tests/sets.py`
+//! compares all that with the tables and with stored answers.
 ghost use Rattle.std.specs.Prelude.{IfOk, string_bytes};
 ghost use Rattle.dnssec_record.specs.Answer.{IsAnswerOf};
 

@@ -1,8 +1,8 @@
-//! The operator's table: what an accepted call of a roll asks.
+//! The operator's table: what an accepted call of a roll asks for.
 use crate::steps::CourseCall;
 use dnssec_keyset::{Action, RollType};
 
-/// What an accepted call asks of the operator.
+/// What an accepted call asks the operator to do.
 pub fn asked_after(call: CourseCall) -> &'static [Action] {
     use Action::{
         CreateCdsRrset, RemoveCdsRrset, ReportDnskeyPropagated, ReportDsPropagated,

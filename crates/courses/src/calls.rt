@@ -1,4 +1,4 @@
-//! One call, and what holds of it whatever the course.
+//! One call, and what holds for it in every course.
 use crate::asked::asked_after;
 use crate::look::{Seen, at, look};
 use crate::mismatch::Trouble;
@@ -7,8 +7,8 @@ use dnssec_base::SecurityAlgorithm;
 use dnssec_keyset::{Action, Available, Error, KeySet, RollType, UnixTime};
 use std::alloc::{AllocError, Global};
 
-/// Makes one call. Where it is refused nothing may have changed; where it is accepted it asks what
-/// the operator's table says, and `actions` then tells the same. A call that is refused because
+/// Makes one call. A refused call may have changed nothing. An accepted call asks for what the
+/// operator's table says, and `actions` then answers the same. A call that is refused because
 /// memory ran out is made once more.
 pub(crate) fn make(
     alloc: Global,
@@ -61,7 +61,7 @@ fn check_asked(actions: &[Action], call: CourseCall) -> Result<(), Trouble> {
     }
 }
 
-/// After an accepted call of a roll `actions` tells what it asked.
+/// After an accepted call of a roll `actions` answers what it asked for.
 fn check_told_again(set: &KeySet, call: CourseCall, memory: &mut Memory) -> Result<(), Trouble> {
     let Some(roll) = roll_of(call) else {
         return Ok(());
@@ -80,8 +80,8 @@ fn check_told_again(set: &KeySet, call: CourseCall, memory: &mut Memory) -> Resu
     }
 }
 
-/// The actions due while the roll of an accepted call stands where it is then. A roll that was
-/// ended early stands nowhere.
+/// The actions due while the roll of an accepted call stays in the phase that it is in then. A roll
+/// that was ended early is in no phase.
 fn due_after(call: CourseCall) -> &'static [Action] {
     match call {
         CourseCall::Abort(_) => &[],
@@ -156,7 +156,7 @@ fn start(
     set.start_roll(roll, old.as_slice(), new.as_slice(), now)
 }
 
-/// The call of a key; of a roll it makes none.
+/// Makes a call on a key; it makes no call on a roll.
 fn attempt_on_key(
     alloc: Global,
     set: &mut KeySet,
@@ -206,7 +206,7 @@ fn add(
     }
 }
 
-/// A copy of a text, where at most one request for memory is refused.
+/// A copy of a text, if at most one request for memory is refused.
 fn text(alloc: Global, text: &str) -> Result<String, AllocError> {
     match String::from_str(alloc, text) {
         Ok(copy) => Ok(copy),
@@ -214,7 +214,7 @@ fn text(alloc: Global, text: &str) -> Result<String, AllocError> {
     }
 }
 
-/// The references of a list, where at most one request for memory is refused.
+/// The references of a list, if at most one request for memory is refused.
 fn references(alloc: Global, names: Names) -> Result<Vec<&'static str>, AllocError> {
     let list = names.split(',').filter(|name| *name != "-");
     match list.collect(alloc) {

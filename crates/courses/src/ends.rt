@@ -1,11 +1,11 @@
-//! The ends of waits, against what waits are told.
+//! The ends of waits, against what waits are answered.
 use crate::look::{ROLLS, at};
 use dnssec_keyset::{Error, KeySet, RollState, RollType, UnixTime, WaitEnd};
 use std::time::Duration;
 
-/// What is told of the end of each roll's wait is so: a wait just before it is too early by a
-/// nanosecond, and one at it is accepted. Where none is told, a wait is refused for its phase or
-/// for a stamp that is missing.
+/// Whether the end of each roll's wait is true: a wait just before it is too early by a nanosecond,
+/// and a wait at it is accepted. If there is no end, a wait is refused for its phase or for a
+/// missing stamp.
 pub(crate) fn are_ends_told(set: &KeySet) -> bool {
     ROLLS.iter().all(|roll| is_end_told(set, *roll))
 }

@@ -1,9 +1,9 @@
 //! Courses of calls, as tables, and the walk that makes them.
 //!
-//! A [`Course`] tells, step by step, what an operator does with a key set, what it is told, and
-//! what can then be read of the set. [`walk`] makes its calls on a new set, and answers the first
-//! [`Mismatch`]. Whatever a course says, a refused call has to leave the set as it was, an accepted
-//! one has to ask what the operator's table says.
+//! A [`Course`] says, step by step, what an operator does with a key set, what it answers, and what
+//! can then be read of the set. [`walk`] makes its calls on a new set, and answers the first
+//! [`Mismatch`]. Whatever a course says, a refused call has to leave the set as it was, and an
+//! accepted call has to ask for what the operator's table says.
 #![tactic(auto)]
 
 mod asked;

@@ -5,7 +5,7 @@ use dnssec_keyset::{Key, KeySet, KeyState, KeyType, RollState, RollType, UnixTim
 use std::alloc::Global;
 use std::time::Duration;
 
-/// All that is told of a key, but its private reference.
+/// All that a key set says of a key, except its private reference.
 #[derive(Clone, Copy, PartialEq)]
 pub struct SeenKey {
     decoupled: bool,
@@ -15,7 +15,7 @@ pub struct SeenKey {
     stamps: [Option<UnixTime>; 6],
 }
 
-/// All that is told of a key set whose keys have these references. Of other keys there is the
+/// All that a key set says of itself, if its keys have these references. Of other keys it has the
 /// number.
 #[derive(Clone, Copy, PartialEq)]
 pub(crate) struct Seen {
@@ -37,7 +37,7 @@ pub(crate) const ROLLS: [RollType; 6] = [
     RollType::AlgorithmRoll,
 ];
 
-/// Two key sets tell the same.
+/// Whether two key sets say the same.
 pub fn are_alike(one: &KeySet, other: &KeySet) -> bool {
     look(one) == look(other)
 }
@@ -54,7 +54,7 @@ fn look_at(set: &KeySet, reference: &str) -> Option<SeenKey> {
     Some(see_key(set.keys().get(reference)?))
 }
 
-/// All that is told of a key, but its private reference.
+/// All that a key set says of a key, except its private reference.
 pub fn see_key(key: &Key) -> SeenKey {
     SeenKey {
         decoupled: key.decoupled(),
@@ -85,7 +85,7 @@ pub(crate) fn at(seconds: u64) -> UnixTime {
     }
 }
 
-/// What a step says can be read of the set. A call says nothing.
+/// Whether the set says what a step says of it. A call says nothing.
 pub(crate) fn is_so(alloc: Global, set: &KeySet, step: &Step) -> bool {
     match *step {
         Step::At(..) => true,
@@ -112,7 +112,7 @@ fn state_of(set: &KeySet, reference: &str) -> Option<KeyState> {
     }
 }
 
-/// Exactly the named keys are published, in each of the four sets.
+/// Whether exactly the named keys are published, in each of the four sets.
 pub(crate) fn is_published(set: &KeySet, want: Published) -> bool {
     for (reference, key) in set.keys() {
         for (place, names) in places(key).into_iter().zip(want.split('|')) {
@@ -139,7 +139,7 @@ fn is_named(names: &str, reference: &str) -> bool {
     names.split(',').any(|name| name.trim() == reference)
 }
 
-/// Each named key is there.
+/// Whether each named key is there.
 fn are_there(set: &KeySet, want: Published) -> bool {
     for names in want.split('|') {
         for name in names.split(',') {

@@ -1,9 +1,9 @@
-//! Where a key set doesn't follow a course.
+//! The step at which a key set doesn't follow a course.
 use crate::steps::Told;
 use std::fmt;
 
-/// The step of a course that went otherwise. Parts and steps are counted from 1, and are 0 where it
-/// is the course as a whole.
+/// The step of a course that went otherwise. Parts and steps are counted from 1, and are 0 for the
+/// course as a whole.
 #[derive(Clone, Copy, Debug)]
 pub struct Mismatch {
     pub course: &'static str,
@@ -17,21 +17,21 @@ pub struct Mismatch {
 pub enum Trouble {
     /// The walk itself got no memory, twice.
     NoMemory,
-    /// The call was told this.
+    /// The call got this answer.
     Told(Told),
-    /// The call was accepted, and didn't ask what the operator's table says.
+    /// The call was accepted, and didn't ask for what the operator's table says.
     Asked,
-    /// `actions` doesn't tell what the call asked.
+    /// `actions` doesn't answer what the call asked for.
     ToldAgain,
     /// The call was refused for lack of memory, and needs none.
     TakesNone,
     /// The call was refused, and changed something.
     Changed,
-    /// Not the keys of the table are published.
+    /// Other keys are published than those of the table.
     Published,
-    /// What the step tells of the set isn't so.
+    /// What the step says of the set isn't so.
     NotSo,
-    /// The end of a wait isn't what waits are told.
+    /// The end of a wait isn't the one that waits are answered.
     WaitEnd,
 }
 

@@ -27,7 +27,7 @@ pub const NEVER: u64 = u64::MAX;
 /// A call, or what can be read of the set at this point.
 #[derive(Clone, Copy)]
 pub enum Step {
-    /// At a moment in seconds a call is made, it is told so, and this is published then.
+    /// At this moment, in seconds, the call is made and answered so, and this is then published.
     At(u64, CourseCall, Told, Published),
     /// The text of the state of a key that has one role.
     Shown(&'static str, &'static str),
@@ -67,12 +67,12 @@ pub enum CourseCall {
     Delete(&'static str),
 }
 
-/// What the operator is told. An accepted call of a roll asks what the operator's table says.
+/// What the call answers. An accepted call of a roll asks for what the operator's table says.
 #[derive(Clone, Copy, Debug, PartialEq)]
 pub enum Told {
     Accepted,
     Refused(Error),
-    /// To wait for so many seconds.
+    /// To wait for this many seconds.
     Wait(u64),
 }
 
@@ -88,7 +88,8 @@ pub enum Memory {
 }
 
 impl Memory {
-    /// A request has failed, and that is so for the first time, where it may be.
+    /// A request has failed. Whether that may be: for the first time, in a walk in which one may
+    /// fail.
     pub fn fails(&mut self) -> bool {
         let may_fail = *self == Memory::MayFail;
         if may_fail {

@@ -21,7 +21,7 @@ pub fn walk_all(alloc: Global, courses: &[Course]) -> Result<(), Mismatch> {
 }
 
 /// Makes the calls of a course on a new key set for `example.com`, and answers the set as it is
-/// then. Each step has to go as the course tells.
+/// then. Each step has to go as the course says.
 pub fn walk(alloc: Global, course: &Course, memory: &mut Memory) -> Result<KeySet, Mismatch> {
     let Some(mut set) = new_set(alloc) else {
         return Err(Mismatch {
@@ -64,7 +64,7 @@ pub fn go_on(
     Ok(())
 }
 
-/// A key set for `example.com`, where at most one request for memory is refused.
+/// A key set for `example.com`, if at most one request for memory is refused.
 pub fn new_set(alloc: Global) -> Option<KeySet> {
     let octets = match b"\x07example\x03com\x00".to_vec(alloc) {
         Ok(octets) => octets,

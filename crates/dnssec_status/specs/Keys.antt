@@ -17,7 +17,7 @@ use Rattle.dnssec_status.specs.Names.{roll_json}
 
 -- ---- the roles of a key
 
--- the word for a state, by the flags old, signer and present
+-- the word for a state, from the flags old, signer and present
 unfoldable pub state_word : Bool → Bool → Bool → List ℕ
 state_word false false false = codes "future"
 state_word false false true = codes "incoming"

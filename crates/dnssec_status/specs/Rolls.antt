@@ -67,7 +67,7 @@ abbrev pub is_for_parent : Action → Bool
 is_for_parent UpdateDsRrset = true
 is_for_parent _ = false
 
--- for whom it waits: for the caches, or for who does what is due, the parent or you
+-- for whom it waits: for the caches, or for the one who does what is due, the parent or you
 unfoldable pub waits_for : RollState → List Action → List ℕ
 waits_for (CacheExpire1 ttl) due = codes "\"caches\""
 waits_for (CacheExpire2 ttl) due = codes "\"caches\""

@@ -1,5 +1,5 @@
--- The status of a zone, as one object of JSON on one line: what an operator, a dashboard or a script
--- asks beyond the answer to a call.
+-- The status of a zone, as one object of JSON on one line: what an operator, a dashboard or a
+-- script asks besides the answer to a call.
 use Rattle.std.specs.Prelude.{◌≡◌, ℕ, List, ◌++◌, Option, codes, length}
 use Rattle.std.specs.FinMap as map
 use Rattle.dnssec_base.specs.NameText.{name_text}

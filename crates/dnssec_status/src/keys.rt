@@ -21,7 +21,7 @@ use std::alloc::{AllocError, Global};
 use std::collections::HashMap;
 use std::time::Duration;
 
-/// The keys with their references, in the order of these.
+/// The keys with their references, in the order of the references.
 pub(crate) fn in_order(
     alloc: Global,
     keys: &HashMap<String, Key>,

@@ -42,7 +42,7 @@ use std::alloc::{AllocError, Global};
 ///
 /// # Errors
 ///
-/// If there is no memory.
+/// `AllocError` if there is no memory.
 ///
 /// ```rust
 /// let text = status(alloc, &session)?;

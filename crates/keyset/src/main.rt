@@ -13,7 +13,7 @@ fn main(rt: HostRuntime) -> ExitCode {
     match run_script(rt.alloc(), &mut input, &mut output) {
         Ok(()) => ExitCode::SUCCESS,
         Err(fault) => {
-            // The status tells the fault too, so that its text may be lost.
+            // The status says the fault too, so its text may be lost.
             let _ = eprintln!(rt; "{fault}");
             ExitCode::from(fault.status())
         }

@@ -1,9 +1,9 @@
-//! The program `keyset_notes`: tells which reports are due.
+//! The program `keyset_notes`: says which reports are due.
 //!
 //! Standard input has a script, an empty line, and notes. A line `due` with a second since 1970
-//! among the notes asks which reports are due then, by the notes above it. After a further empty
-//! line may come another script with its notes, and so on. An answer has a line for each report
-//! that a roll waits for; between two answers stands an empty line.
+//! among the notes asks which reports are due then, by the notes above it. After another empty line
+//! may come another script with its notes, and so on. An answer has a line for each report that a
+//! roll waits for; between two answers stands an empty line.
 //!
 //! It takes no arguments. It ends with status 0, or with that of the fault, whose text it writes to
 //! standard error, and then it writes no answer: 1 for a malformed script, or for notes that are
@@ -19,7 +19,7 @@ use std::process::ExitCode;
 fn main(rt: HostRuntime) -> ExitCode {
     let alloc = rt.alloc();
     let mut input = Vec::new(alloc);
-    // The status tells a fault too, so that its text may be lost.
+    // The status says a fault too, so its text may be lost.
     if rt.stdin().read_to_end(&mut input).is_err() {
         let _ = eprintln!(rt; "{}", ScriptFault::Device);
         return ExitCode::from(2);

@@ -1,8 +1,8 @@
-//! The program `keyset_status`: reads a script on its standard input, makes its calls, and writes the
-//! status of the zone after them as JSON.
+//! The program `keyset_status`: reads a script on its standard input, makes its calls, and writes
+//! the status of the zone after them as JSON.
 //!
-//! It takes no arguments. It ends with the statuses of the program `keyset`, and writes nothing but
-//! after status 0.
+//! It takes no arguments. It ends with the statuses of the program `keyset`, and writes nothing
+//! unless the status is 0.
 #![tactic(auto)]
 
 use dnssec_record::{ScriptFault, Session};
@@ -34,7 +34,7 @@ fn main(rt: HostRuntime) -> ExitCode {
     match written {
         Ok(()) => ExitCode::SUCCESS,
         Err(fault) => {
-            // The status tells the fault too, so that its text may be lost.
+            // The status says the fault too, so its text may be lost.
             let _ = eprintln!(rt; "{fault}");
             ExitCode::from(fault.status())
         }
