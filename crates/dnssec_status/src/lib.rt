@@ -31,14 +31,15 @@ use std::alloc::{AllocError, Global};
 /// Every member is always there, and what is missing is `null`. Moments are whole seconds. Keys
 /// stand in the order of their references' bytes, rolls in that of their kinds.
 ///
-/// | Member | What |
-/// |---|---|
-/// | `zone` | its name |
-/// | `chain` | the verdict on the record |
-/// | `published` | the references of the four sets |
-/// | `keys` | each key: its kind and roles, what it was added with, its stamps, whether it may come in by a roll or be deleted, and the rolls in progress that listed it as old or new |
-/// | `rolls` | each roll in progress: its phase, the call that leaves it, the first second from which a wait is accepted, for whom it waits, and what is due |
-/// | `ended` | each roll that was ended early, with what that asked for, until a roll starts that may not go beside it |
+/// - `zone`: its name
+/// - `chain`: the verdict on the record
+/// - `published`: the references of the four sets
+/// - `keys`: each key with its kind and roles, what it was added with, its stamps, whether it may
+///   come in by a roll or be deleted, and the rolls in progress that listed it as old or new
+/// - `rolls`: each roll in progress with its phase, the call that leaves it, the first second from
+///   which a wait is accepted, for whom it waits, and what is due
+/// - `ended`: each roll that was ended early, with what its end asked for, until a roll starts that
+///   may not go beside it
 ///
 /// # Errors
 ///
