@@ -154,7 +154,8 @@ class Signing:
         entry = await self.signed([plain[0], *keys], version.signers)
         tags = {key.tag for key in version.cds_signers}
         entry = [
-            line for line in entry if covered(line) not in ("CDS", "CDNSKEY") or tag_of(line) in tags
+            line for line in entry
+            if covered(line) not in ("CDS", "CDNSKEY") or tag_of(line) in tags
         ]
         if any(key.lost for key in version.zone):
             lines = [line for line in self.last if set_of(line) not in ("SOA", "DNSKEY")]
