@@ -1,27 +1,34 @@
-# `make run` answers a script, `make build` makes the proved programs, `make lib` the library for C,
-# Rust and Python, `make test` is the gate, `make live` rolls keys on real servers.
+# `make help` lists what can be made here.
 
 SCRIPT ?= examples/algorithm-roll.script
+PREFIX ?= /usr/local
+DESTDIR ?=
+RUNS ?= 1000000
+
 PROGRAM = crates/keyset/out/keyset
 PARTS = dnssec_base dnssec_key dnssec_zone dnssec_keyset dnssec_run dnssec_judge dnssec_record \
 	keyset
 SOURCES = crates.txt \
 	$(wildcard $(foreach part,$(PARTS),$(addprefix crates/$(part)/,src specs proofs)))
 
-RUNS ?= 1000000
+# What `make install` takes: it is made if it is missing, or older than the sources.
+MADE = $(foreach program,keyset keyset_status keyset_notes,crates/$(program)/out/$(program)) \
+	library/out/lib/libkeyset.so
+ALL_SOURCES = crates.txt VERSION $(wildcard library/*.*) \
+	$(shell find crates -path '*/out' -prune -o -name '*.rt' -print -o -name '*.antt' -print)
 
 # What the library is called by in the tests.
 CALLERS = has-cc has-pkg-config has-cargo has-rustc
 
-# Proves a crate, and those below it, by a command of rt, and tells what that says where it fails.
+# Proves a crate and those below it by a command of rt, and prints what that says if it fails.
 prove = mkdir -p crates/$(1)/out && cd crates/$(1) && \
 	{ rt $(2) >out/build.log 2>&1 || { cat out/build.log >&2; exit 1; }; }
 
-.PHONY: run build notes lib test live docs memory test-lib valgrind asan fuzz python
+.PHONY: run build notes lib install uninstall check fmt clean test live docs memory test-lib \
+	valgrind asan fuzz help python
 
-# Answers SCRIPT. The proved program does it where `make build` has made it from these sources;
-# else one that is built at once, without a proof.
-run:
+# The proved program answers if it is newer than its sources, else one that is built at once.
+run: ## answers SCRIPT: make run SCRIPT=FILE
 	@if [ -x $(PROGRAM) ] && [ -z "$$(find $(SOURCES) -newer $(PROGRAM))" ]; \
 	then $(PROGRAM); \
 	else \
@@ -29,59 +36,70 @@ run:
 		cd crates/keyset && rt try; \
 	fi <"$(SCRIPT)"
 
-# Proves the programs and the crates below them, and builds them as crates/keyset/out/keyset and
-# crates/keyset_status/out/keyset_status.
-build:
+build: ## proves and builds the programs keyset and keyset_status, as crates/NAME/out/NAME
 	@$(call prove,keyset,run <stdin)
 	@$(call prove,keyset_status,run <stdin)
 
-# The same of the program that tells which reports are due, as crates/keyset_notes/out/keyset_notes.
-notes:
+notes: ## proves and builds the program keyset_notes, which says which reports are due
 	@$(call prove,keyset_notes,run <stdin)
 
-# Proves the library and the crates below it, and makes of it what callers link: library/out has an
-# archive, a shared object, their header and a file for pkg-config.
-lib:
+lib: ## proves and builds the library for C, Rust and Python: library/out
 	@$(call prove,keyset_c,lib)
 	@library/pack.sh crates/keyset_c/out/libkeyset_c.a library/out
 
-# Tests what `make lib` has made; under a checker of memory its tests in C alone.
-test-lib: python $(CALLERS) build lib
-	@tests/library.py library/out
-asan: python has-cc lib
-	@tests/library.py library/out $@
-valgrind: python has-cc has-valgrind lib
-	@tests/library.py library/out $@
+install: python $(MADE) ## installs programs, library, command and manual: PREFIX=/usr/local DESTDIR=
+	@packaging/install.py install "$(PREFIX)" --destdir "$(DESTDIR)"
 
-# Lets libFuzzer make RUNS texts, on which the library and a second reader have to agree, and of
-# which some are answered by the tables too; it wants clang with its runtime libraries.
-fuzz: python has-clang lib
-	@tests/fuzz.py library/out $(RUNS)
+uninstall: python ## removes what make install has installed
+	@packaging/install.py uninstall "$(PREFIX)" --destdir "$(DESTDIR)"
 
-# What the documents print is compared with the examples; then every proof, edit, test and program,
-# and beside them the runbooks are played, and each request for memory fails in turn. It tells when
-# each step was done.
-test: python $(CALLERS)
+$(MADE): $(ALL_SOURCES)
+	@$(MAKE) build notes lib
+	@touch $(MADE)
+
+check: ## proves every crate, and tries no edits and runs no tests
+	@rt all check
+
+fmt: ## lays out the .rt files of every crate
+	@for crate in crates/*/; do (cd $$crate && rt fmt) || exit 1; done
+
+clean: ## removes what was built
+	@rm -rf crates/*/out library/out library/rust/target
+	@find . -name __pycache__ -prune -exec rm -rf {} +
+
+# Every proof, wrong body, test and program. It prints when each step was done.
+test: python $(CALLERS) ## the gate: it ends with 'N passed, 0 failed'
 	@tests/gate.py
 
-# Rolls keys on real name servers and resolvers, within an hour, or a part within ten minutes:
-# `make live LIVE=--short`. It wants packages that live/README.md names.
-live: build
+# It needs the packages that live/README.md names.
+live: build ## rolls keys on real name servers, within an hour; LIVE=--short within ten minutes
 	@live/run.py $(LIVE)
 
-# What the documents print is compared with the examples and with the callers.
-docs: python
+docs: python ## compares what the documents print with the examples and the callers
 	@tests/docs.py
 
-# Each request for memory of calls of a key set, of its copies, of names, of a script's record and
-# of its verdict fails in turn.
-memory: python has-cc
+memory: python has-cc ## lets each request for memory fail in turn
 	@$(call prove,memory_of_calls,run <stdin)
 	@tests/memory.py
+
+test-lib: python $(CALLERS) build notes lib ## tests the library, its callers and the install
+	@tests/library.py library/out
+asan: python has-cc lib ## tests the library in C under the address sanitizer
+	@tests/library.py library/out $@
+valgrind: python has-cc has-valgrind lib ## tests the library in C under valgrind
+	@tests/library.py library/out $@
+
+# The library and a second reader have to agree on each text, and the tables on some.
+fuzz: python has-clang lib ## lets libFuzzer make RUNS texts: it needs clang with its runtime
+	@tests/fuzz.py library/out $(RUNS)
+
+help: ## prints these lines
+	@sed -n 's/^\([a-z-]*\):.* ## /\1\t/p' Makefile | \
+		while IFS="$$(printf '\t')" read -r name text; do printf '%-10s %s\n' "$$name" "$$text"; done
 
 # Each says what is missing, before a proof is begun.
 python:
 	@python3 -c 'import sys; sys.exit(sys.version_info < (3, 9))' || \
-		{ echo 'python3 is wanted here, of version 3.9 or later' >&2; exit 1; }
+		{ echo 'python3 is missing here: 3.9 or later is needed' >&2; exit 1; }
 has-%:
-	@command -v $* >/dev/null || { echo '$* is wanted here, and is missing' >&2; exit 1; }
+	@command -v $* >/dev/null || { echo '$* is missing here, and is needed' >&2; exit 1; }

@@ -1,7 +1,7 @@
 /* libFuzzer looks here for a text that the library and a second reader take otherwise. The library
    is linked as it was compiled; what guides the fuzzer is the coverage of the reader, and which
    answers came to which calls. Scripts with their answers are written to the file `answered`, each
-   behind its two lengths: those with an answer that no earlier one had, and every 8th. */
+   after its two lengths: those with an answer that no earlier one had, and every 8th. */
 
 #include "reader.h"
 

@@ -135,7 +135,7 @@ def main():
         Behind("memory", "memory_of_calls"),
         Behind("sets", "callers"),
         Behind("notes", "keyset_notes"),
-        Behind("library", "keyset", "keyset_c"),
+        Behind("library", "keyset", "keyset_status", "keyset_notes", "keyset_c"),
         Behind("command", "keyset", "keyset_status", "keyset_notes"),
     ]
     status, last = prove(behind)

@@ -6,7 +6,7 @@
    these, where a checker of memory makes it slow), and side by side in threads, of which each takes
    the scripts in an order of its own. With STEP 0 only the threads run. Each beginning of a
    script, and scripts with damaged bytes, are called malformed just where a second reader says so.
-   Each request for memory fails in turn, and behind a call that got none the rest is answered as if
+   Each request for memory fails in turn, and after a call that got none the rest is answered as if
    it had not been made. The linker has malloc, realloc and free of the library come here:
    -Wl,--wrap=malloc,--wrap=realloc,--wrap=free */
 
@@ -122,11 +122,11 @@ static void expect_answer(const struct stored *it, size_t room)
     expect(told.line == 0, "no line", it->name);
     if (room < it->answer_length) {
         expect(told.status == KEYSET_SHORT, "short of room", it->name);
-        expect(is_filled(out, room), "nothing is written where it is short", it->name);
+        expect(is_filled(out, room), "nothing is written if it is short", it->name);
     } else {
         expect(told.status == KEYSET_ANSWERED, "answered", it->name);
         expect(memcmp(out, it->answer, told.length) == 0, "the answer", it->name);
-        expect(is_filled(out + told.length, room - told.length), "what stands behind", it->name);
+        expect(is_filled(out + told.length, room - told.length), "what comes after it", it->name);
     }
     free(out);
 }
@@ -138,7 +138,7 @@ static void expect_malformed(const char *script, size_t length, size_t line)
     struct keyset_answered told = ask(script, length, out, sizeof out, 0);
     expect(told.status == KEYSET_MALFORMED, "malformed", script);
     expect(told.line == line && told.length == 0, "its line", script);
-    expect(is_filled(out, sizeof out), "nothing is written where it is malformed", script);
+    expect(is_filled(out, sizeof out), "nothing is written if it is malformed", script);
 }
 
 /* A room that no answer to a script of this length is too long for. */
@@ -207,8 +207,8 @@ static const char *behind_line(const char *text, size_t lines)
     return text;
 }
 
-/* Where the call of this number got no memory, what stands behind its refusal are the answers to
-   the script without it, up to the chain line: that tells of positions, which this call has too. */
+/* If the call of this number got no memory, what comes after its refusal are the answers to
+   the script without it, up to the chain line: that names positions, which this call has too. */
 static void expect_rest(const struct stored *it, const char *rest, size_t call)
 {
     const char *line = behind_line(it->script, call), *next = behind_line(line, 1);

@@ -20,6 +20,7 @@ import tempfile
 import time
 from pathlib import Path
 
+import install
 import long
 import release
 from tools import CRATES, STRICT, TOP, Wrong, run
@@ -332,6 +333,7 @@ def test(folder, room):
     yield test_frozen(keyset)
     yield test_long(keyset)
     yield test_devices()
+    yield f"install: {install.test(folder)}"
 
 
 def main():

@@ -1,5 +1,5 @@
 /* Lets one request for memory fail, of the program that this is loaded into (LD_PRELOAD): the one
-   whose number FAILING_REQUEST tells. At the program's end the number of its requests stands on
+   whose number FAILING_REQUEST has. At the program's end the number of its requests stands on
    standard error. */
 
 #include <stdio.h>

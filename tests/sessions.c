@@ -6,7 +6,7 @@
    a buffer of each length too (every STEP of these, as a checker of memory makes it slow), beside
    malformed lines that change nothing, and side by side in threads, each with its sessions in an
    order of its own. Each request for memory fails in turn: a session that it closes says so, and
-   goes on from its lines. A closed handle is told as such by each call. The linker has malloc,
+   goes on from its lines. Each call says that a closed handle is closed. The linker has malloc,
    realloc and free of the library come here: -Wl,--wrap=malloc,--wrap=realloc,--wrap=free */
 
 #define _GNU_SOURCE
@@ -179,7 +179,7 @@ static char *answer_of(question asked, struct keyset_session *session)
     uint8_t *out = filled(ROOM);
     struct keyset_answered told = ask(asked, session, out, ROOM);
     expect(told.status == KEYSET_ANSWERED && told.line == 0, "answered", "a question");
-    expect(is_filled(out + told.length, ROOM - told.length), "what stands behind", "a question");
+    expect(is_filled(out + told.length, ROOM - told.length), "what comes after it", "a question");
     out[told.length] = '\0';
     char *text = strdup((const char *)out);
     expect(text != NULL, "memory for a text", "a question");
@@ -204,7 +204,7 @@ static void expect_short(question asked, struct keyset_session *session, size_t 
         uint8_t *out = filled(room);
         struct keyset_answered told = ask(asked, session, room > 0 ? out : NULL, room);
         expect(told.status == KEYSET_SHORT && told.length == needed, "short", text);
-        expect(is_filled(out, room), "nothing is written where it is short", text);
+        expect(is_filled(out, room), "nothing is written if it is short", text);
         free(out);
     }
     uint8_t *out = filled(needed);
@@ -214,7 +214,7 @@ static void expect_short(question asked, struct keyset_session *session, size_t 
     free(text);
 }
 
-/* Each call tells that a session is closed, and does nothing. */
+/* Each call says that a session is closed, and does nothing. */
 static void expect_closed(struct keyset_session *session)
 {
     uint8_t out[8];
@@ -263,9 +263,9 @@ static void expect_short_call(struct keyset_session *session, const char *line, 
         uint8_t *out = filled(room);
         struct keyset_answered told = call(&tried, line, length, room > 0 ? out : NULL, room);
         expect(told.status == KEYSET_SHORT && told.length == needed, "a short call", line);
-        expect(is_filled(out, room), "nothing is written where it is short", line);
+        expect(is_filled(out, room), "nothing is written if it is short", line);
         char *again = answer_of(keyset_told, &tried);
-        expect(strncmp(again, wanted, needed) == 0 && strlen(again) == needed, "told again", line);
+        expect(strncmp(again, wanted, needed) == 0 && strlen(again) == needed, "it again", line);
         free(again);
         free(out);
         close_session(&tried);
@@ -303,7 +303,7 @@ static void next(struct play *play)
     struct keyset_answered told = call(&play->session, play->line, length, out, LINE_ROOM);
     expect(told.status == KEYSET_ANSWERED && told.length == needed, "a line", play->it->name);
     expect(memcmp(out, play->wanted, needed) == 0, "its answer", play->it->name);
-    expect(is_filled(out + needed, LINE_ROOM - needed), "what stands behind", play->it->name);
+    expect(is_filled(out + needed, LINE_ROOM - needed), "what comes after it", play->it->name);
     free(out);
     play->line += length + (play->line[length] == '\n');
     play->wanted += needed;
@@ -353,7 +353,7 @@ static void open_anew(struct play *play)
     play->session = again.session;
 }
 
-/* Plays a script in which the request of this number fails, and tells whether there was one. What
+/* Plays a script in which the request of this number fails, and says whether there was one. What
    the session says is what is stored, but one refusal for memory may come before. */
 static bool play_failing(const struct stored *it, size_t failing, size_t *closed)
 {
@@ -440,7 +440,8 @@ static size_t fail_questions(struct keyset_session *session)
         size_t without = 0;
         for (size_t failing = 1; fail_one(kind, session, failing, &without); failing++)
             failed++;
-        expect(without <= (QUESTIONS[kind % 3] == keyset_status && kind < 3), "memory", "a question");
+        expect(without <= (QUESTIONS[kind % 3] == keyset_status && kind < 3), "memory",
+               "a question");
         expect_told(keyset_closing, session, closing, "after questions without memory");
         expect_told(keyset_status, session, shown, "after questions without memory");
     }

@@ -1,8 +1,9 @@
 """Sessions of the proved key set: over the shared library, or over the programs where that isn't
 there. Both take a script line by line and tell the same.
 
-The library is that of the variable KEYSET_LIBRARY, or what `make lib` has made; the programs are
-those of the folder KEYSET_PROGRAMS, or what `make build` has made, or those on the path."""
+The library is that of the variable KEYSET_LIBRARY, or what `make lib` has made, or the one that is
+installed with this package; the programs are those of the folder KEYSET_PROGRAMS, or what `make
+build` has made, or those that are installed, or those on the path."""
 
 import ctypes
 import functools
@@ -18,8 +19,9 @@ from .values import Malformed, Unavailable
 
 # The version of the library's interface: KEYSET_VERSION of its header.
 INTERFACE = 2
+# The top of the repository, or the folder in which `make install` has put this package.
 TREE = Path(__file__).resolve().parents[3]
-MADE = TREE / "library" / "out" / "lib" / "libkeyset.so"
+LIBRARIES = (TREE / "library" / "out" / "lib" / "libkeyset.so", TREE / "lib" / "libkeyset.so")
 ANSWERED, MALFORMED, OUT_OF_MEMORY, SHORT = 0, 1, 3, 4
 
 
@@ -40,8 +42,9 @@ class _Answered(ctypes.Structure):
 @functools.lru_cache(maxsize=None)
 def _library():
     """The shared library, or None."""
-    path = os.environ.get("KEYSET_LIBRARY", str(MADE))
-    if not Path(path).is_file():
+    named = os.environ.get("KEYSET_LIBRARY")
+    path = next(filter(os.path.isfile, LIBRARIES if named is None else [named]), None)
+    if path is None:
         return None
     library = ctypes.CDLL(path)
     library.keyset_version.restype = ctypes.c_uint32
@@ -210,8 +213,9 @@ def _opened(first):
 
 def _find(name):
     folder = os.environ.get("KEYSET_PROGRAMS")
-    place = Path(folder) / name if folder else TREE / "crates" / name / "out" / name
-    found = str(place) if place.is_file() else shutil.which(name)
+    places = [folder] if folder else [TREE / "crates" / name / "out", TREE / "bin"]
+    made = (os.path.join(place, name) for place in places)
+    found = next(filter(os.path.isfile, made), None) or shutil.which(name)
     if found is None:
         raise Unavailable(f"the program {name} isn't there: 'make build' makes it")
     return found

@@ -1,0 +1,225 @@
+#!/usr/bin/env python3
+"""Makes the manual pages from the documents.
+
+    packaging/man.py FOLDER    writes keyset.1, keyset_status.1, keyset_notes.1 and vaqsider.1
+
+A page has the documents that are named below, without the sections that only a reader of the
+repository needs. It reads the Markdown that the documents are written in, and stops at any other.
+"""
+
+import contextlib
+import io
+import os
+import re
+import sys
+from pathlib import Path
+
+sys.dont_write_bytecode = True
+TOP = Path(__file__).resolve().parent.parent
+
+# Each page: what it is of, how it is called, and its documents.
+PAGES = {
+    "keyset": (
+        "answer a script of a DNSSEC key set",
+        "keyset < SCRIPT",
+        ["crates/keyset/README.md", "docs/SCRIPTS.md"],
+    ),
+    "keyset_status": (
+        "show where the keys and rolls of a DNSSEC zone are, as JSON",
+        "keyset_status < SCRIPT",
+        ["crates/keyset_status/README.md", "docs/STATUS.md"],
+    ),
+    "keyset_notes": (
+        "work out the reports that are due, by a script and notes",
+        '{ cat SCRIPT; echo; cat NOTES; echo "due $(date +%s)"; } | keyset_notes',
+        ["docs/NOTES.md"],
+    ),
+    "vaqsider": (
+        "steer the keys and rolls of DNSSEC zones",
+        "vaqsider WORD [OPTION ..]",
+        ["command/README.md"],
+    ),
+}
+BULLET = "\\(bu"
+# Sections that have no place in a manual.
+LEFT_OUT = {"Building", "A picture"}
+
+RELEASED = re.compile(r"^## (?P<version>\d[\d.]*) - (?P<date>\d{4}-\d\d-\d\d)$", re.MULTILINE)
+# What stands in a line of text: code, a picture, a link, bold text.
+INLINE = re.compile(
+    r"`(?P<code>[^`]+)`|!\[[^]]*\]\([^)]*\)"
+    r"|\[(?P<text>[^]]*)\]\((?P<target>[^)\s]*)\)|\*\*(?P<bold>[^*]+)\*\*"
+)
+ITEM = re.compile(r"(?P<mark>-|\d+\.) +(?P<text>.*)")
+# An item of a table of contents.
+CONTENTS = re.compile(r"\[[^]]*\]\(#")
+
+
+class Unreadable(Exception):
+    pass
+
+
+def plain(text):
+    """Text as roff reads it: no byte of it is a command."""
+    text = text.replace("\\", "\\e").replace("-", "\\-").replace("'", "\\(aq")
+    text = text.replace("`", "\\(ga").replace("^", "\\(ha").replace("~", "\\(ti")
+    return "".join(c if c.isascii() else f"\\[u{ord(c):04X}]" for c in text)
+
+
+def inline(text):
+    """A line of text with its fonts."""
+    made, end = [], 0
+    for match in INLINE.finditer(text):
+        made.append(plain(text[end : match.start()]))
+        end = match.end()
+        if match["code"] or match["bold"]:
+            made.append(f"\\fB{plain(match['code'] or match['bold'])}\\fR")
+        elif match["text"]:
+            made.append(inline(match["text"]))
+            if "://" in match["target"]:
+                made.append(plain(f" <{match['target']}>"))
+    return "".join([*made, plain(text[end:])])
+
+
+def filled(text):
+    """A paragraph as a line. Nothing in front of it can be taken for a command."""
+    line = inline(" ".join(text.split()))
+    return f"\\&{line}" if line.startswith((".", "'")) else line
+
+
+def verbatim(lines):
+    yield ".PP"
+    yield ".RS 4"
+    yield ".nf"
+    yield from (f"\\&{plain(line)}" if line.startswith(".") else plain(line) for line in lines)
+    yield ".fi"
+    yield ".RE"
+
+
+def table(lines):
+    """A table as a list: below the first column stands the second one, then each other by its
+    head."""
+    head, _, *rows = ([cell.strip() for cell in line.strip("|").split("|")] for line in lines)
+    for first, second, *others in rows:
+        more = [f"{name}: {cell}" for name, cell in zip(head[2:], others) if cell]
+        yield ".TP"
+        yield filled(first or "-")
+        yield filled("; ".join([second, *more]))
+
+
+def items(lines):
+    """The items of a list, each as one line behind its mark."""
+    found = []
+    for line in lines:
+        if match := ITEM.fullmatch(line):
+            found.append([match["mark"], match["text"]])
+        elif line.startswith("  ") and found:
+            found[-1][1] += f" {line.strip()}"
+        else:
+            raise Unreadable(f"neither an item nor its text: {line}")
+    return found
+
+
+def listed(lines):
+    for mark, text in items(lines):
+        if not CONTENTS.match(text):
+            yield f".IP {mark.replace('-', BULLET)} 4"
+            yield filled(text)
+
+
+def blocks(text):
+    """The blocks of a document: lines without an empty one, or what stands in a fence."""
+    block, lines = [], iter(text.splitlines())
+    for line in lines:
+        is_fence, is_heading = line.startswith("```"), line.startswith("#")
+        if (not line or is_fence or is_heading) and block:
+            yield block
+            block = []
+        if is_fence:
+            inside = [line]
+            for line in lines:
+                if line == "```":
+                    break
+                inside.append(line)
+            yield inside
+        elif is_heading:
+            yield [line]
+        elif line:
+            block.append(line)
+    if block:
+        yield block
+
+
+def body(path, is_first):
+    """A document. The title of the first one is that of the page."""
+    is_left_out = False
+    for block in blocks((TOP / path).read_text(encoding="utf-8")):
+        first = block[0]
+        if first.startswith("#"):
+            marks, _, title = first.partition(" ")
+            is_left_out = title in LEFT_OUT
+            if not is_left_out and (marks != "#" or not is_first):
+                big = len(marks) < 3
+                yield f".{'SH' if big else 'SS'} {inline(title.upper() if big else title)}"
+        elif is_left_out:
+            continue
+        elif first.startswith("```"):
+            yield from verbatim(block[1:])
+        elif first.startswith("    "):
+            yield from verbatim([line[4:] for line in block])
+        elif first.startswith("|"):
+            yield from table(block)
+        elif ITEM.fullmatch(first):
+            yield from listed(block)
+        elif INLINE.sub("", " ".join(block)).strip():
+            yield ".PP"
+            yield filled(" ".join(block))
+
+
+def words():
+    """The words of the command with their options, as it prints them."""
+    sys.path.insert(0, str(TOP / "command"))
+    from vaqsider import cli
+
+    os.environ["COLUMNS"] = "76"
+    yield ".SH WORDS AND OPTIONS"
+    for name, *_ in cli.WORDS:
+        told = io.StringIO()
+        with contextlib.redirect_stdout(told), contextlib.suppress(SystemExit):
+            cli.parser().parse_args([name, "--help"])
+        yield f".SS {plain(name)}"
+        yield from verbatim(told.getvalue().splitlines())
+
+
+def page(name):
+    """A page as a text."""
+    does, called, documents = PAGES[name]
+    version = (TOP / "VERSION").read_text().strip()
+    dates = {m["version"]: m["date"] for m in RELEASED.finditer((TOP / "CHANGELOG.md").read_text())}
+    lines = [
+        f'.TH {name.upper()} 1 {dates[version]} "vaqsider {version}"',
+        *(".SH NAME", f"{plain(name)} \\- {plain(does)}"),
+        *(".SH SYNOPSIS", *verbatim([called])),
+        ".SH DESCRIPTION",
+    ]
+    for number, document in enumerate(documents):
+        lines += body(document, number == 0)
+    if name == "vaqsider":
+        lines += words()
+    others = ", ".join(f"\\fB{plain(other)}\\fR(1)" for other in PAGES if other != name)
+    return "\n".join([*lines, ".SH SEE ALSO", others]) + "\n"
+
+
+def write(folder):
+    """Writes all pages, and gives their paths."""
+    folder.mkdir(parents=True, exist_ok=True)
+    paths = [folder / f"{name}.1" for name in PAGES]
+    for path in paths:
+        path.write_text(page(path.stem), encoding="ascii")
+    return paths
+
+
+if __name__ == "__main__":
+    if len(sys.argv) != 2:
+        sys.exit(__doc__)
+    write(Path(sys.argv[1]))
