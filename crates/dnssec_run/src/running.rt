@@ -288,7 +288,7 @@ impl Recorder {
 /// each role of a key is future, active or stale. A started roll goes on by its reports, waits and
 /// its end. Each key that it listed as old is then stale or was deleted, and each that it listed as
 /// new is at work. If also the moments never fall, a wait is over once the TTL of its report has
-/// passed since the report (RFC 7583, section 3).
+/// passed since the event that it waits on (RFC 7583, section 3).
 ///
 /// An early end of a roll gives each key that the roll's start listed the flags that it had before
 /// that start. Only a key that was deleted, or had a flag set by hand since, is left as it is. The
