@@ -29,6 +29,7 @@ STORED = TOP / "replay" / "scripts.txt"
 
 # Who names the release, and how. (`keyset.pc` and the library have the number of VERSION itself.)
 NAMED = {
+    "README.md": r"Version (\S+) .*",
     "library/keyset.h": r'#define KEYSET_RELEASE "(.*)"',
     "library/rust/Cargo.toml": r'version = "(.*)"',
     "library/rust/Cargo.lock": r'name = "keyset"\nversion = "(.*)"',
