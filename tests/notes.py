@@ -4,7 +4,7 @@
 Each report is asked for by the program `keyset_notes`: what it answers has to be what the rule of
 docs/NOTES.md says, which `tests/game/notes.py` has in words of its own, and no more than rule 1 of
 docs/OPERATORS.md, as it is played, but for the difference of clocks. Half of the operators report
-what their notes say, and no zone breaks by it."""
+what their notes say, and no zone breaks by it; with one second less zones break."""
 
 import random
 import subprocess
@@ -56,7 +56,22 @@ def played(orders, wrong):
             wrong.append(f"notes: zone {seed}: {fault}")
         for one in signers:
             questions += one.notes.questions
+            if one.notes.goes_back_over_a_step():
+                wrong.append(f"notes: zone {seed}: a version goes back to before a step")
     return questions
+
+
+def broken_by_less(orders, wrong):
+    """Operators who report one second less than their notes say, until three of their zones are
+    broken. Gives how many zones that took."""
+    broken, told, unsaid = 0, book(), left_out(POINTS + PAIRS)
+    for seed, order in enumerate(orders):
+        less = runbooks.play(seed, order, told, unsaid, lambda one: Notes(one, True, less=1))
+        broken += less[2] is not None
+        if broken == 3:
+            return seed + 1
+    wrong.append(f"notes: with one second less {broken} zones of {len(orders)} break")
+    return len(orders)
 
 
 def back(notes):
@@ -125,7 +140,8 @@ def compare(question, lines, wrong):
 
 def main():
     began, wrong = time.monotonic(), []
-    questions = played(random.Random(0).sample([*permutations(ROLLS)], 60), wrong)
+    orders = random.Random(0).sample([*permutations(ROLLS)], 60)
+    questions, zones = played(orders, wrong), broken_by_less(orders, wrong)
     refuse(wrong)
     every, questions = len(questions), refuse_back(questions, wrong)
     told = answers(questions)
@@ -140,7 +156,8 @@ def main():
     sharp = sum(question.most is not None for question in questions)
     print(
         f"notes: {len(questions)} answers, of which {waits} say not yet, are those of the rule, and"
-        f" {sharp} of them no more than rule 1; {len(FAULTS)} notes with and without faults;"
+        f" {sharp} of them no more than rule 1; with one second less 3 of {zones} zones break;"
+        f" {len(FAULTS)} notes with and without faults;"
         f" {every - len(questions)} questions refused, as a parent goes back;"
         f" {time.monotonic() - began:.0f} s"
     )

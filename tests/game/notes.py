@@ -1,6 +1,7 @@
 """Notes that an operator of the game keeps, as docs/NOTES.md has them, and the TTL that is due by
 them: by the rule as it stands there, written anew here."""
 
+from itertools import combinations
 from typing import NamedTuple
 
 from judge import SPEAKS_OF
@@ -33,10 +34,11 @@ class Version:
 class Notes:
     """Of one operator, who takes their moments from one machine. If it `reports` by them, it makes
     each report with the TTL that they say, except those that ask for a sum; of DS sets
-    at least with the TTL of CDS."""
+    at least with the TTL of CDS. Who takes it for `less` reports so many seconds less."""
 
-    def __init__(self, operator, reports):
+    def __init__(self, operator, reports, less=0):
         self.operator, self.world, self.reports = operator, operator.world, reports
+        self.less = less
         # How far notes and rule 1 may differ, by the clocks.
         self.slack = 2 * (operator.margin // SECOND + 1)
         self.questions = []
@@ -96,6 +98,17 @@ class Notes:
             version.left = moment if version.left is None else version.left
         self.lines.append(f"everywhere {kind} {moment}")
 
+    def goes_back_over_a_step(self):
+        """Whether a version has sets from before a step that an earlier version is not older than, of
+        a roll whose reports speak of the kind."""
+        return any(
+            later.position < n <= version.position and kind in " ".join(SPEAKS_OF[at.step]).split()
+            for n, at in enumerate(self.operator.keyset.record)
+            if at.step
+            for kind, versions in self.versions.items()
+            for version, later in combinations(versions, 2)
+        )
+
     # Reports
 
     def older(self, roll, second):
@@ -140,7 +153,8 @@ class Notes:
             return moment, ttl
         # (With a DS set the TTL of CDS counts too, which is no kind of the notes.)
         speaks_of_ds = "ds" in SPEAKS_OF[roll][call == "report2"].split()
-        return last.moment, max(last.due, ttl) if speaks_of_ds else last.due
+        due = max(0, last.due - self.less)
+        return last.moment, max(due, ttl) if speaks_of_ds else due
 
     def asks(self, call, roll, ttl):
         self.look()
