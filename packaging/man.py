@@ -7,6 +7,7 @@ A page has the documents that are named below, without the sections that only a 
 repository needs. It reads the Markdown that the documents are written in, and stops at any other.
 """
 
+import argparse
 import contextlib
 import io
 import os
@@ -220,6 +221,6 @@ def write(folder):
 
 
 if __name__ == "__main__":
-    if len(sys.argv) != 2:
-        sys.exit(__doc__)
-    write(Path(sys.argv[1]))
+    parser = argparse.ArgumentParser(description=__doc__.partition("\n")[0])
+    parser.add_argument("folder", metavar="FOLDER", type=Path, help="where to write the pages")
+    write(parser.parse_args().folder)
