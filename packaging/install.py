@@ -61,7 +61,7 @@ def contents(pages, library):
     for source in sorted((library / "lib").glob("libkeyset.*")):
         yield Path("lib") / source.name, source, None if source.is_symlink() else 0o644
     for package in PACKAGES:
-        for source in sorted(package.glob("*.py")):
+        for source in filter(Path.is_file, sorted(package.iterdir())):
             yield SHARE / package.name / source.name, source, 0o644
     for page in sorted(pages.glob("*.1")):
         yield Path("share/man/man1") / page.name, page, 0o644

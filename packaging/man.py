@@ -51,6 +51,8 @@ INLINE = re.compile(
     r"`(?P<code>[^`]+)`|!\[[^]]*\]\([^)]*\)"
     r"|\[(?P<text>[^]]*)\]\((?P<target>[^)\s]*)\)|\*\*(?P<bold>[^*]+)\*\*"
 )
+# A word of the command in the table of its README.
+WORD = re.compile(r"^\| `(\w+) [A-Z]", re.MULTILINE)
 ITEM = re.compile(r"(?P<mark>-|\d+\.) +(?P<text>.*)")
 # An item of a table of contents.
 CONTENTS = re.compile(r"\[[^]]*\]\(#")
@@ -178,18 +180,18 @@ def body(path, is_first):
 
 
 def words():
-    """The words of the command with their options, as it prints them."""
+    """The words of the command, which its README lists, with their options as it prints them."""
     sys.path.insert(0, str(TOP / "command"))
-    from vaqsider import cli
+    from vaqsider.cli import main
 
     os.environ["COLUMNS"] = "76"
     yield ".SH WORDS AND OPTIONS"
-    for name, *_ in cli.WORDS:
-        told = io.StringIO()
-        with contextlib.redirect_stdout(told), contextlib.suppress(SystemExit):
-            cli.parser().parse_args([name, "--help"])
+    for name in WORD.findall((TOP / "command" / "README.md").read_text(encoding="utf-8")):
+        printed = io.StringIO()
+        with contextlib.redirect_stdout(printed), contextlib.suppress(SystemExit):
+            main([name, "--help"])
         yield f".SS {plain(name)}"
-        yield from verbatim(told.getvalue().splitlines())
+        yield from verbatim(printed.getvalue().splitlines())
 
 
 def page(name):

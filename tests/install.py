@@ -145,8 +145,11 @@ def expect_contents(folder):
         expect(word in text, f"keyset.1 doesn't have {word}")
     text = (folder / "vaqsider.1").read_text().replace("\\", "")
     readme = (TOP / "command" / "README.md").read_text()
-    for word in re.findall(r"^\| `(\w+) [A-Z]", readme, re.M):
-        expect(f".SS {word}\n" in text, f"vaqsider.1 doesn't have the options of {word}")
+    words = re.findall(r"^\| `(\w+) [A-Z]", readme, re.M)
+    expect(len(words) > 5, "the table of words isn't found in command/README.md")
+    for word in words:
+        used = f".SS {word}\n.PP\n.RS 4\n.nf\nusage: vaqsider {word} "
+        expect(used in text, f"vaqsider.1 doesn't have the options of {word}")
 
 
 def test(library):
@@ -194,6 +197,8 @@ def test(library):
 
 
 def main():
+    if len(sys.argv) != 2:
+        sys.exit(__doc__)
     try:
         print(f"install: {test(Path(sys.argv[1]).resolve())}")
     except Wrong as wrong:
