@@ -41,7 +41,7 @@ kind_name ZoneSigners = codes "zone"
 abbrev pub as_position : Form
 as_position = as_number 18446744073709551615
 
--- what the fields behind a word and a kind have to be
+-- what the fields after a word and a kind have to be
 abbrev pub forms_behind : Word → List Form
 forms_behind Published = as_position ∷ as_ttl ∷ as_time ∷ []
 forms_behind Everywhere = as_time ∷ []
@@ -61,7 +61,7 @@ abbrev pub kind_at : List (List ℕ) → Option (SetKind × List (List ℕ))
 kind_at [] = None
 kind_at (name ∷ fields) = option_map (λ k. (k, fields)) (kind_named name)
 
--- what a line says of a fact: its kind, its word, and what the fields behind them say
+-- what a line says of a fact: its kind, its word, and what the fields after them say
 unfoldable pub as_fact : List ℕ → Option (SetKind × (Word × List Value))
 as_fact line =
     option_and_then (λ w.

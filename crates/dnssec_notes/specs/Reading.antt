@@ -1,4 +1,4 @@
--- Which lines are notes, and which line of others is the first that is not.
+-- Which lines are notes, and which line of other texts is the first that is not.
 use Rattle.std.specs.Prelude.{◌≡◌, ◌⊎◌, ℕ, ◌+◌, ◌<◌, ◌++◌, List, [], ◌∷◌, map, length, take, Option}
 use Rattle.std.specs.Prelude.{None, Some, slice_index_or}
 use Rattle.dnssec_network.specs.declared.fact.Before.{Before}
@@ -12,7 +12,8 @@ use Rattle.dnssec_notes.specs.declared.fault.NotesFault.TheVariants.{OutOfMemory
 
 -- ---- notes
 
--- with so many calls made, none of these facts is refused behind the old ones and those before it
+-- given the number of calls made, none of these facts is refused after the old ones and those
+-- before it
 abbrev pub AreTaken : ℕ → List Fact → List Fact → Type 0
 AreTaken calls old [] = Unit {0}
 AreTaken calls old (fact ∷ facts) =
@@ -32,14 +33,14 @@ AreNotes calls (first ∷ lines) before facts =
 
 -- ---- other lines
 
--- behind these facts a line says none, or one that is refused
+-- after these facts a line says no fact, or one that is refused
 abbrev pub IsLineFault : ℕ → List Fact → List ℕ → ℕ → NotesFault → Type 0
 IsLineFault calls facts line n (Malformed m) = (m ≡ n) × (as_fact line ≡ None)
 IsLineFault calls facts line n (Refused m cause) = (m ≡ n) × ((fact : Fact)
     × (as_fact line ≡ Some (fact_says fact)) × (refusal calls facts fact ≡ Some cause))
 IsLineFault calls facts line n OutOfMemory = Unit {0}
 
--- the first such line of those behind the first, which is line 1
+-- the first such line after line 1
 pub record IsFactsFault (calls : ℕ) (lines : List (List ℕ)) (fault : NotesFault) : Type 0 where
   pub i : ℕ
   pub within : i < length lines
@@ -61,9 +62,9 @@ IsNotesFault calls text OutOfMemory = Unit {0}
 IsNotesFault calls text (Malformed n) = IsFaultOf calls (lines_of text) (Malformed n)
 IsNotesFault calls text (Refused n cause) = IsFaultOf calls (lines_of text) (Refused n cause)
 
--- ---- one line more
+-- ---- one more line
 
--- the notes have the fact of this line more
+-- the notes have one more fact, that of this line
 pub record HasLine (calls : ℕ) (old : NotesParts) (line : List ℕ) (new : NotesParts)
     : Type 0 where
   pub fact : Fact

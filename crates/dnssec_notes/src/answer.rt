@@ -1,4 +1,4 @@
-//! Which reports are due behind a script, by its notes.
+//! Which reports are due after a script, by its notes.
 ghost use Rattle.std.specs.Prelude.{IfOk, string_bytes};
 ghost use Rattle.dnssec_notes.specs.Due.{IsDueAnswer};
 
@@ -9,13 +9,13 @@ use dnssec_network::Steps;
 use dnssec_record::record_script;
 use std::alloc::Global;
 
-/// Runs a script, reads the notes beside it, and tells which reports are due at this second since
+/// Runs a script, reads the notes beside it, and answers which reports are due at this second since
 /// 1970, as `due_lines` writes them.
 ///
 /// # Errors
 ///
 /// - `Script` with the fault of the script.
-/// - `Notes` with that of the notes, or where memory runs out.
+/// - `Notes` with the fault of the notes, or if memory runs out.
 ///
 /// ```rust
 /// let lines = answer_due(alloc, script.as_bytes(), notes.as_bytes(), 1_700_000_000)?;

@@ -24,7 +24,7 @@ pub enum NotesFault {
 impl fmt::Display for NotesFault {
     ghost output = { λ fault. Some (notes_fault_text fault) };
 
-    /// Writes what a program tells its user, as `line 3: seen before it was published`.
+    /// Writes what a program shows its user, as `line 3: seen before it was published`.
     fn fmt<W: fmt::Write>(&self, f: &mut fmt::Formatter<W>) -> fmt::Result {
         match self {
             NotesFault::Malformed(number) => write!(f, "line {number}: malformed"),
@@ -44,7 +44,7 @@ impl From<AllocError> for NotesFault {
     }
 }
 
-/// Why it was not answered which reports are due.
+/// Why the question which reports are due was not answered.
 #[derive(Debug, Drop, PartialEq)]
 pub enum DueFault {
     /// The script was not run.
@@ -56,7 +56,7 @@ pub enum DueFault {
 impl fmt::Display for DueFault {
     ghost output = { λ fault. Some (due_fault_text fault) };
 
-    /// Writes what a program tells its user, as `notes: line 3: malformed`.
+    /// Writes what a program shows its user, as `notes: line 3: malformed`.
     fn fmt<W: fmt::Write>(&self, f: &mut fmt::Formatter<W>) -> fmt::Result {
         match self {
             DueFault::Script(fault) => write!(f, "script: {fault}"),

@@ -82,7 +82,7 @@ pub(crate) fn read_fact(line: &[u8]) -> Option<Fact>
     Some(Fact { kind, news })
 }
 
-/// What the fields behind a word and a kind say.
+/// What the fields after a word and a kind say.
 fn behind(word: Word, fields: Fields<'_>) -> Option<News>
     ensures { option_map news_says result ≡ news_behind word fields.entry }
 {

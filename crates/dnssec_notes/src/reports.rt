@@ -12,14 +12,14 @@ use dnssec_network::{DueReport, Notes, Steps};
 use std::alloc::{AllocError, Global};
 use std::time::Duration;
 
-/// The reports that rolls wait for, as they would be made at this second since 1970. For each
-/// stands a line of a script, as `report1 ksk-roll 3600 130`; or, if it isn't due yet, which sets it
-/// waits for, as `not yet: report1 ksk-roll waits for dnskey`. `steps` are the last steps of the
+/// The reports that rolls wait for, as they would be made at this second since 1970. Each has a
+/// line of a script, as `report1 ksk-roll 3600 130`. If it isn't due yet, its line says which sets
+/// it waits for, as `not yet: report1 ksk-roll waits for dnskey`. `steps` are the last steps of the
 /// record of this key set.
 ///
 /// # Errors
 ///
-/// Where memory runs out.
+/// `AllocError` if memory runs out.
 ///
 /// ```rust
 /// let lines = due_lines(alloc, &run.keyset, Steps::of_record(&run.entries), &notes, seconds)?;

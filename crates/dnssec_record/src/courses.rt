@@ -78,7 +78,7 @@ impl<'a> Turn<'a> {
 pub(crate) struct Courses {
     /// The keys of rolls in progress.
     listed: Vec<Listed>,
-    /// The rolls that were ended early, until one starts that may not go beside them.
+    /// The rolls that were ended early, until a roll starts that may not go beside them.
     ended: Vec<RollType>,
 }
 
@@ -163,7 +163,7 @@ impl Courses {
         Ok(())
     }
 
-    /// Lists no key of a roll any more.
+    /// Takes the keys of a roll off the list.
     fn take_out(&mut self, roll: RollType)
         ensures listed { map as_listed self.new.listed.items
             ≡ filter (is_of_other roll) (map as_listed self.old.listed.items) }
@@ -172,7 +172,7 @@ impl Courses {
         self.listed.retain(|key| key.roll != roll);
     }
 
-    /// Lists a key for no roll any more.
+    /// Takes a key off the list, for every roll.
     fn forget(&mut self, reference: &str)
         ensures listed { map as_listed self.new.listed.items
             ≡ filter (is_another reference.now) (map as_listed self.old.listed.items) }
@@ -203,7 +203,7 @@ impl Courses {
     }
 }
 
-/// Whether two rolls may be in progress together: one changes KSKs only, the other ZSKs only.
+/// Whether two rolls may be in progress together: one changes only KSKs, the other only ZSKs.
 fn goes_beside(roll: RollType, other: RollType) -> bool
     ensures { result ≡ together roll other }
 {

@@ -53,11 +53,11 @@ const REFUSED: &str = "done csk-roll
 const REFUSED_LATE: &str = "wait2 ksk-roll 1000
 ";
 
-/// Where a record breaks: a position, and those of the DS set, the DNSKEY set and the zone signers
-/// that don't go together.
+/// The position at which a record breaks, and those of the DS set, the DNSKEY set and the zone
+/// signers that don't go together.
 type Positions = [usize; 4];
 
-/// What is published otherwise after the last call of a script.
+/// What is published in another way after the last call of a script.
 #[derive(Clone, Copy)]
 enum Further {
     /// The DS of a stranger.
@@ -78,9 +78,9 @@ const WAITED: &[&str] = &[FIRST, KSK_ROLL, KSK_WAIT, REFUSED];
 /// A KSK roll and a ZSK roll have had their second waits.
 const BOTH_WAITED: &[&str] = &[FIRST, SIDE_BY_SIDE, REFUSED];
 
-/// Scripts, what is published otherwise after their last calls, and where their records break. One
-/// more position with the DS of a stranger meets the least DNSKEY set and zone signers that no
-/// report has retired; and one without a DNSKEY set meets the least DS set.
+/// Scripts, what is published in another way after their last calls, and where their records break.
+/// One more position with the DS of a stranger meets the least DNSKEY set and zone signers that no
+/// report has retired. One without a DNSKEY set meets the least DS set.
 const UNRETIRED: &[(&[&str], Further, Positions)] = &[
     (REPORTED, StrangersDs, [12, 12, 3, 3]),
     (REPORTED, NoDnskey, [12, 5, 12, 3]),
@@ -164,7 +164,7 @@ fn record(alloc: Global, parts: &[&str]) -> Result<Vec<Entry>, ScriptFault> {
     Ok(record_script(alloc, script.as_str().as_bytes())?.entries)
 }
 
-/// The verdicts on the record of a script in parts, where this is published after its last call.
+/// The verdicts on the record of a script in parts, if this is published after its last call.
 fn verdicts_on(alloc: Global, parts: &[&str], further: Further) -> Result<Verdicts, ScriptFault> {
     let mut entries = record(alloc, parts)?;
     if let Some(entry) = entries.last_mut() {
@@ -215,7 +215,7 @@ fn verdicts_by_hand(alloc: Global, rows: &[Row]) -> Result<Verdicts, ScriptFault
     verdicts(alloc, &entries)
 }
 
-/// Whether a record stays safe behind so many refused calls. (They are too many for `audit`.)
+/// Whether a record stays safe after this many refused calls. (They are too many for `audit`.)
 fn is_safe_after(alloc: Global, calls: usize) -> bool {
     let Ok(refused) = REFUSED.repeat(alloc, calls) else {
         return false;

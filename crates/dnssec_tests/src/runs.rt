@@ -3,8 +3,8 @@ use dnssec_base::Name;
 use dnssec_record::run;
 use std::alloc::Global;
 
-/// The wire bytes of the name that the set of a run of no calls has, where it has no key and the
-/// record no entry.
+/// The wire bytes of the name that the set of a run of no calls has; none if the set has a key or
+/// the record an entry.
 fn name_after_no_calls(alloc: Global, name: &[u8]) -> Option<Vec<u8>> {
     let name = Name::from_octets(Vec::from_slice(alloc, name).ok()?).ok()?;
     let run = run(alloc, name, Vec::new(alloc)).ok()?;

@@ -3,13 +3,13 @@ use dnssec_keyset::{Error, KeySet, Name, RollType, Timestamp, UnixTime};
 use std::alloc::Global;
 use std::time::Duration;
 
-/// A duration, or a moment by what has gone since 1970, in seconds and nanoseconds.
+/// A duration, or a moment by the time since 1970, in seconds and nanoseconds.
 pub type Parts = (u64, u64);
 
 /// The longest duration, and the greatest moment.
 pub const MAX: Parts = (u64::MAX, 999_999_999);
 
-/// A moment and a duration, and the moment that is so much later, where there is one.
+/// A moment and a duration, and the moment that is so much later, if there is one.
 const SUMS: &[(Parts, Parts, Option<Parts>)] = &[
     ((10, 999_999_999), (0, 2), Some((11, 1))),
     ((10, 999_999_999), (0, 0), Some((10, 999_999_999))),
@@ -55,7 +55,7 @@ pub fn duration((seconds, nanos): Parts) -> Duration {
     Duration::from_secs(seconds).saturating_add(Duration::from_nanos(nanos))
 }
 
-/// The moment that is so much later, where there is one.
+/// The moment that is so much later, if there is one.
 fn sum(moment: Parts, later: Parts) -> Option<Duration> {
     let (moment, later) = (UnixTime::from(duration(moment)), duration(later));
     if moment.fits(later) {
@@ -65,7 +65,7 @@ fn sum(moment: Parts, later: Parts) -> Option<Duration> {
     }
 }
 
-/// How long before the second moment the first is; none where their order says otherwise.
+/// How long before the second moment the first is; none if their order says otherwise.
 fn elapsed(moment: Parts, now: Parts) -> Option<Duration> {
     let (moment, now) = (
         UnixTime::from(duration(moment)),

@@ -1,5 +1,5 @@
-//! When a wait is over, as a tool asks that sleeps until then. Besides, the walk compares the end
-//! of each wait with what waits are told, after each step of every course.
+//! When a wait is over, as a tool asks that sleeps until then. The walk also compares the end of
+//! each wait with what waits are answered, after each step of every course.
 use courses::CourseCall::{
     Add, Finish, Report1, Report2, SetPresent, SetVisible, Start, Wait1, Wait2,
 };
@@ -80,8 +80,8 @@ const BOTH_SIGNATURES: &[Step] = &[
     WaitEnds(ZskDoubleSignatureRoll, Some(5230)),
 ];
 
-/// A key published by hand has no stamp at first, then one that is late, then one past which no TTL
-/// can be told. A wait that lies before the stamp is told the TTL.
+/// A key published by hand has no stamp at first, then a late one, then one after which no moment
+/// is left for a TTL. A wait that lies before the stamp is answered with the TTL.
 const SET_BY_HAND: &[Step] = &[
     At(0, Add(Ksk, "K1", 1, 13), Accepted, NOTHING),
     At(0, Add(Zsk, "Z1", 2, 13), Accepted, SAME),
@@ -114,7 +114,7 @@ const SET_BY_HAND: &[Step] = &[
     At(NEVER, Wait1(AlgorithmRoll), Wait(60), SAME),
 ];
 
-/// The greatest TTL from the greatest moment on: a wait at 0 is told the TTL.
+/// The greatest TTL from the greatest moment on: a wait at 0 is answered with the TTL.
 const GREATEST_REPORT: &[Step] = &[
     At(0, Add(Ksk, "K1", 1, 13), Accepted, NOTHING),
     At(0, Add(Zsk, "Z1", 2, 13), Accepted, SAME),

@@ -1,4 +1,4 @@
--- What a vector took of a run is what was handed out of it, for the clauses on plain lists.
+-- What a vector took of a run is what was written for C, for the clauses on plain lists.
 use Rattle.std.proofs.Common.{◌≡◌, ℕ, List, [], ◌++◌, Some, sym, ap, ◌∙◌}
 use Rattle.std.specs.Io.KnownBytes.{Appends}
 

@@ -1,9 +1,9 @@
--- What an answer that was handed out tells of the run that it is the output of.
+-- What an answer that was written says of the run whose output it is.
 use Rattle.std.specs.Prelude.{◌≡◌, ◌++◌, ℕ, List, codes, length}
 use Rattle.dnssec_run.specs.Plain.{IsPlain, StaysSafe}
 use Rattle.dnssec_record.specs.Answer.{IsAnswerOf}
 
--- of whatever run of the script the text is the output: if its list is plain, it stays safe
+-- every run of the script whose output the text is stays safe, if its list is plain
 abbrev pub StaysSafeIfPlain : List ℕ → List ℕ → Type 0
 StaysSafeIfPlain script text = (a : IsAnswerOf script text) → StaysSafe a.name a.calls a.entries
 

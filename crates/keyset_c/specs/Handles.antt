@@ -7,6 +7,6 @@ use Rattle.keyset_c.specs.declared.kept.Kept.{Kept}
 abbrev pub kept_by : Handle → Option Kept
 kept_by h = h.place.value
 
--- it is open exactly while it keeps something
+-- it is open if and only if it keeps something
 abbrev pub IsWhole : Handle → Type 0
 IsWhole h = h.is_open ≡ is_some (kept_by h)

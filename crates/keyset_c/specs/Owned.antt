@@ -12,7 +12,7 @@ use Rattle.keyset_c.specs.declared.kept.Kept.{Kept}
 abbrev pub chunk : Ty → Ptr → Fml
 chunk = ghosts.dealloc_token (record { memory = record { seal = tt } })
 
--- nothing, or the value on the heap behind it
+-- nothing, or the value on the heap that it points to
 abbrev pub kept_owned : Ptr → Option Kept → Fml
 kept_owned p None = ftrue
 kept_owned p (Some kept) = box_owns chunk the_row p kept

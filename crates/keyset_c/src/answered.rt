@@ -18,10 +18,11 @@ pub(crate) const IS_OPEN: u32 = 6;
 #[repr(C)]
 #[derive(Drop)]
 pub struct Answered {
-    /// 0 answered, 1 malformed, 3 out of memory: what the program `keyset` ends with. 4 short of
-    /// room, 5 for a closed session. It is never 2, the program's status if a device has failed.
+    /// 0 answered, 1 malformed, 3 out of memory: as the program `keyset` ends. 4 short of room, 5
+    /// for a closed session. It is never 2, the program's status if a device has failed.
     pub status: u32,
-    /// Answered: how many bytes were written. Short of room: how many there have to be. Else 0.
+    /// Answered: how many bytes were written. Short of room: how many bytes the answer needs. Else
+    /// 0.
     pub length: usize,
     /// Malformed script: the first malformed line, counted from 1. Else 0.
     pub line: usize,

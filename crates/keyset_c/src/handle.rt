@@ -8,7 +8,7 @@ use crate::place::Place;
 use std::alloc::Global;
 use std::mem;
 
-/// What C holds of a session: a closed one is all zeros.
+/// What C holds of a session. A closed session is all zeros.
 #[repr(C)]
 #[derive(Drop)]
 pub struct Handle {
@@ -24,7 +24,7 @@ impl Handle {
         self.is_open
     }
 
-    /// Takes out what an open one keeps, and leaves it closed.
+    /// Takes out what an open session keeps, and leaves it closed.
     pub(crate) fn take(&mut self, alloc: Global) -> Option<Box<Kept>>
         requires { IsWhole self.old }
         ensures whole { IsWhole self.new }

@@ -11,10 +11,10 @@ use std::alloc::Global;
 use std::marker::Model;
 use std::ptr::null_mut;
 
-/// A pointer of which C knows no more than that it is one: null, or what a box of `value` was.
+/// A pointer that is opaque to C: null, or the address that a box of `value` had.
 ///
-/// No type with a vector may be behind a pointer that crosses to C, so this one points to bytes,
-/// and what it owns is said of the ghost value.
+/// A pointer that crosses to C may not point to a type with a vector. So this one points to bytes,
+/// and the ghost value says what it owns.
 #[repr(C)]
 #[derive(Drop)]
 pub struct Place {

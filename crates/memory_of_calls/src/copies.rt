@@ -14,8 +14,8 @@ const ONE_KEY: Course = Course {
     parts: &[&[At(7, Add(Ksk, "K1", 11, 13), Accepted, SAME)]],
 };
 
-/// A copy of a key tells what the key tells. Where memory runs out there is no copy, and asking
-/// again gives one.
+/// A copy of a key says what the key says. If memory runs out there is no copy, and asking again
+/// gives one.
 pub(crate) fn copy_key(alloc: Global, memory: &mut Memory) -> Result<(), Wrong> {
     let set = match walk(alloc, &ONE_KEY, memory) {
         Ok(set) => set,
@@ -71,7 +71,7 @@ pub(crate) fn copy_sets(alloc: Global, memory: &mut Memory) -> Result<(), Wrong>
     }
 }
 
-/// A copy of a key set tells what the set tells, and goes its own way.
+/// A copy of a key set says what the set says, and goes its own way.
 fn copy_set(
     alloc: Global,
     [beginning, rest]: &[Course; 2],

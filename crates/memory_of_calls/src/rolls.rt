@@ -48,7 +48,7 @@ pub(crate) const REPORTED: &[Step] = &[At(10, Report1(AlgorithmRoll, 60), Accept
 /// Its early end.
 pub(crate) const TURNED_BACK: &[Step] = &[At(10, Abort(AlgorithmRoll), Accepted, NOTHING)];
 
-/// Its end, with a wait that is claimed too early.
+/// Its end, with a wait that is made too early.
 pub(crate) const FIRST_ROLL_GOES_ON: &[Step] = &[
     At(60, Wait1(AlgorithmRoll), Wait(10), SAME),
     At(70, Wait1(AlgorithmRoll), Accepted, "K1,Z1 | K1 | Z1 | K1"),
@@ -101,7 +101,7 @@ const LATER: &[Step] = &[
     At(340, Delete("Z1"), Accepted, SAME),
 ];
 
-/// Two rolls side by side that list some keys, where one of them is ended early.
+/// Two rolls side by side that list some keys; one of them is ended early.
 const ENDED_EARLY: &[Step] = &[
     At(350, Add(Ksk, "K2", 16, 13), Accepted, SAME),
     At(350, Add(Ksk, "K3", 17, 13), Accepted, SAME),

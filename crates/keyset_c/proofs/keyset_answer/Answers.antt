@@ -1,4 +1,4 @@
--- What a run of the script promises of the bytes that the vector took, told of the front of `out`.
+-- What a run of the script promises of the bytes that the vector took, said of the front of `out`.
 use Rattle.std.proofs.Common.{rules, Err, Some, ap, subst, ◌∙◌}
 use Rattle.dnssec_record.specs.Answer.{EndsSafe, IsSafeAnswer}
 use Rattle.dnssec_record.specs.Script.{IsFirstMalformed}

@@ -1,4 +1,4 @@
--- `none` keeps nothing, behind no pointer.
+-- `none` keeps nothing, and its pointer is null.
 use Rattle.std.proofs.Common.{◌≡◌, List, [], ◌∷◌, ◌++◌, None, Option, refl, lit<}
 use mir.Syntax.{Fn}
 use mir.Val.{Val, vptr}

@@ -1,4 +1,4 @@
--- `of_parts` keeps the pointer alone: the allocator has no bytes.
+-- `of_parts` keeps only the pointer: the allocator has no bytes.
 use Rattle.std.proofs.Common.{◌≡◌, List, [], ◌∷◌, ◌++◌, Some, refl}
 use mir.Syntax.{Fn}
 use mir.Val.{Val, vptr}
