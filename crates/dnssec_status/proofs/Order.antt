@@ -107,7 +107,8 @@ rises Greater apart up = cc
 module _ {L : Type 0} (key : L → List ℕ) where
   strictly : (ls : List L) → IsSortedByKey key R ls → IsDistinct same (map key ls)
       → IsStrictlySortedBy R (map key ls)
-  strictly [] up apart = sorted_from_all_adjacent nat_list_cmp_total [] [] (λ k l. absurd (omega arith))
+  strictly [] up apart =
+      sorted_from_all_adjacent nat_list_cmp_total [] [] (λ k l. absurd (omega arith))
   strictly (x ∷ xs) up apart =
       let ls : List L = x ∷ xs in
       let ks : List (List ℕ) = map key ls in

@@ -17,7 +17,8 @@ returns c =
     let t6 : List ℕ = t5 ++ sets_json c.args.sets.now in
     on_ok _ _ c.push_sets.result (λ last.
     let e1 = c.in_ok-push_bytes.ensures in
-    let e2 = more_as (text_json) out _ _ t1 _ (string_bytes c.args.zone.now) (c.as_bytes.ensures.value) e1 c.in_ok-push_text.ensures in
+    let e2 = more_as (text_json) out _ _ t1 _ (string_bytes c.args.zone.now)
+    (c.as_bytes.ensures.value) e1 c.in_ok-push_text.ensures in
     let e3 = more out _ _ t2 (codes ",\"chain\":") e2 c.in_ok-push_bytes-2.ensures in
     let e4 = more out _ _ t3 (chain_json c.args.verdict) e3 c.in_ok-push_chain.ensures in
     let e5 = more out _ _ t4 (codes ",\"published\":") e4 c.in_ok-push_bytes-3.ensures in

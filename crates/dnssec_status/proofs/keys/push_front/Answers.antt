@@ -18,8 +18,11 @@ returns c =
     let t6 : List ℕ = t5 ++ stamps_json c.args.key.now.timestamps in
     on_ok _ _ c.push_stamps.result (λ last.
     let e1 = c.in_ok-push_bytes.ensures in
-    let e2 = more_as (text_json) out _ _ t1 _ (string_bytes c.args.reference.now) (c.as_bytes.ensures.value) e1 c.in_ok-push_text.ensures in
+    let e2 = more_as (text_json) out _ _ t1 _ (string_bytes c.args.reference.now)
+    (c.as_bytes.ensures.value) e1 c.in_ok-push_text.ensures in
     let e3 = more out _ _ t2 (codes ",\"kind\":") e2 c.in_ok-push_bytes-2.ensures in
-    let e4 = more_as (kind_json) out _ _ t3 _ (c.args.key.now.keytype) (c.keytype.ensures) e3 c.in_ok-push_kind.ensures in
+    let e4 = more_as (kind_json) out _ _ t3 _ (c.args.key.now.keytype) (c.keytype.ensures) e3
+    c.in_ok-push_kind.ensures in
     let e5 = more out _ _ t4 (traits_json c.args.key.now) e4 c.in_ok-push_traits.ensures in
-    more_as (stamps_json) out _ _ t5 _ (c.args.key.now.timestamps) (c.timestamps.ensures) e5 last) c.push_stamps.ensures
+    more_as (stamps_json) out _ _ t5 _ (c.args.key.now.timestamps) (c.timestamps.ensures) e5 last)
+    c.push_stamps.ensures

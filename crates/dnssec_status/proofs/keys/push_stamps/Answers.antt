@@ -24,14 +24,20 @@ returns c =
     let t12 : List ℕ = t11 ++ option_json seconds c.args.stamps.now.withdrawn in
     on_ok _ _ c.push_stamp-6.result (λ last.
     let e1 = c.in_ok-push_bytes.ensures in
-    let e2 = more_as (option_json seconds) out _ _ t1 _ (c.args.stamps.now.creation) (c.creation.ensures) e1 c.in_ok-push_stamp.ensures in
+    let e2 = more_as (option_json seconds) out _ _ t1 _ (c.args.stamps.now.creation)
+    (c.creation.ensures) e1 c.in_ok-push_stamp.ensures in
     let e3 = more out _ _ t2 (codes ",\"published\":") e2 c.in_ok-push_bytes-2.ensures in
-    let e4 = more_as (option_json seconds) out _ _ t3 _ (c.args.stamps.now.published) (c.published.ensures) e3 c.in_ok-push_stamp-2.ensures in
+    let e4 = more_as (option_json seconds) out _ _ t3 _ (c.args.stamps.now.published)
+    (c.published.ensures) e3 c.in_ok-push_stamp-2.ensures in
     let e5 = more out _ _ t4 (codes ",\"visible\":") e4 c.in_ok-push_bytes-3.ensures in
-    let e6 = more_as (option_json seconds) out _ _ t5 _ (c.args.stamps.now.visible) (c.visible.ensures) e5 c.in_ok-push_stamp-3.ensures in
+    let e6 = more_as (option_json seconds) out _ _ t5 _ (c.args.stamps.now.visible)
+    (c.visible.ensures) e5 c.in_ok-push_stamp-3.ensures in
     let e7 = more out _ _ t6 (codes ",\"ds_visible\":") e6 c.in_ok-push_bytes-4.ensures in
-    let e8 = more_as (option_json seconds) out _ _ t7 _ (c.args.stamps.now.ds_visible) (c.ds_visible.ensures) e7 c.in_ok-push_stamp-4.ensures in
+    let e8 = more_as (option_json seconds) out _ _ t7 _ (c.args.stamps.now.ds_visible)
+    (c.ds_visible.ensures) e7 c.in_ok-push_stamp-4.ensures in
     let e9 = more out _ _ t8 (codes ",\"rrsig_visible\":") e8 c.in_ok-push_bytes-5.ensures in
-    let e10 = more_as (option_json seconds) out _ _ t9 _ (c.args.stamps.now.rrsig_visible) (c.rrsig_visible.ensures) e9 c.in_ok-push_stamp-5.ensures in
+    let e10 = more_as (option_json seconds) out _ _ t9 _ (c.args.stamps.now.rrsig_visible)
+    (c.rrsig_visible.ensures) e9 c.in_ok-push_stamp-5.ensures in
     let e11 = more out _ _ t10 (codes ",\"withdrawn\":") e10 c.in_ok-push_bytes-6.ensures in
-    more_as (option_json seconds) out _ _ t11 _ (c.args.stamps.now.withdrawn) (c.withdrawn.ensures) e11 last) c.push_stamp-6.ensures
+    more_as (option_json seconds) out _ _ t11 _ (c.args.stamps.now.withdrawn) (c.withdrawn.ensures)
+    e11 last) c.push_stamp-6.ensures

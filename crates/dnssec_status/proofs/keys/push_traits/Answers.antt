@@ -20,10 +20,14 @@ returns c =
     let t8 : List ℕ = t7 ++ flag_json c.args.key.now.decoupled in
     on_ok _ _ c.push_flag.result (λ last.
     let e1 = c.in_ok-push_bytes.ensures in
-    let e2 = more_as (decimal) out _ _ t1 _ (c.args.key.now.algorithm) (c.from.ensures ∙ c.to_int.ensures ∙ c.algorithm.ensures) e1 c.in_ok-push_number.ensures in
+    let e2 = more_as (decimal) out _ _ t1 _ (c.args.key.now.algorithm)
+    (c.from.ensures ∙ c.to_int.ensures ∙ c.algorithm.ensures) e1 c.in_ok-push_number.ensures in
     let e3 = more out _ _ t2 (codes ",\"tag\":") e2 c.in_ok-push_bytes-2.ensures in
-    let e4 = more_as (decimal) out _ _ t3 _ (c.args.key.now.key_tag) (c.from-2.ensures ∙ c.key_tag.ensures) e3 c.in_ok-push_number-2.ensures in
+    let e4 = more_as (decimal) out _ _ t3 _ (c.args.key.now.key_tag)
+    (c.from-2.ensures ∙ c.key_tag.ensures) e3 c.in_ok-push_number-2.ensures in
     let e5 = more out _ _ t4 (codes ",\"private\":") e4 c.in_ok-push_bytes-3.ensures in
-    let e6 = more_as (option_json text_json) out _ _ t5 _ (c.args.key.now.privref) (c.privref.ensures) e5 c.in_ok-push_private.ensures in
+    let e6 = more_as (option_json text_json) out _ _ t5 _ (c.args.key.now.privref)
+    (c.privref.ensures) e5 c.in_ok-push_private.ensures in
     let e7 = more out _ _ t6 (codes ",\"decoupled\":") e6 c.in_ok-push_bytes-4.ensures in
-    more_as (flag_json) out _ _ t7 _ (c.args.key.now.decoupled) (c.decoupled.ensures) e7 last) c.push_flag.ensures
+    more_as (flag_json) out _ _ t7 _ (c.args.key.now.decoupled) (c.decoupled.ensures) e7 last)
+    c.push_flag.ensures

@@ -28,7 +28,9 @@ returns c =
     let e4 = more out _ _ t3 (codes ",\"not_before\":") e3 c.in_ok-push_bytes-2.ensures in
     let e5 = more out _ _ t4 (end_json c.args.end) e4 c.in_ok-push_end.ensures in
     let e6 = more out _ _ t5 (codes ",\"waits_for\":") e5 c.in_ok-push_bytes-3.ensures in
-    let e7 = more out _ _ t6 (waits_for c.args.phase c.args.due.now) e6 c.in_ok-push_waits_for.ensures in
+    let e7 = more out _ _ t6 (waits_for c.args.phase c.args.due.now) e6
+    c.in_ok-push_waits_for.ensures in
     let e8 = more out _ _ t7 (codes ",\"due\":") e7 c.in_ok-push_bytes-4.ensures in
-    let e9 = more out _ _ t8 (array_json action_json c.args.due.now) e8 c.in_ok-push_actions.ensures in
+    let e9 = more out _ _ t8 (array_json action_json c.args.due.now) e8
+    c.in_ok-push_actions.ensures in
     more out _ _ t9 (codes "}") e9 last) c.push_bytes-5.ensures
