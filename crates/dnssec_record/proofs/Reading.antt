@@ -1,7 +1,8 @@
 -- The lines of a script, one after another: what is kept of each, its end, and its calls.
 use Rattle.std.proofs.Common.{◌≡◌, ◌≢◌, ℕ, ◌+◌, ◌<◌, ◌==◌, if◌then◌else◌, Bool, true, false, Option}
 use Rattle.std.proofs.Common.{Some, None, is_some, List, [], ◌∷◌, ◌++◌, Bor, map, length, take}
-use Rattle.std.proofs.Common.{zero, suc, get_or, refl, sym, ap, ◌∙◌, arith, append_assoc, append-nil}
+use Rattle.std.proofs.Common.{zero, suc, get_or, refl, sym, ap, ◌∙◌, arith, append_assoc}
+use Rattle.std.proofs.Common.{append-nil}
 use Rattle.std.proofs.lemmas.Bool.Decides.{nat_tests}
 use Rattle.std.specs.Option.{option_map}
 use Rattle.std.proofs.lemmas.List.{map_more, map-append}
@@ -143,7 +144,8 @@ line_next found x rest (line ∷ lines) read is = λ i. (sym same i).0 ∷ (sym 
 pub line_none : (found : Option (Bor (List ℕ) × List (List ℕ))) (lines : List (List ℕ))
     → option_map found_line found ≡ first_field lines → found ≡ None → lines ≡ []
 line_none found [] read is = refl
-line_none found (line ∷ lines) read is = absurd (apart _ (sym (ap (option_map found_line) is) ∙ read))
+line_none found (line ∷ lines) read is =
+    absurd (apart _ (sym (ap (option_map found_line) is) ∙ read))
   where
     apart : (x : List ℕ × List (List ℕ)) → None ≡ Some x → ⊥
     apart x e = cc

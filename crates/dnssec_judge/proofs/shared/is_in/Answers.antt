@@ -7,4 +7,5 @@ use Rattle.dnssec_judge.proofs.Verdicts.Chains.{list_any-map}
 pub returns-else-is_at_its_place : goal.returns-else-is_at_its_place
 returns-else-is_at_its_place c =
     c.contains.ensures.value
-    ∙ sym (list_any-map (λ other. same_id other (shared_id c.args.key.now)) shared_id c.args.keys.now)
+    ∙ sym (list_any-map (λ other. same_id other (shared_id c.args.key.now))
+    shared_id c.args.keys.now)

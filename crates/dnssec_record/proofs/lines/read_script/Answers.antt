@@ -14,15 +14,17 @@ returns-in_default-clause-err c =
 
 pub returns-in_default-2-clause-err : goal.returns-in_default-2-clause-err
 returns-in_default-2-clause-err c =
-    let split = sym c.of.ensures ∙ line_next c.next.result c.in-Some.first c.in-Some.rest c.of.result
-    c.next.ensures c.in-Some.is in
+    let split = sym c.of.ensures
+    ∙ line_next c.next.result c.in-Some.first c.in-Some.rest c.of.result c.next.ensures
+    c.in-Some.is in
     let unnamed = if_none _ _ c.in_ok-name.ensures.none c.in_default-2.is in
     subst (λ lines. IsFirstOf lines 1) (sym split) (zone_first _ _ unnamed)
 
 pub returns-in_err-statements-clause-err : goal.returns-in_err-statements-clause-err
 returns-in_err-statements-clause-err c =
-    let split = sym c.of.ensures ∙ line_next c.next.result c.in-Some.first c.in-Some.rest c.of.result
-    c.next.ensures c.in-Some.is in
+    let split = sym c.of.ensures
+    ∙ line_next c.next.result c.in-Some.first c.in-Some.rest c.of.result c.next.ensures
+    c.in-Some.is in
     let named = if_some (IsZoneLine c.in-Some.first.now) _ c.in-Some-2.name
     c.in_ok-name.ensures.found c.in-Some-2.is in
     let r = c.from_residual-in_err-statements.result in
@@ -34,8 +36,9 @@ returns-in_err-statements-clause-err c =
 
 pub returns-clause-ok : goal.returns-clause-ok
 returns-clause-ok c calls same =
-    let split = sym c.of.ensures ∙ line_next c.next.result c.in-Some.first c.in-Some.rest c.of.result
-    c.next.ensures c.in-Some.is in
+    let split = sym c.of.ensures
+    ∙ line_next c.next.result c.in-Some.first c.in-Some.rest c.of.result c.next.ensures
+    c.in-Some.is in
     let name = c.in-Some-2.name in
     let named = if_some (IsZoneLine c.in-Some.first.now) _ name
     c.in_ok-name.ensures.found c.in-Some-2.is in
