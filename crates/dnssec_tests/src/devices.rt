@@ -6,7 +6,7 @@ use std::alloc::Global;
 use std::test::Fail;
 
 /// A zone gets its first keys. The operator comes back a second too early, and then in time.
-const FIRST_KEYS: &str = "zone example.com
+pub const FIRST_KEYS: &str = "zone example.com
 add-ksk K1 - 13 0 0 yes
 add-zsk Z1 - 13 1 0 yes
 start algorithm-roll - K1,Z1 0
@@ -16,7 +16,7 @@ wait1 algorithm-roll 3700
 ";
 
 /// What its calls answer.
-const FIRST_ANSWERS: &str = "ok
+pub const FIRST_ANSWERS: &str = "ok
 ok
 ok UpdateDnskeyRrset UpdateRrsig ReportDnskeyPropagated ReportRrsigPropagated
 ok
@@ -122,7 +122,7 @@ pub const WHOLE: Devices = Devices {
 };
 
 /// How a run ends where a device fails.
-const FAULT: Result<(), ScriptFault> = Err(ScriptFault::Device);
+pub const FAULT: Result<(), ScriptFault> = Err(ScriptFault::Device);
 
 /// Runs a script over devices: how it ended, and what was written.
 fn follow(alloc: Global, script: &[u8], devices: Devices) -> (Result<(), ScriptFault>, Vec<u8>) {
@@ -258,7 +258,7 @@ fn the_last_line_may_end_with_the_script(rt: HostRuntime) {
 }
 
 #[test]
-fn each_call_of_a_device_fails_in_turn(rt: HostRuntime) {
+fn each_call_of_a_device_fails_in_turn(rt: HostRuntime) -> Result<(), Fail> {
     for reads in 0..=FIRST_KEYS.len() + 1 {
         let is_so = is_run_whole_or_not(rt.alloc(), reads);
         assert!(rt; is_so, "with {reads} reads");
@@ -267,6 +267,9 @@ fn each_call_of_a_device_fails_in_turn(rt: HostRuntime) {
         let is_so = is_written_up_to(rt.alloc(), writes);
         assert!(rt; is_so, "with {writes} writes");
     }
+    let (reads, writes) = (FIRST_KEYS.len() + 1, FIRST_ANSWERS.len());
+    println!(rt; "dnssec_tests: {reads} reads and {writes} writes failed in turn")?;
+    Ok(())
 }
 
 /// A script of more bytes than are asked for at once is read to its end.

@@ -11,6 +11,8 @@ mod audits;
 #[cfg(test)]
 mod devices;
 #[cfg(test)]
+mod failing;
+#[cfg(test)]
 mod malformed;
 #[cfg(test)]
 mod names;
