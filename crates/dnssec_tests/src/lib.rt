@@ -15,6 +15,8 @@ mod failing;
 #[cfg(test)]
 mod malformed;
 #[cfg(test)]
+mod many;
+#[cfg(test)]
 mod names;
 #[cfg(test)]
 mod numbers;
