@@ -2,9 +2,12 @@
 use crate::values::{MAX, Parts, duration};
 use dnssec_base::NameError;
 use dnssec_keyset::Error;
+use dnssec_network::NoteFault;
+use dnssec_notes::{DueFault, NotesFault};
 use dnssec_record::ScriptFault;
 use std::alloc::Global;
-use std::fmt::Display;
+use std::fmt::{self, Display, Write};
+use std::test::Fail;
 
 /// Refusals but for those of waits, and what they print.
 const REFUSALS: &[(Error, &str)] = &[
@@ -71,32 +74,111 @@ const FAULTS_OF_SCRIPTS: &[(ScriptFault, &str, u8)] = &[
     (ScriptFault::OutOfMemory, "out of memory", 3),
 ];
 
-/// Whether a value prints this.
+/// Faults of notes, and what they print.
+const FAULTS_OF_NOTES: &[(NotesFault, &str)] = &[
+    (NotesFault::Malformed(12), "line 12: malformed"),
+    (
+        NotesFault::Refused(1, NoteFault::CallNotMade),
+        "line 1: no such call yet",
+    ),
+    (
+        NotesFault::Refused(2, NoteFault::GoesBack),
+        "line 2: goes back to an earlier call",
+    ),
+    (
+        NotesFault::Refused(3, NoteFault::SeenBeforePublished),
+        "line 3: seen before it was published",
+    ),
+    (
+        NotesFault::Refused(4, NoteFault::MomentFalls),
+        "line 4: moment before the last one",
+    ),
+    (
+        NotesFault::Refused(5, NoteFault::OutOfMemory),
+        "line 5: out of memory",
+    ),
+    (NotesFault::OutOfMemory, "out of memory"),
+];
+
+/// Why no reports are told, and what it prints.
+const FAULTS_OF_REPORTS: &[(DueFault, &str)] = &[
+    (
+        DueFault::Script(ScriptFault::Malformed(2)),
+        "script: line 2: malformed",
+    ),
+    (
+        DueFault::Notes(NotesFault::Malformed(3)),
+        "notes: line 3: malformed",
+    ),
+];
+
+/// What a value has still to print. Whatever is written is taken, so that an error is the value's
+/// own.
+#[derive(Drop)]
+struct Wanted<'a> {
+    left: &'a [u8],
+    is_so: bool,
+}
+
+impl<'a> fmt::Write for Wanted<'a> {
+    fn write_str(&mut self, text: &str) -> fmt::Result {
+        match self.left.strip_prefix(text.as_bytes()) {
+            Some(rest) => self.left = rest,
+            None => self.is_so = false,
+        }
+        Ok(())
+    }
+}
+
+/// Whether a value prints this, to a writer that takes all and to a string.
 fn prints(alloc: Global, value: &impl Display, text: &str) -> bool {
+    let mut wanted = Wanted {
+        left: text.as_bytes(),
+        is_so: true,
+    };
+    let is_written = write!(wanted, "{value}").is_ok() && wanted.is_so && wanted.left.is_empty();
     match value.to_string(alloc) {
-        Ok(printed) => printed.as_str() == text,
+        Ok(printed) => is_written && printed.as_str() == text,
         Err(_) => false,
     }
 }
 
 #[test]
-fn refusals_have_their_texts(rt: HostRuntime) {
+fn refusals_have_their_texts(rt: HostRuntime) -> Result<(), Fail> {
+    let mut texts = 0u64;
     for (error, text) in REFUSALS {
         assert!(rt; prints(rt.alloc(), error, text), "{text}");
+        texts = texts.saturating_add(1);
     }
     for (wait, text) in WAITS {
         let error = Error::Wait(duration(*wait));
         assert!(rt; prints(rt.alloc(), &error, text), "{text}");
+        texts = texts.saturating_add(1);
     }
+    println!(rt; "dnssec_tests: {texts} refusals printed")?;
+    Ok(())
 }
 
 #[test]
-fn faults_have_their_texts(rt: HostRuntime) {
+fn faults_have_their_texts(rt: HostRuntime) -> Result<(), Fail> {
+    let mut texts = 0u64;
     for (fault, text) in FAULTS_OF_NAMES {
         assert!(rt; prints(rt.alloc(), fault, text), "{text}");
+        texts = texts.saturating_add(1);
     }
     for (fault, text, status) in FAULTS_OF_SCRIPTS {
         let is_so = prints(rt.alloc(), fault, text) && fault.status() == *status;
         assert!(rt; is_so, "{text}");
+        texts = texts.saturating_add(1);
     }
+    for (fault, text) in FAULTS_OF_NOTES {
+        assert!(rt; prints(rt.alloc(), fault, text), "{text}");
+        texts = texts.saturating_add(1);
+    }
+    for (fault, text) in FAULTS_OF_REPORTS {
+        assert!(rt; prints(rt.alloc(), fault, text), "{text}");
+        texts = texts.saturating_add(1);
+    }
+    println!(rt; "dnssec_tests: {texts} faults printed")?;
+    Ok(())
 }
