@@ -2,7 +2,7 @@
 them: by the rule as it stands there, written anew here."""
 
 from itertools import combinations
-from typing import NamedTuple
+from typing import NamedTuple, Optional
 
 from judge import SPEAKS_OF
 
@@ -19,8 +19,8 @@ class Question(NamedTuple):
     script: str
     notes: str
     moment: int
-    due: int | None
-    most: int | None
+    due: Optional[int]
+    most: Optional[int]
 
 
 class Version:
