@@ -32,7 +32,7 @@ ds=- dnskey=- signers=- zone=-
 chain safe
 ";
 
-/// So many calls of a device, or bytes at one of them, as no test makes.
+/// More calls of a device, or bytes of one call, than any test makes.
 const ANY: usize = usize::MAX;
 
 /// Bytes to read, until a call fails.
@@ -104,7 +104,7 @@ impl Sink for Output {
 }
 
 /// How the devices of a script serve it: how many bytes a read and a write move at most, and how
-/// many of these calls are served before they fail.
+/// many calls are served before they fail.
 #[derive(Clone, Copy)]
 pub struct Devices {
     most_read: usize,
@@ -121,7 +121,7 @@ pub const WHOLE: Devices = Devices {
     writes: ANY,
 };
 
-/// How a run ends where a device fails.
+/// How a run ends if a device fails.
 pub const FAULT: Result<(), ScriptFault> = Err(ScriptFault::Device);
 
 /// Runs a script over devices: how it ended, and what was written.
@@ -143,7 +143,7 @@ fn follow(alloc: Global, script: &[u8], devices: Devices) -> (Result<(), ScriptF
 }
 
 /// Scripts, the devices that serve them, how a run ends, and what is written. What was read before
-/// a fault isn't run, also where it is a script. A malformed script is told as such where no byte
+/// a fault isn't run, even if it is a script. A malformed script is named as such even if no byte
 /// can be written, since none is.
 const ROWS: &[(&str, Devices, Result<(), ScriptFault>, &str)] = &[
     (
@@ -192,7 +192,7 @@ const ROWS: &[(&str, Devices, Result<(), ScriptFault>, &str)] = &[
     ("zone a\n", Devices { writes: 0, ..WHOLE }, FAULT, ""),
 ];
 
-/// Whether a run of a script over devices ends so, with this written.
+/// Whether a run of a script over devices ends in this way, with this written.
 pub fn is_run(
     alloc: Global,
     script: &[u8],
@@ -204,8 +204,8 @@ pub fn is_run(
     answer == *ended && output.as_slice() == written.as_bytes()
 }
 
-/// Whether a script that is read a byte at a time is run where so many reads are served: one for
-/// each byte and one for the end. Else nothing is written.
+/// Whether a script that is read a byte at a time is run if enough reads are served: one for each
+/// byte and one for the end. Else nothing is written.
 fn is_run_whole_or_not(alloc: Global, reads: usize) -> bool {
     let devices = Devices {
         most_read: 1,
@@ -225,7 +225,7 @@ fn is_run_whole_or_not(alloc: Global, reads: usize) -> bool {
     }
 }
 
-/// Whether of answers that are written a byte at a time those bytes stand whose writes are served.
+/// Whether answers that are written a byte at a time stand as far as writes are served.
 fn is_written_up_to(alloc: Global, writes: usize) -> bool {
     let devices = Devices {
         most_written: 1,
@@ -291,7 +291,7 @@ fn a_long_script_is_read_whole(rt: HostRuntime) -> Result<(), Fail> {
     Ok(())
 }
 
-/// Any reader and writer serves as a device. A writer without room is one that fails.
+/// Any reader and writer serves as a device. A writer without room fails.
 #[test]
 fn a_writer_without_room_fails(rt: HostRuntime) {
     let mut room = [0; 20];

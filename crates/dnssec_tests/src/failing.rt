@@ -13,7 +13,7 @@ const KINDS: [ErrorKind; 3] = [
     ErrorKind::Other,
 ];
 
-/// The calls of a reader or a writer, of which one fails.
+/// The calls of a reader or a writer. One of them fails.
 #[derive(Clone, Copy)]
 struct Calls {
     made: usize,
@@ -23,7 +23,7 @@ struct Calls {
 }
 
 impl Calls {
-    /// Calls of which none fails.
+    /// Calls that never fail.
     const SERVED: Calls = Calls {
         made: 0,
         failing: 0,
@@ -86,8 +86,8 @@ impl Write for FailingWriter {
     }
 }
 
-/// Whether a run of the first keys over such a reader and such a writer ends so, with so many
-/// faults of the two, and with this written.
+/// Whether a run of the first keys over such a reader and such a writer ends in this way, with this
+/// many faults of the two, and with this written.
 fn ends(
     alloc: Global,
     [reads, writes]: [Calls; 2],

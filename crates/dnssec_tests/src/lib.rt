@@ -1,7 +1,7 @@
-//! What no script tells: names that are read and printed, numbers, moments, texts, the ends of
-//! waits, devices that fail, malformed scripts and verdicts. By public calls, in a crate of its
-//! own, so that no other is proved twice. The proofs say what each call does; the values here come
-//! from worked examples.
+//! What no script shows: names that are read and printed, numbers, moments, texts, the ends of
+//! waits, devices that fail, malformed scripts and verdicts. The tests make public calls, in a
+//! crate of their own, so that no other crate is proved twice. The proofs say what each call does;
+//! the values here come from worked examples.
 #![tactic(auto)]
 
 #[cfg(test)]

@@ -9,7 +9,7 @@ use std::alloc::Global;
 use std::fmt::{self, Display, Write};
 use std::test::Fail;
 
-/// Refusals but for those of waits, and what they print.
+/// Refusals, except those of waits, and what they print.
 const REFUSALS: &[(Error, &str)] = &[
     (Error::KeyExists, "key already exists"),
     (Error::KeyNotFound, "key not found"),
@@ -40,8 +40,8 @@ const REFUSALS: &[(Error, &str)] = &[
     (Error::OutOfMemory, "out of memory"),
 ];
 
-/// How long a wait lasts still, and what its refusal prints. A duration is told in its
-/// largest unit, with the decimals that are left. The micro sign is that of Latin-1.
+/// How long a wait still lasts, and what its refusal prints. A duration is printed in its largest
+/// unit, with the decimals that are left. The micro sign is that of Latin-1.
 const WAITS: &[(Parts, &str)] = &[
     ((1, 0), "wait for duration 1s"),
     ((60, 0), "wait for duration 60s"),
