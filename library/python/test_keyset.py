@@ -6,7 +6,19 @@ import threading
 import unittest
 from pathlib import Path
 
-from keyset import Action, Damaged, KeySet, Locked, Malformed, Refusal, Refused, RollType, Wait
+from keyset import (
+    Action,
+    Damaged,
+    KeySet,
+    Locked,
+    Malformed,
+    Notes,
+    Refusal,
+    Refused,
+    RollType,
+    Wait,
+)
+from keyset.notes import Seen
 
 FIRST = [
     "add-ksk K1 - 13 0 0 yes",
@@ -121,6 +133,33 @@ class Files(unittest.TestCase):
                 keys.call(FIRST[0])
             self.assertEqual(keys.keys(), {})
             os.rmdir(self.path)
+
+    def test_notes_are_those_of_the_example(self):
+        # docs/NOTES.md shows them.
+        stored = (Path(__file__).parents[2] / "crates/keyset_notes/stdin").read_text().splitlines()
+        wanted = [line for line in stored if line.startswith(("before", "published", "everywhere"))]
+        Notes.create(self.path, [3600, 43200, 43200])
+        first = Notes(self.path)
+        first.publish(3, {"dnskey": 43200, "zone": 43200}, 10.5)
+        first.publish(3, {"dnskey": 3600, "zone": 43200}, 20)
+        first.everywhere({"dnskey": 43200}, 30)
+        Notes(self.path).everywhere({"dnskey": 43200, "zone": 43200}, 59.5)
+        Notes(self.path).publish(5, {"ds": 86400}, 43270)
+        Notes(self.path).everywhere({"ds": 3600, "zone": 60}, 43300)
+        Notes(self.path).publish(7, {"dnskey": 7200}, 46910)
+        Notes(self.path).everywhere({"dnskey": 7200}, 46950)
+        Notes(self.path).publish(10, {"dnskey": None}, 47005)
+        Notes(self.path).everywhere({"dnskey": 7200}, 47060)
+        self.assertEqual(Notes(self.path).lines, wanted)
+        # At 47060 caches may hold the set with 12 hours until 46950 + 43200.
+        held = [Seen(wanted, moment).ttls["dnskey"] for moment in (90149, 90150)]
+        self.assertEqual([max(ttls) for ttls in held], [43200, 7200])
+        Notes(self.path).everywhere({"ds": 90000}, 47070)
+        more = ["published ds 5 90000 47070", "everywhere ds 47070"]
+        self.assertEqual(Notes(self.path).lines, [*wanted, *more])
+        Notes(self.path).path.write_text("published ds 5 90000 47070\n")
+        with self.assertRaises(Damaged):
+            Notes(self.path)
 
 
 if __name__ == "__main__":

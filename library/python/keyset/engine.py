@@ -128,19 +128,20 @@ class Session:
 
 
 class Replay:
-    """A key set of the programs: each question runs the lines so far anew."""
+    """A key set of the programs: each call runs the lines so far anew."""
 
     def __init__(self, line, *more):
         self._lines = [line, *more]
-        self.closing()
+        self._closing = run(self._lines)[-2:]
 
     def call(self, line):
-        reply = run([*self._lines, line])[-3]
+        *_, reply, sets, verdict = run([*self._lines, line])
         self._lines.append(line)
+        self._closing = [sets, verdict]
         return reply
 
     def closing(self):
-        return run(self._lines)[-2:]
+        return list(self._closing)
 
     def status(self):
         return json.loads(_program("keyset_status", self._lines))
@@ -228,6 +229,8 @@ def _program(name, lines):
         number = int(found[1])
         line = lines[number - 1] if number <= len(lines) else ""
         raise Malformed(number, why_malformed(line, is_first=number == 1))
+    if found := re.fullmatch(r"notes: line (\d+): (.*)\n", done.stderr):
+        raise Malformed(int(found[1]), found[2])
     if done.returncode == OUT_OF_MEMORY:
         raise MemoryError
     if done.returncode:
