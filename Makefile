@@ -72,7 +72,7 @@ test: python $(CALLERS) ## the gate: it ends with 'N passed, 0 failed'
 	@tests/gate.py
 
 # It needs the packages that live/README.md names.
-live: build ## rolls keys on real name servers, within an hour; LIVE=--short within ten minutes
+live: build notes ## rolls keys on real name servers, within an hour; LIVE=--short within ten minutes
 	@live/run.py $(LIVE)
 
 docs: python ## compares what the documents print with the examples and the callers

@@ -4,7 +4,6 @@ import asyncio
 import json
 import sys
 import time
-from dataclasses import dataclass
 from pathlib import Path
 
 from keys import Version, plain_records, run
@@ -14,13 +13,8 @@ from processes import PATHS, Failed
 
 COMMAND = Path(__file__).resolve().parent.parent / "command"
 TTL, DS_TTL = 3, 2
-
-
-@dataclass(frozen=True)
-class Ds:
-    """A key by the data of its DS record."""
-
-    ds: str
+# How the command ends: done, or something is due.
+OK, DUE = 0, 1
 
 
 class Operator:
@@ -32,7 +26,7 @@ class Operator:
         self.file, self.signed = self.folder / "zone", self.folder / "zone.signed"
         self.serial = 1
 
-    async def type(self, *words):
+    async def type(self, *words, ends=(OK,)):
         """Types a word of the command, and gives what it prints."""
         process = await asyncio.create_subprocess_exec(
             sys.executable, "-m", "vaqsider", *map(str, words), cwd=self.folder,
@@ -40,7 +34,7 @@ class Operator:
             stdout=asyncio.subprocess.PIPE, stderr=asyncio.subprocess.PIPE,
         )
         out, err = await process.communicate()
-        if process.returncode:
+        if process.returncode not in ends:
             text = out.decode() + err.decode()
             raise Failed(f"vaqsider {' '.join(map(str, words))}: {process.returncode}: {text}")
         return out.decode()
@@ -51,48 +45,56 @@ class Operator:
             self.folder, "dnssec-keygen", "-q", "-a", "13", *flag, self.zone.name
         )).strip() + ".key"
 
-    async def act(self):
-        """Signs, publishes, and hands the DS set to the parent if that is asked."""
+    async def call(self, line):
+        """Makes a call, and gives its actions."""
+        return json.loads(await self.type("call", self.script, line, "--json"))["actions"]
+
+    async def act(self, *how):
+        """Signs and publishes. Gives the data of the DS records for the parent."""
         self.serial += 1
         version = Version(self.serial, TTL, TTL)
         records = plain_records(self.zone.name, version, self.zone.letters)
         self.file.write_text(f"$TTL {TTL}\n" + "\n".join(records) + "\n")
-        records = json.loads(await self.type(
-            "act", self.script, "--zone-file", self.file, "--out", self.signed,
-            "--ds-ttl", DS_TTL, "--json",
+        done = json.loads(await self.type(
+            "act", self.script, "--zone-file", self.file, "--out", self.signed, *how, "--json",
         ))
         self.zone.world.fleet.publish(
             self.zone.servers, self.zone.name, self.signed.read_text()
         )
-        if records:
-            keys = [Ds(record.split(" DS ")[1].lower()) for record in records]
-            await self.zone.world.parent.change(self.zone.name, keys, DS_TTL)
+        return [record.partition(" DS ")[2].lower() for record in done["ds"]]
 
-    async def watch(self):
-        """Watches until all servers have what is due, and makes the call."""
+    async def watch(self, *how, ends=(OK,)):
+        """Watches until all servers have what is due."""
         servers = [word for server in self.zone.servers for word in ("--server", server)]
         parents = [word for server in PARENT for word in ("--parent-server", server)]
         await self.type(
             "watch", self.script, *servers, *parents, "--port", self.zone.world.port,
-            "--every", "0.3", "--for", "30", "--call",
+            "--every", "0.3", "--for", "30", *how, ends=ends,
         )
 
-    async def wait(self, word, roll):
-        """Makes the wait at the moment that the status tells."""
+    async def step(self, line):
+        """A call, with all that it asks for, to the report or the end of the roll."""
+        actions = await self.call(line)
+        records = await self.act()
+        if "UpdateDsRrset" in actions:
+            await self.zone.world.parent.change(self.zone.name, records, DS_TTL)
+            # CDS and CDNSKEY are still out when the parent has the DS set.
+            await self.watch(ends=(DUE,))
+            await self.act("--no-cds")
+        await self.watch("--call")
+
+    async def wait(self, roll):
+        """Comes back once the wait of a roll is over, with its call."""
         (told,) = json.loads(await self.type("status", self.script, "--json"))
         going = next(it for it in told["rolls"] if it["roll"] == roll)
         await asyncio.sleep(max(0, going["not_before"] - time.time()))
-        await self.type("call", self.script, f"{word} {roll} now")
+        return f"{going['next']} {roll} now"
 
     async def roll(self, roll, old, new):
         """A roll from its start to its end."""
-        await self.type("call", self.script, f"start {roll} {old} {new} now")
-        for number in (1, 2):
-            await self.act()
-            await self.watch()
-            await self.wait(f"wait{number}", roll)
-        await self.act()
-        await self.watch()
+        await self.step(f"start {roll} {old} {new} now")
+        await self.step(await self.wait(roll))
+        await self.step(await self.wait(roll))
 
 
 async def tour(zone):
@@ -107,7 +109,7 @@ async def tour(zone):
     zone.is_secure()
     for roll, old, flag in (("zsk-roll", zsk, ()), ("ksk-roll", ksk, ("-f", "KSK"))):
         new = await operator.key(*flag)
-        await operator.type("call", operator.script, f"add {new}")
+        await operator.call(f"add {new}")
         await operator.roll(roll, old, new)
-        await operator.type("call", operator.script, f"delete {old}")
+        await operator.call(f"delete {old}")
     await operator.type("check", operator.script)
