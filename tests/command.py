@@ -9,67 +9,39 @@ A transcript, `tests/command/NAME.txt`, has lines that begin with `$ `, each wit
 below it, then `? N` if it ends with a status that isn't 0. `NOW=N` in front of a line is the clock.
 Each transcript has a folder of its own, with the examples and the key files in it."""
 
-import contextlib
-import io
 import os
 import re
 import shlex
-import shutil
 import subprocess
 import sys
 import tempfile
 import trace
-import xml.dom.minidom
 from pathlib import Path
 
+sys.dont_write_bytecode = True
 TOP = Path(__file__).resolve().parent.parent
-STORED = TOP / "tests" / "command"
+sys.path.insert(0, str(TOP / "replay"))
+
+import facts  # noqa: E402
+from typed import STORED, folder, typed  # noqa: E402
+
 PACKAGE = TOP / "command" / "vaqsider"
 # The files whose lines decide what is on disk when.
 WRITERS = ("file.py", "calling.py", "act.py", "watching.py", "notes.py")
-sys.dont_write_bytecode = True
-sys.path.insert(0, str(TOP / "command"))
 
 LINE = re.compile(r"\$ (?:NOW=(?P<now>\S+) )?(?P<words>.*)")
 KILLED = 137
-
-
-def run(words, now="1000"):
-    """What one line prints, with its status at the end if that isn't 0."""
-    from vaqsider.cli import main as vaqsider
-
-    os.environ["VAQSIDER_NOW"] = now
-    out = io.StringIO()
-    with contextlib.redirect_stdout(out), contextlib.redirect_stderr(out):
-        try:
-            status = vaqsider(words)
-        except SystemExit as end:
-            status = end.code
-    return out.getvalue() + (f"? {status}\n" if status else "")
 
 
 def execute(text, now):
     """What one line of a transcript prints: the command, or a command of the shell."""
     words = shlex.split(text)
     if words[0] == "vaqsider" and "|" not in words:
-        return run(words[1:], now)
+        printed, status = typed(words[1:], now)
+        return printed + (f"? {status}\n" if status else "")
     environment = {**os.environ, "VAQSIDER_NOW": now, "PYTHONPATH": str(TOP / "command")}
     done = subprocess.run(text, shell=True, capture_output=True, text=True, env=environment)
     return done.stdout + done.stderr + (f"? {done.returncode}\n" if done.returncode else "")
-
-
-@contextlib.contextmanager
-def folder():
-    """A new folder with the examples in it, as the current one."""
-    before = os.getcwd()
-    with tempfile.TemporaryDirectory() as made:
-        for source in [*TOP.glob("examples/*.script"), *STORED.glob("files/*")]:
-            shutil.copy(source, made)
-        os.chdir(made)
-        try:
-            yield Path(made)
-        finally:
-            os.chdir(before)
 
 
 def played(text):
@@ -105,73 +77,96 @@ def compare(write):
     return faults, lines
 
 
-def killed_at(tick, words, now):
-    """Runs the command in a process of its own that dies at this line of its code. Says whether it
-    came to its end before that."""
-    child = os.fork()
-    if child == 0:
-        left = [tick]
+class Killed:
+    """Runs a part of this program in a process of its own, which dies at a line of the code that
+    writes."""
 
-        def count(frame, event, _):
-            if Path(frame.f_code.co_filename).name not in WRITERS:
-                return None
-            if event == "line":
-                left[0] -= 1
-                if left[0] == 0:
-                    os._exit(KILLED)
-            return count
+    def __init__(self, part):
+        self.part = part
 
-        sys.settrace(count)
-        run(words, now)
-        os._exit(0)
-    return os.waitstatus_to_exitcode(os.waitpid(child, 0)[1]) == 0
+    def at(self, tick):
+        """Whether the part came to its end before so many lines."""
+        child = os.fork()
+        if child == 0:
+            self.left = tick
+            sys.settrace(self.count)
+            self.part()
+            os._exit(0)
+        return os.waitstatus_to_exitcode(os.waitpid(child, 0)[1]) == 0
+
+    def count(self, frame, event, _):
+        if Path(frame.f_code.co_filename).name not in WRITERS:
+            return None
+        if event == "line":
+            self.left -= 1
+            if self.left == 0:
+                os._exit(KILLED)
+        return self.count
 
 
-def kill_everywhere(words, now, files, step):
-    """Kills the command at each point, runs it once more, and compares the files with those that it
-    leaves without a crash. What is run once more after its line was kept may be refused: the key
-    set has the call already."""
+def left(files):
+    return {name: Path(name).read_text() for name in files if Path(name).exists()}
 
-    def left():
-        return {name: Path(name).read_text() for name in files if Path(name).exists()}
 
+def kill_everywhere(name, part, prepare, files, step):
+    """Kills a part at each point, runs it once more, and compares the files with those that it
+    leaves without a crash. Gives the faults, and how many crashes there were."""
     with folder():
-        run(words, now)
-        wanted = left()
+        prepare()
+        part()
+        wanted = left(files)
     faults, tick, ended = [], 1, False
     while not ended:
         with folder():
-            ended = killed_at(tick, words, now)
-            run(words, now)
-            if left() != wanted:
-                faults.append(f"{' '.join(words)}: killed at its line {tick}, it ends differently")
+            prepare()
+            ended = Killed(part).at(tick)
+            part()
+            if left(files) != wanted:
+                faults.append(f"{name}: killed at its line {tick}, it ends differently")
         tick += step
     return faults, tick // step
 
 
-def picture_is_true():
-    """Each bar of a picture begins and ends where the record says, and the README shows what is
-    drawn."""
-    with folder():
-        text = run(["draw", "ksk-roll.script"])
-        shown = run(["draw", "zsk-roll.script"])
-    found = {
-        (box.getAttribute("class"), box.getAttribute("data-begin"), box.getAttribute("data-end"))
-        for box in xml.dom.minidom.parseString(text).getElementsByTagName("rect")
-        if box.hasAttribute("data-begin")
-    }
-    wanted = {
-        ("in", "70", "270"),  # the DS of K1, from the first roll's first wait to the other's
-        ("cached", "270", "340"),  # until the report at 280 with its TTL of 60 is over
-        ("in", "270", ""),  # the DS of K2
-        ("in", "0", "340"),  # K1 in the DNSKEY set
-        ("phase", "200", "210"),
-        ("phase", "210", "270"),
-    }
-    faults = [f"the picture lacks {bar}" for bar in sorted(wanted - found)]
-    if shown != (TOP / "command" / "zsk-roll.svg").read_text():
-        faults.append("command/zsk-roll.svg isn't what is drawn")
-    return faults
+def noted():
+    """The notes of start.script, in which a ZSK roll has just begun."""
+    Path("start.notes").write_text(
+        "before 60 60 60\npublished dnskey 3 60 0\npublished zone 3 60 0\neverywhere dnskey 9\n"
+        "everywhere zone 9\npublished ds 5 60 71\neverywhere ds 80\npublished dnskey 7 60 141\n"
+        "everywhere dnskey 145\n"
+    )
+
+
+def operate():
+    """A loop of ticks, ten seconds apart, in which an operator does what is due by the script: from
+    the start of a roll to its end. The clock goes on in a file, so that the loop goes on after a
+    crash where it was."""
+    script, clock = "start.script", Path("clock")
+    for now in range(int(clock.read_text()), 500, 10):
+        clock.write_text(str(now))
+        if "done zsk-roll" in Path(script).read_text():
+            return
+        typed(["act", script, "--zone-file", "zone", "--out", "signed"], now)
+        typed(["watch", script, "--server", "signed", "--call"], now)
+        typed(["call", script, f"wait1 zsk-roll {now}"], now)
+        typed(["call", script, f"wait2 zsk-roll {now}"], now)
+
+
+def begin_to_operate():
+    noted()
+    Path("clock").write_text("200")
+
+
+# What is killed: its name, what it runs, what has to be there, which files it leaves, and each how
+# many lines.
+CRASHES = (
+    ("call", lambda: typed(["call", "mid.script", "wait1 zsk-roll now"], 270), noted,
+     ["mid.script"], 1),
+    ("act", lambda: typed(["act", "start.script", "--zone-file", "zone", "--out", "signed"], 205),
+     noted, ["signed", "start.notes"], 2),
+    ("watch", lambda: typed(["watch", "start.script", "--server", "one", "--ttl", "60", "--call"],
+                            210), noted, ["start.script", "start.notes"], 2),
+    ("loop", operate, begin_to_operate, ["start.script", "start.notes", "signed"], 97),
+)
 
 
 def coverage(results):
@@ -185,33 +180,22 @@ def coverage(results):
     return len(ran & lines), len(lines), sorted(lines - ran)
 
 
-CRASHES = (
-    (["call", "mid.script", "wait1 zsk-roll now"], "270", ["mid.script"], 1),
-    (["act", "mid.script", "--zone-file", "zone", "--out", "signed"], "270", ["signed"], 3),
-    (
-        ["watch", "start.script", "--server", "one", "--ttl", "60", "--call"],
-        "210",
-        ["start.script", "start.notes"],
-        2,
-    ),
-)
-
-
 def main():
     os.environ["PATH"] = f"{STORED / 'bin'}:{os.environ['PATH']}"
     write = "--write" in sys.argv[1:]
     tracer = trace.Trace(count=1, trace=0)
     faults, lines = tracer.runfunc(compare, write)
-    faults += tracer.runfunc(picture_is_true)
+    faults += tracer.runfunc(facts.faults)
     kills = 0
-    for words, now, files, step in CRASHES:
-        found, count = kill_everywhere(words, now, files, step)
+    for crash in CRASHES:
+        found, count = kill_everywhere(*crash)
         faults, kills = faults + found, kills + count
-    ran, total, left = coverage(tracer.results())
+    ran, total, unrun = coverage(tracer.results())
     print(*faults, sep="\n", end="\n" if faults else "")
-    print(f"command: {lines} lines played, {kills} crashes, {ran} of {total} lines of code ran")
+    print(f"command: {lines} lines played, {kills} crashes; {ran} of {total} lines of code ran, by "
+          "std's trace")
     if "--left" in sys.argv[1:]:
-        print(*(f"{Path(name).name}:{line}" for name, line in left), sep="\n")
+        print(*(f"{Path(name).name}:{line}" for name, line in unrun), sep="\n")
     return 1 if faults else 0
 
 

@@ -6,193 +6,139 @@ be run again after a crash."""
 
 import shlex
 import subprocess
-from dataclasses import dataclass
 from pathlib import Path
 
-import keyset
+from keyset import Notes
 
-from . import keyfiles, notes
-from .errors import Failure, Missing
-from .history import History
+from . import keyfiles, status
+from .errors import UNAVAILABLE, Failure
 
+# The commands of a signer. A signer makes more signatures than are due.
+SIGNERS = {
+    "bind": {
+        "sign": "dnssec-signzone -qzP -N unixtime -O full -o {origin} -f {draft} {whole} {keys} "
+        ">&2",
+        "plain": "named-compilezone -q -i none -o {draft} {origin} {whole}",
+        "cds": "dnssec-dsfromkey -C -2 {key} >>{whole}",
+        "ds": "dnssec-dsfromkey -2 {key}",
+    },
+    "ldns": {
+        "sign": "ldns-signzone -A -u -o {origin} -f {draft} {whole} {bases}",
+        "plain": "ldns-read-zone {whole} >{draft}",
+        "cds": "ldns-key2ds -n -2 {key} | sed 's/[[:space:]]DS[[:space:]]/ CDS /' >>{whole}",
+        "ds": "ldns-key2ds -n -2 {key}",
+    },
+}
+# (awk puts a line feed at the end of a file that lacks it.)
+WHOLE = "{{ echo '$ORIGIN' {origin}; awk 1 {file} {keys}; }} >{whole}"
+CDNSKEY = "sed -n 's/[[:space:]]DNSKEY[[:space:]]/ CDNSKEY /p' {key} >>{whole}"
+DELETE = "printf '%s IN CDS 0 0 0 00\\n%s IN CDNSKEY 0 3 0 AA==\\n' {origin} {origin} >>{whole}"
 # In a line of a signed zone file the type stands at 4, and of an RRSIG the type that it covers at 5
-# and the key's tag at 11. The keys of `signers` sign DNSKEY, one of them and those of `zone` CDS,
-# those of `zone` the rest.
+# and the key's tag at 11. Those of `signers` sign DNSKEY, one of them and those of `zone` CDS and
+# CDNSKEY, those of `zone` the rest.
 FILTER = (
-    '$4 != "RRSIG" || ($5 == "DNSKEY" ? " {signers} " : $5 ~ /^CD/ ? " {cds} " : " {zone} ") '
-    '~ " "$11" "'
+    "awk '$4 != \"RRSIG\" || ($5 == \"DNSKEY\" ? \" {signers} \" : $5 ~ /^CD/ ? \" {cds} \" : "
+    "\" {zone} \") ~ \" \"$11\" \"' {draft} >{whole}"
 )
-
-
-@dataclass
-class Place:
-    """Where an operator has the zone: the unsigned file, the signed one, and the keys."""
-
-    zone_file: Path
-    signed: Path
-    keys: list
-    reload: str = None
+# Without a signer the serial number is that of `unixtime` too.
+SERIAL = "awk -v now=$(date +%s) '$4 == \"SOA\" {{ $7 = now }} 1' {draft} >{whole}"
 
 
 class Signer:
-    """The commands that publish what a status says."""
+    """The commands that publish what a status says, for the options of the command line."""
 
-    def __init__(self, status, place, cds_signer):
-        self.origin, self.published = status["zone"].rstrip(".") + ".", status["published"]
-        self.tags = {key["reference"]: key["tag"] for key in status["keys"]}
-        self.place, self.cds_signer = place, cds_signer
-        self.draft = f"{place.signed}.draft"
+    def __init__(self, args, told):
+        self.args, self.told, self.published = args, told, told["published"]
+        self.tools, self.signed = SIGNERS[args.signer], args.out or f"{args.zone_file}.signed"
+        folders = args.keys or [Path(args.SCRIPT).parent]
+        names = {name for names in self.published.values() for name in names}
+        keys = (key for key in told["keys"] if key["reference"] in names)
+        self.files = {key["reference"]: keyfiles.find(key, folders) for key in keys}
 
-    def file(self, reference):
-        return keyfiles.find(reference, self.place.keys)
-
-    def quoted(self, kind):
-        return [shlex.quote(str(self.file(reference))) for reference in self.published[kind]]
+    def made(self, form, names=(), **more):
+        """A command, with these names of keys in it."""
+        paths = [str(self.files[name].path) for name in names]
+        words = {
+            "origin": [self.told["zone"].rstrip(".") + "."],
+            "file": [self.args.zone_file],
+            "signed": [self.signed],
+            "draft": [f"{self.signed}.draft"],
+            "whole": [f"{self.signed}.draft.in"],
+            "keys": paths,
+            "key": paths,
+            "bases": [path.removesuffix(".key") for path in paths],
+        }
+        quoted = {name: " ".join(map(shlex.quote, of)) for name, of in words.items()}
+        return form.format(**quoted, **more)
 
     def commands(self):
-        """Shell commands, in their order."""
-        whole, signed = shlex.quote(f"{self.draft}.in"), shlex.quote(str(self.place.signed))
-        draft = shlex.quote(self.draft)
-        parts = [shlex.quote(str(self.place.zone_file)), *self.quoted("dnskey")]
-        yield f"cat {' '.join(parts)} >{whole}"
-        if self.cds_signer:
-            yield from (f"{command} >>{whole}" for command in self.cds())
+        """Shell commands: they end with the signed zone in its place, and loaded."""
+        yield self.made(WHOLE, self.published["dnskey"])
+        if not self.args.no_cds and status.is_asked(self.told, "CreateCdsRrset"):
+            if not self.published["ds"]:
+                yield self.made(DELETE)
+            forms = self.tools["cds"], CDNSKEY
+            yield from (self.made(form, [key]) for form in forms for key in self.published["ds"])
         if self.published["dnskey"]:
-            yield self.sign(whole, draft)
-            yield f"awk {shlex.quote(self.filter())} {draft} >{whole}"
-        yield f"mv {whole} {signed}"
-        yield f"rm -f {draft}"
-        if self.place.reload:
-            yield self.place.reload
+            yield from self.sign()
+        else:
+            yield from (self.made(self.tools["plain"]), self.made(SERIAL))
+        yield from (self.made("mv {whole} {signed}"), self.made("rm -f {draft}"))
+        if self.args.reload:
+            yield self.args.reload
 
-    def filter(self):
-        tags = {
-            kind: " ".join(str(self.tags[reference]) for reference in self.published[kind])
-            for kind in ("signers", "zone")
-        }
-        cds = f"{self.tags.get(self.cds_signer, '')} {tags['zone']}".strip()
-        return FILTER.format(cds=cds, **tags)
+    def sign(self):
+        signers, zone = self.published["signers"], self.published["zone"]
+        names = list(dict.fromkeys([*signers, *zone]))
+        seps, in_zone = ({self.files[name].is_sep for name in of} for of in (names, zone))
+        if self.args.signer == "ldns" and True in in_zone and False in seps:
+            raise Failure("ldns can't sign a zone with a CSK beside a ZSK: use --signer bind")
+        yield self.made(self.tools["sign"], names)
+        cds = [*self.cds_signer(), *zone]
+        tags = {"signers": signers, "zone": zone, "cds": cds}
+        tags = {of: " ".join(str(self.files[name].tag) for name in tags[of]) for of in tags}
+        yield self.made(FILTER, **tags)
 
-    def cds(self):
-        if not self.published["ds"]:
-            yield f"echo {shlex.quote(f'{self.origin} IN CDS 0 0 0 00')}"
-            yield f"echo {shlex.quote(f'{self.origin} IN CDNSKEY 0 3 0 AA==')}"
-        for file in self.quoted("ds"):
-            yield self.cds_of(file)
-            yield f"sed -n 's/[[:space:]]DNSKEY[[:space:]]/ CDNSKEY /p' {file}"
+    def cds_signer(self):
+        """The key of `signers=` that signs CDS and CDNSKEY: one that has a DS at the parent now;
+        before the first DS one that gets it."""
+        signers = self.published["signers"]
+        has_ds = {key["reference"] for key in self.told["keys"] if key["ds_visible"] is not None}
+        able = (has_ds, self.published["ds"], signers)
+        return [name for names in able for name in signers if name in names][:1]
 
     def ds(self):
-        """Commands that print the DS records for the parent."""
-        return [self.ds_of(file) for file in self.quoted("ds")]
-
-    def sep(self, kind):
-        """The keys of a set that have the SEP flag, and those that haven't."""
-        parts = {True: [], False: []}
-        for file in map(self.file, self.published[kind]):
-            parts[keyfiles.KeyFile(file).is_ksk].append(shlex.quote(str(file)))
-        return parts[True], parts[False]
+        """Commands that print the DS records for the parent, if they have to change."""
+        is_asked = status.is_asked(self.told, "UpdateDsRrset")
+        return [self.made(self.tools["ds"], [key]) for key in self.published["ds"] if is_asked]
 
 
-class Bind(Signer):
-    """`dnssec-signzone` and `dnssec-dsfromkey`."""
-
-    def sign(self, whole, draft):
-        ksks, zsks = self.sep("signers")[0], self.sep("zone")[1]
-        origin = shlex.quote(self.origin)
-        start = f"dnssec-signzone -q -P -N unixtime -O full -o {origin} -f {draft}"
-        if set(self.published["zone"]).isdisjoint(self.published["signers"]) and zsks:
-            return " ".join([start, *(f"-k {file}" for file in ksks), whole, *zsks])
-        files = dict.fromkeys([*self.quoted("signers"), *self.quoted("zone")])
-        return " ".join([start, "-z", whole, *files])
-
-    def cds_of(self, file):
-        return f"dnssec-dsfromkey -C -2 {file}"
-
-    def ds_of(self, file):
-        return f"dnssec-dsfromkey -2 {file}"
-
-
-class Ldns(Signer):
-    """`ldns-signzone` and `ldns-key2ds`."""
-
-    def sign(self, whole, draft):
-        if self.sep("zone")[0] and self.sep("zone")[1]:
-            raise Failure("ldns can't sign a zone with a CSK beside a ZSK: use --signer bind")
-        files = dict.fromkeys([*self.quoted("signers"), *self.quoted("zone")])
-        bases = [file.replace(".key", "") for file in files]
-        return " ".join(
-            ["ldns-signzone -u", "-o", shlex.quote(self.origin), "-f", draft, whole, *bases]
-        )
-
-    def cds_of(self, file):
-        return f"ldns-key2ds -n -2 {file} | sed 's/[[:space:]]DS[[:space:]]/ CDS /'"
-
-    def ds_of(self, file):
-        return f"ldns-key2ds -n -2 {file}"
-
-
-SIGNERS = {"bind": Bind, "ldns": Ldns}
-
-
-def cds_signer(lines):
-    """The key of `signers=` that signs CDS and CDNSKEY, or None if they are not to be published.
-    They are, from the action that asks for them until the one that asks to take them out, or the
-    end of their roll. The key has a DS at the parent now; before the first DS it gets one."""
-    history, asked_by = History(lines), None
-    for call in history.calls:
-        is_end = call.line.word == "done" and asked_by and call.line.roll == asked_by.line.roll
-        if "CreateCdsRrset" in call.actions:
-            asked_by = call
-        elif "RemoveCdsRrset" in call.actions or is_end:
-            asked_by = None
-    if asked_by is None:
-        return None
-    before = keyset.Published.of(keyset.run(lines[: asked_by.number - 1])[-2]).ds
-    signers = history.published["signers"]
-    able = [key for key in signers if key in (before or history.published["ds"])]
-    return next(iter(able or signers), None)
-
-
-def publish(commands, script, lines, status, ds_ttl, now):
+def publish(commands, script, call, kinds, now):
     """Runs the commands one after another, up to the first that fails. What they publish is noted
     with its TTLs before servers can give it: before the signed file is in its place."""
     for command in commands:
         if command.startswith("mv "):
-            _note(shlex.split(command)[1], script, len(lines) - 1, ds_ttl, now)
-        _check(command, subprocess.run(["sh", "-c", command], stdout=2))
-
-
-def _note(file, script, position, ds_ttl, now):
-    ttls = ttls_of(file)
-    if ds_ttl is not None:
-        ttls["ds"] = ds_ttl
-    for kind, ttl in ttls.items():
-        notes.published(script, kind, position, ttl, now)
+            ttls = {**dict.fromkeys(kinds), **ttls_of(shlex.split(command)[1])}
+            Notes(script).publish(call, ttls, now)
+        run(command, stdout=2)
 
 
 def ttls_of(file):
-    """The TTL of the DNSKEY set in a zone file, and the highest of all others, also of
-    answers that there is no such set."""
-    ttls = {"dnskey": None, "zone": 0}
+    """The TTL of the DNSKEY set in a zone file, and the highest of all others, also of answers that
+    there is no such set."""
+    ttls = {True: 0, False: 0}
     with open(file, encoding="ascii") as lines:
         for line in lines:
-            owner, ttl, _, kind, *_ = [*line.split(), "", "", "", ""]
-            if ttl.isdigit() and not owner.startswith(";"):
-                kind = "dnskey" if kind == "DNSKEY" else "zone"
-                ttls[kind] = max(ttls[kind] or 0, int(ttl))
-    if ttls["dnskey"] is None:
-        ttls["dnskey"] = ttls["zone"]
-    return ttls
+            _, ttl, _, kind, covered, *_ = [*line.split(), *[""] * 5]
+            if ttl.isdigit() and not line.startswith(";"):
+                is_dnskey = kind == "DNSKEY" or (kind, covered) == ("RRSIG", "DNSKEY")
+                ttls[is_dnskey] = max(ttls[is_dnskey], int(ttl))
+    return {"dnskey": ttls[True] or ttls[False], "zone": ttls[False]}
 
 
-def given(commands):
-    """What shell commands print."""
-    for command in commands:
-        done = subprocess.run(["sh", "-c", command], stdout=subprocess.PIPE, text=True)
-        _check(command, done)
-        yield from done.stdout.splitlines()
-
-
-def _check(command, done):
+def run(command, stdout=subprocess.PIPE):
+    """Runs a shell command, and gives the lines that it prints."""
+    done = subprocess.run(["sh", "-c", command], stdout=stdout, text=True)
     if done.returncode:
-        raise Missing(f"status {done.returncode}: {command}")
+        raise Failure(f"status {done.returncode}: {command}", UNAVAILABLE)
+    return (done.stdout or "").splitlines()

@@ -1,120 +1,115 @@
 """One call: the clock for `now`, a look at what can't be true, and the line on disk before anything
-is printed that somebody acts on."""
+is printed that somebody acts on. And the first lines of a script."""
 
+import math
 import time
-from dataclasses import dataclass, field
 
 import keyset
-from keyset import Malformed, lines as forms, locked
+from keyset import Malformed, Notes, lines as forms, locked
 
 from . import check, keyfiles, words
 from .errors import BROKEN, DUE, OK, USAGE, WARNING, Failure
-from .history import REFUSED, SAFE, History
+from .history import REFUSED, History
 
 
-@dataclass
 class Made:
-    """What became of a call."""
+    """What became of a call: its answer, what can't be true of it, and whether it was kept."""
 
-    line: str
-    reply: str
-    published: dict
-    status: int = OK
-    doubts: list = field(default_factory=list)
-    is_kept: bool = False
+    def __init__(self, line, reply, published):
+        is_refused = reply.startswith(REFUSED)
+        self.line, self.reply, self.published = line, reply, published
+        self.refused = reply[len(REFUSED) :] if is_refused else None
+        self.actions = [] if is_refused else reply.split(" ")[1:]
+        self.doubts, self.kept = [], False
 
     @property
-    def actions(self):
-        return [] if self.reply.startswith(REFUSED) else self.reply.split(" ")[1:]
+    def status(self):
+        return DUE if self.refused else WARNING if self.doubts and not self.kept else OK
 
-    def lines(self):
+    def text(self):
         """For people: the line with its answer, and what to do."""
         yield f"{self.line}: {self.reply}"
-        if self.reply.startswith(REFUSED):
-            yield f"  nothing has changed. {words.refusal(self.reply[len(REFUSED):])}".rstrip()
-            return
-        yield from (f"  {doubt.text}" for doubt in self.doubts)
-        if not self.is_kept:
-            yield "  the line was not kept" + (
-                ": --although makes the call all the same" if self.doubts else ""
-            )
-            return
-        for name in self.actions:
-            yield f"  {words.action(name, self.published)}"
-
-    def as_json(self):
-        return {
-            "line": self.line,
-            "reply": self.reply,
-            "actions": self.actions,
-            "published": self.published,
-            "doubts": [doubt.text for doubt in self.doubts],
-            "kept": self.is_kept,
-        }
+        yield from (f"  {doubt}" for doubt in self.doubts)
+        if self.refused:
+            yield f"  nothing has changed; {words.refusal(self.refused)}"
+        elif self.kept:
+            yield from (f"  {text}" for text in words.asks(self.actions, self.published))
+        else:
+            although = ": --although makes the call all the same" if self.doubts else ""
+            yield f"  the line was not kept{although}"
 
 
 def call(path, text, clock, although=False, dry_run=False):
     """Makes a call on the script, and keeps its line if it is accepted."""
     with locked(path) as file:
-        line = _with_moment(_of_key_file(text), clock)
+        line = completed(text, clock)
+        lines = [*file.lines, line]
         try:
-            history = History([*file.lines, line])
+            history = History(lines)
         except Malformed as error:
-            own = error.line > len(file.lines)
-            raise Failure(f"{path}: {error}", USAGE if own else BROKEN) from None
+            is_own = error.line == len(lines)
+            raise Failure(f"{path}: {error}", USAGE if is_own else BROKEN) from None
         made = Made(line, history.replies[-1], history.published)
-        if "out of memory" in {reason for _, reason in history.refused}:
-            raise MemoryError("out of memory: make the same call again")
-        if made.reply.startswith(REFUSED):
-            made.status = DUE
-            return made
-        made.doubts = list(_doubts(file, history, path, clock()))
-        if made.doubts and not although:
-            made.status = WARNING
-        elif not dry_run:
-            file.append(line)
-            made.is_kept = True
+        if made.refused == keyset.values.OUT_OF_MEMORY:
+            raise MemoryError
+        if not made.refused:
+            # A report's moment was rounded up to the next second, which has come by now.
+            found = check.false_claims(history, path, math.ceil(clock()), len(lines))
+            made.doubts = [finding.text for finding in found if finding.line == len(lines)]
+            if not dry_run and (although or not made.doubts):
+                file.append(line)
+                made.kept = True
         return made
 
 
-def _of_key_file(text):
-    """`add FILE` and `add-csk FILE` add the key that is in a file."""
+def completed(text, clock):
+    """The line of a call: with the key of the file that `add FILE` or `add-csk FILE` names, and
+    with the moment for `now`. A report is made once the clock has reached its moment."""
+    if "\n" in text:
+        raise Failure("a line of a script has no line feed in it")
     word, *fields = text.split(" ")
     if word in ("add", "add-csk") and len(fields) == 1:
         return keyfiles.KeyFile(fields[0]).line(word == "add-csk")
-    return text
-
-
-def _with_moment(text, clock):
-    """The line with the moment of now. A report is made once the clock has reached its moment."""
-    now = clock()
-    line = forms.at(text, now)
-    moment = forms.Line(line).moment if line != text else None
-    if moment is not None and moment > now:
-        time.sleep(moment - now)
+    line = forms.at(text, clock())
+    if line != text:
+        reach(forms.Line(line).moment, clock)
     return line
 
 
-def _doubts(file, history, path, now):
-    """What can't be true of the last line, and whether it breaks the chain."""
-    last = history.calls[-1]
-    # A report's moment was rounded up to the next second, which has come by now.
-    yield from check.false_claims(history, last, -(-now // 1))
-    if last.line.is_report:
-        found = check.against_notes(history, path)
-        yield from (finding for finding in found if finding.line == last.number)
-    if history.verdict != SAFE and keyset.run(file.lines)[-1] == SAFE:
-        yield check.Finding(BROKEN, f"after it the verdict is: {history.verdict}")
+def reach(moment, clock):
+    """Comes back once the clock has reached a moment that was rounded up."""
+    time.sleep(max(0, moment - clock()))
 
 
-def signed_already(references, moment):
-    """The lines by which the keys of a signed zone come in: nothing older is in any cache."""
-    keys = ",".join(references)
-    return [
-        f"start algorithm-roll - {keys} {moment}",
-        f"report1 algorithm-roll 0 {moment}",
-        f"wait1 algorithm-roll {moment}",
-        f"report2 algorithm-roll 0 {moment}",
-        f"wait2 algorithm-roll {moment}",
-        "done algorithm-roll",
-    ]
+def begin(zone, files, path, moment, before, is_csk):
+    """Makes the script of a zone with the keys of these files, and its notes with the TTLs before.
+    If the zone is signed already, the keys come in at this moment. Gives the lines."""
+    for file in files:
+        if file.owner.lower() != zone.lower():
+            raise Failure(f"{file.path}: a key of {file.owner}, not of {zone}")
+    lines = [f"zone {zone}", *(file.line(is_csk and file.is_sep) for file in files)]
+    if moment is not None:
+        keys = ",".join(file.path.name for file in files)
+        lines += [line.format(keys=keys, moment=moment) for line in SIGNED_ALREADY]
+    try:
+        *replies, _, _ = keyset.run(lines)
+    except Malformed as error:
+        raise Failure(f"{lines[error.line - 1]}: {error.reason}") from None
+    for line, reply in zip(lines[1:], replies):
+        if reply.startswith(REFUSED):
+            raise Failure(f"{line}: {reply}", DUE)
+    if before:
+        Notes.create(path, before)
+    keyset.create(path, lines)
+    return lines
+
+
+# The lines by which the keys of a signed zone come in: nothing older is in any cache.
+SIGNED_ALREADY = (
+    "start algorithm-roll - {keys} {moment}",
+    "report1 algorithm-roll 0 {moment}",
+    "wait1 algorithm-roll {moment}",
+    "report2 algorithm-roll 0 {moment}",
+    "wait2 algorithm-roll {moment}",
+    "done algorithm-roll",
+)

@@ -3,16 +3,19 @@
 The key set believes what it is told. It accepts a moment ahead of the clock, or a report with too
 low a TTL, and from then on its verdict is about a course that never was."""
 
+import re
 from dataclasses import dataclass
 
 import keyset
-from keyset import Lines, Malformed
+from keyset import Lines, Notes
 
-from . import notes, status, words
-from .errors import BROKEN, DUE, OK, WARNING
-from .history import KSK_ROLLS, SAFE, History
+from . import status, words
+from .errors import BROKEN, DUE, WARNING, failure_of
+from .history import OF_CLOCK, SAFE, History
 
-SPAN = ("start", "report1", "wait1", "report2", "wait2")
+KSK_ROLLS = ("ksk-roll", "ksk-double-ds-roll", "csk-roll")
+AT = re.compile(r"(?:line (\d+): )?(.*)", re.DOTALL)
+LEVELS = {DUE: "due", WARNING: "warning", BROKEN: "broken"}
 
 
 @dataclass(frozen=True)
@@ -24,101 +27,92 @@ class Finding:
     line: int = None
 
     def __str__(self):
-        level = {DUE: "due", WARNING: "warning", BROKEN: "broken"}[self.level]
-        return f"line {self.line}: {level}: {self.text}" if self.line else f"{level}: {self.text}"
+        place = "" if self.line is None else f"line {self.line}: "
+        return f"{place}{LEVELS[self.level]}: {self.text}"
 
 
 def findings(path, now):
-    """All that is to be said of a script."""
-    file = Lines(path)
-    if file.torn:
-        yield Finding(
-            WARNING, "the last line has no end: it was not written whole", len(file.lines) + 1
-        )
+    """All that is to be said of a script, in the order of its lines."""
     try:
-        history = History(file.lines)
-    except Malformed as error:
-        yield Finding(BROKEN, f"malformed: {error.reason}", error.line)
-        return
+        file = Lines(path)
+        found = list(_findings(file.lines, path, now))
+    except Exception as error:
+        line, text = AT.match(str(failure_of(error)).removeprefix(f"{path}: ")).groups()
+        return [Finding(BROKEN, text, int(line) if line else None)]
+    end = len(file.lines) + 1
+    if file.torn:
+        found.append(Finding(WARNING, "the last line has no end: it was not written whole", end))
+    return sorted(found, key=lambda finding: finding.line or end + 1)
+
+
+def _findings(lines, path, now):
+    history = History(lines)
     for number, reason in history.refused:
         yield Finding(WARNING, f"was refused ({reason}): take it out", number)
+    yield from false_claims(history, path, now)
+    told = status.read(path, now)[1]
+    for roll in told["rolls"]:
+        if roll["waits_for"] != status.CACHES:
+            text = f"{roll['roll']} waits for {roll['waits_for']}: {status.comes_next(roll)}"
+            yield Finding(DUE, text)
+    for roll in told["ended"]:
+        yield Finding(DUE, f"{roll['roll']} was ended early, and its actions may not be done")
+
+
+def false_claims(history, path, now, since=0):
+    """What can't be true of the accepted lines, from this number on."""
+    notes = Notes(path)
     for call in history.calls:
-        yield from false_claims(history, call, now)
-    yield from against_notes(history, path)
-    told = keyset.status(file.lines)
-    yield from _mixed_algorithms(told)
+        if call.number >= since:
+            for text in (*_of_moment(history, call, now), *_of_notes(history, call, notes)):
+                yield Finding(WARNING, text, call.number)
+    for algorithm, number in sorted(_mixed(history).items()):
+        text = f"of algorithm {algorithm} a KSK is in use and no ZSK, or a ZSK and no KSK"
+        yield Finding(WARNING, f"{text}: validators that ask for every algorithm fail", number)
     if history.verdict != SAFE:
-        yield Finding(BROKEN, history.verdict)
-    yield from _due(told, now)
+        at = history.verdict.partition("at=")[2].partition(" ")[0]
+        yield Finding(BROKEN, history.verdict, int(at) + 1)
 
 
-def level(found):
-    """The exit status: of the worst finding."""
-    return max((finding.level for finding in found), default=OK)
-
-
-def false_claims(history, call, now):
-    """What can't be true of an accepted line, by itself and the lines before it."""
+def _of_moment(history, call, now):
     line = call.line
+    before = [one for one in history.before(call) if one.line.word in OF_CLOCK]
+    last = max(before, key=lambda one: one.moment if one.moment <= now else 0, default=call)
     if line.moment is not None and line.moment > now:
-        ahead = words.duration(line.moment - int(now))
-        yield Finding(WARNING, f"its moment lies {ahead} ahead of the clock", call.number)
-    if line.word in SPAN:
-        yield from _falls(history, call)
-    if line.is_report:
-        step = history.step_of(call)
-        if line.moment < step.moment:
-            yield Finding(
-                WARNING,
-                f"it reports a moment before its step, of line {step.number}: nothing had spread",
-                call.number,
-            )
+        yield f"its moment lies {words.duration(line.moment - int(now))} ahead of the clock"
+    elif line.is_report and call.moment < history.step_of(call)[0].moment:
+        number = history.step_of(call)[0].number
+        yield f"it reports a moment before its step, of line {number}: nothing had spread"
+    elif line.word in OF_CLOCK and call.moment < last.moment <= now:
+        yield f"its moment is before that of line {last.number}"
     if line.word == "start" and line.roll in KSK_ROLLS:
-        if not history.first_keys_are_in(call):
-            yield Finding(
-                WARNING, f"a {line.roll} before the first algorithm-roll breaks a zone", call.number
-            )
+        if ("wait1", "algorithm-roll") not in ((one.line.word, one.line.roll) for one in before):
+            yield f"a {line.roll} before the first algorithm-roll breaks a zone"
 
 
-def _falls(history, call):
-    """Moments are taken from one clock, so no line's is before that of a line above it."""
-    for before in history.calls:
-        if before is call:
-            return
-        if before.line.word in SPAN and before.line.moment > call.line.moment:
-            text = f"its moment is before that of line {before.number}"
-            yield Finding(WARNING, text, call.number)
-            return
-
-
-def against_notes(history, path):
-    """The accepted reports that the notes contradict."""
-    for call, due in notes.doubtful_reports(history, path):
-        text = f"its TTL is {call.line.ttl}, and {due} was due by the notes"
+def _of_notes(history, call, notes):
+    if call.line.is_report and notes.lines:
+        due = notes.due(history.lines[: call.number - 1], call.line.roll, call.moment)
         if due is None:
-            text = "by the notes not all servers had yet what it reports"
-        yield Finding(WARNING, text, call.number)
+            yield "by the notes not all servers had yet what it reports"
+        elif call.line.ttl < due:
+            yield f"its TTL is {call.line.ttl}, and {due} was due by the notes"
 
 
-def _mixed_algorithms(told):
-    """Each algorithm of a KSK in use wants a ZSK in use of it."""
-    algorithms = {"ksk": set(), "zsk": set()}
+def _mixed(history):
+    """The algorithms that have only KSKs in use or only ZSKs, with the line since which."""
+    since = {}
+    if _alone(keyset.status(history.lines)):
+        for call, session in history.sessions():
+            alone = _alone(session.status())
+            since = {algorithm: since.get(algorithm, call.number) for algorithm in alone}
+    return since
+
+
+def _alone(told):
+    used = {"ksk": set(), "zsk": set(), "public": set()}
     for key in told["keys"]:
         for role in key["roles"]:
-            in_use = role["signer"] or role["present"] or role["at_parent"]
-            if in_use and not role["old"] and role["role"] in algorithms:
-                algorithms[role["role"]].add(key["algorithm"])
-    alone = algorithms["ksk"] - algorithms["zsk"]
-    for algorithm in sorted(alone):
-        yield Finding(
-            WARNING, f"there is a KSK of algorithm {algorithm} and no ZSK of it: validators that "
-            "ask for every algorithm fail"
-        )
-
-
-def _due(told, now):
-    for roll in status.rolls(told, now):
-        if roll.is_due:
-            yield Finding(DUE, f"{roll.name} waits for {roll.waits_for}: {roll.comes_next()}")
-    for ended in told["ended"]:
-        yield Finding(DUE, f"{ended['roll']} was ended early, and its actions may not be done")
+            if not role["old"] and (role["signer"] or role["present"] or role["at_parent"]):
+                used[role["role"]].add(key["algorithm"])
+    return used["ksk"] ^ used["zsk"] if used["ksk"] and used["zsk"] else set()

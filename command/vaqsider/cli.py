@@ -1,19 +1,133 @@
 """The words of the command line."""
 
 import argparse
+import dataclasses
 import json
 import os
+import re
 import shlex
 import sys
 import time
 from pathlib import Path
 
 import keyset
-from keyset import Lines
-from keyset.lines import ROLLS
+from keyset.lines import FORMS, ROLLS
 
-from . import act, calling, check, draw, keyfiles, notes, plan, status, watching, words, zones
-from .errors import DUE, OK, STATUSES, USAGE, Failure, status_of, text_of
+from . import act, calling, check, draw, keyfiles, plan, status, timeline, watching, words, zones
+from .errors import OK, STATUSES, USAGE, failure_of
+
+HELP = Path(__file__).with_name("help.txt")
+
+
+def clock():
+    """The moment of now, in seconds. VAQSIDER_NOW stands in for the clock."""
+    return float(os.environ.get("VAQSIDER_NOW") or time.time())
+
+
+def progress(text):
+    """Shows how far long work is, on a terminal only."""
+    if sys.stderr.isatty():
+        print(f"\r{text}\033[K", end="", file=sys.stderr, flush=True)
+
+
+# Each word gives its exit status, lines for people, and the value that --json prints.
+
+
+def on_init(args):
+    files = [keyfiles.KeyFile(path) for path in args.KEYFILE]
+    zone = args.ZONE.rstrip(".") or "."
+    path = Path(args.script or f"{zone}.script")
+    moment = int(clock()) if args.signed else None
+    lines = calling.begin(zone, files, path, moment, args.before, args.csk)
+    keys = ",".join(file.path.name for file in files) or "KEYS"
+    call = f"vaqsider call {shlex.quote(str(path))} 'start algorithm-roll - {keys} now'"
+    text = [f"{path}: {len(lines)} lines", *([] if args.signed else [f"next: {call}"])]
+    return OK, text, {"script": str(path), "lines": lines}
+
+
+def on_call(args):
+    made = calling.call(args.SCRIPT, args.LINE, clock, args.although, args.dry_run)
+    return made.status, made.text(), vars(made)
+
+
+def on_status(args):
+    told = [status.read(path, clock())[1] for path in args.SCRIPT]
+    return OK, ["\n\n".join("\n".join(status.screen(zone)) for zone in told)], told
+
+
+def on_check(args):
+    found = [(path, one) for path in args.SCRIPT for one in check.findings(path, clock())]
+    text = [f"{path}: {one}" for path, one in found] or ["all is well"]
+    value = [{"script": path, **vars(one)} for path, one in found]
+    return max((one.level for _, one in found), default=OK), text, value
+
+
+def on_plan(args):
+    lines, told = status.read(args.SCRIPT, clock())
+    begin = int(clock() if args.start is None else args.start)
+    made = plan.Plan(lines, begin, *plan.assumed(args.SCRIPT, args.ttls, args.delays, begin))
+    for line in args.first or ():
+        made.call(line)
+    made.roll(args.ROLL, args.OLD, args.NEW)
+    planned = [step["line"] for step in made.steps]
+    text = planned if args.script else plan.as_text(made.steps)
+    if args.calendar:
+        text = plan.as_calendar(told["zone"], made.steps)
+    elif args.picture:
+        text = draw.picture(told["zone"], timeline.timeline([*lines, *planned]), clock())
+    return OK, text, made.steps
+
+
+def on_draw(args):
+    lines, told = status.read(args.SCRIPT, clock())
+    made = timeline.timeline(lines)
+    text = list(draw.picture(told["zone"], made, clock()))
+    if args.out:
+        Path(args.out).write_text("\n".join([*text, ""]), encoding="utf-8")
+    return OK, [] if args.out else text, dataclasses.asdict(made)
+
+
+def on_act(args):
+    lines, told = status.read(args.SCRIPT, clock())
+    folder, name = Path(args.SCRIPT).parent, told["zone"].rstrip(".") or "root"
+    args.zone_file = args.zone_file or str(folder / f"{name}.zone")
+    signer = act.Signer(args, told)
+    commands, of_ds = list(signer.commands()), signer.ds()
+    if args.dry_run:
+        return OK, [*commands, *of_ds], {"commands": commands, "ds": of_ds}
+    is_asked = status.is_asked(told, "UpdateDsRrset")
+    act.publish(commands, args.SCRIPT, len(lines) - 1, ["ds"] * is_asked, clock())
+    records = [record for command in of_ds for record in act.run(command)]
+    says = f"the parent's DS set has to be {words.listed(told['published']['ds'])}"
+    text = [f"{signer.signed}: written", *([says, *records] if is_asked else [])]
+    return OK, text, {"commands": commands, "ds": records}
+
+
+def on_watch(args):
+    watcher = watching.Watcher(args, clock, progress)
+    watcher.run()
+    return watcher.status(), watcher.text(), watcher.as_json()
+
+
+def on_zones(args):
+    found = list(zones.zones(args.FOLDER, clock(), lambda done, of: progress(f"{done} of {of}")))
+    progress("")
+    return OK, zones.prometheus(found) if args.prometheus else zones.table(found), found
+
+
+# A word in help.txt: a line, a paragraph, and its arguments, each as `NAME  what it is`.
+WORD = re.compile(r"(?P<name>\w+): (?P<says>.*)\n\n(?P<about>(?:.+\n)*)\n(?P<arguments>(?:.+\n)*)")
+ARGUMENT = re.compile(r"^(\S+)(?: (\S+(?: \S+)*))?  (.*(?:\n .*)*)", re.MULTILINE)
+# How an argument is read, by what stands for it there.
+READ_AS = {
+    "SECONDS": {"type": float},
+    "NUMBER": {"type": int},
+    "ROLL": {"choices": ROLLS},
+    "bind|ldns": {"choices": sorted(act.SIGNERS), "default": "bind"},
+    "DS DNSKEY ZONE": {"type": int, "nargs": 3, "metavar": ("DS", "DNSKEY", "ZONE")},
+    "[KEYFILE..]": {"nargs": "*"},
+    "SCRIPT..": {"nargs": "+"},
+}
 
 
 class Parser(argparse.ArgumentParser):
@@ -24,248 +138,54 @@ class Parser(argparse.ArgumentParser):
         self.exit(USAGE, f"{self.prog}: {message}\n")
 
 
-def clock():
-    """The moment of now, in seconds. VAQSIDER_NOW stands in for the clock."""
-    return float(os.environ.get("VAQSIDER_NOW") or time.time())
-
-
-def progress(text):
-    """Shows how far long work is, on a terminal alone."""
-    if sys.stderr.isatty():
-        print(f"\r{text}\033[K", end="", file=sys.stderr, flush=True)
-
-
-def show(args, lines, value):
-    """Prints lines for people, or with --json the value."""
-    if args.json:
-        print(json.dumps(value, indent=1))
-    else:
-        for line in lines:
-            print(line)
-
-
-def on_init(args):
-    files = [keyfiles.KeyFile(path) for path in args.keyfile]
-    zone = args.zone.rstrip(".") or "."
-    for file in files:
-        if file.owner.lower() != zone.lower():
-            raise Failure(f"{file.path}: a key of {file.owner}, not of {zone}")
-    lines = [f"zone {zone}", *(file.line(args.csk) for file in files)]
-    path = Path(args.script or f"{zone}.script")
-    if args.signed:
-        lines += calling.signed_already([file.path.name for file in files], int(clock()))
-    for line, reply in zip(lines[1:], keyset.run(lines)):
-        if reply != "ok" and reply.startswith("refused"):
-            raise Failure(f"{line}: {reply}")
-    keyset.create(path, lines)
-    if args.before:
-        notes.begin(path, args.before)
-    told = [f"{path}: {len(lines)} lines"]
-    if not args.signed:
-        names = ",".join(file.path.name for file in files) or "KEYS"
-        start = f"start algorithm-roll - {names} now"
-        told.append(f"next: vaqsider call {shlex.quote(str(path))} {shlex.quote(start)}")
-    show(args, told, {"script": str(path), "lines": lines})
-    return OK
-
-
-def on_call(args):
-    made = calling.call(args.script, args.line, clock, args.although, args.dry_run)
-    show(args, made.lines(), made.as_json())
-    return made.status
-
-
-def on_status(args):
-    told, now = [keyset.status(Lines(path).lines) for path in args.script], clock()
-    screens = ["\n".join(status.screen(zone, now)) for zone in told]
-    show(args, ["\n\n".join(screens)], told)
-    return OK
-
-
-def on_check(args):
-    found = {path: list(check.findings(path, clock())) for path in args.script}
-    lines = [f"{path}: {finding}" for path, all_of in found.items() for finding in all_of]
-    values = [
-        {"script": path, "line": f.line, "level": f.level, "text": f.text}
-        for path, all_of in found.items()
-        for f in all_of
-    ]
-    show(args, lines or ["all is well"], values)
-    return max(check.level(all_of) for all_of in found.values())
-
-
-def on_plan(args):
-    lines = Lines(args.script).lines
-    assumed = plan.Assumed(
-        {"dnskey": args.dnskey_ttl, "zone": args.zone_ttl, "ds": args.ds_ttl},
-        args.delay,
-        args.parent_delay,
-    )
-    begin = int(clock()) if args.start is None else args.start
-    steps = plan.plan(lines, args.roll, args.old, args.new, begin, assumed, args.first)
-    zone = lines[0].partition(" ")[2]
-    if args.calendar:
-        print(*plan.as_calendar(zone, steps), sep="\r\n", end="\r\n")
-    elif args.picture:
-        planned = [*lines, *(step.line for step in steps)]
-        print(*draw.picture(zone, planned, clock()), sep="\n")
-    elif args.lines:
-        print(*(step.line for step in steps), sep="\n")
-    else:
-        show(args, plan.as_text(steps), [step.as_json() for step in steps])
-    return OK
-
-
-def on_draw(args):
-    lines = Lines(args.script).lines
-    text = "\n".join(draw.picture(lines[0].partition(" ")[2], lines, clock()))
-    if args.out:
-        Path(args.out).write_text(f"{text}\n", encoding="utf-8")
-    else:
-        print(text)
-    return OK
-
-
-def on_act(args):
-    lines = Lines(args.script).lines
-    told = keyset.status(lines)
-    place = act.Place(
-        Path(args.zone_file),
-        Path(args.out or f"{args.zone_file}.signed"),
-        args.keys or [Path(args.script).parent],
-        args.reload,
-    )
-    cds_signer = None if args.no_cds else act.cds_signer(lines)
-    signer = act.SIGNERS[args.signer](told, place, cds_signer)
-    commands = list(signer.commands())
-    records = list(signer.ds()) if "UpdateDsRrset" in status.asked(told) else []
-    if args.dry_run:
-        show(args, [*commands, *records], commands + records)
-        return OK
-    act.publish(commands, args.script, lines, told, args.ds_ttl if records else None, clock())
-    given = list(act.given(records))
-    says = [f"the parent's DS set has to be {words.listed(told['published']['ds'])}"]
-    show(args, [*(says if records else []), *given], given)
-    return OK
-
-
-def on_watch(args):
-    watcher = watching.Watcher(args, clock, progress)
-    lines, done = watcher.run()
-    show(args, lines, watcher.as_json())
-    return OK if done else DUE
-
-
-def on_zones(args):
-    now = clock()
-    found = list(
-        zones.zones(args.folder, now, lambda done, of: progress(f"{done} of {of} zones"))
-    )
-    progress("")
-    lines = zones.prometheus(found, now) if args.prometheus else zones.table(found)
-    show(args, lines, [zone.as_json() for zone in found])
-    return OK
-
-
 def parser():
-    """The parser of the whole command line."""
-    statuses = "\n".join(f"  {number:2}  {says}" for number, says in STATUSES.items())
+    """The parser of the whole command line, as help.txt has it."""
+    statuses = "\n".join(f"  {number:3}  {says}" for number, (says, _) in STATUSES.items())
+    forms = "\n".join(f"  {word} {form}" for word, form in FORMS.items())
+    as_it_is = argparse.RawDescriptionHelpFormatter
     top = Parser(
         prog="vaqsider",
         description="Keys and rolls of DNSSEC zones, by a proved key set.",
-        epilog=f"exit statuses:\n{statuses}",
-        formatter_class=argparse.RawDescriptionHelpFormatter,
+        epilog=f"exit statuses:\n{statuses}\n\nlines of a script:\n{forms}",
+        formatter_class=as_it_is,
     )
     top.add_argument("--version", action="version", version=f"vaqsider {keyset.__version__}")
     subparsers = top.add_subparsers(dest="word", required=True, metavar="WORD", parser_class=Parser)
-    for name, says, does, options in WORDS:
-        word = subparsers.add_parser(name, help=says, description=f"{says}.")
-        for names, settings in options:
-            word.add_argument(*names, **settings)
-        word.add_argument("--json", action="store_true", help="print JSON")
-        word.set_defaults(does=does)
+    for found in WORD.finditer(HELP.read_text(encoding="ascii")):
+        name, says, about, arguments = found.groups()
+        about = f"{says.capitalize()}.\n\n{about}"
+        word = subparsers.add_parser(name, help=says, description=about, formatter_class=as_it_is)
+        for argument in ARGUMENT.finditer(f"{arguments}--json  print JSON"):
+            _add(word, *argument.groups())
+        word.set_defaults(does=globals()[f"on_{name}"], port=53, every=10)
     return top
 
 
-def _option(*names, **settings):
-    return names, settings
-
-
-SCRIPT = _option("script", metavar="SCRIPT", help="the file with the accepted lines of a zone")
-SCRIPTS = _option("script", metavar="SCRIPT", nargs="+", help="files with accepted lines")
-DRY_RUN = _option("--dry-run", action="store_true", help="only print what would be done")
-WORDS = (
-    ("init", "begins a script", on_init, (
-        _option("zone", metavar="ZONE", help="the name of the zone"),
-        _option("keyfile", metavar="KEYFILE", nargs="*", help="key files of BIND or ldns"),
-        _option("--script", help="the file to make (ZONE.script)"),
-        _option("--csk", action="store_true", help="a key with the SEP flag signs the zone too"),
-        _option("--before", type=int, nargs=3, metavar=("DS", "DNSKEY", "ZONE"), help="begin notes "
-                "too: the highest TTLs that servers gave so far, also with answers of no such set"),
-        _option("--signed", action="store_true", help="the zone has been signed by just these "
-                "keys, with their DS, for longer than every TTL"),
-    )),
-    ("call", "makes one call; 'now' stands for the moment", on_call, (
-        SCRIPT,
-        _option("line", metavar="LINE", help="a line of a script, as 'wait1 zsk-roll now'"),
-        _option("--although", action="store_true", help="make it although it can't be true"),
-        DRY_RUN,
-    )),
-    ("status", "shows where each key is and what comes next", on_status, (SCRIPTS,)),
-    ("check", "tells what was accepted and can't be true", on_check, (SCRIPTS,)),
-    ("plan", "shows a roll before anything is done", on_plan, (
-        SCRIPT,
-        _option("roll", metavar="ROLL", choices=ROLLS, help=", ".join(ROLLS)),
-        _option("old", metavar="OLD", help="old keys, with commas between them, or -"),
-        _option("new", metavar="NEW", help="new keys, with commas between them, or -"),
-        _option("--first", action="append", default=[], metavar="LINE", help="a line before it, "
-                "as an add"),
-        _option("--start", type=int, metavar="SECONDS", help="when it starts (now)"),
-        _option("--dnskey-ttl", type=int, default=3600, help="TTL of the DNSKEY set (3600)"),
-        _option("--zone-ttl", type=int, default=3600, help="highest TTL of the zone (3600)"),
-        _option("--ds-ttl", type=int, default=86400, help="TTL of the DS set (86400)"),
-        _option("--delay", type=int, default=600, help="seconds until all servers have a version "
-                "(600)"),
-        _option("--parent-delay", type=int, default=86400, help="the same for the parent (86400)"),
-        _option("--script", dest="lines", action="store_true", help="print the lines"),
-        _option("--calendar", action="store_true", help="print an iCalendar file"),
-        _option("--picture", action="store_true", help="print a picture as SVG"),
-    )),
-    ("draw", "draws the timeline as SVG", on_draw, (
-        SCRIPT, _option("--out", metavar="FILE", help="where to write it (standard output)"),
-    )),
-    ("act", "publishes what is due by the commands of a signer", on_act, (
-        SCRIPT,
-        _option("--zone-file", required=True, metavar="FILE", help="the unsigned zone"),
-        _option("--out", metavar="FILE", help="the signed zone (FILE.signed)"),
-        _option("--keys", action="append", metavar="FOLDER", help="where the key files are (the "
-                "folder of the script)"),
-        _option("--signer", choices=sorted(act.SIGNERS), default="bind", help="whose tools (bind)"),
-        _option("--reload", metavar="COMMAND", help="a command that loads the signed zone"),
-        _option("--no-cds", action="store_true", help="leave CDS and CDNSKEY out: once all servers "
-                "of the parent have the DS set, before that is reported"),
-        _option("--ds-ttl", type=int, help="TTL of the parent's DS set, for the notes"),
-        DRY_RUN,
-    )),
-    ("watch", "asks all servers whether they have what is due", on_watch, watching.OPTIONS),
-    ("zones", "shows the zones of a folder", on_zones, (
-        _option("folder", metavar="FOLDER", help="its files ZONE.script are read"),
-        _option("--prometheus", action="store_true", help="print metrics"),
-    )),
-)
+def _add(word, name, value, says):
+    """Adds an argument. One that ends in .. may be given several times."""
+    is_option, says = name.startswith("--"), " ".join(says.split())
+    if is_option and value is None:
+        word.add_argument(name, action="store_true", help=says)
+        return
+    shown = (value or name).strip("[].")
+    settings = {"metavar": shown, "help": says, **READ_AS.get(value or name, {})}
+    if is_option:
+        settings["action"] = "append" if value.endswith("..") else "store"
+    word.add_argument(name if is_option else shown, **settings)
 
 
 def main(words_of_line=None):
     """Runs the command, and gives its exit status."""
     args = parser().parse_args(words_of_line)
     try:
-        return args.does(args)
+        ends_with, text, value = args.does(args)
+        for line in [json.dumps(value, indent=1)] if args.json else text:
+            print(line)
+        return ends_with
     except BrokenPipeError:
         os.dup2(os.open(os.devnull, os.O_WRONLY), sys.stdout.fileno())
         return OK
-    except Exception as error:
-        ends_with = status_of(error)
-        if ends_with is None:
-            raise
-        print(f"vaqsider: {text_of(error)}", file=sys.stderr)
-        return ends_with
+    except (Exception, KeyboardInterrupt) as error:
+        failure = failure_of(error)
+        print(f"vaqsider: {failure}", file=sys.stderr)
+        return failure.status

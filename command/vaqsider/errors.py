@@ -3,16 +3,18 @@
 from keyset import Damaged, Locked, Malformed, Unavailable
 
 OK, DUE, WARNING, BROKEN = 0, 1, 2, 3
-USAGE, UNAVAILABLE, LOCKED = 64, 69, 75
+USAGE, UNAVAILABLE, LOCKED, INTERRUPTED = 64, 69, 75, 130
 
+# What a status means, and which errors end the command with it.
 STATUSES = {
-    OK: "done; check, watch: all is well",
-    DUE: "something is due; call: the key set refused the line",
-    WARNING: "a line can't be true; call: it was not made for that reason",
-    BROKEN: "the chain of trust is broken, or a file is damaged",
-    USAGE: "the command line, or the line of a call, is wrong",
-    UNAVAILABLE: "a program, a file or a server is missing",
-    LOCKED: "another program is writing the script",
+    OK: ("done; check, watch: all is well", ()),
+    DUE: ("something is due; call, plan: the key set refused a line", ()),
+    WARNING: ("a line can't be true; call: it was not made for that reason", ()),
+    BROKEN: ("the chain of trust is broken, or a file is damaged", (Damaged, Malformed)),
+    USAGE: ("the command line, or the line of a call, is wrong", (FileExistsError,)),
+    UNAVAILABLE: ("a program, a file or a server is missing", (Unavailable, OSError, MemoryError)),
+    LOCKED: ("another program is writing the script", (Locked,)),
+    INTERRUPTED: ("interrupted from the keyboard", (KeyboardInterrupt,)),
 }
 
 
@@ -24,31 +26,14 @@ class Failure(Exception):
         self.status = status
 
 
-class Missing(Failure):
-    def __init__(self, text):
-        super().__init__(text, UNAVAILABLE)
-
-
-OF_OTHERS = (
-    (Damaged, BROKEN),
-    (Malformed, BROKEN),
-    (Locked, LOCKED),
-    (Unavailable, UNAVAILABLE),
-    (FileExistsError, USAGE),
-    (OSError, UNAVAILABLE),
-    (MemoryError, UNAVAILABLE),
-)
-
-
-def status_of(error):
-    """The status with which an error ends the command, or None for a fault of the command."""
+def failure_of(error):
+    """The failure that an error is. A fault of the command itself is raised again."""
     if isinstance(error, Failure):
-        return error.status
-    return next((status for kind, status in OF_OTHERS if isinstance(error, kind)), None)
-
-
-def text_of(error):
-    """What is said of an error."""
-    if isinstance(error, OSError):
-        return f"{error.filename}: {error.strerror}"
-    return str(error) or "out of memory"
+        return error
+    text = f"{error.filename}: {error.strerror}" if isinstance(error, OSError) else str(error)
+    if isinstance(error, MemoryError):
+        text = "out of memory: make the same call again"
+    for status, (says, errors) in STATUSES.items():
+        if isinstance(error, errors):
+            return Failure(text or says, status)
+    raise error

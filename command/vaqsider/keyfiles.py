@@ -10,7 +10,7 @@ import struct
 import time
 from pathlib import Path
 
-from .errors import Failure, Missing
+from .errors import BROKEN, UNAVAILABLE, Failure
 
 SEP, ZONE_KEY, REVOKED = 0x0001, 0x0100, 0x0080
 RECORD = re.compile(
@@ -27,33 +27,27 @@ class KeyFile:
     def __init__(self, path):
         self.path = Path(path)
         if self.path.suffix != ".key":
-            self.path = self.path.with_name(self.path.name + ".key")
-        try:
-            text = self.path.read_text(encoding="ascii")
-        except (OSError, UnicodeDecodeError) as error:
-            raise Missing(f"{self.path}: {getattr(error, 'strerror', 'not a text')}") from None
+            self.path = self.path.with_name(f"{self.path.name}.key")
+        text = self.path.read_text(encoding="ascii", errors="replace")
         record = next(filter(None, map(RECORD.match, text.splitlines())), None)
         if record is None:
             raise Failure(f"{self.path}: no DNSKEY record")
-        self.owner = record["owner"].rstrip(".") or "."
-        self.flags, self.algorithm = int(record["flags"]), int(record["algorithm"])
-        if not self.flags & ZONE_KEY or self.flags & REVOKED:
+        flags, self.algorithm = int(record["flags"]), int(record["algorithm"])
+        if not flags & ZONE_KEY or flags & REVOKED:
             raise Failure(f"{self.path}: it is no zone key, or it is revoked")
-        self.tag = key_tag(self.flags, int(record["protocol"]), self.algorithm, record["key"])
+        self.owner, self.is_sep = record["owner"].rstrip(".") or ".", bool(flags & SEP)
+        self.tag = key_tag(flags, int(record["protocol"]), self.algorithm, record["key"])
         created = CREATED.search(text)
         stamp = time.strptime(created[1], "%Y%m%d%H%M%S") if created else None
         self.creation = calendar.timegm(stamp) if stamp else int(self.path.stat().st_mtime)
 
-    @property
-    def is_ksk(self):
-        return bool(self.flags & SEP)
-
     def line(self, is_csk):
-        """The line that adds the key."""
+        """The line that adds the key: a CSK, or what its SEP flag says."""
         private = self.path.with_suffix(".private")
-        word = ("add-csk" if is_csk else "add-ksk") if self.is_ksk else "add-zsk"
-        parts = [word, self.path.name, private.name if private.is_file() else "-"]
-        return " ".join(map(str, [*parts, self.algorithm, self.tag, self.creation, "yes"]))
+        word = "add-csk" if is_csk else "add-ksk" if self.is_sep else "add-zsk"
+        reference = private.name if private.is_file() else "-"
+        parts = word, self.path.name, reference, self.algorithm, self.tag, self.creation, "yes"
+        return " ".join(map(str, parts))
 
 
 def key_tag(flags, protocol, algorithm, key):
@@ -67,11 +61,14 @@ def key_tag(flags, protocol, algorithm, key):
     return (total + (total >> 16)) & 0xFFFF
 
 
-def find(reference, folders):
-    """The file of the key with this reference, which is its name, with or without `.key`."""
-    name = reference.rpartition("/")[2]
-    for folder in folders:
-        for candidate in (Path(folder) / name, Path(folder) / f"{name}.key"):
-            if candidate.suffix == ".key" and candidate.is_file():
-                return candidate
-    raise Missing(f"no key file for {reference} in {', '.join(map(str, folders))}")
+def find(key, folders):
+    """The file of a key, which its reference names, with or without `.key`."""
+    name = key["reference"].rpartition("/")[2].removesuffix(".key")
+    for path in (Path(folder) / f"{name}.key" for folder in folders):
+        if path.is_file():
+            file = KeyFile(path)
+            if (file.tag, file.algorithm) != (key["tag"], key["algorithm"]):
+                raise Failure(f"{path}: its tag or algorithm isn't that of the script", BROKEN)
+            return file
+    places = ", ".join(map(str, folders))
+    raise Failure(f"no key file for {key['reference']} in {places}", UNAVAILABLE)

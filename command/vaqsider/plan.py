@@ -2,143 +2,103 @@
 
 The key set answers the calls; what is assumed here is how long servers and the parent take."""
 
-import json
-from dataclasses import dataclass, field
-
-import keyset
+from keyset import KeySet, Malformed, Notes, Published, Refused, RollType
 from keyset.lines import Line
+from keyset.notes import KINDS, Seen, to_report
 
-from . import words
-from .errors import Failure
-from .history import REFUSED
+from . import calling, words
+from .errors import DUE, USAGE, Failure
 
-
-@dataclass
-class Assumed:
-    """TTLs and delays in seconds, by kind of set."""
-
-    ttls: dict = field(default_factory=lambda: {"dnskey": 3600, "zone": 3600, "ds": 86400})
-    delay: int = 600
-    parent_delay: int = 86400
-
-    def spread(self, kinds):
-        """How long it takes until all servers have what was asked."""
-        return max([self.delay, *(self.parent_delay for kind in kinds if kind == "ds")])
-
-    def ttl(self, roll, half, kinds):
-        """The TTL to report. A validator that asks for every algorithm keeps the algorithms of a
-        DS set with a DNSKEY set: so both TTLs count where old algorithms leave."""
-        if roll == "algorithm-roll" and half == "report2":
-            return self.ttls["ds"] + self.ttls["dnskey"]
-        return max((self.ttls[kind] for kind in kinds), default=0)
+# Seconds, of DS sets, DNSKEY sets and the rest of the zone, if neither notes nor options say them.
+TTLS, DELAYS = (86400, 3600, 3600), (86400, 600, 600)
 
 
-@dataclass(frozen=True)
-class Step:
-    """A planned call, as it will be answered."""
+class Plan:
+    """The calls of a roll on a copy of a script, each at the moment that the plan has reached, as
+    it will be answered. TTLs, and delays until all servers have a version, are by kind of set."""
 
-    moment: int
-    line: str
-    actions: list
-    published: dict
-    verdict: str
+    def __init__(self, lines, moment, ttls, delays):
+        self.keys = KeySet.resume("".join(f"{line}\n" for line in lines))
+        self.moment, self.ttls, self.delays, self.steps = moment, ttls, delays, []
 
-    def as_json(self):
-        return {
+    def call(self, text):
+        """Makes a call, and gives the kinds of sets that it asks to watch."""
+        line = calling.completed(text, lambda: self.moment)
+        try:
+            actions = [action.value for action in self.keys.call(line)]
+        except Refused as error:
+            reason = f"refused: {error}; {words.refusal(str(error))}"
+            raise Failure(f"{line}: {reason}", DUE) from None
+        except Malformed as error:
+            raise Failure(f"{line}: {error.reason}", USAGE) from None
+        published = vars(self.keys.published)
+        self.steps.append({
             "moment": self.moment,
-            "line": self.line,
-            "actions": self.actions,
-            "published": self.published,
-            "verdict": self.verdict,
-        }
-
-
-class Planner:
-    """Makes the calls of one roll on a copy of a script."""
-
-    def __init__(self, lines, assumed):
-        self.lines, self.assumed, self.steps = list(lines), assumed, []
-
-    def call(self, line, moment):
-        self.lines.append(line)
-        *_, reply, sets, verdict = keyset.run(self.lines)
-        if reply.startswith(REFUSED):
-            raise Failure(f"{line}: {reply}")
-        actions, published = reply.split(" ")[1:], vars(keyset.Published.of(sets))
-        self.steps.append(Step(moment, line, actions, published, verdict))
+            "line": line,
+            "actions": actions,
+            "asks": list(words.asks(actions, published)),
+            "published": published,
+            "verdict": f"chain {self.keys.chain}",
+        })
         return words.kinds_of(actions)
 
-    def half(self, roll, number, kinds, moment):
-        """Report and wait of one half; gives what the wait asks to watch, and its moment."""
-        report = f"report{number}"
-        moment += self.assumed.spread(kinds)
-        self.call(f"{report} {roll} {self.assumed.ttl(roll, report, kinds)} {moment}", moment)
-        told = next(r for r in keyset.status(self.lines)["rolls"] if r["roll"] == roll)
-        moment = max(moment, told["not_before"])
-        return self.call(f"wait{number} {roll} {moment}", moment), moment
+    def spread(self, kinds):
+        """Goes on until all servers have what was asked, and CDS is out after a DS set."""
+        self.moment += max((self.delays[kind] for kind in kinds), default=0)
+        self.moment += self.delays["zone"] if "ds" in kinds else 0
 
-    def roll(self, roll, old, new, moment):
-        kinds = self.call(f"start {roll} {old} {new} {moment}", moment)
-        for number in (1, 2):
-            kinds, moment = self.half(roll, number, kinds, moment)
-        moment += self.assumed.spread(kinds) if kinds else 0
-        self.call(f"done {roll}", moment)
-        for reference in [] if old == "-" else old.split(","):
-            self.call(f"delete {reference}", moment)
+    def roll(self, roll, old, new):
+        """All calls of a roll, with the deletion of the old keys."""
+        kinds = self.call(f"start {roll} {old} {new} {self.moment}")
+        for half in (1, 2):
+            self.spread(kinds)
+            due = max((self.ttls[kind] for kind in kinds), default=0)
+            self.call(f"report{half} {roll} {to_report(due, kinds, roll, self.ttls)} {self.moment}")
+            self.moment = max(self.moment, self.keys.wait_end(RollType(roll)) or 0)
+            kinds = self.call(f"wait{half} {roll} {self.moment}")
+        self.spread(kinds)
+        self.call(f"done {roll}")
+        for reference in () if old == "-" else old.split(","):
+            self.call(f"delete {reference}")
 
 
-def plan(lines, roll, old, new, moment, assumed, first=()):
-    """The steps of a roll that begins at a moment, after some first lines (adds, say)."""
-    planner = Planner(lines, assumed)
-    for line in first:
-        planner.call(line, moment)
-    planner.roll(roll, old, new, moment)
-    return planner.steps
+def assumed(script, ttls, delays, now):
+    """TTLs and delays by kind: those that were given, else noted, else the usual ones."""
+    seen = Seen(Notes(script).lines, now)
+    noted = {kind: held[-1] for kind, held in seen.ttls.items()}
+    return [
+        dict(zip(KINDS, given)) if given else {**dict(zip(KINDS, usual)), **of_notes}
+        for given, usual, of_notes in ((ttls, TTLS, noted), (delays, DELAYS, seen.delays))
+    ]
 
 
 def as_text(steps):
-    """A line for each call, with what it asks below it."""
+    """A line for each call, with what it asks, what is then published, and the verdict."""
     for step in steps:
-        yield f"{words.moment(step.moment)}  {step.line}"
-        for name in step.actions:
-            yield f"    {words.action(name, step.published)}"
-    yield steps[-1].verdict
-
-
-def as_json(steps):
-    return json.dumps([step.as_json() for step in steps], indent=1)
+        yield f"{words.moment(step['moment'])}  {step['line']}"
+        yield from (f"    {text}" for text in step["asks"])
+        yield f"    {Published(**step['published'])}, {step['verdict']}"
 
 
 def as_calendar(zone, steps):
-    """An iCalendar file (RFC 5545): an event for each call."""
-    yield from ("BEGIN:VCALENDAR", "VERSION:2.0", "PRODID:-//vaqsider//plan//EN")
+    """The lines of an iCalendar file (RFC 5545): an event for each call."""
+    yield from ("BEGIN:VCALENDAR\r", "VERSION:2.0\r", "PRODID:-//vaqsider//plan//EN\r")
     for number, step in enumerate(steps):
-        moment = _calendar_moment(step.moment)
-        word = Line(step.line).word
-        asks = "\n".join(words.action(name, step.published) for name in step.actions)
-        yield "BEGIN:VEVENT"
-        yield f"UID:{number}-{step.moment}@{zone.rstrip('.') or 'root'}"
-        yield from (f"DTSTAMP:{moment}", f"DTSTART:{moment}")
-        yield from _folded(f"SUMMARY:{_escaped(f'{zone}: {word}')}")
-        yield from _folded(f"DESCRIPTION:{_escaped(step.line)}\\n{_escaped(asks)}")
-        yield "END:VEVENT"
-    yield "END:VCALENDAR"
+        moment = words.utc(step["moment"], "%Y%m%dT%H%M%SZ")
+        says = "\n".join([step["line"], *step["asks"], step["verdict"]])
+        yield "BEGIN:VEVENT\r"
+        yield f"UID:{number}-{step['moment']}@{zone.rstrip('.') or 'root'}\r"
+        yield from (f"DTSTAMP:{moment}\r", f"DTSTART:{moment}\r")
+        yield from _folded("SUMMARY", f"{zone}: {Line(step['line']).word}")
+        yield from _folded("DESCRIPTION", says)
+        yield "END:VEVENT\r"
+    yield "END:VCALENDAR\r"
 
 
-def _calendar_moment(seconds):
-    from datetime import datetime, timezone
-
-    return datetime.fromtimestamp(seconds, timezone.utc).strftime("%Y%m%dT%H%M%SZ")
-
-
-def _escaped(text):
+def _folded(name, text):
+    """A content line, with marks escaped, folded after 75 bytes (section 3.1)."""
     for mark in "\\;,":
-        text = text.replace(mark, "\\" + mark)
-    return text.replace("\n", "\\n")
-
-
-def _folded(line):
-    """A content line is folded after 75 bytes (RFC 5545, section 3.1)."""
-    yield line[:75]
-    for start in range(75, len(line), 74):
-        yield " " + line[start : start + 74]
+        text = text.replace(mark, f"\\{mark}")
+    line = f"{name}:{text}".replace("\n", "\\n")
+    yield f"{line[:75]}\r"
+    yield from (f" {line[start : start + 74]}\r" for start in range(75, len(line), 74))

@@ -1,118 +1,81 @@
 """One screen for a zone: where each key is, what is due, what comes next, and for whom it waits."""
 
+import keyset
+from keyset import Broken, Damaged, Lines, Malformed
+from keyset.lines import FORMS
+
 from . import words
+from .history import SAFE
 
-YOU, PARENT, CACHES, NOBODY = "you", "parent", "caches", "nobody"
-
-
-class Roll:
-    """A roll in progress."""
-
-    def __init__(self, told, now):
-        self.name, self.phase, self.next = told["roll"], told["phase"], told["next"]
-        self.due, self.not_before = told["due"], told["not_before"]
-        is_over = self.not_before is not None and self.not_before <= now
-        self.waits_for = YOU if is_over else told["waits_for"]
-
-    @property
-    def is_due(self):
-        """Whether an operator has something to do."""
-        return self.waits_for != CACHES
-
-    def comes_next(self):
-        """The next call, in a line's form, with what it waits for."""
-        call = {
-            "report1": f"report1 {self.name} TTL now",
-            "report2": f"report2 {self.name} TTL now",
-            "wait1": f"wait1 {self.name} now",
-            "wait2": f"wait2 {self.name} now",
-            "done": f"done {self.name}",
-        }[self.next]
-        if self.not_before is None:
-            return call
-        return f"{call}, from {words.moment(self.not_before)} on"
+WAITING = YOU, PARENT, CACHES = "you", "parent", "caches"
+LABELS = {"ds": "DS", "dnskey": "DNSKEY", "signers": "signers", "zone": "zone"}
 
 
-def rolls(status, now):
-    return [Roll(told, now) for told in status["rolls"]]
+def read(path, now):
+    """The lines of a script and its status at this moment: a wait that is over waits for you."""
+    lines = Lines(path).lines
+    try:
+        told = keyset.status(lines)
+    except Malformed as error:
+        raise Damaged(path, error.line, f"malformed: {error.reason}") from None
+    for roll in told["rolls"]:
+        if roll["not_before"] is not None and roll["not_before"] <= now:
+            roll["waits_for"] = YOU
+    return lines, told
 
 
-def next_moment(status, now):
-    """The moment from which on the next wait is accepted that isn't yet, or None."""
-    ahead = [roll.not_before for roll in rolls(status, now) if roll.waits_for == CACHES]
-    return min((moment for moment in ahead if moment is not None), default=None)
+def comes_next(roll):
+    """The next call of a roll, in a line's form, with the moment that it waits for."""
+    fields = {"ROLL": roll["roll"], "TTL": "TTL", "TIME": "now"}
+    call = " ".join([roll["next"], *(fields[name] for name in FORMS[roll["next"]].split())])
+    if roll["not_before"] is not None:
+        return f"{call}, from {words.moment(roll['not_before'])} on"
+    lacks_stamp = roll["next"].startswith("wait")
+    return f"{call}, once the key that it checks has its stamp" if lacks_stamp else call
 
 
-def waits_for(status, now):
-    """For whom the zone waits: the first of you, the parent, the caches; or nobody."""
-    waiting = {roll.waits_for for roll in rolls(status, now)} | {
-        YOU for ended in status["ended"]
-    }
-    return next((who for who in (YOU, PARENT, CACHES) if who in waiting), NOBODY)
+def asked(told):
+    """The actions that are due, by roll; also those of rolls that were ended early."""
+    ended = {roll["roll"]: roll["asked"] for roll in told["ended"]}
+    return {**ended, **{roll["roll"]: roll["due"] for roll in told["rolls"]}}
 
 
-def asked(status):
-    """The actions that are due now, in whatever roll."""
-    lists = [roll["due"] for roll in status["rolls"]] + [e["asked"] for e in status["ended"]]
-    return {name for names in lists for name in names}
+def is_asked(told, action):
+    return any(action in actions for actions in asked(told).values())
 
 
-def verdict(status):
-    chain = status["chain"]
-    if chain["safe"]:
-        return "chain safe"
-    places = " ".join(f"{name}={chain[name]}" for name in ("at", "ds", "dnskey", "zone"))
-    return f"chain broken {places}"
-
-
-def screen(status, now):
+def screen(told):
     """The lines of the screen."""
-    yield f"{status['zone']}: {verdict(status)}"
-    labels = {"DS": "ds", "DNSKEY": "dnskey", "signers": "signers", "zone": "zone"}
-    for label, kind in labels.items():
-        yield f"  {label:8} {words.listed(status['published'][kind])}"
-    if status["keys"]:
+    places = {name: place for name, place in told["chain"].items() if name != "safe"}
+    verdict = SAFE if told["chain"]["safe"] else f"chain {Broken(**places)}"
+    yield f"{told['zone']}: {verdict}"
+    for kind, label in LABELS.items():
+        yield f"  {label:8} {words.listed(told['published'][kind])}"
+    if told["keys"]:
         yield ""
-        yield from (f"  {line}" for line in words.table(_keys(status)))
-    for roll in rolls(status, now):
-        yield ""
-        yield from _roll(roll, status["published"])
-    for ended in status["ended"]:
-        yield ""
-        yield f"  {ended['roll']} was ended early: do this before you start anew"
-        yield from _due(ended["asked"], status["published"])
+        yield from (f"  {line}" for line in words.table(_keys(told)))
+    for roll in told["rolls"]:
+        yield f"\n  {roll['roll']}: {roll['phase']}, waits for {roll['waits_for']}"
+        yield from (f"    {text}" for text in words.asks(roll["due"], told["published"]))
+        yield f"    then: {comes_next(roll)}"
+    for roll in told["ended"]:
+        yield f"\n  {roll['roll']} was ended early: do this before you start anew"
+        yield from (f"    {text}" for text in words.asks(roll["asked"], told["published"]))
 
 
-def _keys(status):
+def _keys(told):
     yield "KEY", "KIND", "TAG", "ALGORITHM", "STATE", "IN", "ROLL", "DELETE"
-    for key in status["keys"]:
-        states = [role["state"] for role in key["roles"]]
+    for key in told["keys"]:
+        name, kind = key["reference"], key["kind"]
+        sets = [kind for kind, keys in told["published"].items() if name in keys]
+        rolls = [f"{part} in {roll}" for part in ("old", "new") for roll in key[f"{part}_in"]]
         yield (
-            key["reference"],
-            key["kind"].upper() if len(key["kind"]) == 3 else key["kind"],
+            name,
+            kind if kind == "public" else kind.upper(),
             key["tag"],
             key["algorithm"],
-            "/".join(dict.fromkeys(states)),
-            " ".join(kind for kind in status["published"] if key["reference"] in
-                     status["published"][kind]) or "-",
-            _part(key),
+            "/".join(dict.fromkeys(role["state"] for role in key["roles"])),
+            " ".join(sets) or "-",
+            ", ".join(rolls) or "-",
             "yes" if key["may_be_deleted"] else "-",
         )
-
-
-def _part(key):
-    """Whether a key is old or new in a roll."""
-    parts = [f"old in {roll}" for roll in key["old_in"]]
-    parts += [f"new in {roll}" for roll in key["new_in"]]
-    return ", ".join(parts) or "-"
-
-
-def _roll(roll, published):
-    yield f"  {roll.name}: {roll.phase}, waits for {roll.waits_for}"
-    yield from _due(roll.due, published)
-    yield f"    then: {roll.comes_next()}"
-
-
-def _due(actions, published):
-    for name in actions:
-        yield f"    {words.action(name, published)}"

@@ -5,114 +5,86 @@ over: that is the moment of the report and its TTL."""
 
 from dataclasses import dataclass, field
 
-import keyset
+from keyset import Published
 
 from .history import History
 
-KINDS = {"ds": "ds", "dnskey": "dnskey", "signers": "dnskey", "zone": "zone"}
-
-
-@dataclass
-class Bar:
-    """A key in a set: from when, until when, and until when caches may hold it still. None is: not
-    yet."""
-
-    begin: int
-    end: int = None
-    gone: int = None
-
-
-@dataclass
-class Phase:
-    """A phase of a roll: from the call that began it to the one that ended it."""
-
-    word: str
-    begin: int
-    end: int = None
-
-
-@dataclass
-class Timeline:
-    """Bars by set and key, phases by roll, and the span of all moments."""
-
-    begin: int
-    end: int
-    bars: dict = field(default_factory=dict)
-    phases: dict = field(default_factory=dict)
-
-
-def timeline(lines):
-    """The timeline of a script."""
-    history = History(lines)
-    calls = history.calls
-    moments = [call.moment for call in calls if call.line.word in _ROLL_CALLS] or [0]
-    made = Timeline(moments[0], max(moments))
-    reports = list(_reports(history))
-    shown = {name: set() for name in KINDS}
-    for number, call in enumerate(calls):
-        published = vars(keyset.Published.of(keyset.run(_up_to(history, call))[-2]))
-        for name, kind in KINDS.items():
-            now = set(published[name])
-            for reference in sorted(now - shown[name]):
-                made.bars.setdefault((name, reference), []).append(Bar(call.moment))
-            for reference in shown[name] - now:
-                bar = made.bars[name, reference][-1]
-                bar.end, bar.gone = call.moment, _gone(reports, kind, number)
-            shown[name] = now
-        _phase(made.phases, call)
-    ends = [bar.gone for bars in made.bars.values() for bar in bars if bar.gone is not None]
-    made.end = max([made.end, *ends])
-    return made
-
-
-_ROLL_CALLS = ("start", "report1", "wait1", "report2", "wait2", "done", "abort")
-_PHASES = {
+# The sets with their labels, and the kind of reports that speak of them.
+SETS = {
+    "ds": ("DS", "ds"),
+    "dnskey": ("DNSKEY", "dnskey"),
+    "signers": ("signs DNSKEY", "dnskey"),
+    "zone": ("signs zone", "zone"),
+}
+# The phase of a roll that begins with a call.
+PHASES = {
     "start": "propagation 1",
     "report1": "caches 1",
     "wait1": "propagation 2",
     "report2": "caches 2",
     "wait2": "last actions",
+    "done": None,
+    "abort": None,
 }
 
 
-def _up_to(history, call):
-    """The accepted lines up to a call."""
-    numbers = {before.number for before in history.calls if before.number <= call.number}
-    return [text for n, text in enumerate(history.lines, start=1) if n == 1 or n in numbers]
+@dataclass
+class Bar:
+    """A key in a set, or a phase of a roll: from when, until when, and until when caches may hold
+    the key still. None is: not yet."""
+
+    begin: int
+    end: int = None
+    gone: int = None
+    word: str = None
+
+
+@dataclass
+class Timeline:
+    """The span of all moments; by roll its phases; by the label of a set and a key the bars."""
+
+    begin: int
+    end: int
+    phases: dict = field(default_factory=dict)
+    rows: dict = field(default_factory=dict)
+
+
+def timeline(lines):
+    """The timeline of a script."""
+    history = History(lines)
+    moments = [call.moment for call in history.calls if call.line.word in PHASES] or [0]
+    made, bars = Timeline(moments[0], max(moments)), {name: {} for name in SETS}
+    reports, shown = list(_reports(history)), {name: set() for name in SETS}
+    for call, session in history.sessions():
+        published = vars(Published.of(session.closing()[0]))
+        for name, (_, kind) in SETS.items():
+            before, shown[name] = shown[name], set(published[name])
+            for key in shown[name] - before:
+                bars[name].setdefault(key, []).append(Bar(call.moment))
+            for key in before - shown[name]:
+                bar = bars[name][key][-1]
+                ends = (end for of, step, end in reports if kind in of and call.number <= step)
+                bar.end, bar.gone = call.moment, min(ends, default=None)
+                made.end = max(made.end, bar.gone or 0)
+        _phase(made.phases, call)
+    for name, (label, _) in SETS.items():
+        made.rows.update({f"{label} {key}": of for key, of in sorted(bars[name].items())})
+    return made
 
 
 def _reports(history):
-    """Each accepted report: its kinds, the index of the step that it counts from, and its end."""
+    """Each accepted report: its kinds, the line of the step that it counts from, and its end."""
     for call in history.calls:
         if call.line.is_report:
-            step = history.step_of(call)
-            yield step.kinds, history.calls.index(step), call.moment + call.line.ttl
-
-
-def _gone(reports, kind, number):
-    """When what left a set by this call has left the caches too, or None."""
-    return min(
-        (end for kinds, base, end in reports if kind in kinds and number <= base), default=None
-    )
+            step, kinds = history.step_of(call)
+            yield kinds, step.number, call.moment + call.line.ttl
 
 
 def _phase(phases, call):
     """Ends the phase that a call ends, and begins the one that it begins."""
-    if call.line.word not in _ROLL_CALLS:
-        return
-    row = phases.setdefault(call.line.roll, [])
-    if row and row[-1].end is None:
-        row[-1].end = call.moment
-    if call.line.word in _PHASES:
-        row.append(Phase(_PHASES[call.line.word], call.moment))
-
-
-def rows(made):
-    """The rows of a picture: label and bars, set by set."""
-    for name, label in (("ds", "DS"), ("dnskey", "DNSKEY"), ("signers", "signs DNSKEY"),
-                        ("zone", "signs zone")):
-        for (of, reference), bars in sorted(made.bars.items()):
-            if of == name:
-                yield f"{label} {reference}", bars
-
-
+    if call.line.word in PHASES:
+        row = phases.setdefault(call.line.roll, [])
+        if row and row[-1].end is None:
+            row[-1].end = call.moment
+        if word := PHASES[call.line.word]:
+            row.append(Bar(call.moment, word=word))

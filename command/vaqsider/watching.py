@@ -1,104 +1,111 @@
 """Watches the servers until all have what is due, and then makes the line of the report."""
 
+import math
 import time
 
-import keyset
+from keyset import Notes
+from keyset.notes import Seen, to_report
 
-from . import calling, notes, status, watch, words
-from .errors import Missing
+from . import calling, status, watch, words
+from .errors import DUE, OK, UNAVAILABLE, Failure
 
-
-def _option(*names, **settings):
-    return names, settings
-
-
-OPTIONS = (
-    _option("script", metavar="SCRIPT", help="the file with the accepted lines of a zone"),
-    _option("--server", action="append", metavar="ADDRESS", help="a server of the zone (all that "
-            "its NS records name)"),
-    _option("--parent-server", action="append", metavar="ADDRESS", help="a server of the parent"),
-    _option("--parent", metavar="ZONE", help="the parent zone (the name above)"),
-    _option("--port", type=int, default=53, help="the port of all servers (53)"),
-    _option("--ttl", type=int, help="the TTL to report, if the notes don't say it"),
-    _option("--every", type=float, default=10, metavar="SECONDS", help="how often to ask (10)"),
-    _option("--for", dest="limit", type=float, default=0, metavar="SECONDS",
-            help="for how long to ask (once)"),
-    _option("--call", action="store_true", help="make the call, when it is time"),
-)
+CDS_OUT = "take CDS and CDNSKEY out by 'vaqsider act --no-cds', then 'vaqsider watch --call'"
 
 
 class Watcher:
-    """Watches for the rolls of one script."""
+    """Watches for the rolls of one script that wait for a report or for their end, and for those
+    that were ended early."""
 
     def __init__(self, args, clock, progress):
-        self.args, self.clock, self.progress = args, clock, progress
-        self.lines = keyset.Lines(args.script).lines
-        self.status = keyset.status(self.lines)
-        self.rolls = {
-            roll.name: roll
-            for roll in status.rolls(self.status, clock())
-            if roll.next in ("report1", "report2", "done")
-        }
-        self.lacking, self.next, self.made = {}, [], []
-
-    def where(self, kinds):
-        """The servers to ask; those that weren't named are looked up."""
-        zone, port = self.status["zone"], self.args.port
-        servers, parents = self.args.server or [], self.args.parent_server or []
-        if not servers and set(kinds) - {"ds"}:
-            servers = watch.addresses(zone)
-        if not parents and "ds" in kinds:
-            parents = watch.addresses(self.args.parent or watch.parent_of(zone))
-        return watch.Where(servers, parents, port)
+        self.args, self.clock, self.progress, self.made = args, clock, progress, {}
 
     def run(self):
-        """Asks until all servers have what is due, or the time is over. Gives lines for people, and
-        whether nothing is lacking."""
-        kinds = {kind for roll in self.rolls.values() for kind in words.kinds_of(roll.due)}
-        if not self.rolls:
-            return ["nothing is to be watched"], True
-        expected, where = watch.Expected(self.status), self.where(kinds)
-        end = time.monotonic() + self.args.limit
+        """Asks until all servers have what is due, or the time is over. With --call a roll goes on
+        as soon as it can, and CDS has to be out before that; without, the loop ends before it."""
+        end = time.monotonic() + (vars(self.args)["for"] or 0)
         while True:
-            self.lacking = watch.look(expected, sorted(kinds), where)
-            for kind in sorted(kinds - {kind for kind, _ in self.lacking}):
-                notes.everywhere(self.args.script, kind, self.clock())
-            if not self.lacking or time.monotonic() >= end:
+            self.look()
+            if self.args.call:
+                for roll in filter(self.rolls.get, self.ready()):
+                    line = self.line(roll)
+                    self.made[roll] = calling.call(self.args.SCRIPT, line, self.clock)
+            awaited = {kind for kind, _, _ in self.lacking if self.args.call or kind != "cds"}
+            is_refused = any(made.status for made in self.made.values())
+            if not awaited or is_refused or time.monotonic() >= end:
                 break
             self.progress(f"{len(self.lacking)} answers are lacking")
             time.sleep(self.args.every)
         self.progress("")
-        lines = [f"{server}: {what}" for (_, server), what in sorted(self.lacking.items())]
-        for roll in self.rolls.values():
-            lines += self.then(roll)
-        return lines, not self.lacking
 
-    def then(self, roll):
-        """The call that a roll can make now, made if that was asked."""
-        kinds = words.kinds_of(roll.due)
-        if any(kind in kinds for kind, _ in self.lacking):
-            return [f"{roll.name}: not yet"]
-        line = f"done {roll.name}"
-        if roll.next != "done":
-            ttl = self.args.ttl
-            if ttl is None:
-                ttl = notes.due(self.args.script, self.lines, roll.name, self.clock())
-            if ttl is None:
-                raise Missing("the notes don't say which TTL is due: give it by --ttl")
-            line = f"{roll.next} {roll.name} {ttl} now"
-        self.next.append(line)
-        if not self.args.call:
-            return [f"next: {line}"]
-        made = calling.call(self.args.script, line, self.clock)
-        self.made.append(made)
-        return list(made.lines())
+    def look(self):
+        """Reads the script anew, asks the servers, and notes which sets are everywhere."""
+        self.notes = Notes(self.args.SCRIPT)
+        self.lines, told = status.read(self.args.SCRIPT, self.clock())
+        self.zone, asked = told["zone"], status.asked(told)
+        calls = {roll["roll"]: roll["next"] for roll in told["rolls"]}
+        self.rolls = {roll: calls.get(roll) for roll in asked if "wait" not in calls.get(roll, "")}
+        self.kinds = {roll: words.kinds_of(asked[roll]) for roll in self.rolls}
+        kinds = sorted({kind for of in self.kinds.values() for kind in of})
+        self.lacking, ttls = watch.look(told, kinds, self.servers, self.args.port)
+        there = {kind: ttls[kind] for kind in kinds if not self.lacks([kind])}
+        if there and self.notes.lines:
+            now = math.ceil(self.clock())
+            calling.reach(now, self.clock)
+            self.notes.everywhere(there, now)
+        if "ds" in there:
+            self.lacking += watch.look(told, ["cds"], self.servers, self.args.port)[0]
+
+    def servers(self, kind):
+        """The servers to ask: those that were named, or all that NS records name."""
+        if kind == "ds":
+            above = self.zone.rstrip(".").partition(".")[2] or "."
+            return self.args.parent_server or watch.addresses(self.args.parent or above)
+        return self.args.server or watch.addresses(self.zone)
+
+    def lacks(self, kinds):
+        """What servers lack of these kinds; CDS has to be out after a DS set."""
+        of = {*kinds, *(["cds"] if "ds" in kinds else [])}
+        return {kind for kind, _, _ in self.lacking} & of
+
+    def ready(self):
+        return [roll for roll in self.rolls if not self.lacks(self.kinds[roll])]
+
+    def line(self, roll):
+        """The line of the call that a roll can make now, once the clock has reached its moment."""
+        word, now = self.rolls[roll], math.ceil(self.clock())
+        if word == "done":
+            return f"done {roll}"
+        notes, ttl = Notes(self.args.SCRIPT), self.args.ttl
+        due = notes.due(self.lines, roll, now) if ttl is None else None
+        if due is not None:
+            held = {kind: max(ttls) for kind, ttls in Seen(notes.lines, now).ttls.items()}
+            ttl = to_report(due, self.kinds[roll], roll, held)
+        if ttl is None and self.args.call:
+            raise Failure("the notes don't say which TTL is due: give it by --ttl", UNAVAILABLE)
+        calling.reach(now, self.clock)
+        return f"{word} {roll} {'TTL' if ttl is None else ttl} {now}"
+
+    def status(self):
+        return max([DUE if self.lacking else OK, *(made.status for made in self.made.values())])
+
+    def text(self):
+        """For people: who lacks what, and what comes next in each roll."""
+        yield from (f"{server}: {what}" for _, server, what in sorted(self.lacking))
+        yield from (line for made in self.made.values() for line in made.text())
+        for roll in (roll for roll in self.rolls if roll not in self.made):
+            if lacking := self.lacks(self.kinds[roll]):
+                yield f"{roll}: {CDS_OUT if lacking == {'cds'} else 'not yet'}"
+            elif self.rolls[roll] is None:
+                yield f"{roll}: its early end is done, and a roll may start"
+            else:
+                yield f"next: {self.line(roll)}"
+        if not (self.rolls or self.made):
+            yield "nothing is to be watched"
 
     def as_json(self):
+        ready = [roll for roll in filter(self.rolls.get, self.ready()) if roll not in self.made]
         return {
-            "lacking": [
-                {"kind": kind, "server": server, "text": text}
-                for (kind, server), text in self.lacking.items()
-            ],
-            "next": self.next,
-            "made": [made.as_json() for made in self.made],
+            "lacking": [dict(zip(("kind", "server", "text"), it)) for it in self.lacking],
+            "next": [self.line(roll) for roll in ready],
+            "made": [vars(made) for made in self.made.values()],
         }

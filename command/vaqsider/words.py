@@ -1,25 +1,28 @@
 """Words for people: actions, refusals, moments."""
 
 import datetime
+import re
 
 # What each action asks, with the sets that are to be published.
 ACTIONS = {
     "UpdateDnskeyRrset": "publish the DNSKEY set {dnskey}, signed by {signers}",
     "UpdateRrsig": "publish the zone signed by {zone} and by no other key",
-    "CreateCdsRrset": "publish CDS and CDNSKEY for {ds}, until the parent has this DS set",
-    "RemoveCdsRrset": "publish the zone without CDS and CDNSKEY",
+    "CreateCdsRrset": "publish CDS and CDNSKEY for {ds}, until all servers of the parent have this "
+    "DS set; then take them out",
+    "RemoveCdsRrset": "CDS and CDNSKEY are out by now",
     "UpdateDsRrset": "have the parent's DS set changed to {ds}",
-    "ReportDnskeyPropagated": "watch until all servers of the zone give this DNSKEY set",
-    "ReportRrsigPropagated": "watch until all servers of the zone give these signatures",
-    "ReportDsPropagated": "watch until all servers of the parent give this DS set",
-    "WaitDnskeyPropagated": "watch until all servers of the zone give this DNSKEY set",
-    "WaitRrsigPropagated": "watch until all servers of the zone give these signatures",
-    "WaitDsPropagated": "watch until all servers of the parent give this DS set",
 }
-KINDS = {"Dnskey": "dnskey", "Rrsig": "zone", "Ds": "ds"}
+# The kind of sets that an action asks to watch, and what it asks.
+WATCHED = {
+    "Dnskey": ("dnskey", "watch until all servers of the zone give this DNSKEY set"),
+    "Rrsig": ("zone", "watch until all servers of the zone give these signatures"),
+    "Ds": ("ds", "watch until all servers of the parent give this DS set"),
+}
+_WATCH = re.compile(r"(?P<for>Report|Wait)(?P<what>\w+)Propagated")
 
-# What to do about a refusal, by its text.
+# What to do about a refusal, by how its text begins.
 REFUSALS = {
+    "wait for duration": "too early: make the call again then",
     "key already exists": "choose another reference, or delete that key first",
     "key not found": "look for a misspelling, or a deletion before",
     "key is still in use, not old": "roll the key out first",
@@ -33,43 +36,41 @@ REFUSALS = {
     "conflicting roll is in progress": "another roll has to end first",
     "algorithm set mismatch for non-algorithm key roll": "use algorithm-roll, or keys of the "
     "same algorithms",
-    "out of memory": "nothing was changed: make the same call again",
 }
 
 
-def listed(references):
-    return " ".join(references) or "no key"
+def listed(names):
+    return " ".join(names) or "no key"
 
 
-def action(name, published):
-    """What an action asks, in plain words."""
-    return ACTIONS[name].format(**{kind: listed(keys) for kind, keys in published.items()})
+def asks(actions, published):
+    """What actions ask, in plain words."""
+    sets = {kind: listed(keys) for kind, keys in published.items()}
+    for name in actions:
+        watch = _WATCH.fullmatch(name)
+        yield WATCHED[watch["what"]][1] if watch else ACTIONS[name].format(**sets)
 
 
-def kinds_of(actions):
+def kinds_of(actions, of=("Report", "Wait")):
     """The kinds of sets that these actions ask to watch: `dnskey`, `zone` or `ds`."""
-    watched = (name for name in actions if name.endswith("Propagated"))
-    return [KINDS[name.removesuffix("Propagated").removeprefix("Report").removeprefix("Wait")]
-            for name in watched]
+    found = filter(None, map(_WATCH.fullmatch, actions))
+    return [WATCHED[watch["what"]][0] for watch in found if watch["for"] in of]
 
 
 def refusal(reason):
     """What to do about a refusal."""
-    if reason.startswith("wait for duration"):
-        return "too early: ask again then"
-    return REFUSALS.get(reason, "")
+    return next((do for text, do in REFUSALS.items() if reason.startswith(text)), "")
+
+
+def utc(seconds, form):
+    return datetime.datetime.fromtimestamp(seconds, datetime.timezone.utc).strftime(form)
 
 
 def moment(seconds):
     """A moment as people read it, in UTC. Moments of examples, near the start of 1970, are
     numbers."""
-    if seconds is None:
-        return "-"
-    if not 10**8 < seconds < 10**11:
-        return str(seconds)
-    return datetime.datetime.fromtimestamp(seconds, datetime.timezone.utc).strftime(
-        "%Y-%m-%d %H:%M:%SZ"
-    )
+    is_date = seconds is not None and 10**8 < seconds < 10**11
+    return utc(seconds, "%Y-%m-%d %H:%M:%SZ") if is_date else str(seconds)
 
 
 def duration(seconds):
@@ -84,7 +85,7 @@ def duration(seconds):
 
 def table(rows):
     """Rows of texts in columns."""
-    rows = [[str(cell) for cell in row] for row in rows]
+    rows = [["-" if cell is None else str(cell) for cell in row] for row in rows]
     widths = [max(map(len, column)) for column in zip(*rows)]
     for row in rows:
         yield "  ".join(cell.ljust(width) for cell, width in zip(row, widths)).rstrip()

@@ -2,90 +2,62 @@
 
 from pathlib import Path
 
-import keyset
-
 from . import status, words
-from .errors import Missing, status_of, text_of
+from .errors import UNAVAILABLE, Failure, failure_of
 
-
-class Zone:
-    """One script of a folder, with its status, or why it has none."""
-
-    def __init__(self, path, now):
-        self.path, self.fault = Path(path), None
-        try:
-            lines = keyset.Lines(path).lines
-            self.lines, self.status = len(lines), keyset.status(lines)
-        except Exception as error:
-            if status_of(error) is None:
-                raise
-            self.fault = text_of(error)
-            return
-        self.name = self.status["zone"]
-        self.is_safe = self.status["chain"]["safe"]
-        self.waits_for = status.waits_for(self.status, now)
-        self.next = status.next_moment(self.status, now)
-
-    def as_json(self):
-        if self.fault:
-            return {"script": str(self.path), "fault": self.fault}
-        return {
-            "script": str(self.path),
-            "zone": self.name,
-            "safe": self.is_safe,
-            "waits_for": self.waits_for,
-            "next": self.next,
-            "lines": self.lines,
-        }
+METRICS = {
+    "chain_safe": "1 if the chain of trust held all the time, else 0",
+    "next_seconds": "seconds until the next wait is accepted",
+    "waits_for": "1 for whom the zone waits",
+    "lines": "lines of the script",
+}
 
 
 def zones(folder, now, progress=lambda done, of: None):
-    """All zones of a folder, by the names of their files."""
+    """The zones of a folder, by the names of their files: what is asked of each, or its fault."""
     paths = sorted(Path(folder).glob("*.script"))
     if not paths:
-        raise Missing(f"{folder}: no file ends in .script")
+        raise Failure(f"{folder}: no file ends in .script", UNAVAILABLE)
     for number, path in enumerate(paths):
         progress(number, len(paths))
-        yield Zone(path, now)
+        zone = dict.fromkeys(["script", "zone", "fault", "next", *METRICS])
+        zone.update(script=str(path), zone=path.stem)
+        try:
+            lines, told = status.read(path, now)
+        except Exception as error:
+            fault = str(failure_of(error)).removeprefix(f"{path}: ")
+            yield {**zone, "chain_safe": False, "fault": fault}
+            continue
+        waits = [roll for roll in told["rolls"] if roll["waits_for"] == status.CACHES]
+        zone.update(zone=told["zone"], chain_safe=told["chain"]["safe"], lines=len(lines))
+        zone["next"] = min((it["not_before"] for it in waits if it["not_before"]), default=None)
+        zone["next_seconds"] = zone["next"] and zone["next"] - int(now)
+        waiting = {roll["waits_for"] for roll in told["rolls"]}
+        waiting |= {status.YOU for _ in told["ended"]}
+        first = (who for who in status.WAITING if who in waiting)
+        yield {**zone, "waits_for": next(first, "nobody")}
 
 
 def table(found):
+    """For people: a row a zone."""
     rows = [("ZONE", "CHAIN", "WAITS FOR", "NEXT", "LINES")]
     for zone in found:
-        if zone.fault:
-            rows.append((zone.path.name, zone.fault, "-", "-", "-"))
-        else:
-            chain = "safe" if zone.is_safe else "broken"
-            rows.append((zone.name, chain, zone.waits_for, words.moment(zone.next), zone.lines))
+        chain = "safe" if zone["chain_safe"] else zone["fault"] or "broken"
+        moment = None if zone["next"] is None else words.moment(zone["next"])
+        rows.append((zone["zone"], chain, zone["waits_for"], moment, zone["lines"]))
     return words.table(rows)
 
 
-METRICS = (
-    ("vaqsider_chain_safe", "1 if the chain of trust held all the time, else 0"),
-    ("vaqsider_next_seconds", "seconds until the next wait is accepted"),
-    ("vaqsider_waits_for", "1 for whom the zone waits"),
-    ("vaqsider_lines", "lines of the script"),
-)
-
-
-def prometheus(found, now):
+def prometheus(found):
     """The text format that Prometheus reads."""
-    samples = {name: [] for name, _ in METRICS}
-    for zone in found:
-        if zone.fault:
-            samples["vaqsider_chain_safe"].append(f'{{zone="{_label(zone.path.stem)}"}} 0')
-            continue
-        label = f'zone="{_label(zone.name)}"'
-        samples["vaqsider_chain_safe"].append(f"{{{label}}} {int(zone.is_safe)}")
-        if zone.next is not None:
-            samples["vaqsider_next_seconds"].append(f"{{{label}}} {zone.next - int(now)}")
-        samples["vaqsider_waits_for"].append(f'{{{label},who="{zone.waits_for}"}} 1')
-        samples["vaqsider_lines"].append(f"{{{label}}} {zone.lines}")
-    for name, says in METRICS:
-        yield f"# HELP {name} {says}"
-        yield f"# TYPE {name} gauge"
-        yield from (f"{name}{sample}" for sample in samples[name])
+    for name, says in METRICS.items():
+        yield from (f"# HELP vaqsider_{name} {says}", f"# TYPE vaqsider_{name} gauge")
+        for zone in (zone for zone in found if zone[name] is not None):
+            who = [("who", zone[name])] if name == "waits_for" else []
+            labels = [("zone", zone["zone"]), ("script", zone["script"]), *who]
+            quoted = ",".join(f'{label}="{_quoted(text)}"' for label, text in labels)
+            yield f"vaqsider_{name}{{{quoted}}} {1 if who else int(zone[name])}"
 
 
-def _label(text):
+def _quoted(text):
     return text.replace("\\", "\\\\").replace('"', '\\"')

@@ -1,0 +1,383 @@
+"""What the command prints, against what it doesn't take from itself: the answers of
+`replay/tables.py`, stored answers, and moments and TTLs that are worked out here by the guides."""
+
+import base64
+import calendar
+import json
+import re
+import shlex
+import struct
+import time
+import xml.dom.minidom
+from pathlib import Path
+
+from typed import TOP, folder, typed
+
+# The calls of a roll, by the kinds of sets that its start and its two waits ask to watch.
+ROLLS = {
+    "ksk-roll": ("K1", "K2", "dnskey", "ds", "dnskey"),
+    "ksk-double-ds-roll": ("K1", "K2", "ds", "dnskey", "ds"),
+    "zsk-roll": ("Z1", "Z2", "dnskey", "zone", "dnskey"),
+    "zsk-double-signature-roll": ("Z1", "Z2", "dnskey zone", "dnskey zone", ""),
+    "csk-roll": ("K1,Z1", "C1", "dnskey", "ds zone", "dnskey"),
+    "algorithm-roll": ("K1,Z1", "C1", "dnskey zone", "ds", "dnskey zone"),
+}
+KEYS = {"K2": "add-ksk K2 - 13", "Z2": "add-zsk Z2 - 13", "C1": "add-csk C1 - 13"}
+TTLS = {"ds": 300, "dnskey": 60, "zone": 120}
+DELAYS = {"ds": 50, "dnskey": 5, "zone": 7}
+BEGIN = 1795664900
+LABELS = {"ds": "DS", "dnskey": "DNSKEY", "signers": "signs DNSKEY", "zone": "signs zone"}
+
+
+def answers(lines):
+    """The answers of the tables: to each call, the sets, and the verdict."""
+    from tables import answers as told
+
+    *replies, sets, verdict = told(lines)
+    pairs = (part.split("=") for part in sets.split(" "))
+    return replies, {name: set(keys.split(",")) - {"-"} for name, keys in pairs}, verdict
+
+
+def examples():
+    """Each example and each case with its lines."""
+    for path in sorted(TOP.glob("examples/**/*.script")):
+        if path.parent.name != "differences":
+            yield path, path.read_text().splitlines()
+
+
+def screens():
+    """The sets and the verdict on a screen are those of the tables, after each line; and a wait is
+    due when its report's TTL is over."""
+    for path in (TOP / "examples" / f"{name}.script" for name in ("csk-roll", "ksk-beside-zsk")):
+        lines = path.read_text().splitlines()
+        for count in range(1, len(lines) + 1):
+            Path("some.script").write_text("".join(f"{line}\n" for line in lines[:count]))
+            _, sets, verdict = answers(lines[:count])
+            text, _ = typed(["status", "some.script"])
+            wanted = [f"example.com: {verdict}"]
+            wanted += [
+                f"  {label:8} {' '.join(sorted(sets[kind])) or 'no key'}"
+                for label, kind in zip(("DS", "DNSKEY", "signers", "zone"), sets)
+            ]
+            if text.splitlines()[:5] != wanted:
+                yield f"{path.name}: after line {count} the screen isn't that of the tables"
+            word, *fields = lines[count - 1].split(" ")
+            if word.startswith("report"):
+                moment = int(fields[1]) + int(fields[2])
+                line = f"    then: wait{word[-1]} {fields[0]} now, from {moment} on\n"
+                if line not in text:
+                    yield f"{path.name}: after line {count} the screen doesn't say:{line}"
+
+
+def refusals():
+    """`check` finds the refused lines of each example and its broken chain, and nothing else in
+    those in which all is true."""
+    for path, lines in examples():
+        stored = path.with_suffix(".answers").read_text().splitlines()
+        wanted = {n for n, reply in enumerate(stored[:-2], start=2) if reply.startswith("refused")}
+        broken = {int(at) + 1 for at in re.findall(r"chain broken at=(\d+)", stored[-1])}
+        found = json.loads(typed(["check", path, "--json"], 10**6)[0])
+        refused = {one["line"] for one in found if one["text"].startswith("was refused")}
+        levels = {one["line"] for one in found if one["level"] == 3}
+        if (refused, levels) != (wanted, broken):
+            yield f"{path.name}: check says {found}"
+        others = [one for one in found if one["level"] == 2 and one["line"] not in wanted]
+        if others and path.name not in FALSE:
+            yield f"{path.name}: check says {others}"
+
+
+# Examples in which a moment falls, or keys are set by hand.
+FALSE = {"false-moment.script"}
+
+
+def course(roll):
+    """The moments and TTLs of a roll with these TTLs and delays, by docs/RUNBOOKS.md."""
+    *_, first, second, last = (kinds.split() for kinds in ROLLS[roll])
+
+    def spread(kinds):
+        # After a DS set CDS leaves the zone too.
+        return max((DELAYS[it] for it in kinds), default=0) + DELAYS["zone"] * ("ds" in kinds)
+
+    def ttl(kinds):
+        if roll == "algorithm-roll" and "ds" in kinds:
+            return TTLS["ds"] + TTLS["dnskey"]
+        # CDS has the zone's TTL.
+        return max(TTLS[it] for it in [*kinds, *(["zone"] if "ds" in kinds else [])])
+
+    report1 = BEGIN + spread(first)
+    wait1 = report1 + ttl(first)
+    report2 = wait1 + spread(second)
+    # The second wait of this roll counts from its first report.
+    counts_from = report1 if roll == "zsk-double-signature-roll" else report2
+    wait2 = max(report2, counts_from + ttl(second))
+    return report1, ttl(first), wait1, report2, ttl(second), wait2, wait2 + spread(last)
+
+
+def plans():
+    """The plan of each roll has the moments, TTLs, sets and verdicts that the guides and the tables
+    say; and its lines are accepted one by one by `call`."""
+    first = (TOP / "examples" / "ksk-roll.script").read_text().splitlines()[:9]
+    for roll, (old, new, *_) in ROLLS.items():
+        report1, ttl1, wait1, report2, ttl2, wait2, end = course(roll)
+        add = f"{KEYS[new]} 9 {BEGIN} yes"
+        wanted = [
+            (BEGIN, add),
+            (BEGIN, f"start {roll} {old} {new} {BEGIN}"),
+            (report1, f"report1 {roll} {ttl1} {report1}"),
+            (wait1, f"wait1 {roll} {wait1}"),
+            (report2, f"report2 {roll} {ttl2} {report2}"),
+            (wait2, f"wait2 {roll} {wait2}"),
+            (end, f"done {roll}"),
+            *((end, f"delete {key}") for key in old.split(",")),
+        ]
+        Path("plan.script").write_text("".join(f"{line}\n" for line in first))
+        words = ["plan", "plan.script", roll, old, new, "--first", add, "--start", BEGIN]
+        words += ["--ttls", *TTLS.values(), "--delays", *(DELAYS[kind] for kind in TTLS)]
+        steps = json.loads(typed([*words, "--json"])[0])
+        if [(step["moment"], step["line"]) for step in steps] != wanted:
+            yield f"{roll}: the plan has other calls"
+        lines = list(first)
+        for step in steps:
+            lines.append(step["line"])
+            replies, sets, verdict = answers(lines)
+            shown = {kind: set(keys) for kind, keys in step["published"].items()}
+            reply = " ".join(["ok", *step["actions"]])
+            if (replies[-1], sets, verdict) != (reply, shown, "chain safe"):
+                yield f"{roll}: {step['line']}: the tables say {replies[-1]}, {sets}, {verdict}"
+            text, status = typed(["call", "plan.script", step["line"]], step["moment"])
+            if status or not text.startswith(f"{step['line']}: ok"):
+                yield f"{roll}: {text}"
+        if Path("plan.script").read_text().splitlines() != lines:
+            yield f"{roll}: other lines were kept"
+        Path("plan.script").write_text("".join(f"{line}\n" for line in first))
+        if typed([*words, "--script"])[0].splitlines() != lines[9:]:
+            yield f"{roll}: --script prints other lines"
+        yield from events(typed([*words, "--calendar"])[0], wanted)
+
+
+def events(text, wanted):
+    """A calendar has an event for each call, at its moment, in lines as RFC 5545 has them."""
+    lines = text.split("\r\n")
+    if lines[-1] or any(len(line.encode()) > 75 or "\n" in line for line in lines):
+        yield "a line of the calendar is too long, or ends otherwise"
+    unfolded = text.replace("\r\n ", "").split("\r\n")
+    starts = [line.partition(":")[2] for line in unfolded if line.startswith("DTSTART:")]
+    says = [line.partition(":")[2] for line in unfolded if line.startswith("DESCRIPTION:")]
+    found = [
+        (calendar.timegm(time.strptime(start, "%Y%m%dT%H%M%SZ")), text.partition("\\n")[0])
+        for start, text in zip(starts, says)
+    ]
+    if found != [(moment, line.replace(",", "\\,")) for moment, line in wanted]:
+        yield f"the calendar has other events: {found}"
+
+
+def bars_of(lines):
+    """Each bar of the picture of a script, as label, begin, end and `gone`: by the sets of the
+    tables. A set of call N is gone once a report is over that counts from call N + 1 or later."""
+    replies, _, _ = answers(lines)
+    moment, shown, made, reports, steps = 0, {}, [], [], {}
+    accepted = [n for n, reply in enumerate(replies, start=1) if reply.startswith("ok")]
+    for number in accepted:
+        word, *fields = lines[number].split(" ")
+        if word in ("start", "report1", "wait1", "report2", "wait2", "set-present"):
+            moment = int(fields[-1])
+        if word in ("start", "wait1"):
+            asked = re.findall(r"Report(\w+)Propagated", replies[number - 1])
+            steps[fields[0]] = number, [{"Rrsig": "zone"}.get(it, it.lower()) for it in asked]
+        if word.startswith("report"):
+            reports.append((*steps[fields[0]], moment + int(fields[1])))
+        sets = answers(lines[: number + 1])[1]
+        now = {(kind, key) for kind, keys in sets.items() for key in keys}
+        for bar in now - shown.keys():
+            shown[bar] = moment
+        for kind, key in shown.keys() - now:
+            made.append((kind, key, shown.pop((kind, key)), moment, number))
+    for kind, key, begin, end, number in made:
+        of = "dnskey" if kind == "signers" else kind
+        over = [until for step, kinds, until in reports if of in kinds and step >= number]
+        yield f"{LABELS[kind]} {key}", begin, end, min(over, default=None)
+    for (kind, key), begin in shown.items():
+        yield f"{LABELS[kind]} {key}", begin, None, None
+
+
+def pictures():
+    """Each bar of a picture begins and ends where the record says, on the page too; and README
+    shows what is drawn."""
+    for path, lines in examples():
+        text = typed(["draw", path])[0]
+        if path.name == "zsk-roll.script" and text != (TOP / "command/zsk-roll.svg").read_text():
+            yield "command/zsk-roll.svg isn't what is drawn"
+        page = xml.dom.minidom.parseString(text)
+        wanted = set()
+        for label, begin, end, gone in bars_of(lines):
+            wanted.add((label, "in", str(begin), "" if end is None else str(end)))
+            if end is not None and (gone is None or gone > end):
+                wanted.add((label, "cached", str(end), "" if gone is None else str(gone)))
+        rows = {
+            it.getAttribute("y"): it.firstChild.data
+            for it in page.getElementsByTagName("text")
+            if it.getAttribute("x") == "8"
+        }
+        found = set()
+        for box in page.getElementsByTagName("rect"):
+            if box.hasAttribute("data-begin") and box.getAttribute("class") != "phase":
+                row = rows[str(int(box.getAttribute("y")) + 11)]
+                data = (box.getAttribute(name) for name in ("class", "data-begin", "data-end"))
+                found.add((row, *data))
+        if found != wanted:
+            yield f"{path.name}: the picture has {found ^ wanted} wrong"
+        yield from places(page, path.name)
+
+
+def places(page, name):
+    """Each box stands where the axis says."""
+    (axis,) = (it for it in page.getElementsByTagName("line") if not it.getAttribute("class")
+               and it.parentNode.tagName == "svg")
+    left, right = (float(axis.getAttribute(side)) for side in ("x1", "x2"))
+    ends = [it for it in page.getElementsByTagName("text") if it.getAttribute("text-anchor")
+            in ("start", "end")]
+    begin, end = (int(it.firstChild.data) for it in ends)
+    for box in page.getElementsByTagName("rect"):
+        if box.hasAttribute("data-begin"):
+            first, last = (box.getAttribute(side) for side in ("data-begin", "data-end"))
+            x, width = (float(box.getAttribute(side)) for side in ("x", "width"))
+            at = [left + (right - left) * (int(it or end) - begin) / (end - begin)
+                  for it in (first, last)]
+            if abs(x - at[0]) > 0.2 or abs(x + width - max(at[1], x + 1)) > 0.2:
+                yield f"{name}: the box from {first} to {last} stands at {x}, {width} wide"
+
+
+def tag_of(flags, key):
+    """RFC 4034, appendix B, of a key of algorithm 13."""
+    words = struct.unpack("!34H", struct.pack("!HBB", flags, 3, 13) + key)
+    total = sum(words)
+    return (total + (total >> 16)) & 0xFFFF
+
+
+def key_file(flags, seed):
+    """A new key file of BIND's form, with its reference and its tag."""
+    key = bytes((seed * 31 + place) % 256 for place in range(64))
+    tag = tag_of(flags, key)
+    name = f"Kexample.com.+013+{tag:05}.key"
+    text = f"example.com. IN DNSKEY {flags} 3 13 {base64.b64encode(key).decode()}\n"
+    Path(name).write_text(text)
+    return name, tag
+
+
+class Operator:
+    """Types what docs/RUNBOOKS.md says, in a world in which servers have at once what `act`
+    publishes. The parent is told by hand."""
+
+    def __init__(self):
+        self.now, self.names, self.script = 1000, {}, Path("S.script")
+        lines = ["zone example.com"]
+        for seed, key in enumerate(("K1", "K2", "Z1", "Z2", "C1")):
+            word = {"K": "add-ksk", "Z": "add-zsk", "C": "add-csk"}[key[0]]
+            self.names[key], tag = key_file(256 if word == "add-zsk" else 257, seed)
+            lines.append(f"{word} {self.names[key]} - 13 {tag} 0 yes")
+        self.script.write_text("".join(f"{line}\n" for line in lines))
+        Path("S.notes").write_text("before 30 60 60\n")
+        Path("up.DS").write_text("")
+
+    def type(self, text):
+        """Types a command. Gives what was wrong with it."""
+        word, *line = shlex.split(re.sub(r"\b[KZC]\d\b", lambda it: self.names[it[0]], text))
+        how = {"act": ["--zone-file", "zone", "--out", "signed"],
+               "watch": ["--server", "signed", "--parent-server", "up"], "call": []}[word]
+        if word == "call" and line[0].startswith("wait"):
+            told, _ = typed(["status", self.script, "--json"], self.now)
+            roll = line[0].split(" ")[1]
+            rolls = {it["roll"]: it["not_before"] for it in json.loads(told)[0]["rolls"]}
+            self.now = max(self.now, rolls[roll])
+        text, status = typed([word, self.script, *how, *line, "--json"], self.now)
+        self.now += 3
+        told = json.loads(text)
+        if word == "act" and told["ds"]:
+            records = (f"example.com. 30 IN {it.split(' IN ')[1]}" for it in told["ds"])
+            Path("up.DS").write_text("".join(f"{record}\n" for record in records))
+        # Before CDS is out something is due.
+        is_first = word == "watch" and not line and "CDS" in Path("signed").read_text()
+        return [] if status == int(is_first) else [f"{word} {line}: {text}"]
+
+
+def runbooks():
+    """The commands of each roll, as the section on them says: each call, then what publishes; if
+    CDS comes in, what takes it out again; then what watches and makes the next call."""
+    text = (TOP / "docs" / "RUNBOOKS.md").read_text()
+    sections = dict(it.partition("\n")[::2] for it in text.split("\n## "))
+    rows = re.findall(r"^\| (.*?) \| (.*) \|$", sections["By the command"], re.MULTILINE)
+    steps = {
+        name: [re.sub(r" S| --reload COMMAND| --for \d+", "", it)
+               for it in re.findall(r"`vaqsider (\w+ S[^`]*)`", commands)]
+        for name, commands in rows
+    }
+    publish, out, watch = (
+        next(of for name, of in steps.items() if name.startswith(begins))
+        for begins in ("publish", "CDS out", "watch")
+    )
+    for name, section in sections.items():
+        roll, commands = name.replace("The first keys", "algorithm-roll"), []
+        for call, row in re.findall(r"^\| `((?:start|wait[12])[^`]*)`(.*)$", section, re.MULTILINE):
+            line = f"{call} now" if call.startswith("start") else f"{call} {roll} now"
+            commands += [f"call '{line}'", *publish, *(out if " CDS for " in row else []), *watch]
+            commands += [f"call '{it}'" for it in re.findall(r"`(delete \w+)`", row)]
+        if roll in ROLLS and commands:
+            yield name, commands
+
+
+def by_the_command():
+    """The runbooks by the command, word by word, bring each roll to its end."""
+    (_, first), *others = runbooks()
+    if [roll for roll, _ in others] != list(ROLLS):
+        yield f"the runbooks have {[roll for roll, _ in others]}"
+    for roll, commands in others:
+        operator = Operator()
+        for command in (*first, *commands):
+            yield from operator.type(command)
+        told, _ = typed(["status", operator.script, "--json"], operator.now)
+        (zone,) = json.loads(told)
+        _, sets, verdict = answers(operator.script.read_text().splitlines())
+        if zone["rolls"] or verdict != "chain safe" or "CDS" in Path("signed").read_text():
+            yield f"{roll} ends with {told}"
+        found, _ = typed(["check", operator.script], operator.now)
+        if found != "all is well\n":
+            yield f"{roll}: check says {found}"
+        old = {operator.names[key] for key in re.findall(r"delete (\w+)", " ".join(commands))}
+        if not old or set().union(*sets.values()) & old:
+            yield f"{roll} leaves {sets}"
+
+
+def helps():
+    """`--help` of each word says all that help.txt has of it; and a wrong word is refused."""
+    text = (TOP / "command" / "vaqsider" / "help.txt").read_text()
+    for block in text.split("\n\n\n"):
+        word, _, says = block.partition(": ")
+        shown, status = typed([word, "--help"])
+        # Lines are folded anew, also after a hyphen.
+        plain, parts = "".join(shown.split()), re.split(r"  +|\n\n|\n(?! )", says)
+        missing = [it for it in ("".join(part.split()) for part in parts[1:])
+                   if it.strip("[].").split("..")[0] not in plain]
+        if status or missing:
+            yield f"{word} --help doesn't say {missing}"
+        if word not in typed(["--help"])[0]:
+            yield f"--help doesn't say {word}"
+    for words in ([], ["wait"], ["check"], ["plan", "S", "zsk-rol", "-", "-"]):
+        if typed(words)[1] != 64:
+            yield f"{words} is taken"
+
+
+def metrics():
+    """What Prometheus reads has each series once."""
+    text, _ = typed(["zones", ".", "--prometheus"])
+    lines = text.splitlines()
+    series = [line.rpartition(" ")[0] for line in lines if not line.startswith("#")]
+    form = r'vaqsider_\w+\{zone="[^"]*",script="[^"]*"(,who="\w+")?\} -?\d+|# (HELP|TYPE) .*'
+    if len(set(series)) != len(series) or not all(re.fullmatch(form, line) for line in lines):
+        yield f"the metrics are:\n{text}"
+
+
+def faults():
+    """What the command says otherwise than it should."""
+    with folder():
+        checks = screens, refusals, plans, pictures, by_the_command, metrics, helps
+        return [fault for check in checks for fault in check()]

@@ -1,0 +1,43 @@
+"""Types the command of an operator in this process, without a server."""
+
+import contextlib
+import io
+import os
+import shutil
+import sys
+import tempfile
+from pathlib import Path
+
+TOP = Path(__file__).resolve().parent.parent
+STORED = TOP / "tests" / "command"
+sys.dont_write_bytecode = True
+sys.path.insert(0, str(TOP / "command"))
+
+
+def typed(words, now=1000):
+    """What the command prints at this moment, and its exit status."""
+    from vaqsider.cli import main as vaqsider
+
+    os.environ["VAQSIDER_NOW"] = str(now)
+    out = io.StringIO()
+    with contextlib.redirect_stdout(out), contextlib.redirect_stderr(out):
+        try:
+            status = vaqsider(list(map(str, words)))
+        except SystemExit as end:
+            status = end.code
+    return out.getvalue(), status or 0
+
+
+@contextlib.contextmanager
+def folder():
+    """A new folder with the examples in it, as the current one: in memory if that can be, as on a
+    busy disk each sync takes its time."""
+    before, memory = os.getcwd(), Path("/dev/shm")
+    with tempfile.TemporaryDirectory(dir=memory if memory.is_dir() else None) as made:
+        for source in [*TOP.glob("examples/*.script"), *STORED.glob("files/*")]:
+            shutil.copy(source, made)
+        os.chdir(made)
+        try:
+            yield Path(made)
+        finally:
+            os.chdir(before)
