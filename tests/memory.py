@@ -1,6 +1,7 @@
 #!/usr/bin/env python3
 """Lets each request for memory fail in turn: of calls of a key set, of its copies, of names, of a
-script's record and of a judge. (Those of a script's answers fail in `tests/library.c`.)
+script's record and of a judge; and sees that the audit by the definition makes none. (Those of a
+script's answers fail in `tests/library.c`.)
 
 It runs the program `memory_of_calls`, which `rt ci` has made by then, once for each request of each
 of its works, with `tests/memory.c` in place of the C library's allocator.
@@ -20,13 +21,18 @@ from tools import CRATES, STRICT, TOP, Wrong, run
 PROGRAM = CRATES / "memory_of_calls" / "out" / "memory_of_calls"
 
 # What the letters of its input stand for.
+RECORD, DEFINITION, WINDOW = "v", "d", "w"
 WORKS = {
     "n": "names",
     "r": "rolls",
     "k": "copies of keys",
     "s": "copies of key sets",
-    "v": "a record and its verdict",
+    RECORD: "a record",
+    DEFINITION: "its audit by the definition",
+    WINDOW: "its audit by a judge",
 }
+# These begin with a record, of which no request fails then.
+AUDITS = {DEFINITION, WINDOW}
 
 MADE = re.compile(r"requests: (?P<made>\d+)\n")
 
@@ -58,21 +64,33 @@ def outcome_of(allocator, letter, failing):
 
 
 def in_turn(allocator):
-    """Lets each request of each work fail."""
+    """Lets each request of each work fail. Gives of each how many requests failed, and how many of
+    these were told as refusals."""
+    recorded = with_ample(allocator, RECORD)
     for letter, work in WORKS.items():
-        with_ample = outcome_of(allocator, letter, 0)
-        if with_ample.status or with_ample.written != "ample\n":
-            raise Wrong(f"{work}: it doesn't go well with ample memory: {with_ample}")
+        first = recorded if letter in AUDITS else 0
+        made = range(first + 1, with_ample(allocator, letter) + 1)
         refused = 0
-        for failing in range(1, with_ample.made + 1):
+        for failing in made:
             outcome = outcome_of(allocator, letter, failing)
             if outcome.made < failing:
                 raise Wrong(f"{work}: request {failing} was not made: {outcome}")
             refused += is_refused(f"{work}: request {failing}", outcome)
-        if refused == 0:
+        yield work, len(made), refused
+        if letter == DEFINITION and made:
+            raise Wrong(f"{work} asks for memory")
+        if letter == WINDOW and refused < len(made):
+            raise Wrong(f"{work} has a verdict though a request was refused")
+        if letter != DEFINITION and refused == 0:
             raise Wrong(f"{work}: no call was refused for lack of memory")
-        made = with_ample.made
-        yield f"{work}: {made} requests for memory failed in turn, {refused} of a call"
+
+
+def with_ample(allocator, letter):
+    """How many requests a work makes of which none fails."""
+    outcome = outcome_of(allocator, letter, 0)
+    if outcome.status or outcome.written != "ample\n":
+        raise Wrong(f"{WORKS[letter]}: it doesn't go well with ample memory: {outcome}")
+    return outcome.made
 
 
 def is_refused(where, outcome):
@@ -84,15 +102,16 @@ def is_refused(where, outcome):
 
 
 def main():
-    began = time.monotonic()
+    began, total = time.monotonic(), 0
     try:
         with tempfile.TemporaryDirectory() as folder:
-            for line in in_turn(build(folder)):
-                print(line)
+            for work, made, refused in in_turn(build(folder)):
+                print(f"{work}: {made} requests for memory failed in turn, {refused} of a call")
+                total += made
     except Wrong as wrong:
         print(wrong)
         return 1
-    print(f"memory: {time.monotonic() - began:.0f} s")
+    print(f"memory: {total} requests of calls failed in turn, {time.monotonic() - began:.0f} s")
     return 0
 
 

@@ -41,7 +41,12 @@ fn make_calls(alloc: Global, letter: u8, memory: &mut Memory) -> Result<(), Wron
         b'r' => rolls::follow(alloc, memory),
         b'k' => copies::copy_key(alloc, memory),
         b's' => copies::copy_sets(alloc, memory),
-        b'v' => verdicts::judge(alloc, memory),
+        b'v' => match verdicts::record(alloc, memory) {
+            Ok(_) => Ok(()),
+            Err(wrong) => Err(wrong),
+        },
+        b'd' => verdicts::judge_by_definition(alloc, memory),
+        b'w' => verdicts::judge_by_window(alloc, memory),
         _ => Err(Wrong::Letter),
     }
 }
