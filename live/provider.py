@@ -165,8 +165,10 @@ class Provider:
 
         def has_version(answer):
             given = [int(text.split()[2]) for text in data_of(answer, "SOA")]
-            return given and given[0] >= serial and (
-                {key.tag for key in soa_signers(self.versions[given[0]])} == tags_of(answer, "SOA")
+            # (A server that another provider had may still give a version of that one.)
+            version = self.versions.get(given[0]) if given else None
+            return version and version.serial >= serial and (
+                {key.tag for key in soa_signers(version)} == tags_of(answer, "SOA")
             )
 
         def has_keys(answer):

@@ -25,8 +25,8 @@ DEBIANS = "/usr/bin/python3"
 # The most seconds that the short form and the whole may take.
 SHORT, WHOLE = 600, 3600
 FAULTS_SHOWN = 8
-# The most seconds for which clients go on after a scene.
-AFTER = 8
+# The most seconds that a scene may take, and for which clients go on after it.
+SCENE, AFTER = 900, 8
 
 
 def given():
@@ -52,7 +52,7 @@ async def play(zone, scene):
     zone.reading = asyncio.ensure_future(zone.read_cds())
     try:
         await asyncio.sleep(1)
-        await scene.play(zone)
+        await asyncio.wait_for(scene.play(zone), SCENE)
         await asyncio.sleep(2 + min(zone.longest(), AFTER))
     except Exception as error:
         wrong = f"{type(error).__name__}: {error}"

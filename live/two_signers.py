@@ -199,11 +199,10 @@ async def rolls_while_joining(zone):
     """A rolls its KSK and its ZSK while B joins."""
     a = await alone(zone, "K1", "Z1")
     await a.make("K2")
-    going = asyncio.ensure_future(Roll(a, KSK).whole(["K1"], ["K2"]))
-    await join(
-        a, ["Z1"], ["K1", "Z1"], lambda b: roll_of_one(a, b, ZSK, ["Z1"], ["Z2"])
+    await asyncio.gather(
+        Roll(a, KSK).whole(["K1"], ["K2"]),
+        join(a, ["Z1"], ["K1", "Z1"], lambda b: roll_of_one(a, b, ZSK, ["Z1"], ["Z2"])),
     )
-    await going
 
 
 async def leaves_in_mid_roll(zone):
@@ -216,12 +215,14 @@ async def leaves_in_mid_roll(zone):
     await roll.wait(1)
     await b.make("K2", "Z2")
     await a.take_in(*shared(b, ["Z2"]))
-    going = asyncio.gather(
-        Roll(b, KSK).whole(["K1"], ["K2"]), Roll(b, ZSK).whole(["Z1"], ["Z2"])
+
+    async def leaves():
+        await asyncio.sleep(zone.dice.uniform(0, 6))
+        await leave(a, b)
+
+    await asyncio.gather(
+        leaves(), Roll(b, KSK).whole(["K1"], ["K2"]), Roll(b, ZSK).whole(["Z1"], ["Z2"])
     )
-    await asyncio.sleep(zone.dice.uniform(0, 6))
-    await leave(a, b)
-    await going
 
 
 async def csk_joins_and_leaves(zone):
@@ -267,8 +268,8 @@ async def leave(a, b):
     await b.publish()
     await b.watch()
     await asyncio.sleep(a.longest_held())
-    zone.providers.remove(a)
     async with zone.turn:
+        zone.providers.remove(a)
         zone.cds = zone.ds_keys()
         await b.publish()
         await b.watch()
