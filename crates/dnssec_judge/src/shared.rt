@@ -9,15 +9,16 @@ ghost use Rattle.dnssec_judge.specs.Inner.Chained.{trusts_keys, trusts_zone};
 use dnssec_keyset::Error;
 use dnssec_run::PublishedKey;
 use std::alloc::Global;
-use std::rc::Rc;
+use std::sync::Arc;
 
 /// Lists of at most this many keys are read from front to end.
 const SHORT: usize = 8;
 
-/// A key of a record, which the sets that have it share.
+/// A key of a record, which the sets that have it share. Those of a judge and of its copy share it
+/// too, and these may be in two threads.
 #[derive(Debug, Drop, PartialEq)]
 pub(crate) struct SharedKey {
-    key: Rc<PublishedKey>,
+    key: Arc<PublishedKey>,
 }
 
 impl SharedKey {
@@ -30,7 +31,7 @@ impl SharedKey {
             return Err(Error::OutOfMemory);
         };
         let added = key.added;
-        match Rc::new(alloc, PublishedKey { added, reference }) {
+        match Arc::new(alloc, PublishedKey { added, reference }) {
             Ok(key) => Ok(SharedKey { key }),
             Err(_) => Err(Error::OutOfMemory),
         }
