@@ -109,6 +109,18 @@ advances name calls entries old new call outcome news so made kept handed judged
       is_reply = refl;
     }
 
+-- a session that stands after whatever another one does has got the same reply
+pub fits : (name : List ℕ) (calls : List Call) (entries : List Entry) (call : Call)
+    (next other : Session) (reply : Reply)
+    → ((name : List ℕ) (calls : List Call) (entries : List Entry)
+    → StandsAfter name calls entries next → StandsAfter name calls entries other)
+    → Advances name calls entries call next reply → Advances name calls entries call other reply
+fits name calls entries call next other reply same so = record {
+  entry = so.entry;
+  stands = same _ _ _ so.stands;
+  is_reply = so.is_reply;
+}
+
 -- ---- copies
 
 -- the text of a set tells no more than its keys

@@ -20,6 +20,10 @@ use dnssec_keyset::{KeySet, RollType};
 use dnssec_run::{Call, Published, Recorder, Reply};
 use std::alloc::{AllocError, Global};
 
+/// Up to this many keys a session is fitted to them, so that no call costs more for that than
+/// another.
+const FEW: usize = 4;
+
 /// What came of a line that was handed to a session.
 #[derive(Drop)]
 pub enum Told {
@@ -194,7 +198,32 @@ impl Session {
             judge,
             courses,
         };
-        Ok((session, outcome.reply))
+        Ok((session.fitted(alloc), outcome.reply))
+    }
+
+    /// The same session, which lets go of room to spare: a map takes its first room for nine keys,
+    /// and most zones at rest have two or three.
+    fn fitted(self, alloc: Global) -> Self
+        ensures { (name : List ℕ) (calls : List Call) (entries : List Entry) →
+            StandsAfter name calls entries self → StandsAfter name calls entries result }
+    {
+        if !self.has_room_to_spare() {
+            return self;
+        }
+        match self.recorder.try_clone(alloc) {
+            Ok(recorder) => Session {
+                recorder,
+                judge: self.judge,
+                courses: self.courses,
+            },
+            Err(_) => self,
+        }
+    }
+
+    /// Whether it has few keys, and room for twice as many or more.
+    fn has_room_to_spare(&self) -> bool {
+        let keys = self.recorder.keyset().keys();
+        keys.len() <= FEW && keys.len() < keys.capacity() / 2
     }
 
     /// The last two lines of the answers to the lines so far: the sets that are published after the
