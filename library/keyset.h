@@ -123,9 +123,10 @@ struct keyset_answered keyset_closing(struct keyset_session *session, uint8_t *o
 struct keyset_answered keyset_status(struct keyset_session *session, uint8_t *out,
                                      size_t out_length);
 
-/* Opens another session after the same calls, to see what a call would do (copied). The first one
-   stays as it is (same); unless it is answered, the other does too (unchanged): out of memory,
-   closed for the first, is open for the other (is_open). */
+/* Opens another session after the same calls, with the same last answer, to see what a call would do
+   (copied). The first one stays as it is (same); unless it is answered, the other does too
+   (unchanged): out of memory, closed for the first, is open for the other (is_open). Each may go to
+   a thread of its own. */
 uint32_t keyset_copy(struct keyset_session *session, struct keyset_session *copy);
 
 /* Closes a session, and frees what it keeps. A closed one stays closed. */

@@ -5,6 +5,8 @@ use Rattle.dnssec_run.specs.declared.record.Entry.{Entry}
 use Rattle.dnssec_record.specs.Session.{Closes, GoesOn, Stands, StandsAfter}
 use Rattle.dnssec_status.specs.Status.{IsStatus}
 use Rattle.keyset_c.specs.declared.kept.Kept.{Kept}
+use Rattle.keyset_c.specs.declared.sessions.Question.{Question}
+use Rattle.keyset_c.specs.declared.sessions.Question.TheVariants.{Last, Closing, Status}
 
 -- it was opened with this line, and has made no call yet
 pub record Opens (new : Option Kept) (line : List ℕ) : Type 0 where
@@ -47,7 +49,13 @@ pub record ShowsStatus (old : Option Kept) (text : List ℕ) : Type 0 where
   pub shows : (name : List ℕ) (calls : List Call) (entries : List Entry) →
       StandsAfter name calls entries kept.session → IsStatus name calls entries text
 
--- the other one stands after the same calls
+-- what a question is answered
+abbrev pub Tells : Question → Option Kept → List ℕ → Type 0
+Tells Last = Repeats
+Tells Closing = ClosesWith
+Tells Status = ShowsStatus
+
+-- the other one stands after the same calls, and tells the same answer to the last
 pub record Copies (old copy : Option Kept) : Type 0 where
   pub kept : Kept
   pub is : old ≡ Some kept
@@ -55,3 +63,4 @@ pub record Copies (old copy : Option Kept) : Type 0 where
   pub is_copy : copy ≡ Some copied
   pub stands : (name : List ℕ) (calls : List Call) (entries : List Entry) →
       StandsAfter name calls entries kept.session → StandsAfter name calls entries copied.session
+  pub tells : string_bytes copied.told ≡ string_bytes kept.told

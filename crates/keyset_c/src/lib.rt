@@ -25,7 +25,7 @@ pub use crate::answered::Answered;
 use crate::answered::{ANSWERED, CLOSED, IS_OPEN, MALFORMED, OUT_OF_MEMORY, fault, hand_out};
 pub use crate::handle::Handle;
 use crate::kept::Kept;
-use crate::sessions::{copy_of, put_back, put_next, tell_closing, tell_status};
+use crate::sessions::{Question, ask, copy_of, put_back, put_next};
 use dnssec_record::{ScriptFault, Session, Std, Told, run_script};
 use std::alloc::Global;
 
@@ -205,12 +205,7 @@ pub extern "C" fn keyset_told(alloc: Global, session: &mut Handle, out: &mut [u8
     ensures closed { (result.status ≡ 5) ↔ (kept_by session.old ≡ None) }
     ensures silent { result.status ≢ 0 → out.new ≡ out.old }
 {
-    let Some(kept) = session.take(alloc) else {
-        return fault(CLOSED);
-    };
-    let answered = hand_out(kept.told.as_bytes(), out);
-    session.put(kept);
-    answered
+    ask(alloc, session, Question::Last, out)
 }
 
 /// Writes the last two lines of the answers so far: the sets that are published after the last
@@ -228,12 +223,7 @@ pub extern "C" fn keyset_closing(alloc: Global, session: &mut Handle, out: &mut 
     ensures closed { (result.status ≡ 5) ↔ (kept_by session.old ≡ None) }
     ensures silent { result.status ≢ 0 → out.new ≡ out.old }
 {
-    let Some(kept) = session.take(alloc) else {
-        return fault(CLOSED);
-    };
-    let answered = tell_closing(alloc, &kept.session, out);
-    session.put(kept);
-    answered
+    ask(alloc, session, Question::Closing, out)
 }
 
 /// Writes the status of the zone after the calls so far, as one line of JSON.
@@ -250,12 +240,7 @@ pub extern "C" fn keyset_status(alloc: Global, session: &mut Handle, out: &mut [
     ensures closed { (result.status ≡ 5) ↔ (kept_by session.old ≡ None) }
     ensures silent { result.status ≢ 0 → out.new ≡ out.old }
 {
-    let Some(kept) = session.take(alloc) else {
-        return fault(CLOSED);
-    };
-    let answered = tell_status(alloc, &kept.session, out);
-    session.put(kept);
-    answered
+    ask(alloc, session, Question::Status, out)
 }
 
 /// Opens another session after the same calls, to try one: 0, or 3 for lack of memory, 5 if the

@@ -1,18 +1,73 @@
 //! The parts of the calls of a session.
-ghost use Rattle.std.specs.Prelude.{◌≡◌, ◌≢◌, ◌⊎◌, ℕ, ◌<◌, ◌≤◌, List, length, take, drop};
+ghost use Rattle.std.specs.Prelude.{◌≡◌, ◌≢◌, ◌⊎◌, ◌↔◌, ℕ, ◌<◌, ◌≤◌, List, length, take, drop};
 ghost use Rattle.std.specs.Prelude.{None, Some, IfOk, string_bytes};
 ghost use Rattle.dnssec_record.specs.Session.{Closes, StandsAfter};
 ghost use Rattle.dnssec_run.specs.declared.call.Call.{Call};
 ghost use Rattle.dnssec_run.specs.declared.record.Entry.{Entry};
 ghost use Rattle.dnssec_status.specs.Status.{IsStatus};
 ghost use Rattle.keyset_c.specs.Handles.{IsWhole, kept_by};
+ghost use Rattle.keyset_c.specs.Sessions.{Tells};
 
-use crate::answered::{Answered, MALFORMED, OUT_OF_MEMORY, fault, hand_out};
+use crate::answered::{Answered, CLOSED, MALFORMED, OUT_OF_MEMORY, fault, hand_out};
 use crate::handle::Handle;
 use crate::kept::Kept;
 use dnssec_record::Session;
 use dnssec_status::status;
 use std::alloc::{AllocError, Global};
+
+/// What C asks of a session.
+#[derive(Clone, Copy)]
+pub(crate) enum Question {
+    /// The answer to its last line.
+    Last,
+    /// The last two lines of the answers so far.
+    Closing,
+    /// The status of the zone.
+    Status,
+}
+
+/// Answers a question, and leaves the session as it was.
+pub(crate) fn ask(
+    alloc: Global,
+    session: &mut Handle,
+    question: Question,
+    out: &mut [u8],
+) -> Answered
+    requires { IsWhole session.old }
+    ensures whole { IsWhole session.new }
+    ensures same { kept_by session.new ≡ kept_by session.old }
+    ensures told { result.status ≡ 0 →
+        Tells question (kept_by session.old) (take result.length out.new) }
+    ensures fits { result.status ≡ 0 → result.length ≤ length out.new }
+    ensures rest { result.status ≡ 0 → drop result.length out.new ≡ drop result.length out.old }
+    ensures short { result.status ≡ 4 → length out.old < result.length }
+    ensures closed { (result.status ≡ 5) ↔ (kept_by session.old ≡ None) }
+    ensures silent { result.status ≢ 0 → out.new ≡ out.old }
+{
+    let Some(kept) = session.take(alloc) else {
+        return fault(CLOSED);
+    };
+    let answered = tell(alloc, question, &kept, out);
+    session.put(kept);
+    answered
+}
+
+/// Writes what is asked of what a session keeps.
+fn tell(alloc: Global, question: Question, kept: &Kept, out: &mut [u8]) -> Answered
+    ensures told { result.status ≡ 0 →
+        Tells question (Some kept.now) (take result.length out.new) }
+    ensures status { (result.status ≡ 0) ⊎ (result.status ≡ 3) ⊎ (result.status ≡ 4) }
+    ensures fits { result.status ≡ 0 → result.length ≤ length out.new }
+    ensures rest { result.status ≡ 0 → drop result.length out.new ≡ drop result.length out.old }
+    ensures short { result.status ≡ 4 → length out.old < result.length }
+    ensures silent { result.status ≢ 0 → out.new ≡ out.old }
+{
+    match question {
+        Question::Last => hand_out(kept.told.as_bytes(), out),
+        Question::Closing => tell_closing(alloc, &kept.session, out),
+        Question::Status => tell_status(alloc, &kept.session, out),
+    }
+}
 
 /// Lets a session keep this after a call, and writes what it told.
 pub(crate) fn put_next(alloc: Global, session: &mut Handle, kept: Kept, out: &mut [u8]) -> Answered
@@ -58,7 +113,7 @@ pub(crate) fn put_back(alloc: Global, session: &mut Handle, kept: Kept) -> Answe
 }
 
 /// Writes the last two lines of the answers so far.
-pub(crate) fn tell_closing(alloc: Global, session: &Session, out: &mut [u8]) -> Answered
+fn tell_closing(alloc: Global, session: &Session, out: &mut [u8]) -> Answered
     ensures told { result.status ≡ 0 →
         (name : List ℕ) (calls : List Call) (entries : List Entry) →
         StandsAfter name calls entries session.now → Closes entries (take result.length out.new) }
@@ -75,7 +130,7 @@ pub(crate) fn tell_closing(alloc: Global, session: &Session, out: &mut [u8]) -> 
 }
 
 /// Writes the status of the zone.
-pub(crate) fn tell_status(alloc: Global, session: &Session, out: &mut [u8]) -> Answered
+fn tell_status(alloc: Global, session: &Session, out: &mut [u8]) -> Answered
     ensures told { result.status ≡ 0 →
         (name : List ℕ) (calls : List Call) (entries : List Entry) →
         StandsAfter name calls entries session.now →
@@ -94,9 +149,12 @@ pub(crate) fn tell_status(alloc: Global, session: &Session, out: &mut [u8]) -> A
 
 /// A copy of what a session keeps.
 pub(crate) fn copy_of(alloc: Global, kept: &Kept) -> Result<Box<Kept>, AllocError>
-    ensures { IfOk result (λ copy. (name : List ℕ) (calls : List Call) (entries : List Entry) →
+    ensures stands { IfOk result (λ copy.
+        (name : List ℕ) (calls : List Call) (entries : List Entry) →
         StandsAfter name calls entries kept.now.session →
         StandsAfter name calls entries copy.value.session) }
+    ensures told { IfOk result (λ copy.
+        string_bytes copy.value.told ≡ string_bytes kept.now.told) }
 {
     let copy = Kept {
         session: kept.session.try_clone(alloc)?,
