@@ -1,33 +1,100 @@
-/* Prints the least nanoseconds that an answer to the script on standard input takes, of many calls
-   in one process. */
+/* Times the library on the script on standard input, in one process. Printed are, on one line: the
+   least nanoseconds of `keyset_answer`, of a line in a session of these lines, of `keyset_closing`
+   and of `keyset_status` after them, and the bytes that malloc hands out for such a session. */
 
 #include <keyset.h>
 
+#include <malloc.h>
 #include <stdio.h>
 #include <stdlib.h>
+#include <string.h>
 #include <time.h>
 
+#define ROUNDS 20
+#define SECOND 1e9
+#define SESSIONS 100
+
 static uint8_t script[1 << 22], out[1 << 22];
+static size_t length, lines;
 
 static double now(void)
 {
     struct timespec time;
     clock_gettime(CLOCK_MONOTONIC, &time);
-    return 1e9 * (double)time.tv_sec + (double)time.tv_nsec;
+    return SECOND * (double)time.tv_sec + (double)time.tv_nsec;
+}
+
+static void expect(uint32_t status)
+{
+    if (status != KEYSET_ANSWERED)
+        exit(EXIT_FAILURE);
+}
+
+/* Opens a session with the first line, and hands in the others. */
+static void play(struct keyset_session *session)
+{
+    const uint8_t *line = script, *end = script + length;
+    for (bool is_first = true; line < end; is_first = false) {
+        size_t taken = (size_t)((const uint8_t *)memchr(line, '\n', (size_t)(end - line)) - line);
+        expect(is_first ? keyset_open(line, taken, session)
+                        : keyset_call(session, line, taken, out, sizeof out).status);
+        line += taken + 1;
+    }
+}
+
+static void answer(struct keyset_session *session)
+{
+    (void)session;
+    expect(keyset_answer(script, length, out, sizeof out).status);
+}
+
+static void play_once(struct keyset_session *session)
+{
+    struct keyset_session other = {0};
+    (void)session;
+    play(&other);
+    keyset_close(&other);
+}
+
+static void closing(struct keyset_session *session)
+{
+    expect(keyset_closing(session, out, sizeof out).status);
+}
+
+static void status(struct keyset_session *session)
+{
+    expect(keyset_status(session, out, sizeof out).status);
+}
+
+/* The least nanoseconds of many calls. */
+static double least(void (*call)(struct keyset_session *), struct keyset_session *session)
+{
+    double began = now(), found = 1e18;
+    for (int calls = 0; calls < ROUNDS || now() - began < SECOND / 2; calls++) {
+        double before = now();
+        call(session);
+        double taken = now() - before;
+        found = taken < found ? taken : found;
+    }
+    return found;
 }
 
 int main(void)
 {
-    size_t length = fread(script, 1, sizeof script, stdin);
-    double began = now(), least = 1e18;
-    for (int calls = 0; calls < 20 || now() - began < 1e9; calls++) {
-        double before = now();
-        struct keyset_answered told = keyset_answer(script, length, out, sizeof out);
-        double taken = now() - before;
-        if (told.status != KEYSET_ANSWERED)
-            return EXIT_FAILURE;
-        least = taken < least ? taken : least;
-    }
-    printf("%.0f\n", least);
+    static struct keyset_session sessions[SESSIONS];
+    length = fread(script, 1, sizeof script, stdin);
+    for (size_t i = 0; i < length; i++)
+        lines += script[i] == '\n';
+
+    size_t before = mallinfo2().uordblks;
+    for (size_t i = 0; i < SESSIONS; i++)
+        play(&sessions[i]);
+    size_t bytes = (mallinfo2().uordblks - before) / SESSIONS;
+
+    double whole = least(answer, NULL), played = least(play_once, NULL);
+    double closed = least(closing, sessions), shown = least(status, sessions);
+    printf("%.0f %.1f %.0f %.0f %zu\n", whole, played / (double)lines, closed, shown, bytes);
+    for (size_t i = 0; i < SESSIONS; i++)
+        keyset_close(&sessions[i]);
     return EXIT_SUCCESS;
 }

@@ -1,51 +1,80 @@
-"""What a call of the library costs, by the lines that it replays.
+"""What the library costs: `keyset_answer`, which replays a script, and a session of its lines.
 
     python3 bench/library_calls.py [--original ORIGINAL]
 
 It takes the library that `make lib` has made. The scripts are those of successive_rolls.py. Printed
-are the lines, the least time of many calls in one process, the same by line, and what ORIGINAL
-prints for the script: by `--time` the least nanoseconds in which it reads the script, makes all
-calls of it on a new key set in its own process, and makes the text of the answers.
+are the lines; the least microseconds of `keyset_answer` for them all; of a line in a session, with
+its share of the opening and of the closing; of the closing lines and of the status after the last
+line; and the bytes that malloc hands out for such a session, which has two keys or three. ORIGINAL
+is a program that answers a script on its standard input by the original: of it the least time of
+some runs is printed, without the time that it takes for the zone alone.
 """
 
 import argparse
 import subprocess
 import sys
 import tempfile
+import time
 from pathlib import Path
 
 from successive_rolls import script
 
 TOP = Path(__file__).resolve().parent.parent
 LIBRARY = TOP / "library" / "out"
+CALLS = (8, 96, 1_000, 10_000)
+RUNS = 50
+
+COLUMNS = "Lines", "`keyset_answer`", "A line in a session", "Closing lines", "Status", "Bytes"
 
 
-def nanoseconds(command, text):
+def run(command, text):
     ran = subprocess.run(command, input=text.encode(), capture_output=True)
     if ran.returncode:
         sys.exit(f"{command}: status {ran.returncode}")
-    return int(ran.stdout)
+    return ran.stdout
+
+
+def least(command, text):
+    """The least microseconds in which a program answers a script."""
+    taken = []
+    for _ in range(RUNS):
+        began = time.perf_counter()
+        run(command, text)
+        taken.append(time.perf_counter() - began)
+    return 1e6 * min(taken)
+
+
+def figures(program, text, original):
+    whole, line, closing, status, size = map(float, run([program], text).split())
+    yield f"{text.count(chr(10)):,}"
+    yield f"{whole / 1000:.1f}"
+    yield f"{line / 1000:.2f}"
+    yield f"{closing / 1000:.2f}"
+    yield f"{status / 1000:.2f}"
+    yield f"{size:,.0f}"
+    if original:
+        zone = text[: text.index("\n") + 1]
+        yield f"{least([original], text) - least([original], zone):,.0f}"
+
+
+def row(cells):
+    print("| " + " | ".join(cells) + " |", flush=True)
 
 
 def main():
     parser = argparse.ArgumentParser()
-    parser.add_argument("--original", help="a program that times the original")
+    parser.add_argument("--original", help="a program that answers a script by the original")
     original = parser.parse_args().original
-    print("| Lines | Microseconds of a call | Of each line |" + " The original |" * bool(original))
-    print("|---|---|---|" + "---|" * bool(original))
+    columns = [*COLUMNS, *["The original"] * bool(original)]
+    row(columns)
+    row(["---"] * len(columns))
     with tempfile.TemporaryDirectory() as room:
         program = f"{room}/library_call"
         source = TOP / "bench" / "library_call.c"
         flags = [f"-I{LIBRARY}/include", f"-L{LIBRARY}/lib", "-l:libkeyset.a"]
         subprocess.run(["cc", "-O2", "-o", program, source, *flags], check=True)
-        for calls in (8, 16, 32, 64, 136, 256, 512, 1024, 4096):
-            text = script(calls)
-            lines = text.count("\n")
-            taken = nanoseconds([program], text) / 1000
-            row = f"| {lines:,} | {taken:.1f} | {taken / lines:.2f} |"
-            if original:
-                row += f" {nanoseconds([original, '--time'], text) / 1000:.1f} |"
-            print(row, flush=True)
+        for calls in CALLS:
+            row(figures(program, script(calls), original))
 
 
 if __name__ == "__main__":
