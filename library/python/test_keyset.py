@@ -69,14 +69,25 @@ class Calls(unittest.TestCase):
     def test_a_malformed_line_is_told(self):
         keys = after(FIRST[:1])
         for line in ("delete", "delete K1\ndelete K1"):
-            with self.assertRaises(Malformed) as malformed:
-                keys.call(line)
-            self.assertEqual(malformed.exception.line, 3)
+            for ask in (keys.call, keys.would):
+                with self.assertRaises(Malformed) as malformed:
+                    ask(line)
+                self.assertEqual(malformed.exception.line, 3)
         for zone in ("a..b", "a\nadd-zsk Z1 - 13 1 0 yes"):
             with self.assertRaises(Malformed):
                 KeySet(zone)
         with self.assertRaises(Malformed):
             KeySet.resume("")
+
+    def test_a_closed_key_set_is_told_as_such(self):
+        keys = after(FIRST[:4])
+        keys.close()
+        keys.close()
+        for asked in (keys.status, lambda: keys.published, lambda: keys.call(FIRST[4])):
+            with self.assertRaises(ValueError) as closed:
+                asked()
+            self.assertEqual(str(closed.exception), "the key set is closed")
+        self.assertEqual(len(keys.lines), 5)
 
     def test_threads_have_sessions_of_their_own(self):
         told = {}
@@ -119,7 +130,9 @@ class Files(unittest.TestCase):
             KeySet.create(self.path, "example.com")
 
     def test_a_damaged_file_is_told_by_its_line(self):
-        for text, line in (("", 1), ("zone a\n\n", 2), ("zone a\nadd-ksk K\u00e9\n", 2)):
+        texts = {"": 1, "zone a\n\n": 2, "zone a\r\n": 1, "zone a\nadd-ksk K\u00e9\n": 2}
+        texts["zone a\ndelete K1\ndelete K1\r\n"] = 3
+        for text, line in texts.items():
             self.path.write_text(text, encoding="utf-8")
             with self.assertRaises(Damaged) as damaged:
                 KeySet.open(self.path)

@@ -12,6 +12,7 @@ import os
 import re
 import shutil
 import subprocess
+import weakref
 from pathlib import Path
 
 from .lines import why_malformed
@@ -22,7 +23,7 @@ INTERFACE = 2
 # The top of the repository, or the folder in which `make install` has put this package.
 TREE = Path(__file__).resolve().parents[3]
 LIBRARIES = (TREE / "library" / "out" / "lib" / "libkeyset.so", TREE / "lib" / "libkeyset.so")
-ANSWERED, MALFORMED, OUT_OF_MEMORY, SHORT = 0, 1, 3, 4
+ANSWERED, MALFORMED, OUT_OF_MEMORY, SHORT, CLOSED = 0, 1, 3, 4, 5
 
 
 class _Handle(ctypes.Structure):
@@ -69,16 +70,24 @@ def _library():
 
 
 class Session:
-    """A key set of the shared library."""
+    """A key set of the shared library. Once it is closed, each question raises `ValueError`; a call
+    that gets no memory closes it."""
 
     def __init__(self, line):
-        self._handle, data = _Handle(), line.encode()
+        self._begin(1)
+        data = line.encode()
         status = _library().keyset_open(data, len(data), ctypes.byref(self._handle))
         if status == MALFORMED:
             raise Malformed(1, why_malformed(line, is_first=True))
         if status:
-            raise MemoryError
-        self._number = 1
+            raise _fault(status)
+
+    def _begin(self, number):
+        """Begins with a closed handle, which is closed again at the latest when nobody has the
+        session any more, and with the number of the last line."""
+        self._handle, self._number = _Handle(), number
+        close = _library().keyset_close
+        self._close = weakref.finalize(self, close, ctypes.byref(self._handle))
 
     def call(self, line):
         """The reply to a line. It may be a refusal."""
@@ -104,13 +113,14 @@ class Session:
     def copy(self):
         """Another session, as this one is."""
         made = Session.__new__(Session)
-        made._handle, made._number = _Handle(), self._number
-        if _library().keyset_copy(ctypes.byref(self._handle), ctypes.byref(made._handle)):
-            raise MemoryError
+        made._begin(self._number)
+        status = _library().keyset_copy(ctypes.byref(self._handle), ctypes.byref(made._handle))
+        if status:
+            raise _fault(status)
         return made
 
     def close(self):
-        _library().keyset_close(ctypes.byref(self._handle))
+        self._close()
 
     def _answer(self, ask, again, line=""):
         """What is answered; where the buffer was too short, it is told again."""
@@ -123,8 +133,13 @@ class Session:
             if told.status == MALFORMED:
                 raise Malformed(self._number + 1, why_malformed(line))
             if told.status != SHORT:
-                raise MemoryError
+                raise _fault(told.status)
             room, ask = told.length, functools.partial(again, ctypes.byref(self._handle))
+
+
+def _fault(status):
+    """The error of a status that has no answer."""
+    return ValueError("the key set is closed") if status == CLOSED else MemoryError()
 
 
 class Replay:
@@ -135,22 +150,31 @@ class Replay:
         self._closing = run(self._lines)[-2:]
 
     def call(self, line):
-        *_, reply, sets, verdict = run([*self._lines, line])
-        self._lines.append(line)
+        lines = self._kept()
+        if "\n" in line:
+            raise Malformed(len(lines) + 1, why_malformed(line))
+        *_, reply, sets, verdict = run([*lines, line])
+        lines.append(line)
         self._closing = [sets, verdict]
         return reply
 
     def closing(self):
+        self._kept()
         return list(self._closing)
 
     def status(self):
-        return json.loads(_program("keyset_status", self._lines))
+        return json.loads(_program("keyset_status", self._kept()))
 
     def copy(self):
-        return Replay(*self._lines)
+        return Replay(*self._kept())
 
     def close(self):
         self._lines = None
+
+    def _kept(self):
+        if self._lines is None:
+            raise _fault(CLOSED)
+        return self._lines
 
 
 def answer(script):

@@ -105,13 +105,8 @@ class KeySet:
 
     def call(self, line: str) -> list[Action]:
         """Makes a call, a line of a script, and gives what it asks for."""
-        if "\n" in line:
-            raise Malformed(len(self.lines) + 1, "it has a line feed in it")
-        tried = self._session.copy()
+        tried, reply = self._tried(line)
         try:
-            reply = tried.call(line)
-            if error := refusal_of(reply):
-                raise error
             if self._file:
                 self._file.append(line)
         except BaseException:
@@ -124,14 +119,23 @@ class KeySet:
 
     def would(self, line: str) -> list[Action]:
         """What a call would ask for, without making it."""
+        tried, reply = self._tried(line)
+        tried.close()
+        return actions_of(reply)
+
+    def _tried(self, line):
+        """A copy of the session that has made the call, and its reply."""
+        if "\n" in line:
+            raise Malformed(len(self.lines) + 1, "it has a line feed in it")
         tried = self._session.copy()
         try:
             reply = tried.call(line)
-        finally:
+            if error := refusal_of(reply):
+                raise error
+        except BaseException:
             tried.close()
-        if error := refusal_of(reply):
-            raise error
-        return actions_of(reply)
+            raise
+        return tried, reply
 
     def add_key_ksk(self, pubref: str, privref: str | None = None, **parts) -> None:
         """Adds a KSK: `algorithm`, `key_tag`, `creation` in seconds, and `available=False` for a

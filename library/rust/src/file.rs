@@ -1,5 +1,6 @@
 //! A file of accepted lines, under a lock.
 
+use crate::error::Error;
 use std::fs::{self, File, OpenOptions};
 use std::io::{self, Read, Seek, SeekFrom, Write};
 use std::os::unix::io::AsRawFd;
@@ -33,16 +34,24 @@ impl Lines {
 
     /// Opens and locks the file, and gives its text up to the last line feed. What stands after that
     /// was not written to its end, and is cut off.
-    pub fn open(path: &Path) -> io::Result<(Self, String)> {
+    ///
+    /// The error is `Malformed` with the line of the first byte that isn't UTF-8.
+    pub fn open(path: &Path) -> Result<(Self, String), Error> {
         let mut file = OpenOptions::new().read(true).write(true).open(path)?;
         // SAFETY: the file is open, and flock reads no memory.
         if unsafe { flock(file.as_raw_fd(), EXCLUSIVE | NOT_BLOCKING) } != 0 {
-            return Err(io::Error::last_os_error());
+            return Err(io::Error::last_os_error().into());
         }
-        let mut text = String::new();
-        file.read_to_string(&mut text)?;
-        text.truncate(text.rfind('\n').map_or(0, |at| at + 1));
+        let mut text = Vec::new();
+        file.read_to_end(&mut text)?;
+        let end = text.iter().rposition(|byte| *byte == b'\n');
+        text.truncate(end.map_or(0, |at| at + 1));
         let length = text.len() as u64;
+        let text = String::from_utf8(text).map_err(|error| {
+            let whole = &error.as_bytes()[..error.utf8_error().valid_up_to()];
+            let line = whole.iter().filter(|byte| **byte == b'\n').count() + 1;
+            Error::Malformed { line }
+        })?;
         Ok((Lines { file, length }, text))
     }
 

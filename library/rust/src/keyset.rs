@@ -325,7 +325,8 @@ fn first_line(zone: &str) -> Result<String, Error> {
 type Replayed = (Session, String, Vec<(usize, String)>);
 
 fn replay(text: &str) -> Result<Replayed, Error> {
-    let mut lines = text.lines();
+    // (`lines` would take a carriage return off, which makes a line malformed.)
+    let mut lines = text.split_terminator('\n');
     let first = lines.next().ok_or(Error::Malformed { line: 1 })?;
     let mut session = Session::open(first)?;
     let mut script = format!("{first}\n");

@@ -4,17 +4,19 @@
 //!     cargo run <../../examples/ksk-roll.script
 
 use keyset::{Error, KeySet};
-use std::io::{stdin, BufRead};
+use std::io::{stdin, Read};
 
 fn main() -> Result<(), Box<dyn std::error::Error>> {
-    let mut lines = stdin().lock().lines();
-    let first = lines.next().ok_or(Error::Malformed { line: 1 })??;
-    let zone = first
-        .strip_prefix("zone ")
+    let mut script = String::new();
+    stdin().read_to_string(&mut script)?;
+    let mut lines = script.split_terminator('\n');
+    let zone = lines
+        .next()
+        .and_then(|first| first.strip_prefix("zone "))
         .ok_or(Error::Malformed { line: 1 })?;
     let mut keys = KeySet::new(zone)?;
     for line in lines {
-        match keys.call(&line?) {
+        match keys.call(line) {
             Ok(asked) => {
                 let asked: String = asked.iter().map(|action| format!(" {action}")).collect();
                 println!("ok{asked}");

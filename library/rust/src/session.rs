@@ -58,7 +58,8 @@ pub struct Session {
     lines: usize,
 }
 
-// SAFETY: a session has no data that another one has, so a thread may take it over. It isn't Sync.
+// SAFETY: what a session shares with its copies is read alone, and its owners are counted atomically,
+// so a thread may take it over. It isn't Sync.
 unsafe impl Send for Session {}
 
 impl Session {
@@ -74,6 +75,8 @@ impl Session {
     }
 
     /// Makes the call of a line, and gives its reply, which may be a refusal.
+    ///
+    /// If there is no memory, the session is of no more use: open one anew with its lines.
     pub fn call(&mut self, line: &str) -> Result<String, Error> {
         let mut out = vec![0; ROOM];
         // SAFETY: each pointer is that of a slice with its length; the handle is ours alone.

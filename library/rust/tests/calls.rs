@@ -2,6 +2,7 @@
 
 use keyset::{version, Action, Algorithm, Error, KeySet, NewKey, Refusal, RollType};
 use std::fs;
+use std::thread;
 
 const FIRST: [&str; 5] = [
     "add-ksk K1 - 13 0 0 yes",
@@ -70,6 +71,47 @@ fn a_malformed_line_is_told() -> Result<(), Error> {
     assert!(KeySet::new("a..b").is_err());
     assert!(KeySet::new("a\nadd-zsk Z1 - 13 1 0 yes").is_err());
     assert!(KeySet::resume("").is_err());
+    Ok(())
+}
+
+#[test]
+fn a_session_goes_to_another_thread() -> Result<(), Error> {
+    let mut threads = Vec::new();
+    for count in 0..=FIRST.len() {
+        let mut keys = after(&FIRST[..count])?;
+        threads.push(thread::spawn(move || {
+            for line in &FIRST[count..] {
+                keys.call(line)?;
+            }
+            keys.published()
+        }));
+    }
+    for thread in threads {
+        let published = thread.join().expect("a thread that ends")?;
+        assert_eq!(published.to_string(), "ds=K1 dnskey=K1,Z1 signers=K1 zone=Z1");
+    }
+    Ok(())
+}
+
+#[test]
+fn a_damaged_file_is_told_by_its_line() -> Result<(), Error> {
+    let path = std::env::temp_dir().join(format!("keyset-{}.damaged", std::process::id()));
+    for (text, wanted) in [
+        (&b""[..], 1),
+        (b"zone a\n\n", 2),
+        (b"zone a\r\n", 1),
+        (b"zone a\nadd-ksk K\xC3\xA9\n", 2),
+        (b"zone a\ndelete K1\ndelete \xFF\n", 3),
+        (b"zone a\ndelete K1\ndelete K1\r\n", 3),
+    ] {
+        fs::write(&path, text)?;
+        let found = KeySet::open(&path);
+        assert!(
+            matches!(found, Err(Error::Malformed { line }) if line == wanted),
+            "{text:?}: {found:?}"
+        );
+    }
+    fs::remove_file(&path)?;
     Ok(())
 }
 
