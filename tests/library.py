@@ -7,9 +7,10 @@
     tests/library.py FOLDER valgrind|asan     its tests in C alone, under a checker of memory
 
 A script and its answers are those of `replay/scripts.txt`. The program `keyset` answers these,
-damaged scripts and long ones beside the library.
+damaged scripts and long ones beside the library; `keyset_status` shows what sessions show.
 """
 
+import json
 import os
 import random
 import re
@@ -27,6 +28,7 @@ from tools import CRATES, STRICT, TOP, Wrong, run
 
 LIBRARY = TOP / "library"
 PROGRAM = CRATES / "keyset" / "out" / "keyset"
+STATUS = CRATES / "keyset_status" / "out" / "keyset_status"
 STORED = TOP / "replay" / "scripts.txt"
 EXAMPLES = sorted((TOP / "examples").rglob("*.script"))
 
@@ -147,14 +149,16 @@ def test_static_buffer(folder, room):
 
 
 def stored_scripts():
-    """The stored scripts, without their answers."""
+    """The stored scripts with their names and answers."""
     for part in STORED.read_text().split("\n== ")[1:]:
-        yield part.partition("\n")[2].partition("-- answers\n")[0]
+        name, _, rest = part.partition("\n")
+        script, _, answer = rest.partition("-- answers\n")
+        yield name, script, answer
 
 
-def as_program(script):
-    """How the program answers: its status, what it writes, and what it tells its user."""
-    ran = subprocess.run([PROGRAM], input=script, capture_output=True)
+def as_program(script, program=PROGRAM):
+    """How a program answers: its status, what it writes, and what it tells its user."""
+    ran = subprocess.run([program], input=script, capture_output=True)
     return ran.returncode, ran.stdout.decode(), ran.stderr.decode()
 
 
@@ -186,6 +190,55 @@ def python_module(folder):
     return keyset
 
 
+def in_session(keyset, zone, lines):
+    """What a session says to these lines, and last of them all."""
+    session = keyset.open_session(zone)
+    told = [session.call(line) for line in lines]
+    told += session.closing()
+    session.close()
+    return told
+
+
+def in_calls(keyset, zone, lines):
+    """What the calls of a key set say to these lines, of which it leaves the refused ones out."""
+    with keyset.KeySet(zone.removeprefix("zone ")) as keys:
+        for line in lines:
+            try:
+                yield " ".join(["ok", *(action.value for action in keys.call(line))])
+            except keyset.Refused as refused:
+                yield f"refused: {refused}"
+        yield str(keys.published)
+
+
+def test_in_python(keyset):
+    """Each stored script is answered line by line, by a session and by a key set."""
+    played = 0
+    for name, script, answer in stored_scripts():
+        (zone, *lines), wanted = script.splitlines(), answer.splitlines()
+        if in_session(keyset, zone, lines) != wanted:
+            raise Wrong(f"a session in Python doesn't answer {name}")
+        if list(in_calls(keyset, zone, lines)) != wanted[:-1]:
+            raise Wrong(f"a key set in Python doesn't answer {name}")
+        played += len(lines)
+    return f"sessions and key sets in Python answer {played} stored lines"
+
+
+def test_status_program(keyset):
+    """The program `keyset_status` writes the status that a session shows."""
+    scripts = 0
+    for name, script, _ in stored_scripts():
+        zone, *lines = script.splitlines()
+        session = keyset.open_session(zone)
+        for line in lines:
+            session.call(line)
+        status, written, told = as_program(script.encode(), STATUS)
+        if (status, told) != (0, "") or json.loads(written) != session.status():
+            raise Wrong(f"{name}: keyset_status ends with {status}, and writes {written}{told}")
+        session.close()
+        scripts += 1
+    return f"keyset_status writes the status of {scripts} sessions"
+
+
 def test_resumed(keyset):
     """After each call a key set goes on from its lines, whatever was being written behind them."""
     calls = 0
@@ -210,10 +263,10 @@ def test_resumed(keyset):
 
 def test_damaged(keyset):
     """Stored scripts, and examples with damaged bytes, are answered by the library as by the
-    program."""
+    program; `keyset_status` calls the same ones malformed."""
     chance = random.Random("damaged")
     scripts = [b"", b"\n", b"zone .", b"zone example.com\n"]
-    scripts += map(str.encode, stored_scripts())
+    scripts += (script.encode() for _, script, _ in stored_scripts())
     for path in EXAMPLES:
         whole = path.read_bytes()
         scripts += [whole, whole[:-1], *(damaged(whole, chance) for _ in range(DAMAGES))]
@@ -223,6 +276,8 @@ def test_damaged(keyset):
         statuses.append(wanted[0])
         if as_library(keyset, script) != wanted:
             raise Wrong(f"the library doesn't answer as the program: {script!r}")
+        if wanted[0] and as_program(script, STATUS) != wanted:
+            raise Wrong(f"keyset_status doesn't end as the program: {script!r}")
     malformed = statuses.count(1)
     return f"{len(scripts)} scripts answered as by the program, {malformed} of them malformed"
 
@@ -261,7 +316,7 @@ def test_frozen(keyset):
 
 
 def test_devices():
-    """A full disk, a pipe that nobody reads, and a folder to read from end the program with
+    """A full disk, a pipe that nobody reads, and a folder to read from end the programs with
     status 2 and its text."""
     script = EXAMPLES[0].read_bytes()
     reading, broken = os.pipe()
@@ -273,12 +328,13 @@ def test_devices():
         "a folder": {"stdin": folder, "stdout": subprocess.PIPE},
     }
     for name, how in ends.items():
-        ran = subprocess.run([PROGRAM], stderr=subprocess.PIPE, **how)
-        if (ran.returncode, ran.stderr) != (2, b"input or output fault\n") or ran.stdout:
-            raise Wrong(f"{name}: {ran}")
+        for program in (PROGRAM, STATUS):
+            ran = subprocess.run([program], stderr=subprocess.PIPE, **how)
+            if (ran.returncode, ran.stderr) != (2, b"input or output fault\n") or ran.stdout:
+                raise Wrong(f"{name}: {ran}")
     os.close(broken)
     os.close(folder)
-    return f"the program ends with status 2 over {len(ends)} devices: {', '.join(ends)}"
+    return f"the programs end with status 2 over {len(ends)} devices: {', '.join(ends)}"
 
 
 def expect_rolls(caller, command, **how):
@@ -304,11 +360,49 @@ def shared_flags(folder):
     return [*told.split(), f"-Wl,-rpath,{folder}/lib"]
 
 
+PROJECT = """\
+[package]
+name = "project"
+version = "0.0.0"
+edition = "2021"
+
+[dependencies]
+keyset = {{ path = "{}" }}
+"""
+PROJECT_MAIN = """\
+fn main() -> Result<(), keyset::Error> {
+    print!("{}", keyset::KeySet::new("example.com")?.script());
+    Ok(())
+}
+"""
+
+
+def cargo_environment(folder, room):
+    return {
+        **os.environ,
+        "KEYSET_LIB": str(folder / "lib"),
+        "CARGO_TARGET_DIR": str(room / "rust"),
+    }
+
+
 def test_rust_caller(folder, room):
-    made = {**os.environ, "KEYSET_LIB": str(folder / "lib"), "CARGO_TARGET_DIR": str(room / "rust")}
+    made = cargo_environment(folder, room)
     for what in ("test", "build"):
         run("cargo", what, "--quiet", "--offline", "--locked", cwd=LIBRARY / "rust", env=made)
     return expect_rolls("Rust", [room / "rust" / "debug" / "keyset"])
+
+
+def test_cargo_project(folder, room):
+    """A cargo project names the crate by its path."""
+    project = room / "project"
+    (project / "src").mkdir(parents=True)
+    (project / "Cargo.toml").write_text(PROJECT.format(LIBRARY / "rust"))
+    (project / "src" / "main.rs").write_text(PROJECT_MAIN)
+    made = cargo_environment(folder, room)
+    told = run("cargo", "run", "--quiet", "--offline", cwd=project, env=made)
+    if told != "zone example.com\n":
+        raise Wrong(f"a cargo project says: {told}")
+    return "a cargo project uses the crate by its path"
 
 
 def test_python_caller(folder):
@@ -326,8 +420,11 @@ def test(folder, room):
     yield test_c_caller(room, "C", c_flags(folder))
     yield test_c_caller(room, "C over the shared object", shared_flags(folder))
     yield test_rust_caller(folder, room)
+    yield test_cargo_project(folder, room)
     yield test_python_caller(folder)
     keyset = python_module(folder)
+    yield test_in_python(keyset)
+    yield test_status_program(keyset)
     yield test_resumed(keyset)
     yield test_damaged(keyset)
     yield test_frozen(keyset)

@@ -5,9 +5,10 @@
    Each script is played line by line: what the session says, put together, is the stored answer, in
    a buffer of each length too (every STEP of these, as a checker of memory makes it slow), beside
    malformed lines that change nothing, and side by side in threads, each with its sessions in an
-   order of its own. Each request for memory fails in turn: a session that it closes says so, and
-   goes on from its lines. Each call says that a closed handle is closed. The linker has malloc,
-   realloc and free of the library come here: -Wl,--wrap=malloc,--wrap=realloc,--wrap=free */
+   order of its own. Copies of one session go to threads, too. Each request for memory fails in turn:
+   a session that it closes says so, and goes on from its lines. Each call says that a closed handle
+   is closed; such a handle may be opened again. The linker has malloc, realloc and free of the
+   library come here: -Wl,--wrap=malloc,--wrap=realloc,--wrap=free */
 
 #define _GNU_SOURCE
 #include <keyset.h>
@@ -19,6 +20,7 @@
 
 #define THREADS 4
 #define BESIDE 8
+#define COPIES 20000
 #define REFUSED "refused: out of memory\n"
 #define FILLER 0xA5
 /* Room for any answer to a line, and for any status of the stored scripts. */
@@ -82,7 +84,7 @@ struct stored {
 };
 
 static struct stored *stored;
-static size_t scripts;
+static size_t scripts, step = 1;
 
 static void read_stored(const char *path)
 {
@@ -196,7 +198,7 @@ static void expect_told(question asked, struct keyset_session *session, const ch
 }
 
 /* In a room that is too short nothing is written, and nothing is lost. */
-static void expect_short(question asked, struct keyset_session *session, size_t step)
+static void expect_short(question asked, struct keyset_session *session)
 {
     char *text = answer_of(asked, session);
     size_t needed = strlen(text);
@@ -233,6 +235,20 @@ static void expect_closed(struct keyset_session *session)
     expect(requests.made == 0 && requests.held == 0, "no memory is asked for", "closed");
 }
 
+/* A copy answers each question as the session does, and a second one isn't opened over it. */
+static void expect_copy(struct keyset_session *session)
+{
+    struct keyset_session other = {0};
+    expect(copy(session, &other) == KEYSET_ANSWERED, "a copy", "copied");
+    expect(copy(session, &other) == KEYSET_IS_OPEN, "a second copy", "copied");
+    for (size_t i = 0; i < 3; i++) {
+        char *told = answer_of(QUESTIONS[i], session);
+        expect_told(QUESTIONS[i], &other, told, "copied");
+        free(told);
+    }
+    close_session(&other);
+}
+
 /* Each malformed line leaves the session as it was. */
 static void expect_malformed(struct keyset_session *session)
 {
@@ -254,7 +270,7 @@ static void expect_malformed(struct keyset_session *session)
 
 /* A copy makes the call in a room that is too short; the session stays as it was. */
 static void expect_short_call(struct keyset_session *session, const char *line, size_t length,
-                              const char *wanted, size_t needed, size_t step)
+                              const char *wanted, size_t needed)
 {
     char *before = answer_of(keyset_closing, session);
     for (size_t room = 0; room < needed; room += step) {
@@ -315,7 +331,17 @@ static void end(struct play *play)
     close_session(&play->session);
 }
 
-static size_t play_alone(const struct stored *it, size_t step)
+/* A closed session may be opened again, as if it had never been open. */
+static void expect_opened_again(struct keyset_session *session)
+{
+    expect(open_line(session, "zone .", 6) == KEYSET_ANSWERED, "opened again", "closed");
+    expect_told(keyset_told, session, "", "opened again");
+    expect_told(keyset_closing, session, "ds=- dnskey=- signers=- zone=-\nchain safe\n",
+                "opened again");
+    close_session(session);
+}
+
+static size_t play_alone(const struct stored *it)
 {
     struct play play;
     size_t lines = 0;
@@ -326,16 +352,19 @@ static size_t play_alone(const struct stored *it, size_t step)
     for (; *play.line != '\0'; lines++) {
         size_t length = length_of_line(play.line), needed = length_of_line(play.wanted) + 1;
         if (lines % step == 0)
-            expect_short_call(&play.session, play.line, length, play.wanted, needed, step);
+            expect_short_call(&play.session, play.line, length, play.wanted, needed);
         next(&play);
-        if (lines % step == 0)
+        if (lines % step == 0) {
             expect_malformed(&play.session);
+            expect_copy(&play.session);
+        }
     }
-    expect_short(keyset_closing, &play.session, step);
-    expect_short(keyset_status, &play.session, step);
+    for (size_t i = 0; i < 3; i++)
+        expect_short(QUESTIONS[i], &play.session);
     end(&play);
     expect(requests.held == 0, "nothing is kept", it->name);
     expect_closed(&play.session);
+    expect_opened_again(&play.session);
     return lines;
 }
 
@@ -476,12 +505,53 @@ static void *play_beside(void *first)
     return NULL;
 }
 
+/* Copies its session again and again, and closes all. Gives the blocks that it took and didn't
+   free. */
+static void *play_copies(void *own)
+{
+    struct keyset_session *session = own;
+    requests.held = requests.failing = 0;
+    for (size_t i = 0; i < COPIES / step; i++) {
+        struct keyset_session other = {0};
+        expect(copy(session, &other) == KEYSET_ANSWERED, "a copy", "in a thread");
+        close_session(&other);
+    }
+    close_session(session);
+    return (void *)(uintptr_t)requests.held;
+}
+
+/* Copies of a session go to threads, which let go of what they have in common side by side. */
+static void play_copies_beside(const struct stored *it)
+{
+    struct play play;
+    struct keyset_session copies[THREADS] = {0};
+    pthread_t threads[THREADS];
+    requests.held = requests.failing = 0;
+    expect(begin(&play, it), "opened", it->name);
+    while (*play.line != '\0')
+        next(&play);
+    for (size_t i = 0; i < THREADS; i++)
+        expect(copy(&play.session, &copies[i]) == KEYSET_ANSWERED, "a copy", it->name);
+    for (size_t i = 0; i < THREADS; i++)
+        expect(pthread_create(&threads[i], NULL, play_copies, &copies[i]) == 0, "a thread",
+               it->name);
+    end(&play);
+    size_t held = requests.held;
+    for (size_t i = 0; i < THREADS; i++) {
+        void *left;
+        expect(pthread_join(threads[i], &left) == 0, "its end", it->name);
+        held += (size_t)(uintptr_t)left;
+    }
+    /* (A block is freed by the thread that is done with it last.) */
+    expect(held == 0, "nothing is kept", it->name);
+}
+
 int main(int argc, char **argv)
 {
-    size_t step = argc > 2 ? strtoul(argv[2], NULL, 10) : 1;
     size_t lines = 0, failed = 0, closed = 0, asked = 0;
     expect(argc > 1, "sessions STORED [STEP]", argv[0]);
     expect(keyset_version() == KEYSET_VERSION, "the version", argv[0]);
+    step = argc > 2 ? strtoul(argv[2], NULL, 10) : 1;
     read_stored(argv[1]);
 
     struct keyset_session never = {0};
@@ -492,7 +562,7 @@ int main(int argc, char **argv)
     expect_closed(&never);
 
     for (size_t i = 0; i < scripts; i++) {
-        lines += play_alone(&stored[i], step);
+        lines += play_alone(&stored[i]);
         if (i % step != 0)
             continue;
         for (size_t failing = 1; play_failing(&stored[i], failing, &closed); failing++)
@@ -513,6 +583,8 @@ int main(int argc, char **argv)
     }
     for (size_t i = 0; i < THREADS; i++)
         expect(pthread_join(threads[i], NULL) == 0, "its end", argv[0]);
+    for (size_t i = 0; i < scripts; i += scripts / THREADS)
+        play_copies_beside(&stored[i]);
 
     printf("%zu scripts in sessions, %zu lines, %zu requests failed in turn, %zu of these closed a"
            " session, %zu more of questions and copies, %d threads\n",
