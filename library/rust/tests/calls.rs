@@ -88,7 +88,10 @@ fn a_session_goes_to_another_thread() -> Result<(), Error> {
     }
     for thread in threads {
         let published = thread.join().expect("a thread that ends")?;
-        assert_eq!(published.to_string(), "ds=K1 dnskey=K1,Z1 signers=K1 zone=Z1");
+        assert_eq!(
+            published.to_string(),
+            "ds=K1 dnskey=K1,Z1 signers=K1 zone=Z1"
+        );
     }
     Ok(())
 }
