@@ -98,9 +98,16 @@ class Notes:
             version.left = moment if version.left is None else version.left
         self.lines.append(f"everywhere {kind} {moment}")
 
+    def goes_back(self):
+        """How often a version has the sets of an earlier call than the one before it."""
+        return sum(
+            later.position < version.position
+            for versions in self.versions.values()
+            for version, later in zip(versions, versions[1:])
+        )
+
     def goes_back_over_a_step(self):
-        """Whether a version has sets from before a step that an earlier version is not older than, of
-        a roll whose reports speak of the kind."""
+        """Whether a version does so to before a step of a roll whose reports speak of the kind."""
         return any(
             later.position < n <= version.position and kind in " ".join(SPEAKS_OF[at.step]).split()
             for n, at in enumerate(self.operator.keyset.record)

@@ -1,9 +1,7 @@
--- A fact that is refused because it goes back, or was seen before it was published, is true of no
--- network in which nothing goes back.
-use Rattle.std.proofs.Common.{◌≡◌, ℕ, suc, ◌<◌, ◌≤◌, ◌++◌, ◌⊎◌, inl, inr, refl, sym, ◌∙◌, ap, subst}
-use Rattle.std.proofs.Common.{arith, List, [], ◌∷◌, Option, None, Some, Bool, true, false}
+-- A fact that is refused because it was seen before it was published is true of no network.
+use Rattle.std.proofs.Common.{◌≡◌, ℕ, suc, ◌<◌, ◌≤◌, ◌++◌, refl, sym, ◌∙◌, ap, subst}
+use Rattle.std.proofs.Common.{arith, List, [], ◌∷◌, None, Some, Bool, true, false}
 use Rattle.std.specs.Prelude.{if◌then◌else◌, nat_lt, fold, map, filter}
-use Rattle.std.proofs.lemmas.Bool.{true≢false}
 use Rattle.std.proofs.lemmas.List.{map-append}
 use Rattle.std.proofs.lemmas.List.Elements.{filter-append}
 use Rattle.std.proofs.lemmas.Option.{same_Some, none-some}
@@ -14,13 +12,13 @@ use Rattle.dnssec_network.specs.declared.fact.Fact.{Fact}
 use Rattle.dnssec_network.specs.declared.fact.News.{News}
 use Rattle.dnssec_network.specs.declared.fact.News.TheVariants.{Published, Everywhere}
 use Rattle.dnssec_network.specs.declared.fact.NoteFault.{NoteFault}
-use Rattle.dnssec_network.specs.declared.fact.NoteFault.TheVariants.{CallNotMade, GoesBack}
+use Rattle.dnssec_network.specs.declared.fact.NoteFault.TheVariants.{CallNotMade}
 use Rattle.dnssec_network.specs.declared.fact.NoteFault.TheVariants.{SeenBeforePublished}
 use Rattle.dnssec_network.specs.declared.fact.NoteFault.TheVariants.{MomentFalls, OutOfMemory}
 use Rattle.dnssec_network.specs.declared.progress.Newest.{Newest}
 use Rattle.dnssec_network.specs.declared.progress.Progress.{Progress}
 use Rattle.dnssec_network.specs.Facts.{AreTrueFrom, news_of, same_kind}
-use Rattle.dnssec_network.specs.Network.{Network, NeverGoesBack}
+use Rattle.dnssec_network.specs.Network.{Network}
 use Rattle.dnssec_network.specs.Notes.{RefusedFactsAreUntrue, first_progress}
 use Rattle.dnssec_network.specs.Notes.{newest_after, newest_of, news_refusal, progress_of}
 use Rattle.dnssec_network.specs.Notes.{progress_after}
@@ -57,7 +55,6 @@ newest-is p kind (fact ∷ facts) =
 -- ---- what true facts say of it
 
 record Tells (network : Network) (kind : SetKind) (n : ℕ) (newest : Newest) : Type 0 where
-  position : newest.position ≤ network.position kind n
   published : (server time : ℕ) → server < network.servers kind →
       n ≤ network.version kind server time → newest.published ≤ time
 
@@ -65,11 +62,11 @@ record Tells (network : Network) (kind : SetKind) (n : ℕ) (newest : Newest) : 
 first-tells : (network : Network) (kind : Kind)
     → Tells network (kind_of kind) 0 (newest_of first_progress kind)
 first-tells network code.Ds =
-    record { position = omega arith; published = λ server time h le. omega arith }
+    record { published = λ server time h le. omega arith }
 first-tells network code.Dnskey =
-    record { position = omega arith; published = λ server time h le. omega arith }
+    record { published = λ server time h le. omega arith }
 first-tells network code.ZoneSigners =
-    record { position = omega arith; published = λ server time h le. omega arith }
+    record { published = λ server time h le. omega arith }
 
 -- up to the last of the news
 record TellsLast (network : Network) (kind : SetKind) (newest : Newest) (last : News) : Type 0 where
@@ -85,7 +82,6 @@ tells-on network kind n newest [] last tells are = record { n = n; tells = tells
 tells-on network kind n newest (Published position ttl moment ∷ news) last tells are =
     tells-on network kind (suc n) (newest_after (Published position ttl moment) newest) news last
     (record {
-      position = let at : network.position kind (suc n) ≡ position = are.0 in omega (arith, at);
       published = λ server time serves le.
           let lt : n < network.version kind server time = omega (arith, le) in
           are.2 server time serves lt;
@@ -93,73 +89,45 @@ tells-on network kind n newest (Published position ttl moment ∷ news) last tel
     are.3
 tells-on network kind n newest (Everywhere moment ∷ news) last tells are =
     tells-on network kind n (newest_after (Everywhere moment) newest) news last
-    (record { position = tells.position; published = tells.published }) are.1
+    (record { published = tells.published }) are.1
 
 -- ---- refusals
 
 abbrev fault_number : NoteFault → ℕ
 fault_number CallNotMade = 0
-fault_number GoesBack = 1
-fault_number SeenBeforePublished = 2
-fault_number MomentFalls = 3
-fault_number OutOfMemory = 4
+fault_number SeenBeforePublished = 1
+fault_number MomentFalls = 2
+fault_number OutOfMemory = 3
 
 -- two faults of different numbers
 apart : (a b : NoteFault) (m n : ℕ) → fault_number a ≡ m → fault_number b ≡ n → (m ≡ n → ⊥)
     → Some a ≡ Some b → ⊥
 apart a b m n e f differ same = differ (sym e ∙ ap fault_number (same_Some a b same) ∙ f)
 
--- a version that is refused for one of the two causes goes back
-back : (a b c : Bool)
-    → ((if a then Some CallNotMade
-    else (if b then Some GoesBack else (if c then Some MomentFalls else None))) ≡ Some GoesBack)
-    ⊎ ((if a then Some CallNotMade
-    else (if b then Some GoesBack else (if c then Some MomentFalls else None)))
-    ≡ Some SeenBeforePublished)
-    → b ≡ true
-back a true c h = refl
-back true false c (inl e) =
-    absurd (apart CallNotMade GoesBack 0 1 refl refl (λ h. omega (arith, h)) e)
-back true false c (inr e) =
-    absurd (apart CallNotMade SeenBeforePublished 0 2 refl refl (λ h. omega (arith, h)) e)
-back false false true (inl e) =
-    absurd (apart MomentFalls GoesBack 3 1 refl refl (λ h. omega (arith, h)) e)
-back false false true (inr e) =
-    absurd (apart MomentFalls SeenBeforePublished 3 2 refl refl (λ h. omega (arith, h)) e)
-back false false false (inl e) = absurd (none-some GoesBack e)
-back false false false (inr e) = absurd (none-some SeenBeforePublished e)
+-- no publication is refused so
+other : (a c : Bool) → (if a then Some CallNotMade else (if c then Some MomentFalls else None))
+    ≡ Some SeenBeforePublished → ⊥
+other true c e =
+    apart CallNotMade SeenBeforePublished 0 1 refl refl (λ h. omega (arith, h)) e
+other false true e =
+    apart MomentFalls SeenBeforePublished 2 1 refl refl (λ h. omega (arith, h)) e
+other false false e = none-some SeenBeforePublished e
 
--- a sight that is refused for one of them came before the publication
+-- a sight that is refused so came before the publication
 early : (a c : Bool)
-    → ((if a then Some SeenBeforePublished else (if c then Some MomentFalls else None))
-    ≡ Some GoesBack)
-    ⊎ ((if a then Some SeenBeforePublished else (if c then Some MomentFalls else None))
-    ≡ Some SeenBeforePublished)
-    → a ≡ true
+    → (if a then Some SeenBeforePublished else (if c then Some MomentFalls else None))
+    ≡ Some SeenBeforePublished → a ≡ true
 early true c h = refl
-early false true (inl e) =
-    absurd (apart MomentFalls GoesBack 3 1 refl refl (λ h. omega (arith, h)) e)
-early false true (inr e) =
-    absurd (apart MomentFalls SeenBeforePublished 3 2 refl refl (λ h. omega (arith, h)) e)
-early false false (inl e) = absurd (none-some GoesBack e)
-early false false (inr e) = absurd (none-some SeenBeforePublished e)
+early false true e =
+    absurd (apart MomentFalls SeenBeforePublished 2 1 refl refl (λ h. omega (arith, h)) e)
+early false false e = absurd (none-some SeenBeforePublished e)
 
 untrue : (network : Network) (kind : SetKind) (calls : ℕ) (newest : Newest) (last : News)
-    → NeverGoesBack network → 0 < network.servers kind → TellsLast network kind newest last
-    → (news_refusal calls newest last ≡ Some GoesBack)
-    ⊎ (news_refusal calls newest last ≡ Some SeenBeforePublished)
-    → ⊥
-untrue network kind calls newest (Published position ttl moment) never serves last refused =
-    let is : nat_lt position newest.position ≡ true =
-    back (nat_lt calls position) (nat_lt position newest.position) (nat_lt moment newest.published)
-    refused in
-    let lt : position < newest.position = grind (arith, is) in
-    let at : network.position kind (suc last.n) ≡ position = last.true.0 in
-    let low : newest.position ≤ network.position kind last.n = last.tells.position in
-    let rises : network.position kind last.n ≤ network.position kind (suc last.n) =
-    never.versions kind last.n (suc last.n) (omega arith) in
-    absurd (omega (arith, lt, at, low, rises))
-untrue network kind calls newest (Everywhere moment) never serves last refused =
+    → 0 < network.servers kind → TellsLast network kind newest last
+    → news_refusal calls newest last ≡ Some SeenBeforePublished → ⊥
+untrue network kind calls newest (Published position ttl moment) serves last refused =
+    other (nat_lt calls position) (nat_lt moment newest.published) refused
+untrue network kind calls newest (Everywhere moment) serves last refused =
     let is : nat_lt moment newest.published ≡ true =
     early (nat_lt moment newest.published) (nat_lt moment newest.seen) refused in
     let lt : moment < newest.published = grind (arith, is) in
@@ -190,7 +158,7 @@ news-behind facts code.ZoneSigners news =
     (record { kind = code.ZoneSigners; news = news }) refl
 
 pub refused-facts-are-untrue : RefusedFactsAreUntrue
-refused-facts-are-untrue before facts fact network calls refused serves never are =
+refused-facts-are-untrue before facts fact network calls refused serves are =
     let kind : SetKind = kind_of fact.kind in
     let first : Tells network kind 0 (newest_of first_progress fact.kind) =
     first-tells network fact.kind in
@@ -201,6 +169,6 @@ refused-facts-are-untrue before facts fact network calls refused serves never ar
     (subst (λ news. AreTrueFrom network kind 0 news) (news-behind facts fact.kind fact.news)
     (are kind).1) in
     untrue network kind calls (newest_of (progress_of facts) fact.kind)
-    fact.news never serves
+    fact.news serves
     (subst (λ newest. TellsLast network kind newest fact.news)
     (sym (newest-is first_progress fact.kind facts)) last) refused

@@ -12,7 +12,7 @@ use Rattle.dnssec_run.specs.Plain.{IsPlain}
 use Rattle.dnssec_run.specs.Record.{IsRun}
 use Rattle.dnssec_run.specs.declared.caches.SetKind.{SetKind as Kind}
 use Rattle.dnssec_run.specs.declared.caches.SetKind.TheVariants.{Ds, Dnskey, ZoneSigners}
-use Rattle.dnssec_run.specs.Safe.{base_below, kind_of, position_at, retires}
+use Rattle.dnssec_run.specs.Safe.{SetKind, base_below, kind_of, position_at, retires}
 use Rattle.dnssec_network.specs.declared.due.DueReport.{DueReport}
 use Rattle.dnssec_network.specs.declared.fact.Before.{Before}
 use Rattle.dnssec_network.specs.declared.fact.Fact.{Fact}
@@ -89,21 +89,32 @@ ReportsAreByNotes entries network time =
     base_below entries roll n ≡ Some base →
     IsByNotes network roll second base moment ttl
 
--- then the reports are true, if nothing goes back
+-- Nothing goes back to before a step, of the kinds that reports of its roll speak of. Between two
+-- steps versions may: a parent that reads CDS may, after a roll was ended early, give once more what
+-- the start of the roll had asked for.
+abbrev pub NoneGoesBack : List Entry → Network → Type 0
+NoneGoesBack entries network =
+    (n base : ℕ) (roll : RollType) (second : Bool) (kind : SetKind) →
+    base_below entries roll n ≡ Some base →
+    retires roll second kind ≡ true →
+    NeverGoesBack network kind base
+
+-- then the reports are true
 abbrev pub NotesMakeReportsTrue : Type 0
 NotesMakeReportsTrue = (entries : List Entry) (network : Network) (time : ℕ) →
-    NeverGoesBack network → ReportsAreByNotes entries network time →
+    NoneGoesBack entries network → ReportsAreByNotes entries network time →
     ReportsAreTrue entries network time
 
 -- So an operator who reports by notes answers only for what can be seen: that servers give what was
--- published, and never go back; that the notes are true; and that no moment lay ahead of the clock.
+-- published, and nothing goes back to before a step; that the notes are true; and that no moment lay
+-- ahead of the clock.
 abbrev pub NotedReportsReachResolvers : Type 0
 NotedReportsReachResolvers =
     (name : List ℕ) (calls : List Call) (entries : List Entry) (network : Network) (time : ℕ) →
     IsRun name calls entries →
     IsPlain name calls entries →
     IsNetworkOf entries network →
-    NeverGoesBack network →
+    NoneGoesBack entries network →
     ReportsAreByNotes entries network time →
     NoneLiesAhead entries network time →
     FindChain entries network time

@@ -68,7 +68,7 @@ abbrev pub is_none_older : Option ℕ → Bool
 is_none_older None = true
 is_none_older (Some ttl) = false
 
--- the least TTL with which a report at the moment is true; none as long as servers may give an
+-- the TTL with which a report at the moment is true; none as long as servers may give an
 -- older version
 abbrev pub due_for : ℕ → Spread → ℕ → Option ℕ
 due_for base s now =

@@ -48,8 +48,6 @@ pub struct Before {
 pub enum NoteFault {
     /// A version has the sets of a call that wasn't made yet.
     CallNotMade,
-    /// A version has the sets of an earlier call than the version before it.
-    GoesBack,
     /// All servers are said to have given a version before it was published.
     SeenBeforePublished,
     /// The moment lies before the last one: that of a publication before the last publication of
@@ -92,7 +90,6 @@ impl fmt::Display for NoteFault {
     fn fmt<W: fmt::Write>(&self, f: &mut fmt::Formatter<W>) -> fmt::Result {
         f.write_str(match self {
             NoteFault::CallNotMade => "no such call yet",
-            NoteFault::GoesBack => "goes back to an earlier call",
             NoteFault::SeenBeforePublished => "seen before it was published",
             NoteFault::MomentFalls => "moment before the last one",
             NoteFault::OutOfMemory => "out of memory",

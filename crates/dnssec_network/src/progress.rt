@@ -11,8 +11,7 @@ use std::time::Duration;
 /// The newest version of a kind.
 #[derive(Clone, Copy, Debug)]
 pub(crate) struct Newest {
-    /// The position whose sets it has.
-    pub(crate) position: usize,
+    /// When it was published.
     pub(crate) published: UnixTime,
     /// When all servers were last seen to give it, or one before it.
     pub(crate) seen: UnixTime,
@@ -39,7 +38,6 @@ impl Newest {
         ensures { result ≡ first_newest }
     {
         Newest {
-            position: 0,
             published: start(),
             seen: start(),
         }
@@ -49,17 +47,11 @@ impl Newest {
         ensures { result ≡ newest_after news self }
     {
         match news {
-            News::Published {
-                position,
-                moment,
-                ..
-            } => Newest {
-                position,
+            News::Published { moment, .. } => Newest {
                 published: moment,
                 seen: self.seen,
             },
             News::Everywhere { moment } => Newest {
-                position: self.position,
                 published: self.published,
                 seen: moment,
             },
@@ -78,8 +70,6 @@ impl Newest {
             } => {
                 if calls < position {
                     Some(NoteFault::CallNotMade)
-                } else if position < self.position {
-                    Some(NoteFault::GoesBack)
                 } else {
                     fall(self.published, moment)
                 }

@@ -1,5 +1,5 @@
 -- Facts of other kinds are passed over.
-use Rattle.std.proofs.Common.{◌≡◌, ◌∙◌, ap, take}
+use Rattle.std.proofs.Common.{◌∙◌, ap}
 use Rattle.std.specs.Prelude.{fold}
 use Rattle.std.proofs.lemmas.List.{take_all}
 use Rattle.dnssec_run.specs.Safe.{kind_of}
