@@ -11,7 +11,7 @@ const RECORDS: u32 = 10_000;
 
 const LONGEST: u32 = 14;
 
-/// Numbers that look as if they were drawn at random: the same in each run.
+/// Numbers that look random, and are the same in each run.
 #[derive(Debug, Drop)]
 struct Draws {
     state: u64,
@@ -62,7 +62,7 @@ impl Draws {
         }
     }
 
-    /// Some of the keys: the first with a chance of so many in 16, and each other one too.
+    /// Some of the keys: each one with a chance of this many in 16.
     fn keys(
         &mut self,
         alloc: Global,
@@ -100,7 +100,7 @@ impl Draws {
         })
     }
 
-    /// A record, of which the last entries alone may have a DS set.
+    /// A record in which only the last entries may have a DS set.
     fn record(&mut self, alloc: Global) -> Result<Vec<Entry>, AllocError> {
         let length = self.below(LONGEST + 1);
         let without_ds = self.below(LONGEST + 1);
@@ -112,14 +112,14 @@ impl Draws {
     }
 }
 
-/// What is told of the records.
+/// What is said of the records.
 #[derive(Clone, Copy, Debug, PartialEq)]
 struct Tally {
-    /// So many are safe.
+    /// How many are safe.
     safe: u32,
-    /// So many are broken by the DNSKEY set of a call.
+    /// How many are broken by the DNSKEY set of a call.
     later: u32,
-    /// On so many both audits have one verdict.
+    /// On how many both audits have one verdict.
     alike: u32,
 }
 

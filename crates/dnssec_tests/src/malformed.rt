@@ -27,7 +27,7 @@ const ZONE_LINES: &[Row] = &[
     ("delete K1\nzone a\n", 1),
 ];
 
-/// The first malformed line is told, and no line before it is run.
+/// The first malformed line is named, and no line before it is run.
 const LATER_LINES: &[Row] = &[
     ("zone .\n\n", 2),
     ("zone a\n\ndelete K1\n", 2),
@@ -40,7 +40,8 @@ const LATER_LINES: &[Row] = &[
     ("zone a\nfoo\nzone a..b\n", 2),
 ];
 
-/// Fields stand behind a word that there is, each after one space, and are as many as it takes.
+/// A line has a word that there is, and then as many fields as the word takes, each after one
+/// space.
 const WORDS_AND_SPACES: &[Row] = &[
     ("zone .\nwait1 ksk-roll  0\n", 2),
     ("zone .\ndone ksk-roll \n", 2),
@@ -95,7 +96,7 @@ const NUMBERS: &[Row] = &[
     ("zone a\nset-visible K1 -\n", 2),
 ];
 
-/// Algorithms by another word than their six names, and a name where there is none.
+/// Algorithms by another word than their six names, and an empty name.
 const ALGORITHMS: &[Row] = &[
     ("zone a\nadd-ksk K - ecdsap256sha256 0 0 yes\n", 2),
     ("zone a\nadd-zsk K - Ed25519 0 0 yes\n", 2),
@@ -155,11 +156,11 @@ const BYTES: &[(&[u8], usize)] = &[
     (b"zone .\ndelete \xFE\n", 2),
 ];
 
-/// What is written where a script has no calls.
+/// What is written if a script has no calls.
 const NO_CALLS: &str = "ds=- dnskey=- signers=- zone=-\nchain safe\n";
 
-/// Zone lines, and the lengths of their beginnings that are scripts: a zone line alone is one where
-/// its name stands.
+/// Zone lines, and the lengths of their beginnings that are scripts: a zone line is a script by
+/// itself once it has a name.
 const BEGINNINGS: &[(&str, &[usize])] = &[
     ("zone a\\.b\n", &[6, 8, 9, 10]),
     ("zone a..b\n", &[6, 7]),
@@ -170,7 +171,7 @@ fn is_refused(alloc: Global, script: &[u8], line: usize) -> bool {
     is_run(alloc, script, WHOLE, &Err(ScriptFault::Malformed(line)), "")
 }
 
-/// Whether a beginning of a script is run where its length is one of these, and is else refused.
+/// Whether a beginning of a script is run if its length is one of these, and is else refused.
 fn is_script_at(alloc: Global, script: &str, lengths: &[usize], end: usize) -> bool {
     let Some(front) = script.as_bytes().get(..end) else {
         return false;

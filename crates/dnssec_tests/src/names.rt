@@ -24,8 +24,8 @@ const SPELLED: &[(&str, &[u8], &str)] = &[
     ),
 ];
 
-/// Texts, and the letters of what their beginnings are answered, from the empty one to the whole
-/// text, as `letter` gives them; `-` where a character is cut.
+/// Texts, and a letter for the answer to each of their beginnings, from the empty one to the whole
+/// text, as `letter` gives it; `-` if the beginning cuts a character.
 const BEGINNINGS: &[(&str, &str)] = &[
     (".", "eo"),
     ("example.com.", "eoooooooooooo"),
@@ -72,9 +72,9 @@ const L63: &str = "aaaaaaaaaaaaaaaaaaaaaaaaaaaaaaaaaaaaaaaaaaaaaaaaaaaaaaaaaaaaa
 
 const L64: &str = "aaaaaaaaaaaaaaaaaaaaaaaaaaaaaaaaaaaaaaaaaaaaaaaaaaaaaaaaaaaaaaaa";
 
-/// Labels that stand with dots between them, and a text behind them; how many bytes of all this
-/// still are a name, and the letters of the longer beginnings; and how many wire bytes the name of
-/// the whole text has, or 0 where it has a fault.
+/// Labels with dots between them, and a text after them; how many bytes of all this are still a
+/// name, and the letters of the longer beginnings; and how many wire bytes the name of the whole
+/// text has, or 0 if it has a fault.
 const LONGEST: &[(&[&str], &str, usize, &str, usize)] = &[
     (&[L63], "", 63, "", 65),
     (&[L62], "\\255", 62, "ssso", 65),
@@ -151,7 +151,7 @@ fn long_text(alloc: Global, labels: &[&str], end: &str) -> Result<String, AllocE
     [front.as_str(), end].concat(alloc)
 }
 
-/// How many wire bytes the name has that a text spells, or 0 where it has a fault.
+/// How many wire bytes the name has that a text spells, or 0 if it has a fault.
 fn wire_length(alloc: Global, text: &str) -> usize {
     match Name::from_str(alloc, text) {
         Ok(name) => name.as_slice().len(),
@@ -159,7 +159,8 @@ fn wire_length(alloc: Global, text: &str) -> usize {
     }
 }
 
-/// Whether so many bytes of a text are a name, and its longer beginnings answered these letters.
+/// Whether this many bytes of a text are a name, and its longer beginnings are answered by these
+/// letters.
 fn is_name_up_to(alloc: Global, text: &str, named: usize, rest: &str) -> Result<bool, AllocError> {
     let names = "o".repeat(alloc, named)?;
     let wanted = ["e", names.as_str(), rest].concat(alloc)?;

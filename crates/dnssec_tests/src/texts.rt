@@ -100,7 +100,7 @@ const FAULTS_OF_NOTES: &[(NotesFault, &str)] = &[
     (NotesFault::OutOfMemory, "out of memory"),
 ];
 
-/// Why no reports are told, and what it prints.
+/// Why no reports are written, and what it prints.
 const FAULTS_OF_REPORTS: &[(DueFault, &str)] = &[
     (
         DueFault::Script(ScriptFault::Malformed(2)),

@@ -1,9 +1,9 @@
-//! The program of the gate that makes calls of which one may get no memory.
+//! A program of the gate: it makes calls, one of which may get no memory.
 //!
-//! Its standard input is a letter that names the calls. Where all went as it should, it ends with
-//! status 0 and writes `refused` if a call was refused for lack of memory: that call changed
-//! nothing, and was accepted when it was made again. It writes `ample` if none was. Else it writes
-//! what went otherwise, and ends with status 1.
+//! Its standard input is a letter that names the calls. If all went as it should, it ends with
+//! status 0. It then writes `refused` if a call was refused for lack of memory: that call changed
+//! nothing, and was accepted when it was made again. It writes `ample` if no call was. If something
+//! went otherwise, it writes what, and ends with status 1.
 #![tactic(auto)]
 
 mod copies;
@@ -28,7 +28,7 @@ fn main(rt: HostRuntime) -> ExitCode {
     match make_calls(rt.alloc(), letter, &mut memory) {
         Ok(()) => said(println!(rt; "{}", word(memory)).is_ok()),
         Err(wrong) => {
-            // The status tells it too, so that the text may be lost.
+            // The status says it too, so the text may be lost.
             let _ = println!(rt; "{wrong}");
             ExitCode::FAILURE
         }

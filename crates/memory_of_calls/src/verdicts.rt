@@ -5,7 +5,7 @@ use dnssec_keyset::Error;
 use dnssec_record::{Reply, Run, ScriptFault, audit, audit_window, record_script};
 use std::alloc::Global;
 
-/// The first keys of a zone, with a wait that is claimed too early. Then keys of other signers come
+/// The first keys of a zone, with a wait that is made too early. Then keys of other signers come
 /// into the DNSKEY set one by one, so that a judge keeps more sets than it has room for at first.
 const SCRIPT: &str = "zone example.com
 add-ksk K1 - 13 1 0 yes
@@ -30,8 +30,8 @@ set-present E yes 90
 /// Its calls.
 const CALLS: usize = 17;
 
-/// Where a request for memory is refused, there is no record, or it says so of the call that made
-/// this request. Asked again there is one.
+/// If a request for memory is refused, there is no record, or the record says so of the call that
+/// made the request. Asked again, there is one.
 pub(crate) fn record(alloc: Global, memory: &mut Memory) -> Result<Run, Wrong> {
     let mut answer = record_script(alloc, SCRIPT.as_bytes());
     if matches!(answer, Err(ScriptFault::OutOfMemory)) && memory.fails() {
@@ -60,8 +60,8 @@ pub(crate) fn judge_by_definition(alloc: Global, memory: &mut Memory) -> Result<
     }
 }
 
-/// A judge keeps a window, so where a request of its own is refused it has no verdict. Asked again
-/// it has one.
+/// A judge keeps a window, so if its own request is refused it has no verdict. Asked again, it has
+/// one.
 pub(crate) fn judge_by_window(alloc: Global, memory: &mut Memory) -> Result<(), Wrong> {
     let run = record(alloc, memory)?;
     let mut answer = audit_window(alloc, &run.entries);
