@@ -12,7 +12,7 @@
 
 #define ROUNDS 20
 #define SECOND 1e9
-#define SESSIONS 100
+#define SESSIONS 1000
 
 static uint8_t script[1 << 22], out[1 << 22];
 static size_t length, lines;

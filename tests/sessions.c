@@ -433,7 +433,8 @@ static bool play_failing(const struct stored *it, size_t failing, size_t *closed
 
 /* A question or a copy in which the request of this number fails: it is out of memory. Only the
    status does without memory, for one request of each time, and is then as ever: `without` counts
-   these. */
+   these. It is the first one for the list of the keys in their order, which asks for room for all of
+   them, and then for one key alone. */
 static bool fail_one(size_t kind, struct keyset_session *session, size_t failing, size_t *without)
 {
     struct keyset_session other = {0};
