@@ -1,14 +1,16 @@
 #!/usr/bin/env python3
 """Runs the command of an operator on stored transcripts, without a server.
 
-    tests/command.py            compares what each line prints, kills it at each point, and counts
-                                the lines of the command that ran
+    tests/command.py            compares what each line prints, asks facts.py, kills it after each
+                                change of its files, and counts the lines of its code that ran
     tests/command.py --write    writes the transcripts anew
+    tests/command.py --left     shows which lines of its code did not run
 
 A transcript, `tests/command/NAME.txt`, has lines that begin with `$ `, each with what it prints
 below it, then `? N` if it ends with a status that isn't 0. `NOW=N` in front of a line is the clock.
 Each transcript has a folder of its own, with the examples and the key files in it."""
 
+import itertools
 import os
 import re
 import shlex
@@ -68,38 +70,40 @@ def compare(write):
             path.write_text(made)
         elif made != text:
             (Path(tempfile.gettempdir()) / path.name).write_text(made)
-            place = next(
-                n
-                for n, pair in enumerate(zip(made.split("\n"), text.split("\n")), start=1)
-                if pair[0] != pair[1]
-            )
+            pairs = itertools.zip_longest(made.split("\n"), text.split("\n"))
+            place = next(n for n, (one, other) in enumerate(pairs, start=1) if one != other)
             faults.append(f"{path.name}:{place}: it prints something else")
     return faults, lines
 
 
 class Killed:
-    """Runs a part of this program in a process of its own, which dies at a line of the code that
-    writes."""
+    """Runs a part of this program in a process of its own, which dies when its files have changed
+    so many times. If it died later, but before the next change, it would leave the same files."""
 
     def __init__(self, part):
         self.part = part
 
-    def at(self, tick):
-        """Whether the part came to its end before so many lines."""
+    def after(self, changes):
+        """Whether the part came to its end before so many changes."""
         child = os.fork()
         if child == 0:
-            self.left = tick
+            self.left, self.seen = changes, self.files()
             sys.settrace(self.count)
             self.part()
             os._exit(0)
         return os.waitstatus_to_exitcode(os.waitpid(child, 0)[1]) == 0
 
+    def files(self):
+        found = ((it.name, it.stat()) for it in os.scandir() if it.is_file())
+        return {name: (stat.st_size, stat.st_mtime_ns) for name, stat in found}
+
     def count(self, frame, event, _):
         if Path(frame.f_code.co_filename).name not in WRITERS:
             return None
         if event == "line":
-            self.left -= 1
-            if self.left == 0:
+            if (now := self.files()) != self.seen:
+                self.left, self.seen = self.left - 1, now
+            if self.left <= 0:
                 os._exit(KILLED)
         return self.count
 
@@ -109,22 +113,22 @@ def left(files):
 
 
 def kill_everywhere(name, part, prepare, files, step):
-    """Kills a part at each point, runs it once more, and compares the files with those that it
-    leaves without a crash. Gives the faults, and how many crashes there were."""
+    """Kills a part after each change of its files, runs it once more, and compares the files with
+    those that it leaves without a crash. Gives the faults, and how many crashes there were."""
     with folder():
         prepare()
         part()
         wanted = left(files)
-    faults, tick, ended = [], 1, False
+    faults, changes, ended = [], 0, False
     while not ended:
         with folder():
             prepare()
-            ended = Killed(part).at(tick)
+            ended = Killed(part).after(changes)
             part()
             if left(files) != wanted:
-                faults.append(f"{name}: killed at its line {tick}, it ends differently")
-        tick += step
-    return faults, tick // step
+                faults.append(f"{name}: killed after change {changes}, it ends differently")
+        changes += step
+    return faults, changes // step
 
 
 def noted():
@@ -137,11 +141,11 @@ def noted():
 
 
 def operate():
-    """A loop of ticks, ten seconds apart, in which an operator does what is due by the script: from
+    """A loop of ticks, 35 seconds apart, in which an operator does what is due by the script: from
     the start of a roll to its end. The clock goes on in a file, so that the loop goes on after a
     crash where it was."""
     script, clock = "start.script", Path("clock")
-    for now in range(int(clock.read_text()), 500, 10):
+    for now in range(int(clock.read_text()), 500, 35):
         clock.write_text(str(now))
         if "done zsk-roll" in Path(script).read_text():
             return
@@ -151,21 +155,27 @@ def operate():
         typed(["call", script, f"wait2 zsk-roll {now}"], now)
 
 
+def published():
+    """The DNSKEY set of the roll is published, and not yet seen."""
+    noted()
+    typed(["act", "start.script", "--zone-file", "zone", "--out", "signed"], 205)
+
+
 def begin_to_operate():
     noted()
     Path("clock").write_text("200")
 
 
-# What is killed: its name, what it runs, what has to be there, which files it leaves, and each how
-# many lines.
+# What is killed: its name, what it runs, what has to be there, which files it leaves, and after
+# each how many changes of files.
 CRASHES = (
     ("call", lambda: typed(["call", "mid.script", "wait1 zsk-roll now"], 270), noted,
      ["mid.script"], 1),
     ("act", lambda: typed(["act", "start.script", "--zone-file", "zone", "--out", "signed"], 205),
-     noted, ["signed", "start.notes"], 2),
-    ("watch", lambda: typed(["watch", "start.script", "--server", "one", "--ttl", "60", "--call"],
-                            210), noted, ["start.script", "start.notes"], 2),
-    ("loop", operate, begin_to_operate, ["start.script", "start.notes", "signed"], 97),
+     noted, ["signed", "start.notes"], 1),
+    ("watch", lambda: typed(["watch", "start.script", "--server", "signed", "--call"], 210),
+     published, ["start.script", "start.notes"], 1),
+    ("loop", operate, begin_to_operate, ["start.script", "start.notes", "signed"], 12),
 )
 
 

@@ -17,7 +17,7 @@ from .errors import UNAVAILABLE, Failure
 SIGNERS = {
     "bind": {
         "sign": "dnssec-signzone -qzP -N unixtime -O full -o {origin} -f {draft} {whole} {keys} "
-        ">&2",
+        ">/dev/null",
         "plain": "named-compilezone -q -i none -o {draft} {origin} {whole}",
         "cds": "dnssec-dsfromkey -C -2 {key} >>{whole}",
         "ds": "dnssec-dsfromkey -2 {key}",
