@@ -82,20 +82,16 @@ const FAULTS_OF_NOTES: &[(NotesFault, &str)] = &[
         "line 1: no such call yet",
     ),
     (
-        NotesFault::Refused(2, NoteFault::GoesBack),
-        "line 2: goes back to an earlier call",
+        NotesFault::Refused(2, NoteFault::SeenBeforePublished),
+        "line 2: seen before it was published",
     ),
     (
-        NotesFault::Refused(3, NoteFault::SeenBeforePublished),
-        "line 3: seen before it was published",
+        NotesFault::Refused(3, NoteFault::MomentFalls),
+        "line 3: moment before the last one",
     ),
     (
-        NotesFault::Refused(4, NoteFault::MomentFalls),
-        "line 4: moment before the last one",
-    ),
-    (
-        NotesFault::Refused(5, NoteFault::OutOfMemory),
-        "line 5: out of memory",
+        NotesFault::Refused(4, NoteFault::OutOfMemory),
+        "line 4: out of memory",
     ),
     (NotesFault::OutOfMemory, "out of memory"),
 ];
