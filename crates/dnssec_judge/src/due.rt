@@ -1,12 +1,12 @@
 //! The reports that a judge waits for.
 ghost use Rattle.std.specs.Prelude.{◌≡◌, ◌+◌, ◌*◌, ℕ, nat_lt, not};
 ghost use Rattle.dnssec_run.specs.Safe.{kind_of};
-ghost use Rattle.dnssec_judge.specs.Inner.Window.{over, over_any, over_by, step_of};
+ghost use Rattle.dnssec_run.specs.Steps.{step_of};
+ghost use Rattle.dnssec_judge.specs.Inner.Window.{over, over_any, over_by};
 
 use crate::safety::is_over;
-use crate::steps::Steps;
 use dnssec_keyset::UnixTime;
-use dnssec_run::{Mark, SetKind, retires};
+use dnssec_run::{Mark, SetKind, Steps, retires};
 
 /// A report that isn't over yet. Once it is, all below its base is retired.
 #[derive(Clone, Copy, Debug)]
