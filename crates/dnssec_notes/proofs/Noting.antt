@@ -1,4 +1,4 @@
--- Notes, line by line: what is noted behind one line more.
+-- Notes, line by line: what is noted after one more line.
 use Rattle.std.proofs.Common.{◌≡◌, ℕ, ◌+◌, ◌<◌, ◌≤◌, ◌++◌, List, [], ◌∷◌, Bor, map, length, take}
 use Rattle.std.proofs.Common.{arith, inl, inr, Result, Ok, Err}
 use Rattle.std.specs.Option.{option_map}
@@ -33,7 +33,8 @@ taken-more calls old (f ∷ facts) fact taken here = (
 
 -- no line, no fact
 pub no_facts : (calls : ℕ) (facts : List Fact) → facts ≡ [] → AreFacts calls [] facts
-no_facts calls facts none = subst (AreFacts calls []) (sym none) (record { said = refl; taken = tt })
+no_facts calls facts none =
+    subst (AreFacts calls []) (sym none) (record { said = refl; taken = tt })
 
 -- one line more
 pub facts-more : (calls : ℕ) (xs : List (Bor (List ℕ))) (i : ℕ) (old new : NotesParts)
@@ -41,7 +42,8 @@ pub facts-more : (calls : ℕ) (xs : List (Bor (List ℕ))) (i : ℕ) (old new :
     → HasLine calls old (text_at xs i) new
     → AreFacts calls (take (i + 1) (map now xs)) new.facts
 facts-more calls xs i old new within are line =
-    subst (AreFacts calls (take (i + 1) (map now xs))) (sym (ap (λ (n : NotesParts). n.facts) line.notes))
+    subst (AreFacts calls (take (i + 1) (map now xs)))
+    (sym (ap (λ (n : NotesParts). n.facts) line.notes))
     (record {
       said = map_more as_fact (map now xs) i [] (within_shown xs i within)
           ∙ ap (λ v. map as_fact (take i (map now xs)) ++ v ∷ [])
@@ -74,7 +76,8 @@ fault-here calls xs i facts fault within are here = record {
   within = within_shown xs i within;
   facts = facts;
   before = are;
-  here = subst (λ line. IsLineFault calls facts line (i + 2) fault) (sym (shown_at xs i within)) here;
+  here = subst (λ line. IsLineFault calls facts line (i + 2) fault) (sym (shown_at xs i within))
+      here;
 }
 
 -- ---- all lines

@@ -8,7 +8,7 @@ use Rattle.dnssec_notes.specs.declared.fault.NotesFault.{NotesFault}
 use Rattle.dnssec_notes.specs.declared.fault.NotesFault.TheVariants.{Malformed, Refused}
 use Rattle.dnssec_notes.specs.declared.fault.NotesFault.TheVariants.{OutOfMemory}
 
--- what is told of notes
+-- what is said of notes
 abbrev pub notes_fault_text : NotesFault → List ℕ
 notes_fault_text (Malformed n) = codes "line " ++ decimal n ++ codes ": malformed"
 notes_fault_text (Refused n fault) = codes "line " ++ decimal n ++ codes ": " ++ fault_text fault

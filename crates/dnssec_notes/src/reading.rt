@@ -11,13 +11,13 @@ use dnssec_network::{Before, NoteFault, Notes};
 use dnssec_record::all_lines;
 use std::alloc::Global;
 
-/// Reads notes, which stand beside a script with so many calls.
+/// Reads notes, which stand beside a script. `calls` is how many calls the script makes.
 ///
 /// # Errors
 ///
-/// - `Malformed` with the number of the first line that is none of notes.
+/// - `Malformed` with the number of the first line that isn't a line of notes.
 /// - `Refused` with the number of the first fact that can't follow those before it, and the cause.
-/// - `OutOfMemory` where memory runs out.
+/// - `OutOfMemory` if memory runs out.
 ///
 /// ```rust
 /// let text = "before 3600 3600 3600\npublished dnskey 12 3600 100\neverywhere dnskey 130\n";
@@ -48,7 +48,7 @@ fn read_lines(alloc: Global, calls: usize, lines: &[&[u8]]) -> Result<Notes, Not
     read_facts(alloc, calls, before, rest)
 }
 
-/// Notes the fact of each of the lines, which stand from line 2 on.
+/// Notes the fact of each line, from line 2 on.
 fn read_facts(
     alloc: Global,
     calls: usize,

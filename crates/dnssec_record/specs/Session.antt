@@ -47,7 +47,7 @@ pub record Stands (lines : List (List ℕ)) (entries : List Entry) (s : Session)
   pub is_script : AreScript lines name calls
   pub stands : StandsAfter name calls entries s
 
--- the same of the lines of a script
+-- the same for the lines of a script
 pub record Resumes (script : List ℕ) (s : Session) : Type 0 where
   pub entries : List Entry
   pub stands : Stands (lines_of script) entries s

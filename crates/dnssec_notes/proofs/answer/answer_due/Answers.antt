@@ -1,4 +1,4 @@
--- The lines are due behind the run of the script.
+-- The lines are due after the run of the script.
 use Rattle.std.proofs.Common.{◌≡◌, ℕ, suc, sym, ap, ◌∙◌, arith, length, List, subst}
 use Rattle.std.specs.Prelude.{vec_len}
 use Rattle.dnssec_run.specs.declared.record.Entry.{Entry}

@@ -21,12 +21,15 @@ returns-in_default-read_before-clause-err c text read =
 pub returns-clause-ok : goal.returns-clause-ok
 returns-clause-ok c text read =
     let split = lines_split text _ _ _ _ read refl c.in-Some.ensures.cases.0 in
-    let said = before_said _ c.in-Some-read_before.before _ c.read_before.ensures c.in-Some-read_before.is in
+    let said = before_said _ c.in-Some-read_before.before _ c.read_before.ensures
+    c.in-Some-read_before.is in
     notes-all c.args.calls (lines_of text) _ _ c.in-Some-read_before.before _ split said
     c.read_facts.ensures.before c.read_facts.ensures.ok
 
 pub returns-clause-err : goal.returns-clause-err
 returns-clause-err c text read =
     let split = lines_split text _ _ _ _ read refl c.in-Some.ensures.cases.0 in
-    let said = before_said _ c.in-Some-read_before.before _ c.read_before.ensures c.in-Some-read_before.is in
-    fault-all c.args.calls text _ _ c.in-Some-read_before.before _ split said c.read_facts.ensures.err
+    let said = before_said _ c.in-Some-read_before.before _ c.read_before.ensures
+    c.in-Some-read_before.is in
+    fault-all c.args.calls text _ _ c.in-Some-read_before.before _ split said
+    c.read_facts.ensures.err
