@@ -34,11 +34,10 @@ pub enum Told {
 }
 
 /// A zone whose calls come one at a time, as a daemon makes them. It keeps the key set, what is
-/// published and what the judge needs, so that a call costs what the call costs, however many came
-/// before it.
+/// published and what the judge needs. So a call costs the same however many came before it.
 ///
-/// The lines so far are a script: what the session says to each, and last `closing`, is together
-/// what `run_script` writes for them.
+/// The lines so far are a script. The answers to the lines, and after them `closing`, are together
+/// what `run_script` writes for that script.
 ///
 /// ```rust
 /// let mut session = Session::open(alloc, b"zone example.com")?;
@@ -74,7 +73,8 @@ impl Session {
         Ok(Session::new(alloc, name)?)
     }
 
-    /// The session after the lines of a script: what `open` and a `call` of each further line leave.
+    /// The session after the lines of a script, as `open` and a `call` for each further line leave
+    /// it.
     ///
     /// # Errors
     ///
@@ -124,8 +124,8 @@ impl Session {
         }
     }
 
-    /// Another session after the same calls, to see what a call would do. It takes its memory from
-    /// `alloc`.
+    /// A copy after the same calls, to try a call without committing to it. It takes its memory
+    /// from `alloc`.
     ///
     /// # Errors
     ///
@@ -148,13 +148,12 @@ impl Session {
         })
     }
 
-    /// Makes the call of the line, and answers it with a line of its own. A call that is refused is
-    /// answered too.
+    /// Makes the call of the line, and answers it with a line. A refused call is answered too.
     ///
     /// # Errors
     ///
-    /// If there is no memory. The session is then gone: open one anew, and hand in the lines that
-    /// were accepted.
+    /// `AllocError` if there is no memory. The session is then gone: open one anew, and hand in the
+    /// lines that were accepted.
     pub fn call(self, alloc: Global, line: &[u8]) -> Result<Told, AllocError>
         ensures { IfOk result (Takes self line.now) }
     {
@@ -168,8 +167,8 @@ impl Session {
         Ok(Told::Answered(session, answer))
     }
 
-    /// Makes the call, and hands out its reply with the session after it. A call that is refused,
-    /// also because memory ran out, is a call of the session's record too.
+    /// Makes the call, and answers its reply and the session after it. A refused call counts in the
+    /// record too, also one that ran out of memory.
     ///
     /// # Errors
     ///
@@ -257,8 +256,8 @@ impl Session {
         self.recorder.published()
     }
 
-    /// The keys that the starts of the rolls in progress listed: for each roll the old ones and then
-    /// the new ones, but none that was deleted since.
+    /// The keys that the starts of the rolls in progress listed: for each roll the old ones, then
+    /// the new ones. A key that was deleted since is left out.
     pub fn listed(&self) -> &[Listed]
         ensures { (name : List ℕ) (calls : List Call) (entries : List Entry) →
             StandsAfter name calls entries self.now →
@@ -267,9 +266,9 @@ impl Session {
         self.courses.listed()
     }
 
-    /// The rolls that were ended early, in the order of their ends. What such an end asked for is
-    /// reported by no call, so it stays here until a roll starts that may not go beside the ended
-    /// one: who starts that has seen it done.
+    /// The rolls that were ended early, in the order of their ends. No call reports what such an
+    /// end asked for. So it stays here until a roll starts that may not go beside the ended one:
+    /// who starts that roll has seen it done.
     pub fn ended_early(&self) -> &[RollType]
         ensures { (name : List ℕ) (calls : List Call) (entries : List Entry) →
             StandsAfter name calls entries self.now → result.now ≡ ended_by calls entries }

@@ -5,7 +5,7 @@ use Rattle.dnssec_record.specs.Session.{GoesOn, Stands}
 use Rattle.keyset_c.specs.Sessions.{Calls}
 use Rattle.keyset_c.specs.declared.kept.Kept.{Kept}
 
--- the one that was kept before is that which made the call
+-- the session that was kept before is the one that made the call
 pub called : (old new : Option Kept) (line text : List ℕ) (kept before after : Kept)
     → old ≡ Some kept → before ≡ kept → new ≡ Some after → string_bytes after.told ≡ text
     → ((lines : List (List ℕ)) (entries : List Entry) → Stands lines entries before.session

@@ -29,7 +29,7 @@ pub record Calls (old new : Option Kept) (line text : List ℕ) : Type 0 where
 abbrev pub CallsAtLength : Option Kept → Option Kept → List ℕ → ℕ → Type 0
 CallsAtLength old new line n = (text : List ℕ) × Calls old new line text × (length text ≡ n)
 
--- the text is the answer that it gave last
+-- the text is the last answer that it gave
 pub record Repeats (old : Option Kept) (text : List ℕ) : Type 0 where
   pub kept : Kept
   pub is : old ≡ Some kept

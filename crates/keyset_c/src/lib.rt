@@ -39,29 +39,30 @@ const VERSION: u32 = 2;
 #[unsafe(no_mangle)]
 pub extern "C" fn keyset_answer(alloc: Global, script: &[u8], out: &mut [u8]) -> Answered
     // Answered: the input is a script, and the front of `out` is the output of a run of its calls.
-    // What stands behind that is as it was.
+    // What stands after it is as it was.
     ensures answered { result.status ≡ 0 → IsAnswerOf script.now (take result.length out.new) }
     ensures fits { result.status ≡ 0 → result.length ≤ length out.new }
     ensures rest { result.status ≡ 0 → drop result.length out.new ≡ drop result.length out.old }
 
-    // Where the list of its calls is plain, the run is safe, and the last line says so.
+    // If the list of its calls is plain, the run is safe, and the last line says so.
     ensures safe { result.status ≡ 0 →
         StaysSafeIfPlain script.now (take result.length out.new) }
     ensures chain { result.status ≡ 0 → TextEndsSafe script.now (take result.length out.new) }
 
-    // A malformed input is told by its first malformed line, and a script is never called so.
+    // Of a malformed input the first malformed line is named, and a script is never called
+    // malformed.
     ensures malformed { result.status ≡ 1 → IsFirstMalformed script.now result.line }
     ensures well_formed { (name : List ℕ) (calls : List Call) → IsScript script.now name calls →
         result.status ≢ 1 }
 
-    // Short of room is told only where it is, with the length of an answer.
+    // Short of room is said only if it is so, with the length of an answer.
     ensures short { result.status ≡ 4 → length out.old < result.length }
     ensures needed { result.status ≡ 4 → IsAnswerOfLength script.now result.length }
 
     // Without an answer nothing is written.
     ensures silent { result.status ≢ 0 → out.new ≡ out.old }
 
-    // There is no other status, and what a status doesn't tell is 0.
+    // There is no other status, and a field that a status has no use for is 0.
     ensures status { (result.status ≡ 0) ⊎ (result.status ≡ 1) ⊎ (result.status ≡ 3)
         ⊎ (result.status ≡ 4) }
     ensures no_length { (result.status ≡ 1) ⊎ (result.status ≡ 3) → result.length ≡ 0 }
@@ -76,7 +77,7 @@ pub extern "C" fn keyset_answer(alloc: Global, script: &[u8], out: &mut [u8]) ->
             length: 0,
             line,
         },
-        // A slice never fails, and a vector only for lack of memory.
+        // A slice never fails, and a vector fails only for lack of memory.
         Err(ScriptFault::Device | ScriptFault::OutOfMemory) => fault(OUT_OF_MEMORY),
     }
 }
@@ -91,8 +92,8 @@ pub extern "C" fn keyset_version() -> u32
 
 /// Opens a session for the zone that the line names, as the first line of a script does.
 ///
-/// 0 if it is open now; else it is as it was: 1 for a line that names no zone, 3 for lack of
-/// memory, 6 if it was open.
+/// 0 if it is now open. Else it is as it was: 1 for a line that names no zone, 3 for lack of
+/// memory, 6 if it was open before.
 #[unsafe(no_mangle)]
 pub extern "C" fn keyset_open(alloc: Global, line: &[u8], session: &mut Handle) -> u32
     requires { IsWhole session.old }
@@ -156,7 +157,7 @@ pub extern "C" fn keyset_call(
     ensures malformed { result.status ≡ 1 → says line.now ≡ None }
     ensures kept { result.status ≡ 1 → kept_by session.new ≡ kept_by session.old }
 
-    // Out of memory it is closed, and a closed one makes no call.
+    // Out of memory: it is then closed, and a closed session makes no call.
     ensures lost { result.status ≡ 3 → kept_by session.new ≡ None }
     ensures closed { (result.status ≡ 5) ↔ (kept_by session.old ≡ None) }
     ensures stays_closed { result.status ≡ 5 → kept_by session.new ≡ None }
@@ -274,7 +275,7 @@ pub extern "C" fn keyset_copy(alloc: Global, session: &mut Handle, copy: &mut Ha
     }
 }
 
-/// Closes a session, and frees what it keeps. A closed one stays closed.
+/// Closes a session, and frees what it keeps. A closed session stays closed.
 #[unsafe(no_mangle)]
 pub extern "C" fn keyset_close(alloc: Global, session: &mut Handle)
     requires { IsWhole session.old }
