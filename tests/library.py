@@ -24,6 +24,7 @@ from pathlib import Path
 import install
 import long
 import release
+import sessions
 from tools import CRATES, STRICT, TOP, Wrong, run
 
 LIBRARY = TOP / "library"
@@ -282,14 +283,30 @@ def test_damaged(keyset):
     return f"{len(scripts)} scripts answered as by the program, {malformed} of them malformed"
 
 
-def test_long(keyset):
-    """What is long is answered whole: by the program, and by the library."""
+def as_session(library, script):
+    """How a session answers, line by line; its status has all of the keys."""
+    zone, *lines = script.splitlines()
+    handle = library.open(zone.encode())
+    answers = [library.call(handle, line) for line in lines]
+    accepted = [line for line, answer in zip(lines, answers) if answer.startswith("ok")]
+    keys = sum(line.startswith("add-") - line.startswith("delete ") for line in accepted)
+    answers.append(library.text("closing", handle))
+    if len(json.loads(library.text("status", handle))["keys"]) != keys:
+        raise Wrong(f"a status doesn't have {keys} keys")
+    library.close(handle)
+    return 0, "".join(answers), ""
+
+
+def test_long(folder, keyset):
+    """What is long is answered whole: by the program, by the library, and by a session."""
+    library = sessions.Library(folder / "lib" / "libkeyset.so", 64 * long.MEGABYTE)
     names = []
     for name, script, answer in long.scripts():
         names.append(name)
         for answerer, given in (
             ("program", as_program(script.encode())),
             ("library", as_library(keyset, script.encode())),
+            ("session", as_session(library, script)),
         ):
             if given != (0, answer, ""):
                 status, written, told = given
@@ -297,7 +314,7 @@ def test_long(keyset):
                     f"{name}: the {answerer} ends with status {status} after {len(written)} bytes"
                     f" of {len(answer)}; {told}"
                 )
-    return f"long scripts: {'; '.join(names)}"
+    return "; ".join(names)
 
 
 def test_frozen(keyset):
@@ -412,25 +429,26 @@ def test_python_caller(folder):
 
 
 def test(folder, room):
+    """Gives the name of each test, and what it has done."""
     expect_exports(folder)
-    yield test_in_c(folder, room)
-    yield test_static_buffer(folder, room)
-    yield test_sessions(folder, room)
-    yield test_statuses(folder)
-    yield test_c_caller(room, "C", c_flags(folder))
-    yield test_c_caller(room, "C over the shared object", shared_flags(folder))
-    yield test_rust_caller(folder, room)
-    yield test_cargo_project(folder, room)
-    yield test_python_caller(folder)
+    yield "library", test_in_c(folder, room)
+    yield "library", test_static_buffer(folder, room)
+    yield "sessions", test_sessions(folder, room)
+    yield "sessions", test_statuses(folder)
+    yield "library", test_c_caller(room, "C", c_flags(folder))
+    yield "library", test_c_caller(room, "C over the shared object", shared_flags(folder))
+    yield "library", test_rust_caller(folder, room)
+    yield "library", test_cargo_project(folder, room)
+    yield "library", test_python_caller(folder)
     keyset = python_module(folder)
-    yield test_in_python(keyset)
-    yield test_status_program(keyset)
-    yield test_resumed(keyset)
-    yield test_damaged(keyset)
-    yield test_frozen(keyset)
-    yield test_long(keyset)
-    yield test_devices()
-    yield f"install: {install.test(folder)}"
+    yield "sessions", test_in_python(keyset)
+    yield "sessions", test_status_program(keyset)
+    yield "library", test_resumed(keyset)
+    yield "library", test_damaged(keyset)
+    yield "library", test_frozen(keyset)
+    yield "long", test_long(folder, keyset)
+    yield "library", test_devices()
+    yield "install", install.test(folder)
 
 
 def main():
@@ -445,8 +463,8 @@ def main():
             if not sys.argv[1:]:
                 build(room / "libkeyset_c.a")
                 run(LIBRARY / "pack.sh", room / "libkeyset_c.a", folder)
-            for line in test(folder, room):
-                print(f"library: {line}", flush=True)
+            for name, line in test(folder, room):
+                print(f"{name}: {line}", flush=True)
         except Wrong as wrong:
             print(f"library: {wrong}")
             return 1

@@ -14,7 +14,8 @@ import json
 import sys
 from pathlib import Path
 
-TOP = Path(__file__).resolve().parent.parent
+from tools import TOP, Wrong
+
 STORED = TOP / "replay" / "scripts.txt"
 
 ROOM = 1 << 16
@@ -46,10 +47,6 @@ MEMBERS = {
 }
 
 
-class Wrong(Exception):
-    pass
-
-
 class Answered(ctypes.Structure):
     _fields_ = [
         ("status", ctypes.c_uint32),
@@ -63,12 +60,12 @@ class Handle(ctypes.Structure):
 
 
 class Library:
-    def __init__(self, path):
+    def __init__(self, path, room=ROOM):
         self.code = ctypes.CDLL(str(path))
         for name in ("call", "told", "closing", "status"):
             getattr(self.code, f"keyset_{name}").restype = Answered
         self.code.keyset_close.restype = None
-        self.out = ctypes.create_string_buffer(ROOM)
+        self.out, self.room = ctypes.create_string_buffer(room), ctypes.c_size_t(room)
 
     def open(self, line):
         handle = Handle()
@@ -78,11 +75,11 @@ class Library:
 
     def text(self, name, handle, *line):
         told = getattr(self.code, f"keyset_{name}")(
-            ctypes.byref(handle), *line, self.out, ctypes.c_size_t(ROOM)
+            ctypes.byref(handle), *line, self.out, self.room
         )
         if told.status:
             raise Wrong(f"{name}: status {told.status}")
-        return self.out.raw[: told.length].decode()
+        return ctypes.string_at(self.out, told.length).decode()
 
     def call(self, handle, line):
         line = line.encode()
