@@ -1,8 +1,9 @@
 #!/usr/bin/env python3
 """The gate: `tests/docs.py` and `tests/release.py`, then `rt ci`. Beside its first proofs runs
 `tests/runbooks.py`, and beside its edits run `tests/memory.py`, `tests/sets.py`, `tests/notes.py`,
-`tests/library.py` and `tests/command.py`. Before the last line of `rt ci` it tells when, in minutes
-and seconds since the start, each step was done, so that a rise is seen."""
+`tests/library.py` and `tests/command.py`. Then `tests/told.py` compares the numbers of docs/TESTS.md
+with what all of them have printed. Before the last line of `rt ci` it tells when, in minutes and
+seconds since the start, each step was done, so that a rise is seen."""
 
 import os
 import re
@@ -13,9 +14,19 @@ import threading
 import time
 from pathlib import Path
 
+import told
+
 TOP = Path(__file__).resolve().parent.parent
 START = time.monotonic()
 STEPS = []
+# What was printed, for the numbers in it.
+PRINTED = []
+
+
+def say(text):
+    """Prints a text with its end of line, and keeps it."""
+    print(text, end="", flush=True)
+    PRINTED.append(text)
 
 
 def note(step, after=None):
@@ -73,7 +84,7 @@ class Beside(threading.Thread):
         if self.ident is None:
             return f"the test {self.name} has not begun\n"
         self.join()
-        print(self.test.stdout, end="")
+        say(self.test.stdout)
         return f"the test {self.name} has failed\n" if self.test.returncode else None
 
 
@@ -108,7 +119,7 @@ def prove(behind):
     edits = Edits(gate.pid)
     edits.start()
     for line in gate.stdout:
-        print(last, end="", flush=True)
+        say(last)
         last = line
         if done := DONE.fullmatch(line):
             note(f"{done['what']} {done['how'].removeprefix('is ')}")
@@ -144,6 +155,13 @@ def main():
         # (A script never begins where a proof that it rests on has failed, which is told.)
         if fault and (beside.ident or status == 0):
             status, last = 1, fault
+    wrong = []
+    if status == 0:
+        told.compare("".join(PRINTED), wrong)
+        note("told")
+    if wrong:
+        print(*wrong, sep="\n")
+        status, last = 1, f"docs/TESTS.md has {len(wrong)} numbers that this gate hasn't printed\n"
     print("Done after, in minutes and seconds:", *steps(), sep="\n")
     print(last, end="", flush=True)
     return status

@@ -140,9 +140,10 @@ def main():
     waits = sum(question.due is None for question in questions)
     sharp = sum(question.most is not None for question in questions)
     print(
-        f"notes: {len(questions)} answers, of which {waits} say not yet, are those of the rule, and"
-        f" {sharp} of them no more than rule 1; {back} times a parent went back, over no step; with"
-        f" one second less 3 of {zones} zones break; {len(FAULTS)} notes with and without faults;"
+        f"notes: {len(orders)} zones, {len(questions)} answers, of which {waits} say not yet, are"
+        f" those of the rule, and {sharp} of them no more than rule 1; {back} times a parent went"
+        f" back, over no step; with one second less 3 of {zones} zones break; {len(FAULTS)} notes"
+        f" with and without faults;"
         f" {time.monotonic() - began:.0f} s"
     )
     return 0

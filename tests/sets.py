@@ -250,9 +250,9 @@ def main():
         print(f"sets: {wrong}")
         return 1
     print(
-        f"sets: {made} scripts of {len(list(courses()))} courses and {len(scripts) - made} stored"
-        f" ones, {calls} calls: answers, records and whole key sets are those of the tables,"
-        f" {time.monotonic() - began:.0f} s"
+        f"sets: {len(list(courses()))} courses in {made - 1} scripts, one of {MANY} keys,"
+        f" {len(scripts) - made} stored scripts, {calls} calls: answers, {len(scripts)} records and"
+        f" whole key sets are those of the tables, {time.monotonic() - began:.0f} s"
     )
     return 0
 

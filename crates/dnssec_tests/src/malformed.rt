@@ -2,6 +2,7 @@
 use crate::devices::{WHOLE, is_run};
 use dnssec_record::ScriptFault;
 use std::alloc::Global;
+use std::test::Fail;
 
 /// A script, and the number of its first malformed line.
 type Row = (&'static str, usize);
@@ -185,8 +186,10 @@ fn is_script_at(alloc: Global, script: &str, lengths: &[usize], end: usize) -> b
 
 /// The first malformed line is told, no line before it is run, and nothing is written.
 #[test]
-fn malformed_lines(rt: HostRuntime) {
+fn malformed_lines(rt: HostRuntime) -> Result<(), Fail> {
+    let mut rows = BYTES.len();
     for table in MALFORMED {
+        rows = rows.saturating_add(table.len());
         for (script, line) in *table {
             assert!(rt;
                 is_refused(rt.alloc(), script.as_bytes(), *line),
@@ -197,6 +200,8 @@ fn malformed_lines(rt: HostRuntime) {
     for (script, line) in BYTES {
         assert!(rt; is_refused(rt.alloc(), script, *line), "{script:?}");
     }
+    println!(rt; "dnssec_tests: {rows} rows of malformed scripts")?;
+    Ok(())
 }
 
 #[test]
