@@ -90,8 +90,8 @@ ReportsAreByNotes entries network time =
     IsByNotes network roll second base moment ttl
 
 -- Nothing goes back to before a step, of the kinds that reports of its roll speak of. Between two
--- steps versions may: a parent that reads CDS may, after a roll was ended early, give once more what
--- the start of the roll had asked for.
+-- steps versions may: a parent that reads CDS may, after a roll was ended early, give once more
+-- what the start of the roll had asked for.
 abbrev pub NoneGoesBack : List Entry → Network → Type 0
 NoneGoesBack entries network =
     (n base : ℕ) (roll : RollType) (second : Bool) (kind : SetKind) →
@@ -106,8 +106,8 @@ NotesMakeReportsTrue = (entries : List Entry) (network : Network) (time : ℕ) �
     ReportsAreTrue entries network time
 
 -- So an operator who reports by notes answers only for what can be seen: that servers give what was
--- published, and nothing goes back to before a step; that the notes are true; and that no moment lay
--- ahead of the clock.
+-- published, and nothing goes back to before a step; that the notes are true; and that no moment
+-- lay ahead of the clock.
 abbrev pub NotedReportsReachResolvers : Type 0
 NotedReportsReachResolvers =
     (name : List ℕ) (calls : List Call) (entries : List Entry) (network : Network) (time : ℕ) →
