@@ -115,7 +115,7 @@ def at(text, clock):
 def why_malformed(text, is_first=False):
     """What is wrong with a malformed line, in words."""
     if text.endswith("\r"):
-        return "it ends in a carriage return: save the file with line feeds alone"
+        return "it ends in a carriage return: save the file with line feeds only"
     if text.startswith(("#", ";", "//")):
         return "a script has no comments"
     if is_first:

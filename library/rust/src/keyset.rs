@@ -275,7 +275,7 @@ impl KeySet {
     /// The status of the zone: what the questions below are read from.
     pub fn status(&mut self) -> Result<Status, Error> {
         Status::read(&self.session.status()?).ok_or_else(|| {
-            let text = "the library tells a status of another version";
+            let text = "the library gives a status of another version";
             Error::Io(io::Error::new(io::ErrorKind::InvalidData, text))
         })
     }

@@ -1,4 +1,4 @@
-//! What the key set tells, as values with the names of `domain`'s module `keyset`.
+//! What the key set says, as values with the names of `domain`'s module `keyset`.
 
 use crate::json::Json;
 use std::collections::BTreeMap;
