@@ -7,6 +7,7 @@
 //! those of RFC 6781, section 4.1.
 #![tactic(auto)]
 
+mod key_calls;
 mod roll;
 mod set;
 mod start;

@@ -21,6 +21,7 @@ pub mod Invariant
 pub mod OneKey
 pub mod Steps
 pub mod Gentles
+pub mod KeyCalls
 pub mod Phases
 pub mod RollFacts
 pub mod BothSides

@@ -18,7 +18,7 @@ use Rattle.dnssec_zone.specs.Refusals.{AnswersExactly}
 use Rattle.dnssec_zone.proofs.Counted.Lists.{count-listed}
 use Rattle.dnssec_zone.proofs.TwoLists.{new_fault-at}
 use Rattle.dnssec_zone.proofs.Marks.{listed_more, referred}
-use Rattle.dnssec_zone.proofs.Tags.{fault-listed, first-listed, listed-same}
+use Rattle.dnssec_zone.proofs.ListedTags.{fault-listed, first-listed, listed-same}
 
 or_joined : (a b c : Bool) → (a || (b || c)) ≡ ((a || b) || c)
 or_joined true b c = refl

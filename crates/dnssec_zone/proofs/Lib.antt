@@ -23,6 +23,7 @@ pub mod Walks
 pub mod Phases
 pub mod Quantified
 pub mod Tags
+pub mod ListedTags
 pub mod Listing
 pub mod Counted
 pub mod TwoLists

@@ -27,7 +27,8 @@ use Rattle.dnssec_run.proofs.Chain.Places.{NoDs, no_ds-next, shows_ds, found_map
 use Rattle.dnssec_run.proofs.Chain.Returns.{KeepsLists}
 use Rattle.dnssec_run.proofs.Chain.Invariant.{At, Alive, at-gentle, alive-gentle}
 use Rattle.dnssec_run.proofs.Chain.OneKey.{Mapped}
-use Rattle.dnssec_run.proofs.Chain.Gentles.{Kept, gentle_kept, gentle-report, gentle-done}
+use Rattle.dnssec_run.proofs.Chain.Gentles.{gentle-report, gentle-done}
+use Rattle.dnssec_run.proofs.Chain.KeyCalls.{Kept, gentle_kept}
 use Rattle.dnssec_run.proofs.Chain.Phases.{Phases, PhaseOf, Told, Reads, Aside, phase-aside}
 use Rattle.dnssec_run.proofs.Chain.Phases.{aside-kept, aside-report, told-report, reads-report}
 use Rattle.dnssec_keyset.proofs.Laws.{same-is}

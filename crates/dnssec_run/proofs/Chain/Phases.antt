@@ -31,7 +31,7 @@ use Rattle.dnssec_run.proofs.Chain.Places.{all_ok, some_key, found_key, found_no
 use Rattle.dnssec_run.proofs.Chain.EarlyEnds.{untouched-ended, list-ended}
 use Rattle.dnssec_run.proofs.Chain.Returns.{early_end_key}
 use Rattle.dnssec_run.proofs.Chain.OneKey.{Mapped, may_at, suits}
-use Rattle.dnssec_run.proofs.Chain.Gentles.{Kept}
+use Rattle.dnssec_run.proofs.Chain.KeyCalls.{Kept}
 use Rattle.dnssec_run.proofs.Chain.Kinds.{list_start, list_waited1, list_waited2}
 use Rattle.dnssec_zone.proofs.Tests.{each_roll, each_roll-at, both, both-at}
 

@@ -58,8 +58,9 @@ use Rattle.dnssec_run.proofs.Chain.OneKey.{Mapped}
 use Rattle.dnssec_run.proofs.Chain.Places.{place_at, real, all_ok, same_call, none_at_start}
 use Rattle.dnssec_run.proofs.Chain.Places.{found_key}
 use Rattle.dnssec_run.proofs.Chain.Invariant.{At}
-use Rattle.dnssec_run.proofs.Chain.Gentles.{kept_same, kept_added, kept_deleted, kept_changed}
-use Rattle.dnssec_run.proofs.Chain.Gentles.{distinct, with_key, without_key, with_keys}
+use Rattle.dnssec_run.proofs.Chain.Gentles.{distinct}
+use Rattle.dnssec_run.proofs.Chain.KeyCalls.{kept_same, kept_added, kept_deleted, kept_changed}
+use Rattle.dnssec_run.proofs.Chain.KeyCalls.{with_key, without_key, with_keys}
 use Rattle.dnssec_run.proofs.Chain.BothSides.{Inv, mapped, calm, report, done, PassesAt}
 use Rattle.dnssec_run.proofs.Chain.FirstCalls.{start, wait1}
 use Rattle.dnssec_run.proofs.Chain.SideBySide.{wait2, safe_of, end_early}

@@ -5,7 +5,7 @@ use Rattle.dnssec_zone.specs.Start.{texts, is_listed}
 use Rattle.dnssec_zone.proofs.Entries.{fault-found, fault-behind, listed-behind}
 use Rattle.std.proofs.Math.Bool.{or-false}
 use Rattle.dnssec_zone.proofs.Marks.{listed_more, referred}
-use Rattle.dnssec_zone.proofs.Tags.{listed-nothing, listed-same}
+use Rattle.dnssec_zone.proofs.ListedTags.{listed-nothing, listed-same}
 use Rattle.dnssec_key.proofs.BitWords.{zeros}
 use Rattle.dnssec_zone.proofs.keys.Keys.check_many_new.Goals as goal
 

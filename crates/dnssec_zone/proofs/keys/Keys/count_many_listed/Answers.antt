@@ -6,7 +6,7 @@ use Rattle.dnssec_zone.specs.Start.{serves_as_kept}
 use Rattle.dnssec_zone.proofs.Counted.Lists.{none_listed}
 use Rattle.dnssec_zone.proofs.Entries.{counted-behind, low, no_more}
 use Rattle.dnssec_zone.proofs.Marks.{listed_more, referred}
-use Rattle.dnssec_zone.proofs.Tags.{listed-nothing, listed-same}
+use Rattle.dnssec_zone.proofs.ListedTags.{listed-nothing, listed-same}
 use Rattle.dnssec_key.proofs.BitWords.{zeros}
 use Rattle.dnssec_zone.proofs.keys.Keys.count_many_listed.Goals as goal
 use Rattle.dnssec_zone.proofs.keys.Keys.count_many_listed.Goals.{then-serves_first}

@@ -1,0 +1,308 @@
+//! The calls on one key: adds, setters and the deletion.
+ghost use Rattle.std.specs.Prelude.{◌≡◌, None, OnOk, OnErr, string_bytes};
+ghost use Rattle.std.specs.Option.{option_map};
+ghost use Rattle.std.specs.FinMap as map;
+ghost use Rattle.dnssec_key.specs.declared.kind.KeyType.TheVariants.{Ksk, Zsk, Csk, Include};
+ghost use Rattle.dnssec_key.specs.Key.{new_key, new_state, is_available};
+ghost use Rattle.dnssec_key.specs.Setters.{Decoupled, Present, Signer, AtParent, Stale, VisibleAt};
+ghost use Rattle.dnssec_key.specs.Setters.{DsVisibleAt, RrsigVisibleAt, setting_of};
+ghost use Rattle.dnssec_keyset.specs.Step.{AddKey, Set, DeleteKey, Changes};
+ghost use Rattle.dnssec_zone.specs.Refusals.{Answers, AnswersExactly, add_refusal, setting_refusal};
+ghost use Rattle.dnssec_zone.specs.Refusals.{deletion_refusal};
+
+use crate::set::KeySet;
+use dnssec_base::SecurityAlgorithm;
+use dnssec_key::{Available, Error, Key, KeyState, KeyType, Setting, UnixTime};
+
+impl KeySet {
+    /// Adds a KSK, which may come in by a roll if it is available.
+    ///
+    /// `pubref` names the key from now on, and `privref` its private part in the caller's storage.
+    /// `algorithm` and `key_tag` are those of its DNSKEY record (RFC 4034, section 2 and appendix
+    /// B). `creation_ts` is the moment when it was made; no other stamp is set.
+    ///
+    /// # Errors
+    ///
+    /// The first that applies, in this order. The strings are then dropped, and nothing is changed.
+    ///
+    /// - `DuplicateKeyTag` if a key has the tag.
+    /// - `KeyExists` if a key has the reference.
+    /// - `OutOfMemory` if memory runs out.
+    pub fn add_key_ksk(
+        &mut self,
+        pubref: String,
+        privref: Option<String>,
+        algorithm: SecurityAlgorithm,
+        key_tag: u16,
+        creation_ts: UnixTime,
+        available: Available,
+    ) -> Result<(), Error>
+        ensures reply { Answers (add_refusal self.old.keys (string_bytes pubref) key_tag) result }
+        ensures ok { OnOk result (Changes self.old (AddKey (string_bytes pubref)
+            (new_key (option_map string_bytes privref) (Ksk (new_state (is_available available)))
+            algorithm key_tag creation_ts)) self.new) }
+        ensures err { OnErr result (self.new ≡ self.old) }
+    {
+        let keytype = KeyType::Ksk(KeyState::new(available));
+        let key = Key::new(privref, keytype, algorithm, key_tag, creation_ts);
+        self.add(pubref, key)
+    }
+
+    /// Adds a ZSK, as `add_key_ksk` adds a KSK.
+    ///
+    /// # Errors
+    ///
+    /// Those of `add_key_ksk`, in that order. Nothing is then changed.
+    pub fn add_key_zsk(
+        &mut self,
+        pubref: String,
+        privref: Option<String>,
+        algorithm: SecurityAlgorithm,
+        key_tag: u16,
+        creation_ts: UnixTime,
+        available: Available,
+    ) -> Result<(), Error>
+        ensures reply { Answers (add_refusal self.old.keys (string_bytes pubref) key_tag) result }
+        ensures ok { OnOk result (Changes self.old (AddKey (string_bytes pubref)
+            (new_key (option_map string_bytes privref) (Zsk (new_state (is_available available)))
+            algorithm key_tag creation_ts)) self.new) }
+        ensures err { OnErr result (self.new ≡ self.old) }
+    {
+        let keytype = KeyType::Zsk(KeyState::new(available));
+        let key = Key::new(privref, keytype, algorithm, key_tag, creation_ts);
+        self.add(pubref, key)
+    }
+
+    /// Adds a CSK, as `add_key_ksk` adds a KSK. Both its roles are new.
+    ///
+    /// # Errors
+    ///
+    /// Those of `add_key_ksk`, in that order. Nothing is then changed.
+    pub fn add_key_csk(
+        &mut self,
+        pubref: String,
+        privref: Option<String>,
+        algorithm: SecurityAlgorithm,
+        key_tag: u16,
+        creation_ts: UnixTime,
+        available: Available,
+    ) -> Result<(), Error>
+        ensures reply { Answers (add_refusal self.old.keys (string_bytes pubref) key_tag) result }
+        ensures ok { OnOk result (Changes self.old (AddKey (string_bytes pubref)
+            (new_key (option_map string_bytes privref)
+            (Csk (new_state (is_available available)) (new_state (is_available available)))
+            algorithm key_tag creation_ts)) self.new) }
+        ensures err { OnErr result (self.new ≡ self.old) }
+    {
+        let state = KeyState::new(available);
+        let key = Key::new(
+            privref,
+            KeyType::Csk(state, state),
+            algorithm,
+            key_tag,
+            creation_ts,
+        );
+        self.add(pubref, key)
+    }
+
+    /// Adds the key of another signer, which may be published beside those of the set. It has no
+    /// private part. `available` is kept, but no roll takes such a key.
+    ///
+    /// # Errors
+    ///
+    /// Those of `add_key_ksk`, in that order. Nothing is then changed.
+    pub fn add_public_key(
+        &mut self,
+        pubref: String,
+        algorithm: SecurityAlgorithm,
+        key_tag: u16,
+        creation_ts: UnixTime,
+        available: bool,
+    ) -> Result<(), Error>
+        ensures reply { Answers (add_refusal self.old.keys (string_bytes pubref) key_tag) result }
+        ensures ok { OnOk result (Changes self.old (AddKey (string_bytes pubref)
+            (new_key None (Include (new_state available)) algorithm key_tag creation_ts))
+            self.new) }
+        ensures err { OnErr result (self.new ≡ self.old) }
+    {
+        let available = if available {
+            Available::Available
+        } else {
+            Available::NotAvailable
+        };
+        let keytype = KeyType::Include(KeyState::new(available));
+        let key = Key::new(None, keytype, algorithm, key_tag, creation_ts);
+        self.add(pubref, key)
+    }
+
+    /// Sets whether a key is decoupled from the caller's storage of keys. No memory is taken.
+    ///
+    /// # Errors
+    ///
+    /// `KeyNotFound` if no key has the reference. Nothing is then changed.
+    pub fn set_decoupled(&mut self, pubref: &str, value: bool) -> Result<(), Error>
+        ensures reply { AnswersExactly
+            (setting_refusal (Decoupled value) (map.get self.old.keys pubref.now)) result }
+        ensures ok { OnOk result
+            (Changes self.old (Set pubref.now (Decoupled value)) self.new) }
+        ensures err { OnErr result (self.new ≡ self.old) }
+    {
+        self.set(pubref, Setting::Decoupled(value))
+    }
+
+    /// Puts a key into the DNSKEY set by hand, or takes it out, in each of its roles. A key that is
+    /// put in for the first time is stamped as published at `now`; no other stamp changes. No
+    /// memory is taken.
+    ///
+    /// # Errors
+    ///
+    /// `KeyNotFound` if no key has the reference. Nothing is then changed.
+    pub fn set_present(&mut self, pubref: &str, value: bool, now: &UnixTime) -> Result<(), Error>
+        ensures reply { AnswersExactly
+            (setting_refusal (Present value now.now) (map.get self.old.keys pubref.now)) result }
+        ensures ok { OnOk result
+            (Changes self.old (Set pubref.now (Present value now.now)) self.new) }
+        ensures err { OnErr result (self.new ≡ self.old) }
+    {
+        self.set(pubref, Setting::Present(value, *now))
+    }
+
+    /// Sets by hand whether a key signs, in each of its roles. No memory is taken.
+    ///
+    /// # Errors
+    ///
+    /// `KeyNotFound` if no key has the reference, `WrongKeyType` for a key of another signer.
+    /// Nothing is then changed.
+    pub fn set_signer(&mut self, pubref: &str, value: bool) -> Result<(), Error>
+        ensures reply { AnswersExactly
+            (setting_refusal (Signer value) (map.get self.old.keys pubref.now)) result }
+        ensures ok { OnOk result
+            (Changes self.old (Set pubref.now (Signer value)) self.new) }
+        ensures err { OnErr result (self.new ≡ self.old) }
+    {
+        self.set(pubref, Setting::Signer(value))
+    }
+
+    /// Sets by hand whether the parent has to have a DS record for a KSK or a CSK. No memory is
+    /// taken.
+    ///
+    /// # Errors
+    ///
+    /// `KeyNotFound` if no key has the reference, `WrongKeyType` for a key of another kind. Nothing
+    /// is then changed.
+    pub fn set_at_parent(&mut self, pubref: &str, value: bool) -> Result<(), Error>
+        ensures reply { AnswersExactly
+            (setting_refusal (AtParent value) (map.get self.old.keys pubref.now)) result }
+        ensures ok { OnOk result
+            (Changes self.old (Set pubref.now (AtParent value)) self.new) }
+        ensures err { OnErr result (self.new ≡ self.old) }
+    {
+        self.set(pubref, Setting::AtParent(value))
+    }
+
+    /// Makes a key stale by hand. In each of its roles it is then old, and neither signs, nor is in
+    /// the DNSKEY set, nor has a DS at the parent. No memory is taken.
+    ///
+    /// # Errors
+    ///
+    /// `KeyNotFound` if no key has the reference. Nothing is then changed.
+    pub fn set_stale(&mut self, pubref: &str) -> Result<(), Error>
+        ensures reply { AnswersExactly
+            (setting_refusal Stale (map.get self.old.keys pubref.now)) result }
+        ensures ok { OnOk result
+            (Changes self.old (Set pubref.now Stale) self.new) }
+        ensures err { OnErr result (self.new ≡ self.old) }
+    {
+        self.set(pubref, Setting::Stale)
+    }
+
+    /// Stamps the key as seen in the DNSKEY set by all servers from `time` on. No memory is taken.
+    ///
+    /// # Errors
+    ///
+    /// `KeyNotFound` if no key has the reference. Nothing is then changed.
+    pub fn set_visible(&mut self, pubref: &str, time: UnixTime) -> Result<(), Error>
+        ensures reply { AnswersExactly
+            (setting_refusal (VisibleAt time) (map.get self.old.keys pubref.now)) result }
+        ensures ok { OnOk result
+            (Changes self.old (Set pubref.now (VisibleAt time)) self.new) }
+        ensures err { OnErr result (self.new ≡ self.old) }
+    {
+        self.set(pubref, Setting::VisibleAt(time))
+    }
+
+    /// Stamps the key's DS record as seen by all servers of the parent from `time` on. No memory is
+    /// taken.
+    ///
+    /// # Errors
+    ///
+    /// `KeyNotFound` if no key has the reference. Nothing is then changed.
+    pub fn set_ds_visible(&mut self, pubref: &str, time: UnixTime) -> Result<(), Error>
+        ensures reply { AnswersExactly
+            (setting_refusal (DsVisibleAt time) (map.get self.old.keys pubref.now)) result }
+        ensures ok { OnOk result
+            (Changes self.old (Set pubref.now (DsVisibleAt time)) self.new) }
+        ensures err { OnErr result (self.new ≡ self.old) }
+    {
+        self.set(pubref, Setting::DsVisibleAt(time))
+    }
+
+    /// Stamps the key's signatures as seen by all servers from `time` on. No memory is taken.
+    ///
+    /// # Errors
+    ///
+    /// `KeyNotFound` if no key has the reference. Nothing is then changed.
+    pub fn set_rrsig_visible(&mut self, pubref: &str, time: UnixTime) -> Result<(), Error>
+        ensures reply { AnswersExactly
+            (setting_refusal (RrsigVisibleAt time) (map.get self.old.keys pubref.now)) result }
+        ensures ok { OnOk result
+            (Changes self.old (Set pubref.now (RrsigVisibleAt time)) self.new) }
+        ensures err { OnErr result (self.new ≡ self.old) }
+    {
+        self.set(pubref, Setting::RrsigVisibleAt(time))
+    }
+
+    /// Deletes a key that is stale in each of its roles, also while rolls are in progress. No
+    /// memory is taken.
+    ///
+    /// # Errors
+    ///
+    /// `KeyNotFound` if no key has the reference, `KeyNotOld` if the key isn't stale in one of its
+    /// roles. Nothing is then changed.
+    pub fn delete_key(&mut self, pubref: &str) -> Result<(), Error>
+        ensures reply { AnswersExactly
+            (deletion_refusal (map.get self.old.keys pubref.now)) result }
+        ensures ok { OnOk result (Changes self.old (DeleteKey pubref.now) self.new) }
+        ensures err { OnErr result (self.new ≡ self.old) }
+    {
+        let key_tag = self.keys.delete(pubref)?;
+        self.lists.forget(key_tag);
+        Ok(())
+    }
+
+    /// Adds a key.
+    #[inline(always)]
+    fn add(&mut self, pubref: String, key: Key) -> Result<(), Error>
+        ensures reply { Answers
+            (add_refusal self.old.keys (string_bytes pubref) key.key_tag) result }
+        ensures ok { OnOk result
+            (Changes self.old (AddKey (string_bytes pubref) key) self.new) }
+        ensures err { OnErr result (self.new ≡ self.old) }
+    {
+        self.keys.add(self.alloc, pubref, key)
+    }
+
+    /// Changes a key by hand. An early end leaves a key alone whose flag was set by hand.
+    fn set(&mut self, pubref: &str, setting: Setting) -> Result<(), Error>
+        ensures reply { AnswersExactly
+            (setting_refusal (setting_of setting) (map.get self.old.keys pubref.now)) result }
+        ensures ok { OnOk result (Changes self.old (Set pubref.now (setting_of setting)) self.new) }
+        ensures err { OnErr result (self.new ≡ self.old) }
+    {
+        let key_tag = self.keys.set(pubref, setting)?;
+        if setting.sets_flag() {
+            self.lists.forget(key_tag);
+        }
+        Ok(())
+    }
+}
