@@ -3,7 +3,7 @@ use Rattle.std.specs.List.{list_any}
 use Rattle.std.specs.HashMap.{values}
 use Rattle.std.specs.Option.{option_map}
 use Rattle.dnssec_key.specs.Inner.TagIndex.{has}
-use Rattle.dnssec_zone.proofs.keys.index_of.Given as goal
+use Rattle.dnssec_zone.proofs.key_map.index_of.Given as goal
 
 -- what the index has, and what the keys have that are left, is what all have
 abbrev pub invariant-loop-key : goal.invariant-loop-key

@@ -3,7 +3,7 @@ use Rattle.std.specs.List.{fold}
 use Rattle.std.specs.HashMap.{values}
 use Rattle.dnssec_key.specs.RollTable.{which}
 use Rattle.dnssec_zone.specs.Inner.Over.{over_by, over_with}
-use Rattle.dnssec_zone.proofs.keys.latest_over.Given as goal
+use Rattle.dnssec_zone.proofs.key_map.latest_over.Given as goal
 
 -- the walk over the keys that are left begins at the latest stamp so far
 abbrev pub invariant-loop-key : goal.invariant-loop-key

@@ -3,7 +3,7 @@ use Rattle.std.proofs.Common.{rules, sym, ◌∙◌}
 use Rattle.dnssec_key.specs.RollTable.{which}
 use Rattle.dnssec_zone.specs.Inner.Over.{over_by}
 use Rattle.dnssec_zone.proofs.Waits.{walk-lost}
-use Rattle.dnssec_zone.proofs.keys.latest_over.Goals as goal
+use Rattle.dnssec_zone.proofs.key_map.latest_over.Goals as goal
 
 pub returns-in_err-at-clause-latest : goal.returns-in_err-at-clause-latest
 returns-in_err-at-clause-latest c =

@@ -1,6 +1,6 @@
 -- A walk counts what there is.
 use Rattle.dnssec_zone.proofs.Counted.Kept.{counts-walked}
-use Rattle.dnssec_zone.proofs.keys.recount.Goals as goal
+use Rattle.dnssec_zone.proofs.key_map.recount.Goals as goal
 
 pub returns : goal.returns
 returns c = rw c.count_all.ensures

@@ -5,7 +5,7 @@ use Rattle.dnssec_key.specs.Inner.TagIndex.{has}
 use Rattle.dnssec_zone.specs.Keys.{keys_in_map}
 use Rattle.dnssec_zone.proofs.Tags.{TagsAgree-made}
 use Rattle.dnssec_zone.proofs.Walks.{some_key-shown}
-use Rattle.dnssec_zone.proofs.keys.index_many.Goals as goal
+use Rattle.dnssec_zone.proofs.key_map.index_many.Goals as goal
 
 pub returns-in_ok-tags-clause-agree : goal.returns-in_ok-tags-clause-agree
 returns-in_ok-tags-clause-agree c =
