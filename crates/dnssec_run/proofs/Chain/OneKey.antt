@@ -38,6 +38,22 @@ may_by r true false k old new = and-both _ true (old refl) refl
 may_by r false true k old new = let x = new refl in and-both _ _ (and-both _ _ x.0 x.1) refl
 may_by r false false k old new = refl
 
+-- what an accepted start asks of a key that is there
+pub may_there : (r : RollType) (w : World) (old new : List (List ℕ)) → CanStart r w old new
+    → (q : List ℕ) (k : Key) → w.key q ≡ Some k
+    → may_start r (is_listed q old) (is_listed q new) k.keytype ≡ true
+may_there r w old new can q k at =
+    may_by r (is_listed q old) (is_listed q new) k.keytype
+    (λ t. let x = can.old_is q t in
+    subst (λ k. may_list r k.keytype ≡ true) (same_Some x.0 k (sym x.1 ∙ at)) x.2)
+    (λ t. let x = can.new_is q t in
+    let same : x.0 ≡ k = same_Some x.0 k (sym x.1 ∙ at) in (
+      subst (λ k. may_list r k.keytype ≡ true) same x.2,
+      subst (λ k. is_blank k.keytype ≡ true)
+          same x.3,
+      x.4,
+    ))
+
 pub may_at : (r : RollType) (w : World) (old new : List (List ℕ)) → CanStart r w old new → (id : Id)
     → all_ok (may_start r (is_listed id.0 old) (is_listed id.0 new)) (found w id) ≡ true
 may_at r w old new can id = by (found w id) refl
@@ -45,18 +61,7 @@ may_at r w old new can id = by (found w id) refl
     by : (o : Option Key) → found w id ≡ o
         → all_ok (may_start r (is_listed id.0 old) (is_listed id.0 new)) o ≡ true
     by None e = refl
-    by (Some k) e =
-        let key : w.key id.0 ≡ Some k = (found_key w id k e).0 in
-        may_by r (is_listed id.0 old) (is_listed id.0 new) k.keytype
-        (λ t. let x = can.old_is id.0 t in
-        subst (λ k. may_list r k.keytype ≡ true) (same_Some x.0 k (sym x.1 ∙ key)) x.2)
-        (λ t. let x = can.new_is id.0 t in
-        let same : x.0 ≡ k = same_Some x.0 k (sym x.1 ∙ key) in (
-          subst (λ k. may_list r k.keytype ≡ true) same x.2,
-          subst (λ k. is_blank k.keytype ≡ true)
-              same x.3,
-          x.4,
-        ))
+    by (Some k) e = may_there r w old new can id.0 k (found_key w id k e).0
 
 pub suits : (o i : Bool) (a b : Bool) → ((i ≡ true) × (a ≡ true)) ⊎ ((o ≡ false) × (b ≡ true))
     → ((i && a) || (not o && b)) ≡ true

@@ -22,7 +22,7 @@ use Rattle.dnssec_zone.specs.Lists.{has_kept_key, listed_at_start}
 use Rattle.dnssec_keyset.specs.Step as keyset
 use Rattle.dnssec_zone.specs.Wait as waits
 use Rattle.dnssec_keyset.proofs.Accepted.{ends_early}
-use Rattle.dnssec_zone.proofs.Flags.{ended, is_blank, may_list, may_start, started}
+use Rattle.dnssec_zone.proofs.Flags.{ended, may_list, may_start, started}
 use Rattle.dnssec_zone.proofs.Phases.{listed_by-with_listed}
 use Rattle.dnssec_keyset.proofs.Sides.{leaves-others}
 use Rattle.dnssec_zone.proofs.Tests.{and-both}
@@ -34,7 +34,7 @@ use Rattle.dnssec_run.specs.Record.{IsRun, call_of, is_accepted, reply_of, world
 use Rattle.dnssec_run.specs.WholeRolls.{IsAccepted}
 use Rattle.dnssec_run.proofs.Chain.Allowed.{can_start}
 use Rattle.dnssec_run.proofs.Chain.Rolls.{same-same}
-use Rattle.dnssec_run.proofs.Chain.OneKey.{may_by}
+use Rattle.dnssec_run.proofs.Chain.OneKey.{may_there}
 use Rattle.dnssec_run.proofs.Chain.Tale.{CanStart, early-end-parts, seen, start-parts}
 use Rattle.dnssec_run.proofs.EarlyEnds.Keys.{key-step, phase-before}
 use Rattle.dnssec_run.proofs.EarlyEnds.Lists.{is_listed-filter, lists-step}
@@ -156,16 +156,7 @@ module _ (name : List ℕ) (calls : List Call) (entries : List Entry)
 
           may : (k : KeyParts) → get old.keys q ≡ Some k
               → (may_start roll is_old is_new k.keytype && tied k.keytype) ≡ true
-          may k e = and-both _ _ (may_by roll is_old is_new k.keytype
-              (λ t. let x = can.old_is q t in
-              subst (λ (k : KeyParts). may_list roll k.keytype ≡ true)
-              (same_Some x.0 k (sym x.1 ∙ e)) x.2)
-              (λ t. let x = can.new_is q t in
-              let same : x.0 ≡ k = same_Some x.0 k (sym x.1 ∙ e) in (
-                subst (λ (k : KeyParts). may_list roll k.keytype ≡ true) same x.2,
-                subst (λ (k : KeyParts). is_blank k.keytype ≡ true) same x.3,
-                x.4,
-              )))
+          may k e = and-both _ _ (may_there roll _ olds news can q k e)
               (all-tied name calls entries run s q k e)
 
       -- ---- from the start on

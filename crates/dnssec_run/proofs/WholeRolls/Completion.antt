@@ -7,7 +7,7 @@ use Rattle.std.specs.Str.{bytes_eq}
 use Rattle.std.specs.Cmp.Lexicographic.{bytes_decides}
 use Rattle.std.specs.FinMap.{get}
 use Rattle.std.proofs.lemmas.Bool.{true≢false, cases_lt}
-use Rattle.std.proofs.lemmas.Option.{same_Some, slice_get_cases, slice_get_within}
+use Rattle.std.proofs.lemmas.Option.{slice_get_cases, slice_get_within}
 use Rattle.std.proofs.lemmas.Iterator.Adapters.{option_map_id}
 use Rattle.dnssec_key.specs.declared.roll.RollType.{RollType}
 use Rattle.dnssec_key.specs.declared.roll.RollState.{RollState}
@@ -33,11 +33,11 @@ use Rattle.dnssec_run.specs.Record.{IsRun, call_of, reply_of, is_accepted, world
 use Rattle.dnssec_run.specs.Record.{reference_added, added_by}
 use Rattle.dnssec_run.proofs.Laws.{stays-sound}
 use Rattle.dnssec_run.proofs.Premise.{DoesAt, SetsNothing, end-told, end_of, sets-nothing}
-use Rattle.dnssec_zone.proofs.Flags.{SideOf, Keys, Zone, affects, may_list, is_blank}
+use Rattle.dnssec_zone.proofs.Flags.{SideOf, Keys, Zone, affects}
 use Rattle.dnssec_run.proofs.Chain.Tale.{start-parts}
 use Rattle.dnssec_zone.proofs.Tests.{◌⇒◌, and-both}
 use Rattle.dnssec_run.proofs.Chain.Rolls.{same-same}
-use Rattle.dnssec_run.proofs.Chain.OneKey.{may_by}
+use Rattle.dnssec_run.proofs.Chain.OneKey.{may_there}
 use Rattle.dnssec_run.proofs.Chain.Allowed.{can_start}
 use Rattle.dnssec_run.proofs.WholeRolls.Going.{old-step, new-step, still, IsNoAdd}
 use Rattle.dnssec_run.proofs.WholeRolls.Keys.{Idle, in_order}
@@ -277,16 +277,7 @@ module _ (name : List ℕ) (calls : List Call) (entries : List Entry) (run : IsR
         (keyset.StartRoll roll olds news now) st.0.entry.reply st.1 step in
         let can = can_start (world_of old) roll olds news (no_cause _ ok.0) in
         let may = λ (q : List ℕ) (k : KeyParts) (e : get old.keys q ≡ Some k).
-        may_by roll (is_listed olds q) (is_listed news q) k.keytype
-        (λ t. let x = can.old_is q t in
-        subst (λ (k : KeyParts). may_list roll k.keytype ≡ true) (same_Some x.0 k (sym x.1 ∙ e))
-        x.2)
-        (λ t. let x = can.new_is q t in
-        let same : x.0 ≡ k = same_Some x.0 k (sym x.1 ∙ e) in (
-          subst (λ (k : KeyParts). may_list roll k.keytype ≡ true) same x.2,
-          subst (λ (k : KeyParts). is_blank k.keytype ≡ true) same x.3,
-          x.4,
-        )) in
+        may_there roll _ olds news can q k e in
         let kind = λ (q : List ℕ) (k : KeyParts). ap (λ (k : KeyParts). k.keytype)
         (start-parts roll now (is_listed olds q) (is_listed news q) k) in
         record {

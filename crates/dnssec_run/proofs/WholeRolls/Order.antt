@@ -27,12 +27,12 @@ use Rattle.dnssec_keyset.proofs.Sides.{leaves-others}
 use Rattle.dnssec_keyset.proofs.Laws.{moved, no_cause}
 use Rattle.dnssec_run.specs.Published.{World as RealWorld}
 use Rattle.dnssec_run.proofs.Premise.{is_plain_setting, sets_nothing}
-use Rattle.dnssec_zone.proofs.Flags.{SideOf, affects, may_list, is_blank, has_role, may_start}
+use Rattle.dnssec_zone.proofs.Flags.{SideOf, affects, has_role, may_start}
 use Rattle.dnssec_zone.proofs.Flags.{is_idle}
 use Rattle.dnssec_run.proofs.Chain.Tale.{seen, is_listed, CanStart, start-parts, early-end-parts}
 use Rattle.dnssec_run.proofs.Chain.Setters.{Harmless, harmless}
 use Rattle.dnssec_run.proofs.Chain.Rolls.{clash}
-use Rattle.dnssec_run.proofs.Chain.OneKey.{may_by}
+use Rattle.dnssec_run.proofs.Chain.OneKey.{may_there}
 use Rattle.dnssec_run.proofs.Chain.Kinds.{role_start, role_waited1, role_waited2}
 use Rattle.dnssec_run.proofs.Chain.Allowed.{can_start, waits_in_phase}
 use Rattle.dnssec_run.proofs.WholeRolls.Keys.{Idle, Spreading, blank_orderly, in_order}
@@ -119,16 +119,7 @@ module _ (sd : SideOf) (old new : KeySetParts) where
 
       may_key : (q : List ℕ) (k : KeyParts) → get old.keys q ≡ Some k
           → may_start r (is_listed q olds) (is_listed q news) k.keytype ≡ true
-      may_key q k e = may_by r (is_listed q olds) (is_listed q news) k.keytype
-          (λ t. let x = can.old_is q t in
-          subst (λ (k : KeyParts). may_list r k.keytype ≡ true) (same_Some x.0 k (sym x.1 ∙ e))
-          x.2)
-          (λ t. let x = can.new_is q t in
-          let same : x.0 ≡ k = same_Some x.0 k (sym x.1 ∙ e) in (
-            subst (λ (k : KeyParts). may_list r k.keytype ≡ true) same x.2,
-            subst (λ (k : KeyParts). is_blank k.keytype ≡ true) same x.3,
-            x.4,
-          ))
+      may_key q k e = may_there r _ olds news can q k e
 
       at_roll : (q : RollType) → affects sd q ≡ true → (b : Bool) → same_roll r q ≡ b
           → phase_fits (Spreading false r) q (phase_of new.rolls q) ≡ true
