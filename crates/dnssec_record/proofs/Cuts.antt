@@ -1,7 +1,9 @@
 -- A text that is cut at a byte: its first part, and the others (for the fields of a line).
-use Rattle.std.proofs.Common.{◌≡◌, ℕ, ◌+◌, Bool, true, false, cond, Some, None, List, [], ◌∷◌, take}
-use Rattle.std.proofs.Common.{drop, refl, ap, ◌∙◌, arith}
+use Rattle.std.proofs.Common.{◌≡◌, ℕ, ◌+◌, ◌-◌, Bool, true, false, cond, Option, Some, None, List, []}
+use Rattle.std.proofs.Common.{◌∷◌, Bor, length, take, drop, refl, sym, ap, ◌∙◌, arith}
 use Rattle.std.specs.List.{slice_split, position}
+use Rattle.std.specs.Option.{option_map_or}
+use Rattle.std.proofs.lemmas.Grind.{common_steps}
 use Rattle.std.proofs.lemmas.Bool.{ltb-true, ltb-false}
 use Rattle.std.proofs.lemmas.Option.{cond_some}
 use Rattle.std.proofs.lemmas.List.Splits.{slice_split_first, slice_split_none}
@@ -25,3 +27,19 @@ pub no_cut : (p : ℕ → Bool) (xs : List ℕ) → position p xs ≡ None → s
 no_cut p xs e =
     let past = ltb-false _ _ (none_before _ _ 0 e) in
     slice_split_none p xs (λ k d within. fails_before_first p xs k d (omega arith))
+
+-- ---- a reader of the parts, one after another
+
+-- what follows a cut, up to the end
+pub rest_whole : (i : ℕ) (xs : List ℕ) → take (length xs - i) (drop i xs) ≡ drop i xs
+rest_whole i xs = grind (arith, common_steps)
+
+-- the parts that are left, if anything is
+abbrev pub parts_left : (ℕ → Bool) → Option (Bor (List ℕ)) → List (List ℕ)
+parts_left p rest = option_map_or (λ r. slice_split p r.now) rest []
+
+-- the parts that the reader sees are those of what is left
+pub parts_seen : (p : ℕ → Bool) (rest : Option (Bor (List ℕ))) (r : Bor (List ℕ))
+    (view parts : List (List ℕ)) → parts_left p rest ≡ view → rest ≡ Some r
+    → slice_split p r.now ≡ parts → parts ≡ view
+parts_seen p rest r view parts shown is cut = sym cut ∙ (ap (parts_left p) (sym is) ∙ shown)
