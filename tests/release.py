@@ -37,8 +37,9 @@ NAMED = {
     "command/pyproject.toml": r'version = "(.*)"',
 }
 CHANGES = re.compile(r"^## \[?(?P<version>[\w.]+)", re.MULTILINE)
-# A word of a script in the table of SCRIPTS, and the version that brought it.
-WORD = re.compile(r"^\| `(?P<word>[\w-]+)[^|]*\|[^|]*\| (?P<since>\d+\.\d+\.\d+) \|$", re.MULTILINE)
+# A row of the tables of SCRIPTS with words of scripts, and the version that brought them.
+ROW = re.compile(r"^\| (?P<lines>`[^|]*)\|[^|]*\| (?P<since>\d+\.\d+\.\d+) \|$", re.MULTILINE)
+WORD = re.compile(r"`([\w-]+)")
 
 
 def release():
@@ -91,10 +92,11 @@ def other_answers(version):
 
 
 def undated_words(version):
-    since = dict(WORD.findall((TOP / "docs" / "SCRIPTS.md").read_text()))
+    rows = ROW.findall((TOP / "docs" / "SCRIPTS.md").read_text())
+    since = {word: brought for lines, brought in rows for word in WORD.findall(lines)}
     lines = (line for _, script, _ in frozen_scripts(version) for line in script.splitlines()[1:])
     for word in sorted({line.split(" ")[0] for line in lines}):
-        brought = since.get("set-" if word.startswith("set-") else word)
+        brought = since.get(word)
         if brought is None:
             yield f"docs/SCRIPTS.md doesn't say which version brought {word}"
         elif order(brought) > order(version):
