@@ -40,6 +40,14 @@ class BeforePublishing(Roll):
         await self.perform()
 
 
+class WaitOfTheOriginal(Roll):
+    """The original takes the second wait of a Double-DS roll for over at once (docs/DIFFERENCES.md),
+    as if the old DNSKEY set had a TTL of 0."""
+
+    async def report(self, number, ttl=None):
+        await super().report(number, 0 if number == 2 else ttl)
+
+
 class WithoutTheOther(Roll):
     """The TTLs of the other signer's DNSKEY sets are left out."""
 
@@ -60,6 +68,8 @@ LONG, LONGER = 20, 60
 
 def long_kind(name, roll):
     """The kind of the set whose old version breaks the zone by a lie."""
+    if roll is WaitOfTheOriginal:
+        return "dnskey"
     if name == DOUBLE_DS:
         return "ds"
     is_of_ds = name not in (ZSK, DOUBLE_SIGNATURE) and roll is not BeforePublishing
@@ -145,6 +155,7 @@ async def signatures_not_renewed(zone):
 
 LYING = {
     **{f"{name}-{lie}": lying(name, roll) for lie, roll in LIES.items() for name in KEYS},
+    f"{DOUBLE_DS}-wait-of-the-original": lying(DOUBLE_DS, WaitOfTheOriginal),
     "signatures-not-renewed": signatures_not_renewed,
     "false-line-taken-back": taken_back,
 }
