@@ -1,11 +1,11 @@
-"""Counts what a reader has to believe for a definition: itself, the definitions that it names, those
-that these name, and so on, with the types of the program among them. What the language's own library
-defines isn't counted.
+"""Counts what a reader has to believe for a definition: the definition, those that it names, those
+that they name, and so on. The types of the program count too. What the language's own library
+defines doesn't.
 
     python3 bench/believe.py dnssec_run Plain.StaysSafe [--list]
 
-answers how many definitions these are, how many lines they have with their comments, and in how many
-files they stand. With `--list` it names them, by file.
+It prints how many definitions there are, how many lines they have with their comments, and in how
+many files they are. With `--list` it names them, by file.
 """
 
 import re
@@ -18,12 +18,12 @@ CRATES = Path(__file__).absolute().parent.parent / "crates"
 # The first line of a definition of specs/, with the name that it defines.
 HEAD = re.compile(r"^\s*(?:(?:pub|abbrev|unfoldable)\s+)*(?:record|data)?\s*([^\s:(]+)\s*[:(]")
 USE = re.compile(r"use Rattle\.(\w+)\.specs\.([\w.]+?)(?:\.\{([^}]*)\}|\s+as\s+(\w+))")
-# A name that isn't a field of what stands before it.
+# A name that isn't a field of another.
 NAME = re.compile(r"(?<![\w.◌-])[A-Za-z_][\w-]*(?:\.[A-Za-z_][\w-]*)*")
 TYPE = re.compile(r"^pub (?:enum|struct) (\w+)[^\n]*", re.M)
 VARIANT = re.compile(r"^\s+([A-Z]\w*)", re.M)
 
-# What stands in a file: how many lines it has, and the text of it without comments.
+# A piece of a file: how many lines it has, and its text without comments.
 Piece = namedtuple("Piece", "path lines text")
 
 
@@ -32,7 +32,7 @@ def uncommented(text, mark):
 
 
 def imports(text):
-    """What each name of a file means, and what each word before a dot: by crate and module."""
+    """What each name in a file means, and each word before a dot: by crate and module."""
     names, modules = {}, {}
     for crate, module, listed, alias in USE.findall(text):
         if alias:
@@ -45,7 +45,7 @@ def imports(text):
 
 class Definitions:
     def __init__(self):
-        self.pieces = {}  # by crate, module and name; of a type by its name alone
+        self.pieces = {}  # by crate, module and name; a type only by its name
         self.variants = {}  # what a variant of a `data` type is part of
         self.imports = {}
         for path in sorted(CRATES.glob("*/specs/**/*.antt")):
@@ -109,7 +109,7 @@ class Definitions:
                 yield self.meant(crate, module, first)
 
     def named_by_type(self, text):
-        """The types of its fields; and of its model the definitions that it imports and names."""
+        """The types of its fields, and the definitions that its model imports and names."""
         fields, _, model = text.partition("impl Model")
         for name in re.findall(r"\b[A-Z]\w*", VARIANT.sub("", fields)):
             yield name if name in self.pieces else None

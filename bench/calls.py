@@ -2,25 +2,25 @@
 
     python3 bench/calls.py [--original FOLDER] [--build FOLDER]
 
-Each row is a course of calls on key sets. A small program makes them on this tree's key set
-(`calls.rt.in`), and one with the same calls on the original's (`calls.rs`). A program makes some
-rounds of the calls, and then as many idle ones, which make only what the calls need, as a reference
-or a copy of a set. The difference is what the calls cost; the start of a program and its setting up
-are no part of it. Both have to be answered alike.
+Each row is a course of calls on key sets. A small program makes the calls on this tree's key set
+(`calls.rt.in`), and another makes the same calls on the original's (`calls.rs`). A program makes
+some rounds of the calls, and then as many idle rounds. An idle round makes only what the calls
+need, as a reference or a copy of a set. The difference is what the calls cost, without the start
+and the setup of the program. Both programs have to get the same answers.
 
-Printed are the calls of a round, and for one call the instructions, as valgrind counts them where
-it is at hand, the processor's nanoseconds, by the least of some runs, and the ratios of ours to the
-original's. The nanoseconds have in them what else the machine does.
+It prints the calls of a round. For one call it prints the instructions, if valgrind is there to
+count them; the processor's nanoseconds, the least of some runs; and the ratios of ours to the
+original's. Whatever else the machine does makes the nanoseconds rise.
 
-Ours is built in a copy of what it needs of the tree, in a temporary folder, or in the folder of
-`--build`, outside the tree, which is left for the next time. It is proved, since what is built
-without a proof (`rt try`) checks itself as it runs. What `make build` has proved is taken over, and
-the rest takes some minutes. The gate wants each file of Rattle to be of a crate that it proves, so
-the program has another suffix here.
+Ours is built in a copy of the parts of the tree that it needs. The copy is in a temporary folder,
+or in the folder of `--build`, outside the tree, which is kept for the next time. Ours is proved,
+since a program that is built without a proof (`rt try`) checks itself as it runs. What `make build`
+has proved is used again; the rest takes some minutes. The gate wants each file of Rattle to belong
+to a crate that it proves, so the program has another suffix here.
 
 The folder of `--original` has a `build.sh OUT`, which makes a program of its `main.rs` and of the
 original's text, and a `stubs.rs` for what that text imports. `calls.rs` takes the place of its
-`main.rs`. Without it the figures are of ours alone.
+`main.rs`. Without `--original` only our figures are printed.
 """
 
 import argparse
@@ -70,17 +70,17 @@ ROWS = [
     ("that of ZSKs, one more of another algorithm", "start-other-algorithm", 2000),
 ]
 
-# A timed run takes at least so many seconds; there are so many, and fewer of one that takes long.
+# The least seconds of a timed run, and how many runs there are: fewer if a run takes long.
 SECONDS = 0.1
 RUNS = 9
 RUNS_OF_LONG = 2
 
-# So many times fewer rounds are counted than timed.
+# How many times fewer rounds are counted than timed.
 FEWER = 8
 
 
 def crates_below(names, lines):
-    """The lines of crates.txt of these crates and of all on which they stand."""
+    """The lines of crates.txt for these crates and for all crates below them."""
     found = {}
     for name in names:
         if name in lines:
@@ -90,7 +90,7 @@ def crates_below(names, lines):
 
 
 def copy_tree(folder):
-    """Copies what the program needs of the tree, with the program as a crate of it."""
+    """Copies the parts of the tree that the program needs, and adds the program as a crate."""
     lines = {}
     for line in (TOP / "crates.txt").read_text().splitlines():
         if line and not line.startswith("#"):
@@ -123,7 +123,7 @@ def build(folder):
 
 
 def build_original(original, folder):
-    """Builds the program of the original in this folder, over what stands in another and beside."""
+    """Builds the original's program in this folder, from the files in another and beside it."""
     for path in original.parent.iterdir():
         if path != original:
             (folder / path.name).symlink_to(path)
@@ -137,8 +137,8 @@ def build_original(original, folder):
 
 
 def run(command, course, keys, rounds, mode):
-    """The processor seconds of a run, how many calls were accepted and how many refused, and what
-    stands on standard error."""
+    """The processor seconds of a run, how many calls were accepted and how many refused, and its
+    text on standard error."""
     words = [*command, course, str(keys), str(rounds), mode]
     child = subprocess.Popen(words, stdout=subprocess.PIPE, stderr=subprocess.PIPE, text=True)
     written, said = child.stdout.read(), child.stderr.read()
@@ -150,7 +150,7 @@ def run(command, course, keys, rounds, mode):
 
 
 def rounds_of(program, course, keys):
-    """So many rounds that a run takes long enough, and how long it takes."""
+    """How many rounds make a run long enough, and how long it then takes."""
     rounds, setting_up = 1, run([program], course, keys, 0, "calls")[0]
     while True:
         seconds = run([program], course, keys, rounds, "calls")[0]
@@ -160,7 +160,7 @@ def rounds_of(program, course, keys):
 
 
 def count(program, course, keys, rounds):
-    """The instructions that the calls of so many rounds run."""
+    """The instructions that the calls of these rounds run."""
     found = []
     for mode in ("calls", "idle"):
         said = run([*COUNT, program], course, keys, rounds, mode)[2]
@@ -169,8 +169,8 @@ def count(program, course, keys, rounds):
 
 
 def measure(program, course, keys):
-    """The accepted and the refused calls of a round; and of one call the instructions, or None
-    where nothing counts them, and the nanoseconds."""
+    """The accepted and the refused calls of a round; then for one call its instructions, or None
+    without valgrind, and its nanoseconds."""
     rounds, seconds = rounds_of(program, course, keys)
     runs = RUNS if seconds < 1 else RUNS_OF_LONG
     least = {"calls": None, "idle": None}
@@ -197,7 +197,7 @@ def words_of(told):
 
 
 def cells(figures):
-    """A figure of ours, and with the original's also that and the ratio."""
+    """Our figure; and, if there is one of the original, that and the ratio."""
     if None in figures:
         return ["" for _ in range(2 * len(figures) - 1)]
     ratio = [f"{figures[0] / figures[1]:.2f}"] if len(figures) == 2 else []
@@ -205,7 +205,7 @@ def cells(figures):
 
 
 def compare(programs):
-    """Prints the table of these programs: ours, and the original's where there is one."""
+    """Prints the table of these programs: ours, and the original's if there is one."""
     heads = ["What", "Calls"]
     for unit in ("Instructions a call", "Nanoseconds a call"):
         heads += [unit, "Original", "Ratio"] if len(programs) == 2 else [unit]

@@ -1,7 +1,7 @@
 //! The calls of `calls.rt.in` on the original's `KeySet`, course by course.
 //!
-//! It takes the place of the `main.rs` that a script makes beside the original's text, patched so
-//! that it stands alone, and beside stubs for what that text imports, a clock among them.
+//! It takes the place of the `main.rs` that a script puts beside the original's text. The text is
+//! patched so that it needs no other crate; stubs, as of a clock, stand for what it imports.
 #![allow(dead_code)]
 
 extern crate alloc;

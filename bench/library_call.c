@@ -1,6 +1,6 @@
-/* Times the library on the script on standard input, in one process. Printed are, on one line: the
-   least nanoseconds of `keyset_answer`, of a line in a session of these lines, of `keyset_closing`
-   and of `keyset_status` after them, and the bytes that malloc hands out for such a session. */
+/* Times the library on the script on standard input, in one process. It prints one line: the least
+   nanoseconds of `keyset_answer`, of a script's line in a session, of `keyset_closing` and of
+   `keyset_status` after the last line, and the bytes that malloc hands out for the session. */
 
 #include <keyset.h>
 

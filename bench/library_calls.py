@@ -2,12 +2,12 @@
 
     python3 bench/library_calls.py [--original ORIGINAL]
 
-It takes the library that `make lib` has made. The scripts are those of successive_rolls.py. Printed
-are the lines; the least microseconds of `keyset_answer` for them all; of a line in a session, with
-its share of the opening and of the closing; of the closing lines and of the status after the last
-line; and the bytes that malloc hands out for such a session, which has two keys or three. ORIGINAL
-is a program that answers a script on its standard input by the original: of it the least time of
-some runs is printed, without the time that it takes for the zone alone.
+It takes the library that `make lib` has made. The scripts are those of successive_rolls.py. It
+prints the number of lines; the least microseconds of `keyset_answer` for them all; of a line in a
+session, with its share of the opening and of the closing; of the closing lines and of the status
+after the last line; and the bytes that malloc hands out for such a session, which has two keys or
+three. ORIGINAL is a program that answers a script on its standard input by the original. Its least
+time of some runs is printed, less the time that it takes for a script of the zone's line only.
 """
 
 import argparse

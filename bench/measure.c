@@ -3,7 +3,7 @@
        measure FILE PROGRAM ARGUMENTS..
 
    A program that Python starts begins as a copy of Python, and its memory would be at least
-   Python's; one that this program starts begins with a small one. */
+   Python's. A program that this one starts begins as a small copy. */
 #include <stdio.h>
 #include <sys/resource.h>
 #include <sys/wait.h>

@@ -1,4 +1,4 @@
-"""What the benchmarks of scripts share: a program is run on a script, and what it took is told."""
+"""What the benchmarks of scripts share: they run a program on a script, and measure its cost."""
 
 import os
 import re
@@ -9,18 +9,18 @@ import tempfile
 from pathlib import Path
 
 COUNT = ["valgrind", "--tool=cachegrind", "--cache-sim=no", "--cachegrind-out-file=/dev/null"]
-# With this the original's program ends on a script with an early end of a roll.
+# The original's program ends with this status if a script ends a roll early.
 NO_ABORT = 4
 MEASURE = os.path.join(os.path.dirname(os.path.abspath(__file__)), "measure.c")
 
-# The original's program asks `actions` again after each call on a roll, to check the answer: that
+# The original's program asks `actions` again after each call on a roll, to check the answer. That
 # is no part of what a script costs.
 CHECK = re.compile(r"\n +if let \(Reply::Actions\(a\), Some\(r\)\) = .*?\n        }\n", re.DOTALL)
 
 
 def build_original(original, folder):
-    """Builds the original's program, without its check of `actions`, from a folder that has a
-    `build.sh OUT`, which makes a program of its `main.rs` and of what stands beside the folder."""
+    """Builds the original's program, without its check of `actions`. The folder of the original has
+    a `build.sh OUT`, which makes a program of its `main.rs` and of what is beside the folder."""
     folder.mkdir()
     for path in original.parent.iterdir():
         if path != original:
@@ -37,7 +37,7 @@ def build_original(original, folder):
 
 
 class Bench:
-    """A folder for scripts, with the program that measures others, and what the last run answered.
+    """A folder for scripts, with the program that measures others, and the answers of the last run.
     Use it by `with`."""
 
     def __enter__(self):
@@ -50,7 +50,7 @@ class Bench:
         self.folder.cleanup()
 
     def programs(self, ours, original):
-        """The paths of our program and, if it is given, of the original's, or of its folder."""
+        """The paths of our program and of the original's, which may be given as a folder."""
         paths = [os.path.abspath(ours)]
         if original:
             path = Path(original).resolve()
@@ -68,8 +68,8 @@ class Bench:
         return self.path(name)
 
     def run(self, program, given, wanted=0):
-        """The processor seconds of a run, and its greatest memory in MB; or None if the program has
-        no `abort`, and the script has."""
+        """The processor seconds of a run, and its greatest memory in MB; or None if the script has
+        an `abort`, which the program lacks."""
         told = self.path("told")
         with open(given) as text, open(self.answers, "w") as written:
             status = subprocess.run(
@@ -85,7 +85,7 @@ class Bench:
         return float(seconds), int(memory) / 1024
 
     def least(self, program, given, runs, wanted=0):
-        """The least seconds of some runs, and the greatest memory; or None, as of one run."""
+        """The least seconds of some runs, and the greatest memory; or None, as for one run."""
         taken = [self.run(program, given, wanted) for _ in range(runs)]
         if None in taken:
             return None

@@ -2,15 +2,15 @@
 
     python3 bench/scripts.py crates/keyset/out/keyset [--original FOLDER]
 
-Printed are the lines of a script, and for each program the instructions that it runs, as valgrind
-counts them, the least processor seconds of some runs, and the memory in MB; then the ratios of ours
-to the original's. The growth is that of our instructions from half as many lines to all: 1 where
-twice the lines take twice as many. The original keeps no record and judges none; both read the
+It prints the lines of a script. For each program it prints the instructions that it runs, as
+valgrind counts them, the least processor seconds of some runs, and the memory in MB; then the
+ratios of ours to the original's. The growth is that of our instructions from half the lines to all:
+1 if twice the lines take twice as many. The original keeps no record and judges none; both read the
 script and write all answers.
 
 FOLDER has a `build.sh OUT`, which makes the original's program of the folder's `main.rs` and of the
-original's text. It is built anew without its check of each answer by another call. A program in
-place of the folder is taken as it is.
+original's text. It is built again without its check of each answer by another call. FOLDER may also
+be a program, which is run as it is.
 """
 
 import argparse
@@ -27,7 +27,7 @@ def rolls(pairs):
 
 
 def setters(count, keys=4):
-    """Stamps and the mark of a decoupled key are set in turn; nothing is published otherwise."""
+    """Stamps and the mark of a decoupled key are set in turn; what is published stays the same."""
     names = [f"A{i}" for i in range(keys - 2)]
     adds = [f"add-zsk {name} - 13 {i + 2} 150 yes" for i, name in enumerate(names)]
     lines = []
@@ -54,7 +54,7 @@ def stale(count):
 
 
 def waits(count):
-    """A wait that is claimed too early again and again."""
+    """A wait that is made too early again and again."""
     begun = "add-zsk Z1 - 13 2 150 yes\nstart zsk-roll Z0 Z1 200\nreport1 zsk-roll 3600 210\n"
     return FIRST + begun + "wait1 zsk-roll 300\n" * count
 
@@ -75,7 +75,7 @@ def crowded_rolls(pairs, keys=400, kind="public"):
     return "".join(lines[:first] + beside + lines[first:])
 
 
-# What is made so many times, and the maker of its script.
+# What a script repeats, how often, and what makes it.
 KINDS = [
     ("pairs of rolls on four keys", 8192, rolls),
     ("setters on 4 keys", 65536, setters),

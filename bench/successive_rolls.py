@@ -3,10 +3,10 @@
     python3 bench/successive_rolls.py crates/keyset/out/keyset
 
 Each script gives a zone its first keys, and then rolls its ZSK and its KSK in turn, each roll to
-its end, with the deletion of the old key. So all that is old is retired, and a judge's window stays
-as it is. Printed are the calls, the instructions that the program runs, as valgrind counts them,
-the ratio to those of half as many calls, the least processor time of some runs, and their greatest
-memory. The time has that of the program's start in it.
+its end, with the deletion of the old key. So caches lose all that is old, and the window that a
+judge looks at doesn't grow. It prints the calls, the instructions that the program runs, as
+valgrind counts them, the ratio to those of half as many calls, the least processor time of some
+runs, and their greatest memory. The time includes the program's start.
 """
 
 import sys
@@ -38,7 +38,7 @@ RUNS = 50
 
 
 def script(calls):
-    """A script of so many calls, a multiple of 8."""
+    """A script of this many calls, a multiple of 8."""
     parts, keys = [FIRST], {"ksk": "K0", "zsk": "Z0"}
     for number in range(1, calls // 8):
         kind = "zsk" if number % 2 else "ksk"

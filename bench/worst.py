@@ -1,13 +1,13 @@
-"""What the worst scripts cost that we know, beside the original.
+"""What the worst scripts that we know cost, beside the original.
 
     python3 bench/worst.py crates/keyset/out/keyset [--original FOLDER] [--only WORD] [--long]
 
-Each row is a script that makes one length long which a user controls. Printed are its lines, the
-least processor seconds of some runs, the growth of these from half as many (1 where twice the lines
-take twice as long; only if there is enough to measure), the greatest memory in MB, the memory's
-growth, and the same of the original, which keeps no record and judges none; then the bound that the
-row has, as README says it. The original has no cells for a script with `abort`, which it has
-not. `--long` has the rows too that take a minute or more. `FOLDER` is that of `bench/scripts.py`.
+Each row has a script in which one length that a user controls is long. A row prints the script's
+lines, the least processor seconds of some runs, their growth from half the lines (1 if twice the
+lines take twice as long; only if there is enough to measure), the greatest memory in MB, and the
+memory's growth. It prints the same of the original, which keeps no record and judges none; then the
+row's bound, as README says it. The original has no cells for a script with `abort`, which it lacks.
+`--long` adds the rows that take a minute or more. `FOLDER` is that of `bench/scripts.py`.
 """
 
 import argparse
@@ -17,7 +17,7 @@ from programs import Bench
 from successive_rolls import FIRST
 
 RUNS = 3
-# Below these a growth would be that of the program's start.
+# Less than this is mostly the program's start, and shows no growth.
 LEAST_SECONDS, LEAST_MEMORY = 0.03, 4
 TTL = 4294967295
 
@@ -48,7 +48,7 @@ def toggles(count):
 
 
 def growing_sets(count):
-    """Each round brings a key more into each set. The keys with a chain are the last in order."""
+    """Each round brings one more key into each set. The keys with a chain are the last in order."""
     keys = [
         "add-ksk zK - 13 65000 0 yes", "add-zsk zZ - 13 65001 0 yes",
         "set-present zK yes 160", "set-signer zK yes", "set-at-parent zK yes",
@@ -84,7 +84,7 @@ def subsets(count):
 
 
 def in_use(count, keys=2000):
-    """Many keys sign the zone, and one of them leaves and comes."""
+    """Many keys sign the zone, and one of them leaves and comes back."""
     adds = [f"add-zsk A{i} - 13 {i + 2} 150 yes" for i in range(keys)]
     shown = [line for i in range(keys)
              for line in (f"set-present A{i} yes 160", f"set-signer A{i} yes")]
@@ -112,7 +112,7 @@ def long_reference(count, size=1_000_000):
 
 
 def long_reference_beside(count, size=1_000_000):
-    """A key with a very long reference is in use, and another leaves and comes."""
+    """A key with a very long reference is in use, and another leaves and comes back."""
     long = "L" * size
     keys = [f"add-zsk {long} - 13 65000 150 yes", f"set-present {long} yes 160",
             f"set-signer {long} yes", "add-public P 13 2 150 yes"]
@@ -120,7 +120,7 @@ def long_reference_beside(count, size=1_000_000):
 
 
 def never_due(count):
-    """Reports with the greatest TTL, each of a roll that is then ended early."""
+    """Reports with the greatest TTL, each in a roll that is then ended early."""
     keys = ["add-zsk Z1 - 13 2 150 yes"]
     turns = [
         line for i in range(count // 3)
@@ -131,7 +131,7 @@ def never_due(count):
 
 
 def due_one_by_one(count):
-    """Reports that are all waited for, and then one is over with each call."""
+    """Reports whose TTLs all run at first; then one is over with each call."""
     keys = ["add-zsk Z1 - 13 2 150 yes", "add-ksk K1 - 13 3 150 yes"]
     half = count // 4
     turns = [
@@ -152,7 +152,7 @@ def broken_first(count):
 
 
 def broken_last(count):
-    """As sets of some keys in turn, and the chain is broken by the last call."""
+    """As `subsets`, and the chain is broken by the last call."""
     return subsets(count) + "set-signer Z0 no\n"
 
 
@@ -161,7 +161,7 @@ def adds(count):
 
 
 def long_lists(count):
-    """A start from many keys to many keys, and its early end."""
+    """The start of a roll from many keys to many keys, and its early end."""
     half = count // 4
     old = [f"A{i}" for i in range(half)]
     new = [f"B{i}" for i in range(half)]
@@ -200,10 +200,10 @@ def folded(one, other):
 
 
 def colliding(count):
-    """References that have one hash: of 32 bytes, of which the last eight don't matter.
+    """References of 32 bytes that have the same hash. Their last eight bytes don't matter.
 
-    The hash multiplies two halves of 16 bytes, each mixed with what came before. So where the first
-    half undoes what came before, the product is zero, whatever the second is.
+    The hash multiplies two halves of 16 bytes, each mixed with what came before. If the first half
+    undoes what came before, the product is zero, whatever the second half is.
     """
     multiplier, seed = 0x9E3779B97F4A7C15, 0x243F6A8885A308D3
     visible = [c for c in range(0x21, 0x7F) if c != ord(",")]
@@ -227,7 +227,7 @@ def line_feeds(count):
 
 
 class Row:
-    """A script of so many lines; what bounds its time and its memory."""
+    """A script with this many lines, and the bounds of its time and its memory."""
 
     def __init__(self, name, count, make, bound, long=False, status=0):
         self.name, self.count, self.make, self.bound = name, count, make, bound

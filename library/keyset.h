@@ -1,9 +1,9 @@
-/* keyset.h: a proved DNSSEC key set for C, and for what calls C.
+/* keyset.h: a proved DNSSEC key set for C, and for languages that call C.
 
    There are two ways to use it. `keyset_answer` takes a script and writes its answers; it keeps
    nothing, and the script is the whole state. A session keeps a zone between two calls: a line goes
-   in, its answer comes out, and a call costs what the call costs, however many came before it.
-   docs/CALLERS.md is the page for callers, docs/SCRIPTS.md has the form of scripts and of answers.
+   in, and its answer comes out. A call costs no more if many calls came before it. docs/CALLERS.md
+   is the page for callers, and docs/SCRIPTS.md has the form of scripts and of answers.
 
    Who owns what: all buffers are the caller's. The library reads and writes them while it is called,
    and keeps no pointer. What it allocates it frees before it returns, except what a session keeps
@@ -15,10 +15,10 @@
 
    Links against the C library, and nothing else: `cc caller.c -lkeyset`.
 
-   What is proved is the contract of each function, in crates/keyset_c/src/lib.rt: the clauses that
-   are named below. They take for granted what C asks of every caller: each pointer has as many
-   bytes as its length says, the pieces lie apart, and nobody else writes to them during the call. A
-   pointer may be NULL if its length is 0; that is tested, and not proved. */
+   The contract of each function is proved, in crates/keyset_c/src/lib.rt: the clauses whose names
+   are in parentheses below. They take for granted what C asks of every caller: each pointer has as
+   many bytes as its length says, the pieces don't overlap, and nobody else writes to them during
+   the call. A pointer may be NULL if its length is 0; that is tested, and not proved. */
 
 #ifndef KEYSET_H
 #define KEYSET_H
@@ -36,7 +36,7 @@ extern "C" {
 
 /* The release that this header is part of. A release may leave the interface as it is; one that
    changes a function, a struct or a status in a way that breaks callers has the next
-   KEYSET_VERSION, after which the shared object is named: libkeyset.so.2. */
+   KEYSET_VERSION. The shared object has that number in its name: libkeyset.so.2. */
 #define KEYSET_RELEASE "1.0.0"
 
 /* The statuses. 0, 1 and 3 are those that the program keyset ends with. */
@@ -58,33 +58,33 @@ struct keyset_answered {
 /* Answers `script` into the front of `out`, with the bytes that the program keyset writes.
 
    answered       `out` begins with `length` bytes, which are the output of a run of the script's
-                  calls (answered, fits); behind them it is as it was (rest). If the list of calls
+                  calls (answered, fits); after them it is as it was (rest). If the list of calls
                   is plain, the chain of trust held all the time (safe), and the last line says so
                   (chain)
-   malformed      `line` is the first malformed line (malformed); a script is never called so
-                  (well_formed)
-   short          an answer has `length` bytes, and these are more than `out` has (short, needed)
+   malformed      `line` is the first malformed line (malformed); a well-formed script never gets
+                  this status (well_formed)
+   short          an answer has `length` bytes, and `out` has fewer (short, needed)
    out of memory  asking again may help
 
-   Unless it was answered, `out` is as it was (silent). There is no other status (status), and what
-   a status doesn't tell is 0 (no_length, no_line). */
+   Unless it was answered, `out` is as it was (silent). There is no other status (status). If a
+   status doesn't use a member, that is 0 (no_length, no_line). */
 struct keyset_answered keyset_answer(const uint8_t *script, size_t script_length,
                                      uint8_t *out, size_t out_length);
 
-/* A session: a zone with its key set, what is published, and what the verdict needs. All zeros is a
-   closed one: `struct keyset_session session = {0};`. Its members are the library's.
+/* A session: a zone with its key set, what is published, and what the verdict needs. One that is
+   all zeros is closed: `struct keyset_session session = {0};`. Only the library uses its members.
 
    The proofs take for granted that a session is used as one value: it may be moved, but a copy of
    its bytes is no second session (`keyset_copy` makes one); it is all zeros before it is opened;
-   nobody else writes to it; and one thread at a time has it, whichever that is. A closed session is
-   told as such by each call, and stays closed. */
+   nobody else writes to it; and only one thread at a time uses it. If a session is closed, each
+   call says so, and leaves it closed. */
 struct keyset_session {
     void *place;
     bool is_open;
 };
 
-/* Opens a session for the zone that the line names, as the first line of a script does. No line has
-   a line feed.
+/* Opens a session for the zone that the line names, as the first line of a script does. A line has
+   no line feed.
 
    answered       it is open, and has made no call (opened)
    malformed      the line names no zone (malformed)
@@ -94,11 +94,11 @@ struct keyset_session {
    Unless it is answered, the session is as it was (unchanged). */
 uint32_t keyset_open(const uint8_t *line, size_t line_length, struct keyset_session *session);
 
-/* Makes the call of the line, and answers it as its line in a script of all lines so far. A call
-   that is refused is answered too, and is one of the lines.
+/* Makes the call of the line, and answers it as in a script of all lines so far. A refused call is
+   answered too, and its line is one of them.
 
    answered       `out` begins with the answer and its line feed (answered, fits, rest)
-   malformed      the line makes no call, and the session is as it was (malformed, kept)
+   malformed      no call is made, and the session is as it was (malformed, kept)
    short          the call is made, and its answer has `length` bytes (short, needed): `keyset_told`
                   writes it
    out of memory  the session is closed (lost): open it anew with its lines
@@ -115,7 +115,7 @@ struct keyset_answered keyset_call(struct keyset_session *session, const uint8_t
    keyset_told     the answer to the last line again; before the first one nothing
    keyset_closing  the last two lines of the answers to all lines so far: the published sets, and the
                    verdict on the record
-   keyset_status   the status of the zone: one line of JSON, whose form docs/STATUS.md has */
+   keyset_status   the status of the zone: one line of JSON, in the form that docs/STATUS.md has */
 struct keyset_answered keyset_told(struct keyset_session *session, uint8_t *out,
                                    size_t out_length);
 struct keyset_answered keyset_closing(struct keyset_session *session, uint8_t *out,
@@ -123,17 +123,22 @@ struct keyset_answered keyset_closing(struct keyset_session *session, uint8_t *o
 struct keyset_answered keyset_status(struct keyset_session *session, uint8_t *out,
                                      size_t out_length);
 
-/* Opens another session after the same calls, with the same last answer, to see what a call would do
-   (copied). The first one stays as it is (same); unless it is answered, the other does too
-   (unchanged): out of memory, closed for the first, is open for the other (is_open). Each may go to
-   a thread of its own. */
+/* Opens another session after the same calls, with the same last answer (copied). So you can try a
+   call on it. The first session stays as it is (same). Each may go to a thread of its own.
+
+   answered       the other session is open
+   out of memory  asking again may help
+   closed         the first session is closed
+   is open        the other session was open (is_open)
+
+   Unless it is answered, the other session is as it was (unchanged). */
 uint32_t keyset_copy(struct keyset_session *session, struct keyset_session *copy);
 
 /* Closes a session, and frees what it keeps. A closed one stays closed. */
 void keyset_close(struct keyset_session *session);
 
-/* The version of the interface of the library that is linked: of the functions, of the structs and
-   of the statuses. It is KEYSET_VERSION if header and library belong together. */
+/* The version of the interface of the linked library: of its functions, structs and statuses. It is
+   KEYSET_VERSION if header and library belong together. */
 uint32_t keyset_version(void);
 
 #ifdef __cplusplus

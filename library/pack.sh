@@ -1,8 +1,9 @@
 #!/bin/sh
-# pack.sh ARCHIVE FOLDER: makes of the archive that rt wrote what callers install: an archive and a
-# shared object that export what the header declares and want nothing but the C library, with the
-# header and a file for pkg-config. It needs only the tools of the toolchain. `readelf -p .keyset`
-# prints the release of an archive, of a shared object, and of a program with either.
+# pack.sh ARCHIVE FOLDER: makes what callers install from the archive that rt wrote. That is an
+# archive and a shared object, with the header and a file for pkg-config. Both export what the
+# header declares, and need only the C library. The script needs only the tools of the toolchain.
+# `readelf -p .keyset` prints the release of an archive, of a shared object, and of a program with
+# either.
 set -eu
 archive=$(realpath "$1") folder=$2
 here=$(cd "$(dirname "$0")" && pwd)
@@ -15,8 +16,8 @@ mkdir -p "$folder/include" "$folder/lib/pkgconfig"
 cp "$here/keyset.h" "$folder/include/"
 cd "$folder/lib"
 
-# One object, with what rt's archive wants of the toolchain, in which all but what the header
-# declares is local.
+# One object, with what rt's archive needs of the toolchain. In it all is local except what the
+# header declares.
 "$tools/ld.lld" -r -o keyset.o --whole-archive "$archive" --no-whole-archive \
     "$kit/c/liblibc_c.a" "$libraries/libgcc.a"
 # (its programs are one file, which does what its name says)

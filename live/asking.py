@@ -1,4 +1,4 @@
-"""Asks a server, and watches what all of them give."""
+"""Asks a server, or watches what all servers give."""
 
 import asyncio
 import time
@@ -45,7 +45,7 @@ def data_of(answer, kind):
 
 
 async def watch(servers, port, zone, kind, is_so, what):
-    """Asks the servers one by one, until each gives what is awaited."""
+    """Asks the servers one by one, until each gives what is expected."""
     until = time.monotonic() + PATIENCE
     for address in servers:
         while True:

@@ -1,4 +1,4 @@
-"""A tour by the command of an operator only: from two key files and a zone file to rolled keys."""
+"""A tour only by the command of an operator: from two key files and a zone file to rolled keys."""
 
 import asyncio
 import json
@@ -18,7 +18,7 @@ OK, DUE = 0, 1
 
 
 class Operator:
-    """Whoever types the command. The servers load what `act` has written."""
+    """Types the command. The servers load what `act` has written."""
 
     def __init__(self, zone):
         self.zone, self.folder = zone, zone.folder
@@ -27,7 +27,7 @@ class Operator:
         self.serial = 1
 
     async def type(self, *words, ends=(OK,)):
-        """Types a word of the command, and gives what it prints."""
+        """Types a word of the command, and gives what that prints."""
         process = await asyncio.create_subprocess_exec(
             sys.executable, "-m", "vaqsider", *map(str, words), cwd=self.folder,
             env={"PATH": PATHS, "PYTHONPATH": str(COMMAND)},
@@ -73,7 +73,7 @@ class Operator:
         )
 
     async def step(self, line):
-        """A call, with all that it asks for, to the report or the end of the roll."""
+        """A call, with all that it asks for, up to the report or the end of the roll."""
         actions = await self.call(line)
         records = await self.act()
         if "UpdateDsRrset" in actions:
@@ -84,7 +84,7 @@ class Operator:
         await self.watch("--call")
 
     async def wait(self, roll):
-        """Comes back once the wait of a roll is over, with its call."""
+        """Returns the call of a roll's wait, once the wait is over."""
         (told,) = json.loads(await self.type("status", self.script, "--json"))
         going = next(it for it in told["rolls"] if it["roll"] == roll)
         await asyncio.sleep(max(0, going["not_before"] - time.time()))
@@ -98,7 +98,7 @@ class Operator:
 
 
 async def tour(zone):
-    """First keys, another ZSK, another KSK."""
+    """First keys, then another ZSK, then another KSK."""
     operator = Operator(zone)
     ksk, zsk = await operator.key("-f", "KSK"), await operator.key()
     await operator.type(

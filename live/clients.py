@@ -1,4 +1,4 @@
-"""Clients, who ask all resolvers all the time, and judge what they are answered."""
+"""Clients, who ask all resolvers all the time, and judge the answers."""
 
 import asyncio
 import struct
@@ -16,7 +16,8 @@ import dns.rdatatype
 from keys import HOSTS
 from places import RESOLVERS
 
-# Seconds between two questions to one resolver about one zone, to a new try, and to giving up.
+# Seconds between two questions to one resolver about one zone, before a new try, and before giving
+# up.
 PACE, RETRY, GIVE_UP = 0.08, 2, 8
 ADDRESS = bytes((192, 0, 2, 1))
 SETS = ("SOA", "NS", "DNSKEY", "DS", "CDS", "CDNSKEY")
@@ -48,7 +49,7 @@ class Fault(NamedTuple):
 
 
 class Line(asyncio.DatagramProtocol):
-    """The questions of one client to one resolver that are not answered yet, by their numbers."""
+    """The unanswered questions of one client to one resolver, by their numbers."""
 
     def __init__(self):
         self.waiting = {}
@@ -65,7 +66,7 @@ class Line(asyncio.DatagramProtocol):
         pass
 
     async def ask(self, query):
-        """The answer to a question, or None when nothing comes."""
+        """The answer to a question, or None if none comes."""
         future = asyncio.get_running_loop().create_future()
         self.waiting[query[:2]] = future
         try:
@@ -80,13 +81,13 @@ class Line(asyncio.DatagramProtocol):
 
 
 class Clients:
-    """Those who ask about one zone. From `secure_from` on, each answer has to be a checked one."""
+    """The clients who ask about one zone. From `secure_from` each answer has to be validated."""
 
     def __init__(self, zone, dice, port):
         self.zone, self.dice, self.port = zone, dice, port
         self.counts, self.faults = Counter(), []
         self.secure_from, self.tasks, self.lines = float("inf"), [], []
-        # Until when a lie may be seen.
+        # The moment up to which a lie may be seen.
         self.mended = float("inf")
 
     async def begin(self):
@@ -104,7 +105,7 @@ class Clients:
             line.transport.close()
 
     async def go_on(self, resolver, line):
-        """Asks one resolver, question after question, also while others are not answered yet."""
+        """Asks one resolver, question after question, also while some aren't answered yet."""
         asking = set()
         try:
             while True:
@@ -117,7 +118,7 @@ class Clients:
                 task.cancel()
 
     def question(self):
-        """Of a known name, of a fresh one, or of a set of the zone's own name."""
+        """A question for a known name, for a new one, or for a set of the zone's own name."""
         zone, pick = self.zone, self.dice.random()
         fresh = f"{self.dice.randrange(1 << 40):x}"
         if pick < 0.3:
@@ -169,7 +170,7 @@ def records(answer):
 
 
 def told(answer):
-    """The code of an answer, with its extended errors."""
+    """The status of an answer, with its extended errors."""
     try:
         message = dns.message.from_wire(answer)
     except dns.exception.DNSException as error:

@@ -1,4 +1,4 @@
-"""Honest scenes of docs/EMERGENCY.md, of TTLs that change in mid-roll, and of new scripts."""
+"""Honest scenes: from docs/EMERGENCY.md, with TTLs that change in mid-roll, with new scripts."""
 
 import asyncio
 from contextlib import asynccontextmanager
@@ -8,7 +8,7 @@ from processes import Failed
 from rolls import ALGORITHM, DOUBLE_DS, Roll, at_moment
 from script import Refused, rounded_down, rounded_up
 
-# Of each roll the setters that bring another new key in, and those of its stamps.
+# For each roll the setters that bring in another new key, and those of its stamps.
 REPLACING = {
     KSK: (("set-present", "set-signer"), ("set-visible",)),
     DOUBLE_DS: (("set-at-parent",), ("set-ds-visible",)),
@@ -20,8 +20,8 @@ REPLACING = {
 
 
 def stolen_new_key(name, number=0):
-    """ "Another new key in mid-roll": a new key is stolen after the first report, and another comes
-    in in its place; then a new script begins."""
+    """ "Another new key in mid-roll": a new key is stolen after the first report, and another one
+    replaces it. Then a new script begins."""
 
     async def scene(zone):
         provider = await first_keys(zone, "K1", "Z1")
@@ -47,7 +47,7 @@ def stolen_new_key(name, number=0):
 
 async def bring_in(roll, ref):
     """Brings a key in by setters, and stamps it with the moment that a report would have. If rule 1
-    gives a higher TTL by now, the moment is put off by the difference."""
+    gives a higher TTL by now, the moment is later by the difference."""
     provider, (setters, stamps) = roll.provider, REPLACING[roll.name]
     for setter in setters:
         moment = f" {rounded_down()}" if setter == "set-present" else ""
@@ -65,8 +65,8 @@ async def bring_in(roll, ref):
 
 
 async def new_script(provider):
-    """docs/OPERATORS.md, "A zone that is signed already": a script in place of another, once all
-    sets have been the same for longer than the highest TTL. Then its first roll."""
+    """docs/OPERATORS.md, "A zone that is signed already": a script replaces another, once all sets
+    have been the same for longer than the highest TTL. Then comes its first roll."""
     refs = provider.script.sets["dnskey"]
     await asyncio.sleep(provider.zone.longest() + 1)
     provider.begin_script()
@@ -86,7 +86,7 @@ async def new_script(provider):
 
 
 async def lost_ksk(zone):
-    """The private key of the KSK is lost: the DNSKEY set keeps its signature."""
+    """The private key of the KSK is lost. The DNSKEY set keeps its signature."""
     provider = await first_keys(zone, "K1", "Z1")
     provider.keys["K1"].lost = True
     await provider.make("K2")
@@ -118,7 +118,8 @@ def lost_in_mid_roll(name):
 
 
 async def lost_zsk(zone):
-    """That of the ZSK is lost: the zone keeps its signatures, and the KSK signs the SOA record."""
+    """The private key of the ZSK is lost. The zone keeps its signatures, and the KSK signs the SOA
+    record."""
     provider = await first_keys(zone, "K1", "Z1")
     provider.keys["Z1"].lost = True
     await provider.make("Z2")
@@ -126,7 +127,7 @@ async def lost_zsk(zone):
 
 
 async def lost_csk(zone):
-    """That of a CSK is lost: the zone goes unsigned, and comes back."""
+    """The private key of a CSK is lost. The zone goes unsigned, and comes back."""
     provider = await first_keys(zone, "C1")
     await asyncio.sleep(zone.longest() + 4)
     provider.keys["C1"].lost = True
@@ -164,7 +165,7 @@ async def unsigned_by_setters(zone):
 
 
 async def lost_ds(zone):
-    """The whole DS set is gone in mid-roll, and is set again before it is reported."""
+    """The whole DS set is lost during a roll, and is set again before its report."""
     provider = await first_keys(zone, "K1", "Z1")
     await provider.make("K2")
     zone.reads_cds = False
@@ -185,7 +186,7 @@ async def lost_ds(zone):
 
 async def false_lines(zone):
     """ "A false line was accepted": a report with a digit too many is mended, and a wait for which
-    nothing was published is taken out."""
+    nothing was published is removed."""
     provider = await first_keys(zone, "K1", "Z1")
     script = provider.script
     await provider.make("K2")
@@ -207,7 +208,7 @@ async def false_lines(zone):
 
 
 async def signatures_expire(zone):
-    """Signatures of some seconds, renewed in time, also while a roll waits."""
+    """Signatures that are valid for some seconds are renewed in time, also while a roll waits."""
     provider = await first_keys(zone, "K1", "Z1")
     async with renewed(provider):
         for name in (KSK, ZSK):
@@ -221,7 +222,7 @@ LIFETIME = 24
 
 @asynccontextmanager
 async def renewed(provider):
-    """The signatures are renewed while the old ones are still valid for longer than the TTL and the
+    """Renews the signatures while the old ones are still valid for longer than the TTL and the
     slowest server together."""
     provider.signing.lifetime = LIFETIME
 
@@ -241,8 +242,8 @@ async def renewed(provider):
 
 @asynccontextmanager
 async def restless(provider):
-    """In every phase sets are signed anew, and TTLs rise and fall; but for the DNSKEY TTL, which
-    doesn't rise where the guide says so."""
+    """In every phase sets get new signatures, and TTLs rise and fall. Only the DNSKEY TTL doesn't
+    rise when the guide forbids it."""
 
     async def go_on():
         zone, dice = provider.zone, provider.zone.dice

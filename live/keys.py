@@ -34,7 +34,7 @@ class Key:
 
     @property
     def ds(self):
-        """Its DS record's data."""
+        """The data of its DS record."""
         name = dns.name.from_text(self.zone)
         data = dns.rdata.from_text("IN", "DNSKEY", self.dnskey)
         return dns.dnssec.make_ds(name, data, "SHA256").to_text()
@@ -53,7 +53,7 @@ async def run(folder, *command):
 
 
 async def make_key(folder, zone, ref, kind, algorithm):
-    """Makes a key; `dnssec-keygen` gives no two in a folder one tag."""
+    """Makes a key. In one folder `dnssec-keygen` gives each key another tag."""
     size = ["-b", "2048"] if algorithm == RSA else []
     flag = [] if kind == "zsk" else ["-f", "KSK"]
     name = await run(
@@ -68,9 +68,9 @@ async def make_key(folder, zone, ref, kind, algorithm):
 
 @dataclass(frozen=True)
 class Version:
-    """What is published of a zone. `cds` has the keys of CDS and CDNSKEY: none at all for the entry
-    that deletes, and None where there are no such sets. Those of `cds_signers` sign them beside
-    those of `zone`. Answers that there is none have a TTL of their own, unless `negative` is 0."""
+    """What is published of a zone. `cds` has the keys of CDS and CDNSKEY. It is empty for the entry
+    that deletes, and None if there are no such sets. The keys of `cds_signers` sign them, and those
+    of `zone`. Answers that there is no such set have the TTL `negative`, unless that is 0."""
 
     serial: int
     ttl: int
@@ -90,7 +90,7 @@ class Version:
 
 
 def plain_records(zone, version, providers):
-    """The records of a zone but for those of DNSSEC."""
+    """The records of a zone, except those of DNSSEC."""
     ttl = version.ttl
     servers = {
         f"{provider.lower()}{number}.{zone}": address
@@ -121,13 +121,13 @@ def key_records(zone, version):
 
 
 def covered(line):
-    """Which set a line of a signed zone is the signature of, if it is one."""
+    """Which set a line of a signed zone signs, if it is a signature."""
     words = line.split(None, 5)
     return words[4] if words[3] == "RRSIG" else None
 
 
 def set_of(line):
-    """Which set a line is of, or is the signature of."""
+    """Which set a line is part of, or signs."""
     return covered(line) or line.split(None, 4)[3]
 
 
@@ -137,7 +137,7 @@ def tag_of(line):
 
 
 class Signing:
-    """Signs the versions of one zone in a folder. `letter` is that of the signer."""
+    """Signs the versions of one zone in a folder. `letter` stands for the signer."""
 
     def __init__(self, folder, zone, providers, letter=""):
         self.folder, self.zone, self.providers = folder, zone, providers
@@ -145,8 +145,8 @@ class Signing:
         self.last, self.lifetime = [], 24 * 3600
 
     async def text(self, version):
-        """The zone's file with the signatures that a version asks for. Of a key that is lost the
-        last signatures are kept."""
+        """The zone's file with the signatures that a version asks for. If a key is lost, its last
+        signatures are kept."""
         plain = list(plain_records(self.zone, version, self.providers))
         if not version.dnskey:
             return "\n".join(plain) + "\n"
@@ -173,7 +173,7 @@ class Signing:
         return "\n".join(lines) + "\n"
 
     async def signed(self, records, keys, *options):
-        """The lines of these records, signed by these keys only."""
+        """The lines of these records, signed only by these keys."""
         able = [key.path for key in keys if not key.lost]
         number = next(self.numbers)
         source, result = self.folder / f"{number}.zone", self.folder / f"{number}.signed"

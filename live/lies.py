@@ -1,4 +1,4 @@
-"""Scenes with one lie, each of which has to show failures: else the honest ones prove nothing."""
+"""Scenes with one lie. Each has to show failures, else the honest scenes prove nothing."""
 
 import asyncio
 import time
@@ -12,7 +12,7 @@ AHEAD = 100_000
 
 
 class AheadOfTheClock(Roll):
-    """Each wait is made at once, with a moment that lies far ahead."""
+    """Each wait is made at once, with a moment far ahead of the clock."""
 
     async def wait(self, number):
         await self.make(lambda: f"wait{number} {self.name} {rounded_down() + AHEAD}")
@@ -61,13 +61,13 @@ LIES = {
     "ttl-of-0": TtlOf0,
     "report-before-publishing": BeforePublishing,
 }
-# The TTL of the set that caches have to hold for the lie to show, if the operator waits for it too,
-# and if he doesn't.
+# The TTL of the set that caches have to hold for the lie to show: if the operator waits for that
+# set too, and if not.
 LONG, LONGER = 20, 60
 
 
 def long_kind(name, roll):
-    """The kind of the set whose old version breaks the zone by a lie."""
+    """The kind of the set whose old version breaks the zone because of a lie."""
     if roll is WaitOfTheOriginal:
         return "dnskey"
     if name == DOUBLE_DS:
@@ -77,7 +77,7 @@ def long_kind(name, roll):
 
 
 def lying(name, roll):
-    """Rolls with a lie, in a zone with TTLs by which it shows."""
+    """Rolls with a lie, in a zone with TTLs that let it show."""
 
     async def scene(zone):
         zone.reads_cds = False
@@ -106,19 +106,19 @@ async def ttl_of_the_other(zone):
 
 
 async def ds_of_one_signer(zone):
-    """A's first keys are not in step: its DS is published while B's zone is unsigned."""
+    """A's first keys don't go in step with B: its DS is published while B's zone is unsigned."""
     a, _ = providers(zone)
     await a.make("K1", "Z1")
     await Roll(a, ALGORITHM).whole([], ["K1", "Z1"])
 
 
-# So long a resolver may go on to say what it has found bogus (Unbound, `val-bogus-ttl`).
+# How long a resolver may repeat that something is bogus (Unbound, `val-bogus-ttl`).
 BOGUS = 60
 
 
 async def taken_back(zone):
-    """docs/EMERGENCY.md, "A false line was accepted": a first wait was acted upon that is accepted
-    by a digit too many. Its line is taken out, and what it has published. Then the roll goes on,
+    """docs/EMERGENCY.md, "A false line was accepted": a first wait was accepted because of a digit
+    too many, and acted upon. Its line is removed, and what it has published. Then the roll goes on,
     and nobody sees a fault."""
     zone.ttls.zone, zone.ttls.dnskey, zone.ttls.ds = 3, LONG, 2
     provider = await first_keys(zone, "K1", "Z1")

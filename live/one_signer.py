@@ -12,7 +12,7 @@ from script import rounded_down
 
 KSK, ZSK, DOUBLE_SIGNATURE, CSK = "ksk-roll", "zsk-roll", "zsk-double-signature-roll", "csk-roll"
 
-# Of each roll what leaves, and what comes in, each time anew.
+# For each roll the old keys, the new ones, and those that then replace the new ones.
 KEYS = {
     KSK: (["K1"], ["K2"], ["K3"]),
     DOUBLE_DS: (["K1"], ["K2"], ["K3"]),
@@ -33,7 +33,7 @@ async def first_keys(zone, *refs, algorithm=13):
 
 
 def one_roll(name):
-    """A roll after the first keys, and the same to a third set of keys."""
+    """A roll after the first keys, and then the same roll to new keys again."""
 
     async def scene(zone):
         provider = await first_keys(zone, "K1", "Z1")
@@ -69,7 +69,7 @@ def beside(ksk_roll, zsk_roll):
 
 
 def ended_early(name):
-    """A roll that is ended early when all is published, or before, and begun anew."""
+    """A roll that is ended early, after all is published or before, and begun again."""
 
     async def scene(zone):
         provider = await first_keys(zone, "K1", "Z1")
@@ -137,7 +137,7 @@ async def unsigned(zone):
 
 
 async def first_keys_ended_early(zone):
-    """First keys with a longer DNSKEY TTL, ended early, and others in their place."""
+    """First keys with a longer DNSKEY TTL, ended early, and then other first keys."""
     provider = Provider(zone, zone.servers)
     zone.ttls.dnskey = 7
     await provider.make("K1", "Z1")
@@ -156,7 +156,7 @@ async def first_keys_ended_early(zone):
 
 
 async def ended_early_beside(zone):
-    """Of a KSK roll and a ZSK roll side by side first the one is ended early, then the other."""
+    """A KSK roll and a ZSK roll side by side. First one is ended early, then the other."""
     provider = await first_keys(zone, "K1", "Z1")
     for ended, other, old, new, third in (
         (Roll(provider, KSK), Roll(provider, DOUBLE_SIGNATURE), "K1", "K2", "Z2"),
@@ -173,7 +173,7 @@ async def ended_early_beside(zone):
 
 
 class Raised(Roll):
-    """Just before each report all TTLs rise; they fall again after it."""
+    """Just before each report all TTLs rise. They fall again after it."""
 
     async def report(self, number, ttl=None):
         ttls = self.provider.ttls
@@ -192,8 +192,7 @@ HIGH = 6
 
 
 async def raised_ttls(zone):
-    """Rolls in which TTLs rise just before each report, with a DS TTL that is longer than all
-    others."""
+    """Rolls in which TTLs rise just before each report. The DS TTL is longer than all others."""
     zone.ttls.ds = 9
     provider = await first_keys(zone, "K1", "Z1")
     await provider.make("K2", "Z2", "C3")
@@ -203,8 +202,8 @@ async def raised_ttls(zone):
 
 
 async def nsec3(zone):
-    """Answers that there is none have the highest TTL, and go from NSEC to NSEC3 and back in
-    mid-roll."""
+    """Answers that there is no such set have the highest TTL. During a roll they go from NSEC to
+    NSEC3 and back."""
     zone.ttls.negative = 9
     provider = await first_keys(zone, "K1", "Z1")
     await provider.make("Z2", "K2", "Z3", algorithm=13)
@@ -218,7 +217,7 @@ async def nsec3(zone):
 
 
 class Restarting(Roll):
-    """In each phase a resolver restarts, and has an empty cache."""
+    """In each phase a resolver restarts with an empty cache."""
 
     resolvers = itertools.cycle(RESOLVERS)
 

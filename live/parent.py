@@ -1,4 +1,4 @@
-"""The parent of all zones: a root, whose DS sets change on demand."""
+"""The parent of all zones: a root zone, whose DS sets change on demand."""
 
 import asyncio
 
@@ -6,7 +6,7 @@ from asking import data_of, watch
 from keys import make_key, run
 from places import CHILD, PARENT
 
-# Of "there is no DS", and of all but the DS sets.
+# The TTLs of "there is no DS", and of all sets except the DS sets.
 NEGATIVE, LONG = 2, 3600
 
 
@@ -50,13 +50,13 @@ class Parent:
         return result.read_text()
 
     async def change(self, zone, data, ttl):
-        """Publishes a DS set of a zone; without data that of now, with another TTL."""
+        """Publishes a DS set of a zone. Without data it is the present one, with another TTL."""
         async with self.lock:
             self.ds[zone] = self.ds[zone][0] if data is None else sorted(data), ttl
             self.fleet.publish(PARENT, ".", await self.text())
 
     async def watch(self, zone):
-        """Watches until all servers give the DS set of now, or of a later version."""
+        """Watches until all servers give the present DS set, or that of a later version."""
         serial = self.serial
 
         def has_serial(answer):

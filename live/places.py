@@ -8,7 +8,7 @@ UNBOUND, STRICT, POWERDNS, CACHE, BEHIND = (f"127.0.53.{last}" for last in range
 # BIND listens only at addresses that an interface has.
 BIND = "127.0.0.1"
 
-# The resolvers that clients ask. The cache is asked by the last one only.
+# The resolvers that clients ask. Only the last one asks the cache.
 RESOLVERS = {
     "unbound": UNBOUND,
     "unbound-strict": STRICT,

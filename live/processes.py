@@ -10,7 +10,7 @@ import time
 
 from places import CACHE, RESOLVERS, SERVERS
 
-# Debian's package of each program that is run.
+# Debian's package for each program that is run.
 PACKAGES = {
     "nsd": "nsd",
     "knotd": "knot",
@@ -30,7 +30,7 @@ class Failed(Exception):
 
 
 def program(name):
-    """The path of a program, which may stand in a folder for administrators."""
+    """The path of a program, which may be in a folder for administrators."""
     return shutil.which(name, path=PATHS)
 
 
@@ -51,14 +51,14 @@ def is_taken(port):
 
 
 class Processes:
-    """The running servers, each in a process group of its own. The kernel ends them should this
-    process be killed."""
+    """The running servers, each in a process group of its own. If this process is killed, the
+    kernel ends them."""
 
     def __init__(self, folder):
         self.folder, self.running, self.commands, self.restarting = folder, {}, {}, set()
 
     def start(self, name, *command):
-        """Starts a server that stays in the foreground; what it says goes into a file."""
+        """Starts a server that stays in the foreground. What it prints goes into a file."""
         self.commands[name] = command
         log = open(self.folder / f"{name}.log", "ab")
         with log:
@@ -69,7 +69,7 @@ class Processes:
             )
 
     async def restart(self, name):
-        """Ends a server as a crash does, and starts it anew: what it kept in memory is gone."""
+        """Ends a server as a crash does, and starts it again. What it kept in memory is gone."""
         self.restarting.add(name)
         process = self.running[name]
         end(process, signal.SIGKILL)
@@ -89,7 +89,7 @@ class Processes:
                 raise Failed(f"{name} ended with status {process.returncode}:\n{said}")
 
     def stop(self):
-        """Ends all, first gently."""
+        """Ends all servers, first gently."""
         for process in self.running.values():
             end(process, signal.SIGTERM)
         until = time.monotonic() + 5

@@ -1,4 +1,4 @@
-"""A provider that signs a zone and serves it, as docs/OPERATORS.md has it."""
+"""A provider that signs a zone and serves it, as in docs/OPERATORS.md."""
 
 import asyncio
 import time
@@ -14,13 +14,13 @@ UPDATES = {"UpdateDnskeyRrset": "dnskey", "UpdateRrsig": "zone"}
 
 
 def soa_signers(version):
-    """The keys that sign the SOA record: those of the DNSKEY set, where a ZSK is lost."""
+    """The keys that sign the SOA record: those of the DNSKEY set, if a ZSK is lost."""
     return version.signers if any(key.lost for key in version.zone) else version.zone
 
 
 class Provider:
-    """Signs a zone by a script of its own, and serves it. Two providers of one zone put their
-    letters before the references of their keys."""
+    """Signs a zone by a script of its own, and serves it. If a zone has two providers, each puts
+    its letter before the references of its keys."""
 
     def __init__(self, zone, servers, letter=""):
         self.zone, self.servers, self.letter = zone, servers, letter
@@ -50,14 +50,14 @@ class Provider:
             self.call(f"add-{kind} {ref} - {algorithm} {key.tag} {rounded_down()} yes")
 
     def named(self, *refs):
-        """References as they stand in the script."""
+        """References as the script has them."""
         return ",".join(f"{self.letter}{ref}" for ref in refs) or "-"
 
     def is_own(self, key):
         return key.ref.startswith(self.letter)
 
     async def take_in(self, *keys):
-        """Publishes keys of the other signer in the DNSKEY set."""
+        """Publishes keys of the other signer in this signer's DNSKEY set."""
         for key in keys:
             self.add_public(key)
         await self.publish("dnskey")
@@ -70,14 +70,14 @@ class Provider:
         self.call(f"set-present {key.ref} yes {now}")
 
     async def take_out(self, *keys):
-        """Takes keys of the other signer out of the DNSKEY set."""
+        """Takes keys of the other signer out of this signer's DNSKEY set."""
         for key in keys:
             self.call(f"set-present {key.ref} no {rounded_down()}")
         await self.publish("dnskey")
         await self.watch()
 
     def keys_of(self, kind):
-        """The keys of a set that is to be published."""
+        """The keys of a set that has to be published."""
         return tuple(self.keys[ref] for ref in self.script.sets[kind])
 
     def call(self, line, may_break=False):
@@ -86,8 +86,8 @@ class Provider:
     # Publishing
 
     def note_version(self):
-        """Notes the TTLs of what is published (rule 1). A zone without a DNSKEY set gives the
-        answer that there is none."""
+        """Notes the TTLs of what is published (rule 1). A zone without a DNSKEY set answers that
+        there is none."""
         version = self.version
         self.versions[version.serial] = version
         dnskey = version.dnskey_ttl if version.dnskey else version.longest
@@ -95,8 +95,8 @@ class Provider:
         self.notes.published("zone", version.longest, version.serial)
 
     async def publish(self, *kinds):
-        """Publishes a version of the zone, with the DNSKEY set or the signatures of the zone that
-        the script has now, if they are named."""
+        """Publishes a version of the zone. If the DNSKEY set or the signatures of the zone are
+        named, the version has those of the script now."""
         async with self.publishing:
             changes = {}
             if "dnskey" in kinds:
@@ -115,17 +115,17 @@ class Provider:
 
     def cds_signers(self, signers):
         """The key of `signers=` that signs CDS and CDNSKEY (rule 3): one that has a DS now, by
-        which the parent checks them; before the first DS one that gets it."""
+        which the parent checks them, or before the first DS one that gets it."""
         with_ds = [key for key in signers if key.ds in self.zone.ds()]
         return tuple((with_ds or signers)[:1])
 
     async def act(self, actions):
-        """Does what an answer asks: publishes it in one version, and has the parent changed."""
+        """Does what an answer asks: publishes it in one version, and has the DS set changed."""
         kinds = [kind for action, kind in UPDATES.items() if action in actions]
         before = self.zone.cds
         if "CreateCdsRrset" in actions:
             await self.take_cds_out()
-            # Without a key that can sign them the parent is told by another way.
+            # Without a key that can sign them the parent gets its DS set by another way.
             if not any(key.lost for key in self.version.signers):
                 self.zone.cds = self.zone.ds_keys()
         # (At `RemoveCdsRrset` they are out already.)
@@ -158,14 +158,14 @@ class Provider:
     # Watching
 
     async def watch(self):
-        """Watches until all servers give the version of now, or a later one: its serial number with
-        the signatures of the zone, and the DNSKEY set with a signature by each key of
+        """Watches until all servers give the present version, or a later one: its serial number
+        with the signatures of the zone, and the DNSKEY set with a signature by each key of
         `signers=`."""
         serial, name, port = self.version.serial, self.zone.name, self.zone.world.port
 
         def has_version(answer):
             given = [int(text.split()[2]) for text in data_of(answer, "SOA")]
-            # (A server that another provider had may still give a version of that one.)
+            # (A server that another provider had may still give a version of that provider.)
             version = self.versions.get(given[0]) if given else None
             return version and version.serial >= serial and (
                 {key.tag for key in soa_signers(version)} == tags_of(answer, "SOA")
@@ -197,7 +197,7 @@ class Provider:
     # TTLs
 
     def highest(self, kind, moment):
-        """The TTL of rule 1. The DNSKEY sets of the other signer count as one's own."""
+        """The TTL of rule 1. The DNSKEY sets of the other signer count like its own."""
         if kind == "ds":
             return self.zone.notes.highest("ds", moment)
         counted = self.zone.providers if kind == "dnskey" else [self]
@@ -210,8 +210,8 @@ class Provider:
         return max(self.notes.highest(kind, time.time()) for kind in ("dnskey", "zone"))
 
     def sum_of_ds_and_dnskey(self, moment):
-        """The TTL to report if a validator may check a DNSKEY set by an old DS set once more: that
-        of the present DNSKEY set counts too, and of one that is on its way."""
+        """The TTL to report if a validator may check a DNSKEY set by an old DS set once more. The
+        present DNSKEY set counts too, and one that is on its way."""
         present = [
             ttl for provider in self.zone.providers
             for ttl in (provider.version.dnskey_ttl, provider.ttls.dnskey)

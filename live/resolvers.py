@@ -1,5 +1,5 @@
-"""The validating resolvers, each of another maker or with another setting, and a cache that doesn't
-validate before the last of them."""
+"""The validating resolvers, each of another maker or with other settings. The last one asks a cache
+that doesn't validate."""
 
 from places import BEHIND, BIND, CACHE, CHILD, PARENT, POWERDNS, STRICT, UNBOUND
 
@@ -34,7 +34,7 @@ stub-zone:
 UNBOUND_ADDRESS = """\
   stub-addr: {address}@{port}
 """
-# What it asks the cache it forgets after a second: so it meets whatever the cache holds.
+# It forgets the cache's answers after a second. So it meets whatever the cache holds.
 UNBOUND_FORWARD = """\
 server:
   cache-max-ttl: 1
@@ -85,8 +85,8 @@ loglevel=3
 
 
 class Resolvers:
-    """Writes their settings and starts them. `zones` has the letters of the providers of each
-    child, and `anchor` is the DS record of the parent, which is the root."""
+    """Writes the settings of the resolvers and starts them. `zones` has the letters of the
+    providers of each child, and `anchor` is the DS record of the parent, which is the root."""
 
     def __init__(self, processes, port, zones, anchor):
         self.processes, self.port, self.zones, self.anchor = processes, port, zones, anchor
@@ -102,7 +102,7 @@ class Resolvers:
         self.unbound("unbound-behind-cache", BEHIND, forward)
 
     async def restart(self, name):
-        """One of them begins anew, with an empty cache."""
+        """One of them starts again, with an empty cache."""
         await self.processes.restart(name)
 
     def folder(self, name):

@@ -1,4 +1,4 @@
-"""A roll, call by call, as docs/RUNBOOKS.md has it."""
+"""A roll, call by call, as in docs/RUNBOOKS.md."""
 
 import asyncio
 import time
@@ -10,7 +10,7 @@ ALGORITHM, DOUBLE_DS = "algorithm-roll", "ksk-double-ds-roll"
 
 
 def spoken_of(actions):
-    """The kinds of the sets of which actions as `ReportDsPropagated` speak."""
+    """The kinds of the sets that actions as `ReportDsPropagated` speak of."""
     return [
         kind for record, kind in RECORDS.items()
         if {f"Report{record}Propagated", f"Wait{record}Propagated"} & set(actions)
@@ -23,8 +23,8 @@ async def at_moment(moment):
 
 
 class Roll:
-    """One roll of a provider. Before a call that has the parent changed it takes the turn of the
-    zone, and gives it back when the parent has acted and CDS is out again (rule 3)."""
+    """One roll of a provider. Before a call that changes the parent's DS set it takes the turn of
+    the zone. It gives the turn back when the parent has acted and CDS is out again (rule 3)."""
 
     def __init__(self, provider, name):
         self.provider, self.zone, self.name = provider, provider.zone, name
@@ -84,7 +84,7 @@ class Roll:
                 await self.sleep(str(refused))
 
     async def sleep(self, refused):
-        """Sleeps as long as a refused wait says."""
+        """Sleeps for as long as a refused wait says."""
         _, early, seconds = refused.partition(EARLY)
         if not early:
             raise Refused(refused)
@@ -102,7 +102,7 @@ class Roll:
     # What they do
 
     async def make(self, line):
-        """Makes a call. If it asks for a change at the parent, it takes the turn of the zone
+        """Makes a call. If that asks for a change at the parent, takes the turn of the zone
         before."""
         asked = self.provider.script.tried(line()).actions
         if "UpdateDsRrset" in asked and not self.has_turn:
@@ -132,8 +132,8 @@ class Roll:
             self.has_turn = False
 
     def counted(self):
-        """The kinds of the sets whose TTL counts in a report: also that of CDS, which are sets of
-        the zone and have come and gone in this step."""
+        """The kinds of the sets whose TTL counts in a report. CDS counts too: it is a set of the
+        zone, and has come and gone in this step."""
         more = ["zone"] if "UpdateDsRrset" in self.actions else []
         return [*spoken_of(self.actions), *more]
 
@@ -142,8 +142,8 @@ class Roll:
         return self.name == ALGORITHM and number == 2 and bool(self.old)
 
     def ttl(self, number, moment):
-        """The highest TTL of what the report speaks of; when old algorithms leave, the sum of the
-        DS TTL and the DNSKEY TTL, the present one too."""
+        """The highest TTL of what the report speaks of. If old algorithms leave, the sum of the DS
+        TTL and the DNSKEY TTL, for which the present set counts too."""
         provider = self.provider
         if self.is_last_of_algorithm(number):
             return max(provider.sum_of_ds_and_dnskey(moment), provider.highest("zone", moment))

@@ -22,10 +22,10 @@ TOP = Path(__file__).resolve().parent.parent
 KEYSET = TOP / "crates" / "keyset" / "out" / "keyset"
 PORT = 15353
 DEBIANS = "/usr/bin/python3"
-# The most seconds that the short form and the whole may take.
+# The most seconds that the short form and the whole run may take.
 SHORT, WHOLE = 600, 3600
 FAULTS_SHOWN = 8
-# The most seconds that a scene may take, and for which clients go on after it.
+# The most seconds that a scene may take, and the seconds for which clients go on after it.
 SCENE, AFTER = 900, 8
 
 
@@ -45,7 +45,7 @@ def given():
 
 
 async def play(zone, scene):
-    """Plays a scene while clients ask, and some seconds longer. Gives what went wrong in it, if
+    """Plays a scene while clients ask. They go on for some seconds. Gives what went wrong, if
     anything did."""
     clients, wrong = zone.clients, None
     await clients.begin()
@@ -63,7 +63,7 @@ async def play(zone, scene):
 
 
 def unlike(is_lie, clients):
-    """What clients saw that isn't as it has to be, if anything."""
+    """What is wrong in what the clients saw, if anything."""
     early = [fault for fault in clients.faults if fault.moment < clients.mended]
     if is_lie and not early:
         return "no failure was seen"
@@ -76,7 +76,7 @@ HEAD = f"{'scene':53} {'seconds':>7} {'questions':>9} {'with AD':>9} {'SERVFAIL'
 
 
 def row(name, seconds, counts, faults):
-    """A row of the table; other faults are all but SERVFAIL."""
+    """A row of the table. Its other faults are all except SERVFAIL."""
     asked, checked, servfail = (counts[what] for what in ("asked", "AD", "SERVFAIL"))
     return (
         f"{name:53} {seconds:7.0f} {asked:9} {checked:9} {servfail:8} {faults - servfail:6}"
@@ -95,7 +95,7 @@ def folder_of(arguments):
 
 
 class Run:
-    """A run of some scenes, so many of them side by side."""
+    """A run of some scenes, and how many of them go side by side."""
 
     def __init__(self, world, scenes, at_once):
         self.world, self.scenes, self.at_once = world, scenes, at_once
@@ -140,7 +140,7 @@ def missing_packages():
 
 
 def problem(arguments):
-    """What else is in the way of a run, if anything."""
+    """What else prevents a run, if anything."""
     if not Path(arguments.keyset).exists():
         return f"{arguments.keyset} is not there: make build"
     if is_taken(arguments.port):

@@ -11,7 +11,7 @@ from lies import LYING, LYING_TWO
 
 
 class Scene(NamedTuple):
-    """What is played in a zone of its own, by one provider or by two."""
+    """A scene, which has a zone of its own, and one provider or two."""
 
     name: str
     play: Callable
@@ -35,8 +35,8 @@ SCENES = [
     Scene("by-command", by_command.tour, "A", False),
 ]
 
-# What only the whole run plays, though it is like no other; and what the short form plays of those
-# scenes that are alike.
+# The scenes that only the whole run plays, though no other is like them; and the scenes that the
+# short form plays of those that are alike.
 ONLY_WHOLE = {
     "two-csk-rolls-of-each",
     "two-zsk-rolls-at-once",
@@ -72,7 +72,7 @@ def is_short(name):
 
 
 def chosen(names, short, rounds):
-    """The scenes of these names, or all, or those of the short form. Those with a lie are played
+    """The scenes with these names, or all, or those of the short form. A scene with a lie is played
     once."""
     unknown = set(names) - {scene.name for scene in SCENES}
     if unknown:

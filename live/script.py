@@ -1,4 +1,4 @@
-"""A zone's script, which the built program `keyset` answers."""
+"""A zone's script. The built program `keyset` answers it."""
 
 import subprocess
 import time
@@ -11,7 +11,7 @@ EARLY = "refused: wait for duration "
 
 
 class Answer(NamedTuple):
-    """What the program says to a call, with what is then to be published, and the verdict."""
+    """The program's answer to a call, with what then has to be published, and the verdict."""
 
     reply: str
     sets: dict
@@ -34,7 +34,7 @@ class Script:
         self.sets = {"ds": [], "dnskey": [], "signers": [], "zone": []}
 
     def tried(self, line):
-        """What a copy of the script with this line at its end is answered."""
+        """The answer to a copy of the script with this line at its end."""
         text = "".join(f"{one}\n" for one in [*self.lines, line])
         done = subprocess.run(self.program, input=text, capture_output=True, text=True)
         if done.returncode:

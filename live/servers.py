@@ -1,5 +1,5 @@
-"""The authoritative servers: three NSD and three Knot, which get each version of a zone one after
-another."""
+"""The authoritative servers: three of NSD and three of Knot. They get each version of a zone one
+after another."""
 
 import asyncio
 import os
@@ -69,7 +69,7 @@ def file_of(zone):
 
 
 class Server:
-    """One authoritative server. It gives each version after a while of its own."""
+    """One authoritative server. It gives each version after a delay of its own."""
 
     def __init__(self, address, processes, port):
         self.address, self.processes, self.port = address, processes, port
@@ -149,7 +149,7 @@ class Fleet:
             self.servers[address].write(zone, text)
 
     def start(self, zones):
-        """Starts all. `zones` has the letters of the providers of each zone."""
+        """Starts all servers. `zones` has the letters of the providers of each zone."""
         for address, server in self.servers.items():
             served = [
                 zone for zone, letters in zones.items()
@@ -158,6 +158,6 @@ class Fleet:
             server.start(["."] if address in PARENT else served)
 
     def publish(self, addresses, zone, text):
-        """Gives a version to servers, to each after a while of its own."""
+        """Gives a version to servers, to each after a delay of its own."""
         for address in addresses:
             self.servers[address].publish(zone, text, self.dice.uniform(0, self.SLOWEST))

@@ -15,13 +15,13 @@ def providers(zone):
 
 
 def shared(provider, refs):
-    """Of some of its keys those that the other publishes too."""
+    """Those of some of its keys that the other publishes too."""
     keys = [provider.keys[f"{provider.letter}{ref}"] for ref in refs]
     return [key for key in keys if key.kind != "ksk"]
 
 
 async def in_step(signers, old, new):
-    """Both make an `algorithm-roll`, and each call only when both have made the one before."""
+    """Both make an `algorithm-roll`. Each makes a call only when both have made the one before."""
     await go_on_in_step(await start_in_step(signers, old, new))
     for signer, other in (signers, signers[::-1]):
         keys = shared(signer, old)
@@ -40,7 +40,7 @@ async def start_in_step(signers, old, new):
 
 
 async def algorithms_ended_early(zone):
-    """Both end a change of the algorithm early, in step, and begin it anew."""
+    """Both end a change of the algorithm early, in step, and begin it again."""
     signers = await in_step_keys(zone, "K1", "Z1")
     for signer in signers:
         await signer.make("K2", "Z2", "K3", "Z3", algorithm=15)
@@ -63,7 +63,7 @@ async def go_on_in_step(rolls):
 
 
 async def both_perform(rolls):
-    """Both do what the last answers ask; then both watch."""
+    """Both do what the last answers ask. Then both watch."""
     for roll in rolls:
         await roll.provider.act(roll.actions)
     for roll in rolls:
@@ -71,9 +71,9 @@ async def both_perform(rolls):
 
 
 async def change_in_step(rolls):
-    """When both waits are accepted, one change at the parent, for both."""
+    """After both waits are accepted, the parent makes one change for both."""
     await rolls[0].accepted(1)
-    # (The turn is that of both.)
+    # (It is the turn of both.)
     rolls[1].has_turn = True
     await rolls[1].accepted(1)
     rolls[1].has_turn = False
@@ -89,7 +89,7 @@ async def end_in_step(rolls):
 
 
 async def in_step_keys(zone, *refs, algorithm=13):
-    """Two signers with first keys, that go in step."""
+    """Two signers with first keys that go in step."""
     signers = providers(zone)
     for signer in signers:
         await signer.make(*refs, algorithm=algorithm)
@@ -111,7 +111,7 @@ async def roll_of_one(signer, other, name, old, new):
 
 
 async def in_step_and_unsigned(zone):
-    """First keys in step; then both go unsigned in step, and come back with other keys."""
+    """First keys in step. Then both go unsigned in step, and come back with other keys."""
     signers = await in_step_keys(zone, "K1", "Z1")
     await asyncio.sleep(zone.longest() + 4)
     await unsigned_in_step(signers, "K1", "Z1")
@@ -176,8 +176,8 @@ async def algorithms(zone):
 
 
 async def alone(zone, *refs):
-    """A, which has all servers. Who isn't named in the NS sets has no servers here: those of its
-    addresses give the other's versions."""
+    """A, which has all servers. A signer that the NS sets don't name has no servers here: the ones
+    at its addresses give the other's versions."""
     a = Provider(zone, zone.servers, "A")
     await a.make(*refs)
     await Roll(a, ALGORITHM).whole([], refs)
@@ -237,7 +237,7 @@ async def csk_joins_and_leaves(zone):
 
 
 async def join(a, of_a, refs, meanwhile=None):
-    """The table "B joins". What goes on meanwhile begins once each has the other's keys."""
+    """The table "B joins". The rolls beside it begin once each signer has the other's keys."""
     zone = a.zone
     b = Provider(zone, [], "B")
     await b.make(*refs)
@@ -250,7 +250,7 @@ async def join(a, of_a, refs, meanwhile=None):
     await roll.watch()
     going = meanwhile and asyncio.ensure_future(meanwhile(b))
     await roll.finish()
-    # Only after B's second wait its servers are named.
+    # The NS sets name B's servers only after B's second wait.
     a.servers, b.servers = CHILD["A"], CHILD["B"]
     await b.publish()
     await b.watch()
@@ -292,7 +292,7 @@ async def changing_ttls(zone):
 
 
 def ended_early(name):
-    """A roll of A that is ended early, and begun anew with another key, while B rolls its KSK."""
+    """A roll of A is ended early, and begun again with another key, while B rolls its KSK."""
 
     async def scene(zone):
         a, b = await in_step_keys(zone, "K1", "Z1")

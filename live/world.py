@@ -15,8 +15,8 @@ from zone import Zone
 
 
 class World:
-    """Begins with a signed root and unsigned zones. `zones` has the letters of the providers of
-    each."""
+    """Begins with a signed root and unsigned zones. `zones` has the letters of each zone's
+    providers."""
 
     def __init__(self, folder, port, keyset, zones, seed):
         self.folder, self.port, self.keyset, self.zones = folder, port, keyset, zones
@@ -35,7 +35,7 @@ class World:
         await self.are_up()
 
     async def zone(self, name):
-        """A zone, whose servers give it unsigned."""
+        """A zone. Its servers give it unsigned."""
         zone = Zone(self, name, self.zones[name], random.Random(f"{self.seed} {name}"))
         zone.clients = Clients(name, random.Random(f"{self.seed} clients {name}"), self.port)
         signing = Signing(zone.folder, name, zone.letters)

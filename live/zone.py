@@ -34,13 +34,13 @@ class Notes:
         self.held[kind].append(Held(ttl, number))
 
     def seen(self, kind, number):
-        """All servers give the version of this number, and none an older one."""
+        """Notes that all servers give the version of this number, and none an older one."""
         for held in self.held[kind]:
             if held.number < number and held.gone is None:
                 held.gone = time.time()
 
     def highest(self, kind, moment):
-        """The highest TTL under which a cache may hold a set from the moment on that servers have
+        """The highest TTL of the sets that a cache may hold at this moment, and that servers have
         ceased to give."""
         return max(
             (held.ttl for held in self.held[kind] if held.gone and held.gone + held.ttl > moment),
@@ -55,7 +55,7 @@ class Ttls:
     zone: int
     dnskey: int
     ds: int
-    # Of answers that there is none, if it is another.
+    # The TTL of answers that there is no such set, if it is another.
     negative: int = 0
 
     @classmethod
@@ -64,12 +64,12 @@ class Ttls:
 
 
 class Zone:
-    """One zone with its servers, its parent, its providers and those who ask."""
+    """One zone with its servers, its parent, its providers and its clients."""
 
     def __init__(self, world, name, providers, dice):
         self.world, self.name, self.dice = world, name, dice
         self.servers = [address for provider in providers for address in CHILD[provider]]
-        # Each of two signers chooses TTLs of its own; those of one are the zone's.
+        # Each of two signers chooses TTLs of its own. Those of a single one are the zone's.
         self.ttls = Ttls.any(dice)
         self.ttls_of = {letter: Ttls.any(dice) for letter in providers}
         self.providers, self.letters = [], providers
@@ -90,15 +90,15 @@ class Zone:
         return max(ttl for ttls in every for ttl in vars(ttls).values())
 
     def is_secure(self):
-        """From now on all answers have to be checked ones, once caches have lost what they hold of
+        """From now on all answers have to be validated, once caches have lost what they hold from
         before."""
         self.clients.secure_from = time.time() + self.longest() + 3
 
     # The parent
 
     async def change_ds(self, keys):
-        """Has the parent's DS set changed to these keys: the parent reads CDS, or, also where it
-        can't, is told by another way, and does it after a while."""
+        """Has the parent's DS set changed to these keys. The parent reads CDS now and then. If it
+        doesn't or can't, it gets the change by another way, after a while."""
         self.wanted = {key.ds for key in keys}
         if not (self.reads_cds and self.cds is not None and self.ds()):
             await asyncio.sleep(self.dice.uniform(0, 1))
@@ -109,7 +109,7 @@ class Zone:
         return set(self.world.parent.ds.get(self.name, ((), 0))[0])
 
     async def publish_ds(self, data=None):
-        """The parent publishes a DS set; without data that of now, with the TTL of now."""
+        """The parent publishes a DS set. Without data it is the present one, with the new TTL."""
         async with self.at_parent:
             ttl = self.ttls.ds if data is None or data else NEGATIVE
             await self.world.parent.change(self.name, data, ttl)

@@ -1,11 +1,11 @@
 #!/usr/bin/env python3
-"""Installs what `make build notes lib` has made, and takes it away again.
+"""Installs what `make build notes lib` has made, and removes it again.
 
     packaging/install.py install PREFIX [--destdir FOLDER] [--library FOLDER]
     packaging/install.py uninstall PREFIX [--destdir FOLDER]
 
-With --destdir the files are put below that folder, as packagers want them. The folder PREFIX may be
-moved as a whole: nothing in it says where it lies. `share/vaqsider/installed` lists what was
+With --destdir the files go below that folder, as packagers want them. The folder PREFIX may be
+moved as a whole: nothing in it says where it is. `share/vaqsider/installed` lists what was
 installed. `uninstall` removes that, and then the folders that `install` made, if they are empty.
 """
 
@@ -23,7 +23,7 @@ import man  # noqa: E402
 TOP = Path(__file__).resolve().parent.parent
 LIBRARY = TOP / "library" / "out"
 PROGRAMS = ("keyset", "keyset_status", "keyset_notes")
-# What the command is made of.
+# The parts of the command.
 PACKAGES = (TOP / "library" / "python" / "keyset", TOP / "command" / "vaqsider")
 # The licence of all that is installed.
 LICENCE = TOP / "LICENSE"
@@ -69,7 +69,7 @@ def contents(pages, library):
 
 
 def make_folder(folder):
-    """Makes a folder with those above it. Gives those that were not there."""
+    """Makes a folder and those above it. Gives those that were not there."""
     made = []
     while not folder.is_dir():
         made.append(folder)
@@ -81,7 +81,7 @@ def make_folder(folder):
 
 
 def put(source, place, mode):
-    """Puts a file in its place at once: whoever uses the old one goes on with it."""
+    """Puts a file in its place in one step: whoever uses the old one goes on with it."""
     new = place.with_name(f".{place.name}.new")
     new.unlink(missing_ok=True)
     if mode is None:
@@ -100,7 +100,7 @@ def listed(root):
 
 
 def remove_file(root, name):
-    """Removes a file, and what Python has kept of it."""
+    """Removes a file, and what Python has compiled of it."""
     path = root / name
     path.unlink(missing_ok=True)
     if path.suffix == ".py":
@@ -119,7 +119,8 @@ def keep(root, names, folders):
 
 def install(root, library):
     """Installs all, and removes what an earlier install has left and this one lacks. The list has
-    each file before the file is there, so that nothing is left by an install that breaks off."""
+    each file before the file is there. So `uninstall` finds all files of an install that broke
+    off."""
     with tempfile.TemporaryDirectory() as pages:
         pages = Path(pages)
         man.write(pages)

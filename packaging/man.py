@@ -4,7 +4,7 @@
     packaging/man.py FOLDER    writes keyset.1, keyset_status.1, keyset_notes.1 and vaqsider.1
 
 A page has the documents that are named below, without the sections that only a reader of the
-repository needs. It reads the Markdown that the documents are written in, and stops at any other.
+repository needs. It reads only the Markdown that these documents use, and stops at any other.
 """
 
 import argparse
@@ -18,7 +18,7 @@ from pathlib import Path
 sys.dont_write_bytecode = True
 TOP = Path(__file__).resolve().parent.parent
 
-# Each page: what it is of, how it is called, and its documents.
+# Each page: what the program does, how it is called, and the documents of the page.
 PAGES = {
     "keyset": (
         "answer a script of a DNSSEC key set",
@@ -46,7 +46,7 @@ BULLET = "\\(bu"
 LEFT_OUT = {"Building", "A picture"}
 
 RELEASED = re.compile(r"^## (?P<version>\d[\d.]*) - (?P<date>\d{4}-\d\d-\d\d)$", re.MULTILINE)
-# What stands in a line of text: code, a picture, a link, bold text.
+# What a line of text may have in it: code, a picture, a link, bold text.
 INLINE = re.compile(
     r"`(?P<code>[^`]+)`|!\[[^]]*\]\([^)]*\)"
     r"|\[(?P<text>[^]]*)\]\((?P<target>[^)\s]*)\)|\*\*(?P<bold>[^*]+)\*\*"
@@ -85,7 +85,7 @@ def inline(text):
 
 
 def filled(text):
-    """A paragraph as a line. Nothing in front of it can be taken for a command."""
+    """A paragraph as a line, which roff doesn't take for a command."""
     line = inline(" ".join(text.split()))
     return f"\\&{line}" if line.startswith((".", "'")) else line
 
@@ -100,8 +100,8 @@ def verbatim(lines):
 
 
 def table(lines):
-    """A table as a list: below the first column stands the second one, then each other by its
-    head."""
+    """A table as a list: the first column with the second below it, then the others, each after
+    its head."""
     head, _, *rows = ([cell.strip() for cell in line.strip("|").split("|")] for line in lines)
     for first, second, *others in rows:
         more = [f"{name}: {cell}" for name, cell in zip(head[2:], others) if cell]
@@ -111,7 +111,7 @@ def table(lines):
 
 
 def items(lines):
-    """The items of a list, each as one line behind its mark."""
+    """The items of a list, each as one line after its mark."""
     found = []
     for line in lines:
         if match := ITEM.fullmatch(line):
@@ -131,7 +131,7 @@ def listed(lines):
 
 
 def blocks(text):
-    """The blocks of a document: lines without an empty one, or what stands in a fence."""
+    """The blocks of a document: lines with no empty line between them, or those in a fence."""
     block, lines = [], iter(text.splitlines())
     for line in lines:
         is_fence, is_heading = line.startswith("```"), line.startswith("#")
@@ -180,7 +180,7 @@ def body(path, is_first):
 
 
 def words():
-    """The words of the command, which its README lists, with their options as it prints them."""
+    """The words of the command, in the order of its README, with the options that it prints."""
     sys.path.insert(0, str(TOP / "command"))
     from vaqsider.cli import main
 

@@ -3,19 +3,20 @@
     python3 compare.py --original PROGRAM [--port PROGRAM] [--seed SEED] [--count N]
                        [--early-ends] [--file FILE]
 
-The scripts are those written by hand and N generated ones, with --early-ends such as end some rolls
-early, or those of a file in the format of by_hand.txt. PROGRAM is a command that reads a script on
-standard input. Without a port the tables stand in its place, and are what is compared. The original
-is run with --canon --alts: of the answers that a wait could give by the order of its hashed map it
-then gives one, the end of the program if that is among them, else the longest wait, and it lists
-them all.
+The scripts are those written by hand and N generated ones, or those of a file in the format of
+by_hand.txt. With --early-ends some rolls of the generated ones end early. PROGRAM is a command that
+reads a script on standard input. Without a port the tables are compared. The original runs with
+--canon --alts. The answer to a wait can depend on the order of its hashed map. With these options
+it lists all answers that it could give, and gives one: the end of the program if that is in the
+list, else the longest wait.
 
-The two are to give the same answers, and the same published sets at the end, up to the first call
-in which they are meant to differ. From there on the original is left out. It gets the number of an
-algorithm where the script has its name, and no early end: one that is refused changes nothing, and
-one that is accepted is such a call. The port is to answer by the tables throughout, and to end with
-the verdict of judge.py on the record, which the original has not. Any other difference is a
-finding, printed with the smallest script that shows it. The status is 1 if there is one.
+Both have to give the same answers, and the same published sets at the end, up to the first call in
+which they are meant to differ. After that the original is left out. If the script names an
+algorithm, the original gets its number. It gets no early end: a refused one changes nothing, and an
+accepted one is a call in which they are meant to differ. The port has to answer by the tables all
+the time, and to end with the verdict of judge.py on the record, which the original lacks. Any other
+difference is a finding, printed with the smallest script that shows it. The status is 1 if there is
+one.
 """
 
 import argparse
@@ -30,12 +31,12 @@ from judge import chain_line
 from make_scripts import by_hand, generated, read_scripts
 from tables import ROLLS, KeySet, answers, number_of
 
-# The answer of an original that ends without one.
+# What stands for the answer if the original ends without one.
 ENDED = "panic"
 
-# The intended differences, by their headings in docs/DIFFERENCES.md, and what the original has in
-# the place of cells of the tables, or as its answer for a key without its stamp. The first that
-# explains a call is named.
+# The intended differences, by their headings in docs/DIFFERENCES.md. Each has the cells of the
+# tables that are other ones in the original, or its answer for a key without its stamp. A call gets
+# the name of the first that explains it.
 BESIDE = "The waits of ksk-roll pass over keys that stand beside the roll"
 UNSUITED = [("Z", "!old | present")]
 DIFFERENCES = [
@@ -56,9 +57,9 @@ DIFFERENCES = [
     ),
     ("A missing stamp is a refusal, and comes before any wait", {}, ENDED),
 ]
-# This one is seen in the list of the answers that the original could give.
+# This one shows in the list of the answers that the original could give.
 LONGEST = "Wait tells the longest time that is left"
-# And this one in the call itself.
+# And this one shows in the call itself.
 EARLY_END = "Rolls can be ended early"
 
 
@@ -75,7 +76,7 @@ ORIGINAL = with_cells({place: cell for _, cells, _ in DIFFERENCES for place, cel
 
 
 def answer_of(keyset, line, rolls, lacking):
-    """The refusal that another table would give in this state; None where it accepts."""
+    """The refusal that another table would give in this state; None if it accepts."""
     usual = keyset.rolls, keyset.lacking
     keyset.rolls, keyset.lacking = rolls, lacking or keyset.lacking
     answer = keyset.refusal(line)
@@ -84,7 +85,7 @@ def answer_of(keyset, line, rolls, lacking):
 
 
 def intended(keyset, line):
-    """The difference that this call of a script falls into, by its words, and whether the
+    """The intended difference that this call of a script shows, by its words, and whether the
     original accepts the call or how it refuses it; else None."""
     if is_early_end(line):
         return None if keyset.refusal(line) else (EARLY_END, None)
@@ -101,7 +102,8 @@ def intended(keyset, line):
 
 
 def run(command, script):
-    """The lines that a program writes for a script, and its status; without one the tables'."""
+    """The lines that a program writes for a script, and its status; without one those of the
+    tables."""
     if not command:
         return answers(script), 0
     text = "\n".join(script) + "\n"
@@ -126,7 +128,7 @@ def for_original(script):
 
 
 def by_number(line):
-    """The line with an algorithm's number in the place of its name."""
+    """The line with an algorithm's number instead of its name."""
     fields = line.split(" ")
     if fields[0].startswith("add-"):
         fields[-4] = str(number_of(fields[-4]))
@@ -134,8 +136,8 @@ def by_number(line):
 
 
 def compare(original, port, script):
-    """The intended differences that a script shows, by their words, how many answers of the two
-    were compared, and the finding or None."""
+    """The intended differences that a script shows, by their words; how many answers were
+    compared; and the finding or None."""
     seen, there, same = set(), [], 0
     lines, status = run(original, for_original(script))
     if status not in (0, 5):
@@ -180,7 +182,7 @@ def compare(original, port, script):
 
 
 def smallest(original, port, script):
-    """A script of which no line can be left out, with the finding that it still shows."""
+    """A script from which no line can be left out, with the finding that it still shows."""
     shorter = True
     while shorter:
         shorter = False

@@ -1,14 +1,14 @@
-"""Whether a record is safe: a second judge, written from the definition of a safe record alone.
+"""Whether a record is safe: a second judge, written only from the definition of a safe record.
 
 A record is a list of positions; position 0 is the new set. At position n caches may hold each DS
 set, each DNSKEY set with its signers and each set of zone signers that was published at a position
-up to n and that no report has retired. The record is safe where whatever three of these have a
-chain of trust.
+up to n and that no report has retired. The record is safe if any DS set, DNSKEY set and set of zone
+signers that caches may hold at a position have a chain of trust.
 """
 
 from typing import NamedTuple, Optional
 
-# Of which kinds the first and the second report of a roll speak.
+# The kinds of sets that the first and the second report of a roll speak of.
 SPEAKS_OF = {
     "ksk-roll": ("dnskey", "ds"),
     "ksk-double-ds-roll": ("ds", "dnskey"),
@@ -26,8 +26,8 @@ class Report(NamedTuple):
 
 
 class Position(NamedTuple):
-    """What a position tells. A key is its reference with the position of its add; `step` is the
-    roll that the call started, or whose first wait it was."""
+    """What a position has. A key is its reference with the position of its add; `step` is the roll
+    that the call started, or whose first wait it was."""
 
     moment: Optional[int]
     step: Optional[str]
@@ -52,7 +52,7 @@ def time(record, n):
 
 
 def is_retired(record, kind, q, n):
-    """Whether the set of position q is in no cache any more at n."""
+    """Whether no cache holds the set of position q at n any more."""
     for at in range(n + 1):
         report, moment = record[at].report, record[at].moment
         if report is None or moment is None:
@@ -83,7 +83,7 @@ def has_chain(ds, dnskey, signers, zone):
 
 
 def verdict(record):
-    """None where the record is safe, else the first positions of sets without a chain: `at`, `ds`,
+    """None if the record is safe, else the first positions of sets without a chain: `at`, `ds`,
     `dnskey`, `zone`."""
     for n in range(len(record)):
         broken = [

@@ -2,10 +2,11 @@
 
     python3 make_sample.py [--original PROGRAM] [--count N] > scripts.txt
 
-The scripts written by hand come first. Then come generated ones, N scripts in all, the last of them
-with early ends: the next is always the one that has, for its length, the most calls that are
-answered in a state as no call before. Last come the examples. The answers are those of the tables,
-and the chain line that of judge.py. With an original the answers are compared with it first.
+The scripts written by hand come first. Then come generated ones, N scripts in all, the last ones
+with early ends. The next script is always the one that shows, for its length, the most calls whose
+answer in their state no script before it has shown. Last come the examples. The answers are those
+of the tables, and the chain line is that of judge.py. With an original the answers are compared
+with it first.
 """
 
 import argparse
@@ -23,7 +24,7 @@ HEADER = """\
 # empty line stands between two scripts. Made by replay/make_sample.py.
 """
 # The seed and the number of the scripts to choose from, how many lines one may have, and how many
-# are chosen from such with early ends.
+# of the chosen ones have early ends.
 SEED, MADE, LONGEST, EARLY = "sample", 6000, 40, 12
 
 
@@ -62,7 +63,7 @@ def choose(count):
 
 
 def examples():
-    """The scripts of examples/, each by its name here: those of its folders last."""
+    """The scripts of examples/, each by its name here. Those of its folders come last."""
     folder = Path(__file__).parent.parent / "examples"
     paths = sorted(folder.rglob("*.script"), key=lambda path: (len(path.parts), path))
     return {

@@ -1,12 +1,11 @@
-"""Makes scripts of every roll, with all that may go wrong between their calls.
+"""Makes scripts of all rolls, with all that may go wrong between their calls.
 
     python3 make_scripts.py [--early-ends] SEED COUNT
 
 Each script has a first roll that gives its zone a chain, then one or two rolls of the types in
-turn. Between two calls stands what a Habit names. Where early ends are asked for, some rolls are
-ended before their first report. Beside that a script is made by its seed and number alone. The key
-set of tables.py is run along with it, so as to know what stands; what it answers is used for
-nothing else.
+turn. A Habit says what may come between two calls. With early ends some rolls end before their
+first report. Otherwise a script depends only on its seed and its number. The key set of tables.py
+makes the same calls, to know the state of keys and rolls; its answers are used for nothing else.
 """
 
 import random
@@ -24,7 +23,7 @@ STAMPS = ["visible", "ds-visible", "rrsig-visible"]
 PLAIN = ["early_wait", "wrong_phase", "repeated_call", "refused_start", "refused_add", "beside"]
 SETTERS = ["set_flag", "set_stamp", "retire", "delete", "give_again", "odd_key", "early_wait"]
 BACKWARDS = ["moment_back", "moment_greatest", "wait_before_report", "early_wait"]
-# What a script may do between two calls of its rolls, and how often it does.
+# What a script may do between two calls of its rolls, and how often.
 HABITS = [
     ([], 0.0),
     (PLAIN, 0.3),
@@ -38,7 +37,7 @@ HABITS = [
 
 
 class Script:
-    """A script in the making, and the key set that it leads to."""
+    """A script that is being made, and the key set after its lines."""
 
     def __init__(self, seed, number, early_ends=False):
         self.early_ends = early_ends
@@ -65,7 +64,7 @@ class Script:
         return self.random.random() < rate
 
     def some(self, names):
-        """A few of the names, as a list of a script; seldom with a repeated one."""
+        """A few of the names, as a list in a script; seldom with one repeated."""
         names = self.random.sample(names, self.random.randint(min(1, len(names)), len(names)))
         return names + names[:1] if names and self.chance(0.05) else names
 
@@ -73,14 +72,14 @@ class Script:
         return self.move(self.now + self.random.choice([0, 1, 7, 20]))
 
     def move(self, moment):
-        """Makes the moment the present one, as near as a script can name it."""
+        """Goes to this moment, or as near to it as a script can say."""
         self.now = min(max(moment, 0), MOST)
         return self.now
 
     # Keys.
 
     def add(self, kind, algorithm=13, available=True):
-        """Adds a key with a reference and a tag of its own, and gives the reference."""
+        """Adds a key with a new reference and a new tag, and gives the reference."""
         tags = {key.tag for key in self.keyset.keys.values()}
         tag = next(tag for tag in range(65536) if tag not in tags)
         letter = self.random.choice([kind[0].upper(), kind[0], "K+" + kind])
@@ -95,7 +94,7 @@ class Script:
         self.call("add-" + kind, name, *private, algorithm, tag, self.now, yes_no)
 
     def named(self, kinds, condition):
-        """The references of keys of these kinds of which a state meets the condition."""
+        """The references of the keys of these kinds that have a state which meets the condition."""
         return [
             name
             for name, key in self.keyset.keys.items()
@@ -134,14 +133,14 @@ class Script:
                 self.go_on(self.random.choice(rolls))
 
     def may_start(self, roll, rolls):
-        """Whether to start a roll now: none is in progress, or at times beside its neighbours."""
+        """Whether to start a roll now: if none is in progress, at times beside its neighbours."""
         return not rolls or self.chance(0.5) and self.tolerates(roll)
 
     def tolerates(self, roll):
         return all(other in ROLLS[roll]["tolerates"].split() for other in self.keyset.phases)
 
     def start(self, roll):
-        """Starts a roll from keys in use to fresh ones of the same algorithms."""
+        """Starts a roll from keys in use to new ones of the same algorithms."""
         kinds = ROLLS[roll]["kinds"].split()
         old = self.some(self.named(kinds, "!old present | !old signer"))
         if self.chance(0.1):
@@ -156,7 +155,7 @@ class Script:
         self.call("start", roll, ",".join(old) or "-", ",".join(new) or "-", self.tick())
 
     def ripe(self, roll):
-        """The moment at which the roll's wait is over, as far as its stamps tell."""
+        """The moment at which the roll's wait is over, by its stamps."""
         word, ttl = self.keyset.phases[roll]
         stamps = [stamp for stamp in self.keyset.checked(word, roll) if stamp is not None]
         return max(stamps, default=self.now) + ttl
@@ -178,8 +177,8 @@ class Script:
                     self.call("delete", name)
 
     def end_early(self):
-        """Ends a roll that waits for its first report, and starts it again at once or later; at
-        times tries it where no roll waits so."""
+        """Ends a roll that waits for its first report, and starts it again at once or later. At
+        times tries it though no roll waits so."""
         waiting = [roll for roll, (word, _) in self.keyset.phases.items() if word == "report1"]
         if not waiting or self.chance(0.1):
             if self.chance(0.2):
@@ -226,7 +225,7 @@ class Script:
         self.add(kind, self.random.choice([13, 13, 8]), self.chance(0.8))
 
     def refused_start(self):
-        """A start with one fault, if the roll that it names could start at all."""
+        """A start with one fault, of a roll that could otherwise start."""
         cause = self.random.choice(
             "unknown kind repeated used both unavailable algorithm nothing nothing again".split()
         )
@@ -277,7 +276,7 @@ class Script:
         self.call("set-" + word, name, moment)
 
     def odd_key(self):
-        """A key with flags that no roll gave it, and most often with all stamps."""
+        """A key with flags that no roll gave it, and in most cases with all stamps."""
         name = self.add(self.random.choice(["ksk", "zsk", "csk"]))
         if self.chance(0.5):
             self.call("set-stale", name)
@@ -315,8 +314,8 @@ class Script:
 
 
 def read_scripts(text):
-    """The named scripts of a text: '== ' and a name, then lines; '@NAME' stands for a script.
-    What stands from a line '-- ' on, as the answers of a sample, is left out."""
+    """The named scripts of a text: '== ' and a name, then lines; '@NAME' stands for a script. The
+    lines from one that begins with '-- ', as the answers of a sample, are left out."""
     scripts = {}
     for part in re.split("^== ", text, flags=re.MULTILINE)[1:]:
         name, *lines = part.split("\n-- ")[0].splitlines()

@@ -2,22 +2,22 @@
 
     python3 tables.py < SCRIPT
 
-This is written from the tables alone and shares no text with the key set that is proved or with
-the original. A roll is one entry of ROLLS, and the code below has no case for any roll.
+This is written only from the tables, and shares no text with the key set that is proved or with the
+original. A roll is one entry of ROLLS, and the code below has no case for any roll.
 
-A role is one of a key's states. A KSK and a ZSK have one, a CSK has two: the first as KSK, the
-second as ZSK. The tables pick roles by these words:
+A role is one of a key's states. A KSK has one, and so has a ZSK. A CSK has two: the first as KSK,
+the second as ZSK. The tables pick roles by these words:
 
     K, Z     the state of a KSK, of a ZSK
     KSK      the state of a KSK, the first state of a CSK
     ZSK      the state of a ZSK, the second state of a CSK
     first    the first state of a KSK, a ZSK or a CSK
     zone     the first state of a ZSK or a CSK
-    whole    as first, but what is written goes to all states of the key
+    whole    as first, but a change goes to all states of the key
     any      the first state of a key of any kind, a public key included
 
-and of these by a condition on the flags before the call: 'old !present' is old and not present,
-and a bar stands between two conditions of which one is enough.
+and then by a condition on the flags before the call: 'old !present' is old and not present, and a
+bar between two conditions means that one is enough.
 """
 
 import sys
@@ -25,8 +25,9 @@ import sys
 from judge import NEW_SET, Position, Report, chain_line
 
 # For each roll: the kinds of key that its lists may name; the flags and the stamp that the start
-# gives a new key; what suits the start; which stamps the reports set; which stamp of which keys
-# the waits read; what an accepted wait writes; the actions of the phases, and of an early end.
+# gives a new key; which keys make the start suited; which stamps the reports set; which stamp of
+# which keys the waits read; what an accepted wait writes; the actions of the phases, and of an
+# early end.
 ROLLS = {
     "ksk-roll": {
         "kinds": "ksk",
@@ -159,10 +160,10 @@ ROLES = {
     "include": {"any": 0},
 }
 
-# Which call a phase waits for, and the phase after it.
+# A phase has the name of the call that it waits for. The phase after it:
 PHASES = {"report1": "wait1", "wait1": "report2", "report2": "wait2", "wait2": "done"}
 
-# The calls on rolls that are given a moment, which stands last.
+# The calls on rolls that have a moment, as their last field.
 MOMENTS = ("start", "report1", "wait1", "report2", "wait2")
 
 # The setters that write a flag.
@@ -200,12 +201,12 @@ class Key:
         self.stamps = {"creation": creation}
 
     def role(self, word):
-        """The state that the word picks, by its number; None where it picks none."""
+        """The state that the word picks, by its number; None if it picks none."""
         return ROLES[self.kind].get(word)
 
 
 def number_of(algorithm):
-    """The number of an algorithm, which a script calls by its number or its name."""
+    """The number of an algorithm, which a script has by its number or its name."""
     return ALGORITHMS[algorithm] if algorithm in ALGORITHMS else int(algorithm)
 
 
@@ -223,12 +224,12 @@ def meets(state, condition):
 
 
 class KeySet:
-    """Keys and rolls; `rolls` is the table that it follows, `lacking` what a wait answers for a
+    """Keys and rolls. `rolls` is the table that it follows. `lacking` is what a wait answers for a
     key without its stamp. `record` has a position for each call."""
 
     def __init__(self, rolls=None, lacking="refused: " + WRONG_STATE):
         self.keys, self.phases = {}, {}
-        self.listed = {}  # what a roll turns back that is ended early: keys by their references
+        self.listed = {}  # keys by reference that an early end of a roll turns back
         self.record, self.added = [NEW_SET], {}
         self.rolls, self.lacking = rolls or ROLLS, lacking
 
@@ -242,7 +243,7 @@ class KeySet:
         ]
 
     def call(self, line):
-        """The answer to a line of a script, with its effect; and one more position."""
+        """Answers a line of a script, does what it says, and adds a position to the record."""
         refusal = self.refusal(line)
         answer = refusal if refusal else self.accepted(line)
         word, *fields = line.split(" ")
@@ -252,7 +253,7 @@ class KeySet:
         return answer
 
     def position(self, word, fields, accepted):
-        """What the position of this call tells."""
+        """What the position of this call has."""
         moment = int(fields[-1]) if word == "set-present" or word in MOMENTS else None
         step = fields[0] if accepted and word in ("start", "wait1") else None
         report = None
@@ -336,7 +337,7 @@ class KeySet:
                     write(self.keys[name], number, change, now)
 
     def checked(self, word, roll):
-        """The stamps that a wait reads, None where a key lacks it."""
+        """The stamps that a wait reads; None for a key that lacks it."""
         stamp, roles, condition = self.rolls[roll][word]
         return [key.stamps.get(stamp) for key, _ in self.picked(roles, condition)]
 
@@ -348,7 +349,7 @@ class KeySet:
         return f"refused: wait for duration {left}s" if left > 0 else None
 
     def accepted(self, line):
-        """Does what an accepted line does, and gives its answer."""
+        """Does what an accepted line says, and gives its answer."""
         word, *fields = line.split(" ")
         if word.startswith("add-"):
             name, *private, algorithm, tag, creation, available = fields
@@ -416,13 +417,13 @@ class KeySet:
         return " ".join(["ok", *actions.split()])
 
     def forget(self, name):
-        """An early end leaves this key alone from now on."""
+        """An early end no longer changes this key."""
         for names in self.listed.values():
             for listed in names:
                 listed.discard(name)
 
     def end_early(self, roll):
-        """Turns back what a start wrote: flags alone, and of the keys that are still listed."""
+        """Turns back what a start wrote: only flags, and only of keys that are still listed."""
         rule = self.rolls[roll]
         old, new = self.listed.pop(roll)
         del self.phases[roll]

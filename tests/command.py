@@ -1,13 +1,14 @@
 #!/usr/bin/env python3
 """Runs the command of an operator on stored transcripts, without a server.
 
-    tests/command.py            compares what each line prints, asks facts.py, kills it after each
-                                change of its files, and counts the lines of its code that ran
-    tests/command.py --write    writes the transcripts anew
+    tests/command.py            compares what each line prints, asks facts.py, kills the command
+                                after each change of its files, and counts the lines of its code
+                                that ran
+    tests/command.py --write    writes the transcripts again
     tests/command.py --left     shows which lines of its code did not run
 
-A transcript, `tests/command/NAME.txt`, has lines that begin with `$ `, each with what it prints
-below it, then `? N` if it ends with a status that isn't 0. `NOW=N` in front of a line is the clock.
+A transcript, `tests/command/NAME.txt`, has lines that begin with `$ `. Below each is what it
+prints, then `? N` if it ends with a status that isn't 0. `NOW=N` in front of a line is the clock.
 Each transcript has a folder of its own, with the examples and the key files in it."""
 
 import itertools
@@ -28,7 +29,7 @@ import facts  # noqa: E402
 from typed import STORED, folder, typed  # noqa: E402
 
 PACKAGE = TOP / "command" / "vaqsider"
-# The files whose lines decide what is on disk when.
+# The files with the code that decides what is on disk, and when.
 WRITERS = ("file.py", "calling.py", "act.py", "watching.py", "notes.py")
 
 LINE = re.compile(r"\$ (?:NOW=(?P<now>\S+) )?(?P<words>.*)")
@@ -47,7 +48,7 @@ def execute(text, now):
 
 
 def played(text):
-    """The transcript anew: each line with what it prints now."""
+    """The transcript as it is now: each line with what it prints."""
     made = []
     with folder():
         for line in text.splitlines():
@@ -77,8 +78,8 @@ def compare(write):
 
 
 class Killed:
-    """Runs a part of this program in a process of its own, which dies when its files have changed
-    so many times. If it died later, but before the next change, it would leave the same files."""
+    """Runs a part of this program in a process of its own, which dies after so many changes of its
+    files. If it died later, but before the next change, it would leave the same files."""
 
     def __init__(self, part):
         self.part = part
@@ -113,8 +114,8 @@ def left(files):
 
 
 def kill_everywhere(name, part, prepare, files, step):
-    """Kills a part after each change of its files, runs it once more, and compares the files with
-    those that it leaves without a crash. Gives the faults, and how many crashes there were."""
+    """Kills a part after each change of its files, runs it again, and compares the files with those
+    that it leaves without a crash. Gives the faults, and how many crashes there were."""
     with folder():
         prepare()
         part()
@@ -142,8 +143,8 @@ def noted():
 
 def operate():
     """A loop of ticks, 35 seconds apart, in which an operator does what is due by the script: from
-    the start of a roll to its end. The clock goes on in a file, so that the loop goes on after a
-    crash where it was."""
+    the start of a roll to its end. A file keeps the clock, so that the loop goes on after a
+    crash."""
     script, clock = "start.script", Path("clock")
     for now in range(int(clock.read_text()), 500, 35):
         clock.write_text(str(now))
@@ -166,8 +167,8 @@ def begin_to_operate():
     Path("clock").write_text("200")
 
 
-# What is killed: its name, what it runs, what has to be there, which files it leaves, and after
-# each how many changes of files.
+# What is killed: its name, what it runs, what has to be there before, which files it leaves, and
+# every how many changes of files.
 CRASHES = (
     ("call", lambda: typed(["call", "mid.script", "wait1 zsk-roll now"], 270), noted,
      ["mid.script"], 1),

@@ -1,22 +1,22 @@
 #!/usr/bin/env python3
-"""Compares what the documents print with what it was taken from, without a build.
+"""Compares what the documents print with its sources, without a build.
 
     tests/docs.py            compares, and fails with the place of each difference
-    tests/docs.py --write    writes the answers, the stored examples and the blocks anew
+    tests/docs.py --write    writes the answers, the stored examples and the blocks again
 
 A fenced block that shows a script, answers or a source names its file after the language:
 
     ```text examples/ksk-roll.script 10- answered
 
-that is: the lines from 10 on, each call with its answer after it, and at the end the lines of the
-published sets and of the chain. Without `answered` the block has only the lines, and without a
+This block has the lines from 10 on, each call with its answer after it, and at the end the lines of
+the published sets and of the chain. Without `answered` a block has only the lines, and without a
 range all of them.
 
 What is compared:
 
 - each block with its file; a block that names none may show neither calls nor answers;
-- each answer that a text quotes, as `chain safe`: it has to be an answer of an example, and after a
-  script that is shown without answers one of that script's;
+- each answer that a text quotes, as `chain safe`: it has to be an answer of an example; after a
+  script that is shown without answers it has to be an answer of that script;
 - each `NAME.answers` with what `replay/tables.py` answers to `NAME.script`, and both with the
   script of this name in `replay/scripts.txt`: so the gate compares them with the program;
 - each link with the file and the heading that it leads to.
@@ -48,7 +48,7 @@ QUOTED = re.compile(
     r"`(ok(?: [A-Z]\w+)+|refused: [^`]*[^` ]|ds=\S+ dnskey=\S+ signers=\S+ zone=\S+"
     r"|chain safe|chain broken at=\d[^`]*)`"
 )
-# What another program answers.
+# Answers of another program.
 OF_ANOTHER = "| Original |"
 LINK = re.compile(r"\[[^][]*\]\(([^)\s]+)\)")
 
@@ -60,8 +60,8 @@ def documents():
 
 
 def in_range(lines, how):
-    """The lines that the range among these words names; all without one. And whether they reach the
-    end."""
+    """The lines that the range among these words names, or all without a range; and whether they
+    reach the end."""
     for word in how:
         if match := RANGE.fullmatch(word):
             last = int(match["last"] or len(lines))
@@ -97,7 +97,7 @@ class Document:
         self.wrong.append(f"{self.name}:{number + 1}: {text}")
 
     def walk(self):
-        """Compares all, and gives the lines as they ought to be."""
+        """Compares all, and gives the lines as they should be."""
         made, number, paragraph = [], 0, []
         while number < len(self.lines):
             line = self.lines[number]
@@ -176,7 +176,7 @@ def check_links(path, wrong):
 
 
 def stored_text(scripts):
-    """The stored scripts: all but the examples as they are, and after them the examples."""
+    """The stored scripts: first those that aren't examples, as they are, then the examples."""
     text = STORED.read_text()
     parts = [text[: text.index("\n== example-")]]
     for name, path in scripts.items():
@@ -202,7 +202,7 @@ def check_examples(scripts, wrong):
 
 
 def write(scripts):
-    """Writes anew what is compared, from the scripts and the sources."""
+    """Writes what is compared again, from the scripts and the sources."""
     for path in scripts.values():
         told = answers(path.read_text().splitlines())
         path.with_suffix(".answers").write_text("\n".join(told) + "\n")

@@ -1,5 +1,5 @@
-"""What the command prints, against what it doesn't take from itself: the answers of
-`replay/tables.py`, stored answers, and moments and TTLs that are worked out here by the guides."""
+"""Compares what the command prints with facts from elsewhere: the answers of `replay/tables.py`,
+stored answers, and moments and TTLs that are worked out here by the guides."""
 
 import base64
 import calendar
@@ -30,7 +30,7 @@ LABELS = {"ds": "DS", "dnskey": "DNSKEY", "signers": "signs DNSKEY", "zone": "si
 
 
 def answers(lines):
-    """The answers of the tables: to each call, the sets, and the verdict."""
+    """The answers of the tables: to each call, then the sets and the verdict."""
     from tables import answers as told
 
     *replies, sets, verdict = told(lines)
@@ -46,7 +46,7 @@ def examples():
 
 
 def screens():
-    """The sets and the verdict on a screen are those of the tables, after each line; and a wait is
+    """After each line the sets and the verdict on a screen are those of the tables; and a wait is
     due when its report's TTL is over."""
     for path in (TOP / "examples" / f"{name}.script" for name in ("csk-roll", "ksk-beside-zsk")):
         lines = path.read_text().splitlines()
@@ -70,8 +70,8 @@ def screens():
 
 
 def refusals():
-    """`check` finds the refused lines of each example and its broken chain, and nothing else in
-    those in which all is true."""
+    """`check` finds the refused lines of each example and its broken chain, and nothing else if all
+    its lines are true."""
     for path, lines in examples():
         stored = path.with_suffix(".answers").read_text().splitlines()
         wanted = {n for n, reply in enumerate(stored[:-2], start=2) if reply.startswith("refused")}
@@ -86,7 +86,7 @@ def refusals():
             yield f"{path.name}: check says {others}"
 
 
-# Examples in which a moment falls, or keys are set by hand.
+# Examples in which a moment goes back, or keys are set by hand.
 FALSE = {"false-moment.script"}
 
 
@@ -114,8 +114,8 @@ def course(roll):
 
 
 def plans():
-    """The plan of each roll has the moments, TTLs, sets and verdicts that the guides and the tables
-    say; and its lines are accepted one by one by `call`."""
+    """The plan of each roll has the moments, TTLs, sets and verdicts of the guides and the tables;
+    and `call` accepts its lines one by one."""
     first = (TOP / "examples" / "ksk-roll.script").read_text().splitlines()[:9]
     for roll, (old, new, *_) in ROLLS.items():
         report1, ttl1, wait1, report2, ttl2, wait2, end = course(roll)
@@ -172,8 +172,9 @@ def events(text, wanted):
 
 
 def bars_of(lines):
-    """Each bar of the picture of a script, as label, begin, end and `gone`: by the sets of the
-    tables. A set of call N is gone once a report is over that counts from call N + 1 or later."""
+    """Each bar of the picture of a script, as label, begin, end and `gone`, by the sets of the
+    tables. A set of call N is gone once the TTL of a report that counts from call N + 1 or later is
+    over."""
     replies, _, _ = answers(lines)
     moment, shown, made, reports, steps = 0, {}, [], [], {}
     accepted = [n for n, reply in enumerate(replies, start=1) if reply.startswith("ok")]
@@ -266,7 +267,7 @@ def key_file(flags, seed):
 
 class Operator:
     """Types what docs/RUNBOOKS.md says, in a world in which servers have at once what `act`
-    publishes. The parent is told by hand."""
+    publishes. The parent changes its DS set by hand."""
 
     def __init__(self):
         self.now, self.names, self.script = 1000, {}, Path("S.script")
@@ -301,8 +302,9 @@ class Operator:
 
 
 def runbooks():
-    """The commands of each roll, as the section on them says: each call, then what publishes; if
-    CDS comes in, what takes it out again; then what watches and makes the next call."""
+    """The commands of each roll, as the section on them has them: each call, then the command that
+    publishes; if CDS comes in, what takes it out again; then the command that watches and makes the
+    next call."""
     text = (TOP / "docs" / "RUNBOOKS.md").read_text()
     sections = dict(it.partition("\n")[::2] for it in text.split("\n## "))
     rows = re.findall(r"^\| (.*?) \| (.*) \|$", sections["By the command"], re.MULTILINE)
@@ -326,7 +328,7 @@ def runbooks():
 
 
 def by_the_command():
-    """The runbooks by the command, word by word, bring each roll to its end."""
+    """The commands of the runbooks, word by word, bring each roll to its end."""
     (_, first), *others = runbooks()
     if [roll for roll, _ in others] != list(ROLLS):
         yield f"the runbooks have {[roll for roll, _ in others]}"
@@ -353,7 +355,7 @@ def helps():
     for block in text.split("\n\n\n"):
         word, _, says = block.partition(": ")
         shown, status = typed([word, "--help"])
-        # Lines are folded anew, also after a hyphen.
+        # Lines are folded otherwise, also after a hyphen.
         plain, parts = "".join(shown.split()), re.split(r"  +|\n\n|\n(?! )", says)
         missing = [it for it in ("".join(part.split()) for part in parts[1:])
                    if it.strip("[].").split("..")[0] not in plain]
@@ -367,7 +369,7 @@ def helps():
 
 
 def metrics():
-    """What Prometheus reads has each series once."""
+    """The text for Prometheus has each series once."""
     text, _ = typed(["zones", ".", "--prometheus"])
     lines = text.splitlines()
     series = [line.rpartition(" ")[0] for line in lines if not line.startswith("#")]
@@ -377,7 +379,7 @@ def metrics():
 
 
 def faults():
-    """What the command says otherwise than it should."""
+    """What is wrong in what the command prints."""
     with folder():
         checks = screens, refusals, plans, pictures, by_the_command, metrics, helps
         return [fault for check in checks for fault in check()]

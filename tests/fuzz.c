@@ -1,7 +1,7 @@
-/* libFuzzer looks here for a text that the library and a second reader take otherwise. The library
-   is linked as it was compiled; what guides the fuzzer is the coverage of the reader, and which
-   answers came to which calls. Scripts with their answers are written to the file `answered`, each
-   after its two lengths: those with an answer that no earlier one had, and every 8th. */
+/* libFuzzer looks here for a text on which the library and a second reader disagree. The library
+   is linked as it was compiled. Two things guide the fuzzer: the coverage of the reader, and which
+   calls got which answers. The file `answered` gets scripts with their answers, each after its two
+   lengths: those with an answer that no earlier one had, and every 8th. */
 
 #include "reader.h"
 
@@ -16,14 +16,14 @@
 #define PLACES (1 << 12)
 #define ROOM (1 << 20)
 
-/* Each has a place for each call with its answer: what a text has, which libFuzzer looks at and
-   clears, and what all texts had. */
+/* Each has a place for each call with its answer. `seen` is for one text: libFuzzer looks at it and
+   clears it. `known` is for all texts so far. */
 __attribute__((section("__libfuzzer_extra_counters"))) static uint8_t seen[PLACES];
 static bool known[PLACES];
 
 int LLVMFuzzerTestOneInput(const uint8_t *text, size_t length);
 
-/* Mixes in a text's beginning up to one of these bytes. */
+/* Adds a text up to the first of these bytes to a hash. */
 static uint32_t mixed(uint32_t sum, const char *text, const char *end, const char *stops)
 {
     for (; text < end && strchr(stops, *text) == NULL; text++)
@@ -42,7 +42,7 @@ static uint32_t call_of(const char *line, const char *end)
     return sum;
 }
 
-/* Whether some call has an answer here that no such call had before; how long a wait lasts still
+/* Whether some call has an answer here that no such call had before. How long a wait still lasts
    makes no difference. */
 static bool is_new(const char *script, const char *end, const char *answer)
 {

@@ -1,7 +1,7 @@
 #!/usr/bin/env python3
-"""Lets libFuzzer make texts of the stored scripts and of their words: the library and a second
-reader have to call the same ones malformed (`tests/fuzz.c`), and scripts that it made have to be
-answered as the tables answer them.
+"""Lets libFuzzer make texts from the stored scripts and their words. The library and a second
+reader have to call the same ones malformed (`tests/fuzz.c`). To scripts that it made the library
+has to answer as the tables do.
 
     tests/fuzz.py FOLDER RUNS     takes the library that `make lib` has left there
 """
@@ -19,7 +19,7 @@ sys.path.insert(0, str(TOP / "replay"))
 from tables import answers  # noqa: E402
 
 STORED = TOP / "replay" / "scripts.txt"
-# The second judge is slow on longer ones.
+# The second judge is slow on longer scripts.
 LONGEST = 60
 
 
@@ -41,8 +41,8 @@ def build(folder, program):
 
 
 def fuzz(folder, room, runs):
-    """Runs the fuzzer. Its corpus begins with the stored scripts, and keeps them: rolls are more
-    than it would come upon."""
+    """Runs the fuzzer. Its corpus begins with the stored scripts, and keeps them: by itself it
+    wouldn't find whole rolls."""
     corpus, words, program = room / "corpus", room / "words", room / "fuzz"
     corpus.mkdir()
     seen = set()

@@ -2,8 +2,8 @@
 """The gate: `tests/docs.py` and `tests/release.py`, then `rt ci`. Beside its first proofs runs
 `tests/runbooks.py`, and beside its edits run `tests/memory.py`, `tests/sets.py`, `tests/notes.py`,
 `tests/library.py` and `tests/command.py`. Then `tests/told.py` compares the numbers of docs/TESTS.md
-with what all of them have printed. Before the last line of `rt ci` it tells when, in minutes and
-seconds since the start, each step was done, so that a rise is seen."""
+with what all of them have printed. Before the last line of `rt ci` it prints when each step was
+done, in minutes and seconds since the start, so that a rise is seen."""
 
 import os
 import re
@@ -19,18 +19,18 @@ import told
 TOP = Path(__file__).resolve().parent.parent
 START = time.monotonic()
 STEPS = []
-# What was printed, for the numbers in it.
+# What was printed. Its numbers are compared at the end.
 PRINTED = []
 
 
 def say(text):
-    """Prints a text with its end of line, and keeps it."""
+    """Prints a text, which has its own end of line, and keeps it."""
     print(text, end="", flush=True)
     PRINTED.append(text)
 
 
 def note(step, after=None):
-    """Notes that a step is done: now, or so many seconds after the start."""
+    """Notes that a step is done: now, or this many seconds after the start."""
     STEPS.append((time.monotonic() - START if after is None else after, step))
 
 
@@ -42,13 +42,14 @@ def steps():
 
 
 def files(crate):
-    """The names of a crate's files, by which its copies are known."""
+    """The names of a crate's files, by which its copies are recognized."""
     parts = (os.walk(crate / part) for part in ("src", "specs", "proofs"))
     return frozenset(name for part in parts for _, _, names in part for name in names)
 
 
 class Edits(threading.Thread):
-    """Sees until when the edits of each crate were tried: each is, in a copy of the crate."""
+    """Sees until when the edits of each crate were tried. Each edit is tried in a copy of its
+    crate."""
 
     def __init__(self, pid):
         super().__init__(daemon=True)
@@ -80,7 +81,7 @@ class Beside(threading.Thread):
         note(self.name)
 
     def fault(self):
-        """What is to be said against the script, if anything is."""
+        """What went wrong with the script, if anything did."""
         if self.ident is None:
             return f"the test {self.name} has not begun\n"
         self.join()
@@ -89,8 +90,8 @@ class Beside(threading.Thread):
 
 
 class Behind(Beside):
-    """A script of tests that runs once these crates are proved or kept, over what `rt ci` has built
-    or has given back."""
+    """A script of tests that runs after these crates are proved or kept, on what `rt ci` has built
+    or restored."""
 
     def __init__(self, name, *crates):
         super().__init__(name)
@@ -103,7 +104,7 @@ class Behind(Beside):
 
 
 # What `rt ci` says of a crate, or of its tests, once it is done with its proof. It proves what no
-# earlier run on this machine has proved from the same files, and gives back what that has kept.
+# earlier run on this machine has proved from the same files, and restores what such a run has kept.
 DONE = re.compile(
     r"rt: (?P<what>\S+( its tests are)?) (?P<how>proved|NOT PROVED|(is )?kept)(: an earlier .*)?\n"
 )
@@ -152,7 +153,7 @@ def main():
     status, last = prove(behind)
     for beside in (runbooks, *behind):
         fault = beside.fault()
-        # (A script never begins where a proof that it rests on has failed, which is told.)
+        # (If a proof that a script needs has failed, the script never begins; `rt ci` says why.)
         if fault and (beside.ident or status == 0):
             status, last = 1, fault
     wrong = []

@@ -3,11 +3,11 @@
 
     tests/install.py FOLDER    takes the library that `make lib` has left there
 
-A caller in C is built by `pkg-config`, the folder is moved, and it is built once more. The programs
-and the command answer from the new place, without the repository. Whatever names a version has that
-of the file VERSION. Each manual page has the form that `man` reads. A second install changes
-nothing, one over an older list removes what that has more, and after `uninstall` only the files of
-others are left.
+A caller in C is built by `pkg-config`, the folder is moved, and the caller is built again. The
+programs and the command answer from the new place, without the repository. Each file that names a
+version names that of the file VERSION. Each manual page has the form that `man` reads. A second
+install changes nothing. An install over an older list removes the files that only the old list has.
+After `uninstall` only the files of others are left.
 """
 
 import json
@@ -36,7 +36,7 @@ def packaging(word, prefix, *more):
 
 
 def tree(folder):
-    """What stands below a folder: each file with its mode and its bytes, each link with its end."""
+    """What is below a folder: each file with its mode and its bytes, each link with its target."""
     found = {}
     for path in sorted(folder.rglob("*")):
         name = str(path.relative_to(folder))
@@ -55,13 +55,13 @@ def expect(is_so, fault):
 
 
 def apart(prefix, **more):
-    """An environment in which `pkg-config` finds what is installed, and nothing else does."""
+    """An environment in which only `pkg-config` finds what is installed."""
     found = {"PATH": os.environ["PATH"], "PKG_CONFIG_PATH": f"{prefix}/lib/pkgconfig"}
     return {**found, "PYTHONDONTWRITEBYTECODE": "1", **more}
 
 
 def build_in_c(prefix, program):
-    """A caller of the library, built by what `pkg-config` says, answers the example."""
+    """A caller of the library, built with what `pkg-config` prints, answers the example."""
     environment = apart(prefix)
     told = run("pkg-config", "--cflags", "--libs", "keyset", env=environment).split()
     source = TOP / "library" / "c" / "roll.c"
@@ -86,8 +86,8 @@ def expect_versions(prefix):
 
 
 def expect_programs(prefix, room):
-    """The programs answer what is stored. The command shows a zone by the library if there are no
-    programs, and by the programs if there is no library."""
+    """The programs answer what is stored. The command shows a zone with the library if there are no
+    programs, and with the programs if there is no library."""
     for name in ("keyset_status", "keyset_notes"):
         given = (CRATES / name / "stdin").read_bytes()
         answered = run(prefix / "bin" / name, input=given)
@@ -129,7 +129,7 @@ def expect_page(path):
 
 
 def expect_no_places(whole, prefix):
-    """No file says where it was installed, and no text where it was made."""
+    """No file says where it was installed, and no text says where it was made."""
     for name, (_, content) in whole.items():
         is_text = not name.startswith(("bin/keyset", "lib/libkeyset"))
         for place in (prefix, TOP) if is_text else (prefix,):
@@ -138,7 +138,8 @@ def expect_no_places(whole, prefix):
 
 
 def expect_contents(folder):
-    """Each word of a script is on the page of the program, each word of the command on its own."""
+    """Each word of a script is on the page of the program, and each word of the command on that of
+    the command."""
     text = (folder / "keyset.1").read_text().replace("\\", "")
     scripts = (TOP / "docs" / "SCRIPTS.md").read_text()
     for word in set(re.findall(r"^\| `([\w-]+ [A-Z]+)", scripts, re.M)):

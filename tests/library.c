@@ -2,13 +2,13 @@
 
        library STORED [STEP]
 
-   Each script is answered as stored, in a buffer of each length up to the one needed (every STEP of
-   these, where a checker of memory makes it slow), and side by side in threads, of which each takes
-   the scripts in an order of its own. With STEP 0 only the threads run. Each beginning of a
-   script, and scripts with damaged bytes, are called malformed just where a second reader says so.
-   Each request for memory fails in turn, and after a call that got none the rest is answered as if
-   it had not been made. The linker has malloc, realloc and free of the library come here:
-   -Wl,--wrap=malloc,--wrap=realloc,--wrap=free */
+   Each script is answered as stored, in a buffer of each length up to the one needed (only every
+   STEP lengths, if a checker of memory makes it slow), and side by side in threads. Each thread
+   takes the scripts in an order of its own. With STEP 0 only the threads run. Each beginning of a
+   script, and scripts with damaged bytes, are called malformed if a second reader says so, and at
+   the same line. Each request for memory fails in turn. If a call got no memory, the rest is
+   answered as if the call had not been made. The linker has malloc, realloc and free of the library
+   come here: -Wl,--wrap=malloc,--wrap=realloc,--wrap=free */
 
 #define _GNU_SOURCE
 #include "reader.h"
@@ -37,8 +37,8 @@ void *__real_malloc(size_t size);
 void *__real_realloc(void *block, size_t size);
 void __real_free(void *block);
 
-/* What the library asks for while it is called: how often, which request is to fail, and how many
-   blocks it holds. */
+/* What the library asks for while it is called: how often it asks, which request has to fail, and
+   how many blocks it holds. */
 static _Thread_local struct {
     bool is_called;
     size_t made, failing, held;
@@ -100,7 +100,7 @@ static bool is_filled(const uint8_t *bytes, size_t length)
     return true;
 }
 
-/* A call in which the request of this number fails, or none for 0. */
+/* A call in which the request of this number fails; with 0 none does. */
 static struct keyset_answered ask(const char *script, size_t length, uint8_t *out, size_t room,
                                   size_t failing)
 {
@@ -141,14 +141,14 @@ static void expect_malformed(const char *script, size_t length, size_t line)
     expect(is_filled(out, sizeof out), "nothing is written if it is malformed", script);
 }
 
-/* A room that no answer to a script of this length is too long for. */
+/* Room for any answer to a script of this length. */
 static size_t ample(size_t length)
 {
     return 8 * length + 4096;
 }
 
-/* The text is answered just where the second reader takes it for a script, and else called
-   malformed at the same line. */
+/* The text is answered if the second reader takes it for a script; else it is called malformed at
+   the line that the second reader names. */
 static void expect_as_read(const char *text, size_t length, const char *name)
 {
     static uint8_t out[1 << 20];
@@ -170,7 +170,7 @@ static size_t expect_beginnings(const struct stored *it, size_t step)
     return beginnings;
 }
 
-/* The next of numbers that look as if they were drawn at random, the same in each run. */
+/* The next of numbers that look random, and are the same in each run. */
 static size_t draw(size_t below)
 {
     static uint64_t state = 1;
@@ -178,7 +178,7 @@ static size_t draw(size_t below)
     return (size_t)(state >> 33) % below;
 }
 
-/* Flips a bit, puts a piece in or leaves some bytes out, at one to three places. */
+/* Flips a bit, puts a piece in or leaves some bytes out, in one to three places. */
 static void expect_damaged(const struct stored *it)
 {
     static char text[1 << 16];
@@ -207,8 +207,8 @@ static const char *behind_line(const char *text, size_t lines)
     return text;
 }
 
-/* If the call of this number got no memory, what comes after its refusal are the answers to
-   the script without it, up to the chain line: that names positions, which this call has too. */
+/* If the call of this number got no memory, its refusal is followed by the answers to the script
+   without it. The chain line may differ: it names positions, and this call has one too. */
 static void expect_rest(const struct stored *it, const char *rest, size_t call)
 {
     const char *line = behind_line(it->script, call), *next = behind_line(line, 1);
@@ -228,8 +228,8 @@ static void expect_rest(const struct stored *it, const char *rest, size_t call)
     free(out);
 }
 
-/* What stands before the first call that was refused for lack of memory is a beginning of the
-   answer; if there is none, it is the answer. */
+/* The text before the first call that was refused for lack of memory is a beginning of the answer.
+   If no call was, it is the whole answer. */
 static void expect_until_refused(const struct stored *it, const char *out, size_t length)
 {
     const char *refused = memmem(out, length, REFUSED, strlen(REFUSED));
@@ -244,7 +244,7 @@ static void expect_until_refused(const struct stored *it, const char *out, size_
     expect_rest(it, refused + strlen(REFUSED), call);
 }
 
-/* Lets each request of a call fail. Gives how many these are. */
+/* Lets each request of a call fail. Gives their number. */
 static size_t fail_in_turn(const struct stored *it)
 {
     size_t room = it->script_length + it->answer_length + 1024;
@@ -297,7 +297,7 @@ static void read_stored(const char *path)
     }
 }
 
-/* The scripts in an order of the thread's own: its strides have no divisor with their number. */
+/* The scripts in an order of the thread's own: its stride has no divisor with their number. */
 static void *answer_all(void *number)
 {
     size_t thread = *(const size_t *)number, stride = 1, at = thread * scripts / THREADS;

@@ -1,13 +1,14 @@
 #!/usr/bin/env python3
 """Tests the library that `make lib` makes, and its callers in C, Rust and Python.
 
-    tests/library.py            builds it over the libraries that a running `rt ci` has just proved,
+    tests/library.py            builds it on the libraries that a running `rt ci` has just proved,
                                 or has kept
     tests/library.py FOLDER     takes the one that `make lib` has left there
-    tests/library.py FOLDER valgrind|asan     its tests in C alone, under a checker of memory
+    tests/library.py FOLDER valgrind|asan     only its tests in C, under a checker of memory
 
-A script and its answers are those of `replay/scripts.txt`. The program `keyset` answers these,
-damaged scripts and long ones beside the library; `keyset_status` shows what sessions show.
+A script and its answers are those of `replay/scripts.txt`. The program `keyset` has to answer them,
+damaged scripts and long ones as the library does, and `keyset_status` has to show what sessions
+show.
 """
 
 import json
@@ -36,14 +37,14 @@ EXAMPLES = sorted((TOP / "examples").rglob("*.script"))
 # What the header declares.
 EXPORTS = set(re.findall(r"^\S.* \*?(keyset_\w+)\(", (LIBRARY / "keyset.h").read_text(), re.M))
 WRAPPED = [f"-Wl,--wrap={name}" for name in ("malloc", "realloc", "free")]
-# Under a checker of memory each length is too much.
+# Under a checker of memory it would take too long to try each length.
 STEP = 61
 # How often each example is damaged.
 DAMAGES = 20
 
 
 def stands_on():
-    """The crates of the repository, each with those that it names, lowest first."""
+    """The crates of the repository, lowest first, each with the crates that it names."""
     rows = (line.partition("#")[0].partition(":") for line in open(TOP / "crates.txt"))
     named = {name.split()[0]: on.split() for name, _, on in rows if name.strip()}
     return {crate: [name for name in on if name in named] for crate, on in named.items()}
@@ -60,9 +61,9 @@ def kit():
 
 
 def build(archive):
-    """Builds the static library over what `rt ci` has proved, and proves it once more by this."""
+    """Builds the static library on what `rt ci` has proved. This proves the library once more."""
     top, crates = kit(), stands_on()
-    # A copy of it: at its end `rt ci` puts back what stood in its place before.
+    # A copy of it: at its end `rt ci` puts back what was in its place before.
     proved = archive.parent / "proved"
     for name in below("keyset_c", crates):
         shutil.copytree(CRATES / name / "out" / "rlib", proved, dirs_exist_ok=True)
@@ -77,7 +78,7 @@ def build(archive):
 
 
 def expect_exports(folder):
-    # The tools of the toolchain are one file, which does what its name says.
+    # The tools of the toolchain are one file, which does what the name that it is called by says.
     tools = kit() / "toolchain" / "bin" / "clang"
     for file, flags in (("libkeyset.a", []), ("libkeyset.so", ["-D"])):
         words = ["llvm-nm", "--defined-only", "--extern-only", *flags, folder / "lib" / file]
@@ -158,7 +159,7 @@ def stored_scripts():
 
 
 def as_program(script, program=PROGRAM):
-    """How a program answers: its status, what it writes, and what it tells its user."""
+    """How a program answers: its status, what it writes, and what it says on standard error."""
     ran = subprocess.run([program], input=script, capture_output=True)
     return ran.returncode, ran.stdout.decode(), ran.stderr.decode()
 
@@ -192,7 +193,7 @@ def python_module(folder):
 
 
 def in_session(keyset, zone, lines):
-    """What a session says to these lines, and last of them all."""
+    """What a session answers to these lines, and at the end says of them all."""
     session = keyset.open_session(zone)
     told = [session.call(line) for line in lines]
     told += session.closing()
@@ -201,7 +202,7 @@ def in_session(keyset, zone, lines):
 
 
 def in_calls(keyset, zone, lines):
-    """What the calls of a key set say to these lines, of which it leaves the refused ones out."""
+    """What the calls of a key set answer to these lines. It leaves out those that are refused."""
     with keyset.KeySet(zone.removeprefix("zone ")) as keys:
         for line in lines:
             try:
@@ -241,7 +242,7 @@ def test_status_program(keyset):
 
 
 def test_resumed(keyset):
-    """After each call a key set goes on from its lines, whatever was being written behind them."""
+    """After each call a key set goes on from its lines, whatever was being written after them."""
     calls = 0
     for path in EXAMPLES:
         zone, *lines = path.read_text().splitlines()
@@ -284,7 +285,7 @@ def test_damaged(keyset):
 
 
 def as_session(library, script):
-    """How a session answers, line by line; its status has all of the keys."""
+    """How a session answers, line by line. Its status has all of the keys."""
     zone, *lines = script.splitlines()
     handle = library.open(zone.encode())
     answers = [library.call(handle, line) for line in lines]
@@ -298,7 +299,7 @@ def as_session(library, script):
 
 
 def test_long(folder, keyset):
-    """What is long is answered whole: by the program, by the library, and by a session."""
+    """Long scripts are answered whole: by the program, by the library, and by a session."""
     library = sessions.Library(folder / "lib" / "libkeyset.so", 64 * long.MEGABYTE)
     names = []
     for name, script, answer in long.scripts():
@@ -318,7 +319,7 @@ def test_long(folder, keyset):
 
 
 def test_frozen(keyset):
-    """What a release answered, the program and the library answer."""
+    """The program and the library answer what a release answered."""
     count = 0
     for version in release.frozen():
         for name, script, told in release.frozen_scripts(version):
@@ -333,7 +334,7 @@ def test_frozen(keyset):
 
 
 def test_devices():
-    """A full disk, a pipe that nobody reads, and a folder to read from end the programs with
+    """If the disk is full, nobody reads the pipe, or the input is a folder, the programs end with
     status 2 and its text."""
     script = EXAMPLES[0].read_bytes()
     reading, broken = os.pipe()
@@ -355,7 +356,7 @@ def test_devices():
 
 
 def expect_rolls(caller, command, **how):
-    """A caller that plays an example line by line prints what the program prints of the whole. It
+    """A caller that plays an example line by line prints what the program prints for the whole. It
     drops the calls that are refused, so a broken chain may have other positions."""
     for path in EXAMPLES:
         script = path.read_bytes()
@@ -371,7 +372,7 @@ def test_c_caller(room, caller, flags):
 
 
 def shared_flags(folder):
-    """What `pkg-config` says of the shared object, and where a program finds this."""
+    """The flags that `pkg-config` has for the shared object, and where a program finds that."""
     made = {**os.environ, "PKG_CONFIG_PATH": str(folder / "lib" / "pkgconfig")}
     told = run("pkg-config", "--cflags", "--libs", "keyset", env=made)
     return [*told.split(), f"-Wl,-rpath,{folder}/lib"]

@@ -1,9 +1,9 @@
-"""Scripts and answers that are longer than every buffer on their way, to see who gives up on what
-is long: no contract says that memory is found.
+"""Scripts and answers that are longer than every buffer on their way, to see whether anything fails
+on them: no contract says that memory is found.
 
-The answers are those of the tables (`replay/tables.py`), or follow from the number of lines.
-Whether the chain of trust held is said by the second judge, of the same course with few keys or few
-rounds: it is too slow for this many.
+The answers are those of the tables (`replay/tables.py`), or follow from the number of lines. The
+second judge says whether the chain of trust held, for the same course with few keys or few rounds:
+it is too slow for this many.
 """
 
 import sys
@@ -14,11 +14,11 @@ sys.path.insert(0, str(Path(__file__).resolve().parent.parent / "replay"))
 from tables import KeySet, answers  # noqa: E402
 
 MEGABYTE = 1 << 20
-# As many as there are key tags, and the adds that come too late.
+# The number of key tags, and of the adds that find none left.
 TAGS, LATE = 1 << 16, 464
-# The references of one list of a start.
+# How many references one list of a start has.
 LISTED = 5_000
-# Rounds of rolls, and the bytes of a reference, that pass the size wanted.
+# The rounds of rolls, and the bytes of a reference, that make a script long enough.
 ROUNDS, REFERENCE = 2_500, 70_000
 FEW = 3
 
@@ -47,7 +47,7 @@ def roll_lines(roll, lists, start):
 
 
 def many_calls(rounds):
-    """The first keys, and then so many times a roll of the ZSK and one of the KSK, each to the
+    """The first keys, and then this many times a roll of the ZSK and one of the KSK, each to the
     deletion of the old key."""
     yield "zone example.com"
     yield from ("add-ksk K0 - 13 0 0 yes", "add-zsk Z0 - 13 1 0 yes")
@@ -62,7 +62,7 @@ def many_calls(rounds):
 
 
 def long_lists(count):
-    """So many first CSKs, which are rolled to as many others."""
+    """This many first CSKs, which are rolled to as many others."""
     names = [f"Kexample.com.+013+{number:05}" for number in range(2 * count)]
     first, second = ",".join(names[:count]), ",".join(names[count:])
     yield "zone example.com"
@@ -72,7 +72,7 @@ def long_lists(count):
 
 
 def long_line():
-    """A key of another signer whose reference is as long as no buffer is, and a KSK with two such
+    """A key of another signer whose reference is longer than any buffer, and a KSK with two such
     references."""
     name = "I" * REFERENCE
     yield "zone example.com"
@@ -82,7 +82,7 @@ def long_line():
 
 
 def every_tag():
-    """A key for each key tag, and some more, which are refused for theirs."""
+    """A key for each key tag, and some more, which are refused for their tags."""
     yield "zone example.com"
     yield from (f"add-ksk K{tag} - 13 {tag} 0 yes" for tag in range(TAGS))
     yield from (f"add-zsk Z{tag} - 13 {tag} 0 yes" for tag in range(LATE))
@@ -93,14 +93,14 @@ def text(lines):
 
 
 def told(course, count):
-    """What a course with so many rounds or keys is answered."""
+    """The answers to a course with this many rounds or keys."""
     keyset = Quick()
     lines = [keyset.call(line) for line in list(course(count))[1:]]
     return text([*lines, keyset.published(), answers([*course(FEW)])[-1]])
 
 
 def scripts():
-    """What is long, a script that has it, and what this is answered."""
+    """What is long, a script with it, and the answers to that."""
     refused = ["refused: Key tag already present"] * LATE
     script, answer = text(many_calls(ROUNDS)), told(many_calls, ROUNDS)
     assert min(len(script), len(answer)) > MEGABYTE, "more rounds are wanted"

@@ -1,11 +1,11 @@
-/* Lets one request for memory fail, of the program that this is loaded into (LD_PRELOAD): the one
-   whose number FAILING_REQUEST has. At the program's end the number of its requests stands on
+/* Lets one request for memory fail in the program that this is loaded into (LD_PRELOAD): the one
+   with the number FAILING_REQUEST. At the program's end it writes the number of requests to
    standard error. */
 
 #include <stdio.h>
 #include <stdlib.h>
 
-/* The C library's own, under the names that it keeps for itself. */
+/* The functions of the C library, by the names that it uses itself. */
 void *__libc_malloc(size_t size);
 void *__libc_realloc(void *block, size_t size);
 
@@ -26,7 +26,7 @@ void *realloc(void *block, size_t size)
     return is_to_fail() ? NULL : __libc_realloc(block, size);
 }
 
-/* What was asked for before is not the program's. */
+/* Requests before this are not the program's. */
 __attribute__((constructor)) static void begin(void)
 {
     const char *number = getenv("FAILING_REQUEST");

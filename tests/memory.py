@@ -1,7 +1,7 @@
 #!/usr/bin/env python3
-"""Lets each request for memory fail in turn: of calls of a key set, of its copies, of names, of a
-script's record and of a judge; and sees that the audit by the definition makes none. (Those of a
-script's answers fail in `tests/library.c`.)
+"""Lets each request for memory fail in turn: those of calls of a key set, of its copies, of names,
+of a script's record and of a judge. It also checks that the audit by the definition makes none. (In
+`tests/library.c` the requests for a script's answers fail.)
 
 It runs the program `memory_of_calls`, which `rt ci` has made by then, once for each request of each
 of its works, with `tests/memory.c` in place of the C library's allocator.
@@ -20,7 +20,7 @@ from tools import CRATES, STRICT, TOP, Wrong, run
 
 PROGRAM = CRATES / "memory_of_calls" / "out" / "memory_of_calls"
 
-# What the letters of its input stand for.
+# What the letters of the program's input stand for.
 RECORD, DEFINITION, WINDOW = "v", "d", "w"
 WORKS = {
     "n": "names",
@@ -31,7 +31,7 @@ WORKS = {
     DEFINITION: "its audit by the definition",
     WINDOW: "its audit by a judge",
 }
-# These begin with a record, of which no request fails then.
+# These works begin with a record, whose requests don't fail.
 AUDITS = {DEFINITION, WINDOW}
 
 MADE = re.compile(r"requests: (?P<made>\d+)\n")
@@ -54,7 +54,7 @@ def build(folder):
 
 
 def outcome_of(allocator, letter, failing):
-    """The outcome of a work with the request of this number failing, where there is such a one."""
+    """The outcome of a work in which the request of this number fails, if there is one."""
     made = {**os.environ, "LD_PRELOAD": str(allocator), "FAILING_REQUEST": str(failing)}
     ran = subprocess.run([PROGRAM], input=letter, capture_output=True, text=True, env=made)
     told = MADE.fullmatch(ran.stderr)
@@ -64,8 +64,8 @@ def outcome_of(allocator, letter, failing):
 
 
 def in_turn(allocator):
-    """Lets each request of each work fail. Gives of each how many requests failed, and how many of
-    these were told as refusals."""
+    """Lets each request of each work fail. Gives for each work how many requests failed, and how
+    many of them made it refuse a call."""
     recorded = with_ample(allocator, RECORD)
     for letter, work in WORKS.items():
         first = recorded if letter in AUDITS else 0
@@ -86,7 +86,7 @@ def in_turn(allocator):
 
 
 def with_ample(allocator, letter):
-    """How many requests a work makes of which none fails."""
+    """How many requests a work makes if none fails."""
     outcome = outcome_of(allocator, letter, 0)
     if outcome.status or outcome.written != "ample\n":
         raise Wrong(f"{WORKS[letter]}: it doesn't go well with ample memory: {outcome}")
@@ -94,8 +94,8 @@ def with_ample(allocator, letter):
 
 
 def is_refused(where, outcome):
-    """The program judges its calls itself. Tells whether one was refused, which is then a call that
-    was accepted when it was made once more."""
+    """Whether the program says that a call was refused. It checks by itself that the call is
+    accepted when it is made again."""
     if outcome.status or outcome.written not in ("ample\n", "refused\n"):
         raise Wrong(f"{where}: {outcome}")
     return outcome.written == "refused\n"

@@ -1,10 +1,10 @@
 #!/usr/bin/env python3
 """Operators of `tests/runbooks.py` who keep notes, as docs/NOTES.md has them.
 
-Each report is asked for by the program `keyset_notes`: what it answers has to be what the rule of
-docs/NOTES.md says, which `tests/game/notes.py` has in words of its own, and no more than rule 1 of
-docs/OPERATORS.md, as it is played, but for the difference of clocks. Half of the operators report
-what their notes say, and no zone breaks by it; with one second less zones break."""
+The program `keyset_notes` is asked for each report. Its answer has to be what the rule of
+docs/NOTES.md says, for which `tests/game/notes.py` has code of its own. It may be no more than rule
+1 of docs/OPERATORS.md, as it is played, except for the difference of clocks. Half of the operators
+report what their notes say, and no zone breaks by it. With one second less zones break."""
 
 import random
 import subprocess
@@ -21,7 +21,7 @@ from tables import ROLLS
 
 PROGRAM = runbooks.TOP / "crates" / "keyset_notes" / "out" / "keyset_notes"
 
-# A script of one call, and notes that are refused beside it, with what is said of them.
+# A script of one call, and notes that are refused with it, with the text that says why.
 SCRIPT = "zone example.com\nadd-ksk K1 - 13 1 0 yes"
 FAULTS = {
     "before 1 1": "notes: line 1: malformed",
@@ -38,20 +38,20 @@ FAULTS = {
     "before 1 1 1\npublished ds 1 5 9\npublished ds 1 5 8":
         "notes: line 3: moment before the last one",
     "before 1 1 1\neverywhere ds 9\neverywhere ds 8": "notes: line 3: moment before the last one",
-    # Each kind goes by itself, a publication in the second of a sight comes after it, and a version
-    # may have the sets of an earlier call.
+    # Each kind goes by itself. In one second a publication comes after a sight. A version may have
+    # the sets of an earlier call.
     "before 1 1 1\neverywhere ds 9\neverywhere zone 8\npublished ds 1 5 8\npublished ds 0 5 8": "",
 }
 
 
 def some_orders():
-    """The orders in which the zones make their rolls."""
+    """The orders of the rolls that the zones make."""
     return random.Random(0).sample([*permutations(ROLLS)], 60)
 
 
 def played(orders, wrong):
-    """The questions of all operators, and how often a version went back to an earlier call. A parent
-    that reads CDS does so: after an early end it may give once more what was asked first."""
+    """The questions of all operators, and how often a version went back to an earlier call. With a
+    parent that reads CDS this happens: after an early end it may give the first set again."""
     questions, back, told, unsaid = [], 0, book(), left_out(POINTS + PAIRS)
     for seed, order in enumerate(orders):
         world, signers, fault = runbooks.play(
@@ -85,8 +85,7 @@ def asked(text):
 
 
 def refuse(wrong):
-    """Notes that are no notes are refused at their first line with a fault, and nothing is
-    answered."""
+    """Malformed notes are refused at their first line with a fault, and nothing is answered."""
     faults = {f"{SCRIPT}\n\n{notes}\ndue 9\n": fault for notes, fault in FAULTS.items()}
     faults["zone\n\nbefore 1 1 1\ndue 9"] = "script: line 1: malformed"
     for text, fault in faults.items():

@@ -18,7 +18,7 @@ static struct text slice(struct text text, size_t from, size_t to)
     return (struct text){text.at + from, to - from};
 }
 
-/* Where the byte stands first, or the length of the text. */
+/* The first place of the byte in the text, or the length of the text. */
 static size_t find(struct text text, char byte)
 {
     const char *found = memchr(text.at, byte, text.length);
@@ -151,7 +151,7 @@ static bool is_call(struct text line)
     return false;
 }
 
-/* How many bytes of the text spell the first byte of a label: 0 where they spell none. */
+/* How many bytes of the text spell the first byte of a label: 0 if they spell none. */
 static size_t spelled(struct text text)
 {
     if (text.at[0] != '\\')

@@ -4,11 +4,11 @@
     tests/release.py             compares, and fails with each difference
     tests/release.py --freeze    stores the scripts of a new release
 
-- `VERSION` has the number of the release, and whoever else names it has the same.
+- `VERSION` has the number of the release, and each other file that names it has the same.
 - The newest release of `CHANGELOG.md` is this one.
 - `tests/frozen/N/` has the scripts of release N with their answers, and they are answered the same
   today: here by the tables of `replay/`, and by the program and the library in `tests/library.py`.
-- Each word of these scripts has its version in `docs/SCRIPTS.md`, which is none after N.
+- Each word of these scripts has its version in `docs/SCRIPTS.md`, and that is N or earlier.
 """
 
 import re
@@ -27,7 +27,7 @@ from tables import KeySet, answers  # noqa: E402
 FROZEN = TOP / "tests" / "frozen"
 STORED = TOP / "replay" / "scripts.txt"
 
-# Who names the release, and how. (`keyset.pc` and the library have the number of VERSION itself.)
+# Which files name the release, and how. (`keyset.pc` and the library take it from VERSION.)
 NAMED = {
     "README.md": r"Version (\S+) .*",
     "library/keyset.h": r'#define KEYSET_RELEASE "(.*)"',
@@ -47,7 +47,7 @@ def release():
 
 
 def order(version):
-    """By this versions are compared: 1.10.0 comes after 1.9.0."""
+    """The order of versions: 1.10.0 comes after 1.9.0."""
     return [int(part) for part in version.split(".")]
 
 
@@ -117,7 +117,7 @@ def source(name, lines):
 
 
 def freeze(version):
-    """Stores the scripts of a release. What was stored once is never written again."""
+    """Stores the scripts of a release. What is stored is never written again."""
     folder = FROZEN / version
     folder.mkdir(parents=True)
     text = STORED.read_text()

@@ -1,29 +1,29 @@
 #!/usr/bin/env python3
 """Plays operators who follow the tables of `docs/RUNBOOKS.md` to the letter, and looks at whatever
-caches may hold. There is no network, and no clock but the game's; the key set is that of
+caches may hold. There is no network, and the only clock is the game's. The key set is that of
 `replay/tables.py`.
 
-In the game are a zone and its parent, whose servers get each version one by one; a parent that has
-its DS set changed by hand, or reads CDS as RFC 7344, section 4.1, has it; TTLs that rise and fall
-at any time; signatures that expire; and an operator with some machines, whose clocks differ. Each
-zone gets its first keys, then the six rolls in some order, some of them ended early and begun anew,
-some beside another one; then it goes unsigned and comes again. Now and then a wait is accepted too
-early by a false moment, acted upon and mended; from then on all has to be as promised again.
+The game has a zone and its parent, whose servers get each version one by one. The parent's DS set
+is changed by hand, or the parent reads CDS as in RFC 7344, section 4.1. TTLs rise and fall at any
+time, and signatures expire. The operator has some machines, whose clocks differ. Each zone gets its
+first keys, then the six rolls in some order. Some of them are ended early and begun again, and some
+go beside another one. Then the zone goes unsigned and comes back. Now and then a wait is accepted
+too early because of a false moment, acted upon and mended. After that all has to be as promised.
 
-Other zones have two signers, each with a key set, servers and clocks of its own: they begin
-together, or one joins; each makes rolls, both change the algorithm; then one leaves, or both go
-unsigned and come again.
+Other zones have two signers, each with a key set, servers and clocks of its own. They begin
+together, or one joins. Each makes rolls, and both change the algorithm. Then one leaves, or both go
+unsigned and come back.
 
-What is looked at: whenever a server gets another version, every choice of sets that some cache may
-hold then. A set may be held for its TTL after the last server ceased to give it. A validator also
-keeps a DNSKEY set that it has checked by a DS set for the TTL of the DNSKEY set, whatever becomes
-of the DS set. So a DS set, a DNSKEY set checked by it, and signatures of the zone are looked at
-together: there has to be a chain of trust, and a signature by each algorithm of the DS set too. So
-has it for CDS, and no cache may hold a set longer than its signatures are valid.
+Whenever a server gets another version, the game looks at every choice of sets that some cache may
+hold then. A cache may hold a set for its TTL after the last server ceased to give it. A validator
+also keeps a DNSKEY set that it has checked by a DS set for the TTL of the DNSKEY set, whatever
+becomes of the DS set. So the game looks at a DS set, a DNSKEY set checked by it, and signatures of
+the zone together. They have to form a chain of trust, with a signature by each algorithm of the DS
+set. The same goes for CDS. And no cache may hold a set longer than its signatures are valid.
 
 Then come operators who don't follow the guides in one point. Each point has to break some zone, in
-the way that it breaks one; `-v` prints how many. A point that the guides don't say is left out by
-all.
+the way that belongs to it; `-v` prints how many break. If the guides don't say a point, all
+operators leave it out.
 """
 
 import random
@@ -49,8 +49,8 @@ from game.zone import Broken, World  # noqa: E402
 
 
 def play(seed, order, book, leaves, noted=None):
-    """Plays a zone with one signer, or without an order with two. Gives its world, its signers, and
-    what broke, if anything did. `noted` makes the notes of one signer."""
+    """Plays a zone with one signer, or with two if there is no order. Gives its world, its signers,
+    and what broke, if anything did. `noted` makes the notes of one signer."""
     world = World(random.Random(seed), leaves)
     if order is None:
         pair = Pair(world, book, leaves)
@@ -72,7 +72,7 @@ def play(seed, order, book, leaves, noted=None):
 
 
 def follow(book, orders, leaves, wrong):
-    """Operators who follow the guides, each with a zone. Gives a line of counts."""
+    """Plays operators who follow the guides, each with a zone. Gives a line of counts."""
     done, instants, choices = Counter(), 0, 0
     for seed, order in enumerate(orders):
         world, signers, fault = play(seed, order, book, leaves)
@@ -94,7 +94,7 @@ def follow(book, orders, leaves, wrong):
 
 
 def leave_out(book, points, orders, wrong):
-    """Operators who leave a point out, until three of their zones are broken. Gives a line of
+    """Plays operators who leave a point out, until three of their zones are broken. Gives a line of
     counts."""
     total, every = 0, 0
     for point in points:

@@ -2,13 +2,13 @@
 
        sessions STORED [STEP]
 
-   Each script is played line by line: what the session says, put together, is the stored answer, in
-   a buffer of each length too (every STEP of these, as a checker of memory makes it slow), beside
-   malformed lines that change nothing, and side by side in threads, each with its sessions in an
-   order of its own. Copies of one session go to threads, too. Each request for memory fails in turn:
-   a session that it closes says so, and goes on from its lines. Each call says that a closed handle
-   is closed; such a handle may be opened again. The linker has malloc, realloc and free of the
-   library come here: -Wl,--wrap=malloc,--wrap=realloc,--wrap=free */
+   Each script is played line by line, and the session's answers together are the stored answer. The
+   same goes for a buffer of each length (only every STEP lengths, as a checker of memory makes it
+   slow), between malformed lines that change nothing, and side by side in threads, each with its
+   sessions in an order of its own. Copies of one session go to threads, too. Each request for
+   memory fails in turn: a session that it closes says so, and goes on from its lines. Each call
+   says that a closed handle is closed; such a handle may be opened again. The linker has malloc,
+   realloc and free of the library come here: -Wl,--wrap=malloc,--wrap=realloc,--wrap=free */
 
 #define _GNU_SOURCE
 #include <keyset.h>
@@ -38,8 +38,8 @@ void *__real_malloc(size_t size);
 void *__real_realloc(void *block, size_t size);
 void __real_free(void *block);
 
-/* What the library asks for while it is called: how often, which request is to fail, and how many
-   blocks it holds. */
+/* What the library asks for while it is called: how often it asks, which request has to fail, and
+   how many blocks it holds. */
 static _Thread_local struct {
     bool is_called;
     size_t made, failing, held;
@@ -175,7 +175,7 @@ static bool is_filled(const uint8_t *bytes, size_t length)
     return true;
 }
 
-/* What a question is answered, as a text of its own. */
+/* The answer to a question, as a new text. */
 static char *answer_of(question asked, struct keyset_session *session)
 {
     uint8_t *out = filled(ROOM);
@@ -197,7 +197,7 @@ static void expect_told(question asked, struct keyset_session *session, const ch
     free(text);
 }
 
-/* In a room that is too short nothing is written, and nothing is lost. */
+/* If the room is too short, nothing is written, and nothing is lost. */
 static void expect_short(question asked, struct keyset_session *session)
 {
     char *text = answer_of(asked, session);
@@ -235,7 +235,7 @@ static void expect_closed(struct keyset_session *session)
     expect(requests.made == 0 && requests.held == 0, "no memory is asked for", "closed");
 }
 
-/* A copy answers each question as the session does, and a second one isn't opened over it. */
+/* A copy answers each question as the session does, and isn't overwritten by a second one. */
 static void expect_copy(struct keyset_session *session)
 {
     struct keyset_session other = {0};
@@ -268,7 +268,7 @@ static void expect_malformed(struct keyset_session *session)
     free(last);
 }
 
-/* A copy makes the call in a room that is too short; the session stays as it was. */
+/* A copy makes the call with too little room for its answer; the session stays as it was. */
 static void expect_short_call(struct keyset_session *session, const char *line, size_t length,
                               const char *wanted, size_t needed)
 {
@@ -311,7 +311,7 @@ static bool begin(struct play *play, const struct stored *it)
     return open_line(&play->session, it->script, length) == KEYSET_ANSWERED;
 }
 
-/* The next line, with the answer that the stored one has for it. */
+/* The next line, with its part of the stored answer. */
 static void next(struct play *play)
 {
     uint8_t *out = filled(LINE_ROOM);
@@ -370,7 +370,7 @@ static size_t play_alone(const struct stored *it)
 
 /* ---- requests for memory that fail */
 
-/* Opens the session that a call has closed anew, with the lines before this one. */
+/* Opens the session that a call has closed again, with the lines before this one. */
 static void open_anew(struct play *play)
 {
     expect(requests.held == 0, "all is freed", play->it->name);
@@ -382,8 +382,8 @@ static void open_anew(struct play *play)
     play->session = again.session;
 }
 
-/* Plays a script in which the request of this number fails, and says whether there was one. What
-   the session says is what is stored, but one refusal for memory may come before. */
+/* Plays a script in which the request of this number fails, and says whether there was one. The
+   session answers as stored, after at most one refusal for lack of memory. */
 static bool play_failing(const struct stored *it, size_t failing, size_t *closed)
 {
     struct play play;
@@ -420,7 +420,7 @@ static bool play_failing(const struct stored *it, size_t failing, size_t *closed
     }
     requests.failing = 0;
     char *closing = answer_of(keyset_closing, &play.session);
-    /* A refused call has a position too, so that those of a verdict may be others. */
+    /* A refused call has a position too, so a verdict may have other positions. */
     const char *chain = strstr(play.wanted, "chain ");
     size_t alike = (size_t)(chain - play.wanted) + strlen("chain safe");
     expect(strncmp(closing, play.wanted, alike) == 0, "the closing", it->name);
@@ -432,9 +432,9 @@ static bool play_failing(const struct stored *it, size_t failing, size_t *closed
 }
 
 /* A question or a copy in which the request of this number fails: it is out of memory. Only the
-   status does without memory, for one request of each time, and is then as ever: `without` counts
-   these. It is the first one for the list of the keys in their order, which asks for room for all of
-   them, and then for one key alone. */
+   status can do without one of its requests, and is then as always; `without` counts such requests.
+   It is the first one for the list of the sorted keys, which asks for room for all of them. If that
+   fails, the list asks for room for one key. */
 static bool fail_one(size_t kind, struct keyset_session *session, size_t failing, size_t *without)
 {
     struct keyset_session other = {0};
@@ -482,7 +482,7 @@ static size_t fail_questions(struct keyset_session *session)
 
 /* ---- threads */
 
-/* Plays BESIDE scripts at a time, a line of each in turn, from this place of the list on. */
+/* Plays BESIDE scripts at a time, a line of each in turn, from this place in the list. */
 static void *play_beside(void *first)
 {
     struct play plays[BESIDE] = {0};
@@ -521,7 +521,7 @@ static void *play_copies(void *own)
     return (void *)(uintptr_t)requests.held;
 }
 
-/* Copies of a session go to threads, which let go of what they have in common side by side. */
+/* Copies of a session go to threads, which free what they share at the same time. */
 static void play_copies_beside(const struct stored *it)
 {
     struct play play;
@@ -543,7 +543,7 @@ static void play_copies_beside(const struct stored *it)
         expect(pthread_join(threads[i], &left) == 0, "its end", it->name);
         held += (size_t)(uintptr_t)left;
     }
-    /* (A block is freed by the thread that is done with it last.) */
+    /* (The thread that is the last to use a block frees it.) */
     expect(held == 0, "nothing is kept", it->name);
 }
 

@@ -1,12 +1,13 @@
 #!/usr/bin/env python3
-"""Tests the status that sessions of the library show, over each stored script after each line.
+"""Tests the status that sessions of the library show, after each line of each stored script.
 
     tests/sessions.py FOLDER    takes the library that `make lib` has left there
 
-Each status is JSON of one shape. Its sets and its verdict are those of the closing lines. What it
-says can be done is done on a copy of the session: a key that may be deleted is, and no other; a wait
-is accepted at its moment, and refused a second before; the next call of a roll is accepted, and no
-other call of that roll. What it says of listed keys and of early ends is what the lines say.
+Each status is JSON of one shape. Its sets and its verdict are those of the closing lines. What the
+status says can be done is tried on a copy of the session. A key that may be deleted can be, and no
+other. A wait is accepted at its moment, and refused a second before. The next call of a roll is
+accepted, and no other call of that roll. For listed keys and early ends the status says what the
+lines say.
 """
 
 import ctypes

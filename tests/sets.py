@@ -1,10 +1,10 @@
 #!/usr/bin/env python3
-"""Takes each roll through all its phases, and between any two of its calls puts each setter on each
-key, a deletion, a call made again, an early end and a moment that goes back. It also ends each roll
-early after each of these, and starts it again. Each answer, the record, and the whole key set
-after each call have to be those of the tables (`replay/tables.py`), which share no text with the
-key set; both audits have one verdict on each record. The same for the stored scripts, whose answers
-are stored too, with the chain line.
+"""Takes each roll through all its phases. Between any two of its calls it puts each setter on each
+key, a deletion, a call made again, an early end and a moment that goes back. After each of them it
+also ends the roll early, and starts it again. Each answer, the record, and the whole key set after
+each call have to be those of the tables (`replay/tables.py`), which share no text with the key set.
+Both audits have to give the same verdict on each record. The same goes for the stored scripts,
+whose answers are stored too, with the chain line.
 
 It asks the program `callers`, which `rt ci` has made by then.
 """
@@ -35,8 +35,8 @@ report2 algorithm-roll 60 90
 wait2 algorithm-roll 150
 done algorithm-roll"""
 
-# The keys that come in, and the lists of the roll to them: from the first keys, or from the CSK of
-# the course that brings one in.
+# The keys that come in, and the lists of the roll to them: from the first keys, or from the CSK
+# that another course brings in.
 COURSES = {
     "ksk-roll": (["add-ksk K2 - 13 3 160 yes"], "K1 K2"),
     "ksk-double-ds-roll": (["add-ksk K2 - 13 3 160 yes"], "K1 K2"),
@@ -59,7 +59,7 @@ MANY = 300
 FLAGS = ["set-signer", "set-at-parent", "set-decoupled"]
 STAMPS = ["set-visible", "set-ds-visible", "set-rrsig-visible"]
 
-# What the getters call a phase, of which the tables name the call that it waits for.
+# What the getters call a phase. The tables name it by the call that it waits for.
 PHASES = {
     "report1": "Propagation1",
     "wait1": "CacheExpire1({})",
@@ -69,7 +69,7 @@ PHASES = {
 }
 FLAG_NAMES = ["old", "signer", "present", "at_parent"]
 SET_NAMES = ["ds", "dnskey", "dnskey_signers", "zone_signers"]
-# What a text has before these characters, if it is printed with quotes.
+# How these characters are printed in a text with quotes.
 ESCAPED = str.maketrans({'"': '\\"', "\\": "\\\\"})
 STAMP_NAMES = ["creation", "published", "visible", "ds_visible", "rrsig_visible", "withdrawn"]
 
@@ -79,7 +79,7 @@ class Wrong(Exception):
 
 
 def roll_lines(roll, lists, start):
-    """The calls of a roll that begins at this moment, to its end and past it."""
+    """The calls of a roll that begins at this moment, to its end and after it."""
     return [
         f"start {roll} {lists.split()[0]} {lists.split()[1]} {start}",
         f"report1 {roll} 60 {start + 10}",
@@ -91,7 +91,7 @@ def roll_lines(roll, lists, start):
 
 
 def courses():
-    """Of each course its name, its lines before the roll, those of the roll, and the roll."""
+    """The name of each course, its lines before the roll, those of the roll, and the roll."""
     first = FIRST_KEYS.split("\n")
     for roll, (adds, lists) in COURSES.items():
         yield roll, first + adds, roll_lines(roll, lists, 200), roll
@@ -102,8 +102,8 @@ def courses():
 
 
 def many_keys():
-    """The lines of keys that have a reference and a tag each, which are refused to a second key,
-    and given to one when the first is deleted."""
+    """The lines of keys that each have a reference and a tag. Another key is refused these until
+    the first is deleted."""
     last = MANY - 1
     yield "zone example.com"
     for tag in range(MANY):
@@ -120,7 +120,7 @@ def moment_of(lines):
 
 
 def interludes(before, roll, call, following):
-    """The lines that may stand between two calls of a roll."""
+    """The lines that may come between two calls of a roll."""
     now = moment_of(before)
     names = [line.split()[1] for line in before if line.startswith("add-")]
     for name in names:
@@ -166,7 +166,7 @@ def flags(state):
 
 
 def told(keyset):
-    """The whole key set, line by line, as the program prints it, in the order of the alphabet."""
+    """The whole key set, line by line, as the program prints it, in alphabetical order."""
     lines = [f"{len(keyset.keys)} keys, {len(keyset.phases)} rolls"]
     for name, key in keyset.keys.items():
         private = None if key.private is None else f'"{key.private.translate(ESCAPED)}"'
@@ -208,8 +208,8 @@ def entry(position):
 
 
 def check(name, script, stored, parts):
-    """Compares what the program prints of a script, part by part, with the tables, and its answers
-    with those that are stored."""
+    """Compares what the program prints for a script, part by part, with the tables, and its answers
+    with the stored ones."""
     answers, entries = next(parts), next(parts).split("\n")
     keyset, wanted = KeySet(), []
     for i, line in enumerate(script):

@@ -1,5 +1,5 @@
-/* A library that keeps a buffer between its calls, which the tests with threads have to see: the
-   linker has keyset_answer come here, by -Wl,--wrap=keyset_answer. */
+/* A library that keeps a buffer between its calls. The tests with threads have to find this fault.
+   The linker has keyset_answer come here, by -Wl,--wrap=keyset_answer. */
 
 #include <keyset.h>
 

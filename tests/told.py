@@ -5,10 +5,10 @@ its end, with its own output.
     tests/told.py LOG            compares them with the output of a gate, or of some of its parts
     tests/told.py LOG --write    writes the numbers of that output in their place
 
-A row of the table names its tests in the last column. A number of the row, with the word that
-follows it, has to stand in a line that one of these tests has printed; such a line begins with the
-name of the test, as `sets: `. If a word has more than one number, they have to come in the same
-order. A row without a test of the gate has to have the date of its numbers.
+A row of the table names its tests in the last column. Each number of the row, with the word after
+it, has to be in a line that one of the row's tests has printed. Such a line begins with the name of
+the test, as `sets: `. If a word has more than one number, they have to come in the same order. A
+row without a test of the gate has to have the date of its numbers.
 """
 
 import re
@@ -58,7 +58,7 @@ def is_found(wanted, told):
 
 
 def compared(row, log, number, wrong):
-    """The row as it ought to be. What isn't as it was printed is added to `wrong`."""
+    """The row as it should be. What differs from the output is added to `wrong`."""
     parts = [name for name in NAMED.findall(row["where"]) if name in PARTS]
     place = f"{PAGE.name}:{number}"
     if not parts:
@@ -86,7 +86,7 @@ def compared(row, log, number, wrong):
 
 
 def compare(log, wrong):
-    """Compares the page with the output of a gate. Gives the page as it ought to be."""
+    """Compares the page with the output of a gate. Gives the page as it should be."""
     lines, told = [], printed(log)
     for number, line in enumerate(PAGE.read_text().splitlines(), start=1):
         row = ROW.fullmatch(line)

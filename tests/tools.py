@@ -1,4 +1,4 @@
-"""What the scripts of tests share. (That the tools are there which they run, the Makefile sees.)"""
+"""What the scripts of tests share. (The Makefile checks that the tools they run are there.)"""
 
 import subprocess
 from pathlib import Path
@@ -15,7 +15,7 @@ class Wrong(Exception):
 
 
 def run(*command, **how):
-    """What a command writes, if it ends well."""
+    """What a command writes, if it ends with status 0."""
     words = [str(word) for word in command]
     try:
         ran = subprocess.run(words, capture_output=True, **how)

@@ -30,8 +30,8 @@ def typed(words, now=1000):
 
 @contextlib.contextmanager
 def folder():
-    """A new folder with the examples in it, as the current one: in memory if that can be, as on a
-    busy disk each sync takes its time."""
+    """A new folder with the examples in it, as the current one. It is in memory if possible, as
+    each sync takes long on a busy disk."""
     before, memory = os.getcwd(), Path("/dev/shm")
     with tempfile.TemporaryDirectory(dir=memory if memory.is_dir() else None) as made:
         for source in [*TOP.glob("examples/*.script"), *STORED.glob("files/*")]:

@@ -1,4 +1,4 @@
-"""The command of an operator: clock, files and words for people over the proved key set."""
+"""The command of an operator: the proved key set with a clock, files and words for people."""
 
 import sys
 from pathlib import Path

@@ -1,8 +1,8 @@
-"""What is due as commands for a signer: a zone file with the keys of the DNSKEY set, signed by the
-keys that have to sign, and the DS records for the parent.
+"""What is due, as commands for a signer: they make a zone file with the keys of the DNSKEY set,
+signed by the keys that have to sign, and the DS records for the parent.
 
-Every command brings about what has to be published now, whatever was published before. So they may
-be run again after a crash."""
+The commands make what has to be published now, whatever was published before. So they may be run
+again after a crash."""
 
 import shlex
 import subprocess
@@ -13,7 +13,7 @@ from keyset import Notes
 from . import keyfiles, status
 from .errors import UNAVAILABLE, Failure
 
-# The commands of a signer. A signer makes more signatures than are due.
+# The commands of each signer. A signer makes more signatures than are due.
 SIGNERS = {
     "bind": {
         "sign": "dnssec-signzone -qzP -N unixtime -O full -o {origin} -f {draft} {whole} {keys} "
@@ -29,18 +29,18 @@ SIGNERS = {
         "ds": "ldns-key2ds -n -2 {key}",
     },
 }
-# (awk puts a line feed at the end of a file that lacks it.)
+# (awk adds a line feed if the end of a file lacks it.)
 WHOLE = "{{ echo '$ORIGIN' {origin}; awk 1 {file} {keys}; }} >{whole}"
 CDNSKEY = "sed -n 's/[[:space:]]DNSKEY[[:space:]]/ CDNSKEY /p' {key} >>{whole}"
 DELETE = "printf '%s IN CDS 0 0 0 00\\n%s IN CDNSKEY 0 3 0 AA==\\n' {origin} {origin} >>{whole}"
-# In a line of a signed zone file the type stands at 4, and of an RRSIG the type that it covers at 5
-# and the key's tag at 11. Those of `signers` sign DNSKEY, one of them and those of `zone` CDS and
-# CDNSKEY, those of `zone` the rest.
+# In a line of a signed zone file field 4 is the type. In an RRSIG field 5 is the type that it
+# covers, and field 11 the key's tag. The keys of `signers` sign DNSKEY, one of them and those of
+# `zone` sign CDS and CDNSKEY, and those of `zone` sign the rest.
 FILTER = (
     "awk '$4 != \"RRSIG\" || ($5 == \"DNSKEY\" ? \" {signers} \" : $5 ~ /^CD/ ? \" {cds} \" : "
     "\" {zone} \") ~ \" \"$11\" \"' {draft} >{whole}"
 )
-# Without a signer the serial number is that of `unixtime` too.
+# Without a signer the serial number is the time too, as with `unixtime`.
 SERIAL = "awk -v now=$(date +%s) '$4 == \"SOA\" {{ $7 = now }} 1' {draft} >{whole}"
 
 
@@ -72,7 +72,7 @@ class Signer:
         return form.format(**quoted, **more)
 
     def commands(self):
-        """Shell commands: they end with the signed zone in its place, and loaded."""
+        """Shell commands. The last ones put the signed zone in its place, and load it."""
         yield self.made(WHOLE, self.published["dnskey"])
         if not self.args.no_cds and status.is_asked(self.told, "CreateCdsRrset"):
             if not self.published["ds"]:
@@ -100,7 +100,7 @@ class Signer:
         yield self.made(FILTER, **tags)
 
     def cds_signer(self):
-        """The key of `signers=` that signs CDS and CDNSKEY: one that has a DS at the parent now;
+        """The key of `signers=` that signs CDS and CDNSKEY: one that has a DS at the parent now, or
         before the first DS one that gets it."""
         signers = self.published["signers"]
         has_ds = {key["reference"] for key in self.told["keys"] if key["ds_visible"] is not None}
@@ -114,8 +114,8 @@ class Signer:
 
 
 def publish(commands, script, call, kinds, now):
-    """Runs the commands one after another, up to the first that fails. What they publish is noted
-    with its TTLs before servers can give it: before the signed file is in its place."""
+    """Runs the commands one after another, up to the first that fails. Notes what they publish,
+    with its TTLs, before servers can give it: before the signed file is in its place."""
     for command in commands:
         if command.startswith("mv "):
             ttls = {**dict.fromkeys(kinds), **ttls_of(shlex.split(command)[1])}
@@ -124,8 +124,8 @@ def publish(commands, script, call, kinds, now):
 
 
 def ttls_of(file):
-    """The TTL of the DNSKEY set in a zone file, and the highest of all others, also of answers that
-    there is no such set."""
+    """The TTL of the DNSKEY set in a zone file, and the highest of all others, with that of answers
+    that there is no such set."""
     ttls = {True: 0, False: 0}
     with open(file, encoding="ascii") as lines:
         for line in lines:

@@ -1,5 +1,5 @@
-"""One call: the clock for `now`, a look at what can't be true, and the line on disk before anything
-is printed that somebody acts on. And the first lines of a script."""
+"""One call: it takes the clock for `now`, looks for what can't be true, and has the line on disk
+before it prints anything to act on. Also the first lines of a script."""
 
 import math
 import time
@@ -13,7 +13,7 @@ from .history import REFUSED, History
 
 
 class Made:
-    """What became of a call: its answer, what can't be true of it, and whether it was kept."""
+    """The outcome of a call: its answer, what can't be true of it, and whether it was kept."""
 
     def __init__(self, line, reply, published):
         is_refused = reply.startswith(REFUSED)
@@ -63,7 +63,7 @@ def call(path, text, clock, although=False, dry_run=False):
 
 
 def completed(text, clock):
-    """The line of a call: with the key of the file that `add FILE` or `add-csk FILE` names, and
+    """The line of a call, with the key of the file that `add FILE` or `add-csk FILE` names, and
     with the moment for `now`. A report is made once the clock has reached its moment."""
     if "\n" in text:
         raise Failure("a line of a script has no line feed in it")
@@ -77,7 +77,7 @@ def completed(text, clock):
 
 
 def reach(moment, clock):
-    """Comes back once the clock has reached a moment that was rounded up."""
+    """Returns once the clock has reached a moment that was rounded up."""
     time.sleep(max(0, moment - clock()))
 
 

@@ -1,6 +1,6 @@
 """What was accepted and can't be true, each with its line.
 
-The key set believes what it is told. It accepts a moment ahead of the clock, or a report with too
+The key set believes what a line says. It accepts a moment ahead of the clock, or a report with too
 low a TTL, and from then on its verdict is about a course that never was."""
 
 import re
@@ -32,7 +32,7 @@ class Finding:
 
 
 def findings(path, now):
-    """All that is to be said of a script, in the order of its lines."""
+    """All findings about a script, in the order of its lines."""
     try:
         file = Lines(path)
         found = list(_findings(file.lines, path, now))
@@ -60,7 +60,7 @@ def _findings(lines, path, now):
 
 
 def false_claims(history, path, now, since=0):
-    """What can't be true of the accepted lines, from this number on."""
+    """What can't be true in the accepted lines, from this number on."""
     notes = Notes(path)
     for call in history.calls:
         if call.number >= since:
@@ -100,7 +100,7 @@ def _of_notes(history, call, notes):
 
 
 def _mixed(history):
-    """The algorithms that have only KSKs in use or only ZSKs, with the line since which."""
+    """The algorithms that have only KSKs or only ZSKs in use, each with the line since when."""
     since = {}
     if _alone(keyset.status(history.lines)):
         for call, session in history.sessions():

@@ -20,7 +20,7 @@ HELP = Path(__file__).with_name("help.txt")
 
 
 def clock():
-    """The moment of now, in seconds. VAQSIDER_NOW stands in for the clock."""
+    """The present moment, in seconds. VAQSIDER_NOW stands in for the clock."""
     return float(os.environ.get("VAQSIDER_NOW") or time.time())
 
 
@@ -118,7 +118,7 @@ def on_zones(args):
 # A word in help.txt: a line, a paragraph, and its arguments, each as `NAME  what it is`.
 WORD = re.compile(r"(?P<name>\w+): (?P<says>.*)\n\n(?P<about>(?:.+\n)*)\n(?P<arguments>(?:.+\n)*)")
 ARGUMENT = re.compile(r"^(\S+)(?: (\S+(?: \S+)*))?  (.*(?:\n .*)*)", re.MULTILINE)
-# How an argument is read, by what stands for it there.
+# How an argument is read, by its name there.
 READ_AS = {
     "SECONDS": {"type": float},
     "NUMBER": {"type": int},
@@ -131,7 +131,7 @@ READ_AS = {
 
 
 class Parser(argparse.ArgumentParser):
-    """Ends with the status that the table gives for a wrong command line."""
+    """A parser that ends with the status that the table gives for a wrong command line."""
 
     def error(self, message):
         self.print_usage(sys.stderr)

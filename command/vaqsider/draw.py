@@ -16,7 +16,7 @@ SMALL = 'font-size="10"'
 
 class Scale:
     """Moments as places on the page: from the first moment to the last one or now, and a little
-    beyond. A script whose moments count from 0 has no now."""
+    beyond. If a script's moments count from 0, it has no now."""
 
     def __init__(self, made, now):
         labels = [*made.phases, *made.rows]
@@ -64,7 +64,7 @@ def _box(kind, begin, end, at, y):
 
 
 def _bar(bar, at, y):
-    """A solid bar while the key is in the set; a hatched one while caches may hold it still."""
+    """A solid bar while the key is in the set; a hatched one while caches may still hold it."""
     yield _box("in", bar.begin, bar.end, at, y)
     if bar.end is not None and (bar.gone is None or bar.gone > bar.end):
         yield _box("cached", bar.end, bar.gone, at, y)

@@ -1,4 +1,4 @@
-"""Exit statuses, and which error ends the command with which."""
+"""Exit statuses, and which errors end the command with them."""
 
 from keyset import Damaged, Locked, Malformed, Unavailable
 
@@ -27,7 +27,7 @@ class Failure(Exception):
 
 
 def failure_of(error):
-    """The failure that an error is. A fault of the command itself is raised again."""
+    """The failure for an error. A fault of the command itself is raised again."""
     if isinstance(error, Failure):
         return error
     text = f"{error.filename}: {error.strerror}" if isinstance(error, OSError) else str(error)

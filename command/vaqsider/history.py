@@ -1,4 +1,4 @@
-"""The accepted lines of a script, with what each was answered: the course that the zone took."""
+"""The accepted lines of a script, each with its answer: the course that the zone took."""
 
 import keyset
 from keyset.lines import Line
@@ -7,7 +7,7 @@ from . import words
 
 REPORTED_FROM = {"report1": "start", "report2": "wait1"}
 REFUSED, SAFE = "refused: ", "chain safe"
-# The lines whose moment is that of the call, and not a stamp of a key.
+# The lines with the moment of the call. In others it is a stamp of a key.
 OF_CLOCK = ("start", "report1", "wait1", "report2", "wait2", "set-present")
 
 
@@ -20,7 +20,7 @@ class Call:
 
 
 class History:
-    """A script's lines, as the key set answers them."""
+    """A script's lines, with the answers of the key set."""
 
     def __init__(self, lines):
         self.lines, self.refused, self.calls, clock = lines, [], [], 0
@@ -38,8 +38,8 @@ class History:
         return self.calls[: self.calls.index(call)]
 
     def step_of(self, report):
-        """The step that an accepted report counts from, with the kinds of sets that it asked for:
-        the start of its roll, or its first wait."""
+        """The step that an accepted report counts from: the start of its roll, or its first wait.
+        With it come the kinds of sets that it asked for."""
         wanted = (report.line.roll, REPORTED_FROM[report.line.word])
         before = reversed(self.before(report))
         step = next(call for call in before if (call.line.roll, call.line.word) == wanted)

@@ -1,6 +1,6 @@
 """Key files of BIND and ldns: `Kzone.+alg+tag.key`, with the private key beside it.
 
-What a key is, is read from its DNSKEY record, not from the name of its file."""
+The DNSKEY record says what a key is. The name of its file doesn't."""
 
 import base64
 import binascii
@@ -42,7 +42,7 @@ class KeyFile:
         self.creation = calendar.timegm(stamp) if stamp else int(self.path.stat().st_mtime)
 
     def line(self, is_csk):
-        """The line that adds the key: a CSK, or what its SEP flag says."""
+        """The line that adds the key: as a CSK, or as what its SEP flag says."""
         private = self.path.with_suffix(".private")
         word = "add-csk" if is_csk else "add-ksk" if self.is_sep else "add-zsk"
         reference = private.name if private.is_file() else "-"

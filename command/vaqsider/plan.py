@@ -1,6 +1,6 @@
 """A roll before anything is done: each call with its date, what it asks, and the verdict after it.
 
-The key set answers the calls; what is assumed here is how long servers and the parent take."""
+The key set answers the calls. How long servers and the parent take is assumed here."""
 
 from keyset import KeySet, Malformed, Notes, Published, Refused, RollType
 from keyset.lines import Line
@@ -14,8 +14,8 @@ TTLS, DELAYS = (86400, 3600, 3600), (86400, 600, 600)
 
 
 class Plan:
-    """The calls of a roll on a copy of a script, each at the moment that the plan has reached, as
-    it will be answered. TTLs, and delays until all servers have a version, are by kind of set."""
+    """The calls of a roll on a copy of a script, each at the moment that the plan has reached, with
+    its answer. TTLs, and delays until all servers have a version, are by kind of set."""
 
     def __init__(self, lines, moment, ttls, delays):
         self.keys = KeySet.resume("".join(f"{line}\n" for line in lines))
@@ -63,7 +63,7 @@ class Plan:
 
 
 def assumed(script, ttls, delays, now):
-    """TTLs and delays by kind: those that were given, else noted, else the usual ones."""
+    """TTLs and delays by kind: the given ones, else the noted ones, else the usual ones."""
     seen = Seen(Notes(script).lines, now)
     noted = {kind: held[-1] for kind, held in seen.ttls.items()}
     return [
@@ -73,7 +73,7 @@ def assumed(script, ttls, delays, now):
 
 
 def as_text(steps):
-    """A line for each call, with what it asks, what is then published, and the verdict."""
+    """A line for each call, with what it asks, what is published after it, and the verdict."""
     for step in steps:
         yield f"{words.moment(step['moment'])}  {step['line']}"
         yield from (f"    {text}" for text in step["asks"])

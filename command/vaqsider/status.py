@@ -12,7 +12,7 @@ LABELS = {"ds": "DS", "dnskey": "DNSKEY", "signers": "signers", "zone": "zone"}
 
 
 def read(path, now):
-    """The lines of a script and its status at this moment: a wait that is over waits for you."""
+    """The lines of a script and its status at this moment. If a wait is over, it waits for you."""
     lines = Lines(path).lines
     try:
         told = keyset.status(lines)
@@ -35,7 +35,7 @@ def comes_next(roll):
 
 
 def asked(told):
-    """The actions that are due, by roll; also those of rolls that were ended early."""
+    """The actions that are due, by roll, with those of rolls that were ended early."""
     ended = {roll["roll"]: roll["asked"] for roll in told["ended"]}
     return {**ended, **{roll["roll"]: roll["due"] for roll in told["rolls"]}}
 

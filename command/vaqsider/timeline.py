@@ -1,7 +1,7 @@
 """The course of a script as spans of time: which key was in which set, and what caches may hold.
 
-A set that was replaced stays in caches until a report of its kind that counts from a later step is
-over: that is the moment of the report and its TTL."""
+A set that was replaced stays in caches until the TTL of a report is over. The report has to be of
+the set's kind, and to count from a later step."""
 
 from dataclasses import dataclass, field
 
@@ -30,8 +30,8 @@ PHASES = {
 
 @dataclass
 class Bar:
-    """A key in a set, or a phase of a roll: from when, until when, and until when caches may hold
-    the key still. None is: not yet."""
+    """A key in a set, or a phase of a roll: from when, until when, and until when caches may still
+    hold the key. None means: not yet."""
 
     begin: int
     end: int = None
@@ -41,7 +41,7 @@ class Bar:
 
 @dataclass
 class Timeline:
-    """The span of all moments; by roll its phases; by the label of a set and a key the bars."""
+    """The span of all moments; the phases by roll; the bars by the label of a set and by key."""
 
     begin: int
     end: int
@@ -81,7 +81,7 @@ def _reports(history):
 
 
 def _phase(phases, call):
-    """Ends the phase that a call ends, and begins the one that it begins."""
+    """Ends the phase before a call, and begins the one after it."""
     if call.line.word in PHASES:
         row = phases.setdefault(call.line.roll, [])
         if row and row[-1].end is None:

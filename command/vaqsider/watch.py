@@ -1,5 +1,5 @@
-"""Asks each server of the zone, or of the parent, whether it gives what is due: by `dig`, or by
-dnspython if that isn't there."""
+"""Asks each server of the zone, or of the parent, whether it gives what is due: with `dig`, or with
+dnspython if `dig` isn't there."""
 
 import functools
 import shutil
@@ -13,7 +13,7 @@ TYPES = {"dnskey": ["DNSKEY"], "zone": ["SOA"], "ds": ["DS"], "cds": ["CDS", "CD
 
 
 class Record:
-    """A record of an answer, with the tag of its key, if it is of one."""
+    """A record of an answer, with the tag of its key, if it has one."""
 
     def __init__(self, line):
         _, ttl, _, self.type, *self.data = line.split()
@@ -26,7 +26,7 @@ class Record:
 
 
 def ask(server, port, name, kind):
-    """The records of an answer of one server, or None if it gives none. Without a server the
+    """The records in the answer of one server, or None if it gives none. Without a server the
     resolver of this machine is asked."""
     by = _by_dig if shutil.which("dig") else _by_dnspython
     lines = by(server, port, name, kind)
@@ -76,7 +76,7 @@ def _data(name, kind):
 
 
 def look(told, kinds, servers, port):
-    """What each server lacks, as kind, server and words; and of each kind the highest TTL."""
+    """What each server lacks, as kind, server and words; and the highest TTL of each kind."""
     lacking, ttls = [], dict.fromkeys(kinds, 0)
     for kind, type_ in ((kind, type_) for kind in kinds for type_ in TYPES[kind]):
         for server in servers(kind):

@@ -13,15 +13,15 @@ CDS_OUT = "take CDS and CDNSKEY out by 'vaqsider act --no-cds', then 'vaqsider w
 
 
 class Watcher:
-    """Watches for the rolls of one script that wait for a report or for their end, and for those
-    that were ended early."""
+    """Watches the servers for the rolls of one script that wait for a report or for their end, and
+    for those that were ended early."""
 
     def __init__(self, args, clock, progress):
         self.args, self.clock, self.progress, self.made = args, clock, progress, {}
 
     def run(self):
         """Asks until all servers have what is due, or the time is over. With --call a roll goes on
-        as soon as it can, and CDS has to be out before that; without, the loop ends before it."""
+        as soon as it can, after CDS is out. Without --call the loop ends before that."""
         end = time.monotonic() + (vars(self.args)["for"] or 0)
         while True:
             self.look()
@@ -56,7 +56,7 @@ class Watcher:
             self.lacking += watch.look(told, ["cds"], self.servers, self.args.port)[0]
 
     def servers(self, kind):
-        """The servers to ask: those that were named, or all that NS records name."""
+        """The servers to ask: those that were given, or all that NS records name."""
         if kind == "ds":
             above = self.zone.rstrip(".").partition(".")[2] or "."
             return self.args.parent_server or watch.addresses(self.args.parent or above)
@@ -89,7 +89,7 @@ class Watcher:
         return max([DUE if self.lacking else OK, *(made.status for made in self.made.values())])
 
     def text(self):
-        """For people: who lacks what, and what comes next in each roll."""
+        """For people: which server lacks what, and what comes next in each roll."""
         yield from (f"{server}: {what}" for _, server, what in sorted(self.lacking))
         yield from (line for made in self.made.values() for line in made.text())
         for roll in (roll for roll in self.rolls if roll not in self.made):

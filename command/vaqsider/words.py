@@ -3,7 +3,7 @@
 import datetime
 import re
 
-# What each action asks, with the sets that are to be published.
+# What each action asks, with the sets that have to be published.
 ACTIONS = {
     "UpdateDnskeyRrset": "publish the DNSKEY set {dnskey}, signed by {signers}",
     "UpdateRrsig": "publish the zone signed by {zone} and by no other key",
@@ -67,7 +67,7 @@ def utc(seconds, form):
 
 
 def moment(seconds):
-    """A moment as people read it, in UTC. Moments of examples, near the start of 1970, are
+    """A moment for people, in UTC. Moments of examples, near the start of 1970, stay
     numbers."""
     is_date = seconds is not None and 10**8 < seconds < 10**11
     return utc(seconds, "%Y-%m-%d %H:%M:%SZ") if is_date else str(seconds)

@@ -14,7 +14,7 @@ METRICS = {
 
 
 def zones(folder, now, progress=lambda done, of: None):
-    """The zones of a folder, by the names of their files: what is asked of each, or its fault."""
+    """The zones of a folder, by the names of their files: what each asks for, or its fault."""
     paths = sorted(Path(folder).glob("*.script"))
     if not paths:
         raise Failure(f"{folder}: no file ends in .script", UNAVAILABLE)
@@ -39,7 +39,7 @@ def zones(folder, now, progress=lambda done, of: None):
 
 
 def table(found):
-    """For people: a row a zone."""
+    """For people: a row for each zone."""
     rows = [("ZONE", "CHAIN", "WAITS FOR", "NEXT", "LINES")]
     for zone in found:
         chain = "safe" if zone["chain_safe"] else zone["fault"] or "broken"

@@ -1,5 +1,5 @@
-/* Plays a script line by line, as a tool does over days: asks about each call with the lines that
-   were accepted before it, and prints what the program keyset prints.
+/* Plays a script line by line, as a tool does over days. It asks about each call with the lines
+   that were accepted before it, and prints what the program keyset prints.
 
        cc -o roll roll.c $(pkg-config --cflags --libs keyset)
        ./roll <../../examples/ksk-roll.script */
@@ -39,7 +39,7 @@ static void append(struct text *text, const char *bytes, size_t length)
     text->length += length;
 }
 
-/* Asks with as much room as the answer needs. */
+/* Asks with the room that the answer needs. */
 static void ask(const struct text *script, struct text *answer)
 {
     for (;;) {
@@ -94,7 +94,7 @@ int main(void)
         const char *reply = (const char *)answer.bytes;
         for (size_t i = 0; i < calls; i++, reply = next_line(reply))
             if (!is_accepted(reply))
-                give_up("out of memory"); /* it was accepted before, and can't be refused else */
+                give_up("out of memory"); /* all other lines were accepted */
         fwrite(reply, 1, (size_t)(next_line(reply) - reply), stdout);
         if (is_accepted(reply))
             calls++;

@@ -10,14 +10,14 @@ from tables import ROLLS
 BOOK = Path(__file__).resolve().parents[2] / "docs" / "RUNBOOKS.md"
 FIRST_KEYS, EARLY_END, TWO = "The first keys", "Ending a roll early", "Two signers"
 
-# What the cells of the tables say. A cell that says something else has to be taught here.
+# What the cells of the tables say. If a cell says something else, add it here.
 DOES = {
     "dnskey": r"\bthe DNSKEY set\b",
     "zone": r"\bthe zone (signed by|without their signatures)\b",
     "cds": r"\bCDS (for|without)\b",
     "ds": r"\bthe DS set becomes\b",
 }
-# What to watch for is said of early ends; else it is what was done, without CDS.
+# The tables of early ends say what to watch for. Otherwise it is what was done, without CDS.
 WATCHES = {
     "the DNSKEY set": {"dnskey"},
     "both": {"dnskey", "zone"},
@@ -35,19 +35,19 @@ WATCHED = {
     for word in ("Report", "Wait")
     for record, kind in (("Dnskey", "dnskey"), ("Rrsig", "zone"), ("Ds", "ds"))
 }
-# The TTLs that a report gives. Rule 1 of docs/OPERATORS.md says which sets they are of.
+# The TTLs that a report gives. Rule 1 of docs/OPERATORS.md says which sets count.
 TTLS = {"the DNSKEY TTL": "dnskey", "the zone's TTL": "zone", "the DS TTL": "ds"}
 BOTH = "the higher TTL of both"
 SUM = re.compile(r"the \*\*sum\*\* of (.*) and (.*)")
 
 
 class Wrong(Exception):
-    """The runbook says what the game doesn't know, or what the key set doesn't ask."""
+    """The runbook says something that the game doesn't know, or the key set doesn't ask for."""
 
 
 class Step(NamedTuple):
     """A row of a runbook: what to do, what to watch, which TTL to report, if any, whether the
-    DNSKEY TTL must not rise then, and whether CDS has to come out before."""
+    DNSKEY TTL must not rise meanwhile, and whether CDS has to be taken out before."""
 
     does: set
     watches: set
@@ -63,7 +63,7 @@ def known(table, cell):
 
 
 def report_of(words, watches):
-    """How the TTL of a report is made of which TTLs: in these words, and no safer."""
+    """Which TTLs make the TTL of a report, and how: as these words say, and no safer."""
     if words == BOTH:
         return max, sorted(watches)
     if match := SUM.fullmatch(words):
@@ -85,7 +85,7 @@ def step_of(does, *watched, then):
 
 
 def runbooks():
-    """The steps of each roll and of the first keys, by the headings; early ends by the rolls."""
+    """The steps of each roll and of the first keys by headings, those of early ends by rolls."""
     book, heading = {EARLY_END: {}}, None
     for line in BOOK.read_text().splitlines():
         cells = [cell.strip() for cell in line.split("|")[1:-1]]
@@ -116,7 +116,7 @@ def left_out(points):
     return frozenset(point for point in points if point.words not in said)
 
 
-# What docs/EMERGENCY.md says behind the two waits of going unsigned.
+# What docs/EMERGENCY.md says after the two waits of going unsigned.
 UNSIGNED = (
     Step({"cds", "ds"}, {"ds"}, (sum, ["ds", "dnskey"]), True, True),
     Step({"dnskey", "zone"}, {"dnskey", "zone"}, None, False, False),

@@ -57,8 +57,8 @@ class Follower(Operator):
         self.done[name or roll] += 1
 
     def slip(self, half, roll, ttl, step):
-        """Now and then a wait is accepted too early, by a false line, and acted upon; then the line
-        is mended as docs/EMERGENCY.md has it. Gives the versions of the step, if it stays."""
+        """Now and then a wait is accepted too early because of a false line, and acted upon. Then
+        the line is mended as in docs/EMERGENCY.md. Gives the versions of the step, if it stays."""
         wait = f"wait{half} {roll}"
         if self.in_step or self.notes or self.dice.random() > 0.1:
             return None
@@ -82,7 +82,7 @@ class Follower(Operator):
         return since
 
     def takes_back(self, line, step, since):
-        """Takes out a line that was acted upon, and what was published for it."""
+        """Removes a line that was acted upon, and what was published for it."""
         if "ds" in step.does and BACK_AT_ONCE not in self.leaves:
             yield from self.watch(step, since)
         self.script.remove(line)
@@ -98,14 +98,14 @@ class Follower(Operator):
             yield from self.takes_cds_out()
 
     def run(self):
-        """Runs the script anew."""
+        """Runs the script again."""
         self.keyset = KeySet()
         for line in self.script:
             if not self.keyset.call(line).startswith("ok"):
                 raise Wrong(f"{line}: it was accepted before")
 
     def ended_early(self, roll, old, new):
-        """A start of the roll that is taken back after a while."""
+        """A start of the roll, and its early end after a while."""
         first, zone = self.book[roll][0], self.zone.versions
         yield from self.comes_to(first)
         begun = len(zone)
@@ -122,7 +122,7 @@ class Follower(Operator):
         self.done[EARLY_END] += 1
 
     def another(self, key):
-        """A key in the place of this one, which is deleted."""
+        """A new key instead of this one, which is deleted."""
         algorithm = self.world.algorithms[key]
         self.call(f"set-stale {key}")
         self.call(f"delete {key}")
@@ -132,7 +132,7 @@ class Follower(Operator):
         return made
 
     def unsigned(self):
-        """Goes unsigned, as docs/EMERGENCY.md has it."""
+        """Goes unsigned, as in docs/EMERGENCY.md."""
         roll, old, key = ALGORITHM, sum(self.keys.values(), []), self.add("csk", 13)
         began = self.rounded_down()
         self.start(roll, old, [key])
@@ -224,7 +224,7 @@ class Follower(Operator):
         return roll, old, new
 
     def choose(self):
-        """Which algorithms leave, and which come: one each at most, and at most two stay."""
+        """Which algorithms leave, and which come: at most one leaves, one comes, and two stay."""
         here, others = [*self.keys], [each for each in ALGORITHMS if each not in self.keys]
         if ALL_AT_ONCE in self.leaves:
             return here, self.dice.sample(others, 2)

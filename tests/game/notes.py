@@ -1,5 +1,5 @@
-"""Notes that an operator of the game keeps, as docs/NOTES.md has them, and the TTL that is due by
-them: by the rule as it stands there, written anew here."""
+"""Notes that an operator of the game keeps, as in docs/NOTES.md, and the TTL that is due by them.
+The rule for it is that of the page, written again here."""
 
 from itertools import combinations
 from typing import NamedTuple, Optional
@@ -10,9 +10,9 @@ from game.zone import SECOND
 
 
 class Question(NamedTuple):
-    """What was due at a report: the script and the notes as they stood; the report's TTL, or None
-    if it was not due yet; and the most that rule 1 of docs/OPERATORS.md lets it be as it is played, if
-    each older set was seen to leave the servers as soon as it did."""
+    """What was due at a report: the script and the notes at that moment; the report's TTL, or None
+    if it was not due yet; and the highest TTL by rule 1 of docs/OPERATORS.md as it is played, if it
+    was seen at once when each older set had left the servers."""
 
     call: str
     roll: str
@@ -24,28 +24,27 @@ class Question(NamedTuple):
 
 
 class Version:
-    """A version of a kind of sets. `left` is the moment at which all servers were seen to give a
-    later one."""
+    """A version of a kind of sets. `left` is when all servers were seen to give a later one."""
 
     def __init__(self, position, ttl, sets):
         self.position, self.ttl, self.sets, self.left = position, ttl, sets, None
 
 
 class Notes:
-    """Of one operator, who takes their moments from one machine. If it `reports` by them, it makes
-    each report with the TTL that they say, except those that ask for a sum; of DS sets
-    at least with the TTL of CDS. Who takes it for `less` reports so many seconds less."""
+    """The notes of one operator, who takes the moments from one machine. If it `reports` by them,
+    it makes each report with the TTL that they say, except those that ask for a sum. For DS sets it
+    reports at least the TTL of CDS. With `less` it reports this many seconds less."""
 
     def __init__(self, operator, reports, less=0):
         self.operator, self.world, self.reports = operator, operator.world, reports
         self.less = less
-        # How far notes and rule 1 may differ, by the clocks.
+        # How far notes and rule 1 may differ because of the clocks.
         self.slack = 2 * (operator.margin // SECOND + 1)
         self.questions = []
         sources = {"ds": self.world.parent, "dnskey": operator.zone, "zone": operator.zone}
         self.sources, self.looked = sources, dict.fromkeys(sources, 0)
-        # The number of the servers' version in which the newest of a kind came, if it wasn't seen
-        # everywhere yet.
+        # The number of the servers' version that brought the newest version of a kind, if that
+        # wasn't seen everywhere yet.
         self.waits = dict.fromkeys(sources)
         self.versions = {
             kind: [Version(0, self.ttl(kind, 0), self.sets(kind, 0))] for kind in sources
@@ -53,7 +52,7 @@ class Notes:
         self.lines = ["before " + " ".join(str(self.ttl(kind, 0)) for kind in sources)]
 
     def sets(self, kind, number):
-        """The sets of a kind in a version of the servers: for the zone those of CDS too."""
+        """The sets of a kind in a version of the servers: those of CDS count as the zone's."""
         version = self.sources[kind].versions[number]
         kinds = (kind, "cds") if kind == "zone" else (kind,)
         return [version[each] for each in kinds if version[each]]
@@ -71,7 +70,7 @@ class Notes:
         return -(-(self.world.now + self.operator.ahead[0] + self.operator.margin) // SECOND)
 
     def look(self):
-        """Notes what was published since, and what was seen on all servers."""
+        """Notes what was published since the last look, and what was seen on all servers."""
         for kind, servers in self.sources.items():
             for number in range(self.looked[kind] + 1, len(servers.versions)):
                 if self.sets(kind, number) != self.sets(kind, number - 1):
@@ -81,8 +80,8 @@ class Notes:
                 self.seen(kind)
 
     def published(self, kind, number):
-        """The sets of the last call that asks for these, or those of the version before with
-        another TTL. (A parent that reads CDS may take those of a call before the last.)"""
+        """The sets of the last call that asks for them, or those of the version before with another
+        TTL. (A parent that reads CDS may take those of a call before the last.)"""
         value, at = self.value(kind, number), self.versions[kind][-1].position
         if value != self.value(kind, number - 1):
             record = self.operator.keyset.record
@@ -99,7 +98,7 @@ class Notes:
         self.lines.append(f"everywhere {kind} {moment}")
 
     def goes_back(self):
-        """How often a version has the sets of an earlier call than the one before it."""
+        """How often a version has the sets of an earlier call than the version before it."""
         return sum(
             later.position < version.position
             for versions in self.versions.values()
@@ -107,7 +106,7 @@ class Notes:
         )
 
     def goes_back_over_a_step(self):
-        """Whether a version does so to before a step of a roll whose reports speak of the kind."""
+        """Whether a version goes back past a step of a roll whose reports speak of the kind."""
         return any(
             later.position < n <= version.position and kind in " ".join(SPEAKS_OF[at.step]).split()
             for n, at in enumerate(self.operator.keyset.record)
@@ -119,8 +118,8 @@ class Notes:
     # Reports
 
     def older(self, roll, second):
-        """Of each kind of sets that a report speaks of, the newest version, and those that are
-        older than what the roll's last step published."""
+        """For each kind of sets that a report speaks of: the newest version, and the versions that
+        are older than what the roll's last step published."""
         base = max(n for n, at in enumerate(self.operator.keyset.record) if at.step == roll)
         for kind in SPEAKS_OF[roll][second].split():
             versions = self.versions[kind]
@@ -136,7 +135,7 @@ class Notes:
         return ttl
 
     def is_sharp(self, roll, second):
-        """Whether each older set was seen to leave the servers as soon as it did."""
+        """Whether it was seen at once when each older set had left the servers."""
         gone = self.operator.gone
         return all(
             version.left - max(gone.get(kept, 0) for kept in version.sets) <= self.slack
@@ -145,8 +144,8 @@ class Notes:
         )
 
     def report(self, call, roll, moment, ttl, is_sum):
-        """Asks which report is due, and goes on asking if it is made by the notes. Gives its moment
-        and its TTL: those of the notes, or as they would be."""
+        """Asks which report is due, and asks again until it is, if it is made by the notes. Gives
+        its moment and its TTL: those of the notes, else the given ones."""
         by_notes = self.reports and not is_sum
         while self.asks(call, roll, ttl) is None and by_notes:
             for _ in range(SECOND):
@@ -158,7 +157,7 @@ class Notes:
             yield
         if not by_notes:
             return moment, ttl
-        # (With a DS set the TTL of CDS counts too, which is no kind of the notes.)
+        # (With a DS set the TTL of CDS counts too. CDS is no kind of the notes.)
         speaks_of_ds = "ds" in SPEAKS_OF[roll][call == "report2"].split()
         due = max(0, last.due - self.less)
         return last.moment, max(due, ttl) if speaks_of_ds else due

@@ -26,13 +26,13 @@ class Pair:
         return [self.first, *([self.second] if self.second else [])]
 
     def meet(self, is_asked):
-        """There is a second signer from now on."""
+        """From now on there is a second signer."""
         self.second = Follower(self.world, self.book, self.leaves, is_asked)
         self.first.other, self.second.other = self.second, self.first
 
     def course(self):
-        """First keys of both, or of one whom the other joins; rolls of each, a change of the
-        algorithm, rolls again; then one leaves, or both go unsigned and come again."""
+        """First keys of both, or of one that the other then joins; rolls of each, a change of the
+        algorithm, more rolls; then one leaves, or both go unsigned and come back."""
         together = self.dice.random() < 0.5
         if not together:
             yield from self.first.first_keys()
@@ -64,7 +64,7 @@ class Pair:
             yield
 
     def in_step(self, *courses):
-        """Both make the same calls, each when both have made the one before."""
+        """Both make the same calls. Each call waits until both have made the one before."""
         for signer in self.signers():
             signer.in_step, signer.met = DS_ALONE not in self.leaves, 0
         yield from self.at_once(*courses)
@@ -99,7 +99,7 @@ class Pair:
         yield from self.first_keys()
 
     def joins(self):
-        """The second signer comes to a zone that the first signs."""
+        """The second signer joins a zone that the first signs."""
         one = self.second
         one.keys = {each: one.whole(each) for each in self.first.keys}
         course = one.roll(ALGORITHM, [], sum(one.keys.values(), []), FIRST_KEYS)
@@ -133,7 +133,7 @@ class Pair:
         other.done[LEFT] += 1
 
     def drops_ds(self, one, other):
-        """The DS of who leaves goes: the parent has the keys of the other only."""
+        """The DS of the signer that leaves goes: the parent has only the keys of the other."""
         yield from other.comes_to(other.book["ksk-roll"][1])
         other.other = None
         since = yield from other.publish({"cds"})

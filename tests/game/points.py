@@ -1,5 +1,5 @@
-"""The points in which an operator may leave the guides, by the words that say them there, what some
-of them need to break a zone soon, and how they break it."""
+"""The points in which an operator may not follow the guides, each with the guides' words for it;
+what some points need to break a zone soon; and how they break it."""
 
 from typing import NamedTuple
 
@@ -7,7 +7,7 @@ DOUBLE_DS, CSK, ALGORITHM = "ksk-double-ds-roll", "csk-roll", "algorithm-roll"
 
 
 class Point(NamedTuple):
-    """What an operator does that leaves these words of the guides out."""
+    """What an operator does who leaves these words of the guides out."""
 
     name: str
     words: str
@@ -196,13 +196,13 @@ PAIRS = (
     ),
 )
 
-# How a zone breaks: some caches hold no chain of trust, or one and not a signature by every
-# algorithm, or no signature of CDS that they can check, or more than two signatures of which they
-# don't know two, or one that is no longer valid, or a step never comes to its end.
+# How a zone breaks. Some caches hold no chain of trust; or a chain, but not a signature by every
+# algorithm; or no signature of CDS that they can check; or more than two signatures, of which two
+# are by keys that they don't know; or a signature that is no longer valid. Or a step never ends.
 NO_CHAIN, NOT_EVERY, NO_CDS = "no chain", "not every algorithm", "no chain to CDS"
 TOO_MANY, EXPIRED, NO_END = "too many signatures", "a signature expired", "no end of a step"
 
-# How it breaks by a point, where that isn't NO_CHAIN.
+# How a zone breaks by a point, if that isn't NO_CHAIN.
 BREAKS = {
     CDS_BY_ZONE: NO_END,
     CDS_BY_SIGNERS: NO_CDS,
@@ -221,7 +221,7 @@ BREAKS = {
     CDS_ON_ONE: NO_END,
 }
 
-# What some of them need to break soon: which rolls, and which world.
+# What some points need to break a zone soon: which rolls, and which world.
 ORDERS = {
     SAME_KEY: [DOUBLE_DS] * 8,
     CDS_LEFT: [DOUBLE_DS] * 8,

@@ -13,19 +13,19 @@ from game.points import (
 )
 from game.zone import SECOND, SLOWEST
 
-# So many seconds after its last step a roll that doesn't go on is stuck.
+# A roll is stuck if it doesn't go on for this many seconds after its last step.
 STUCK = 200
 GONE = "unsigned"
 
 
 class Stuck(Exception):
-    """A step never comes to its end."""
+    """A step never ends."""
 
     how = NO_END
 
 
 class Operator:
-    """Follows the guides, but for the points that it leaves out. With another signer it has an
+    """Follows the guides, except for the points that it leaves out. With another signer it has an
     `other`. Its methods that take time yield at each instant."""
 
     def __init__(self, world, book, leaves=frozenset(), is_asked=True):
@@ -33,19 +33,19 @@ class Operator:
         self.keyset, self.zone, self.other = KeySet(), world.another_zone(is_asked), None
         self.script = []  # the accepted lines
         self.done = Counter()
-        # How far the clocks of its machines are ahead, and their greatest difference.
+        # How far the clocks of its machines are ahead, and how far they differ at most.
         self.ahead = [self.dice.randint(-SECOND, SECOND) for _ in range(3)]
         if ROUNDED in leaves:
             self.ahead = [0]
         self.margin = 0 if NO_MARGIN in leaves else max(self.ahead) - min(self.ahead)
-        # Of each set the moment at which no server gave it any more, and how far that was noted;
-        # the sets of rolls that were ended early.
+        # The moment from which no server gave a set, how far such moments were noted, and the sets
+        # of rolls that were ended early.
         self.gone, self.noted, self.early = {}, Counter(), set()
         self.keys = {}  # by algorithm: a KSK and a ZSK, or a CSK
         self.leaving = set()  # old keys of rolls up to their second wait
         self.idle, self.is_steady = 0, False
-        self.notes = None  # where it notes what was published and seen, if anywhere
-        # In a roll that goes in step: how often this one has waited for the other.
+        self.notes = None  # its notes of what was published and seen, if it keeps any
+        # In a roll that both make in step: how often this one has waited for the other.
         self.in_step, self.met = False, 0
 
     # Clocks and notes
@@ -59,8 +59,8 @@ class Operator:
         return -(-moment // SECOND) if ROUNDED in self.leaves else moment // SECOND
 
     def lives(self):
-        """At each instant: notes which sets are gone, renews signatures, and now and then changes a
-        TTL."""
+        """At each instant it notes which sets are gone, renews signatures, and now and then changes
+        a TTL."""
         for servers in [self.zone, self.world.parent, *([self.other.zone] if self.other else [])]:
             slowest = min(servers.at)
             for past in range(self.noted[servers], slowest):
@@ -107,14 +107,14 @@ class Operator:
         return kept
 
     def kept(self, kind, value):
-        """A set with some TTL; that of a DNSKEY set doesn't rise where it must not."""
+        """A set with some TTL. That of a DNSKEY set doesn't rise when it must not."""
         steady = self.is_steady or (self.other and self.other.is_steady)
         now = self.zone.versions[-1]["dnskey"].ttl if kind == "dnskey" and steady else None
         return self.world.kept(value, now, kind)
 
     def before(self, kind, since):
-        """The sets of this kind from before the version `since`, or all of them, that were given to
-        caches: for the zone those of CDS too, for DNSKEY sets the other signer's too."""
+        """The sets of this kind that caches got before the version `since`, or all of them. CDS
+        counts as a set of the zone. The other signer's DNSKEY sets count too."""
         if kind == "ds":
             return [version["ds"] for version in self.world.parent.versions[:since]]
         versions = self.zone.versions[:since] if self.zone.was_asked else []
@@ -126,7 +126,7 @@ class Operator:
         return [kept for kept in sets if EARLY_ENDS not in self.leaves or kept not in self.early]
 
     def seen_from(self):
-        """From which version on the other's DNSKEY set has the keys that sign the zone here."""
+        """The first version of the other since which its DNSKEY set has the keys that sign here."""
         versions, keys = self.other.zone.versions, self.zone_keys()
         first = len(versions)
         while first and keys <= versions[first - 1]["dnskey"].value[0]:
@@ -181,7 +181,7 @@ class Operator:
         return {label: frozenset(self.keyset.picked_names(*SETS[label])) for label in SETS}
 
     def ds(self):
-        """The DS set of the parent: with another signer also its keys."""
+        """The DS set of the parent. If there is another signer, it has that signer's keys too."""
         mine = self.due()["ds"]
         if not self.other or DS_OWN in self.leaves:
             return mine
@@ -190,7 +190,7 @@ class Operator:
         return mine | self.other.due()["ds"]
 
     def has_ds(self, version):
-        """Whether a version of the parent has the DS that is due, and no other of own keys."""
+        """Whether a version of the parent has the DS that is due, and no other DS of own keys."""
         return version["ds"].value & self.own() == self.due()["ds"]
 
     def own(self):
@@ -208,7 +208,7 @@ class Operator:
         return keys - (self.leaving - self.due()["zone"] if TAKEN_OUT in self.leaves else set())
 
     def follow(self):
-        """Has the other's keys that sign the zone in the DNSKEY set, as public keys."""
+        """Brings the other's keys that sign the zone into the DNSKEY set, as public keys."""
         while True:
             wanted = self.other.shown() if self.other else set()
             here = {name for name, key in self.keyset.keys.items() if key.kind == "include"}
@@ -226,7 +226,7 @@ class Operator:
                 yield
 
     def meets(self):
-        """In a roll that goes in step: waits until the other has come as far."""
+        """In a roll that both make in step, waits until the other has come as far."""
         if self.in_step:
             self.met += 1
             while self.other.met < self.met:
@@ -234,7 +234,7 @@ class Operator:
                 yield
 
     def comes_to(self, step):
-        """Waits until the step may begin: one change of the DS set at a time."""
+        """Waits until the step may begin, as there is only one change of the DS set at a time."""
         yield from self.meets()
         if self.other and "ds" in step.does and not self.in_step and AT_ONCE not in self.leaves:
             while self.world.changes_ds not in (None, self):
@@ -245,8 +245,8 @@ class Operator:
     # Steps
 
     def publish(self, parts):
-        """Publishes parts of the zone, at once or one after another, and now and then other TTLs.
-        Gives the version in which each part came, and the last one."""
+        """Publishes parts of the zone, at once or one after another, at times with other TTLs.
+        Gives the number of the version that brought each kind of sets."""
         since, changed, parts = {}, {}, self.dice.sample(sorted(parts), len(parts))
         at_once = self.dice.random() < 0.5
         for part in parts:
@@ -265,7 +265,7 @@ class Operator:
         return since
 
     def changed(self, part, beside):
-        """The sets of a part of the zone, by their kinds, beside those that change with it."""
+        """The sets of a part of the zone, and those that change with it, by their kinds."""
         due = self.due()
         if part != "cds":
             cds = {**self.zone.versions[-1], **beside}["cds"]
@@ -290,7 +290,7 @@ class Operator:
         return self.kept("cds", (keys, zone.union(signers)))
 
     def takes_cds_out(self):
-        """Takes CDS out, and watches until no server gives it: then the other may change the DS
+        """Takes CDS out, and watches until no server gives it. Then the other may change the DS
         set."""
         zones = [self.zone]
         if self.other and CDS_ON_ONE not in self.leaves:
@@ -311,14 +311,14 @@ class Operator:
         if "ds" in step.does:
             yield from self.meets()
         since, world = (yield from self.publish(step.does - {"ds"})), self.world
-        # (The first DS set comes by another way than CDS.)
+        # (The first DS set doesn't come by CDS.)
         if "ds" in step.does and not (world.takes_cds and world.parent.versions[-1]["ds"].value):
             world.tell(self.ds())
         return since
 
     def compare(self, step, actions):
-        """What the runbook says has to be what the key set asks for; a set that is asked for and
-        left out has to be as it is."""
+        """What the runbook says has to be what the key set asks for. A set that it leaves out has
+        to be as it is already."""
         due, now = self.due(), self.zone.versions[-1]
         as_is = {"dnskey"} if now["dnskey"].value == (due["dnskey"], due["signers"]) else set()
         as_is |= {"zone"} if now["zone"].value == due["zone"] else set()
@@ -352,13 +352,13 @@ class Operator:
         while self.rounded_down() < moment and ROUNDED not in self.leaves:
             self.passes()
             yield
-        # (The parent may have given its old set another TTL meanwhile.)
+        # (The parent may meanwhile have given its old set another TTL.)
         versions = self.world.parent.versions
         since["ds"] = len(versions)
         while since["ds"] and self.has_ds(versions[since["ds"] - 1]):
             since["ds"] -= 1
         join, kinds = step.report
-        # (A sum counts the DNSKEY set of now too.)
+        # (A sum counts the present DNSKEY set too.)
         firsts = [since[kind] if kind in step.watches else None for kind in kinds]
         ttls = [self.highest(*pair, unsigned_only) for pair in zip(kinds, firsts)]
         ttl = ttls[0] if NO_SUM in self.leaves else join(ttls)

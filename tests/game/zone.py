@@ -9,17 +9,17 @@ from tables import SETS
 
 from game.points import EXPIRED, NO_CDS, NO_CHAIN, NOT_EVERY, TOO_MANY, WORLDS
 
-# So many instants are in a second.
+# The instants in a second.
 SECOND = 8
 BEGIN = 1000 * SECOND
 
-# The TTLs of sets; for so many seconds signatures are valid; so long a server takes at most.
+# The TTLs of sets; the times for which signatures are valid; the longest that a server takes.
 TTLS = (1, 2, 2, 3, 5, 8)
 VALID, SLOWEST = (60, 120), 16
 
 
 class Broken(Exception):
-    """Some caches hold sets that a validator refuses: how, and which."""
+    """Some caches hold sets that a validator refuses: in which way, and which sets."""
 
     def __init__(self, how, sets):
         super().__init__(f"{how}: {sets}")
@@ -28,14 +28,14 @@ class Broken(Exception):
 
 class Kept:
     """A set of one kind as servers give it, with the time for which caches keep it, and the moment
-    at which its signatures expire."""
+    when its signatures expire."""
 
     def __init__(self, value, ttl, time, expires):
         self.value, self.ttl, self.time, self.expires = value, ttl, time, expires
         self.givers, self.left, self.last = 0, None, 0
 
     def end(self):
-        """When it has left all caches, as far as is known."""
+        """When it will have left all caches, as far as is known."""
         return inf if self.givers else self.left + self.time
 
 
@@ -102,7 +102,7 @@ class World:
         self.now, self.queue, self.order = BEGIN, [], count()
         self.held, self.pairs = {"ds": [], "dnskey": [], "zone": [], "cds": []}, []
         self.is_new, self.judged, self.told_at = True, {}, BEGIN
-        # Some caches keep all for a least time, or for a time of their own behind the TTL.
+        # Some caches keep all sets for a least time, or for some time longer than the TTL.
         self.least, self.more = dice.choice(((0, 0), (0, 0), (4, 0), (0, 3)))
         # How often a server takes long; whether the parent reads CDS.
         self.slow, self.takes_cds = dice.choice((0, 0.1, 0.4)), dice.random() < 0.6
@@ -116,11 +116,11 @@ class World:
         self.later(0, self.scan)
         self.later(0, self.another_ttl)
         self.instants = self.choices = 0
-        # How many false lines were acted upon: until they are mended the zone may be broken.
+        # How many false lines were acted upon. Until they are mended, the zone may be broken.
         self.forgiven = 0
 
     def another_zone(self, is_asked=True):
-        """The servers of one more signer, which give the zone unsigned."""
+        """The servers of one more signer. They give the zone unsigned."""
         nothing = frozenset()
         unsigned = {"dnskey": self.kept((nothing, nothing)), "zone": self.kept(nothing)}
         servers = Servers(self, self.dice.randint(2, 4), {**unsigned, "cds": None}, is_asked)
@@ -135,11 +135,11 @@ class World:
         return Kept(value, ttl, self.keeps(ttl) * SECOND, expires)
 
     def keeps(self, ttl):
-        """For how long some cache keeps what has this TTL."""
+        """How long some cache keeps a set with this TTL."""
         return max(ttl, self.least) + self.more
 
     def delay(self):
-        """How long a server takes to get a version: now and then, long."""
+        """How long a server takes to get a version. Now and then it takes long."""
         most = 2 if self.dice.random() > self.slow else SLOWEST
         return self.dice.randint(0, most * SECOND)
 
@@ -147,8 +147,8 @@ class World:
         heapq.heappush(self.queue, (self.now + delay, next(self.order), call, arguments))
 
     def scan(self):
-        """The parent reads the CDS of one server. It takes it where a key signs it that is in the
-        DS set and in the DNSKEY set, and where the zone doesn't break by it."""
+        """The parent reads the CDS of one server. It takes it if a key that is in the DS set and in
+        the DNSKEY set signs it, and if the zone doesn't break by it."""
         asked = [(zone, at) for zone in self.zones if zone.is_asked for at in zone.at]
         if self.takes_cds and asked:
             zone, at = self.dice.choice(asked)
@@ -165,7 +165,7 @@ class World:
             self.parent.publish(ds=self.kept(keys))
 
     def tell(self, keys):
-        """Tells the parent its DS set by another way than CDS."""
+        """Gives the parent its DS set by another way than CDS."""
         self.told_at = max(self.told_at, self.now + self.dice.randint(0, 12 * SECOND))
         self.later(self.told_at - self.now, lambda: self.parent.publish(ds=self.kept(keys)))
 
@@ -223,7 +223,7 @@ class World:
             raise Broken(how, self.told(*sets))
 
     def forgives(self, lines):
-        """So many false lines more are acted upon, or fewer."""
+        """This many more false lines are acted upon, or fewer."""
         self.forgiven += lines
         self.is_new = True
 
@@ -237,7 +237,7 @@ class World:
         return TOO_MANY if ds and (hides(signers, ds) or hides(zone, keys)) else None
 
     def lacks_cds(self, ds, keys, _, signers):
-        """The same for CDS, if such sets have a chain."""
+        """The same for CDS, if the sets have a chain."""
         if self.each_of(ds) - self.each_of(keys & signers):
             return NO_CDS
         return TOO_MANY if ds and hides(signers, keys) else None
@@ -252,5 +252,5 @@ class World:
 
 
 def hides(signers, known):
-    """Whether a resolver that looks at two signatures only may see none of a known key."""
+    """Whether a resolver that looks at only two signatures may see none by a known key."""
     return len(signers) > 2 and len(signers - known) > 1

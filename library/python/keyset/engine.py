@@ -1,9 +1,9 @@
-"""Sessions of the proved key set: over the shared library, or over the programs where that isn't
-there. Both take a script line by line and tell the same.
+"""Sessions of the proved key set: over the shared library, or over the programs if that isn't
+there. Both take a script line by line and answer the same.
 
-The library is that of the variable KEYSET_LIBRARY, or what `make lib` has made, or the one that is
-installed with this package; the programs are those of the folder KEYSET_PROGRAMS, or what `make
-build` has made, or those that are installed, or those on the path."""
+The library is the one that KEYSET_LIBRARY names, or that `make lib` has made, or that is installed
+with this package. The programs are those in the folder KEYSET_PROGRAMS, or those that `make build`
+has made, or those that are installed, or those on the path."""
 
 import ctypes
 import functools
@@ -83,8 +83,8 @@ class Session:
             raise _fault(status)
 
     def _begin(self, number):
-        """Begins with a closed handle, which is closed again at the latest when nobody has the
-        session any more, and with the number of the last line."""
+        """Begins with a closed handle and the number of the last line. If nobody closes the
+        session, it is closed when it is no longer in use."""
         self._handle, self._number = _Handle(), number
         close = _library().keyset_close
         self._close = weakref.finalize(self, close, ctypes.byref(self._handle))
@@ -105,13 +105,13 @@ class Session:
         return self._answer(ask, library.keyset_closing).splitlines()
 
     def status(self):
-        """The status of the zone, as JSON tells it."""
+        """The status of the zone, read from its JSON."""
         library, handle = _library(), ctypes.byref(self._handle)
         ask = functools.partial(library.keyset_status, handle)
         return json.loads(self._answer(ask, library.keyset_status))
 
     def copy(self):
-        """Another session, as this one is."""
+        """Another session in the same state."""
         made = Session.__new__(Session)
         made._begin(self._number)
         status = _library().keyset_copy(ctypes.byref(self._handle), ctypes.byref(made._handle))
@@ -123,7 +123,7 @@ class Session:
         self._close()
 
     def _answer(self, ask, again, line=""):
-        """What is answered; where the buffer was too short, it is told again."""
+        """The answer. If the buffer is too short for it, asks again with one that isn't."""
         room = 4096
         while True:
             out = ctypes.create_string_buffer(room)
@@ -138,12 +138,12 @@ class Session:
 
 
 def _fault(status):
-    """The error of a status that has no answer."""
+    """The error for a status without an answer."""
     return ValueError("the key set is closed") if status == CLOSED else MemoryError()
 
 
 class Replay:
-    """A key set of the programs: each call runs the lines so far anew."""
+    """A key set of the programs: each call runs all lines so far again."""
 
     def __init__(self, line, *more):
         self._lines = [line, *more]
@@ -178,8 +178,8 @@ class Replay:
 
 
 def answer(script):
-    """What a whole script, in bytes, is answered by the library, as the program `keyset` writes
-    it."""
+    """The library's answers to a whole script, in bytes, in the form in which the program `keyset`
+    writes them."""
     room = 4096
     while True:
         out = ctypes.create_string_buffer(room)
@@ -222,7 +222,7 @@ def status(lines):
 
 
 def due(lines, notes, moment):
-    """The reports that are due at a moment, by the notes: the TTL by the roll that waits for one,
+    """The reports that are due at a moment, by the notes: for each roll that waits for one its TTL,
     or None if a set isn't everywhere yet."""
     told = _program("keyset_notes", [*lines, "", *notes, f"due {moment}"])
     found = {}

@@ -1,6 +1,6 @@
 """A file of accepted lines. A line is appended under a lock and synced before anybody acts on it.
-What stands after the last line feed was not written to its end, and nobody acted on it: the next
-writer cuts it off."""
+Text after the last line feed was not written to its end, and nobody acted on it: the next writer
+cuts it off."""
 
 import contextlib
 import fcntl
@@ -60,7 +60,7 @@ def locked(path):
 
 
 def create(path, lines):
-    """Makes the file with these lines. It must not be there yet: after a crash it is there whole,
+    """Makes the file with these lines. It must not be there yet. After a crash it is there whole,
     or not at all."""
     path = Path(path)
     draft = path.with_name(f"{path.name}.{os.getpid()}.new")
@@ -78,7 +78,7 @@ def create(path, lines):
 
 
 def _sync_folder(path):
-    """A new file is safe once its folder is synced too."""
+    """Syncs the folder: before that a new file isn't safe."""
     folder = os.open(path.resolve().parent, os.O_RDONLY)
     try:
         os.fsync(folder)

@@ -25,7 +25,7 @@ STAMPS = ("creation", "published", "visible", "ds_visible", "rrsig_visible", "wi
 
 class KeySet:
     """The keys of one zone. Each accepted call is a line of its file, on disk before the call
-    returns; without a file the key set is kept in memory alone.
+    returns; without a file the key set is kept only in memory.
 
         with KeySet.create("example.com.script", "example.com") as keys:
             keys.add_key_ksk("K1", algorithm=13, key_tag=1, creation=0)
@@ -33,10 +33,10 @@ class KeySet:
             for action in keys.start_roll(RollType.ALGORITHM_ROLL, new=["K1", "Z1"]):
                 print(action.value)
 
-    A refused call raises `Refused`, and changes nothing. Where memory runs out, `MemoryError` is
+    A refused call raises `Refused`, and changes nothing. If memory runs out, `MemoryError` is
     raised, nothing has changed, and the call may be made again. Moments are whole seconds since
-    1970, and now if none is given: a report's is rounded up, and the call made once the clock has
-    reached it; any other is rounded down.
+    1970. Without a moment a call takes that of the clock. A report rounds it up, and is made once
+    the clock has reached it; any other call rounds it down.
     """
 
     refused: list[tuple[int, str]]
@@ -72,8 +72,8 @@ class KeySet:
 
     @classmethod
     def resume(cls, script: str) -> KeySet:
-        """Goes on in memory with the lines of a script. What stands after its last line feed was
-        not written to its end, and is left out."""
+        """Goes on in memory with the lines of a script. Text after its last line feed was not
+        written to its end, and is left out."""
         made = cls.__new__(cls)
         made._begin(script.split("\n")[:-1])
         return made
@@ -86,7 +86,7 @@ class KeySet:
             self._session, self.lines, _ = _replayed(self.lines)
 
     def close(self) -> None:
-        """Lets go of the session and of the file."""
+        """Closes the session, and unlocks the file."""
         self._session.close()
         if self._lock:
             self._lock.__exit__(None, None, None)
@@ -215,7 +215,7 @@ class KeySet:
         return self._make("wait2", roll.value, _down(now))
 
     def roll_done(self, roll: RollType) -> list[Action]:
-        """Ends the roll, once its last actions are performed."""
+        """Ends the roll, once its last actions are done."""
         return self._make("done", roll.value)
 
     def abort_roll(self, roll: RollType) -> list[Action]:
@@ -226,7 +226,7 @@ class KeySet:
         return self.call(" ".join(map(str, words)))
 
     def status(self) -> dict:
-        """The status of the zone, as JSON tells it: what `keys` and `rolls` are read from."""
+        """The status of the zone, read from its JSON: `keys` and `rolls` are taken from it."""
         return self._session.status()
 
     def keys(self) -> dict[str, Key]:
@@ -273,7 +273,7 @@ def _first(zone):
 
 
 def _replayed(lines):
-    """A session that has made the calls of these lines; the accepted ones; and the refused ones."""
+    """A session that has made the calls of these lines, the accepted lines, the refused ones."""
     if not lines:
         raise Malformed(1, "the file is empty")
     session, kept, refused = engine.open_session(lines[0]), lines[:1], []
@@ -321,7 +321,7 @@ def _down(now):
 
 
 def _up(now):
-    """A report's moment. Without one given, the clock has reached it when this returns."""
+    """A report's moment. If none is given, this returns once the clock has reached it."""
     moment = math.ceil(time.time() if now is None else now)
     if now is None:
         time.sleep(max(0, moment - time.time()))

@@ -1,7 +1,7 @@
 """The form of a script's lines: how a line is completed with the clock, and why one is malformed.
 
-The key set reads lines by itself, and more strictly. What stands here finds the words for people,
-and the fields of a line that the key set has read."""
+The key set reads lines by itself, and more strictly. This module has the words for people, and
+finds the fields of a line that the key set has read."""
 
 import re
 
@@ -46,7 +46,7 @@ ALGORITHMS = {
 NAMES = {number: name for name, number in ALGORITHMS.items()}
 REFERENCE = re.compile(r"(?!-\Z)[!-+\--~]+")
 
-# What a field has to be, with the words that say so.
+# What a field has to be: a test, and the words for people.
 FIELDS = {
     "REF": (REFERENCE.fullmatch, "a reference: visible ASCII without a comma"),
     "PRIV": (re.compile(r"[!-+\--~]+").fullmatch, "a reference of the private key, or - for none"),
@@ -96,13 +96,13 @@ class Line:
 
     @property
     def is_step(self):
-        """Whether a report counts from it: a start, or a wait."""
+        """Whether a report may count from it: a start, or a wait."""
         return self.word == "start" or self.word.startswith("wait")
 
 
 def at(text, clock):
-    """The line with the moment of the clock in the place of `now`: a report's is rounded up, any
-    other down."""
+    """The line with the clock's moment instead of `now`. That of a report is rounded up, any other
+    down."""
     line = Line(text)
     if line["TIME"] != "now":
         return text

@@ -1,5 +1,5 @@
-"""The notes of a zone, a file beside its script: which version had which TTL, since when servers
-gave it, and when all did. By them a report is true."""
+"""The notes of a zone, a file beside its script: the TTL of each version, since when servers gave
+it, and when all did. By them a report is true."""
 
 from __future__ import annotations
 
@@ -26,7 +26,7 @@ class Notes:
     @classmethod
     def create(cls, script: str | Path, before: list[int]) -> Notes:
         """Begins the notes of a new script with the highest TTLs before the first call: of DS sets,
-        DNSKEY sets and the rest of the zone, also with the answer that there is none."""
+        of DNSKEY sets and of the rest of the zone. An answer that there is none counts too."""
         notes = cls(script)
         file.create(notes.path, [f"before {' '.join(map(str, before))}"])
         return cls(script)
@@ -42,7 +42,7 @@ class Notes:
 
     def publish(self, call: int, ttls: dict[str, int | None], now: float) -> None:
         """Notes versions of these kinds, with the sets after this call, before servers give them.
-        Without a TTL it is the present one. What is signed anew needs no line."""
+        Without a TTL they have the present one. New signatures need no line."""
 
         def lines(seen):
             for kind, ttl in ttls.items():
@@ -53,9 +53,9 @@ class Notes:
         self._append(lines, now)
 
     def everywhere(self, ttls: dict[str, int], now: float) -> None:
-        """Notes that all servers gave the newest versions of these kinds, once for each; nothing if
-        something was noted since these notes were read. A TTL above the noted one, as of another's
-        DS set, is noted before."""
+        """Notes, once for each kind, that all servers gave its newest version. Notes nothing if
+        something was noted since these notes were read. If a TTL is above the noted one, as of
+        another signer's DS set, that TTL is noted first."""
 
         def lines(seen):
             for kind, ttl in ttls.items() if seen.lines == self.lines else ():
@@ -75,9 +75,9 @@ class Notes:
 
 
 class Seen:
-    """What notes say of each kind of sets: the TTLs that caches may hold at a moment or get, the
-    present one at the end; the call whose sets are published; whether they are everywhere; and how
-    long that took the last time."""
+    """What notes say of each kind of sets: the TTLs that caches may hold or get at a moment, the
+    present one last; the call whose sets are published; whether they are everywhere; and how long
+    that took the last time."""
 
     def __init__(self, lines: list[str], moment: float) -> None:
         self.lines, self.ttls, since = list(lines), {}, {}
@@ -97,9 +97,9 @@ class Seen:
 
 
 def to_report(due: int, kinds: list[str], roll: str, ttls: dict[str, int]) -> int:
-    """The TTL to report, of that which is due for sets of these kinds. CDS and CDNSKEY are no kind
-    of the notes: they have the zone's TTL. If an old algorithm may leave, a validator can check a
-    DNSKEY set by the old DS set once more."""
+    """The TTL to report for sets of these kinds, for which notes give `due`. CDS and CDNSKEY are no
+    kind of the notes: they have the zone's TTL. If an old algorithm may leave, a validator can
+    check a DNSKEY set by the old DS set once more, so both TTLs are added."""
     if "ds" not in kinds:
         return due
     return max(due + (ttls["dnskey"] if roll == "algorithm-roll" else 0), ttls["zone"])

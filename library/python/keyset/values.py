@@ -93,7 +93,7 @@ def refusal_of(reply: str) -> Refused | MemoryError | None:
 
 
 def actions_of(reply: str) -> list[Action]:
-    """The actions behind an `ok`."""
+    """The actions after an `ok`."""
     return [Action(name) for name in reply.split(" ")[1:]]
 
 
@@ -108,7 +108,7 @@ class Published:
 
     @classmethod
     def of(cls, line: str) -> Published:
-        """Of the line that a script's answers end with."""
+        """Reads the line of the published sets, near the end of a script's answers."""
         parts = (part.partition("=") for part in line.split(" "))
         return cls(**{name: [] if keys == "-" else keys.split(",") for name, _, keys in parts})
 
@@ -119,8 +119,8 @@ class Published:
 
 @dataclass(frozen=True)
 class Broken:
-    """The first sets without a chain of trust: after call `at`, the DS set, the DNSKEY set and the
-    zone signers of these calls."""
+    """The first sets without a chain of trust. They met after call `at`; the other numbers are the
+    calls that the DS set, the DNSKEY set and the zone signers are of."""
 
     at: int
     ds: int
@@ -164,8 +164,8 @@ class Key:
 
 @dataclass(frozen=True)
 class Roll:
-    """A roll in progress: its phase, what is due, the call that comes next, and the first second
-    from which a wait is accepted, and for whom it waits: `you`, `parent` or `caches`."""
+    """A roll in progress: its phase, what is due, the call that comes next, the first second in
+    which a wait is accepted, and for whom it waits: `you`, `parent` or `caches`."""
 
     roll: RollType
     phase: str

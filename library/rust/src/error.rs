@@ -56,7 +56,7 @@ impl fmt::Display for Refusal {
     }
 }
 
-/// Why a call or a question has no answer. Nothing has changed then.
+/// Why a call or a question has no answer. Nothing has changed.
 #[derive(Debug)]
 pub enum Error {
     /// The call was refused.
@@ -72,7 +72,7 @@ pub enum Error {
 }
 
 impl Error {
-    /// The error that a refused reply is.
+    /// The error for a refused reply.
     pub(crate) fn of_reason(reason: &str) -> Error {
         let left = reason
             .strip_prefix(EARLY)

@@ -21,7 +21,7 @@ pub struct Lines {
 }
 
 impl Lines {
-    /// Makes the file with a first line. It must not be there yet: after a crash it is there whole,
+    /// Makes the file with a first line. It must not be there yet. After a crash it is there whole,
     /// or not at all.
     pub fn create(path: &Path, line: &str) -> io::Result<()> {
         let draft = path.with_extension(format!("{}.new", std::process::id()));
@@ -32,8 +32,8 @@ impl Lines {
         File::open(folder.unwrap_or(Path::new(".")))?.sync_all()
     }
 
-    /// Opens and locks the file, and gives its text up to the last line feed. What stands after that
-    /// was not written to its end, and is cut off.
+    /// Opens and locks the file, and gives its text up to the last line feed. Text after that was
+    /// not written to its end, and is cut off.
     ///
     /// The error is `Malformed` with the line of the first byte that isn't UTF-8.
     pub fn open(path: &Path) -> Result<(Self, String), Error> {

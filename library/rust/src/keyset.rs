@@ -65,8 +65,8 @@ impl KeySet {
         KeySet::replayed(&text, Some(file))
     }
 
-    /// Goes on in memory with the lines of a script. What stands after its last line feed was not
-    /// written to its end, and is left out.
+    /// Goes on in memory with the lines of a script. Text after its last line feed was not written
+    /// to its end, and is left out.
     pub fn resume(script: &str) -> Result<Self, Error> {
         let end = script.rfind('\n').map_or(0, |at| at + 1);
         KeySet::replayed(&script[..end], None)
@@ -262,7 +262,7 @@ impl KeySet {
         self.call(&format!("wait2 {roll} {now}"))
     }
 
-    /// Ends the roll, once its last actions are performed.
+    /// Ends the roll, once its last actions are done.
     pub fn roll_done(&mut self, roll: RollType) -> Result<(), Error> {
         self.done(&format!("done {roll}"))
     }
@@ -272,7 +272,7 @@ impl KeySet {
         self.call(&format!("abort {roll}"))
     }
 
-    /// The status of the zone: what the questions below are read from.
+    /// The status of the zone, which the questions below read.
     pub fn status(&mut self) -> Result<Status, Error> {
         Status::read(&self.session.status()?).ok_or_else(|| {
             let text = "the library gives a status of another version";
@@ -325,7 +325,7 @@ fn first_line(zone: &str) -> Result<String, Error> {
 type Replayed = (Session, String, Vec<(usize, String)>);
 
 fn replay(text: &str) -> Result<Replayed, Error> {
-    // (`lines` would take a carriage return off, which makes a line malformed.)
+    // (`lines` would drop a carriage return, which makes a line malformed.)
     let mut lines = text.split_terminator('\n');
     let first = lines.next().ok_or(Error::Malformed { line: 1 })?;
     let mut session = Session::open(first)?;

@@ -1,4 +1,4 @@
-//! The library's functions, behind a value that closes its session.
+//! The library's functions, in a value that closes its session.
 
 use crate::error::Error;
 use std::ffi::c_void;
@@ -58,8 +58,8 @@ pub struct Session {
     lines: usize,
 }
 
-// SAFETY: what a session shares with its copies is read alone, and its owners are counted atomically,
-// so a thread may take it over. It isn't Sync.
+// SAFETY: what a session shares with its copies is only read, and its owners are counted
+// atomically, so a thread may take it over. It isn't Sync.
 unsafe impl Send for Session {}
 
 impl Session {
@@ -79,7 +79,7 @@ impl Session {
     /// If there is no memory, the session is of no more use: open one anew with its lines.
     pub fn call(&mut self, line: &str) -> Result<String, Error> {
         let mut out = vec![0; ROOM];
-        // SAFETY: each pointer is that of a slice with its length; the handle is ours alone.
+        // SAFETY: each pointer is that of a slice with its length; only we use the handle.
         let told = unsafe {
             let (text, room) = (out.as_mut_ptr(), out.len());
             c::keyset_call(&mut self.handle, line.as_ptr(), line.len(), text, room)
@@ -99,10 +99,10 @@ impl Session {
         self.ask(c::keyset_status)
     }
 
-    /// Another session, as this one is.
+    /// Another session in the same state.
     pub fn try_clone(&mut self) -> Result<Self, Error> {
         let mut handle = CLOSED;
-        // SAFETY: both handles are ours alone, and the second is a closed one.
+        // SAFETY: only we use the two handles, and the second is a closed one.
         match unsafe { c::keyset_copy(&mut self.handle, &mut handle) } {
             c::ANSWERED => Ok(Session {
                 handle,
@@ -114,12 +114,12 @@ impl Session {
 
     fn ask(&mut self, question: Question) -> Result<String, Error> {
         let mut out = vec![0; ROOM];
-        // SAFETY: the pointer is that of the slice with its length; the handle is ours alone.
+        // SAFETY: the pointer is that of the slice with its length; only we use the handle.
         let told = unsafe { question(&mut self.handle, out.as_mut_ptr(), out.len()) };
         self.told(told, out, question)
     }
 
-    /// What was answered; if `out` was too short, it is told again.
+    /// What was answered. If `out` was too short, asks again with room enough.
     fn told(
         &mut self,
         told: c::Answered,
@@ -149,16 +149,16 @@ type Question = unsafe extern "C" fn(*mut c::Handle, *mut u8, usize) -> c::Answe
 
 impl Drop for Session {
     fn drop(&mut self) {
-        // SAFETY: the handle is ours alone, and nobody uses it again.
+        // SAFETY: only we use the handle, and nobody uses it again.
         unsafe { c::keyset_close(&mut self.handle) }
     }
 }
 
-/// What a whole script is answered, as the program `keyset` writes it.
+/// The answers to a whole script, in the form in which the program `keyset` writes them.
 pub fn answer(script: &str) -> Result<String, Error> {
     let mut out = vec![0; ROOM];
     loop {
-        // SAFETY: each pointer is that of a slice with its length, and `out` is ours alone.
+        // SAFETY: each pointer is that of a slice with its length, and only we use `out`.
         let told = unsafe {
             let (text, room) = (out.as_mut_ptr(), out.len());
             c::keyset_answer(script.as_ptr(), script.len(), text, room)

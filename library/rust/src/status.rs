@@ -104,8 +104,8 @@ impl fmt::Display for Published {
     }
 }
 
-/// The first sets without a chain of trust: after call `at`, the DS set, the DNSKEY set and the zone
-/// signers of these calls.
+/// The first sets without a chain of trust. They met after call `at`; the other numbers are the
+/// calls that the DS set, the DNSKEY set and the zone signers are of.
 #[derive(Clone, Copy, Debug, PartialEq, Eq)]
 pub struct Broken {
     pub at: u64,
@@ -173,7 +173,7 @@ pub struct Roll {
     pub ttl: Option<u32>,
     /// The word of the call that comes next.
     pub next: String,
-    /// The first second from which its wait is accepted.
+    /// The first second in which its wait is accepted.
     pub not_before: Option<u64>,
     /// For whom it waits: `you`, `parent` or `caches`.
     pub waits_for: String,
@@ -196,7 +196,7 @@ pub struct Status {
 }
 
 impl Status {
-    /// Reads what the library tells as JSON.
+    /// Reads the JSON that the library writes.
     pub(crate) fn read(text: &str) -> Option<Status> {
         let told = Json::read(text)?;
         let named = |it: &Json| Some((it.get("reference").text()?.to_owned(), key(it)?));
