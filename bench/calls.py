@@ -60,9 +60,9 @@ ROWS = [
     ("a wait on 500 keys, all early", "crowded-waits", 500),
     ("a wait on 500 keys, 4 early, the others unused", "crowded-waits", 4),
     ("a wait on 500 keys, 1 early, the others unused", "crowded-waits", 1),
-    ("a wait on 500 keys, all early, behind a setter", "waits-behind-setters", 500),
-    ("a wait on 500 keys, 4 early, behind a setter", "waits-behind-setters", 4),
-    ("a wait on 500 keys, 1 early, behind a setter", "waits-behind-setters", 1),
+    ("a wait on 500 keys, all early, after a setter", "waits-behind-setters", 500),
+    ("a wait on 500 keys, 4 early, after a setter", "waits-behind-setters", 4),
+    ("a wait on 500 keys, 1 early, after a setter", "waits-behind-setters", 1),
     ("the start of a ZSK roll from 2,000 to 2,000 keys", "start-of-zsks", 2000),
     ("the start of a CSK roll from 2,000 to 2,000 keys", "start-of-csks", 2000),
     ("that of ZSKs, two algorithms, each last in the other list", "start-of-two-algorithms", 2000),
@@ -214,7 +214,7 @@ def compare(programs):
         measured = [measure(program, course, keys) for program in programs]
         told = {one[0] for one in measured}
         if len(told) != 1:
-            sys.exit(f"{title}: answered otherwise by the original: {told}")
+            sys.exit(f"{title}: the original answers something else: {told}")
         row = [title, words_of(told.pop())]
         row += cells([one[1] for one in measured]) + cells([one[2] for one in measured])
         print(f"| {' | '.join(row)} |", flush=True)

@@ -101,7 +101,7 @@ uint32_t keyset_open(const uint8_t *line, size_t line_length, struct keyset_sess
    malformed      no call is made, and the session is as it was (malformed, kept)
    short          the call is made, and its answer has `length` bytes (short, needed): `keyset_told`
                   writes it
-   out of memory  the session is closed (lost): open it anew with its lines
+   out of memory  the session is closed (lost): open it again with its lines
    closed         it was closed (closed)
 
    Unless it was answered, `out` is as it was (silent). */

@@ -11,7 +11,7 @@ NEGATIVE, LONG = 2, 3600
 
 
 class Parent:
-    """The root zone. It is signed anew whenever a DS set changes, and its servers get it one by
+    """The root zone. It is signed again whenever a DS set changes, and its servers get it one by
     one."""
 
     def __init__(self, folder, fleet, zones, port):

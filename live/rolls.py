@@ -143,7 +143,7 @@ class Roll:
 
     def ttl(self, number, moment):
         """The highest TTL of what the report speaks of. If old algorithms leave, the sum of the DS
-        TTL and the DNSKEY TTL, for which the present set counts too."""
+        TTL and the DNSKEY TTL, for which the present DNSKEY set counts too."""
         provider = self.provider
         if self.is_last_of_algorithm(number):
             return max(provider.sum_of_ds_and_dnskey(moment), provider.highest("zone", moment))

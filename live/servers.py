@@ -86,7 +86,7 @@ class Server:
         os.replace(new, path)
 
     def publish(self, zone, text, delay):
-        """Gives a version of a zone after so many seconds, unless a later one came before it."""
+        """Gives a version of a zone after this many seconds, unless a later one came before it."""
         number = self.pending[zone] = self.pending.get(zone, 0) + 1
         task = asyncio.ensure_future(self._publish(zone, text, delay, number))
         self.tasks.add(task)

@@ -5,8 +5,8 @@
 
 The scripts are those written by hand and N generated ones, or those of a file in the format of
 by_hand.txt. With --early-ends some rolls of the generated ones end early. PROGRAM is a command that
-reads a script on standard input. Without a port the tables are compared. The original runs with
---canon --alts. The answer to a wait can depend on the order of its hashed map. With these options
+reads a script on standard input. Without a port the tables take its place. The original runs with
+--canon --alts: its answer to a wait can depend on the order of its hashed map. With these options
 it lists all answers that it could give, and gives one: the end of the program if that is in the
 list, else the longest wait.
 

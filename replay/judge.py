@@ -2,8 +2,8 @@
 
 A record is a list of positions; position 0 is the new set. At position n caches may hold each DS
 set, each DNSKEY set with its signers and each set of zone signers that was published at a position
-up to n and that no report has retired. The record is safe if any DS set, DNSKEY set and set of zone
-signers that caches may hold at a position have a chain of trust.
+up to n and that no report has retired. The record is safe if at each position each choice of a DS
+set, a DNSKEY set and a set of zone signers that caches may hold has a chain of trust.
 """
 
 from typing import NamedTuple, Optional

@@ -192,7 +192,7 @@ class Script:
         elif not self.wanted:
             self.wanted.append(roll)
 
-    # What may stand between two calls.
+    # What may come between two calls.
 
     def early_wait(self):
         for roll, (word, _) in sorted(self.keyset.phases.items()):

@@ -78,14 +78,14 @@ def compare(write):
 
 
 class Killed:
-    """Runs a part of this program in a process of its own, which dies after so many changes of its
-    files. If it died later, but before the next change, it would leave the same files."""
+    """Runs a part of this program in a process of its own, which dies after this many changes of
+    its files. If it died later, but before the next change, it would leave the same files."""
 
     def __init__(self, part):
         self.part = part
 
     def after(self, changes):
-        """Whether the part came to its end before so many changes."""
+        """Whether the part came to its end before this many changes."""
         child = os.fork()
         if child == 0:
             self.left, self.seen = changes, self.files()
@@ -168,7 +168,7 @@ def begin_to_operate():
 
 
 # What is killed: its name, what it runs, what has to be there before, which files it leaves, and
-# every how many changes of files.
+# how many changes of files there are from one kill to the next.
 CRASHES = (
     ("call", lambda: typed(["call", "mid.script", "wait1 zsk-roll now"], 270), noted,
      ["mid.script"], 1),

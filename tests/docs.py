@@ -202,7 +202,7 @@ def check_examples(scripts, wrong):
 
 
 def write(scripts):
-    """Writes what is compared again, from the scripts and the sources."""
+    """Writes again what is compared, from the scripts and the sources."""
     for path in scripts.values():
         told = answers(path.read_text().splitlines())
         path.with_suffix(".answers").write_text("\n".join(told) + "\n")

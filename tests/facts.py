@@ -159,7 +159,7 @@ def events(text, wanted):
     """A calendar has an event for each call, at its moment, in lines as RFC 5545 has them."""
     lines = text.split("\r\n")
     if lines[-1] or any(len(line.encode()) > 75 or "\n" in line for line in lines):
-        yield "a line of the calendar is too long, or ends otherwise"
+        yield "a line of the calendar is too long, or doesn't end as it should"
     unfolded = text.replace("\r\n ", "").split("\r\n")
     starts = [line.partition(":")[2] for line in unfolded if line.startswith("DTSTART:")]
     says = [line.partition(":")[2] for line in unfolded if line.startswith("DESCRIPTION:")]
@@ -231,7 +231,7 @@ def pictures():
 
 
 def places(page, name):
-    """Each box stands where the axis says."""
+    """Each box is where the axis says."""
     (axis,) = (it for it in page.getElementsByTagName("line") if not it.getAttribute("class")
                and it.parentNode.tagName == "svg")
     left, right = (float(axis.getAttribute(side)) for side in ("x1", "x2"))
@@ -245,7 +245,7 @@ def places(page, name):
             at = [left + (right - left) * (int(it or end) - begin) / (end - begin)
                   for it in (first, last)]
             if abs(x - at[0]) > 0.2 or abs(x + width - max(at[1], x + 1)) > 0.2:
-                yield f"{name}: the box from {first} to {last} stands at {x}, {width} wide"
+                yield f"{name}: the box from {first} to {last} is at {x}, {width} wide"
 
 
 def tag_of(flags, key):

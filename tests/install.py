@@ -67,7 +67,7 @@ def build_in_c(prefix, program):
     source = TOP / "library" / "c" / "roll.c"
     run("cc", *STRICT, "-o", program, source, *told, f"-Wl,-rpath,{prefix}/lib")
     answered = run(program, input=EXAMPLE.read_bytes(), env=environment)
-    expect(answered == ANSWERS, f"a caller in C answers otherwise: {answered}")
+    expect(answered == ANSWERS, f"a caller in C answers something else: {answered}")
 
 
 def expect_versions(prefix):
@@ -91,9 +91,9 @@ def expect_programs(prefix, room):
     for name in ("keyset_status", "keyset_notes"):
         given = (CRATES / name / "stdin").read_bytes()
         answered = run(prefix / "bin" / name, input=given)
-        expect(answered == (CRATES / name / "stdout").read_text(), f"{name} answers otherwise")
+        expect(answered == (CRATES / name / "stdout").read_text(), f"{name} answers something else")
     answered = run(prefix / "bin" / "keyset", input=EXAMPLE.read_bytes())
-    expect(answered == ANSWERS, "keyset answers otherwise")
+    expect(answered == ANSWERS, "keyset answers something else")
     zone = room / "example.com.script"
     zone.write_bytes(EXAMPLE.read_bytes())
     shown = []

@@ -5,8 +5,8 @@
    Each script is answered as stored, in a buffer of each length up to the one needed (only every
    STEP lengths, if a checker of memory makes it slow), and side by side in threads. Each thread
    takes the scripts in an order of its own. With STEP 0 only the threads run. Each beginning of a
-   script, and scripts with damaged bytes, are called malformed if a second reader says so, and at
-   the same line. Each request for memory fails in turn. If a call got no memory, the rest is
+   script, and scripts with damaged bytes, are called malformed exactly if a second reader does, and
+   at the same line. Each request for memory fails in turn. If a call got no memory, the rest is
    answered as if the call had not been made. The linker has malloc, realloc and free of the library
    come here: -Wl,--wrap=malloc,--wrap=realloc,--wrap=free */
 
@@ -297,7 +297,8 @@ static void read_stored(const char *path)
     }
 }
 
-/* The scripts in an order of the thread's own: its stride has no divisor with their number. */
+/* The scripts in an order of the thread's own. Its stride and their number have no divisor in
+   common. */
 static void *answer_all(void *number)
 {
     size_t thread = *(const size_t *)number, stride = 1, at = thread * scripts / THREADS;

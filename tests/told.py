@@ -52,7 +52,7 @@ def printed(log):
 
 
 def is_found(wanted, told):
-    """Whether the numbers stand among the others in this order."""
+    """Whether the numbers are among the others, in this order."""
     rest = iter(told)
     return all(number in rest for number in wanted)
 

@@ -25,7 +25,7 @@ def clock():
 
 
 def progress(text):
-    """Shows how far long work is, on a terminal only."""
+    """Shows how far long work is, only on a terminal."""
     if sys.stderr.isatty():
         print(f"\r{text}\033[K", end="", file=sys.stderr, flush=True)
 

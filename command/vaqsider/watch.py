@@ -90,7 +90,7 @@ def look(told, kinds, servers, port):
 
 
 def lacks(told, type_, records):
-    """What an answer lacks of what has to be published, in words, or None."""
+    """What an answer lacks, in words, or None if it has what is due."""
     tags = {key["reference"]: key["tag"] for key in told["keys"]}
     due = {kind: {tags[key] for key in keys} for kind, keys in told["published"].items()}
     given = {record.tag for record in records if record.type == type_}

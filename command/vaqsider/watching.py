@@ -38,7 +38,7 @@ class Watcher:
         self.progress("")
 
     def look(self):
-        """Reads the script anew, asks the servers, and notes which sets are everywhere."""
+        """Reads the script again, asks the servers, and notes which sets are everywhere."""
         self.notes = Notes(self.args.SCRIPT)
         self.lines, told = status.read(self.args.SCRIPT, self.clock())
         self.zone, asked = told["zone"], status.asked(told)

@@ -94,7 +94,7 @@ int main(void)
         const char *reply = (const char *)answer.bytes;
         for (size_t i = 0; i < calls; i++, reply = next_line(reply))
             if (!is_accepted(reply))
-                give_up("out of memory"); /* all other lines were accepted */
+                give_up("out of memory"); /* this line was accepted before */
         fwrite(reply, 1, (size_t)(next_line(reply) - reply), stdout);
         if (is_accepted(reply))
             calls++;

@@ -90,12 +90,12 @@ POINTS = (
         "No roll of KSKs or CSKs before the first algorithm-roll.",
     ),
     NO_SUM := Point(
-        "the DS TTL only, where the sum is due",
+        "only the DS TTL, though the sum is due",
         "Report the sum of the DS TTL and the DNSKEY TTL, that of the present set too, in the"
         " second report of an algorithm-roll",
     ),
     RAISED := Point(
-        "the DNSKEY TTL rises where it must not",
+        "the DNSKEY TTL rises when it must not",
         "don't raise the DNSKEY TTL before its second wait",
     ),
     MIXED := Point(

@@ -177,7 +177,7 @@ class Operator:
         return self.call(f"start {roll} {listed(old)} {listed(new)} {self.rounded_down()}")
 
     def due(self):
-        """The sets that are to be published."""
+        """The sets that have to be published."""
         return {label: frozenset(self.keyset.picked_names(*SETS[label])) for label in SETS}
 
     def ds(self):
@@ -325,9 +325,9 @@ class Operator:
         asked = {ASKS[action] for action in actions if action in ASKS}
         watched = {WATCHED[action] for action in actions if action in WATCHED}
         if step.does - asked or asked - step.does - as_is:
-            raise Wrong(f"{BOOK.name}: {step.does} is done where {asked} is asked for")
+            raise Wrong(f"{BOOK.name}: {step.does} is done, and {asked} is asked for")
         if step.watches - watched - {"cds"} or watched - step.watches - as_is:
-            raise Wrong(f"{BOOK.name}: {step.watches} is watched where {watched} is asked for")
+            raise Wrong(f"{BOOK.name}: {step.watches} is watched, and {watched} is asked for")
 
     def watch(self, step, since):
         """Watches until all servers have what the step says."""

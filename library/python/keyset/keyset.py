@@ -159,7 +159,7 @@ class KeySet:
         self._make(word, *references, algorithm, key_tag, creation, _yes(available))
 
     def delete_key(self, pubref: str) -> None:
-        """Deletes a key of which every role is stale."""
+        """Deletes a key whose roles are all stale."""
         self._make("delete", pubref)
 
     def set_decoupled(self, pubref: str, value: bool) -> None:
@@ -249,7 +249,7 @@ class KeySet:
 
     @property
     def published(self) -> Published:
-        """What is to be published now."""
+        """What has to be published now."""
         return Published.of(self._session.closing()[0])
 
     @property

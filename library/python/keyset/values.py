@@ -21,7 +21,7 @@ class RollType(Enum):
 
 
 class Action(Enum):
-    """What is to be done next."""
+    """What has to be done next."""
 
     UPDATE_DNSKEY_RRSET = "UpdateDnskeyRrset"
     CREATE_CDS_RRSET = "CreateCdsRrset"
@@ -63,7 +63,7 @@ class Refused(Exception):
 
 
 class Wait(Refused):
-    """The wait isn't over: ask again after so many seconds."""
+    """The wait isn't over: ask again after this many seconds."""
 
     def __init__(self, text: str) -> None:
         super().__init__(text)
@@ -99,7 +99,7 @@ def actions_of(reply: str) -> list[Action]:
 
 @dataclass(frozen=True)
 class Published:
-    """The references of the keys that are to be published, each list in the order of its bytes."""
+    """The references of the keys to publish, each list in the order of its bytes."""
 
     ds: list[str]
     dnskey: list[str]

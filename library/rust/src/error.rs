@@ -61,7 +61,7 @@ impl fmt::Display for Refusal {
 pub enum Error {
     /// The call was refused.
     Refused(Refusal),
-    /// The wait isn't over: ask again after so many seconds.
+    /// The wait isn't over: ask again after this many seconds.
     Wait { seconds: u64 },
     /// This line of the script, counted from 1, doesn't have the form of a line.
     Malformed { line: usize },

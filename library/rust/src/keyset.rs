@@ -175,7 +175,7 @@ impl KeySet {
         self.done(&format!("{word} {pubref} {privref} {}", key.fields()))
     }
 
-    /// Deletes a key of which every role is stale.
+    /// Deletes a key whose roles are all stale.
     pub fn delete_key(&mut self, pubref: &str) -> Result<(), Error> {
         self.done(&format!("delete {pubref}"))
     }
@@ -301,7 +301,7 @@ impl KeySet {
         Ok(self.status()?.rolls.get(&roll).and_then(|it| it.not_before))
     }
 
-    /// What is to be published now.
+    /// What has to be published now.
     pub fn published(&mut self) -> Result<Published, Error> {
         Ok(self.status()?.published)
     }

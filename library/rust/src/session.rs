@@ -76,7 +76,7 @@ impl Session {
 
     /// Makes the call of a line, and gives its reply, which may be a refusal.
     ///
-    /// If there is no memory, the session is of no more use: open one anew with its lines.
+    /// If there is no memory, the session is of no more use: open a new one with its lines.
     pub fn call(&mut self, line: &str) -> Result<String, Error> {
         let mut out = vec![0; ROOM];
         // SAFETY: each pointer is that of a slice with its length; only we use the handle.

@@ -46,7 +46,7 @@ named!(
 );
 
 named!(
-    /// What is to be done next.
+    /// What has to be done next.
     Action {
         UpdateDnskeyRrset = "UpdateDnskeyRrset",
         CreateCdsRrset = "CreateCdsRrset",
@@ -83,7 +83,7 @@ named!(
     }
 );
 
-/// The references of the keys that are to be published, each list in the order of its bytes.
+/// The references of the keys to publish, each list in the order of its bytes.
 #[derive(Clone, Debug, Default, PartialEq, Eq)]
 pub struct Published {
     pub ds: Vec<String>,
