@@ -26,7 +26,7 @@ mod session;
 mod status;
 
 pub use error::{Error, Refusal};
-pub use keyset::{Algorithm, KeySet, NewKey};
+pub use self::keyset::{Algorithm, KeySet, NewKey};
 pub use session::{answer, version, Session};
 pub use status::{
     Action, Broken, Key, Kind, Phase, Published, Role, Roll, RollType, Stamps, Status,
