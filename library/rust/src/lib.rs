@@ -25,8 +25,8 @@ mod keyset;
 mod session;
 mod status;
 
-pub use error::{Error, Refusal};
 pub use self::keyset::{Algorithm, KeySet, NewKey};
+pub use error::{Error, Refusal};
 pub use session::{answer, version, Session};
 pub use status::{
     Action, Broken, Key, Kind, Phase, Published, Role, Roll, RollType, Stamps, Status,
