@@ -57,13 +57,22 @@ class Processes:
     def __init__(self, folder):
         self.folder, self.running, self.commands, self.restarting = folder, {}, {}, set()
 
+    def copy(self, name):
+        """The path of the copy of a server's program in the run's folder. AppArmor goes by the
+        path, and wouldn't let Debian's own programs write there."""
+        path = self.folder / "programs" / name
+        if not path.exists():
+            path.parent.mkdir(exist_ok=True)
+            shutil.copy2(program(name), path)
+        return path
+
     def start(self, name, *command):
         """Starts a server that stays in the foreground. What it prints goes into a file."""
         self.commands[name] = command
         log = open(self.folder / f"{name}.log", "ab")
         with log:
             self.running[name] = subprocess.Popen(
-                [program("setpriv"), "--pdeathsig", "KILL", program(command[0]), *command[1:]],
+                [program("setpriv"), "--pdeathsig", "KILL", self.copy(command[0]), *command[1:]],
                 stdin=subprocess.DEVNULL, stdout=log, stderr=log, cwd=self.folder,
                 start_new_session=True,
             )
