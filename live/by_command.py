@@ -9,7 +9,7 @@ from pathlib import Path
 from keys import Version, plain_records, run
 from parent import NEGATIVE
 from places import PARENT
-from processes import PATHS, Failed
+from processes import PATHS, Failed, outcome
 
 COMMAND = Path(__file__).resolve().parent.parent / "command"
 TTL, DS_TTL = 3, 2
@@ -28,16 +28,13 @@ class Operator:
 
     async def type(self, *words, ends=(OK,)):
         """Types a word of the command, and gives what that prints."""
-        process = await asyncio.create_subprocess_exec(
+        status, out, err = await outcome(
             sys.executable, "-m", "vaqsider", *map(str, words), cwd=self.folder,
             env={"PATH": PATHS, "PYTHONPATH": str(COMMAND)},
-            stdout=asyncio.subprocess.PIPE, stderr=asyncio.subprocess.PIPE,
         )
-        out, err = await process.communicate()
-        if process.returncode not in ends:
-            text = out.decode() + err.decode()
-            raise Failed(f"vaqsider {' '.join(map(str, words))}: {process.returncode}: {text}")
-        return out.decode()
+        if status not in ends:
+            raise Failed(f"vaqsider {' '.join(map(str, words))}: {status}: {out}{err}")
+        return out
 
     async def key(self, *flag):
         """A new key file."""

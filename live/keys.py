@@ -1,8 +1,6 @@
 """Keys by `dnssec-keygen`, and zones signed by `dnssec-signzone`."""
 
-import asyncio
 import itertools
-import subprocess
 from dataclasses import dataclass
 from typing import Optional
 
@@ -11,7 +9,7 @@ import dns.name
 import dns.rdata
 
 from places import CHILD
-from processes import Failed, program
+from processes import Failed, outcome, program
 
 RSA = 8
 HOSTS = 12
@@ -42,14 +40,10 @@ class Key:
 
 async def run(folder, *command):
     """Runs a tool in a folder to its end, and gives what it prints."""
-    process = await asyncio.create_subprocess_exec(
-        program(command[0]), *command[1:], cwd=folder,
-        stdin=subprocess.DEVNULL, stdout=subprocess.PIPE, stderr=subprocess.PIPE,
-    )
-    out, err = await process.communicate()
-    if process.returncode:
-        raise Failed(f"{command[0]}: {err.decode()}")
-    return out.decode()
+    status, out, err = await outcome(program(command[0]), *command[1:], cwd=folder)
+    if status:
+        raise Failed(f"{command[0]}: {err}")
+    return out
 
 
 async def make_key(folder, zone, ref, kind, algorithm):

@@ -112,6 +112,22 @@ class Processes:
         self.running.clear()
 
 
+async def outcome(*command, **how):
+    """Runs a tool to its end, and gives its status, its output and its errors. Ends the tool if
+    this is cancelled."""
+    process = await asyncio.create_subprocess_exec(
+        *command, stdin=subprocess.DEVNULL, stdout=subprocess.PIPE, stderr=subprocess.PIPE,
+        start_new_session=True, **how,
+    )
+    try:
+        out, err = await process.communicate()
+    except asyncio.CancelledError:
+        end(process, signal.SIGKILL)
+        await process.communicate()
+        raise
+    return process.returncode, out.decode(), err.decode()
+
+
 def end(process, number):
     """Sends a signal to the group that a process leads."""
     try:

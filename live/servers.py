@@ -5,10 +5,9 @@ import asyncio
 import os
 import random
 import signal
-import subprocess
 
 from places import CHILD, PARENT
-from processes import program
+from processes import outcome, program
 
 NSD = """\
 server:
@@ -124,10 +123,7 @@ class Knot(Server):
 
     async def reload(self, zone):
         command = [program("knotc"), "-s", str(self.folder / "knot.sock"), "zone-reload", zone]
-        process = await asyncio.create_subprocess_exec(
-            *command, stdout=subprocess.DEVNULL, stderr=subprocess.DEVNULL
-        )
-        await process.wait()
+        await outcome(*command)
 
 
 class Fleet:
