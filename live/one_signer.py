@@ -5,7 +5,8 @@ import itertools
 import time
 from dataclasses import replace
 
-from places import RESOLVERS
+from asking import ask
+from places import CACHE, RESOLVERS
 from provider import Provider
 from rolls import ALGORITHM, DOUBLE_DS, Roll
 from script import rounded_down
@@ -110,6 +111,17 @@ async def hold_back(roll):
     await asyncio.sleep(roll.moment + roll.reported - time.time())
 
 
+async def is_cached_anew(provider):
+    """Waits until the cache has just got the DNSKEY set again. So it keeps that set for long after
+    no server gives it."""
+    zone, ttl = provider.zone, provider.version.dnskey_ttl
+    while True:
+        answer = await ask(CACHE, zone.world.port, zone.name, "DNSKEY", True)
+        if answer and any(rrset.ttl >= ttl - 1 for rrset in answer.answer):
+            return
+        await asyncio.sleep(0.2)
+
+
 async def go_unsigned(provider, *old):
     provider.zone.clients.secure_from = float("inf")
     roll = start_unsigned(provider, *old)
@@ -118,6 +130,7 @@ async def go_unsigned(provider, *old):
     # 3. The sum of the DS TTL and the DNSKEY TTL.
     await roll.report(2)
     await hold_back(roll)
+    await is_cached_anew(provider)
     # 5. All goes.
     await roll.wait(2)
     await roll.done()
@@ -126,9 +139,12 @@ async def go_unsigned(provider, *old):
 
 
 async def unsigned(zone):
-    """Unsigned, and back with other keys, and unsigned again."""
+    """Unsigned, and at once back with other keys, while caches hold the old DNSKEY set. Then
+    unsigned again."""
+    zone.ttls.dnskey, zone.ttls.zone = 20, 2
     provider = await first_keys(zone, "K1", "Z1")
     await go_unsigned(provider, "K1", "Z1")
+    zone.ttls.dnskey = 2
     await provider.make("C1", algorithm=15)
     await Roll(provider, ALGORITHM).whole([], ["C1"])
     zone.is_secure()
