@@ -117,6 +117,26 @@ def lost_in_mid_roll(name):
     return scene
 
 
+def old_key_lost(name):
+    """An old key is lost when the new keys are published, and the roll goes on. What the old key
+    would have to sign keeps its signatures."""
+
+    async def scene(zone):
+        provider = await first_keys(zone, "K1", "Z1")
+        old, new, _ = KEYS[name]
+        await provider.make(*new, algorithm=15 if name == ALGORITHM else 13)
+        roll = Roll(provider, name)
+        await roll.start(old, new)
+        provider.keys[old[-1]].lost = True
+        await provider.publish()
+        await provider.watch()
+        await roll.finish()
+        for ref in old:
+            provider.call(f"delete {ref}")
+
+    return scene
+
+
 async def lost_zsk(zone):
     """The private key of the ZSK is lost. The zone keeps its signatures, and the KSK signs the SOA
     record."""
@@ -282,6 +302,7 @@ HONEST = {
     "algorithm-roll-stolen-new-zsk": stolen_new_key(ALGORITHM, 1),
     "lost-ksk": lost_ksk,
     **{f"lost-in-mid-{name}": lost_in_mid_roll(name) for name in (KSK, DOUBLE_DS)},
+    **{f"{name}-old-key-lost": old_key_lost(name) for name in (KSK, DOUBLE_DS, ZSK, ALGORITHM)},
     "lost-zsk": lost_zsk,
     "lost-csk": lost_csk,
     "unsigned-by-setters": unsigned_by_setters,

@@ -54,7 +54,9 @@ ONLY_WHOLE = {
     "csks",
     "double-ds-beside-double-signature",
 }
-ALIKE = re.compile(r"-(ended-early|stolen-new-\w+|changing-ttls|of-the-clock|ttl-of-0|publishing)$")
+ALIKE = re.compile(
+    r"-(ended-early|stolen-new-\w+|old-key-lost|changing-ttls|of-the-clock|ttl-of-0|publishing)$"
+)
 OF_THEM = {
     "ksk-roll-ended-early",
     "ksk-double-ds-roll-ended-early",
