@@ -170,6 +170,8 @@ def begin_to_operate():
 # What is killed: its name, what it runs, what has to be there before, which files it leaves, and
 # how many changes of files there are from one kill to the next.
 CRASHES = (
+    ("init", lambda: typed(["init", "example.com", "--before", 60, 60, 60]), lambda: None,
+     ["example.com.script", "example.com.notes"], 1),
     ("call", lambda: typed(["call", "mid.script", "wait1 zsk-roll now"], 270), noted,
      ["mid.script"], 1),
     ("act", lambda: typed(["act", "start.script", "--zone-file", "zone", "--out", "signed"], 205),

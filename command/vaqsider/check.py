@@ -91,7 +91,7 @@ def _of_moment(history, call, now):
 
 
 def _of_notes(history, call, notes):
-    if call.line.is_report and notes.lines:
+    if call.line.is_report and notes.began_before(call.number - 1):
         due = notes.due(history.lines[: call.number - 1], call.line.roll, call.moment)
         if due is None:
             yield "by the notes not all servers had yet what it reports"

@@ -19,9 +19,8 @@ class Scale:
     beyond. If a script's moments count from 0, it has no now."""
 
     def __init__(self, made, now):
-        labels = [*made.phases, *made.rows]
         last = max(made.end, now) if made.begin > 0 else made.end
-        self.left = 16 + LETTER * max(map(len, labels), default=0)
+        self.left = 16 + LETTER * max(map(len, [*made.phases, *made.rows]), default=0)
         self.begin, self.end = made.begin, last + max(1, (last - made.begin) // 20)
 
     def __call__(self, moment):
@@ -55,11 +54,12 @@ def _text(x, y, text, how=""):
     return f'<text x="{x}" y="{y}" {how}>{escape(text)}</text>'
 
 
-def _box(kind, begin, end, at, y):
+def _box(kind, begin, end, at, y, name=""):
     x, data = at(begin), f'data-begin="{begin}" data-end="{"" if end is None else end}"'
+    says = f"{name}from {words.moment(begin)} {'on' if end is None else f'to {words.moment(end)}'}"
     return (
         f'<rect class="{kind}" x="{x}" y="{y}" width="{max(round(at(end) - x, 1), 1)}" '
-        f'height="{BAR}" fill="{FILLS[kind]}" stroke="black" {data}/>'
+        f'height="{BAR}" fill="{FILLS[kind]}" stroke="black" {data}><title>{says}</title></rect>'
     )
 
 
@@ -72,7 +72,7 @@ def _bar(bar, at, y):
 
 def _phase(phase, at, y):
     """A box, with the name of the phase in it if there is room."""
-    box = _box("phase", phase.begin, phase.end, at, y)
+    box = _box("phase", phase.begin, phase.end, at, y, f"{phase.word}, ")
     has_room = at(phase.end) - at(phase.begin) > LETTER * len(phase.word)
     text = _text(at(phase.begin) + 3, y + BAR - 2, phase.word, SMALL) if has_room else ""
     yield f"<g><title>{escape(phase.word)}</title>{box}{text}</g>"

@@ -10,7 +10,8 @@ STATUSES = {
     OK: ("done; check, watch: all is well", ()),
     DUE: ("something is due; call, plan: the key set refused a line", ()),
     WARNING: ("a line can't be true; call: it was not made for that reason", ()),
-    BROKEN: ("the chain of trust is broken, or a file is damaged", (Damaged, Malformed)),
+    BROKEN: ("the chain of trust is broken, or a file is damaged; check: or it is missing, or a "
+             "program is", (Damaged, Malformed)),
     USAGE: ("the command line, or the line of a call, is wrong", (FileExistsError,)),
     UNAVAILABLE: ("a program, a file or a server is missing", (Unavailable, OSError, MemoryError)),
     LOCKED: ("another program is writing the script", (Locked,)),

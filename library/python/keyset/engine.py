@@ -242,7 +242,7 @@ def _find(name):
     made = (os.path.join(place, name) for place in places)
     found = next(filter(os.path.isfile, made), None) or shutil.which(name)
     if found is None:
-        raise Unavailable(f"the program {name} isn't there: 'make build' makes it")
+        raise Unavailable(f"the program {name} isn't there: 'make build notes' makes it")
     return found
 
 

@@ -3,7 +3,9 @@ it, and when all did. By them a report is true."""
 
 from __future__ import annotations
 
+import errno
 import math
+import os
 import re
 from pathlib import Path
 
@@ -26,10 +28,20 @@ class Notes:
     @classmethod
     def create(cls, script: str | Path, before: list[int]) -> Notes:
         """Begins the notes of a new script with the highest TTLs before the first call: of DS sets,
-        of DNSKEY sets and of the rest of the zone. An answer that there is none counts too."""
-        notes = cls(script)
-        file.create(notes.path, [f"before {' '.join(map(str, before))}"])
+        of DNSKEY sets and of the rest of the zone. An answer that there is none counts too. After a
+        crash the same call goes on. FileExistsError: the script is there, or notes with others."""
+        if Path(script).exists():
+            raise FileExistsError(errno.EEXIST, os.strerror(errno.EEXIST), str(script))
+        notes, lines = cls(script), [f"before {' '.join(map(str, before))}"]
+        if notes.lines != lines:
+            file.create(notes.path, lines)
         return cls(script)
+
+    def began_before(self, call: int) -> bool:
+        """Whether something was noted before this call was made. What was reported before is of
+        before the notes: they can't say that it is false."""
+        published = (line.split(" ") for line in self.lines if line.startswith("published"))
+        return any(int(number) < call for _, _, number, *_ in published)
 
     def due(self, lines: list[str], roll: str, moment: int) -> int | None:
         """The TTL of a roll's report at a moment, by what was noted until then. None if a set isn't
