@@ -1,5 +1,5 @@
-"""Compares what the command prints with facts from elsewhere: the answers of `replay/tables.py`,
-stored answers, and moments and TTLs that are worked out here by the guides."""
+"""What the command prints, against what it doesn't take from itself: the answers of
+`replay/tables.py`, stored answers, and moments and TTLs that are worked out here by the guides."""
 
 import base64
 import calendar
@@ -30,7 +30,7 @@ LABELS = {"ds": "DS", "dnskey": "DNSKEY", "signers": "signs DNSKEY", "zone": "si
 
 
 def answers(lines):
-    """The answers of the tables: to each call, then the sets and the verdict."""
+    """The answers of the tables: to each call, the sets, and the verdict."""
     from tables import answers as told
 
     *replies, sets, verdict = told(lines)
@@ -46,7 +46,7 @@ def examples():
 
 
 def screens():
-    """After each line the sets and the verdict on a screen are those of the tables; and a wait is
+    """The sets and the verdict on a screen are those of the tables, after each line; and a wait is
     due when its report's TTL is over."""
     for path in (TOP / "examples" / f"{name}.script" for name in ("csk-roll", "ksk-beside-zsk")):
         lines = path.read_text().splitlines()
@@ -70,8 +70,8 @@ def screens():
 
 
 def refusals():
-    """`check` finds the refused lines of each example and its broken chain, and nothing else if all
-    its lines are true."""
+    """`check` finds the refused lines of each example and its broken chain, and nothing else in
+    those in which all is true."""
     for path, lines in examples():
         stored = path.with_suffix(".answers").read_text().splitlines()
         wanted = {n for n, reply in enumerate(stored[:-2], start=2) if reply.startswith("refused")}
@@ -86,7 +86,7 @@ def refusals():
             yield f"{path.name}: check says {others}"
 
 
-# Examples in which a moment goes back, or keys are set by hand.
+# Examples in which a moment falls, or keys are set by hand.
 FALSE = {"false-moment.script"}
 
 
@@ -114,8 +114,8 @@ def course(roll):
 
 
 def plans():
-    """The plan of each roll has the moments, TTLs, sets and verdicts of the guides and the tables;
-    and `call` accepts its lines one by one."""
+    """The plan of each roll has the moments, TTLs, sets and verdicts that the guides and the tables
+    say; and its lines are accepted one by one by `call`."""
     first = (TOP / "examples" / "ksk-roll.script").read_text().splitlines()[:9]
     for roll, (old, new, *_) in ROLLS.items():
         report1, ttl1, wait1, report2, ttl2, wait2, end = course(roll)
@@ -159,7 +159,7 @@ def events(text, wanted):
     """A calendar has an event for each call, at its moment, in lines as RFC 5545 has them."""
     lines = text.split("\r\n")
     if lines[-1] or any(len(line.encode()) > 75 or "\n" in line for line in lines):
-        yield "a line of the calendar is too long, or doesn't end as it should"
+        yield "a line of the calendar is too long, or ends otherwise"
     unfolded = text.replace("\r\n ", "").split("\r\n")
     starts = [line.partition(":")[2] for line in unfolded if line.startswith("DTSTART:")]
     says = [line.partition(":")[2] for line in unfolded if line.startswith("DESCRIPTION:")]
@@ -172,9 +172,8 @@ def events(text, wanted):
 
 
 def bars_of(lines):
-    """Each bar of the picture of a script, as label, begin, end and `gone`, by the sets of the
-    tables. A set of call N is gone once the TTL of a report that counts from call N + 1 or later is
-    over."""
+    """Each bar of the picture of a script, as label, begin, end and `gone`: by the sets of the
+    tables. A set of call N is gone once a report is over that counts from call N + 1 or later."""
     replies, _, _ = answers(lines)
     moment, shown, made, reports, steps = 0, {}, [], [], {}
     accepted = [n for n, reply in enumerate(replies, start=1) if reply.startswith("ok")]
@@ -231,7 +230,7 @@ def pictures():
 
 
 def places(page, name):
-    """Each box is where the axis says."""
+    """Each box stands where the axis says."""
     (axis,) = (it for it in page.getElementsByTagName("line") if not it.getAttribute("class")
                and it.parentNode.tagName == "svg")
     left, right = (float(axis.getAttribute(side)) for side in ("x1", "x2"))
@@ -245,7 +244,7 @@ def places(page, name):
             at = [left + (right - left) * (int(it or end) - begin) / (end - begin)
                   for it in (first, last)]
             if abs(x - at[0]) > 0.2 or abs(x + width - max(at[1], x + 1)) > 0.2:
-                yield f"{name}: the box from {first} to {last} is at {x}, {width} wide"
+                yield f"{name}: the box from {first} to {last} stands at {x}, {width} wide"
 
 
 def tag_of(flags, key):
@@ -267,7 +266,7 @@ def key_file(flags, seed):
 
 class Operator:
     """Types what docs/RUNBOOKS.md says, in a world in which servers have at once what `act`
-    publishes. The parent changes its DS set by hand."""
+    publishes. The parent is told by hand."""
 
     def __init__(self):
         self.now, self.names, self.script = 1000, {}, Path("S.script")
@@ -302,37 +301,31 @@ class Operator:
 
 
 def runbooks():
-    """The commands of each roll, as the section on them has them: each call, then the command that
-    publishes; if CDS comes in, what takes it out again; then the command that watches and makes the
-    next call."""
+    """The commands of each roll, in the block below its table, and those that its rows ask for: the
+    call, then what publishes; if CDS comes in, a watch and what takes it out again; then what
+    watches and makes the next call."""
     text = (TOP / "docs" / "RUNBOOKS.md").read_text()
-    sections = dict(it.partition("\n")[::2] for it in text.split("\n## "))
-    rows = re.findall(r"^\| (.*?) \| (.*) \|$", sections["By the command"], re.MULTILINE)
-    steps = {
-        name: [re.sub(r" S| --reload COMMAND| --for \d+", "", it)
-               for it in re.findall(r"`vaqsider (\w+ S[^`]*)`", commands)]
-        for name, commands in rows
-    }
-    publish, out, watch = (
-        next(of for name, of in steps.items() if name.startswith(begins))
-        for begins in ("publish", "CDS out", "watch")
-    )
-    for name, section in sections.items():
-        roll, commands = name.replace("The first keys", "algorithm-roll"), []
+    for name, _, section in (it.partition("\n") for it in text.split("\n## ")):
+        roll, wanted = name.replace("The first keys", "algorithm-roll"), []
+        lines = re.findall(r"^vaqsider (.*)$", section, re.MULTILINE)
+        commands = [it.replace(" S", "", 1) for line in lines for it in line.split("; vaqsider ")]
         for call, row in re.findall(r"^\| `((?:start|wait[12])[^`]*)`(.*)$", section, re.MULTILINE):
             line = f"{call} now" if call.startswith("start") else f"{call} {roll} now"
-            commands += [f"call '{line}'", *publish, *(out if " CDS for " in row else []), *watch]
-            commands += [f"call '{it}'" for it in re.findall(r"`(delete \w+)`", row)]
-        if roll in ROLLS and commands:
-            yield name, commands
+            wanted += [f"call '{line}'", *([] if "| nothing |" in row else ["act"])]
+            wanted += ["watch", "act --no-cds"] if " CDS for " in row else []
+            wanted.append("watch --call")
+            wanted += [f"call '{it}'" for it in re.findall(r"`(delete \w+)`", row)]
+        if roll in ROLLS and wanted:
+            yield name, commands, wanted
 
 
 def by_the_command():
-    """The commands of the runbooks, word by word, bring each roll to its end."""
-    (_, first), *others = runbooks()
-    if [roll for roll, _ in others] != list(ROLLS):
-        yield f"the runbooks have {[roll for roll, _ in others]}"
-    for roll, commands in others:
+    """The runbooks by the command, word by word, bring each roll to its end."""
+    (_, first, _), *others = books = list(runbooks())
+    yield from (f"{name} has {of}, not {wanted}" for name, of, wanted in books if of != wanted)
+    if [roll for roll, _, _ in others] != list(ROLLS):
+        yield f"the runbooks have {[roll for roll, _, _ in others]}"
+    for roll, commands, _ in others:
         operator = Operator()
         for command in (*first, *commands):
             yield from operator.type(command)
@@ -355,7 +348,7 @@ def helps():
     for block in text.split("\n\n\n"):
         word, _, says = block.partition(": ")
         shown, status = typed([word, "--help"])
-        # Lines are folded otherwise, also after a hyphen.
+        # Lines are folded anew, also after a hyphen.
         plain, parts = "".join(shown.split()), re.split(r"  +|\n\n|\n(?! )", says)
         missing = [it for it in ("".join(part.split()) for part in parts[1:])
                    if it.strip("[].").split("..")[0] not in plain]
@@ -369,7 +362,7 @@ def helps():
 
 
 def metrics():
-    """The text for Prometheus has each series once."""
+    """What Prometheus reads has each series once."""
     text, _ = typed(["zones", ".", "--prometheus"])
     lines = text.splitlines()
     series = [line.rpartition(" ")[0] for line in lines if not line.startswith("#")]
@@ -379,7 +372,7 @@ def metrics():
 
 
 def faults():
-    """What is wrong in what the command prints."""
+    """What the command says otherwise than it should."""
     with folder():
         checks = screens, refusals, plans, pictures, by_the_command, metrics, helps
         return [fault for check in checks for fault in check()]
