@@ -22,7 +22,7 @@ fn add(alloc: Global, set: &mut KeySet, letter: char, tag: u16, turn: u16) -> Re
     let algorithm = SecurityAlgorithm::from_int(13);
     let created = UnixTime::from(Duration::from_secs(u64::from(tag)));
     let available = Available::Available;
-    match (tag % KINDS + turn) % KINDS {
+    match tag.wrapping_add(turn) % KINDS {
         0 => set.add_key_ksk(reference, None, algorithm, tag, created, available),
         1 => set.add_key_zsk(reference, None, algorithm, tag, created, available),
         2 => set.add_key_csk(reference, None, algorithm, tag, created, available),
