@@ -153,13 +153,14 @@ async def unsigned(zone):
 
 
 async def first_keys_ended_early(zone):
-    """First keys with a longer DNSKEY TTL, ended early, and then other first keys."""
+    """First keys with a longer DNSKEY TTL, ended early while caches hold their DNSKEY set, and then
+    other first keys."""
     provider = Provider(zone, zone.servers)
-    zone.ttls.dnskey = 7
+    zone.ttls.dnskey, zone.ttls.zone = 20, 2
     await provider.make("K1", "Z1")
     roll = Roll(provider, ALGORITHM)
     await roll.start([], ["K1", "Z1"])
-    await asyncio.sleep(2)
+    await is_cached_anew(provider)
     await roll.abort()
     for ref in ("K1", "Z1"):
         provider.call(f"set-stale {ref}")
