@@ -1,9 +1,9 @@
 #!/usr/bin/env python3
 """The gate: `tests/docs.py` and `tests/release.py`, then `rt ci`. Beside its first proofs runs
 `tests/runbooks.py`, and beside its edits run `tests/memory.py`, `tests/sets.py`, `tests/notes.py`,
-`tests/library.py` and `tests/command.py`. Then `tests/told.py` compares the numbers of docs/TESTS.md
-with what all of them have printed. Before the last line of `rt ci` it prints when each step was
-done, in minutes and seconds since the start, so that a rise is seen."""
+`tests/library.py` and `tests/command.py`. Then `tests/told.py` compares the numbers of
+docs/TESTS.md with what all of them have printed. Before the last line of `rt ci` it prints when
+each step was done, in minutes and seconds since the start, so that a rise is seen."""
 
 import os
 import re
