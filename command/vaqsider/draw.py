@@ -76,7 +76,7 @@ def _letters(rows, at):
             row[first : last + 1] = SIGNS[kind] * (last - first + 1)
             row[first] = "|" if kind == "phase" else row[first]
         yield f"{label:{width}}{''.join(row)}".rstrip()
-    begin, end = words.moment(at.begin), words.moment(at.end)
+    begin, end = (words.moment(round(moment)) for moment in (at.begin, at.end))
     yield f"{'':{width}}{begin}{end:>{columns + 1 - len(begin)}}"
     yield "=  in the set    .  taken out, caches may hold it    |  here a phase begins"
 
