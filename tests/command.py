@@ -154,18 +154,25 @@ def noted():
 
 
 def operate():
-    """A loop of ticks, 35 seconds apart, in which an operator does what is due by the script: from
-    the start of a roll to its end. A file keeps the clock, so that the loop goes on after a
-    crash."""
-    script, clock = "start.script", Path("clock")
-    for now in range(int(clock.read_text()), 500, 35):
-        clock.write_text(str(now))
+    """A loop of ticks, 35 seconds apart, in which an operator types what may be due by the script:
+    from the start of a roll to its end. A file keeps the number of the word that was typed last,
+    and after a crash that is typed again."""
+    script, typed_last = "start.script", Path("number")
+    said = [
+        (words, now)
+        for now in range(200, 500, 35)
+        for words in (
+            ["act", script, "--zone-file", "zone", "--out", "signed"],
+            ["watch", script, "--server", "signed", "--call"],
+            ["call", script, f"wait1 zsk-roll {now}"],
+            ["call", script, f"wait2 zsk-roll {now}"],
+        )
+    ]
+    for number in range(int(typed_last.read_text()), len(said)):
         if "done zsk-roll" in Path(script).read_text():
             return
-        typed(["act", script, "--zone-file", "zone", "--out", "signed"], now)
-        typed(["watch", script, "--server", "signed", "--call"], now)
-        typed(["call", script, f"wait1 zsk-roll {now}"], now)
-        typed(["call", script, f"wait2 zsk-roll {now}"], now)
+        typed_last.write_text(str(number))
+        typed(*said[number])
 
 
 def published():
@@ -176,7 +183,7 @@ def published():
 
 def begin_to_operate():
     noted()
-    Path("clock").write_text("200")
+    Path("number").write_text("0")
 
 
 # What crashes: its name, what it runs, what has to be there before, and which files it leaves.
