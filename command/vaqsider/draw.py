@@ -77,7 +77,7 @@ def _letters(rows, at):
             row[first] = "|" if kind == "phase" else row[first]
         yield f"{label:{width}}{''.join(row)}".rstrip()
     begin, end = (words.moment(round(moment)) for moment in (at.begin, at.end))
-    yield f"{'':{width}}{begin}{end:>{columns + 1 - len(begin)}}"
+    yield f"{'':{width}}{begin} {end:>{columns - len(begin)}}"
     yield "=  in the set    .  taken out, caches may hold it    |  here a phase begins"
 
 
