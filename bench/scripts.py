@@ -115,7 +115,8 @@ def main():
     with Bench() as bench:
         programs = bench.programs(given.program, given.original)
         for kind, number, make in KINDS:
-            whole, half = bench.script("whole", make(number)), bench.script("half", make(number // 2))
+            whole = bench.script("whole", make(number))
+            half = bench.script("half", make(number // 2))
             measured = [measure(bench, program, whole) for program in programs]
             growth = math.log2(measured[0][0] * 1e6 / bench.instructions(programs[0], half))
             lines = make(number).count("\n")

@@ -28,6 +28,7 @@ printf 'keyset %s\0' "$release" >release
 "$tools/llvm-ar" rcs libkeyset.a keyset.o
 "$tools/ld.lld" -shared -z noexecstack -z now -z defs -soname "libkeyset.so.$interface" \
     -o "libkeyset.so.$interface" keyset.o "$libraries/libc.so.6"
-ln -s "libkeyset.so.$interface" libkeyset.so
+# (no link: `rt all check` refuses a tree with one)
+ln "libkeyset.so.$interface" libkeyset.so
 rm keyset.o release llvm-objcopy
 sed "s|@VERSION@|$release|" "$here/keyset.pc.in" >pkgconfig/keyset.pc

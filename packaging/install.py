@@ -52,14 +52,16 @@ class Missing(Exception):
 
 def contents(pages, library):
     """What is installed: the place of each file below PREFIX, with its source and its mode. A link
-    has no mode."""
+    has no mode, and leads to the file of the source's name beside it."""
     for name in PROGRAMS:
         yield Path("bin") / name, TOP / "crates" / name / "out" / name, 0o755
     yield Path("bin/vaqsider"), pages / "vaqsider", 0o755
     for source in (library / "include" / "keyset.h", library / "lib" / "pkgconfig" / "keyset.pc"):
         yield source.relative_to(library), source, 0o644
-    for source in sorted((library / "lib").glob("libkeyset.*")):
-        yield Path("lib") / source.name, source, None if source.is_symlink() else 0o644
+    yield Path("lib/libkeyset.a"), library / "lib" / "libkeyset.a", 0o644
+    for source in (library / "lib").glob("libkeyset.so.*"):
+        yield Path("lib") / source.name, source, 0o644
+        yield Path("lib/libkeyset.so"), source, None
     for package in PACKAGES:
         for source in filter(Path.is_file, sorted(package.iterdir())):
             yield SHARE / package.name / source.name, source, 0o644
@@ -85,7 +87,7 @@ def put(source, place, mode):
     new = place.with_name(f".{place.name}.new")
     new.unlink(missing_ok=True)
     if mode is None:
-        new.symlink_to(os.readlink(source))
+        new.symlink_to(source.name)
     else:
         shutil.copyfile(source, new)
         new.chmod(mode)
@@ -129,8 +131,6 @@ def install(root, library):
         for _, source, _ in files:
             if not source.exists():
                 raise Missing(f"{source} isn't there: 'make build notes lib' makes it")
-        if not any(place.suffix == ".a" for place, _, _ in files):
-            raise Missing(f"the library isn't in {library}: 'make lib' makes it")
         before, folders = map(set, listed(root))
         names = {str(LIST), *(str(place) for place, _, _ in files)}
         for name in names:

@@ -1,9 +1,9 @@
 #!/usr/bin/env python3
 """Runs the command of an operator on stored transcripts, without a server.
 
-    tests/command.py            compares what each line prints, asks facts.py, kills the command
-                                after each change of its files, and counts the lines of its code
-                                that ran
+    tests/command.py            compares what each line prints, asks facts.py, lets the command
+                                crash after each change of its files, and counts the lines of its
+                                code that ran
     tests/command.py --write    writes the transcripts again
     tests/command.py --left     shows which lines of its code did not run
 
@@ -15,6 +15,7 @@ import itertools
 import os
 import re
 import shlex
+import shutil
 import subprocess
 import sys
 import tempfile
@@ -33,7 +34,6 @@ PACKAGE = TOP / "command" / "vaqsider"
 WRITERS = ("file.py", "calling.py", "act.py", "watching.py", "notes.py")
 
 LINE = re.compile(r"\$ (?:NOW=(?P<now>\S+) )?(?P<words>.*)")
-KILLED = 137
 
 
 def execute(text, now):
@@ -77,59 +77,71 @@ def compare(write):
     return faults, lines
 
 
-class Killed:
-    """Runs a part of this program in a process of its own, which dies after this many changes of
-    its files. If it died later, but before the next change, it would leave the same files."""
-
-    def __init__(self, part):
-        self.part = part
-
-    def after(self, changes):
-        """Whether the part came to its end before this many changes."""
-        child = os.fork()
-        if child == 0:
-            self.left, self.seen = changes, self.files()
-            sys.settrace(self.count)
-            self.part()
-            os._exit(0)
-        return os.waitstatus_to_exitcode(os.waitpid(child, 0)[1]) == 0
-
-    def files(self):
-        found = ((it.name, it.stat()) for it in os.scandir() if it.is_file())
-        return {name: (stat.st_size, stat.st_mtime_ns) for name, stat in found}
-
-    def count(self, frame, event, _):
-        if Path(frame.f_code.co_filename).name not in WRITERS:
-            return None
-        if event == "line":
-            if (now := self.files()) != self.seen:
-                self.left, self.seen = self.left - 1, now
-            if self.left <= 0:
-                os._exit(KILLED)
-        return self.count
-
-
 def left(files):
     return {name: Path(name).read_text() for name in files if Path(name).exists()}
 
 
-def kill_everywhere(name, part, prepare, files, step):
-    """Kills a part after each change of its files, runs it again, and compares the files with those
-    that it leaves without a crash. Gives the faults, and how many crashes there were."""
+class Crashes:
+    """Runs a part of this program that changes files. After each change it looks what a crash would
+    leave: a copy of this process goes on in a copy of the folder, where it runs the part once more.
+    If the part crashed later, but before the next change, it would leave the same files."""
+
+    def __init__(self, part, files, wanted):
+        self.part, self.files, self.wanted = part, files, wanted
+        self.count, self.wrong = 0, []
+
+    def run(self):
+        self.seen = self.folder()
+        sys.settrace(self.trace)
+        try:
+            self.part()
+        finally:
+            sys.settrace(None)
+
+    def folder(self):
+        found = ((it.name, it.stat()) for it in os.scandir() if it.is_file())
+        return {name: (stat.st_size, stat.st_mtime_ns) for name, stat in found}
+
+    def trace(self, frame, event, _):
+        if Path(frame.f_code.co_filename).name not in WRITERS:
+            return None
+        if event == "line" and (now := self.folder()) != self.seen:
+            self.seen, self.count = now, self.count + 1
+            if not self.ends_alike():
+                self.wrong.append(self.count)
+        return self.trace
+
+    def ends_alike(self):
+        """Whether the part, run again after a crash now, leaves the files that are wanted."""
+        if (child := os.fork()) != 0:
+            return os.waitstatus_to_exitcode(os.waitpid(child, 0)[1]) == 0
+        is_so = False
+        try:
+            sys.settrace(None)
+            with tempfile.TemporaryDirectory(dir="..") as copy:
+                shutil.copytree(".", copy, dirs_exist_ok=True)
+                os.chdir(copy)
+                self.part()
+                is_so = left(self.files) == self.wanted
+        finally:
+            os._exit(0 if is_so else 1)
+
+
+def crash_everywhere(name, part, prepare, files):
+    """Lets a part crash after each change of its files, and compares the files with those that it
+    leaves without a crash. Gives the faults, and how many crashes there were."""
     with folder():
         prepare()
         part()
         wanted = left(files)
-    faults, changes, ended = [], 0, False
-    while not ended:
-        with folder():
-            prepare()
-            ended = Killed(part).after(changes)
-            part()
-            if left(files) != wanted:
-                faults.append(f"{name}: killed after change {changes}, it ends differently")
-        changes += step
-    return faults, changes // step
+    with folder():
+        prepare()
+        crashes = Crashes(part, files, wanted)
+        crashes.run()
+        faults = [f"{name}: crashed at change {at}, it ends differently" for at in crashes.wrong]
+        if left(files) != wanted or crashes.count == 0:
+            faults.append(f"{name}: it ends differently each time, or changes nothing")
+    return faults, crashes.count
 
 
 def noted():
@@ -142,18 +154,25 @@ def noted():
 
 
 def operate():
-    """A loop of ticks, 35 seconds apart, in which an operator does what is due by the script: from
-    the start of a roll to its end. A file keeps the clock, so that the loop goes on after a
-    crash."""
-    script, clock = "start.script", Path("clock")
-    for now in range(int(clock.read_text()), 500, 35):
-        clock.write_text(str(now))
+    """A loop of ticks, 35 seconds apart, in which an operator types what may be due by the script:
+    from the start of a roll to its end. A file keeps the number of the word that was typed last,
+    and after a crash that is typed again."""
+    script, typed_last = "start.script", Path("number")
+    said = [
+        (words, now)
+        for now in range(200, 500, 35)
+        for words in (
+            ["act", script, "--zone-file", "zone", "--out", "signed"],
+            ["watch", script, "--server", "signed", "--call"],
+            ["call", script, f"wait1 zsk-roll {now}"],
+            ["call", script, f"wait2 zsk-roll {now}"],
+        )
+    ]
+    for number in range(int(typed_last.read_text()), len(said)):
         if "done zsk-roll" in Path(script).read_text():
             return
-        typed(["act", script, "--zone-file", "zone", "--out", "signed"], now)
-        typed(["watch", script, "--server", "signed", "--call"], now)
-        typed(["call", script, f"wait1 zsk-roll {now}"], now)
-        typed(["call", script, f"wait2 zsk-roll {now}"], now)
+        typed_last.write_text(str(number))
+        typed(*said[number])
 
 
 def published():
@@ -164,21 +183,20 @@ def published():
 
 def begin_to_operate():
     noted()
-    Path("clock").write_text("200")
+    Path("number").write_text("0")
 
 
-# What is killed: its name, what it runs, what has to be there before, which files it leaves, and
-# how many changes of files there are from one kill to the next.
+# What crashes: its name, what it runs, what has to be there before, and which files it leaves.
 CRASHES = (
     ("init", lambda: typed(["init", "example.com", "--before", 60, 60, 60]), lambda: None,
-     ["example.com.script", "example.com.notes"], 1),
+     ["example.com.script", "example.com.notes"]),
     ("call", lambda: typed(["call", "mid.script", "wait1 zsk-roll now"], 270), noted,
-     ["mid.script"], 1),
+     ["mid.script"]),
     ("act", lambda: typed(["act", "start.script", "--zone-file", "zone", "--out", "signed"], 205),
-     noted, ["signed", "start.notes"], 1),
+     noted, ["signed", "start.notes"]),
     ("watch", lambda: typed(["watch", "start.script", "--server", "signed", "--call"], 210),
-     published, ["start.script", "start.notes"], 1),
-    ("loop", operate, begin_to_operate, ["start.script", "start.notes", "signed"], 12),
+     published, ["start.script", "start.notes"]),
+    ("loop", operate, begin_to_operate, ["start.script", "start.notes", "signed"]),
 )
 
 
@@ -199,14 +217,14 @@ def main():
     tracer = trace.Trace(count=1, trace=0)
     faults, lines = tracer.runfunc(compare, write)
     faults += tracer.runfunc(facts.faults)
-    kills = 0
+    crashes = 0
     for crash in CRASHES:
-        found, count = kill_everywhere(*crash)
-        faults, kills = faults + found, kills + count
+        found, count = crash_everywhere(*crash)
+        faults, crashes = faults + found, crashes + count
     ran, total, unrun = coverage(tracer.results())
     print(*faults, sep="\n", end="\n" if faults else "")
-    print(f"command: {lines} lines played, {kills} crashes; {ran} of {total} lines of code ran, by "
-          "std's trace")
+    print(f"command: {lines} lines played, {crashes} crashes; {ran} of {total} lines of code ran, "
+          "by std's trace")
     if "--left" in sys.argv[1:]:
         print(*(f"{Path(name).name}:{line}" for name, line in unrun), sep="\n")
     return 1 if faults else 0

@@ -227,6 +227,28 @@ def pictures():
         if found != wanted:
             yield f"{path.name}: the picture has {found ^ wanted} wrong"
         yield from places(page, path.name)
+        yield from letters(page, lines, path.name)
+
+
+def letters(page, lines, name):
+    """For a terminal's browser each row shows in letters when the key is in the set, and when
+    caches may hold it."""
+    *rows, axis, _ = page.getElementsByTagName("pre")[0].firstChild.data.strip("\n").split("\n")
+    (begin, end), left = map(int, axis.split()), len(axis) - len(axis.lstrip())
+    found = {row[:left].rstrip(): row[left:] for row in rows if "|" not in row}
+    wanted = {label: [" "] * (len(axis) - left) for label in found}
+
+    def at(moment):
+        part = ((end if moment is None else moment) - begin) / (end - begin)
+        return round(part * (len(axis) - left - 1))
+
+    for label, first, last, gone in bars_of(lines):
+        may_hold = last is not None and (gone is None or gone > last)
+        spans = [("=", at(first), at(last)), *[(".", at(last), at(gone))] * may_hold]
+        for sign, one, other in spans:
+            wanted[label][one : other + 1] = sign * (other + 1 - one)
+    if found != {label: "".join(row).rstrip() for label, row in wanted.items()}:
+        yield f"{name}: in letters the picture is another"
 
 
 def places(page, name):

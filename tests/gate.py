@@ -1,9 +1,9 @@
 #!/usr/bin/env python3
 """The gate: `tests/docs.py` and `tests/release.py`, then `rt ci`. Beside its first proofs runs
 `tests/runbooks.py`, and beside its edits run `tests/memory.py`, `tests/sets.py`, `tests/notes.py`,
-`tests/library.py` and `tests/command.py`. Then `tests/told.py` compares the numbers of docs/TESTS.md
-with what all of them have printed. Before the last line of `rt ci` it prints when each step was
-done, in minutes and seconds since the start, so that a rise is seen."""
+`tests/library.py` and `tests/command.py`. Then `tests/told.py` compares the numbers of
+docs/TESTS.md with what all of them have printed. Before the last line of `rt ci` it prints when
+each step was done, in minutes and seconds since the start, so that a rise is seen."""
 
 import os
 import re
@@ -89,7 +89,7 @@ class Beside(threading.Thread):
         return f"the test {self.name} has failed\n" if self.test.returncode else None
 
 
-class Behind(Beside):
+class After(Beside):
     """A script of tests that runs after these crates are proved or kept, on what `rt ci` has built
     or restored."""
 
@@ -111,7 +111,7 @@ DONE = re.compile(
 TRIED = re.compile(r"rt: (?P<crate>\S+): trying its must-fail edits .*\n")
 
 
-def prove(behind):
+def prove(scripts):
     """Runs `rt ci`, and prints all but its last line. Gives its status and that line."""
     last, tried = "", set()
     gate = subprocess.Popen(
@@ -125,7 +125,7 @@ def prove(behind):
         if done := DONE.fullmatch(line):
             note(f"{done['what']} {done['how'].removeprefix('is ')}")
             if done["how"] != "NOT PROVED":
-                for script in behind:
+                for script in scripts:
                     script.note(done["what"])
         elif begun := TRIED.fullmatch(line):
             tried.add(begun["crate"])
@@ -143,15 +143,15 @@ def main():
     # At low priority: each crate waits for the proofs of those below it.
     runbooks = Beside("runbooks", under=["nice"])
     runbooks.start()
-    behind = [
-        Behind("memory", "memory_of_calls"),
-        Behind("sets", "callers"),
-        Behind("notes", "keyset_notes"),
-        Behind("library", "keyset", "keyset_status", "keyset_notes", "keyset_c"),
-        Behind("command", "keyset", "keyset_status", "keyset_notes"),
+    scripts = [
+        After("memory", "memory_of_calls"),
+        After("sets", "callers"),
+        After("notes", "keyset_notes"),
+        After("library", "keyset", "keyset_status", "keyset_notes", "keyset_c"),
+        After("command", "keyset", "keyset_status", "keyset_notes"),
     ]
-    status, last = prove(behind)
-    for beside in (runbooks, *behind):
+    status, last = prove(scripts)
+    for beside in (runbooks, *scripts):
         fault = beside.fault()
         # (If a proof that a script needs has failed, the script never begins; `rt ci` says why.)
         if fault and (beside.ident or status == 0):

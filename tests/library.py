@@ -88,6 +88,13 @@ def expect_exports(folder):
             raise Wrong(f"{file} exports {sorted(exported)}")
 
 
+def expect_no_links(folder):
+    """`make check` refuses a tree that has links."""
+    links = [path.name for path in folder.rglob("*") if path.is_symlink()]
+    if links:
+        raise Wrong(f"{folder} has links: {links}")
+
+
 def c_flags(folder):
     return [f"-I{folder}/include", f"-L{folder}/lib", "-l:libkeyset.a"]
 
@@ -432,6 +439,7 @@ def test_python_caller(folder):
 def test(folder, room):
     """Gives the name of each test, and what it has done."""
     expect_exports(folder)
+    expect_no_links(folder)
     yield "library", test_in_c(folder, room)
     yield "library", test_static_buffer(folder, room)
     yield "sessions", test_sessions(folder, room)

@@ -94,7 +94,7 @@ def other_answers(version):
 def undated_words(version):
     rows = ROW.findall((TOP / "docs" / "SCRIPTS.md").read_text())
     since = {word: brought for lines, brought in rows for word in WORD.findall(lines)}
-    lines = (line for _, script, _ in frozen_scripts(version) for line in script.splitlines()[1:])
+    lines = (line for _, script, _ in frozen_scripts(version) for line in script.splitlines())
     for word in sorted({line.split(" ")[0] for line in lines}):
         brought = since.get(word)
         if brought is None:

@@ -155,7 +155,8 @@ class Lines:
                     keys[:] = [key for key in keys if key != fields[0]]
 
     def rolls_of(self, part, reference):
-        return [roll for roll, parts in self.listed.items() for key in parts[part] if key == reference]
+        listed = ((roll, key) for roll, parts in self.listed.items() for key in parts[part])
+        return [roll for roll, key in listed if key == reference]
 
 
 def is_ok(answer):

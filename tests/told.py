@@ -63,7 +63,7 @@ def compared(row, log, number, wrong):
     place = f"{PAGE.name}:{number}"
     if not parts:
         if COUNT.search(row["much"]) and not DATE.search(row["much"]):
-            wrong.append(f"{place}: no part of the gate prints these numbers, and they have no date")
+            wrong.append(f"{place}: no part of the gate prints these numbers; they have no date")
         return row[0]
     wrong += (f"{place}: no word follows {match[0]}" for match in BARE.finditer(row["much"]))
     told = counts("\n".join(log[part] for part in parts))

@@ -19,19 +19,19 @@ SIGNERS = {
         "sign": "dnssec-signzone -qzP -N unixtime -O full -o {origin} -f {draft} {whole} {keys} "
         ">/dev/null",
         "plain": "named-compilezone -q -i none -o {draft} {origin} {whole}",
-        "cds": "dnssec-dsfromkey -C -2 {key} >>{whole}",
-        "ds": "dnssec-dsfromkey -2 {key}",
+        "cds": "dnssec-dsfromkey -C -2 {keys} >>{whole}",
+        "ds": "dnssec-dsfromkey -2 {keys}",
     },
     "ldns": {
         "sign": "ldns-signzone -A -u -o {origin} -f {draft} {whole} {bases}",
         "plain": "ldns-read-zone {whole} >{draft}",
-        "cds": "ldns-key2ds -n -2 {key} | sed 's/[[:space:]]DS[[:space:]]/ CDS /' >>{whole}",
-        "ds": "ldns-key2ds -n -2 {key}",
+        "cds": "ldns-key2ds -n -2 {keys} | sed 's/[[:space:]]DS[[:space:]]/ CDS /' >>{whole}",
+        "ds": "ldns-key2ds -n -2 {keys}",
     },
 }
 # (awk adds a line feed if the end of a file lacks it.)
 WHOLE = "{{ echo '$ORIGIN' {origin}; awk 1 {file} {keys}; }} >{whole}"
-CDNSKEY = "sed -n 's/[[:space:]]DNSKEY[[:space:]]/ CDNSKEY /p' {key} >>{whole}"
+CDNSKEY = "sed -n 's/[[:space:]]DNSKEY[[:space:]]/ CDNSKEY /p' {keys} >>{whole}"
 DELETE = "printf '%s IN CDS 0 0 0 00\\n%s IN CDNSKEY 0 3 0 AA==\\n' {origin} {origin} >>{whole}"
 # In a line of a signed zone file field 4 is the type. In an RRSIG field 5 is the type that it
 # covers, and field 11 the key's tag. The keys of `signers` sign DNSKEY, one of them and those of
@@ -59,13 +59,9 @@ class Signer:
         """A command, with these names of keys in it."""
         paths = [str(self.files[name].path) for name in names]
         words = {
-            "origin": [self.told["zone"].rstrip(".") + "."],
-            "file": [self.args.zone_file],
-            "signed": [self.signed],
-            "draft": [f"{self.signed}.draft"],
-            "whole": [f"{self.signed}.draft.in"],
-            "keys": paths,
-            "key": paths,
+            "origin": [self.told["zone"].rstrip(".") + "."], "file": [self.args.zone_file],
+            "signed": [self.signed], "draft": [f"{self.signed}.draft"],
+            "whole": [f"{self.signed}.draft.in"], "keys": paths,
             "bases": [path.removesuffix(".key") for path in paths],
         }
         quoted = {name: " ".join(map(shlex.quote, of)) for name, of in words.items()}
@@ -94,9 +90,8 @@ class Signer:
         if self.args.signer == "ldns" and True in in_zone and False in seps:
             raise Failure("ldns can't sign a zone with a CSK beside a ZSK: use --signer bind")
         yield self.made(self.tools["sign"], names)
-        cds = [*self.cds_signer(), *zone]
-        tags = {"signers": signers, "zone": zone, "cds": cds}
-        tags = {of: " ".join(str(self.files[name].tag) for name in tags[of]) for of in tags}
+        by = {"signers": signers, "zone": zone, "cds": [*self.cds_signer(), *zone]}
+        tags = {of: " ".join(str(self.files[name].tag) for name in by[of]) for of in by}
         yield self.made(FILTER, **tags)
 
     def cds_signer(self):

@@ -1,8 +1,10 @@
-"""The timeline of a zone as SVG, legible in black and white."""
+"""The timeline of a zone as SVG: in black and white, and as letters for a terminal's browser, which
+draws no shapes."""
 
 from xml.sax.saxutils import escape
 
 from . import words
+from .timeline import Bar
 
 WIDTH, ROW, BAR, LETTER = 740, 22, 12, 7
 HATCH = (
@@ -11,6 +13,8 @@ HATCH = (
     '<line x1="0" y1="0" x2="0" y2="5" stroke="black" stroke-width="2"/></pattern>'
 )
 FILLS = {"in": "black", "cached": "url(#cached)", "phase": "white"}
+SIGNS = {"in": "=", "cached": ".", "phase": "-"}
+SAYS = {"in": "in the set", "cached": "taken out, caches may hold it"}
 SMALL = 'font-size="10"'
 
 
@@ -23,78 +27,85 @@ class Scale:
         self.left = 16 + LETTER * max(map(len, [*made.phases, *made.rows]), default=0)
         self.begin, self.end = made.begin, last + max(1, (last - made.begin) // 20)
 
-    def __call__(self, moment):
+    def __call__(self, moment, left=None, width=WIDTH):
         moment = self.end if moment is None else min(max(moment, self.begin), self.end)
-        return round(self.left + WIDTH * (moment - self.begin) / (self.end - self.begin), 1)
+        part = (moment - self.begin) / (self.end - self.begin)
+        return round((self.left if left is None else left) + width * part, 1)
 
 
 def picture(zone, made, now):
     """The lines of an SVG file: a row for each roll, then a row for each key in each set."""
-    at, y = Scale(made, now), ROW
-    height = ROW * (len(made.phases) + len(made.rows) + 4)
+    at, y, rows = Scale(made, now), ROW, {**made.phases, **made.rows}
+    has_now = at.begin <= now <= at.end
     yield (
         f'<svg xmlns="http://www.w3.org/2000/svg" width="{at.left + WIDTH + 20}" '
-        f'height="{height}" font-family="sans-serif" font-size="12">'
+        f'height="{ROW * (len(rows) + 4)}" font-family="sans-serif" font-size="12">'
     )
-    yield f"<title>{escape(zone)}</title><defs>{HATCH}</defs>"
+    yield f'<title>{escape(zone)}</title><desc><pre xmlns="http://www.w3.org/1999/xhtml">'
+    letters = _letters({**rows, "now": [Bar(now, now, word="now")]} if has_now else rows, at)
+    yield from map(escape, letters)
+    yield f"</pre></desc><defs>{HATCH}</defs>"
     yield '<rect width="100%" height="100%" fill="white"/>'
-    for label, bars in (*made.phases.items(), *made.rows.items()):
+    for label, bars in rows.items():
         yield _text(8, y + BAR - 1, label)
-        for bar in bars:
-            yield from _phase(bar, at, y) if bar.word else _bar(bar, at, y)
+        yield from (part for bar in bars for part in _bar(bar, at, y))
         y += ROW
     yield from _axis(at, y)
-    if at.begin <= now <= at.end:
-        yield from _now(at(now), now, y)
-    yield from _legend(at.left, y + ROW)
+    if has_now:
+        how = f'x1="{at(now)}" y1="14" x2="{at(now)}" y2="{y}" stroke-dasharray="3 3"'
+        yield f'<line class="now" data-at="{now}" {how} stroke="black"/>'
+        yield _text(at(now), 10, "now", f'text-anchor="middle" {SMALL}')
     yield "</svg>"
+
+
+def _spans(bar):
+    """The boxes of a bar: of a phase; or while a key is in a set, then while caches may hold it."""
+    yield "phase" if bar.word else "in", bar.begin, bar.end
+    if not bar.word and bar.end is not None and (bar.gone is None or bar.gone > bar.end):
+        yield "cached", bar.end, bar.gone
+
+
+def _letters(rows, at):
+    """The rows in letters."""
+    width = max(map(len, rows), default=0) + 1
+    columns = max(30, 78 - width)
+    for label, bars in rows.items():
+        row = [" "] * (columns + 1)
+        for kind, *span in (span for bar in bars for span in _spans(bar)):
+            first, last = (round(at(moment, 0, columns)) for moment in span)
+            row[first : last + 1] = SIGNS[kind] * (last - first + 1)
+            row[first] = "|" if kind == "phase" else row[first]
+        yield f"{label:{width}}{''.join(row)}".rstrip()
+    begin, end = (words.moment(round(moment)) for moment in (at.begin, at.end))
+    yield f"{'':{width}}{begin} {end:>{columns - len(begin)}}"
+    yield "=  in the set    .  taken out, caches may hold it    |  here a phase begins"
 
 
 def _text(x, y, text, how=""):
     return f'<text x="{x}" y="{y}" {how}>{escape(text)}</text>'
 
 
-def _box(kind, begin, end, at, y, name=""):
-    x, data = at(begin), f'data-begin="{begin}" data-end="{"" if end is None else end}"'
-    says = f"{name}from {words.moment(begin)} {'on' if end is None else f'to {words.moment(end)}'}"
-    return (
-        f'<rect class="{kind}" x="{x}" y="{y}" width="{max(round(at(end) - x, 1), 1)}" '
-        f'height="{BAR}" fill="{FILLS[kind]}" stroke="black" {data}><title>{says}</title></rect>'
-    )
-
-
 def _bar(bar, at, y):
-    """A solid bar while the key is in the set; a hatched one while caches may still hold it."""
-    yield _box("in", bar.begin, bar.end, at, y)
-    if bar.end is not None and (bar.gone is None or bar.gone > bar.end):
-        yield _box("cached", bar.end, bar.gone, at, y)
-
-
-def _phase(phase, at, y):
-    """A box, with the name of the phase in it if there is room."""
-    box = _box("phase", phase.begin, phase.end, at, y, f"{phase.word}, ")
-    has_room = at(phase.end) - at(phase.begin) > LETTER * len(phase.word)
-    text = _text(at(phase.begin) + 3, y + BAR - 2, phase.word, SMALL) if has_room else ""
-    yield f"<g><title>{escape(phase.word)}</title>{box}{text}</g>"
+    """The boxes of a bar. In that of a phase is its name, if there is room."""
+    for kind, begin, end in _spans(bar):
+        x, data = at(begin), f'data-begin="{begin}" data-end="{"" if end is None else end}"'
+        until = "on" if end is None else f"to {words.moment(end)}"
+        says = f"<title>{bar.word or SAYS[kind]}, from {words.moment(begin)} {until}</title>"
+        yield (
+            f'<rect class="{kind}" x="{x}" y="{y}" width="{max(round(at(end) - x, 1), 1)}" '
+            f'height="{BAR}" fill="{FILLS[kind]}" stroke="black" {data}>{says}</rect>'
+        )
+    if bar.word and at(bar.end) - at(bar.begin) > LETTER * len(bar.word):
+        yield _text(at(bar.begin) + 3, y + BAR - 2, bar.word, SMALL)
 
 
 def _axis(at, y):
+    """The axis, and below it what the boxes mean."""
     yield f'<line x1="{at.left}" y1="{y}" x2="{at.left + WIDTH}" y2="{y}" stroke="black"/>'
     for part, anchor in ((0, "start"), (0.5, "middle"), (1, "end")):
         moment = round(at.begin + part * (at.end - at.begin))
-        how = f'text-anchor="{anchor}" {SMALL}'
-        yield _text(at(moment), y + 14, words.moment(moment), how)
-
-
-def _now(x, now, y):
-    how = 'stroke="black" stroke-dasharray="3 3"'
-    yield f'<line class="now" data-at="{now}" x1="{x}" y1="14" x2="{x}" y2="{y}" {how}/>'
-    yield _text(x, 10, "now", f'text-anchor="middle" {SMALL}')
-
-
-def _legend(left, y):
-    for x, kind, text in ((left, "in", "in the set"),
-                          (left + 120, "cached", "taken out, caches may hold it")):
-        fill = FILLS[kind]
-        yield f'<rect x="{x}" y="{y}" width="24" height="{BAR}" fill="{fill}" stroke="black"/>'
-        yield _text(x + 30, y + BAR - 1, text, SMALL)
+        yield _text(at(moment), y + 14, words.moment(moment), f'text-anchor="{anchor}" {SMALL}')
+    for x, (kind, says) in zip((at.left, at.left + 120), SAYS.items()):
+        box = f'width="24" height="{BAR}" fill="{FILLS[kind]}" stroke="black"'
+        yield f'<rect x="{x}" y="{y + ROW}" {box}/>'
+        yield _text(x + 30, y + ROW + BAR - 1, says, SMALL)

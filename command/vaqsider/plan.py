@@ -32,13 +32,10 @@ class Plan:
         except Malformed as error:
             raise Failure(f"{line}: {error.reason}", USAGE) from None
         published = vars(self.keys.published)
+        asks, verdict = list(words.asks(actions, published)), f"chain {self.keys.chain}"
         self.steps.append({
-            "moment": self.moment,
-            "line": line,
-            "actions": actions,
-            "asks": list(words.asks(actions, published)),
-            "published": published,
-            "verdict": f"chain {self.keys.chain}",
+            "moment": self.moment, "line": line, "actions": actions, "asks": asks,
+            "published": published, "verdict": verdict,
         })
         return words.kinds_of(actions)
 

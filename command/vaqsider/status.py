@@ -69,13 +69,9 @@ def _keys(told):
         name, kind = key["reference"], key["kind"]
         sets = [kind for kind, keys in told["published"].items() if name in keys]
         rolls = [f"{part} in {roll}" for part in ("old", "new") for roll in key[f"{part}_in"]]
+        states = dict.fromkeys(role["state"] for role in key["roles"])
         yield (
-            name,
-            kind if kind == "public" else kind.upper(),
-            key["tag"],
-            key["algorithm"],
-            "/".join(dict.fromkeys(role["state"] for role in key["roles"])),
-            " ".join(sets) or "-",
-            ", ".join(rolls) or "-",
-            "yes" if key["may_be_deleted"] else "-",
+            name, kind if kind == "public" else kind.upper(), key["tag"], key["algorithm"],
+            "/".join(states), " ".join(sets) or None, ", ".join(rolls) or None,
+            "yes" if key["may_be_deleted"] else None,
         )
