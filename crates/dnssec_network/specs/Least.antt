@@ -1,0 +1,46 @@
+-- That the TTL which is due is the least: with a lower one a report may be false.
+use Rattle.std.specs.Prelude.{◌≡◌, ℕ, ◌<◌, ◌≤◌, Bool, true, List, [], ◌∷◌, Result, Ok}
+use Rattle.dnssec_key.specs.declared.roll.RollType.{RollType}
+use Rattle.dnssec_run.specs.Safe.{SetKind, retires}
+use Rattle.dnssec_network.specs.declared.fact.Before.{Before}
+use Rattle.dnssec_network.specs.declared.fact.Fact.{Fact}
+use Rattle.dnssec_network.specs.declared.fact.News.{News}
+use Rattle.dnssec_network.specs.declared.fact.News.TheVariants.{Published, Everywhere}
+use Rattle.dnssec_network.specs.declared.progress.Newest.{Newest}
+use Rattle.dnssec_network.specs.Facts.{AreTrue, news_of}
+use Rattle.dnssec_network.specs.Network.{IsTrueReport, Network, NeverGoesBack}
+use Rattle.dnssec_network.specs.Notes.{first_newest, newest_after}
+use Rattle.dnssec_network.specs.Reports.{due}
+
+-- The news of a kind come one after another, after a version with the sets of the position `last`.
+abbrev pub ComeInOrder : ℕ → ℕ → Newest → List News → Type 0
+ComeInOrder base last newest [] = Unit {0}
+-- no version is published before the one that precedes it, and none goes back to before `base`
+ComeInOrder base last newest (Published position ttl moment ∷ later) =
+    (newest.published ≤ moment) × (base ≤ last → base ≤ position)
+    × ComeInOrder base position (newest_after (Published position ttl moment) newest) later
+-- a version is seen everywhere only after it was published, and no earlier than the one seen before
+ComeInOrder base last newest (Everywhere moment ∷ later) =
+    (newest.published < moment) × (newest.seen ≤ moment)
+    × ComeInOrder base last (newest_after (Everywhere moment) newest) later
+
+-- By these facts a report may be false: there is a network of which they are true, in which nothing
+-- goes back to before the step, and a cache still holds what the report retires.
+pub record MayBeFalse (before : Before) (facts : List Fact) (roll : RollType) (second : Bool)
+    (base moment ttl : ℕ) : Type 0 where
+  pub network : Network
+  pub are_true : AreTrue before facts network
+  pub kind : SetKind
+  pub speaks : retires roll second kind ≡ true
+  pub back : NeverGoesBack network kind base
+  pub is_false : IsTrueReport network kind base moment ttl → ⊥
+
+-- A report with a lower TTL than the one that is due may be false.
+abbrev pub LeastTtlIsDue : Type 0
+LeastTtlIsDue =
+    (before : Before) (facts : List Fact) (roll : RollType) (second : Bool)
+    (base moment ttl less : ℕ) →
+    ((kind : SetKind) → ComeInOrder base 0 first_newest (news_of kind facts)) →
+    due before facts roll second base moment ≡ Ok ttl →
+    less < ttl →
+    MayBeFalse before facts roll second base moment less
