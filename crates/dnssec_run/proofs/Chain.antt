@@ -24,8 +24,13 @@ pub mod Gentles
 pub mod KeyCalls
 pub mod Phases
 pub mod RollFacts
+pub mod Keeping
+pub mod Life
 pub mod BothSides
 pub mod FirstCalls
+pub mod FirstWaits
 pub mod SideBySide
 pub mod Allowed
+pub mod Algorithms
+pub mod Family
 pub mod Trust

@@ -10,6 +10,7 @@ ghost use Rattle.dnssec_run.specs.EarlyEnds.{UndoesStarts};
 ghost use Rattle.dnssec_run.specs.WholeRolls.{GoesOn, NeverMissesStamp, RollsFinish};
 ghost use Rattle.dnssec_run.specs.WholeRolls.{SettlesBetweenRolls, WaitsExactly};
 ghost use Rattle.dnssec_run.specs.Plain.{StaysSafe};
+ghost use Rattle.dnssec_run.specs.ByAlgorithm.{StaysSafeByEach};
 ghost use Rattle.dnssec_run.specs.Published.{World};
 ghost use Rattle.dnssec_run.specs.Record.{IsRun, KeepsSidesApart};
 ghost use Rattle.dnssec_run.specs.Record.{NeighboursMayBeExchanged, StaysSound, call_of};
@@ -328,6 +329,8 @@ pub fn run<'a>(alloc: Global, name: Name<Vec<u8>>, calls: Vec<Call<'a>>) -> Resu
     ensures changes { IfOk result (λ run. ChangesAsAsked calls.entry.items run.entries.items) }
     ensures retires { IfOk result (λ run. RetiresAsAsked run.entries.items) }
     ensures chain { IfOk result (λ run. StaysSafe name calls.entry.items run.entries.items) }
+    ensures each_chain { IfOk result (λ run. StaysSafeByEach name calls.entry.items
+        run.entries.items) }
     ensures err { IfErr result (λ e. e ≡ OutOfMemory) }
 {
     let Ok(mut entries) = Vec::with_capacity(alloc, calls.len()) else {
