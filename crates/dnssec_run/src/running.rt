@@ -285,6 +285,11 @@ impl Recorder {
 /// that the DS names is in that DNSKEY set and signs it, and a key of that set signs the zone (RFC
 /// 4035, section 5).
 ///
+/// A plain list keeps the sets whole if after each accepted start the algorithms of its KSKs are
+/// among those of its ZSKs, and only an algorithm roll gives the KSKs a new one. Keys count that
+/// aren't old and are in a set; a CSK counts as both. Then each algorithm of the DS set has such a
+/// chain by its keys alone, for validators that ask for it (RFC 4035, section 2.2).
+///
 /// If nothing is set by hand but other signers' keys, no wait lacks a stamp, and between the rolls
 /// each role of a key is future, active or stale. A started roll goes on by its reports, waits and
 /// its end. Each key that it listed as old is then stale or was deleted, and each that it listed as

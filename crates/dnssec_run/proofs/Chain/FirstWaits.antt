@@ -20,7 +20,7 @@ use Rattle.dnssec_run.proofs.Chain.Keeping.{reads-engaged, zone-stays}
 use Rattle.dnssec_run.proofs.Chain.Rolls.{stage_fits, same-same, stage_early}
 use Rattle.dnssec_run.proofs.Chain.History.{Serving, Without, base_here, first-retires}
 use Rattle.dnssec_run.proofs.Chain.History.{second-retires}
-use Rattle.dnssec_run.proofs.Chain.Places.{all_ok, NoDs, no_ds-bare, ds_shown}
+use Rattle.dnssec_run.proofs.Chain.Places.{all_ok, NoDs, no_ds-bare, ds_shown, some_of}
 use Rattle.dnssec_run.proofs.Chain.Returns.{KeepsLists}
 use Rattle.dnssec_run.proofs.Chain.Invariant.{At, Alive, Gentle, HasNo, Lasts, Left, at-gentle}
 use Rattle.dnssec_run.proofs.Chain.Invariant.{has_no-gentle, lasts-gentle}
@@ -236,14 +236,10 @@ module _ (tale : Tale) (n : ℕ) (here : suc n ≤ length tale.es) where
                   let t = subst (λ r. Reads tale r false n) first
                   (h.phases r (CacheExpire1 ttl) phase).0 in
                   lacks t.0 (tale.all w t.0)
-                  (by (found (world_at tale n) t.0)
+                  (some_of (fits Keys (Early AlgorithmRoll)) (stays AlgorithmRoll false) engaged
+                  reads-engaged (found (world_at tale n) t.0)
                   (subst (λ r. all_ok (fits Keys (Early r)) (found (world_at tale n) t.0) ≡ true)
                   first (keys_early h (ap (affects Keys) first) t.0)) t.1)
-                where
-                  by : (o : Option Key) → all_ok (fits Keys (Early AlgorithmRoll)) o ≡ true
-                      → if_some (stays AlgorithmRoll false) o ≡ true → if_some engaged o ≡ true
-                  by None f e = absurd (true≢false (sym e))
-                  by (Some k) f e = reads-engaged k.keytype f e
 
           by : (b : Bool) → affects Keys r ≡ b → Inv tale (suc n)
           by true own = next (λ id o e. lacks id o

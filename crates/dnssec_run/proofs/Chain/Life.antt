@@ -20,7 +20,7 @@ use Rattle.dnssec_run.proofs.Chain.Facts.{test-seen, use-seen, live-seen, remain
 use Rattle.dnssec_run.proofs.Chain.Keeping.{engaged, engaged-seen, of_key, before_first}
 use Rattle.dnssec_run.proofs.Chain.History.{Without, base_same}
 use Rattle.dnssec_run.proofs.Chain.Places.{all_ok, NoDs, LessDs, no_ds-bare, ds_shown}
-use Rattle.dnssec_run.proofs.Chain.Places.{without-next, some_weaker, some_key}
+use Rattle.dnssec_run.proofs.Chain.Places.{without-next, some_of, some_weaker}
 use Rattle.dnssec_run.proofs.Chain.Invariant.{At, Alive, Based, Gentle, Has, HasNo, Lasts, Left}
 use Rattle.dnssec_run.proofs.Chain.Invariant.{has-gentle, has_no-gentle, lasts-gentle}
 
@@ -84,24 +84,16 @@ pub lasts-keeps : (tale : Tale) (st : Stage) (n : ℕ) → At tale Keys st n →
     → Has tale keeps_ksk n
 lasts-keeps tale Quiet n h a = (
   a.0.0,
-  by (found (world_at tale n) a.0.0) (h.flags a.0.0) a.0.1,
+  some_of (fits Keys Quiet) (in_use Keys) keeps_ksk (λ k f. (of_key k).rest_keeps f)
+      (found (world_at tale n) a.0.0) (h.flags a.0.0) a.0.1,
   a.0.2,
 )
-  where
-    by : (o : Option Key) → all_ok (fits Keys Quiet) o ≡ true → if_some (in_use Keys) o ≡ true
-        → if_some keeps_ksk o ≡ true
-    by None f e = absurd (true≢false (sym e))
-    by (Some k) f e = (of_key k.keytype).rest_keeps f e
 lasts-keeps tale (Early r) n h a = (
   a.1.0,
-  by (found (world_at tale n) a.1.0) (h.flags a.1.0) a.1.1,
+  some_of (fits Keys (Early r)) (remains Keys r) keeps_ksk (λ k f. (before_first r k h.own f).kept)
+      (found (world_at tale n) a.1.0) (h.flags a.1.0) a.1.1,
   a.1.2,
 )
-  where
-    by : (o : Option Key) → all_ok (fits Keys (Early r)) o ≡ true → if_some (remains Keys r) o
-        ≡ true → if_some keeps_ksk o ≡ true
-    by None f e = absurd (true≢false (sym e))
-    by (Some k) f e = (before_first r k.keytype h.own f).kept e
 lasts-keeps tale (Late r) n h a = (
   a.1.0,
   some_weaker (live Keys) keeps_ksk (λ k e. (of_key k).live_keeps e)

@@ -22,7 +22,7 @@ use Rattle.dnssec_run.proofs.Chain.Keeping.{before_second, engaged, engaged-seen
 use Rattle.dnssec_run.proofs.Chain.Rolls.{stage_fits, same-same, stage_early, stage_late}
 use Rattle.dnssec_run.proofs.Chain.History.{Serving, Without, second-retires}
 use Rattle.dnssec_run.proofs.Chain.Places.{all_ok, NoDs, no_ds-bare, no_ds-next, no_ds-now}
-use Rattle.dnssec_run.proofs.Chain.Places.{shows_ds}
+use Rattle.dnssec_run.proofs.Chain.Places.{shows_ds, some_of}
 use Rattle.dnssec_run.proofs.Chain.EarlyEnds.{ended-less}
 use Rattle.dnssec_run.proofs.Chain.Returns.{KeepsLists, early_end_key}
 use Rattle.dnssec_run.proofs.Chain.Invariant.{At, Alive, Common, Gentle, HasNo, Lasts, Left}
@@ -292,13 +292,9 @@ module _ (tale : Tale) (n : ℕ) (here : suc n ≤ length tale.es) where
       -- what isn't in the DS set then isn't in a set on the side of keys
       no_engaged : NoDs tale (suc n) → affects Keys r ≡ true → HasNo tale engaged (suc n)
       no_engaged d own id o e = no_ds-now tale (suc n) d id o
-          (shows_ds tale (suc n) here id (by (found (world_at tale (suc n)) id)
+          (shows_ds tale (suc n) here id (some_of (fits Keys Quiet) engaged in_ds
+          (λ k f. (of_key k).rest_ds f) (found (world_at tale (suc n)) id)
           ((subst (λ s. At tale Keys s (suc n)) (x.0.2 own) x.0.1).flags id) e))
-        where
-          by : (o : Option Key) → all_ok (fits Keys Quiet) o ≡ true → if_some engaged o ≡ true
-              → if_some in_ds o ≡ true
-          by None f e = absurd (true≢false (sym e))
-          by (Some k) f e = (of_key k.keytype).rest_ds f e
 
       end_absent : Absent tale h.ks h.zs n → HasNo tale engaged (suc n)
       end_absent d = elim (d.2) [
