@@ -1,13 +1,11 @@
 -- The invariant of both sides together, and what one step does to its parts.
-use Rattle.std.proofs.Common.{◌≡◌, ℕ, suc, ◌<◌, ◌≤◌, ◌⊎◌, inl, inr, Bool, true, false, refl, sym}
-use Rattle.std.proofs.Common.{◌∙◌, ap, subst, arith, List, length, Option, None, Some}
+use Rattle.std.proofs.Common.{◌≡◌, ℕ, suc, ◌≤◌, Bool, true, false, refl, sym}
+use Rattle.std.proofs.Common.{◌∙◌, ap, subst, List, length, Option, None, Some}
 use Rattle.std.specs.Prelude.{◌==◌}
 use Rattle.std.specs.Option.{option_map}
-use Rattle.std.specs.List.{Contains}
-use Rattle.std.proofs.lemmas.Bool.{and_parts, cases_lt}
+use Rattle.std.proofs.lemmas.Bool.{and_parts}
 use Rattle.std.proofs.lemmas.Option.{same_Some, none-some}
 use Rattle.dnssec_key.specs.declared.roll.RollType.{RollType}
-use Rattle.dnssec_key.specs.declared.roll.RollType.TheVariants.{AlgorithmRoll}
 use Rattle.dnssec_key.specs.declared.roll.RollState.{RollState}
 use Rattle.dnssec_key.specs.declared.roll.RollState.TheVariants.{Propagation1, Propagation2, Done}
 use Rattle.dnssec_key.specs.declared.kind.KeyType.{KeyType}
@@ -15,8 +13,7 @@ use Rattle.dnssec_zone.specs.Rolls.{same_roll}
 use Rattle.dnssec_run.specs.declared.record.Mark.TheVariants.{Other, Step, Report}
 use Rattle.dnssec_run.specs.Published.{Id, in_ds}
 use Rattle.dnssec_run.specs.Safe.{Ds, position_at, is_step}
-use Rattle.dnssec_run.proofs.Premise.{DoesAt, first_wait_of}
-use Rattle.dnssec_zone.proofs.Flags.{SideOf, Keys, Zone, tolerates, Stage, Quiet, Early}
+use Rattle.dnssec_zone.proofs.Flags.{SideOf, Keys, Zone, tolerates, Stage}
 use Rattle.dnssec_run.proofs.Chain.Tale.{Tale, World, Key, found, if_some, world_at, put_roll}
 use Rattle.dnssec_run.proofs.Chain.Tale.{rolled, report_key, waiting, spreading}
 use Rattle.dnssec_run.proofs.Chain.Flags.{in_use, in_other, in_keys}

@@ -1,10 +1,9 @@
 -- What a start makes of a family of keys: of all keys, by what it has to leave; of those of one
 -- algorithm, if it keeps the sets whole.
-use Rattle.std.proofs.Common.{◌≡◌, ℕ, suc, ◌≤◌, ◌⊎◌, inl, inr, Bool, true, false, not, ◌&&◌, ◌||◌}
+use Rattle.std.proofs.Common.{◌≡◌, ℕ, suc, ◌≤◌, ◌⊎◌, inl, inr, Bool, true, false, ◌&&◌, ◌||◌}
 use Rattle.std.proofs.Common.{refl, sym, ◌∙◌, ap, subst, arith, List, length, Option, None, Some}
 use Rattle.std.specs.Prelude.{nat_eq}
 use Rattle.std.specs.Option.{option_map}
-use Rattle.std.specs.FinMap.{get}
 use Rattle.std.proofs.lemmas.Bool.{true≢false, and_parts}
 use Rattle.std.proofs.lemmas.Bool.Decides.{nat_tests}
 use Rattle.dnssec_key.specs.declared.roll.RollType.{RollType}
@@ -17,7 +16,7 @@ use Rattle.dnssec_zone.specs.Keys.{some_key}
 use Rattle.dnssec_zone.specs.Start.{may_change_algorithms}
 use Rattle.dnssec_zone.proofs.Quantified.{some_key-found, some_key-none}
 use Rattle.dnssec_zone.proofs.Tests.{and-both, or_second}
-use Rattle.dnssec_zone.proofs.Flags.{SideOf, Keys, Zone, affects, Quiet, Early, fits, may_start}
+use Rattle.dnssec_zone.proofs.Flags.{SideOf, Keys, Zone, affects, Quiet, Early, fits}
 use Rattle.dnssec_zone.proofs.Flags.{started}
 use Rattle.dnssec_run.specs.ByAlgorithm.{KeepsWhole, HasKeyOf, keeps_ksk, keeps_zsk}
 use Rattle.dnssec_run.specs.ByAlgorithm.{algorithm_at, algorithm_of}

@@ -1,5 +1,5 @@
 -- A first wait keeps the invariant of both sides.
-use Rattle.std.proofs.Common.{◌≡◌, ℕ, suc, ◌≤◌, ◌⊎◌, inl, inr, Bool, true, false, refl, sym, ◌∙◌}
+use Rattle.std.proofs.Common.{◌≡◌, ℕ, suc, ◌≤◌, inl, inr, Bool, true, false, refl, sym, ◌∙◌}
 use Rattle.std.proofs.Common.{ap, subst, arith, length, Option, None, Some}
 use Rattle.std.specs.Option.{option_map}
 use Rattle.std.proofs.lemmas.Bool.{true≢false}
@@ -199,10 +199,13 @@ module _ (tale : Tale) (n : ℕ) (here : suc n ≤ length tale.es) where
           let lz = subst (λ r. Left tale Zone (Early r) n) first c.3 in
           let x = wait1_side Keys h.ks h.phases h.keys
           (λ out. absurd (true≢false (sym keys ∙ out)))
-          (λ own w. inr (inl (lk, subst (λ r. (id : Id) (q : ℕ) → q ≤ n
-          → (IsGone tale.es (second_kind Keys r) q n → ⊥)
-          → Serving tale Keys (second_kind Keys r) q id) first
-          (λ id q le un. inl (d q le un))))) in
+          (λ own w. inr (inl (
+            lk,
+            subst (λ r. (id : Id) (q : ℕ) → q ≤ n
+                → (IsGone tale.es (second_kind Keys r) q n → ⊥)
+                → Serving tale Keys (second_kind Keys r) q id) first
+                (λ id q le un. inl (d q le un)),
+          ))) in
           let y = wait1_side Zone h.zs h.phases h.zone
           (λ out. absurd (true≢false (sym zone ∙ out)))
           (λ own w. absurd (true≢false (sym w ∙ ap (switches Zone) (sym first)))) in

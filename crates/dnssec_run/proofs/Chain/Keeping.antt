@@ -1,9 +1,9 @@
 -- More facts of the tables: keys in a set on the side of keys, and keys that stay, for a family of
 -- keys that comes, stays or leaves.
 use Rattle.dnssec_zone.proofs.Tests.{each_key, each_key-at, ◌⇒◌, mp, and-both, each_in_roll}
-use Rattle.dnssec_zone.proofs.Tests.{each_in_roll-at, each_listed, each_listed-at, each_roll}
-use Rattle.dnssec_zone.proofs.Tests.{each_roll-at, or_second}
-use Rattle.dnssec_zone.proofs.Flags.{SideOf, Keys, Zone, affects, fits, Quiet, Early, Late}
+use Rattle.dnssec_zone.proofs.Tests.{each_in_roll-at, each_listed, each_listed-at}
+use Rattle.dnssec_zone.proofs.Tests.{or_second}
+use Rattle.dnssec_zone.proofs.Flags.{Keys, Zone, affects, fits, Quiet, Early, Late}
 use Rattle.dnssec_zone.proofs.Flags.{has_role, is_idle, may_start, started, waited1, waited2}
 use Rattle.std.proofs.Common.{◌≡◌, Bool, true, false, not, ◌&&◌, ◌||◌, refl}
 use Rattle.std.proofs.lemmas.Bool.{and_parts, not-true}

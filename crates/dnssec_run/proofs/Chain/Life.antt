@@ -1,8 +1,8 @@
 -- How a family of keys fares: it stays on both sides, leaves, or isn't there. Calls that leave both
 -- sides alone keep that.
-use Rattle.std.proofs.Common.{◌≡◌, ℕ, suc, ◌<◌, ◌≤◌, ◌⊎◌, inl, inr, Bool, true, false, refl, sym}
-use Rattle.std.proofs.Common.{◌∙◌, subst, arith, length, List, Option, None, Some}
-use Rattle.std.proofs.lemmas.Bool.{true≢false, cases_lt, or_right}
+use Rattle.std.proofs.Common.{◌≡◌, ℕ, suc, ◌<◌, ◌≤◌, ◌⊎◌, inl, inr, true, false}
+use Rattle.std.proofs.Common.{◌∙◌, subst, arith, length, List, Some}
+use Rattle.std.proofs.lemmas.Bool.{cases_lt, or_right}
 use Rattle.dnssec_key.specs.declared.roll.RollType.{RollType}
 use Rattle.dnssec_key.specs.declared.roll.RollType.TheVariants.{AlgorithmRoll}
 use Rattle.dnssec_key.specs.declared.kind.KeyType.{KeyType}
@@ -11,7 +11,7 @@ use Rattle.dnssec_run.specs.Published.{Id, in_ds}
 use Rattle.dnssec_run.specs.Safe.{Ds}
 use Rattle.dnssec_run.proofs.Premise.{DoesAt, first_wait_of, start_of}
 use Rattle.dnssec_zone.proofs.Flags.{SideOf, Keys, Zone, affects, Stage, Quiet, Early, Late, fits}
-use Rattle.dnssec_run.proofs.Chain.Tale.{Tale, Key, found, if_some, world_at, start_key, CanStart}
+use Rattle.dnssec_run.proofs.Chain.Tale.{Tale, found, world_at, start_key, CanStart}
 use Rattle.dnssec_run.proofs.Chain.OneKey.{Mapped}
 use Rattle.dnssec_key.specs.declared.roll.RollState.TheVariants.{Propagation1}
 use Rattle.dnssec_run.proofs.Chain.Side.{upto}
@@ -19,7 +19,7 @@ use Rattle.dnssec_run.proofs.Chain.Flags.{in_use, live, remains}
 use Rattle.dnssec_run.proofs.Chain.Facts.{test-seen, use-seen, live-seen, remains-seen}
 use Rattle.dnssec_run.proofs.Chain.Keeping.{engaged, engaged-seen, of_key, before_first}
 use Rattle.dnssec_run.proofs.Chain.History.{Without, base_same}
-use Rattle.dnssec_run.proofs.Chain.Places.{all_ok, NoDs, LessDs, no_ds-bare, ds_shown}
+use Rattle.dnssec_run.proofs.Chain.Places.{all_ok, NoDs, LessDs, ds_shown}
 use Rattle.dnssec_run.proofs.Chain.Places.{without-next, some_of, some_weaker}
 use Rattle.dnssec_run.proofs.Chain.Invariant.{At, Alive, Based, Gentle, Has, HasNo, Lasts, Left}
 use Rattle.dnssec_run.proofs.Chain.Invariant.{has-gentle, has_no-gentle, lasts-gentle}

@@ -127,12 +127,18 @@ module _ (tale : Tale) (n : ℕ) (here : suc n ≤ length tale.es) where
           let y = wait2_side Zone h.zs h.phases h.zone dead in
           both tale n r x.0 y.0 (wait2_pairs h.pairs) (wait2_phases h) (inl (
             lasts-to tale n Keys r h.ks Quiet x.0
-                (λ own. (x.1 own
-                (subst (λ s. Left tale Keys s n) (late_stage Keys h.ks own h.keys) k.1), tt))
+                (λ own. (
+                  x.1 own
+                      (subst (λ s. Left tale Keys s n) (late_stage Keys h.ks own h.keys) k.1),
+                  tt,
+                ))
                 (λ out. lasts-gentle tale n here Keys h.ks (x.2 out) k),
             lasts-to tale n Zone r h.zs Quiet y.0
-                (λ own. (y.1 own
-                (subst (λ s. Left tale Zone s n) (late_stage Zone h.zs own h.zone) z.1), tt))
+                (λ own. (
+                  y.1 own
+                      (subst (λ s. Left tale Zone s n) (late_stage Zone h.zs own h.zone) z.1),
+                  tt,
+                ))
                 (λ out. lasts-gentle tale n here Zone h.zs (y.2 out) z),
           ))
 

@@ -1,6 +1,6 @@
 -- The calls of a roll on a side that the roll affects.
 use Rattle.std.proofs.Common.{◌≡◌, ℕ, suc, ◌<◌, ◌≤◌, ◌⊎◌, inl, inr, Bool, true, false, not, ◌&&◌}
-use Rattle.std.proofs.Common.{refl, sym, ◌∙◌, ap, subst, arith, List, length, Option, None, Some}
+use Rattle.std.proofs.Common.{refl, sym, ◌∙◌, ap, arith, List, length, Option, None, Some}
 use Rattle.std.specs.Option.{option_map, option_map_or}
 use Rattle.dnssec_key.specs.State.{is_kept}
 use Rattle.dnssec_key.specs.Key.{all_states}
@@ -14,17 +14,16 @@ use Rattle.dnssec_run.specs.Published.{Id}
 use Rattle.dnssec_run.specs.Safe.{SetKind, position_at, base_below, is_step, IsGone, retires}
 use Rattle.dnssec_zone.proofs.Flags.{SideOf, affects, Quiet, Early, Late, fits, may_start}
 use Rattle.dnssec_zone.proofs.Flags.{started, ended}
-use Rattle.dnssec_run.proofs.Chain.Tables.{serves_new, serves_kept}
 use Rattle.dnssec_run.proofs.Chain.Tale.{Tale, Key, found, if_some, world_at, start_key, wait1_key}
 use Rattle.dnssec_run.proofs.Chain.Tale.{wait2_key, is_listed, CanStart}
 use Rattle.dnssec_run.proofs.Chain.Side.{upto, Witness, rest-starts, rest-broadens, early-switches}
 use Rattle.dnssec_run.proofs.Chain.Side.{broad-rests, late-closes, rest_shrinks}
 use Rattle.dnssec_run.proofs.Chain.Flags.{first_kind, second_kind, first_test, second_test, in_use}
-use Rattle.dnssec_run.proofs.Chain.Flags.{test_of, live, remains, switches, start_facts}
+use Rattle.dnssec_run.proofs.Chain.Flags.{test_of, live, switches}
 use Rattle.dnssec_run.proofs.Chain.Rolls.{stage_fits, same-same, others_early, others_late}
 use Rattle.dnssec_run.proofs.Chain.Rolls.{put-fits, clash}
 use Rattle.dnssec_run.proofs.Chain.History.{Serving, base_here, retired_stays}
-use Rattle.dnssec_run.proofs.Chain.Places.{all_ok, side, NoDs, found_key, found_now, some_weaker}
+use Rattle.dnssec_run.proofs.Chain.Places.{all_ok, side, NoDs, found_key, some_weaker}
 use Rattle.dnssec_run.proofs.Chain.Places.{real, shows, some_key}
 use Rattle.dnssec_run.proofs.Chain.EarlyEnds.{there_and_back, is_tied, back-fits, back-set}
 use Rattle.dnssec_run.proofs.Chain.EarlyEnds.{ended-less}
@@ -33,7 +32,7 @@ use Rattle.dnssec_run.proofs.Chain.Invariant.{At, AtRest, EarlyOf, LateOf, Alive
 use Rattle.dnssec_run.proofs.Chain.Invariant.{Left, Lasts}
 use Rattle.dnssec_run.proofs.Chain.Invariant.{used_second, rest_side, side_rest}
 use Rattle.dnssec_run.proofs.Chain.OneKey.{Mapped, may_at, start-fit, start-inner, start-second}
-use Rattle.dnssec_run.proofs.Chain.OneKey.{start-used, suits, w1-first, w1-fit, w1-keep, w1-second}
+use Rattle.dnssec_run.proofs.Chain.OneKey.{start-used, w1-first, w1-fit, w1-keep, w1-second}
 use Rattle.dnssec_run.proofs.Chain.OneKey.{w1-some, w2-first, w2-fit, w2-second, w2-used}
 
 -- ---- one step

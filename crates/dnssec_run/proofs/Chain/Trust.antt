@@ -3,7 +3,7 @@
 use Rattle.dnssec_keyset.proofs.Accepted.{refused_same, is_refused, accepted_changes, no_some}
 use Rattle.dnssec_keyset.proofs.Accepted.{no_error, gone_key, spreads_first, spreads_second}
 use Rattle.dnssec_keyset.proofs.Accepted.{finishes, ends_early}
-use Rattle.std.proofs.Common.{[], ◌≡◌, ℕ, zero, suc, ◌≤◌, inl, inr, Bool, true, false, refl, sym}
+use Rattle.std.proofs.Common.{◌≡◌, ℕ, zero, suc, ◌≤◌, inl, inr, Bool, true, false, refl, sym}
 use Rattle.std.proofs.Common.{◌∙◌, ap, subst, arith, List, length, Option, None, Some}
 use Rattle.std.specs.Prelude.{if◌then◌else◌, ◌==◌}
 use Rattle.std.specs.Option.{option_map}
@@ -405,9 +405,9 @@ module _ (name : List ℕ) (calls : List Call) (entries : List Entry)
   safe_at : (n : ℕ) → n ≤ length entries → IsSafe entries n
   safe_at n le p q z up uq uz = elim
       (family-safe whole n (always whole (whole-law whole refl) n le) p q z up uq uz) [
-    | inl none ↦ inl (nothing_in _ (λ id c. none id refl c))
-    | inr c ↦ inr ((c.0.0, c.0.1, c.0.2.0, c.0.2.1), (c.1.0, c.1.1, c.1.2))
-  ]
+        | inl none ↦ inl (nothing_in _ (λ id c. none id refl c))
+        | inr c ↦ inr ((c.0.0, c.0.1, c.0.2.0, c.0.2.1), (c.1.0, c.1.1, c.1.2))
+      ]
 
   each_at : KeepsWhole name calls entries → (n : ℕ) → n ≤ length entries
       → IsSafeByEach calls entries n
