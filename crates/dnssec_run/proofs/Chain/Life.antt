@@ -48,8 +48,8 @@ abbrev pub Comes : Tale → Stage → Stage → ℕ → Type 0
 Comes tale ks zs n = (ks ≡ Early AlgorithmRoll) × (zs ≡ Early AlgorithmRoll)
     × Left tale Keys (Early AlgorithmRoll) n × Left tale Zone (Early AlgorithmRoll) n
 
--- It isn't in any DS set that caches may hold. It comes, or none of its keys is in a set on the side
--- of keys. If all keys are of it, no algorithm roll has yet passed its first wait.
+-- It isn't in any DS set that caches may hold. It comes, or none of its keys is in a set on the
+-- side of keys. If all keys are of it, no algorithm roll has yet passed its first wait.
 abbrev pub Absent : Tale → Stage → Stage → ℕ → Type 0
 Absent tale ks zs n = NoDs tale n × (tale.whole ≡ true → Unpassed tale n)
     × (HasNo tale engaged n ⊎ Comes tale ks zs n)
@@ -113,15 +113,15 @@ without-engaged tale n here none id o c = none id o
 
 -- ---- a start
 
--- On the side of keys none of the family will be in use. On that of the zone one will sign, or those
--- that sign go on until the second wait.
+-- On the side of keys none of the family will be in use. On that of the zone one will sign, or
+-- those that sign go on until the second wait.
 abbrev pub Fades : Tale → ℕ → RollType → Type 0
 Fades tale n r = (affects Zone r ≡ true) × (tale.whole ≡ false) × HasNo tale (remains Keys r) n
     × (Left tale Zone (Early r) n ⊎ (r ≡ AlgorithmRoll))
 
 -- What the start behind position n makes of the family. One in use stays or leaves on the side of
--- keys; it stays on that of the zone, if it does on the other; one that isn't there stays away, or an
--- algorithm roll brings it in.
+-- keys. It stays on that of the zone, if it does on the other. One that isn't there stays away, or
+-- an algorithm roll brings it in.
 pub record Goes (tale : Tale) (n : ℕ) (r : RollType) : Type 0 where
   pub keys : affects Keys r ≡ true → Alive tale Keys n → Left tale Keys (Early r) (suc n)
       ⊎ Fades tale (suc n) r
