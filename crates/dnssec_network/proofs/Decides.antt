@@ -103,7 +103,7 @@ no-more n position ttl moment later time =
           omega (arith, rec, same)
       | inr after ↦
           let same : reached n (Published position ttl moment ∷ later) time
-              ≡ reached (suc n) later time = goes-on n position ttl moment later time after in
+          ≡ reached (suc n) later time = goes-on n position ttl moment later time after in
           omega (arith, same)
     ]
 
@@ -151,10 +151,11 @@ clear-later base last e v n newest (Published position ttl moment ∷ later) ord
     clear-later base position e v (suc n) (newest_after (Published position ttl moment) newest)
     later order.2 le
 clear-later base last e v n newest (Everywhere moment ∷ later) order le =
-    let seen : newest.seen ≤ moment = order.1 in
-    (λ lt. absurd (omega (arith, lt, le, seen)),
-    clear-later base last e v n (newest_after (Everywhere moment) newest) later order.2
-    (omega (arith, le, seen)))
+    let seen : newest.seen ≤ moment = order.1 in (
+      λ lt. absurd (omega (arith, lt, le, seen)),
+      clear-later base last e v n (newest_after (Everywhere moment) newest) later order.2
+          (omega (arith, le, seen)),
+    )
 
 -- ---- a sight from which on older versions expire last
 
@@ -259,9 +260,16 @@ module _ (position ttl whole : ℕ → ℕ) (base : ℕ) where
       order.2 (follows-on n newest.published at lives moment later order.0 follows)) [
         | inl same ↦ inl same
         | inr d ↦ inr (record {
-            v = d.v; e = d.e; before = d.before; ends = d.ends; positive = d.positive;
-            reaches = d.reaches; late = d.late; above = d.above; clear = d.clear;
-          })
+          v = d.v;
+          e = d.e;
+          before = d.before;
+          ends = d.ends;
+          positive = d.positive;
+          reaches = d.reaches;
+          late = d.late;
+          above = d.above;
+          clear = d.clear;
+        })
       ]
   decided n first newest s (Everywhere moment ∷ later) has holds order follows =
       let published : newest.published < moment = order.0 in
@@ -269,7 +277,7 @@ module _ (position ttl whole : ℕ → ℕ) (base : ℕ) where
       let low : first ≤ n = holds.low in
       elim (decided n n (newest_after (Everywhere moment) newest)
       (after base s (Everywhere moment)) later
-      (record { position_is = has.position_is; ttl_is = has.ttl_is; })
+      (record { position_is = has.position_is; ttl_is = has.ttl_is })
       (record {
         position_is = holds.position_is;
         ttl_is = holds.ttl_is;
@@ -282,7 +290,11 @@ module _ (position ttl whole : ℕ → ℕ) (base : ℕ) where
             let above : n ≤ d.v = d.above in
             let late : moment ≤ d.e = d.late in
             inr (record {
-              v = d.v; e = d.e; before = d.before; ends = d.ends; positive = d.positive;
+              v = d.v;
+              e = d.e;
+              before = d.before;
+              ends = d.ends;
+              positive = d.positive;
               reaches = d.reaches;
               late = omega (arith, late, seen);
               above = omega (arith, above, low);
@@ -317,9 +329,11 @@ module _ (position ttl whole : ℕ → ℕ) (base : ℕ) where
               reaches = omega (arith, below, reach, follow);
               late = seen;
               above = old.4;
-              clear = (λ lt. absurd (omega (arith, lt)),
-              clear-later base s.position moment old.0 n (newest_after (Everywhere moment) newest)
-              later order.2 (omega arith));
+              clear = (
+                λ lt. absurd (omega (arith, lt)),
+                clear-later base s.position moment old.0 n (newest_after (Everywhere moment) newest)
+                    later order.2 (omega arith),
+              );
             })
         | inr less ↦ inl (omega (arith, same, less))
       ]

@@ -81,9 +81,9 @@ capped-rises v e early late a b le more =
     capped-above (capped v e a early) v e b late
     (let low : capped v e a early ≤ a = capped-low v e a early in omega (arith, low, more))
     (λ before.
-        let first : nat_lt early e ≡ true = grind (arith, before, le) in
-        subst (λ c. (if c then (if nat_lt a v then a else v) else a) ≤ v) (sym first)
-        (by (nat_lt a v) (λ is. grind (arith, is))))
+    let first : nat_lt early e ≡ true = grind (arith, before, le) in
+    subst (λ c. (if c then (if nat_lt a v then a else v) else a) ≤ v) (sym first)
+    (by (nat_lt a v) (λ is. grind (arith, is))))
   where
     by : (c : Bool) → (c ≡ true → a ≤ v) → (if c then a else v) ≤ v
     by true low = low refl
@@ -102,43 +102,45 @@ are-true : (network : Network) (kind : SetKind) (base last v e n : ℕ) (whole :
 are-true network kind base last v e n whole newest [] given has follows low order clear = tt
 are-true network kind base last v e n whole newest (Published at lives moment ∷ later) given has
     follows low order clear =
-    let ttl : network.ttl kind (suc n) ≡ lives = has.ttl_is (suc n) 0 (omega arith) in
-    (has.position_is (suc n) 0 (omega arith),
-    omega (arith, ttl),
-    (λ server time serves lt. held-back n at lives moment later time
-    (let is : network.version kind server time ≡ capped v e (whole time) time =
-    given server time in
-    let down : capped v e (whole time) time ≤ whole time = capped-low v e (whole time) time in
-    let more : whole time ≤ reached n (Published at lives moment ∷ later) time = low time in
-    omega (arith, lt, is, down, more))),
-    are-true network kind base at v e (suc n) whole
-    (newest_after (Published at lives moment) newest) later given
-    (has-on (network.position kind) (network.ttl kind) whole base n at lives moment later has)
-    (follows-on (network.position kind) (network.ttl kind) whole base n newest.published at lives
-    moment later order.0 follows)
-    (λ time.
-        let more : whole time ≤ reached n (Published at lives moment ∷ later) time = low time in
-        let on : reached n (Published at lives moment ∷ later) time ≤ reached (suc n) later time =
-        no-more n at lives moment later time in
-        omega (arith, more, on))
-    order.2 clear)
+    let ttl : network.ttl kind (suc n) ≡ lives = has.ttl_is (suc n) 0 (omega arith) in (
+      has.position_is (suc n) 0 (omega arith),
+      omega (arith, ttl),
+      (λ server time serves lt. held-back n at lives moment later time
+          (let is : network.version kind server time ≡ capped v e (whole time) time =
+          given server time in
+          let down : capped v e (whole time) time ≤ whole time = capped-low v e (whole time) time in
+          let more : whole time ≤ reached n (Published at lives moment ∷ later) time = low time in
+          omega (arith, lt, is, down, more))),
+      are-true network kind base at v e (suc n) whole
+          (newest_after (Published at lives moment) newest) later given
+          (has-on (network.position kind) (network.ttl kind) whole base n at lives moment later has)
+          (follows-on (network.position kind) (network.ttl kind) whole base n newest.published at lives
+          moment later order.0 follows)
+          (λ time.
+          let more : whole time ≤ reached n (Published at lives moment ∷ later) time = low time in
+          let on : reached n (Published at lives moment ∷ later) time ≤ reached (suc n) later time =
+          no-more n at lives moment later time in
+          omega (arith, more, on))
+          order.2 clear,
+    )
 are-true network kind base last v e n whole newest (Everywhere moment ∷ later) given has follows
     low order clear =
-    let published : newest.published < moment = order.0 in
-    ((λ server serves.
-        let is : network.version kind server moment ≡ capped v e (whole moment) moment =
-        given server moment in
-        let at : whole moment ≡ reached n (Everywhere moment ∷ later) moment =
-        follows moment (omega (arith, published)) in
-        let more : n ≤ reached n (Everywhere moment ∷ later) moment =
-        at-least n (Everywhere moment ∷ later) moment in
-        let there : n ≤ capped v e (whole moment) moment =
-        capped-above n v e (whole moment) moment (omega (arith, at, more)) clear.0 in
-        omega (arith, is, there)),
-    are-true network kind base last v e n whole (newest_after (Everywhere moment) newest) later
-    given
-    (record { position_is = has.position_is; ttl_is = has.ttl_is; })
-    follows low order.2 clear.1)
+    let published : newest.published < moment = order.0 in (
+      (λ server serves.
+          let is : network.version kind server moment ≡ capped v e (whole moment) moment =
+          given server moment in
+          let at : whole moment ≡ reached n (Everywhere moment ∷ later) moment =
+          follows moment (omega (arith, published)) in
+          let more : n ≤ reached n (Everywhere moment ∷ later) moment =
+          at-least n (Everywhere moment ∷ later) moment in
+          let there : n ≤ capped v e (whole moment) moment =
+          capped-above n v e (whole moment) moment (omega (arith, at, more)) clear.0 in
+          omega (arith, is, there)),
+      are-true network kind base last v e n whole (newest_after (Everywhere moment) newest) later
+          given
+          (record { position_is = has.position_is; ttl_is = has.ttl_is })
+          follows low order.2 clear.1,
+    )
 
 -- the positions and TTLs of all versions
 abbrev position_by : ℕ → List News → ℕ → ℕ
@@ -214,11 +216,12 @@ module _ (before : Before) (facts : List Fact) (base : ℕ)
 
   all-true : (slow : SetKind) (v e : ℕ) → Clear e v 0 (news_of slow facts)
       → AreTrue before facts (network_of slow v e)
-  all-true slow v e clear kind =
-      (omega arith,
-      are-true (network_of slow v e) kind base 0 v (until_of slow e kind) 0 (whole_of kind)
-      first_newest (news_of kind facts) (λ server time. refl) (has-all kind)
-      (λ time le. refl) (λ time. omega arith) (order kind) (clear-all slow v e clear kind))
+  all-true slow v e clear kind = (
+    omega arith,
+    are-true (network_of slow v e) kind base 0 v (until_of slow e kind) 0 (whole_of kind)
+        first_newest (news_of kind facts) (λ server time. refl) (has-all kind)
+        (λ time le. refl) (λ time. omega arith) (order kind) (clear-all slow v e clear kind),
+  )
 
   goes-not-back : (slow kind : SetKind) (v e : ℕ) → NeverGoesBack (network_of slow v e) kind base
   goes-not-back slow kind v e = record {
@@ -268,7 +271,7 @@ module _ (before : Before) (facts : List Fact) (base : ℕ)
             let before_base : position_by base (news_of kind facts) d.v < base = d.before in
             let positive : 0 < d.e = d.positive in
             let ends : s.expired ≡ next_second d.e
-                + ttl_by (ttl_before before kind) (news_of kind facts) d.v = d.ends in
+            + ttl_by (ttl_before before kind) (news_of kind facts) d.v = d.ends in
             record {
               network = network_of kind d.v d.e;
               are_true = all-true kind d.v d.e d.clear;
@@ -280,11 +283,14 @@ module _ (before : Before) (facts : List Fact) (base : ℕ)
                   is.expired d.v (max (now + less * 1_000_000_000) (d.e - 1)) (omega arith)
                   (record {
                     since = d.e - 1;
-                    given = (0, omega arith,
-                    ap (λ u. capped d.v u (whole_of kind (d.e - 1)) (d.e - 1))
-                    (until-itself kind d.e)
-                    ∙ capped-at d.v d.e (whole_of kind (d.e - 1)) (d.e - 1)
-                    (omega (arith, positive)) d.reaches);
+                    given = (
+                      0,
+                      omega arith,
+                      ap (λ u. capped d.v u (whole_of kind (d.e - 1)) (d.e - 1))
+                          (until-itself kind d.e)
+                          ∙ capped-at d.v d.e (whole_of kind (d.e - 1)) (d.e - 1)
+                          (omega (arith, positive)) d.reaches,
+                    );
                     got = omega arith;
                     lasts = omega (arith, left, lt, ends, positive);
                   }) in
@@ -322,7 +328,7 @@ least-ttl-is-due before facts roll second base moment ttl less order e lt =
     let part : Kind → Result ℕ Kind = λ kind.
     due_of before facts kind (retires roll second (kind_of kind)) base moment in
     let of : (kind : Kind) (x : ℕ) → part kind ≡ Ok x → less < x
-        → MayBeFalse before facts roll second base moment less = λ kind x is more.
+    → MayBeFalse before facts roll second base moment less = λ kind x is more.
     of-kind before facts base order roll second kind (retires roll second (kind_of kind)) moment
     x less refl is more in
     elim (one_of (higher (part code.Ds) (part code.Dnskey)) (part code.ZoneSigners) ttl less e

@@ -19,7 +19,8 @@ pub use dnssec_judge::{
     Broken, Judge, audit, audit_window, plain_runs_pass, records_have_one_verdict, runs_stay_safe,
 };
 pub use dnssec_run::{
-    Call, Entry, Mark, Outcome, Published, PublishedKey, Recorder, Reply, Run, run, starts_suffice,
+    Call, Entry, Mark, Outcome, Published, PublishedKey, Recorder, Reply, Run, each_chain_is_one,
+    run, starts_suffice, whole_runs_stay_safe,
 };
 pub use fault::ScriptFault;
 pub use fields::Fields;

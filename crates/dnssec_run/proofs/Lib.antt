@@ -13,6 +13,7 @@
 -- | `read_sets`, `ok`         | `shows-all`                   | Positions                    |
 -- | `renew_key`, `read`       | `published-then`              | OneKey                       |
 -- | `starts_suffice`          | `starts-suffice`              | Starts                       |
+-- | `whole_runs_stay_safe`    | `chain-holds`, `each-holds`   | Chain                        |
 -- | the premise of plain lists| `plain-by-sets`               | Premise                      |
 -- | for callers of `Recorder` | `last-ds` and the like        | Recorded                     |
 pub mod Positions

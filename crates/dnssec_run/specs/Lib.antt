@@ -1,4 +1,5 @@
 pub mod Asked
+pub mod ByAlgorithm
 pub mod EarlyEnds
 pub mod Plain
 pub mod Published

@@ -15,7 +15,7 @@ mod steps;
 
 pub use caches::{SetKind, retires};
 pub use call::Call;
-pub use plain::starts_suffice;
+pub use plain::{each_chain_is_one, starts_suffice, whole_runs_stay_safe};
 pub use record::{Entry, Mark, Outcome, Published, PublishedKey, Reply, Run};
 pub use running::{Recorder, run};
 pub use sets::{Shown, copy_keys};

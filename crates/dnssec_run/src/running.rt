@@ -10,6 +10,7 @@ ghost use Rattle.dnssec_run.specs.EarlyEnds.{UndoesStarts};
 ghost use Rattle.dnssec_run.specs.WholeRolls.{GoesOn, NeverMissesStamp, RollsFinish};
 ghost use Rattle.dnssec_run.specs.WholeRolls.{SettlesBetweenRolls, WaitsExactly};
 ghost use Rattle.dnssec_run.specs.Plain.{StaysSafe};
+ghost use Rattle.dnssec_run.specs.ByAlgorithm.{StaysSafeByEach};
 ghost use Rattle.dnssec_run.specs.Published.{World};
 ghost use Rattle.dnssec_run.specs.Record.{IsRun, KeepsSidesApart};
 ghost use Rattle.dnssec_run.specs.Record.{NeighboursMayBeExchanged, StaysSound, call_of};
@@ -284,6 +285,11 @@ impl Recorder {
 /// that the DS names is in that DNSKEY set and signs it, and a key of that set signs the zone (RFC
 /// 4035, section 5).
 ///
+/// A plain list keeps the sets whole if after each accepted start the algorithms of its KSKs are
+/// among those of its ZSKs, and only an algorithm roll gives the KSKs a new one. Keys count that
+/// aren't old and are in a set; a CSK counts as both. Then each algorithm of the DS set has such a
+/// chain by its keys alone, for validators that ask for it (RFC 4035, section 2.2).
+///
 /// If nothing is set by hand but other signers' keys, no wait lacks a stamp, and between the rolls
 /// each role of a key is future, active or stale. A started roll goes on by its reports, waits and
 /// its end. Each key that it listed as old is then stale or was deleted, and each that it listed as
@@ -328,6 +334,8 @@ pub fn run<'a>(alloc: Global, name: Name<Vec<u8>>, calls: Vec<Call<'a>>) -> Resu
     ensures changes { IfOk result (λ run. ChangesAsAsked calls.entry.items run.entries.items) }
     ensures retires { IfOk result (λ run. RetiresAsAsked run.entries.items) }
     ensures chain { IfOk result (λ run. StaysSafe name calls.entry.items run.entries.items) }
+    ensures each_chain { IfOk result (λ run. StaysSafeByEach name calls.entry.items
+        run.entries.items) }
     ensures err { IfErr result (λ e. e ≡ OutOfMemory) }
 {
     let Ok(mut entries) = Vec::with_capacity(alloc, calls.len()) else {

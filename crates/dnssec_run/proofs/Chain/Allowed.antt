@@ -2,7 +2,7 @@
 use Rattle.std.proofs.Common.{[], ◌≡◌, ℕ, ◌-◌, ◌*◌, ◌≤◌, ◌⊎◌, inl, inr, Bool, true, false, not}
 use Rattle.std.proofs.Common.{◌&&◌, ◌||◌, refl, sym, ◌∙◌, ap, arith, List, ◌∷◌, ◌++◌, Option, None}
 use Rattle.std.proofs.Common.{Some, subst}
-use Rattle.std.specs.Prelude.{if◌then◌else◌, is_some, is_none}
+use Rattle.std.specs.Prelude.{if◌then◌else◌, is_some, is_none, nat_eq}
 use Rattle.std.specs.List.{list_all}
 use Rattle.std.specs.Option.{option_map_or}
 use Rattle.std.specs.Str.{bytes_eq}
@@ -28,7 +28,10 @@ use Rattle.dnssec_zone.specs.Start.{is_listed as listed, conflict, has_conflict,
 use Rattle.dnssec_zone.specs.Start.{old_entry_fault, old_fault, new_entry_fault, new_fault}
 use Rattle.dnssec_keyset.specs.Step.{start_refusal}
 use Rattle.dnssec_zone.specs.Start.{some_listed, some_kept, is_met, wants}
-use Rattle.dnssec_zone.specs.Start.{algorithm_fault, suitability_fault}
+use Rattle.dnssec_zone.specs.Start.{algorithm_fault, suitability_fault, algorithms_within}
+use Rattle.dnssec_zone.specs.Start.{has_algorithm, may_change_algorithms}
+use Rattle.std.proofs.lemmas.Bool.Decides.{nat_tests}
+use Rattle.std.specs.List.{list_any}
 use Rattle.dnssec_keyset.specs.Step.{first_of_causes}
 use Rattle.dnssec_zone.specs.Wait.{Barred, Clear, early_by, wait_in_phase}
 use Rattle.dnssec_keyset.specs.Step.{wait_clearance}
@@ -40,7 +43,7 @@ use Rattle.dnssec_run.specs.Published.{World as RealWorld}
 use Rattle.dnssec_zone.proofs.Flags.{SideOf, Keys, Zone, affects, is_blank, may_list}
 use Rattle.dnssec_run.proofs.Chain.Tables.{half, reads-stamp}
 use Rattle.dnssec_run.proofs.Chain.Tale.{seen, waiting, IsOver, HasSuitable, CanStart}
-use Rattle.dnssec_zone.proofs.Tests.{each_key, each_key-at, ◌⇒◌, mp}
+use Rattle.dnssec_zone.proofs.Tests.{each_key, each_key-at, ◌⇒◌, mp, or_second}
 use Rattle.dnssec_keyset.proofs.Laws.{no_first, no_rest, no_roll, no_conflict}
 use Rattle.dnssec_keyset.proofs.Sides.{old-listed}
 
@@ -149,40 +152,45 @@ fresh_blank k = mp _ _ (each_key-at (λ k. all_states is_fresh k ⇒ is_blank k)
 
 -- ---- the key to go on with
 
-listed_key : (p : KeyType → Bool) (at : List ℕ → Option KeyParts) (qs : List (List ℕ))
-    → some_listed p at qs ≡ true
-    → (q : List ℕ) × (k : KeyParts) × (at q ≡ Some k) × (listed qs q ≡ true) × (p k.keytype ≡ true)
+-- some listed key passes
+abbrev some_listed_key : (KeyParts → Bool) → (List ℕ → Option KeyParts) → List (List ℕ) → Bool
+some_listed_key p at qs =
+    list_any (λ (q : List ℕ). option_map_or (λ (k : KeyParts). p k) (at q) false) qs
+
+listed_key : (p : KeyParts → Bool) (at : List ℕ → Option KeyParts) (qs : List (List ℕ))
+    → some_listed_key p at qs ≡ true
+    → (q : List ℕ) × (k : KeyParts) × (at q ≡ Some k) × (listed qs q ≡ true) × (p k ≡ true)
 listed_key p at [] e = absurd (true≢false (sym e))
 listed_key p at (x ∷ xs) e = by (listed_key p at xs) (at x) refl
   where
     Found : Type 0
     Found = (q : List ℕ) × (k : KeyParts) × (at q ≡ Some k) × (listed (x ∷ xs) q ≡ true)
-        × (p k.keytype ≡ true)
+        × (p k ≡ true)
 
     here : listed (x ∷ xs) x ≡ true
     here = ap (λ b. b || listed xs x) ((bytes_decides x x).1 refl)
 
-    later : (some_listed p at xs ≡ true → (q : List ℕ) × (k : KeyParts) × (at q ≡ Some k)
-        × (listed xs q ≡ true) × (p k.keytype ≡ true)) → some_listed p at xs ≡ true
+    later : (some_listed_key p at xs ≡ true → (q : List ℕ) × (k : KeyParts) × (at q ≡ Some k)
+        × (listed xs q ≡ true) × (p k ≡ true)) → some_listed_key p at xs ≡ true
         → (q : List ℕ) × (k : KeyParts) × (at q ≡ Some k) × (listed (x ∷ xs) q ≡ true)
-        × (p k.keytype ≡ true)
+        × (p k ≡ true)
     later rest f = let h = rest f in (h.0, h.1, h.2, or_right (bytes_eq h.0 x) _ h.3, h.4)
 
-    by : (some_listed p at xs ≡ true → (q : List ℕ) × (k : KeyParts) × (at q ≡ Some k)
-        × (listed xs q ≡ true) × (p k.keytype ≡ true)) → (o : Option KeyParts) → at x ≡ o
+    by : (some_listed_key p at xs ≡ true → (q : List ℕ) × (k : KeyParts) × (at q ≡ Some k)
+        × (listed xs q ≡ true) × (p k ≡ true)) → (o : Option KeyParts) → at x ≡ o
         → (q : List ℕ) × (k : KeyParts) × (at q ≡ Some k) × (listed (x ∷ xs) q ≡ true)
-        × (p k.keytype ≡ true)
+        × (p k ≡ true)
     by rest None a = later rest (sym
-        (ap (λ o. option_map_or (λ (k : KeyParts). p k.keytype) o false || some_listed p at xs) a)
+        (ap (λ o. option_map_or (λ (k : KeyParts). p k) o false || some_listed_key p at xs) a)
         ∙ e)
-    by rest (Some k) a = at_key (p k.keytype) refl
+    by rest (Some k) a = at_key (p k) refl
       where
-        at_key : (b : Bool) → p k.keytype ≡ b → (q : List ℕ) × (k : KeyParts) × (at q ≡ Some k)
-            × (listed (x ∷ xs) q ≡ true) × (p k.keytype ≡ true)
+        at_key : (b : Bool) → p k ≡ b → (q : List ℕ) × (k : KeyParts) × (at q ≡ Some k)
+            × (listed (x ∷ xs) q ≡ true) × (p k ≡ true)
         at_key true t = (x, k, a, here, t)
         at_key false t = later rest (sym
-            (ap (λ o. option_map_or (λ (k : KeyParts). p k.keytype) o false || some_listed p at xs)
-            a ∙ ap (λ b. b || some_listed p at xs) t) ∙ e)
+            (ap (λ o. option_map_or (λ (k : KeyParts). p k) o false || some_listed_key p at xs)
+            a ∙ ap (λ b. b || some_listed_key p at xs) t) ∙ e)
 
 serving_key : (w : RealWorld) (olds news : List (List ℕ)) (new kept : KeyType → Bool)
     → (some_listed new (get w.set.keys) news || some_kept kept w.set.keys olds) ≡ true
@@ -195,7 +203,8 @@ serving_key w olds news new kept e = by (some_listed new (get w.set.keys) news) 
         → (q : List ℕ) × (k : KeyParts) × (get w.set.keys q ≡ Some k)
         × (((listed news q ≡ true) × (new k.keytype ≡ true))
         ⊎ ((listed olds q ≡ false) × (kept k.keytype ≡ true)))
-    by true t = let h = listed_key new (get w.set.keys) news t in (h.0, h.1, h.2, inl (h.3, h.4))
+    by true t = let h = listed_key (λ k. new k.keytype) (get w.set.keys) news t in
+        (h.0, h.1, h.2, inl (h.3, h.4))
     by false t =
         let h = some_entry-found (λ q k. kept k.keytype && not (listed olds q)) w.set.keys
         (sym (ap (λ b. b || some_kept kept w.set.keys olds) t) ∙ e) in
@@ -205,6 +214,35 @@ serving_key w olds news new kept e = by (some_listed new (get w.set.keys) news) 
 no_want : (b : Bool) (e : Error) → (if b then None else Some e) ≡ None → b ≡ true
 no_want true e h = refl
 no_want false e h = absurd (none-some e (sym h))
+
+within_listed : (at : List ℕ → Option KeyParts) (qs others : List (List ℕ))
+    → algorithms_within at qs others ≡ true → (q : List ℕ) (k : KeyParts) → at q ≡ Some k
+    → listed qs q ≡ true → has_algorithm at others k.algorithm ≡ true
+within_listed at [] others e q k at_q l = absurd (true≢false (sym l))
+within_listed at (x ∷ xs) others e q k at_q l =
+    by (within_listed at xs others (and_parts _ _ e).1 q k at_q) (bytes_eq q x) refl
+  where
+    by : (listed xs q ≡ true → has_algorithm at others k.algorithm ≡ true) → (b : Bool)
+        → bytes_eq q x ≡ b → has_algorithm at others k.algorithm ≡ true
+    by rest true t = sym (ap
+        (λ o. option_map_or (λ (k : KeyParts). has_algorithm at others k.algorithm) o true)
+        (ap at (sym ((bytes_decides q x).0 t)) ∙ at_q)) ∙ (and_parts _ _ e).0
+    by rest false t = rest (sym (ap (λ b. b || listed xs q) t) ∙ l)
+
+-- unless the roll may change algorithms, for each old key there is a new one of its algorithm
+same_algorithm : (r : RollType) (at : List ℕ → Option KeyParts) (olds news : List (List ℕ))
+    → algorithm_fault r at olds news ≡ None → may_change_algorithms r ≡ false → (q : List ℕ)
+    (k : KeyParts) → at q ≡ Some k → listed olds q ≡ true → (x : List ℕ) × (j : KeyParts)
+    × (at x ≡ Some j) × (listed news x ≡ true) × (j.algorithm ≡ k.algorithm)
+same_algorithm r at olds news e free q k at_q l =
+    let within = no_want _ Error.AlgorithmSetsMismatch e in
+    let first = and_parts _ _ (or_second (may_change_algorithms r) _ within free) in
+    let h = listed_key (λ (j : KeyParts). nat_eq j.algorithm k.algorithm) at news
+    (within_listed at olds news first.0 q k at_q l) in
+    (h.0, h.1, h.2, h.3, same_number h.1.algorithm k.algorithm h.4)
+  where
+    same_number : (m n : ℕ) → nat_eq m n ≡ true → m ≡ n
+    same_number m n e = grind (arith, nat_tests)
 
 suitable_of : (w : RealWorld) (r : RollType) (olds news : List (List ℕ))
     → list_all (is_met w.set.keys olds news) (wants r) ≡ true → (sd : SideOf) → affects sd r ≡ true
@@ -236,6 +274,7 @@ can_start w r olds news e =
       old_is = old_all r (get w.set.keys) olds none.1;
       new_is = λ q l. let h = new_all r (get w.set.keys) olds [] news none.2 q l in
           (h.0, h.1, h.2, fresh_blank h.0.keytype h.3, h.4);
+      algorithms = same_algorithm r (get w.set.keys) olds news none.3;
       suitable = suitable_of w r olds news
           (no_want (list_all (is_met w.set.keys olds news) (wants r)) Error.NoSuitableKeyPresent
           none.4);

@@ -1,13 +1,11 @@
 -- The invariant of both sides together, and what one step does to its parts.
-use Rattle.std.proofs.Common.{◌≡◌, ℕ, suc, ◌<◌, ◌≤◌, ◌⊎◌, inl, inr, Bool, true, false, refl, sym}
-use Rattle.std.proofs.Common.{◌∙◌, ap, subst, arith, List, length, Option, None, Some}
+use Rattle.std.proofs.Common.{◌≡◌, ℕ, suc, ◌≤◌, Bool, true, false, refl, sym}
+use Rattle.std.proofs.Common.{◌∙◌, ap, subst, List, length, Option, None, Some}
 use Rattle.std.specs.Prelude.{◌==◌}
 use Rattle.std.specs.Option.{option_map}
-use Rattle.std.specs.List.{Contains}
-use Rattle.std.proofs.lemmas.Bool.{and_parts, cases_lt}
+use Rattle.std.proofs.lemmas.Bool.{and_parts}
 use Rattle.std.proofs.lemmas.Option.{same_Some, none-some}
 use Rattle.dnssec_key.specs.declared.roll.RollType.{RollType}
-use Rattle.dnssec_key.specs.declared.roll.RollType.TheVariants.{AlgorithmRoll}
 use Rattle.dnssec_key.specs.declared.roll.RollState.{RollState}
 use Rattle.dnssec_key.specs.declared.roll.RollState.TheVariants.{Propagation1, Propagation2, Done}
 use Rattle.dnssec_key.specs.declared.kind.KeyType.{KeyType}
@@ -15,17 +13,17 @@ use Rattle.dnssec_zone.specs.Rolls.{same_roll}
 use Rattle.dnssec_run.specs.declared.record.Mark.TheVariants.{Other, Step, Report}
 use Rattle.dnssec_run.specs.Published.{Id, in_ds}
 use Rattle.dnssec_run.specs.Safe.{Ds, position_at, is_step}
-use Rattle.dnssec_run.proofs.Premise.{DoesAt, first_wait_of}
-use Rattle.dnssec_zone.proofs.Flags.{SideOf, Keys, Zone, tolerates, Stage, Quiet, Early}
+use Rattle.dnssec_zone.proofs.Flags.{SideOf, Keys, Zone, tolerates, Stage}
 use Rattle.dnssec_run.proofs.Chain.Tale.{Tale, World, Key, found, if_some, world_at, put_roll}
 use Rattle.dnssec_run.proofs.Chain.Tale.{rolled, report_key, waiting, spreading}
 use Rattle.dnssec_run.proofs.Chain.Flags.{in_use, in_other, in_keys}
 use Rattle.dnssec_run.proofs.Chain.Facts.{test-seen}
 use Rattle.dnssec_run.proofs.Chain.Rolls.{same-sym, put-same, put-other}
-use Rattle.dnssec_run.proofs.Chain.History.{not_in_empty}
-use Rattle.dnssec_run.proofs.Chain.Places.{NoDs, no_ds-next, shows_ds, found_map, some_weaker}
+use Rattle.dnssec_run.proofs.Chain.Places.{NoDs, no_ds-next, no_ds-now, shows_ds, found_map}
+use Rattle.dnssec_run.proofs.Chain.Places.{some_weaker}
 use Rattle.dnssec_run.proofs.Chain.Returns.{KeepsLists}
-use Rattle.dnssec_run.proofs.Chain.Invariant.{At, Alive, at-gentle, alive-gentle}
+use Rattle.dnssec_run.proofs.Chain.Invariant.{At, Alive, at-gentle}
+use Rattle.dnssec_run.proofs.Chain.Life.{Life, PassesAt, life-on}
 use Rattle.dnssec_run.proofs.Chain.OneKey.{Mapped}
 use Rattle.dnssec_run.proofs.Chain.Gentles.{gentle-report, gentle-done}
 use Rattle.dnssec_run.proofs.Chain.KeyCalls.{Kept, gentle_kept}
@@ -34,22 +32,6 @@ use Rattle.dnssec_run.proofs.Chain.Phases.{aside-kept, aside-report, told-report
 use Rattle.dnssec_keyset.proofs.Laws.{same-is}
 
 -- ---- the invariant
-
--- the call after position n ends the first wait of an algorithm roll
-abbrev pub PassesAt : Tale → ℕ → Type 0
-PassesAt tale n = DoesAt first_wait_of tale.calls tale.es n AlgorithmRoll
-
--- no algorithm roll is past its first wait
-abbrev pub Unpassed : Tale → ℕ → Type 0
-Unpassed tale n = (m : ℕ) → m < n → PassesAt tale m → ⊥
-
--- then no roll of KSKs or CSKs is in progress but an algorithm roll before its first wait
-abbrev pub Unborn : Tale → Stage → Stage → ℕ → Type 0
-Unborn tale ks zs n = Unpassed tale n
-    × ((ks ≡ Quiet) ⊎ ((ks ≡ Early AlgorithmRoll) × (zs ≡ Early AlgorithmRoll)))
-
-abbrev pub Life : Tale → Stage → Stage → ℕ → Type 0
-Life tale ks zs n = (Alive tale Keys n × Alive tale Zone n) ⊎ (NoDs tale.es n × Unborn tale ks zs n)
 
 abbrev pub Pairs : Tale → ℕ → Type 0
 Pairs tale n = (r q : RollType) (o p : RollState) → (world_at tale n).roll r ≡ Some o
@@ -78,27 +60,19 @@ map_less : (p : KeyType → Bool) (f : Key → Key) → ((k : Key) → p (f k).k
 map_less p f h None e = e
 map_less p f h (Some k) e = sym (h k) ∙ e
 
--- if a key is in use on the side of keys, DS records have been published
-pub born : (tale : Tale) (n : ℕ) → n ≤ length tale.es → Alive tale Keys n → NoDs tale.es n → ⊥
+-- if a key is in use on the side of keys, the DS set has a key of the family
+pub born : (tale : Tale) (n : ℕ) → n ≤ length tale.es → Alive tale Keys n → NoDs tale n → ⊥
 born tale n le a d =
-    let c : Contains (position_at tale.es n).ds a.0 =
-    shows_ds tale n le a.0
+    no_ds-now tale n d a.0 a.2 (shows_ds tale n le a.0
     (some_weaker (in_use Keys) in_ds (λ k e. (and_parts (in_keys Keys k) (in_other Keys k) e).1)
-    (found (world_at tale n) a.0) a.1) in
-    not_in_empty a.0 (subst (λ l. Contains l a.0) (d n (omega arith)) c)
+    (found (world_at tale n) a.0) a.1))
 
 -- ---- one step
 
 module _ (tale : Tale) (n : ℕ) (here : suc n ≤ length tale.es) where
-  pub unpassed-next : (PassesAt tale n → ⊥) → Unpassed tale n → Unpassed tale (suc n)
-  unpassed-next none h m lt s = elim (cases_lt m n) [
-    | inl before ↦ h m before s
-    | inr ge ↦ let e : m ≡ n = omega arith in none (subst (PassesAt tale) e s)
-  ]
-
   pub ds_less : (f : List ℕ → Key → Key) (r : RollType) (o : Option RollState) → Mapped tale n f r o
-      → ((q : List ℕ) (k : Key) → in_ds (f q k).keytype ≡ in_ds k.keytype) → NoDs tale.es n
-      → NoDs tale.es (suc n)
+      → ((q : List ℕ) (k : Key) → in_ds (f q k).keytype ≡ in_ds k.keytype) → NoDs tale n
+      → NoDs tale (suc n)
   ds_less f r o m h = no_ds-next tale n here
       (λ id e. map_less in_ds (f id.0) (h id.0) (found (world_at tale n) id)
       (sym (ap (if_some in_ds) (m.founds id)) ∙ e))
@@ -165,14 +139,7 @@ module _ (tale : Tale) (n : ℕ) (here : suc n ≤ length tale.es) where
         pairs = λ r q o p ro qp d. h.pairs r q o p (sym (same r) ∙ ro) (sym (same q) ∙ qp) d;
         phases = λ r p f. phase-aside tale n r p (aside-kept tale n v e k mark r)
             (h.phases r p (sym (same r) ∙ f));
-        life = elim (h.life) [
-          | inl a ↦ inl (
-            alive-gentle tale n here Keys h.ks gk a.0,
-            alive-gentle tale n here Zone
-                h.zs gz a.1,
-          )
-          | inr d ↦ inr (dead d.0, (unpassed-next none d.1.0, d.1.1))
-        ];
+        life = life-on tale n here h.ks h.zs gk gz none h.life;
       }
 
   -- a report
@@ -200,14 +167,7 @@ module _ (tale : Tale) (n : ℕ) (here : suc n ≤ length tale.es) where
             (reads-report tale n r second ttl now m))
             (λ q x e d. aside-report tale n r second ttl now q m
             (h.pairs r q (spreading second) x phase e d) (ap (is_step q) mark)) h.phases;
-        life = elim (h.life) [
-          | inl a ↦ inl (
-            alive-gentle tale n here Keys h.ks gk a.0,
-            alive-gentle tale n here Zone
-                h.zs gz a.1,
-          )
-          | inr d ↦ inr (dead d.0, (unpassed-next none d.1.0, d.1.1))
-        ];
+        life = life-on tale n here h.ks h.zs gk gz none h.life;
       }
     where
       this : (second : Bool) → (world_at tale n).roll r ≡ Some (spreading second)
@@ -259,12 +219,5 @@ module _ (tale : Tale) (n : ℕ) (here : suc n ≤ length tale.es) where
               no_step = ap (is_step q) mark;
             })
             (h.phases q x (was-rolling r rolls q x e).1);
-        life = elim (h.life) [
-          | inl a ↦ inl (
-            alive-gentle tale n here Keys h.ks gk a.0,
-            alive-gentle tale n here Zone
-                h.zs gz a.1,
-          )
-          | inr d ↦ inr (dead d.0, (unpassed-next none d.1.0, d.1.1))
-        ];
+        life = life-on tale n here h.ks h.zs gk gz none h.life;
       }

@@ -84,7 +84,7 @@ module _ (tale : Tale) (n : ℕ) (sd : SideOf) (st : Stage)
     (was_rolls : (q : RollType) → affects sd q ≡ true → stage_fits st q ((world_at tale n).roll q)
     ≡ true)
     (was_flags : (id : Id) → all_ok (fits sd st) (found (world_at tale n) id) ≡ true)
-    (dead : NoDs tale.es n → NoDs tale.es (suc n)) (lists : KeepsLists tale sd n) where
+    (dead : NoDs tale n → NoDs tale (suc n)) (lists : KeepsLists tale sd n) where
   gentle_map : (f : List ℕ → Key → Key) (r : RollType) (o : Option RollState) → Mapped tale n f r o
       → ((id : Id) (k : Key) → found (world_at tale n) id ≡ Some k
       → LeavesTo sd k (f id.0 k).keytype)

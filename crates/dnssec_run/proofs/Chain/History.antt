@@ -1,6 +1,8 @@
 -- Positions of a record: time, retirement, bases; and the side of the key chain.
 use Rattle.std.proofs.Common.{[], ◌≡◌, ℕ, zero, suc, ◌≤◌, ◌⊎◌, inl, inr, refl, sym}
-use Rattle.std.proofs.Common.{Bool, true, false, ◌&&◌, subst, arith, List, ◌∷◌, Some}
+use Rattle.std.proofs.Common.{Bool, true, false, ◌&&◌, subst, arith, List, ◌∷◌, Some, ◌<◌}
+use Rattle.std.specs.Prelude.{if◌then◌else◌}
+use Rattle.std.proofs.lemmas.Option.{none-some, same_Some}
 use Rattle.std.specs.List.{Contains}
 use Rattle.std.proofs.lemmas.Bool.{and_parts, cases_lt}
 use Rattle.dnssec_key.specs.declared.roll.RollType.{RollType}
@@ -10,6 +12,7 @@ use Rattle.dnssec_run.specs.declared.record.Entry.{Entry}
 use Rattle.dnssec_run.specs.Published.{Id}
 use Rattle.dnssec_run.specs.Safe.{SetKind, Ds, Dnskey, ZoneSigners, position_at, base_below}
 use Rattle.dnssec_run.specs.Safe.{time_at, IsGone, is_step, retires}
+use Rattle.dnssec_run.proofs.Chain.Tale.{Tale}
 use Rattle.dnssec_run.proofs.Chain.Flags.{first_kind, second_kind, switches}
 
 pub time_grows : (es : List Entry) (n : ℕ) → time_at es n ≤ time_at es (suc n)
@@ -60,15 +63,36 @@ pub base_here : (es : List Entry) (r : RollType) (n : ℕ) → is_step r (positi
 unfolding base_below
 base_here es r n e = rw e refl
 
--- what a position offers to a key: it holds the key, or as a DS set it is empty
-abbrev pub Serving : SideOf → List Entry → SetKind → ℕ → Id → Type 0
-Serving Keys es Ds q k = ((position_at es q).ds ≡ []) ⊎ Contains (position_at es q).ds k
-Serving Keys es Dnskey q k = Contains (position_at es q).dnskey k
-    × Contains (position_at es q).signers k
-Serving Keys es ZoneSigners q k = Unit {0}
-Serving Zone es Ds q k = Unit {0}
-Serving Zone es Dnskey q k = Contains (position_at es q).dnskey k
-Serving Zone es ZoneSigners q k = Contains (position_at es q).zone k
+-- what a report counts from lies below it, so the newest position is in no report
+pub base-lies-below : (es : List Entry) (r : RollType) (n b : ℕ) → base_below es r n ≡ Some b
+    → b < n
+unfolding base_below
+base-lies-below es r zero b e = absurd (none-some b e)
+base-lies-below es r (suc n) b e =
+    by (base-lies-below es r n b) (is_step r (position_at es n).mark) e
+  where
+    by : (base_below es r n ≡ Some b → b < n) → (s : Bool)
+        → (if s then Some n else base_below es r n) ≡ Some b → b < suc n
+    by rest true e = let same : n ≡ b = same_Some n b e in omega arith
+    by rest false e = omega (arith, rest e)
+
+pub never-gone-now : (es : List Entry) (kind : SetKind) (n : ℕ) → IsGone es kind n n → ⊥
+never-gone-now es kind n h =
+    omega (arith, h.within, h.above, base-lies-below es h.roll h.at h.base h.base_is)
+
+-- the DS set of the position has no key of the family
+abbrev pub Without : Tale → ℕ → Type 0
+Without tale q = (id : Id) → tale.of id ≡ true → Contains (position_at tale.es q).ds id → ⊥
+
+-- what a position offers to a key: it holds the key, or as a DS set none of the family
+abbrev pub Serving : Tale → SideOf → SetKind → ℕ → Id → Type 0
+Serving tale Keys Ds q k = Without tale q ⊎ Contains (position_at tale.es q).ds k
+Serving tale Keys Dnskey q k = Contains (position_at tale.es q).dnskey k
+    × Contains (position_at tale.es q).signers k
+Serving tale Keys ZoneSigners q k = Unit {0}
+Serving tale Zone Ds q k = Unit {0}
+Serving tale Zone Dnskey q k = Contains (position_at tale.es q).dnskey k
+Serving tale Zone ZoneSigners q k = Contains (position_at tale.es q).zone k
 
 -- if the second set changes at the first wait, the second report retires it; else the first does
 retires_table : SideOf → RollType → Bool

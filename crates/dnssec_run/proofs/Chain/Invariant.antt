@@ -1,7 +1,8 @@
 -- The invariant of a side, what it gives, and the calls that leave it alone.
 use Rattle.std.proofs.Common.{◌≡◌, ℕ, suc, ◌≤◌, Bool, true, false, refl, sym, ◌∙◌, arith, List}
-use Rattle.std.proofs.Common.{length, Option, None, Some}
+use Rattle.std.proofs.Common.{length, Option, None, Some, ◌⊎◌, inl, inr}
 use Rattle.std.proofs.lemmas.Bool.{true≢false, and_parts}
+use Rattle.std.proofs.lemmas.Option.{same_Some}
 use Rattle.dnssec_key.specs.declared.roll.RollType.{RollType}
 use Rattle.dnssec_key.specs.declared.roll.RollType.TheVariants.{KskRoll, KskDoubleDsRoll}
 use Rattle.dnssec_key.specs.declared.roll.RollType.TheVariants.{ZskRoll, ZskDoubleSignatureRoll}
@@ -16,19 +17,19 @@ use Rattle.dnssec_run.proofs.Chain.Tale.{Tale, Key, found, if_some, world_at}
 use Rattle.dnssec_run.proofs.Chain.Side.{upto, Rest, Early as EarlySets, Late as LateSets, Broad}
 use Rattle.dnssec_run.proofs.Chain.Side.{Serves, Alive as AliveSide, rest-serves, early-serves}
 use Rattle.dnssec_run.proofs.Chain.Side.{late-serves, broad-serves, early-stays, late-stays}
-use Rattle.dnssec_run.proofs.Chain.Side.{broad-stays}
+use Rattle.dnssec_run.proofs.Chain.Side.{broad-stays, leaving-serves, Settles}
 use Rattle.dnssec_run.proofs.Chain.Flags.{test_of, first_kind, second_kind, first_test, second_test}
 use Rattle.dnssec_run.proofs.Chain.Flags.{in_use, in_keys, in_other, live, remains, switches}
 use Rattle.dnssec_run.proofs.Chain.Facts.{Seen, test-seen, use-seen, live-seen, remains-seen}
 use Rattle.dnssec_run.proofs.Chain.Facts.{wait1_facts}
 use Rattle.dnssec_run.proofs.Chain.Rolls.{stage_fits, stage_own}
-use Rattle.dnssec_run.proofs.Chain.History.{Serving, retired_stays, base_same}
+use Rattle.dnssec_run.proofs.Chain.History.{Serving, Without, retired_stays, base_same}
 use Rattle.dnssec_run.proofs.Chain.Places.{all_ok, side, shows, NoDs, some_weaker}
 use Rattle.dnssec_run.proofs.Chain.Returns.{Back, KeepsLists, leads-on}
 
 abbrev pub AtRest : Tale → SideOf → ℕ → Type 0
 AtRest tale sd n = (kind : SetKind) (q : ℕ) → q ≤ n → (IsGone tale.es kind q n → ⊥) → (id : Id)
-    → if_some (test_of sd kind) (found (world_at tale n) id) ≡ true → Serving sd tale.es kind q id
+    → if_some (test_of sd kind) (found (world_at tale n) id) ≡ true → Serving tale sd kind q id
 
 -- the base of a roll in progress
 abbrev pub Based : List Entry → RollType → ℕ → ℕ → Type 0
@@ -47,14 +48,27 @@ Holds tale sd Quiet n = AtRest tale sd n
 Holds tale sd (Early r) n = (b : ℕ) × Based tale.es r n b × EarlyOf tale sd r n b (switches sd r)
 Holds tale sd (Late r) n = (b : ℕ) × Based tale.es r n b × LateOf tale sd r n b (switches sd r)
 
+-- a key of the family that passes
+abbrev pub Has : Tale → (KeyType → Bool) → ℕ → Type 0
+Has tale p n = (id : Id) × (if_some p (found (world_at tale n) id) ≡ true) × (tale.of id ≡ true)
+
+-- none does
+abbrev pub HasNo : Tale → (KeyType → Bool) → ℕ → Type 0
+HasNo tale p n = (id : Id) → tale.of id ≡ true → if_some p (found (world_at tale n) id) ≡ true → ⊥
+
 -- a key that will be in use
 abbrev pub Left : Tale → SideOf → Stage → ℕ → Type 0
 Left tale sd Quiet n = Unit {0}
-Left tale sd (Early r) n = (id : Id) × (if_some (remains sd r) (found (world_at tale n) id) ≡ true)
-Left tale sd (Late r) n = (id : Id) × (if_some (live sd) (found (world_at tale n) id) ≡ true)
+Left tale sd (Early r) n = Has tale (remains sd r) n
+Left tale sd (Late r) n = Has tale (live sd) n
 
+-- a key in use
 abbrev pub Alive : Tale → SideOf → ℕ → Type 0
-Alive tale sd n = (id : Id) × (if_some (in_use sd) (found (world_at tale n) id) ≡ true)
+Alive tale sd n = Has tale (in_use sd) n
+
+-- the family stays: a key is in use, and one will be
+abbrev pub Lasts : Tale → SideOf → Stage → ℕ → Type 0
+Lasts tale sd st n = Alive tale sd n × Left tale sd st n
 
 pub record At (tale : Tale) (sd : SideOf) (st : Stage) (n : ℕ) : Type 0 where
   pub own : stage_own sd st ≡ true
@@ -62,17 +76,21 @@ pub record At (tale : Tale) (sd : SideOf) (st : Stage) (n : ℕ) : Type 0 where
       ≡ true
   pub flags : (id : Id) → all_ok (fits sd st) (found (world_at tale n) id) ≡ true
   pub holds : Holds tale sd st n
-  pub left : Left tale sd st n
   pub back : Back tale sd st n
 
 -- ---- what it gives
 
-abbrev pub HasCommon : List Entry → SideOf → ℕ → Type 0
-HasCommon es Keys n = (p q : ℕ) → p ≤ n → (IsGone es Ds p n → ⊥) → q ≤ n
-    → (IsGone es Dnskey q n → ⊥) → (k : Id) × Serving Keys es Ds p k × Serving Keys es Dnskey q k
-HasCommon es Zone n = (q z : ℕ) → q ≤ n → (IsGone es Dnskey q n → ⊥) → z ≤ n
-    → (IsGone es ZoneSigners z n → ⊥) → (k : Id) × Serving Zone es Dnskey q k
-    × Serving Zone es ZoneSigners z k
+abbrev pub HasCommon : Tale → SideOf → ℕ → Type 0
+HasCommon tale Keys n = (p q : ℕ) → p ≤ n → (IsGone tale.es Ds p n → ⊥) → q ≤ n
+    → (IsGone tale.es Dnskey q n → ⊥) → (k : Id) × Serving tale Keys Ds p k
+    × Serving tale Keys Dnskey q k × (tale.of k ≡ true)
+HasCommon tale Zone n = (q z : ℕ) → q ≤ n → (IsGone tale.es Dnskey q n → ⊥) → z ≤ n
+    → (IsGone tale.es ZoneSigners z n → ⊥) → (k : Id) × Serving tale Zone Dnskey q k
+    × Serving tale Zone ZoneSigners z k × (tale.of k ≡ true)
+
+-- no DS set has a key of the family, or each choice of sets has a chain
+abbrev pub Common : Tale → SideOf → ℕ → Type 0
+Common tale sd n = NoDs tale n ⊎ HasCommon tale sd n
 
 -- in use on a side: in both sets of each roll
 used_tests : (sd : SideOf) (r : RollType) (k : KeyType) → in_use sd k ≡ true
@@ -100,14 +118,15 @@ pub used_second : (sd : SideOf) (r : RollType) (o : Option Key) → if_some (in_
 used_second sd r o = some_weaker (in_use sd) (second_test sd r) (λ k e. (used_tests sd r k e).1) o
 
 module _ (tale : Tale) (n : ℕ) where
-  common_of : (sd : SideOf) (r : RollType) → Serves (side tale sd r) n → HasCommon tale.es sd n
+  common_of : (sd : SideOf) (r : RollType) → Serves (side tale sd r) n → HasCommon tale sd n
   common_of Keys KskDoubleDsRoll h = h
-  common_of Keys KskRoll h = λ p q pl pu ql qu. let w = h q p ql qu pl pu in (w.0, w.2, w.1)
-  common_of Keys ZskRoll h = λ p q pl pu ql qu. let w = h q p ql qu pl pu in (w.0, w.2, w.1)
+  common_of Keys KskRoll h = λ p q pl pu ql qu. let w = h q p ql qu pl pu in (w.0, w.2, w.1, w.3)
+  common_of Keys ZskRoll h = λ p q pl pu ql qu. let w = h q p ql qu pl pu in (w.0, w.2, w.1, w.3)
   common_of Keys ZskDoubleSignatureRoll h = λ p q pl pu ql qu. let w = h q p ql qu pl pu in
-      (w.0, w.2, w.1)
-  common_of Keys CskRoll h = λ p q pl pu ql qu. let w = h q p ql qu pl pu in (w.0, w.2, w.1)
-  common_of Keys AlgorithmRoll h = λ p q pl pu ql qu. let w = h q p ql qu pl pu in (w.0, w.2, w.1)
+      (w.0, w.2, w.1, w.3)
+  common_of Keys CskRoll h = λ p q pl pu ql qu. let w = h q p ql qu pl pu in (w.0, w.2, w.1, w.3)
+  common_of Keys AlgorithmRoll h = λ p q pl pu ql qu. let w = h q p ql qu pl pu in
+      (w.0, w.2, w.1, w.3)
   common_of Zone KskRoll h = h
   common_of Zone KskDoubleDsRoll h = h
   common_of Zone ZskRoll h = h
@@ -150,30 +169,53 @@ module _ (tale : Tale) (n : ℕ) where
   alive_side sd r a = (
     a.0,
     used_first sd r (found (world_at tale n) a.0) a.1,
-    used_second sd r
-        (found (world_at tale n) a.0) a.1,
+    used_second sd r (found (world_at tale n) a.0) a.1,
+    a.2,
   )
 
-  early_common : (sd : SideOf) (r : RollType) (b : ℕ) (w : Bool) → (NoDs tale.es n → ⊥)
-      → Alive tale sd n → EarlyOf tale sd r n b w → HasCommon tale.es sd n
-  early_common sd r b true born a h =
-      common_of sd r (early-serves (side tale sd r) n b (alive_side sd r a) h)
-  early_common sd r b false born a h = common_of sd r (broad-serves (side tale sd r) n b born h)
+  -- the same of a side of the chain that has none, or settles
+  settled : (sd : SideOf) (r : RollType) → Settles (side tale sd r) n → Common tale sd n
+  settled sd r h = elim h [ inl d ↦ inl d | inr s ↦ inr (common_of sd r s) ]
 
-  late_common : (sd : SideOf) (r : RollType) (b : ℕ) (w : Bool) → (NoDs tale.es n → ⊥)
-      → Alive tale sd n → LateOf tale sd r n b w → HasCommon tale.es sd n
-  late_common sd r b true born a h =
-      common_of sd r (late-serves (side tale sd r) n b born (alive_side sd r a) h)
-  late_common sd r b false born a h =
-      common_of sd r (rest-serves (side tale sd r) n (alive_side sd r a) (rest_side sd r h))
+  early_common : (sd : SideOf) (r : RollType) (b : ℕ) (w : Bool) → Alive tale sd n
+      → EarlyOf tale sd r n b w → Common tale sd n
+  early_common sd r b true a h =
+      inr (common_of sd r (early-serves (side tale sd r) n b (alive_side sd r a) h))
+  early_common sd r b false a h = settled sd r (broad-serves (side tale sd r) n b h)
 
-  pub at-common : (sd : SideOf) (st : Stage) → (NoDs tale.es n → ⊥) → Alive tale sd n
-      → At tale sd st n → HasCommon tale.es sd n
-  at-common sd Quiet born a h = common_of sd KskRoll
+  late_common : (sd : SideOf) (r : RollType) (b : ℕ) (w : Bool) → Alive tale sd n
+      → LateOf tale sd r n b w → Common tale sd n
+  late_common sd r b true a h =
+      settled sd r (late-serves (side tale sd r) n b (alive_side sd r a) h)
+  late_common sd r b false a h =
+      inr (common_of sd r (rest-serves (side tale sd r) n (alive_side sd r a) (rest_side sd r h)))
+
+  pub at-common : (sd : SideOf) (st : Stage) → Alive tale sd n → At tale sd st n
+      → Common tale sd n
+  at-common sd Quiet a h = inr (common_of sd KskRoll
       (rest-serves (side tale sd KskRoll) n (alive_side sd KskRoll a)
-      (rest_side sd KskRoll h.holds))
-  at-common sd (Early r) born a h = early_common sd r h.holds.0 (switches sd r) born a h.holds.2
-  at-common sd (Late r) born a h = late_common sd r h.holds.0 (switches sd r) born a h.holds.2
+      (rest_side sd KskRoll h.holds)))
+  at-common sd (Early r) a h = early_common sd r h.holds.0 (switches sd r) a h.holds.2
+  at-common sd (Late r) a h = late_common sd r h.holds.0 (switches sd r) a h.holds.2
+
+  -- a DS set without the family serves for any key
+  bare_serves : (r : RollType) → affects Zone r ≡ true → (q : ℕ) (k : Id) → Without tale q
+      → Serving tale Keys (second_kind Keys r) q k
+  bare_serves KskRoll own q k none = inl none
+  bare_serves KskDoubleDsRoll own q k none = absurd (true≢false (sym own))
+  bare_serves ZskRoll own q k none = inl none
+  bare_serves ZskDoubleSignatureRoll own q k none = inl none
+  bare_serves CskRoll own q k none = inl none
+  bare_serves AlgorithmRoll own q k none = inl none
+
+  -- a family that leaves: from the first wait on the DS sets have none of it
+  pub leaving-common : (r : RollType) (b : ℕ) → affects Zone r ≡ true
+      → base_below tale.es r (suc n) ≡ Some b → ((q : ℕ) → b ≤ q → q ≤ n → Without tale q)
+      → At tale Keys (Late r) n → Common tale Keys n
+  leaving-common r b own base bare h =
+      let same : b ≡ h.holds.0 = same_Some _ _ (sym base ∙ h.holds.1.1) in
+      settled Keys r (leaving-serves (side tale Keys r) n h.holds.0
+      (λ q ge le k. bare_serves r own q k (bare q (omega (arith, same, ge)) le)) h.holds.2)
 
 -- ---- a call that leaves a side alone
 
@@ -188,7 +230,7 @@ pub record Gentle (tale : Tale) (sd : SideOf) (st : Stage) (n : ℕ) : Type 0 wh
   pub flags : (id : Id) → all_ok (fits sd st) (found (world_at tale (suc n)) id) ≡ true
   pub no_step : (q : RollType) → affects sd q ≡ true → is_step q (position_at tale.es (suc n)).mark
       ≡ false
-  pub dead : NoDs tale.es n → NoDs tale.es (suc n)
+  pub dead : NoDs tale n → NoDs tale (suc n)
   pub lists : KeepsLists tale sd n
 
 pub early_inner : (sd : SideOf) (r : RollType) (o : Option Key) → affects sd r ≡ true
@@ -204,7 +246,7 @@ module _ (tale : Tale) (n : ℕ) (here : suc n ≤ length tale.es) where
       → AtRest tale sd (suc n)
   rest-next sd less h kind = upto (λ q. (IsGone tale.es kind q (suc n) → ⊥) → (id : Id)
       → if_some (test_of sd kind) (found (world_at tale (suc n)) id) ≡ true
-      → Serving sd tale.es kind q id) n
+      → Serving tale sd kind q id) n
       (λ q le un id p. h kind q le (λ r. un (retired_stays tale.es kind q n r)) id (less kind id p))
       (λ _. shows tale sd kind (suc n) here)
 
@@ -251,10 +293,18 @@ module _ (tale : Tale) (n : ℕ) (here : suc n ≤ length tale.es) where
           h.0 (switches sd r) h.1.0 g h.2,
     )
 
+    pub has-gentle : (st : Stage) (p : KeyType → Bool) → Seen sd p → Gentle tale sd st n
+        → Has tale p n → Has tale p (suc n)
+    has-gentle st p seen g h = (h.0, g.back p seen h.0 h.1, h.2)
+
+    pub has_no-gentle : (st : Stage) (p : KeyType → Bool) → Seen sd p → Gentle tale sd st n
+        → HasNo tale p n → HasNo tale p (suc n)
+    has_no-gentle st p seen g h id o e = h id o (g.fore p seen id e)
+
     left_gentle : (st : Stage) → Gentle tale sd st n → Left tale sd st n → Left tale sd st (suc n)
     left_gentle Quiet g h = tt
-    left_gentle (Early r) g h = (h.0, g.back (remains sd r) (remains-seen sd r) h.0 h.1)
-    left_gentle (Late r) g h = (h.0, g.back (live sd) (live-seen sd) h.0 h.1)
+    left_gentle (Early r) g h = has-gentle (Early r) (remains sd r) (remains-seen sd r) g h
+    left_gentle (Late r) g h = has-gentle (Late r) (live sd) (live-seen sd) g h
 
     back_gentle : (st : Stage) → stage_own sd st ≡ true → Gentle tale sd st n → Back tale sd st n
         → Back tale sd st (suc n)
@@ -270,10 +320,10 @@ module _ (tale : Tale) (n : ℕ) (here : suc n ≤ length tale.es) where
       flags = g.flags;
       holds =
           holds_gentle st h.own g h.holds;
-      left = left_gentle st g h.left;
       back =
           back_gentle st h.own g h.back;
     }
 
-    pub alive-gentle : (st : Stage) → Gentle tale sd st n → Alive tale sd n → Alive tale sd (suc n)
-    alive-gentle st g a = (a.0, g.back (in_use sd) (use-seen sd) a.0 a.1)
+    pub lasts-gentle : (st : Stage) → Gentle tale sd st n → Lasts tale sd st n
+        → Lasts tale sd st (suc n)
+    lasts-gentle st g h = (has-gentle st (in_use sd) (use-seen sd) g h.0, left_gentle st g h.1)

@@ -217,7 +217,7 @@ kept_changed w f h = record {
 
 pub gentle_kept : (tale : Tale) (n : ℕ) (v : World) → world_at tale (suc n) ≡ v
     → Kept (world_at tale n) v → (position_at tale.es (suc n)).mark ≡ Other
-    → (NoDs tale.es n → NoDs tale.es (suc n))
+    → (NoDs tale n → NoDs tale (suc n))
     → ((sd : SideOf) → KeepsLists tale sd n) → (sd : SideOf) (st : Stage)
     → ((q : RollType) → affects sd q ≡ true → stage_fits st q ((world_at tale n).roll q) ≡ true)
     → ((id : Id) → all_ok (fits sd st) (found (world_at tale n) id) ≡ true)

@@ -1,6 +1,6 @@
 -- A place of a run: the call, its entry, and the worlds before and after; a side of the chain over
 -- the record.
-use Rattle.std.proofs.Common.{[], ◌≡◌, ◌↔◌, ℕ, zero, suc, ◌<◌, ◌≤◌, inl, inr, Bool, true, false}
+use Rattle.std.proofs.Common.{◌≡◌, ◌↔◌, ℕ, zero, suc, ◌<◌, ◌≤◌, inl, inr, Bool, true, false}
 use Rattle.std.proofs.Common.{refl, sym, ◌∙◌, ap, subst, arith, List, length, Option, None, Some}
 use Rattle.std.specs.Prelude.{slice_get, if◌then◌else◌, ◌==◌}
 use Rattle.std.specs.Option.{option_map}
@@ -27,7 +27,7 @@ use Rattle.dnssec_run.proofs.Chain.Tale.{Tale, World, Key, seen, found, if_some,
 use Rattle.dnssec_run.proofs.Chain.Shown.{shown-found}
 use Rattle.dnssec_run.proofs.Chain.Flags.{test_of, first_kind, second_kind, first_test, second_test}
 use Rattle.dnssec_run.proofs.Chain.Flags.{in_keys}
-use Rattle.dnssec_run.proofs.Chain.History.{Serving, retired_stays, nothing_in, not_in_empty}
+use Rattle.dnssec_run.proofs.Chain.History.{Serving, Without, retired_stays, never-gone-now}
 use Rattle.dnssec_run.proofs.Chain.Side.{Side, upto}
 
 -- a test that a missing key passes
@@ -123,6 +123,12 @@ pub some_weaker : (p q : KeyType → Bool) → ((k : KeyType) → p k ≡ true �
 some_weaker p q h None e = absurd (true≢false (sym e))
 some_weaker p q h (Some k) e = h k.keytype e
 
+-- a key that fits and passes one test passes another
+pub some_of : (f p q : KeyType → Bool) → ((k : KeyType) → f k ≡ true → p k ≡ true → q k ≡ true)
+    → (o : Option Key) → all_ok f o ≡ true → if_some p o ≡ true → if_some q o ≡ true
+some_of f p q h None e g = absurd (true≢false (sym g))
+some_of f p q h (Some k) e g = h k.keytype e g
+
 zone_key : (k : KeyType) → in_keys Zone k ≡ true → in_dnskey k ≡ true
 zone_key (Ksk s) e = absurd (true≢false (sym e))
 zone_key (Zsk s) e = e
@@ -142,7 +148,7 @@ ds_shown tale i lt id e = let p = place_at tale i lt in
     (p.ds id).0 (subst (λ q. Contains q.ds id) p.position_is e)
 
 pub shows : (tale : Tale) (sd : SideOf) (kind : SetKind) (n : ℕ) → n ≤ length tale.es → (id : Id)
-    → if_some (test_of sd kind) (found (world_at tale n) id) ≡ true → Serving sd tale.es kind n id
+    → if_some (test_of sd kind) (found (world_at tale n) id) ≡ true → Serving tale sd kind n id
 shows tale Keys Ds n le id e = inr (shows_ds tale n le id e)
 shows tale Keys Dnskey zero le id e = absurd (none_at_start tale (test_of Keys Dnskey) id e)
 shows tale Keys Dnskey (suc i) le id e =
@@ -170,29 +176,45 @@ shows tale Zone ZoneSigners (suc i) le id e =
     let p = place_at tale i (omega arith) in
     subst (λ q. Contains q.zone id) (sym p.position_is) ((p.zone id).1 e)
 
--- no DS set was ever published
-abbrev pub NoDs : List Entry → ℕ → Type 0
-NoDs es n = (q : ℕ) → q ≤ n → (position_at es q).ds ≡ []
+-- no DS set that caches may hold has a key of the family
+abbrev pub NoDs : Tale → ℕ → Type 0
+NoDs tale n = (q : ℕ) → q ≤ n → (IsGone tale.es Ds q n → ⊥) → Without tale q
 
-pub no_ds-next : (tale : Tale) (n : ℕ) → suc n ≤ length tale.es
-    → ((id : Id) → if_some in_ds (found (world_at tale (suc n)) id) ≡ true
-    → if_some in_ds (found (world_at tale n) id) ≡ true) → NoDs tale.es n → NoDs tale.es (suc n)
-no_ds-next tale n here less h = upto (λ q. (position_at tale.es q).ds ≡ []) n h
-    (nothing_in _ (λ id c.
-    let before : Contains (position_at tale.es n).ds id =
-    shows_ds tale n (omega arith) id (less id (ds_shown tale n here id c)) in
-    not_in_empty id (subst (λ l. Contains l id) (h n (omega arith)) before)))
+-- if the next DS set has none, it stays so
+pub no_ds-bare : (tale : Tale) (n : ℕ) → suc n ≤ length tale.es → Without tale (suc n)
+    → NoDs tale n → NoDs tale (suc n)
+no_ds-bare tale n here none h = upto (λ q. (IsGone tale.es Ds q (suc n) → ⊥) → Without tale q) n
+    (λ q le un. h q le (λ x. un (retired_stays tale.es Ds q n x))) (λ _. none)
+
+-- what is in the DS set now was there before
+abbrev pub LessDs : Tale → ℕ → Type 0
+LessDs tale n = (id : Id) → if_some in_ds (found (world_at tale (suc n)) id) ≡ true
+    → if_some in_ds (found (world_at tale n) id) ≡ true
+
+pub without-next : (tale : Tale) (n : ℕ) → suc n ≤ length tale.es → LessDs tale n
+    → Without tale n → Without tale (suc n)
+without-next tale n here less h id o c =
+    h id o (shows_ds tale n (omega arith) id (less id (ds_shown tale n here id c)))
+
+pub no_ds-now : (tale : Tale) (n : ℕ) → NoDs tale n → Without tale n
+no_ds-now tale n h = h n (omega arith) (never-gone-now tale.es Ds n)
+
+pub no_ds-next : (tale : Tale) (n : ℕ) → suc n ≤ length tale.es → LessDs tale n → NoDs tale n
+    → NoDs tale (suc n)
+no_ds-next tale n here less h =
+    no_ds-bare tale n here (without-next tale n here less (no_ds-now tale n h)) h
 
 -- a roll's side of the chain
 abbrev pub side : Tale → SideOf → RollType → Side
 side tale sd r = record {
   Id = Id;
+  Of = λ id. tale.of id ≡ true;
   last = length tale.es;
-  D = NoDs tale.es;
+  D = NoDs tale;
   RX = IsGone tale.es (first_kind sd r);
   RY = IsGone tale.es (second_kind sd r);
-  X = Serving sd tale.es (first_kind sd r);
-  Y = Serving sd tale.es (second_kind sd r);
+  X = Serving tale sd (first_kind sd r);
+  Y = Serving tale sd (second_kind sd r);
   x = λ n id. if_some (first_test sd r) (found (world_at tale n) id) ≡ true;
   y = λ n id. if_some (second_test sd r) (found (world_at tale n) id) ≡ true;
   keepX = retired_stays tale.es (first_kind sd r);

@@ -38,9 +38,10 @@ pub record LeadsBack (tale : Tale) (sd : SideOf) (r : RollType) (n : ℕ) : Type
       (found (world_at tale n) id) ≡ true
   pub rest : (kind : SetKind) (q : ℕ) → q ≤ n → (IsGone tale.es kind q n → ⊥) → (id : Id)
       → if_some (λ k. test_of sd kind (kind_back tale r n id.0 k)) (found (world_at tale n) id)
-      ≡ true → Serving sd tale.es kind q id
-  pub used : NoDs tale.es n ⊎ ((id : Id)
-      × (if_some (λ k. in_use sd (kind_back tale r n id.0 k)) (found (world_at tale n) id) ≡ true))
+      ≡ true → Serving tale sd kind q id
+  pub used : NoDs tale n ⊎ ((id : Id)
+      × (if_some (λ k. in_use sd (kind_back tale r n id.0 k)) (found (world_at tale n) id) ≡ true)
+      × (tale.of id ≡ true))
 
 -- so it is from a start to the first report
 abbrev pub Back : Tale → SideOf → Stage → ℕ → Type 0
@@ -89,7 +90,7 @@ module _ (tale : Tale) (n : ℕ) (here : suc n ≤ length tale.es) (sd : SideOf)
     → if_some p (found (world_at tale n) id) ≡ true)
     (back : (p : KeyType → Bool) → Seen sd p → (id : Id) → if_some p (found (world_at tale n) id)
     ≡ true → if_some p (found (world_at tale (suc n)) id) ≡ true)
-    (dead : NoDs tale.es n → NoDs tale.es (suc n)) (lists : KeepsLists tale sd n)
+    (dead : NoDs tale n → NoDs tale (suc n)) (lists : KeepsLists tale sd n)
     (r : RollType) (own : affects sd r ≡ true)
     (phase : (world_at tale (suc n)).roll r ≡ Some Propagation1) where
   same_kind : (id : Id) (k : Key) → found (world_at tale (suc n)) id ≡ Some k
@@ -150,7 +151,7 @@ module _ (tale : Tale) (n : ℕ) (here : suc n ≤ length tale.es) (sd : SideOf)
     flags = flags_next h;
     rest = λ kind. upto (λ q. (IsGone tale.es kind q (suc n) → ⊥) → (id : Id)
         → if_some (λ k. test_of sd kind (kind_back tale r (suc n) id.0 k))
-        (found (world_at tale (suc n)) id) ≡ true → Serving sd tale.es kind q id) n
+        (found (world_at tale (suc n)) id) ≡ true → Serving tale sd kind q id) n
         (λ q le un id e. h.rest kind q le (λ x. un (retired_stays tale.es kind q n x)) id
         (was (test_of sd kind) (ended-seen sd kind r) id e))
         (λ _ id e. shows tale sd kind (suc n) here id
@@ -159,6 +160,6 @@ module _ (tale : Tale) (n : ℕ) (here : suc n ≤ length tale.es) (sd : SideOf)
     used = elim (h.used) [
       | inl d ↦ inl (dead d)
       | inr a ↦
-          inr (a.0, stays (in_use sd) (ended-used sd r) a.0 a.1)
+          inr (a.0, stays (in_use sd) (ended-used sd r) a.0 a.1, a.2)
     ];
   }

@@ -1,8 +1,8 @@
 -- What holds for each roll, case by case: whose DS sets it leaves alone, and which rolls go
 -- together.
-use Rattle.std.proofs.Common.{◌≡◌, ◌||◌, ◌⊎◌, inl, inr, Bool, true, false, refl, ◌&&◌}
+use Rattle.std.proofs.Common.{◌≡◌, ◌||◌, ◌⊎◌, inl, inr, Bool, true, false, refl, ◌&&◌, not}
 use Rattle.std.specs.Prelude.{if◌then◌else◌}
-use Rattle.std.proofs.lemmas.Bool.{true≢false}
+use Rattle.std.proofs.lemmas.Bool.{true≢false, and_parts, not-true}
 use Rattle.dnssec_key.specs.declared.roll.RollType.{RollType}
 use Rattle.dnssec_key.specs.declared.roll.RollType.TheVariants.{KskRoll, KskDoubleDsRoll, ZskRoll}
 use Rattle.dnssec_key.specs.declared.roll.RollType.TheVariants.{ZskDoubleSignatureRoll, CskRoll}
@@ -10,6 +10,7 @@ use Rattle.dnssec_key.specs.declared.roll.RollType.TheVariants.{AlgorithmRoll}
 use Rattle.dnssec_key.specs.declared.kind.KeyType.{KeyType}
 use Rattle.dnssec_key.specs.RollTable.{column}
 use Rattle.dnssec_run.specs.Published.{in_ds}
+use Rattle.dnssec_run.specs.Safe.{Ds, retires}
 use Rattle.dnssec_run.specs.Plain.{needs_algorithm_roll}
 use Rattle.dnssec_zone.proofs.Flags.{SideOf, Keys, Zone, affects, tolerates, started, waited1}
 use Rattle.dnssec_zone.proofs.Flags.{waited2, Quiet, Early, Late}
@@ -17,6 +18,7 @@ use Rattle.dnssec_zone.proofs.Tests.{both, both-at, each_roll, each_roll-at, eac
 use Rattle.dnssec_zone.proofs.Tests.{each_key-at, alike, alike-same, or_second, mp, and-both, ◌⇒◌}
 use Rattle.dnssec_run.proofs.Chain.Flags.{switches}
 use Rattle.dnssec_run.proofs.Chain.Facts.{timed}
+use Rattle.dnssec_run.proofs.Chain.Rolls.{clash}
 use Rattle.dnssec_keyset.proofs.Laws.{apart-sym}
 use Rattle.dnssec_zone.specs.Start.{side_of}
 
@@ -101,6 +103,42 @@ first_or AlgorithmRoll e = inl refl
 pub timed_first : (r : RollType) → timed r false ≡ true
 timed_first r = each_roll-at (λ r. timed r false) refl r
 
+-- two rolls of which one is of both sides never run together
+pub both_clash : (r q : RollType) → affects Keys q ≡ true → affects Zone q ≡ true
+    → tolerates r q ≡ false
+both_clash r q keys zone = by (affects Keys r) refl
+  where
+    by : (b : Bool) → affects Keys r ≡ b → tolerates r q ≡ false
+    by true own = clash Keys r q own keys
+    by false out = clash Zone r q (some_side r out) zone
+
+ds_table : RollType → Bool
+ds_table r = ((affects Keys r && affects Zone r) ⇒ (retires r true Ds && timed r true))
+    && (affects Keys r || not (needs_algorithm_roll r))
+
+ds_all : each_roll ds_table ≡ true
+unfolding ds_table
+ds_all = refl
+
+-- the second report of a roll of both sides retires DS sets
+pub both_retires : (r : RollType) → affects Keys r ≡ true → affects Zone r ≡ true
+    → retires r true Ds ≡ true
+unfolding ds_table
+both_retires r keys zone = (and_parts _ _ (mp _ _
+    (and_parts _ _ (each_roll-at ds_table ds_all r)).0 (and-both _ _ keys zone))).0
+
+pub both_timed : (r : RollType) → affects Keys r ≡ true → affects Zone r ≡ true
+    → timed r true ≡ true
+unfolding ds_table
+both_timed r keys zone = (and_parts _ _ (mp _ _
+    (and_parts _ _ (each_roll-at ds_table ds_all r)).0 (and-both _ _ keys zone))).1
+
+-- a roll of the zone alone needs no algorithm roll before it
+pub zone_free : (r : RollType) → affects Keys r ≡ false → needs_algorithm_roll r ≡ false
+unfolding ds_table
+zone_free r out = not-true _
+    (or_second _ _ (and_parts _ _ (each_roll-at ds_table ds_all r)).1 out)
+
 pub quiet-early : (r : RollType) → Quiet ≡ Early r → ⊥
 quiet-early r e = cc
 
@@ -109,6 +147,9 @@ quiet-late r e = cc
 
 pub early-late : (q r : RollType) → Early q ≡ Late r → ⊥
 early-late q r e = cc
+
+pub late-same : (q r : RollType) → Late q ≡ Late r → q ≡ r
+late-same q r e = cc
 
 pub early-same : (q r : RollType) → Early q ≡ Early r → q ≡ r
 early-same q r e = cc

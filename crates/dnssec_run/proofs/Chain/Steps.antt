@@ -1,6 +1,6 @@
 -- The calls of a roll on a side that the roll affects.
 use Rattle.std.proofs.Common.{◌≡◌, ℕ, suc, ◌<◌, ◌≤◌, ◌⊎◌, inl, inr, Bool, true, false, not, ◌&&◌}
-use Rattle.std.proofs.Common.{refl, sym, ◌∙◌, ap, subst, arith, List, length, Option, None, Some}
+use Rattle.std.proofs.Common.{refl, sym, ◌∙◌, ap, arith, List, length, Option, None, Some}
 use Rattle.std.specs.Option.{option_map, option_map_or}
 use Rattle.dnssec_key.specs.State.{is_kept}
 use Rattle.dnssec_key.specs.Key.{all_states}
@@ -14,34 +14,36 @@ use Rattle.dnssec_run.specs.Published.{Id}
 use Rattle.dnssec_run.specs.Safe.{SetKind, position_at, base_below, is_step, IsGone, retires}
 use Rattle.dnssec_zone.proofs.Flags.{SideOf, affects, Quiet, Early, Late, fits, may_start}
 use Rattle.dnssec_zone.proofs.Flags.{started, ended}
-use Rattle.dnssec_run.proofs.Chain.Tables.{serves_new, serves_kept}
 use Rattle.dnssec_run.proofs.Chain.Tale.{Tale, Key, found, if_some, world_at, start_key, wait1_key}
 use Rattle.dnssec_run.proofs.Chain.Tale.{wait2_key, is_listed, CanStart}
 use Rattle.dnssec_run.proofs.Chain.Side.{upto, Witness, rest-starts, rest-broadens, early-switches}
 use Rattle.dnssec_run.proofs.Chain.Side.{broad-rests, late-closes, rest_shrinks}
 use Rattle.dnssec_run.proofs.Chain.Flags.{first_kind, second_kind, first_test, second_test, in_use}
-use Rattle.dnssec_run.proofs.Chain.Flags.{test_of, live, remains, switches, start_facts}
+use Rattle.dnssec_run.proofs.Chain.Flags.{test_of, live, switches}
 use Rattle.dnssec_run.proofs.Chain.Rolls.{stage_fits, same-same, others_early, others_late}
 use Rattle.dnssec_run.proofs.Chain.Rolls.{put-fits, clash}
 use Rattle.dnssec_run.proofs.Chain.History.{Serving, base_here, retired_stays}
-use Rattle.dnssec_run.proofs.Chain.Places.{all_ok, side, NoDs, found_key, found_now, some_weaker}
+use Rattle.dnssec_run.proofs.Chain.Places.{all_ok, side, NoDs, found_key, some_weaker}
 use Rattle.dnssec_run.proofs.Chain.Places.{real, shows, some_key}
 use Rattle.dnssec_run.proofs.Chain.EarlyEnds.{there_and_back, is_tied, back-fits, back-set}
 use Rattle.dnssec_run.proofs.Chain.EarlyEnds.{ended-less}
 use Rattle.dnssec_run.proofs.Chain.Returns.{LeadsBack, listed_at, kind_back, early_end_key}
 use Rattle.dnssec_run.proofs.Chain.Invariant.{At, AtRest, EarlyOf, LateOf, Alive, used_first}
+use Rattle.dnssec_run.proofs.Chain.Invariant.{Left, Lasts}
 use Rattle.dnssec_run.proofs.Chain.Invariant.{used_second, rest_side, side_rest}
 use Rattle.dnssec_run.proofs.Chain.OneKey.{Mapped, may_at, start-fit, start-inner, start-second}
-use Rattle.dnssec_run.proofs.Chain.OneKey.{start-used, suits, w1-first, w1-fit, w1-keep, w1-second}
+use Rattle.dnssec_run.proofs.Chain.OneKey.{start-used, w1-first, w1-fit, w1-keep, w1-second}
 use Rattle.dnssec_run.proofs.Chain.OneKey.{w1-some, w2-first, w2-fit, w2-second, w2-used}
 
 -- ---- one step
 
--- what a side may know before the first wait: a key in use, or that nothing is asked of it
+-- what a side may know before the first wait: a key in use; or one that will be, and that each
+-- second set serves for any; or that nothing is asked of it
 abbrev pub LifeAt : (tale : Tale) → SideOf → RollType → ℕ → Type 0
 LifeAt tale sd r n = Alive tale sd n
-    ⊎ (((id : Id) (q : ℕ) → q ≤ n → Serving sd tale.es (second_kind sd r) q id)
-    ⊎ NoDs tale.es (suc n))
+    ⊎ ((Left tale sd (Early r) n × ((id : Id) (q : ℕ) → q ≤ n
+    → (IsGone tale.es (second_kind sd r) q n → ⊥) → Serving tale sd (second_kind sd r) q id))
+    ⊎ NoDs tale (suc n))
 
 module _ (tale : Tale) (n : ℕ) (here : suc n ≤ length tale.es) (sd : SideOf) (r : RollType)
     (own : affects sd r ≡ true) where
@@ -58,7 +60,7 @@ module _ (tale : Tale) (n : ℕ) (here : suc n ≤ length tale.es) (sd : SideOf)
         (found (world_at tale n) id) ≡ true
     may = may_at r (world_at tale n) old new can
 
-    started_sets : (w : Bool) → switches sd r ≡ w → (NoDs tale.es (suc n) ⊎ Alive tale sd n)
+    started_sets : (w : Bool) → switches sd r ≡ w → (NoDs tale (suc n) ⊎ Alive tale sd n)
         → At tale sd Quiet n → EarlyOf tale sd r (suc n) (suc n) w
     started_sets true sw life h =
         let second : (id : Id) → if_some (second_test sd r) (found (world_at tale (suc n)) id)
@@ -86,6 +88,7 @@ module _ (tale : Tale) (n : ℕ) (here : suc n ≤ length tale.es) (sd : SideOf)
                 used_second sd r (found (world_at tale n) a.0) a.1,
                 used_first sd r (found (world_at tale (suc n)) a.0) used,
                 used_second sd r (found (world_at tale (suc n)) a.0) used,
+                a.2,
               )
         ])
         (rest_side tale n sd r h.holds)
@@ -132,13 +135,13 @@ module _ (tale : Tale) (n : ℕ) (here : suc n ≤ length tale.es) (sd : SideOf)
             (m.founds id ∙ ap (option_map (start_key r now old new id.0)) f)
             ∙ back_key (test_of sd kind) id k f) ∙ e)
 
-    leads-start : (NoDs tale.es (suc n) ⊎ Alive tale sd n) → At tale sd Quiet n
+    leads-start : (NoDs tale (suc n) ⊎ Alive tale sd n) → At tale sd Quiet n
         → LeadsBack tale sd r (suc n)
     leads-start life h = record {
       flags = λ id. by id (found (world_at tale n) id) refl;
       rest = λ kind. upto (λ q. (IsGone tale.es kind q (suc n) → ⊥) → (id : Id)
           → if_some (λ k. test_of sd kind (kind_back tale r (suc n) id.0 k))
-          (found (world_at tale (suc n)) id) ≡ true → Serving sd tale.es kind q id) n
+          (found (world_at tale (suc n)) id) ≡ true → Serving tale sd kind q id) n
           (λ q le un id e. h.holds kind q le (λ x. un (retired_stays tale.es kind q n x)) id
           (back_set kind id e))
           (λ _ id e. shows tale sd kind (suc n) here id
@@ -153,6 +156,7 @@ module _ (tale : Tale) (n : ℕ) (here : suc n ≤ length tale.es) (sd : SideOf)
               ap (if_some (λ k. in_use sd (kind_back tale r (suc n) a.0.0 k)))
                   (m.founds a.0 ∙ ap (option_map (start_key r now old new a.0.0)) k.1)
                   ∙ back_key (in_use sd) a.0 k.0 k.1 ∙ (back_facts h a.0 k.0 k.1).1 k.2,
+              a.2,
             )
       ];
     }
@@ -166,47 +170,22 @@ module _ (tale : Tale) (n : ℕ) (here : suc n ≤ length tale.es) (sd : SideOf)
             (m.founds id ∙ ap (option_map (start_key r now old new id.0)) f)
             ∙ back_key (fits sd Quiet) id k f ∙ (back_facts h id k f).0
 
-    pub at-start : (NoDs tale.es (suc n) ⊎ Alive tale sd n) → At tale sd Quiet n
+    pub at-start : (NoDs tale (suc n) ⊎ Alive tale sd n) → At tale sd Quiet n
         → At tale sd (Early r) (suc n)
-    at-start life h =
-        let s = can.suitable sd own in
-        let id : Id = (s.0, (world_at tale n).added s.0) in
-        let at_key : found (world_at tale n) id ≡ Some s.1 = found_now (world_at tale n) s.0 ∙ s.2
-        in
-        let may_key : may_start r (is_listed s.0 old) (is_listed s.0 new) s.1.keytype ≡ true =
-        subst (λ o. all_ok (may_start r (is_listed s.0 old) (is_listed s.0 new)) o ≡ true)
-        at_key (may id) in
-        let fit_key : fits sd Quiet s.1.keytype ≡ true =
-        subst (λ o. all_ok (fits sd Quiet) o ≡ true) at_key (h.flags id) in
-        let new_key : found (world_at tale (suc n)) id ≡ Some (start_key r now old new s.0 s.1) =
-        m.founds id ∙ ap (option_map (start_key r now old new s.0)) at_key in
-        record {
-          own = own;
-          rolls = λ q e. ap (stage_fits (Early r) q) (m.rolls q)
-              ∙ put-fits (Early r) (world_at tale n).roll r (Some Propagation1) q (λ e. e)
-              (λ d. ap (stage_fits (Early r) q) (can.alone q (clash sd r q own e)) ∙ ap not d);
-          flags = λ id. ap (all_ok (fits sd (Early r))) (m.founds id)
-              ∙ start-fit sd r own now old new id.0 (found (world_at tale n) id) (may id)
-              (h.flags id);
-          holds = (
-            suc n,
-            (
-              omega arith,
-              base_here tale.es r (suc n)
-                  (ap (is_step r) mark ∙ same-same r),
-            ),
-            started_sets (switches sd r) refl life h,
-          );
-          left = (
-            id,
-            ap (if_some (remains sd r)) new_key
-                ∙ (start_facts sd r (is_listed s.0 old) (is_listed s.0 new) s.1.keytype own may_key
-                fit_key).some
-                (suits (is_listed s.0 old) (is_listed s.0 new) (serves_new sd r s.1.keytype)
-                (serves_kept sd r s.1.keytype) s.3),
-          );
-          back = λ phase. leads-start life h;
-        }
+    at-start life h = record {
+      own = own;
+      rolls = λ q e. ap (stage_fits (Early r) q) (m.rolls q)
+          ∙ put-fits (Early r) (world_at tale n).roll r (Some Propagation1) q (λ e. e)
+          (λ d. ap (stage_fits (Early r) q) (can.alone q (clash sd r q own e)) ∙ ap not d);
+      flags = λ id. ap (all_ok (fits sd (Early r))) (m.founds id)
+          ∙ start-fit sd r own now old new id.0 (found (world_at tale n) id) (may id) (h.flags id);
+      holds = (
+        suc n,
+        (omega arith, base_here tale.es r (suc n) (ap (is_step r) mark ∙ same-same r)),
+        started_sets (switches sd r) refl life h,
+      );
+      back = λ phase. leads-start life h;
+    }
 
     pub alive-start : At tale sd Quiet n → Alive tale sd n → Alive tale sd (suc n)
     alive-start h a = (
@@ -214,6 +193,7 @@ module _ (tale : Tale) (n : ℕ) (here : suc n ≤ length tale.es) (sd : SideOf)
       ap (if_some (in_use sd)) (m.founds a.0)
           ∙ start-used sd r own now old new a.0.0 (found (world_at tale n) a.0) (may a.0)
           (h.flags a.0) a.1,
+      a.2,
     )
 
   -- the first wait
@@ -224,19 +204,24 @@ module _ (tale : Tale) (n : ℕ) (here : suc n ≤ length tale.es) (sd : SideOf)
       → IsGone tale.es kind q (suc n))
       (first-goes : retires r false (first_kind sd r) ≡ true)
       (second-goes : retires r (switches sd r) (second_kind sd r) ≡ true) where
-    pub live-wait1 : At tale sd (Early r) n → (id : Id)
-        × (if_some (live sd) (found (world_at tale (suc n)) id) ≡ true)
-    live-wait1 h = (
-      h.left.0,
-      ap (if_some (live sd)) (m.founds h.left.0)
-          ∙ w1-some sd r own now (found (world_at tale n) h.left.0) (h.flags h.left.0) h.left.1,
+    live-wait1 : At tale sd (Early r) n → Left tale sd (Early r) n → Left tale sd (Late r) (suc n)
+    live-wait1 h l = (
+      l.0,
+      ap (if_some (live sd)) (m.founds l.0)
+          ∙ w1-some sd r own now (found (world_at tale n) l.0) (h.flags l.0) l.1,
+      l.2,
     )
 
-    pub alive-wait1 : At tale sd (Early r) n → Alive tale sd (suc n)
-    alive-wait1 h = let l = live-wait1 h in (
-      l.0,
-      some_weaker (live sd) (in_use sd) (λ k e. (and_parts _ _ e).0)
-          (found (world_at tale (suc n)) l.0) l.1,
+    pub lasts-wait1 : At tale sd (Early r) n → Left tale sd (Early r) n
+        → Lasts tale sd (Late r) (suc n)
+    lasts-wait1 h left = let l = live-wait1 h left in (
+      (
+        l.0,
+        some_weaker (live sd) (in_use sd) (λ k e. (and_parts _ _ e).0)
+            (found (world_at tale (suc n)) l.0) l.1,
+        l.2,
+      ),
+      l,
     )
 
     first_less : At tale sd (Early r) n → (id : Id)
@@ -246,7 +231,7 @@ module _ (tale : Tale) (n : ℕ) (here : suc n ≤ length tale.es) (sd : SideOf)
         (sym (ap (if_some (first_test sd r)) (m.founds id)) ∙ e)
 
     witness : (b : ℕ) → switches sd r ≡ true → At tale sd (Early r) n → EarlyOf tale sd r n b true
-        → LifeAt tale sd r n → NoDs tale.es (suc n) ⊎ Witness (side tale sd r) (suc n) (suc n)
+        → LifeAt tale sd r n → NoDs tale (suc n) ⊎ Witness (side tale sd r) (suc n) (suc n)
     witness b sw h sets (inl a) =
         let first : if_some (first_test sd r) (found (world_at tale (suc n)) a.0) ≡ true =
         ap (if_some (first_test sd r)) (m.founds a.0)
@@ -257,13 +242,14 @@ module _ (tale : Tale) (n : ℕ) (here : suc n ≤ length tale.es) (sd : SideOf)
           first,
           λ q lt un. sets.ys q (omega arith) (λ x. un ((side tale sd r).keepY q n x))
               a.0 (used_second sd r (found (world_at tale n) a.0) a.1),
+          a.2,
         )
-    witness b sw h sets (inr (inl all)) = let a = alive-wait1 h in
+    witness b sw h sets (inr (inl all)) = let a = (lasts-wait1 h all.0).0 in
         inr (
           a.0,
           used_first sd r (found (world_at tale (suc n)) a.0) a.1,
-          λ q lt un. all a.0 q
-              (omega arith),
+          λ q lt un. all.1 a.0 q (omega arith) (λ x. un ((side tale sd r).keepY q n x)),
+          a.2,
         )
     witness b sw h sets (inr (inr d)) = inl d
 
@@ -295,7 +281,6 @@ module _ (tale : Tale) (n : ℕ) (here : suc n ≤ length tale.es) (sd : SideOf)
         (omega arith, base_here tale.es r (suc n) (ap (is_step r) mark ∙ same-same r)),
         wait1_sets (switches sd r) refl h.holds.0 h.holds.1.1 second-goes life h h.holds.2,
       );
-      left = live-wait1 h;
       back = tt;
     }
 
@@ -337,15 +322,15 @@ module _ (tale : Tale) (n : ℕ) (here : suc n ≤ length tale.es) (sd : SideOf)
       flags = λ id. ap (all_ok (fits sd Quiet)) (m.founds id)
           ∙ w2-fit sd r own now (found (world_at tale n) id) (h.flags id);
       holds = wait2_sets (switches sd r) refl h.holds.0 h.holds.1.1 second-goes h h.holds.2;
-      left = tt;
       back = tt;
     }
 
-    pub alive-wait2 : At tale sd (Late r) n → Alive tale sd (suc n)
-    alive-wait2 h = (
-      h.left.0,
-      ap (if_some (in_use sd)) (m.founds h.left.0)
-          ∙ w2-used sd r own now (found (world_at tale n) h.left.0) (h.flags h.left.0) h.left.1,
+    pub alive-wait2 : At tale sd (Late r) n → Left tale sd (Late r) n → Alive tale sd (suc n)
+    alive-wait2 h l = (
+      l.0,
+      ap (if_some (in_use sd)) (m.founds l.0)
+          ∙ w2-used sd r own now (found (world_at tale n) l.0) (h.flags l.0) l.1,
+      l.2,
     )
 
   -- an early end
@@ -377,16 +362,15 @@ module _ (tale : Tale) (n : ℕ) (here : suc n ≤ length tale.es) (sd : SideOf)
           ∙ all_by_kind (fits sd Quiet) id (found (world_at tale n) id) ∙ b.flags id;
       holds = λ kind. upto (λ q. (IsGone tale.es kind q (suc n) → ⊥) → (id : Id)
           → if_some (test_of sd kind) (found (world_at tale (suc n)) id) ≡ true
-          → Serving sd tale.es kind q id) n
+          → Serving tale sd kind q id) n
           (λ q le un id e. b.rest kind q le (λ x. un (retired_stays tale.es kind q n x)) id
           (sym (back_now (test_of sd kind) id) ∙ e))
           (λ _. shows tale sd kind (suc n) here);
-      left = tt;
       back = tt;
     }
 
-    pub alive-early-end : LeadsBack tale sd r n → (NoDs tale.es n → ⊥) → Alive tale sd (suc n)
+    pub alive-early-end : LeadsBack tale sd r n → (NoDs tale n → ⊥) → Alive tale sd (suc n)
     alive-early-end b born = elim (b.used) [
       | inl d ↦ absurd (born d)
-      | inr a ↦ (a.0, back_now (in_use sd) a.0 ∙ a.1)
+      | inr a ↦ (a.0, back_now (in_use sd) a.0 ∙ a.1, a.2)
     ]

@@ -16,7 +16,7 @@ use Rattle.dnssec_zone.specs.Rolls.{phase_of, same_roll}
 use Rattle.dnssec_key.specs.RollTable.{after_start, after_report, after_wait, after_early_end}
 use Rattle.dnssec_key.specs.RollTable.{First, Second}
 use Rattle.dnssec_key.specs.RollTable.{column, stamps_after}
-use Rattle.dnssec_zone.specs.Start.{is_listed as listed}
+use Rattle.dnssec_zone.specs.Start.{is_listed as listed, may_change_algorithms}
 use Rattle.dnssec_run.specs.declared.call.Call.{Call}
 use Rattle.dnssec_run.specs.declared.record.Entry.{Entry}
 use Rattle.dnssec_run.specs.Published.{Id, World as RealWorld}
@@ -27,13 +27,16 @@ use Rattle.dnssec_zone.proofs.Flags.{affects}
 use Rattle.dnssec_run.proofs.Chain.Tables.{Stamp, stamp_in, half, read, checked, serves_new}
 use Rattle.dnssec_run.proofs.Chain.Tables.{serves_kept}
 
--- a run of a plain list, with its record
+-- a run of a plain list, with its record, and a family of keys whose chain is shown
 pub record Tale : Type 0 where
   pub name : List ℕ
   pub calls : List Call
   pub es : List Entry
   pub run : rec.IsRun name calls es
   pub plain : IsPlainBySets name calls es
+  pub of : Id → Bool  -- the key is of the family
+  pub whole : Bool  -- all keys are
+  pub all : whole ≡ true → (id : Id) → of id ≡ true
 
 abbrev pub Key : Type 0
 Key = KeyParts
@@ -131,4 +134,7 @@ pub record CanStart (r : RollType) (w : World) (old new : List (List ℕ)) : Typ
       × (may_list r k.keytype ≡ true)
   pub new_is : (q : List ℕ) → is_listed q new ≡ true → (k : Key) × (w.key q ≡ Some k)
       × (may_list r k.keytype ≡ true) × (is_blank k.keytype ≡ true) × (is_listed q old ≡ false)
+  pub algorithms : may_change_algorithms r ≡ false → (q : List ℕ) (k : Key) → w.key q ≡ Some k
+      → is_listed q old ≡ true → (x : List ℕ) × (j : Key) × (w.key x ≡ Some j)
+      × (is_listed x new ≡ true) × (j.algorithm ≡ k.algorithm)
   pub suitable : (sd : SideOf) → affects sd r ≡ true → HasSuitable sd r w old new

@@ -1,8 +1,9 @@
--- Each call of a run keeps the invariant of the chain, so each position of a plain run is safe.
+-- Each call of a run keeps the invariant of the chain. So each position of a plain run is safe, and
+-- safe by each algorithm if its starts keep the sets whole.
 use Rattle.dnssec_keyset.proofs.Accepted.{refused_same, is_refused, accepted_changes, no_some}
 use Rattle.dnssec_keyset.proofs.Accepted.{no_error, gone_key, spreads_first, spreads_second}
 use Rattle.dnssec_keyset.proofs.Accepted.{finishes, ends_early}
-use Rattle.std.proofs.Common.{[], ◌≡◌, ℕ, zero, suc, ◌≤◌, inl, inr, Bool, true, false, refl, sym}
+use Rattle.std.proofs.Common.{◌≡◌, ℕ, zero, suc, ◌≤◌, inl, inr, Bool, true, false, refl, sym}
 use Rattle.std.proofs.Common.{◌∙◌, ap, subst, arith, List, length, Option, None, Some}
 use Rattle.std.specs.Prelude.{if◌then◌else◌, ◌==◌}
 use Rattle.std.specs.Option.{option_map}
@@ -40,8 +41,10 @@ use Rattle.dnssec_run.specs.declared.record.Reply.TheVariants as reply
 use Rattle.dnssec_run.specs.declared.record.Mark.{Mark}
 use Rattle.dnssec_run.specs.declared.record.Mark.TheVariants.{Other, Step, Report}
 use Rattle.dnssec_run.specs.Record as rec
-use Rattle.dnssec_run.specs.Safe.{position_at}
-use Rattle.dnssec_run.specs.Plain.{StaysSafe}
+use Rattle.dnssec_run.specs.Safe.{IsSafe, position_at}
+use Rattle.dnssec_run.specs.Plain.{IsPlain, StaysSafe}
+use Rattle.dnssec_run.specs.ByAlgorithm.{IsSafeByEach, KeepsWhole, StaysSafeByEach, algorithm_of}
+use Rattle.std.specs.List.{Contains}
 use Rattle.dnssec_run.proofs.Premise.{DoesAt, start_of, first_wait_of, is_plain_setting}
 use Rattle.dnssec_run.proofs.Premise.{plain-by-sets, sets_nothing}
 use Rattle.dnssec_zone.proofs.Flags.{SideOf, Keys, Zone, is_blank, Quiet, fits, stale-idle}
@@ -61,9 +64,15 @@ use Rattle.dnssec_run.proofs.Chain.Invariant.{At}
 use Rattle.dnssec_run.proofs.Chain.Gentles.{distinct}
 use Rattle.dnssec_run.proofs.Chain.KeyCalls.{kept_same, kept_added, kept_deleted, kept_changed}
 use Rattle.dnssec_run.proofs.Chain.KeyCalls.{with_key, without_key, with_keys}
-use Rattle.dnssec_run.proofs.Chain.BothSides.{Inv, mapped, calm, report, done, PassesAt}
-use Rattle.dnssec_run.proofs.Chain.FirstCalls.{start, wait1}
-use Rattle.dnssec_run.proofs.Chain.SideBySide.{wait2, safe_of, end_early}
+use Rattle.dnssec_run.proofs.Chain.BothSides.{Inv, mapped, calm, report, done}
+use Rattle.dnssec_run.proofs.Chain.FirstCalls.{start}
+use Rattle.dnssec_run.proofs.Chain.FirstWaits.{wait1}
+use Rattle.dnssec_run.proofs.Chain.SideBySide.{wait2, end_early, family-safe}
+use Rattle.dnssec_run.proofs.Chain.Keeping.{engaged}
+use Rattle.dnssec_run.proofs.Chain.History.{nothing_in, not_in_empty}
+use Rattle.dnssec_run.proofs.Chain.Life.{Law, PassesAt}
+use Rattle.dnssec_run.proofs.Chain.Family.{algorithm-law, of_algorithm, whole-law}
+use Rattle.dnssec_run.proofs.Chain.Family.{number_same, same_number}
 use Rattle.dnssec_run.proofs.Chain.Allowed.{can_start, waits_in_phase}
 use Rattle.dnssec_keyset.proofs.Laws.{no_cause}
 use Rattle.dnssec_zone.proofs.Phases.{no_phases}
@@ -139,7 +148,7 @@ worlds w v keys added rolls = λ i.
 
 -- ---- one call
 
-module _ (tale : Tale) (n : ℕ) (here : suc n ≤ length tale.es) where
+module _ (tale : Tale) (law : Law tale) (n : ℕ) (here : suc n ≤ length tale.es) where
   abbrev before : KeySetParts
   before = (real tale n).set
 
@@ -235,7 +244,7 @@ module _ (tale : Tale) (n : ℕ) (here : suc n ≤ length tale.es) where
       (λ q d. ap (λ l. listed_by l q) h.lists
       ∙ listed-other before.lists r (lists.listed_at_start before.keys old new) q d) sd
       (λ q own. distinct sd r q out own))
-      (some r refl) (λ s. none-some AlgorithmRoll (only s)) inv
+      law (some r refl) (λ s. none-some AlgorithmRoll (only s)) inv
   accepted (keyset.Report r First ttl now) v h plain blank added m t only some inv =
       let on : Mapped tale n (λ q. report_key r false now) r (Some (CacheExpire1 ttl)) =
       mapped tale n (λ q. report_key r false now) r (Some (CacheExpire1 ttl))
@@ -353,7 +362,6 @@ first_at tale sd = record {
   rolls = λ q e. ap (stage_fits Quiet q) (no_phases q);
   flags = λ id. none_there (0 == id.1) _ (fits sd Quiet) (get-empty (slice_cmp nat_cmp) id.0);
   holds = λ kind q le un id e. absurd (none_at_start tale _ id e);
-  left = tt;
   back = tt;
 }
 
@@ -366,26 +374,60 @@ first tale = record {
   zone = first_at tale Zone;
   pairs = λ r q o p e f d. absurd (none-some o (sym (no_phases r) ∙ e));
   phases = λ r p e. absurd (none-some p (sym (no_phases r) ∙ e));
-  life = inr (
-    (λ q le. let e : zero ≡ q = omega arith in
-        subst (λ q. (position_at tale.es q).ds ≡ []) e refl),
-    ((λ m lt s. omega arith), inl refl),
-  );
+  life = inr (inr (
+    (λ q le un id o c. not_in_empty id
+        (let e : q ≡ zero = omega arith in
+        subst (λ q. Contains (position_at tale.es q).ds id) e c)),
+    (λ w m lt s. omega (arith, lt)),
+    inl (λ id o e. none_at_start tale engaged id e),
+  ));
 }
 
-always : (tale : Tale) (n : ℕ) → n ≤ length tale.es → Inv tale n
-always tale zero le = first tale
-always tale (suc n) le = next tale n le (always tale n (omega arith))
+always : (tale : Tale) → Law tale → (n : ℕ) → n ≤ length tale.es → Inv tale n
+always tale law zero le = first tale
+always tale law (suc n) le = next tale law n le (always tale law n (omega arith))
+
+module _ (name : List ℕ) (calls : List Call) (entries : List Entry)
+    (run : rec.IsRun name calls entries) (plain : IsPlain name calls entries) where
+  -- the run, with the family of all keys
+  abbrev whole : Tale
+  whole = record {
+    name = name;
+    calls = calls;
+    es = entries;
+    run = run;
+    plain = plain-by-sets name calls entries run plain;
+    of = λ id. true;
+    whole = true;
+    all = λ w id. refl;
+  }
+
+  safe_at : (n : ℕ) → n ≤ length entries → IsSafe entries n
+  safe_at n le p q z up uq uz = elim
+      (family-safe whole n (always whole (whole-law whole refl) n le) p q z up uq uz) [
+        | inl none ↦ inl (nothing_in _ (λ id c. none id refl c))
+        | inr c ↦ inr ((c.0.0, c.0.1, c.0.2.0, c.0.2.1), (c.1.0, c.1.1, c.1.2))
+      ]
+
+  each_at : KeepsWhole name calls entries → (n : ℕ) → n ≤ length entries
+      → IsSafeByEach calls entries n
+  each_at keeps n le p q z up uq uz d in_ds =
+      let a = algorithm_of calls d in
+      let tale = of_algorithm whole a in
+      elim (family-safe tale n (always tale (algorithm-law whole a keeps) n le) p q z up uq uz) [
+        | inl none ↦ absurd (none d (number_same a a refl) in_ds)
+        | inr c ↦ (
+          (c.0.0, same_number (algorithm_of calls c.0.0) a c.0.3, c.0.1, c.0.2.0, c.0.2.1),
+          (c.1.0, same_number (algorithm_of calls c.1.0) a c.1.3, c.1.1, c.1.2),
+        )
+      ]
 
 -- if the list is plain, every position of its record is safe
 pub chain-holds : (name : List ℕ) (calls : List Call) (entries : List Entry)
     → rec.IsRun name calls entries → StaysSafe name calls entries
-chain-holds name calls entries run plain n le =
-    let tale : Tale = record {
-      name = name;
-      calls = calls;
-      es = entries;
-      run = run;
-      plain = plain-by-sets name calls entries run plain;
-    } in
-    safe_of tale n le (always tale n le)
+chain-holds = safe_at
+
+-- if it also keeps the sets whole, every position is safe by each algorithm
+pub each-holds : (name : List ℕ) (calls : List Call) (entries : List Entry)
+    → rec.IsRun name calls entries → StaysSafeByEach name calls entries
+each-holds = each_at

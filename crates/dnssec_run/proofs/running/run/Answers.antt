@@ -4,7 +4,7 @@ use Rattle.std.proofs.Common.{append_assoc, append-nil, arith, rules, length-app
 use Rattle.std.specs.Vec.Iter.{into_iter_items}
 use Rattle.dnssec_run.specs.Record.{IsRun}
 use Rattle.dnssec_run.specs.Recorder.{Records}
-use Rattle.dnssec_run.proofs.Chain.Trust.{chain-holds}
+use Rattle.dnssec_run.proofs.Chain.Trust.{chain-holds, each-holds}
 use Rattle.dnssec_run.proofs.Asked.Changes.{changes-as-asked}
 use Rattle.dnssec_run.proofs.Asked.Reports.{retires-as-asked}
 use Rattle.dnssec_run.proofs.EarlyEnds.Undoing.{undoes-starts}
@@ -72,6 +72,10 @@ returns-clause-exchange c = neighbours-exchange c.args.name c.args.calls.items
 
 pub returns-clause-chain : goal.returns-clause-chain
 returns-clause-chain c = chain-holds c.args.name c.args.calls.items c.loop-call.entries.items
+    (returns-clause-run c)
+
+pub returns-clause-each_chain : goal.returns-clause-each_chain
+returns-clause-each_chain c = each-holds c.args.name c.args.calls.items c.loop-call.entries.items
     (returns-clause-run c)
 
 pub returns-clause-stamps : goal.returns-clause-stamps

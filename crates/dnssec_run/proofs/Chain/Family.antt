@@ -1,0 +1,321 @@
+-- What a start makes of a family of keys: of all keys, by what it has to leave; of those of one
+-- algorithm, if it keeps the sets whole.
+use Rattle.std.proofs.Common.{◌≡◌, ℕ, suc, ◌≤◌, ◌⊎◌, inl, inr, Bool, true, false, ◌&&◌, ◌||◌}
+use Rattle.std.proofs.Common.{refl, sym, ◌∙◌, ap, subst, arith, List, length, Option, None, Some}
+use Rattle.std.specs.Prelude.{nat_eq}
+use Rattle.std.specs.Option.{option_map}
+use Rattle.std.proofs.lemmas.Bool.{true≢false, and_parts}
+use Rattle.std.proofs.lemmas.Bool.Decides.{nat_tests}
+use Rattle.dnssec_key.specs.declared.roll.RollType.{RollType}
+use Rattle.dnssec_key.specs.declared.roll.RollType.TheVariants.{KskRoll, KskDoubleDsRoll, ZskRoll}
+use Rattle.dnssec_key.specs.declared.roll.RollType.TheVariants.{ZskDoubleSignatureRoll, CskRoll}
+use Rattle.dnssec_key.specs.declared.roll.RollType.TheVariants.{AlgorithmRoll}
+use Rattle.dnssec_key.specs.declared.roll.RollState.TheVariants.{Propagation1}
+use Rattle.dnssec_key.specs.declared.kind.KeyType.{KeyType}
+use Rattle.dnssec_zone.specs.Keys.{some_key}
+use Rattle.dnssec_zone.specs.Start.{may_change_algorithms}
+use Rattle.dnssec_zone.proofs.Quantified.{some_key-found, some_key-none}
+use Rattle.dnssec_zone.proofs.Tests.{and-both, or_second}
+use Rattle.dnssec_zone.proofs.Flags.{SideOf, Keys, Zone, affects, Quiet, Early, fits}
+use Rattle.dnssec_zone.proofs.Flags.{started}
+use Rattle.dnssec_run.specs.ByAlgorithm.{KeepsWhole, HasKeyOf, keeps_ksk, keeps_zsk}
+use Rattle.dnssec_run.specs.ByAlgorithm.{algorithm_at, algorithm_of}
+use Rattle.dnssec_run.specs.Plain.{needs_algorithm_roll}
+use Rattle.dnssec_run.specs.Published.{Id}
+use Rattle.dnssec_run.proofs.Premise.{DoesAt, start_of, start-told}
+use Rattle.dnssec_run.proofs.Chain.Tables.{serves_new, serves_kept}
+use Rattle.dnssec_run.proofs.Chain.Tale.{Tale, Key, found, if_some, world_at, start_key}
+use Rattle.dnssec_run.proofs.Chain.Tale.{is_listed, CanStart}
+use Rattle.dnssec_run.proofs.Chain.Flags.{in_use, remains, start_facts}
+use Rattle.dnssec_run.proofs.Chain.Keeping.{AtStart, at_start, before_first, engaged}
+use Rattle.dnssec_run.proofs.Chain.Keeping.{of_key, zone-remains}
+use Rattle.dnssec_run.proofs.Chain.Places.{all_ok, found_key, found_now, real, some_key as a_key}
+use Rattle.dnssec_run.proofs.Chain.Places.{some_of}
+use Rattle.dnssec_run.proofs.Chain.Invariant.{Alive, Has, HasNo, Left}
+use Rattle.dnssec_run.proofs.Chain.OneKey.{Mapped, may_at, may_there, start-fit, suits}
+use Rattle.dnssec_run.proofs.Chain.RollFacts.{first_or}
+use Rattle.dnssec_run.proofs.Chain.Life.{Fades, Goes, Law, Unpassed}
+use Rattle.dnssec_run.proofs.Chain.Algorithms.{has-algorithm}
+
+-- ---- all keys
+
+module _ (tale : Tale) (whole : tale.whole ≡ true) (n : ℕ) (r : RollType) (now : ℕ)
+    (old new : List (List ℕ)) (m : Mapped tale n (start_key r now old new) r (Some Propagation1))
+    (can : CanStart r (world_at tale n) old new)
+    (flags : (sd : SideOf) → affects sd r ≡ true → (id : Id)
+    → all_ok (fits sd Quiet) (found (world_at tale n) id) ≡ true) where
+  -- the suitable key stays
+  suitable-left : (sd : SideOf) → affects sd r ≡ true → Left tale sd (Early r) (suc n)
+  suitable-left sd own =
+      let s = can.suitable sd own in
+      let id : Id = (s.0, (world_at tale n).added s.0) in
+      let at_key : found (world_at tale n) id ≡ Some s.1 = found_now (world_at tale n) s.0 ∙ s.2
+      in
+      let fit_key : fits sd Quiet s.1.keytype ≡ true =
+      subst (λ o. all_ok (fits sd Quiet) o ≡ true) at_key (flags sd own id) in (
+        id,
+        ap (if_some (remains sd r)) (m.founds id
+            ∙ ap (option_map (start_key r now old new s.0)) at_key)
+            ∙ (start_facts sd r (is_listed s.0 old) (is_listed s.0 new) s.1.keytype own
+            (may_there r (world_at tale n) old new can s.0 s.1 s.2) fit_key).some
+            (suits (is_listed s.0 old) (is_listed s.0 new) (serves_new sd r s.1.keytype)
+            (serves_kept sd r s.1.keytype) s.3),
+        tale.all whole id,
+      )
+
+  whole_goes : DoesAt start_of tale.calls tale.es n r → Goes tale n r
+  whole_goes starts = record {
+    keys = λ own a. inl (suitable-left Keys own);
+    zone = λ own h. suitable-left Zone own;
+    absent = λ own passed lacks. by (needs_algorithm_roll r) refl own passed;
+  }
+    where
+      by : (b : Bool) → needs_algorithm_roll r ≡ b → affects Keys r ≡ true
+          → (tale.whole ≡ true → Unpassed tale n) → HasNo tale engaged (suc n)
+          ⊎ ((r ≡ AlgorithmRoll) × Left tale Keys (Early r) (suc n)
+          × Left tale Zone (Early r) (suc n))
+      by true w own passed = let x = tale.plain.first n r w starts in
+          absurd (passed whole x.0 x.1 x.2)
+      by false w own passed = elim (first_or r w) [
+        | inl first ↦ inr
+            (first, suitable-left Keys own, suitable-left Zone (ap (affects Zone) first))
+        | inr out ↦ absurd (true≢false (sym own ∙ out))
+      ]
+
+pub whole-law : (tale : Tale) → tale.whole ≡ true → Law tale
+whole-law tale whole n here r now old new m can starts flags =
+    whole_goes tale whole n r now old new m can flags starts
+
+-- ---- the keys of one algorithm
+
+-- the family of an algorithm
+abbrev pub of_algorithm : Tale → ℕ → Tale
+of_algorithm tale a = record tale {
+  of = λ id. nat_eq (algorithm_of tale.calls id) a;
+  whole = false;
+  all = λ w id. absurd (true≢false (sym w));
+}
+
+pub same_number : (m n : ℕ) → nat_eq m n ≡ true → m ≡ n
+same_number m n e = grind (arith, nat_tests)
+
+pub number_same : (m n : ℕ) → m ≡ n → nat_eq m n ≡ true
+number_same m n e = grind (arith, nat_tests)
+
+changes_first : (r : RollType) → may_change_algorithms r ≡ true → r ≡ AlgorithmRoll
+changes_first KskRoll e = absurd (true≢false (sym e))
+changes_first KskDoubleDsRoll e = absurd (true≢false (sym e))
+changes_first ZskRoll e = absurd (true≢false (sym e))
+changes_first ZskDoubleSignatureRoll e = absurd (true≢false (sym e))
+changes_first CskRoll e = absurd (true≢false (sym e))
+changes_first AlgorithmRoll e = refl
+
+module _ (all : Tale) (a : ℕ) where
+  abbrev tale : Tale
+  tale = of_algorithm all a
+
+  -- a key of the family is a key of the algorithm
+  of_has : (p : KeyType → Bool) (n : ℕ) → n ≤ length all.es → Has tale p n
+      → HasKeyOf p a (real all n)
+  of_has p n le h =
+      let k = a_key p (found (world_at tale n) h.0) h.1 in
+      let at = found_key (world_at tale n) h.0 k.0 k.1 in (
+        h.0.0,
+        k.0,
+        at.0,
+        k.2,
+        sym (has-algorithm all n le h.0.0 k.0 at.0) ∙ ap (algorithm_at all.calls) at.1
+            ∙ same_number _ a h.2,
+      )
+
+  family_id : (n : ℕ) → n ≤ length all.es → (q : List ℕ) (k : Key)
+      → (world_at tale n).key q ≡ Some k → k.algorithm ≡ a
+      → tale.of (q, (world_at tale n).added q) ≡ true
+  family_id n le q k at same = number_same _ a (has-algorithm all n le q k at ∙ same)
+
+  has_of : (p : KeyType → Bool) (n : ℕ) → n ≤ length all.es → HasKeyOf p a (real all n)
+      → Has tale p n
+  has_of p n le h = (
+    (h.0, (world_at tale n).added h.0),
+    ap (if_some p) (found_now (world_at tale n) h.0 ∙ h.2) ∙ h.3,
+    family_id n le h.0 h.1 h.2 h.4,
+  )
+
+  decide : (p : KeyType → Bool) (n : ℕ) → n ≤ length all.es → Has tale p n ⊎ HasNo tale p n
+  decide p n le = by (some_key (λ k. p k.keytype && nat_eq k.algorithm a) (real all n).set.keys)
+      refl
+    where
+      by : (b : Bool) → some_key (λ k. p k.keytype && nat_eq k.algorithm a) (real all n).set.keys
+          ≡ b → Has tale p n ⊎ HasNo tale p n
+      by true t =
+          let h = some_key-found (λ k. p k.keytype && nat_eq k.algorithm a)
+          (real all n).set.keys t in
+          let x = and_parts _ _ h.3 in
+          inl (has_of p n le (h.0, h.1, h.2, x.0, same_number _ a x.1))
+      by false t = inr (λ id o e.
+          let h = of_has p n le (id, e, o) in
+          true≢false (sym (and-both _ _ h.3 (number_same _ a h.4))
+          ∙ some_key-none (λ k. p k.keytype && nat_eq k.algorithm a) (real all n).set.keys
+          h.0 h.1 t h.2))
+
+  module _ (keeps : KeepsWhole all.name all.calls all.es) (n : ℕ) (here : suc n ≤ length all.es)
+      (r : RollType) (now : ℕ) (old new : List (List ℕ))
+      (m : Mapped tale n (start_key r now old new) r (Some Propagation1))
+      (can : CanStart r (world_at tale n) old new) (starts : DoesAt start_of all.calls all.es n r)
+      (flags : (sd : SideOf) → affects sd r ≡ true → (id : Id)
+      → all_ok (fits sd Quiet) (found (world_at tale n) id) ≡ true) where
+    new_flags : (sd : SideOf) → affects sd r ≡ true → (id : Id)
+        → all_ok (fits sd (Early r)) (found (world_at tale (suc n)) id) ≡ true
+    new_flags sd own id = ap (all_ok (fits sd (Early r))) (m.founds id)
+        ∙ start-fit sd r own now old new id.0 (found (world_at tale n) id)
+        (may_at r (world_at tale n) old new can id) (flags sd own id)
+
+    keys_left : affects Keys r ≡ true → Has tale keeps_ksk (suc n)
+        → Left tale Keys (Early r) (suc n)
+    keys_left own h = (
+      h.0,
+      some_of (fits Keys (Early r)) keeps_ksk (remains Keys r)
+          (λ k f. (before_first r k own f).keeps) (found (world_at tale (suc n)) h.0)
+          (new_flags Keys own h.0) h.1,
+      h.2,
+    )
+
+    zone_left : affects Zone r ≡ true → Has tale keeps_ksk (suc n)
+        → Left tale Zone (Early r) (suc n)
+    zone_left own h =
+        let z = has_of keeps_zsk (suc n) here (keeps.both n a r
+        (start-told all.calls all.es n r starts) (of_has keeps_ksk (suc n) here h)) in (
+          z.0,
+          some_of (fits Zone (Early r)) keeps_zsk (remains Zone r)
+              (λ k f. zone-remains r k own f) (found (world_at tale (suc n)) z.0)
+              (new_flags Zone own z.0) z.1,
+          z.2,
+        )
+
+    -- where no KSK role stays, none remains
+    none_remains : affects Keys r ≡ true → HasNo tale keeps_ksk (suc n)
+        → HasNo tale (remains Keys r) (suc n)
+    none_remains own lacks id o e = lacks id o
+        (some_of (fits Keys (Early r)) (remains Keys r) keeps_ksk
+        (λ k f. (before_first r k own f).kept) (found (world_at tale (suc n)) id)
+        (new_flags Keys own id) e)
+
+    -- a key in a set on the side of keys was in one, or stays
+    away : affects Keys r ≡ true → HasNo tale engaged n → HasNo tale keeps_ksk (suc n)
+        → HasNo tale engaged (suc n)
+    away own lacks none id o e = by (found (world_at tale n) id) refl
+      where
+        by : (was : Option Key) → found (world_at tale n) id ≡ was → ⊥
+        by None f = true≢false (sym e ∙ ap (if_some engaged)
+            (m.founds id ∙ ap (option_map (start_key r now old new id.0)) f))
+        by (Some k) f =
+            let then = m.founds id ∙ ap (option_map (start_key r now old new id.0)) f in
+            let key = (found_key (world_at tale n) id k f).0 in
+            at_key then (at_start r (is_listed id.0 old) (is_listed id.0 new) k.keytype
+            (may_there r (world_at tale n) old new can id.0 k key)) (engaged k.keytype) refl
+          where
+            at_key : found (world_at tale (suc n)) id ≡ Some (start_key r now old new id.0 k)
+                → AtStart r (is_listed id.0 old) (is_listed id.0 new) k.keytype
+                → (b : Bool) → engaged k.keytype ≡ b → ⊥
+            at_key then s true t = lacks id o (ap (if_some engaged) f ∙ t)
+            at_key then s false t = none id o (ap (if_some keeps_ksk) then ∙ s.engages own
+                (sym (ap (all_ok (fits Keys Quiet)) f) ∙ flags Keys own id)
+                (sym (ap (if_some engaged) then) ∙ e) t)
+
+    -- where all KSK roles get old, a new key takes over on the side of the zone
+    takes_over : affects Keys r ≡ true → may_change_algorithms r ≡ false → Alive tale Keys n
+        → HasNo tale keeps_ksk (suc n) → (affects Zone r ≡ true) × Left tale Zone (Early r) (suc n)
+    takes_over own free alive none =
+        let k = a_key (in_use Keys) (found (world_at tale n) alive.0) alive.1 in
+        let key = found_key (world_at tale n) alive.0 k.0 k.1 in
+        by k.0 k.1 key.0 k.2 (is_listed alive.0.0 old) refl
+        (sym (has-algorithm all n (omega (arith, here)) alive.0.0 k.0 key.0)
+        ∙ ap (algorithm_at all.calls) key.1 ∙ same_number _ a alive.2)
+      where
+        new_key : (x : List ℕ) (j : Key) → (world_at tale n).key x ≡ Some j
+            → is_listed x new ≡ true → j.algorithm ≡ a
+            → (affects Zone r ≡ true) × Left tale Zone (Early r) (suc n)
+        new_key x j at l same =
+            let id : Id = (x, (world_at tale n).added x) in
+            let o = family_id n (omega (arith, here)) x j at same in
+            let then = m.founds id ∙ ap (option_map (start_key r now old new x))
+            (found_now (world_at tale n) x ∙ at) in
+            let either = (at_start r (is_listed x old) (is_listed x new) j.keytype
+            (may_there r (world_at tale n) old new can x j at)).new free l in
+            on_side then o (affects Keys r && remains Keys r
+            (started r (is_listed x old) (is_listed x new) j.keytype)) refl either
+          where
+            on_side : found (world_at tale (suc n)) (x, (world_at tale n).added x)
+                ≡ Some (start_key r now old new x j)
+                → tale.of (x, (world_at tale n).added x) ≡ true → (b : Bool)
+                → (affects Keys r && remains Keys r
+                (started r (is_listed x old) (is_listed x new) j.keytype)) ≡ b
+                → ((affects Keys r && remains Keys r
+                (started r (is_listed x old) (is_listed x new) j.keytype))
+                || (affects Zone r && remains Zone r
+                (started r (is_listed x old) (is_listed x new) j.keytype))) ≡ true
+                → (affects Zone r ≡ true) × Left tale Zone (Early r) (suc n)
+            on_side then o true t either = absurd (none_remains own none
+                (x, (world_at tale n).added x) o
+                (ap (if_some (remains Keys r)) then ∙ (and_parts _ _ t).1))
+            on_side then o false t either = let z = and_parts _ _ (or_second _ _ either t) in (
+              z.0,
+              (
+                (x, (world_at tale n).added x),
+                ap (if_some (remains Zone r)) then ∙ z.1,
+                o,
+              ),
+            )
+
+        by : (k : Key) → found (world_at tale n) alive.0 ≡ Some k
+            → (world_at tale n).key alive.0.0 ≡ Some k → in_use Keys k.keytype ≡ true → (b : Bool)
+            → is_listed alive.0.0 old ≡ b → k.algorithm ≡ a
+            → (affects Zone r ≡ true) × Left tale Zone (Early r) (suc n)
+        by k f key used true l same =
+            let x = can.algorithms free alive.0.0 k key l in
+            new_key x.0 x.1 x.2 x.3 (x.4 ∙ same)
+        by k f key used false l same = absurd (none alive.0 alive.2
+            (ap (if_some keeps_ksk) (m.founds alive.0
+            ∙ ap (option_map (start_key r now old new alive.0.0)) f)
+            ∙ (at_start r (is_listed alive.0.0 old) (is_listed alive.0.0 new) k.keytype
+            (may_there r (world_at tale n) old new can alive.0.0 k key)).keeps own
+            (sym (ap (all_ok (fits Keys Quiet)) f) ∙ flags Keys own alive.0) used l))
+
+    fades : affects Keys r ≡ true → Alive tale Keys n → HasNo tale keeps_ksk (suc n) → (b : Bool)
+        → may_change_algorithms r ≡ b → Fades tale (suc n) r
+    fades own alive none true t = let first = changes_first r t in
+        (ap (affects Zone) first, refl, none_remains own none, inr first)
+    fades own alive none false t = let z = takes_over own t alive none in
+        (z.0, refl, none_remains own none, inl z.1)
+
+    comes : affects Keys r ≡ true → HasNo tale engaged n → Has tale keeps_ksk (suc n) → (b : Bool)
+        → may_change_algorithms r ≡ b
+        → (r ≡ AlgorithmRoll) × Left tale Keys (Early r) (suc n) × Left tale Zone (Early r) (suc n)
+    comes own lacks h true t = let first = changes_first r t in
+        (first, keys_left own h, zone_left (ap (affects Zone) first) h)
+    comes own lacks h false t =
+        let before = has_of keeps_ksk n (omega (arith, here)) (keeps.none_new n a r
+        (start-told all.calls all.es n r starts)
+        (λ first. true≢false (sym (ap may_change_algorithms first) ∙ t))
+        (of_has keeps_ksk (suc n) here h)) in
+        absurd (lacks before.0 before.2 (some_of (fits Keys Quiet) keeps_ksk engaged
+        (λ k f. (of_key k).rest_engaged f) (found (world_at tale n) before.0)
+        (flags Keys own before.0) before.1))
+
+    algorithm_goes : Goes tale n r
+    algorithm_goes = record {
+      keys = λ own alive. elim (decide keeps_ksk (suc n) here) [
+        | inl h ↦ inl (keys_left own h)
+        | inr none ↦ inr (fades own alive none (may_change_algorithms r) refl)
+      ];
+      zone = zone_left;
+      absent = λ own passed lacks. elim (decide keeps_ksk (suc n) here) [
+        | inl h ↦ inr (comes own lacks h (may_change_algorithms r) refl)
+        | inr none ↦ inl (away own lacks none)
+      ];
+    }
+
+pub algorithm-law : (tale : Tale) (a : ℕ) → KeepsWhole tale.name tale.calls tale.es
+    → Law (of_algorithm tale a)
+algorithm-law tale a keeps n here r now old new m can starts flags =
+    algorithm_goes tale a keeps n here r now old new m can starts flags
