@@ -62,7 +62,8 @@ async def make_key(folder, zone, ref, kind, algorithm):
 class Version:
     """What is published of a zone. `cds` has the keys of CDS and CDNSKEY. It is empty for the entry
     that deletes, and None if there are no such sets. The keys of `cds_signers` sign them, and those
-    of `zone`. Answers that there is no such set have the TTL `negative`, unless that is 0."""
+    of `changing`: these sign all that changes in the zone, and are the keys of `zone`, if none of
+    them is lost. Answers that there is no such set have the TTL `negative`, unless that is 0."""
 
     serial: int
     ttl: int
@@ -70,17 +71,11 @@ class Version:
     dnskey: tuple = ()
     signers: tuple = ()
     zone: tuple = ()
+    changing: tuple = ()
     cds: Optional[tuple] = None
     cds_signers: tuple = ()
-    # KSKs that sign what has to change in the zone, in the place of lost keys.
-    in_place: tuple = ()
     negative: int = 0
     is_nsec3: bool = False
-
-    @property
-    def changing(self):
-        """The keys that sign what changes in the zone."""
-        return tuple(key for key in self.zone if not key.lost) + self.in_place
 
     @property
     def longest(self):
@@ -183,15 +178,13 @@ class Signing:
         """If a key of the zone is lost, its last signatures are kept, for each set that doesn't
         change. Only what changes is signed by the KSK in its place."""
         lost = {key.tag for key in version.zone if key.lost}
-        if not lost:
-            return lines
-        before, kept = sets_of(self.last), []
+        able = {key.tag for key in version.zone} - lost
+        before, kept = sets_of(self.last) if lost else {}, []
         for name, (records, signatures) in sets_of(lines).items():
             old, made = before.get(name, ([], []))
-            if sorted(old) == sorted(records):
-                able = {key.tag for key in version.zone} - lost
-                signatures = [line for line in signatures if tag_of(line) in able]
-                signatures += [line for line in made if tag_of(line) in lost]
+            made = [line for line in made if tag_of(line) in lost]
+            if made and sorted(old) == sorted(records):
+                signatures = [*made, *(line for line in signatures if tag_of(line) in able)]
             kept += [*records, *signatures]
         return kept
 

@@ -102,7 +102,7 @@ class Provider:
             self.version = replace(
                 next_one, serial=next(self.zone.serials), ttl=self.ttls.zone,
                 dnskey_ttl=self.ttls.dnskey, negative=self.ttls.negative, cds=self.zone.cds,
-                cds_signers=self.cds_signers(next_one), in_place=self.in_place(next_one),
+                cds_signers=self.cds_signers(next_one), changing=self.changing(next_one),
                 is_nsec3=self.is_nsec3,
             )
             self.note_version()
@@ -122,11 +122,14 @@ class Provider:
         has_one = any(key.ds in ds for key in version.signers)
         return tuple(key for key in signers if key.ds in ds or not has_one)[:1]
 
-    def in_place(self, version):
-        """For each lost key of `zone=` the KSK of its algorithm that signs in its place."""
+    def changing(self, version):
+        """The keys that sign what changes in the zone: those of `zone=`, and in the place of each
+        lost one a KSK of its algorithm."""
+        keys = [key for key in version.zone if not key.lost]
         lost = {key.algorithm for key in version.zone if key.lost}
-        able = self.able(version)[::-1]
-        return tuple({key.algorithm: key for key in able if key.algorithm in lost}.values())
+        able = [key for key in self.able(version)[::-1] if key not in keys]
+        in_place = {key.algorithm: key for key in able if key.algorithm in lost}
+        return *keys, *in_place.values()
 
     def can_sign_cds(self):
         """Whether each signer has a key that can sign CDS by rule 3."""
