@@ -54,7 +54,9 @@ def is_signed_by_ds(answer, kind, keys, ds):
         key for rrset in keys.answer if rrset.rdtype == dns.rdatatype.DNSKEY
         for key in rrset if dns.dnssec.make_ds(name, key, "SHA256").to_text() in ds
     ]
-    found = {rrset.rdtype: rrset for rrset in answer.answer if number in (rrset.rdtype, rrset.covers)}
+    found = {
+        rrset.rdtype: rrset for rrset in answer.answer if number in (rrset.rdtype, rrset.covers)
+    }
     if not named or dns.rdatatype.RRSIG not in found:
         return False
     try:

@@ -166,12 +166,12 @@ async def ends(roll, *reports):
     await roll.done()
 
 
-def zsk_beside(name):
+def zsk_beside(name, stays=True):
     """The ZSK is lost during a roll of KSKs. The old KSK, which signs in its place, stays until the
-    second wait of the ZSK roll."""
+    second wait of the ZSK roll, unless there is a lie."""
 
     async def scene(zone):
-        zone.ttls.zone = 8
+        zone.ttls.zone = 8 if stays else 20
         provider = await first_keys(zone, "K1", "Z1")
         await provider.make("K2", "Z2")
         ksk, zsk = Roll(provider, name), Roll(provider, ZSK)
@@ -180,11 +180,11 @@ def zsk_beside(name):
         provider.keys["Z1"].lost = True
         await provider.publish()
         await provider.watch()
-        if name == KSK:
+        if name == KSK or not stays:
             await ksk.wait(1)
             await ksk.report(2)
         await zsk.whole(["Z1"], ["Z2"])
-        if name == DOUBLE_DS:
+        if name == DOUBLE_DS and stays:
             await ksk.wait(1)
             await ksk.report(2)
         await ends(ksk)

@@ -6,7 +6,7 @@ import time
 from dataclasses import replace
 
 from asking import ask
-from places import CACHE, RESOLVERS
+from places import CACHE, LEAST, LEAST_TTL, RESOLVERS
 from provider import Provider
 from rolls import ALGORITHM, DOUBLE_DS, Roll
 from script import rounded_down
@@ -70,7 +70,7 @@ def beside(ksk_roll, zsk_roll):
 
 
 async def slow_parent(zone):
-    """The parent is slow, and CDS is out through whole rolls of the ZSK beside a roll of the KSK."""
+    """The parent is slow, and CDS is out through rolls of the ZSK beside a roll of the KSK."""
     provider = await first_keys(zone, "K1", "Z1")
     zone.slowest = 30
     await provider.make("K2", "Z2", "Z3")
@@ -126,6 +126,23 @@ def in_a_row(kind):
             await Roll(provider, name).whole(old.split(), new.split())
 
     return scene
+
+
+async def least_ttl(zone):
+    """Clients ask a resolver too whose cache keeps all sets longer than their TTL. That counts."""
+    zone.counts_least(LEAST_TTL)
+    await with_least_ttl(zone)
+
+
+async def with_least_ttl(zone):
+    await zone.clients.begin_to_ask("unbound-least-ttl", LEAST)
+    zone.ttls.zone = zone.ttls.dnskey = zone.ttls.ds = 1
+    provider = await first_keys(zone, "K1", "Z1")
+    await asyncio.sleep(LEAST_TTL)
+    for name in (ZSK, KSK, ALGORITHM):
+        old, new, _ = KEYS[name] if name != ALGORITHM else (["K2", "Z2"], ["C3"], None)
+        await provider.make(*new, algorithm=15 if name == ALGORITHM else 13)
+        await Roll(provider, name).whole(old, new)
 
 
 async def both_algorithms(zone):
@@ -343,6 +360,7 @@ async def restarted(zone):
 HONEST = {
     "raised-ttls": raised_ttls,
     **{f"in-a-row-long-{kind}": in_a_row(kind) for kind in ("ds", "dnskey", "zone")},
+    "least-ttl": least_ttl,
     "both-algorithms": both_algorithms,
     "early-then-another": early_then_another,
     "nsec3": nsec3,

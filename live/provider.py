@@ -20,7 +20,7 @@ class Provider:
     def __init__(self, zone, servers, letter=""):
         self.zone, self.servers, self.letter = zone, servers, letter
         self.begin_script()
-        self.keys, self.notes = {}, Notes()
+        self.keys, self.notes = {}, Notes(zone.least)
         self.ttls = zone.ttls_of.get(letter, zone.ttls)
         self.signing = Signing(zone.folder, zone.name, zone.letters, letter)
         self.version = Version(1, zone.ttls.zone, zone.ttls.zone)
@@ -229,7 +229,7 @@ class Provider:
         """The TTL to report if a validator may check a DNSKEY set by an old DS set once more. The
         present DNSKEY set counts too, and one that is on its way."""
         present = [
-            ttl for provider in self.zone.providers
+            max(ttl, self.zone.least) for provider in self.zone.providers
             for ttl in (provider.version.dnskey_ttl, provider.ttls.dnskey)
         ]
         return self.highest("ds", moment) + max(self.highest("dnskey", moment), *present)

@@ -25,13 +25,14 @@ class Held:
 
 
 class Notes:
-    """The notes of rule 1, by the kind of the set."""
+    """The notes of rule 1, by the kind of the set. A cache keeps each set for `least` seconds at
+    least."""
 
-    def __init__(self):
-        self.held = {"dnskey": [], "zone": [], "ds": []}
+    def __init__(self, least=0):
+        self.held, self.least = {"dnskey": [], "zone": [], "ds": []}, least
 
     def published(self, kind, ttl, number):
-        self.held[kind].append(Held(ttl, number))
+        self.held[kind].append(Held(max(ttl, self.least), number))
 
     def seen(self, kind, number):
         """Notes that all servers give the version of this number, and none an older one."""
@@ -73,7 +74,8 @@ class Zone:
         self.ttls = Ttls.any(dice)
         self.ttls_of = {letter: Ttls.any(dice) for letter in providers}
         self.providers, self.letters = [], providers
-        self.notes, self.serials, self.ds_number = Notes(), itertools.count(2), 0
+        self.least, self.serials = 0, itertools.count(2)
+        self.notes, self.ds_number = Notes(), 0
         self.notes.published("ds", NEGATIVE, 0)
         self.cds, self.turn, self.at_parent = None, asyncio.Lock(), asyncio.Lock()
         self.reads_cds, self.is_at_work, self.wanted = dice.random() < 0.5, False, set()
@@ -89,7 +91,12 @@ class Zone:
     def longest(self):
         """The highest TTL that is published."""
         every = [self.ttls, *(provider.ttls for provider in self.providers)]
-        return max(ttl for ttls in every for ttl in vars(ttls).values())
+        return max(self.least, *(ttl for ttls in every for ttl in vars(ttls).values()))
+
+    def counts_least(self, least):
+        """From now on the TTLs of rule 1 are no less than this."""
+        self.least, self.notes = least, Notes(least)
+        self.notes.published("ds", NEGATIVE, 0)
 
     def is_secure(self):
         """From now on all answers have to be validated, once caches have lost what they hold from
