@@ -3,8 +3,8 @@ of something."""
 
 import asyncio
 
-from emergencies import begin_signed
-from one_signer import CSK, KSK, ZSK, hold_back, start_unsigned
+from emergencies import begin_signed, bring_in
+from one_signer import CSK, KEYS, KSK, ZSK, hold_back, start_unsigned
 from provider import Provider
 from rolls import ALGORITHM, DOUBLE_DS, Roll
 from two_signers import (
@@ -137,15 +137,47 @@ async def unsigned_in_mid_roll(zone):
         await signer.watch()
 
 
+def stolen_new_key(name):
+    """A's new key is stolen after its first report, and another one takes its place, also in the
+    DNSKEY set of B. Then A begins a new script."""
+
+    async def scene(zone):
+        a, b = await in_step_keys(zone, "K1", "Z1")
+        old, (new,), (third,) = KEYS[name]
+        await a.make(new, third)
+        await b.take_in(*shared(a, [new]))
+        roll = Roll(a, name)
+        await roll.start(old, [new])
+        await roll.report(1)
+        a.call(f"set-stale {a.named(new)}")
+        await b.take_out(*shared(a, [new]))
+        await b.take_in(*shared(a, [third]))
+        roll.may_break = True
+        await bring_in(roll, a.named(third))
+        for call in (roll.wait(1), roll.report(2), roll.wait(2), roll.done()):
+            await call
+        await b.take_out(*shared(a, old))
+        await asyncio.sleep(zone.longest() + 1)
+        begin_anew(a, b, ["Z1"], ["K1", third] if name == ZSK else [third])
+        await roll_of_one(a, b, name, [third], [f"{third[0]}4"])
+
+    return scene
+
+
+def begin_anew(signer, other, of_other, refs):
+    """A new script takes the place of a signer's."""
+    signer.begin_script()
+    for key in shared(other, of_other):
+        signer.add_public(key)
+    begin_signed(signer, [signer.named(ref) for ref in refs])
+
+
 async def new_scripts(zone):
     """A new script takes the place of each script. Then each rolls, the other's ZSK in its set."""
     signers = a, b = await in_step_keys(zone, "K1", "Z1")
     await asyncio.sleep(zone.longest() + 1)
     for signer, other in (signers, signers[::-1]):
-        signer.begin_script()
-        for key in shared(other, ["Z1"]):
-            signer.add_public(key)
-        begin_signed(signer, [f"{signer.letter}K1", f"{signer.letter}Z1"])
+        begin_anew(signer, other, ["Z1"], ["K1", "Z1"])
     await asyncio.gather(
         roll_of_one(a, b, ZSK, ["Z1"], ["Z2"]), roll_of_one(b, a, KSK, ["K1"], ["K2"])
     )
@@ -161,6 +193,7 @@ HONEST = {
     "two-leaves-in-csk-roll": leaves_in_own_roll(CSK, ["K1", "Z1"], ["C2"]),
     "two-unsigned-in-mid-roll": unsigned_in_mid_roll,
     "two-new-scripts": new_scripts,
+    **{f"two-{name}-stolen-new-key": stolen_new_key(name) for name in (ZSK, CSK)},
     "two-leaves-in-algorithm-roll": leaves_in_algorithm_roll(False),
     "two-leaves-late-in-algorithm-roll": leaves_in_algorithm_roll(True),
 }
