@@ -357,12 +357,15 @@ async def restarted(zone):
     await Restarting(provider, ALGORITHM).whole(["K2", "Z2"], ["C3"])
 
 
-HONEST = {
-    "raised-ttls": raised_ttls,
+LONG = {
     **{f"in-a-row-long-{kind}": in_a_row(kind) for kind in ("ds", "dnskey", "zone")},
     "least-ttl": least_ttl,
     "both-algorithms": both_algorithms,
     "early-then-another": early_then_another,
+}
+
+HONEST = {
+    "raised-ttls": raised_ttls,
     "nsec3": nsec3,
     "first-keys-ended-early": first_keys_ended_early,
     "ended-early-beside": ended_early_beside,

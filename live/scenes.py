@@ -29,6 +29,7 @@ class Scene(NamedTuple):
 # The longest come first.
 SCENES = [
     Scene("resolvers-restarted", one_signer.restarted, "A", False),
+    *(Scene(name, play, "A", False) for name, play in one_signer.LONG.items()),
     *(Scene(name, play, "AB", False) for name, play in two_signers.HONEST.items()),
     *(Scene(name, play, "AB", False) for name, play in two_emergencies.HONEST.items()),
     *(Scene(name, play, "AB", True) for name, play in LYING_TWO.items()),
