@@ -171,7 +171,7 @@ def zsk_beside(name, stays=True):
     second wait of the ZSK roll, unless there is a lie."""
 
     async def scene(zone):
-        zone.ttls.zone = 8 if stays else 20
+        zone.ttls.zone = 8 if stays else 30
         provider = await first_keys(zone, "K1", "Z1")
         await provider.make("K2", "Z2")
         ksk, zsk = Roll(provider, name), Roll(provider, ZSK)

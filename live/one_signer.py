@@ -6,7 +6,7 @@ import time
 from dataclasses import replace
 
 from asking import ask
-from places import CACHE, LEAST, LEAST_TTL, RESOLVERS
+from places import CACHE, LEAST, LEAST_CACHE, LEAST_TTL, RESOLVERS
 from provider import Provider
 from rolls import ALGORITHM, DOUBLE_DS, Roll
 from script import rounded_down
@@ -139,6 +139,7 @@ async def with_least_ttl(zone):
     zone.ttls.zone = zone.ttls.dnskey = zone.ttls.ds = 1
     provider = await first_keys(zone, "K1", "Z1")
     await asyncio.sleep(LEAST_TTL)
+    await is_cached_anew(provider, LEAST_CACHE)
     for name in (ZSK, KSK, ALGORITHM):
         old, new, _ = KEYS[name] if name != ALGORITHM else (["K2", "Z2"], ["C3"], None)
         await provider.make(*new, algorithm=15 if name == ALGORITHM else 13)
@@ -210,12 +211,13 @@ async def hold_back(roll):
     await asyncio.sleep(roll.moment + roll.reported - time.time())
 
 
-async def is_cached_anew(provider):
-    """Waits until the cache has just got the DNSKEY set again. So it keeps that set for long after
+async def is_cached_anew(provider, cache=CACHE):
+    """Waits until a cache has just got the DNSKEY set again. So it keeps that set for long after
     no server gives it."""
-    zone, ttl = provider.zone, provider.version.dnskey_ttl
+    zone = provider.zone
+    ttl = LEAST_TTL if cache == LEAST_CACHE else provider.version.dnskey_ttl
     while True:
-        answer = await ask(CACHE, zone.world.port, zone.name, "DNSKEY", True)
+        answer = await ask(cache, zone.world.port, zone.name, "DNSKEY", True)
         if answer and any(rrset.ttl >= ttl - 1 for rrset in answer.answer):
             return
         await asyncio.sleep(0.2)

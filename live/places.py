@@ -19,5 +19,5 @@ RESOLVERS = {
 }
 # A cache that keeps all sets for this many seconds at least. Only clients of some scenes ask the
 # resolver behind it.
-LEAST_TTL = 9
+LEAST_TTL = 12
 ALL = (*SERVERS, CACHE, LEAST_CACHE, *RESOLVERS.values(), LEAST)
