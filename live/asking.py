@@ -4,9 +4,11 @@ import asyncio
 import time
 
 import dns.asyncquery
+import dns.dnssec
 import dns.exception
 import dns.flags
 import dns.message
+import dns.rdataset
 import dns.rdatatype
 
 from processes import Failed
@@ -42,6 +44,29 @@ def data_of(answer, kind):
     return {
         data.to_text() for rrset in answer.answer if rrset.rdtype == number for data in rrset
     }
+
+
+def is_signed_by_ds(answer, kind, keys, ds):
+    """Whether a set in an answer has a valid signature by a key of the DNSKEY set in the answer
+    `keys` that one of these DS records names."""
+    (name,), number = {rrset.name for rrset in answer.answer}, dns.rdatatype.from_text(kind)
+    named = [
+        key for rrset in keys.answer if rrset.rdtype == dns.rdatatype.DNSKEY
+        for key in rrset if dns.dnssec.make_ds(name, key, "SHA256").to_text() in ds
+    ]
+    found = {
+        rrset.rdtype: rrset for rrset in answer.answer if number in (rrset.rdtype, rrset.covers)
+    }
+    if not named or dns.rdatatype.RRSIG not in found:
+        return False
+    try:
+        dns.dnssec.validate(
+            found[number], found[dns.rdatatype.RRSIG],
+            {name: dns.rdataset.from_rdata_list(0, named)},
+        )
+    except dns.dnssec.ValidationFailure:
+        return False
+    return True
 
 
 async def watch(servers, port, zone, kind, is_so, what):

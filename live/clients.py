@@ -91,11 +91,15 @@ class Clients:
         self.mended = float("inf")
 
     async def begin(self):
-        loop = asyncio.get_running_loop()
-        for resolver, address in RESOLVERS.items():
-            _, line = await loop.create_datagram_endpoint(Line, remote_addr=(address, self.port))
-            self.lines.append(line)
-            self.tasks.append(asyncio.ensure_future(self.go_on(resolver, line)))
+        for resolver in RESOLVERS.items():
+            await self.begin_to_ask(*resolver)
+
+    async def begin_to_ask(self, resolver, address):
+        _, line = await asyncio.get_running_loop().create_datagram_endpoint(
+            Line, remote_addr=(address, self.port)
+        )
+        self.lines.append(line)
+        self.tasks.append(asyncio.ensure_future(self.go_on(resolver, line)))
 
     async def end(self):
         for task in self.tasks:

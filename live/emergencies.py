@@ -1,10 +1,12 @@
-"""Honest scenes: from docs/EMERGENCY.md, with TTLs that change in mid-roll, with new scripts."""
+"""Honest scenes: from docs/EMERGENCY.md, with TTLs that change in mid-roll, with new scripts. Those
+of lost keys are in lost.py."""
 
 import asyncio
 from contextlib import asynccontextmanager
 
 from one_signer import CSK, DOUBLE_SIGNATURE, KEYS, KSK, ZSK, first_keys, go_unsigned
 from processes import Failed
+from provider import Provider
 from rolls import ALGORITHM, DOUBLE_DS, Roll, at_moment
 from script import Refused, rounded_down, rounded_up
 
@@ -18,31 +20,48 @@ REPLACING = {
     ALGORITHM: (("set-present", "set-signer"), ("set-visible", "set-rrsig-visible")),
 }
 
+# A CSK leaves, or there is no key before.
+FROM_CSK = ["C1"], ["K2", "Z2"], ["K3", "Z3"]
+FIRST = [], ["K1", "Z1"], ["K3", "Z3"]
+# The keys that a new script brings in, when the old one is lost after the first wait of a roll.
+LEFT = {
+    KSK: ("K2", "Z1"), DOUBLE_DS: ("K2", "Z1"), ZSK: ("K1", "Z2"), CSK: ("C2",),
+    ALGORITHM: ("K2", "Z1", "Z2"),
+}
 
-def stolen_new_key(name, number=0):
+
+def stolen_new_key(name, number=0, keys=None):
     """ "Another new key in mid-roll": a new key is stolen after the first report, and another one
-    replaces it. Then a new script begins."""
+    replaces it."""
 
     async def scene(zone):
-        provider = await first_keys(zone, "K1", "Z1")
-        old, new, third = KEYS[name]
-        algorithm = 15 if name == ALGORITHM else 13
-        await provider.make(*new, algorithm=algorithm)
+        old, new, third = keys or KEYS[name]
+        provider = Provider(zone, zone.servers)
+        if old:
+            provider = await first_keys(zone, *(old if keys else ["K1", "Z1"]))
+        await provider.make(*new, algorithm=15 if name == ALGORITHM else 13)
         roll = Roll(provider, name)
         await roll.start(old, new)
         await roll.report(1)
-        stolen, other = new[number], third[number]
-        provider.call(f"set-stale {stolen}")
-        await provider.make(other, algorithm=algorithm)
-        roll.may_break = True
-        await bring_in(roll, other)
-        for call in (roll.wait(1), roll.report(2), roll.wait(2), roll.done()):
-            await call
-        for ref in (*old, stolen):
-            provider.call(f"delete {ref}", may_break=True)
-        await new_script(provider)
+        await replaced(roll, old, new[number], third[number])
 
     return scene
+
+
+async def replaced(roll, old, stolen, other):
+    """Another new key comes in the place of a stolen or lost one. Then a new script begins."""
+    provider = roll.provider
+    provider.call(f"set-stale {stolen}")
+    await provider.make(other, algorithm=provider.keys[stolen].algorithm)
+    roll.may_break = True
+    await bring_in(roll, other)
+    for call in (roll.wait(1), roll.report(2), roll.wait(2), roll.done()):
+        await call
+    if not old:
+        provider.zone.is_secure()
+    for ref in (*old, stolen):
+        provider.call(f"delete {ref}", may_break=True)
+    await new_script(provider)
 
 
 async def bring_in(roll, ref):
@@ -64,12 +83,21 @@ async def bring_in(roll, ref):
         provider.call(f"{stamp} {ref} {moment}")
 
 
-async def new_script(provider):
+async def new_script(provider, refs=None):
     """docs/OPERATORS.md, "A zone that is signed already": a script replaces another, once all sets
     have been the same for longer than the highest TTL. Then comes its first roll."""
-    refs = provider.script.sets["dnskey"]
+    refs = refs or provider.script.sets["dnskey"]
     await asyncio.sleep(provider.zone.longest() + 1)
     provider.begin_script()
+    begin_signed(provider, refs)
+    algorithm = provider.keys[refs[0]].algorithm
+    kind = "C" if len(refs) == 1 else "Z"
+    await provider.make(f"{kind}9", algorithm=algorithm)
+    await Roll(provider, CSK if kind == "C" else ZSK).whole([refs[-1]], [f"{kind}9"])
+
+
+def begin_signed(provider, refs):
+    """A new script of a zone that these keys sign already."""
     now = rounded_down()
     for ref in refs:
         key = provider.keys[ref]
@@ -79,101 +107,65 @@ async def new_script(provider):
         provider.call(f"report{number} {ALGORITHM} 0 {now}")
         provider.call(f"wait{number} {ALGORITHM} {now}")
     provider.call(f"done {ALGORITHM}")
-    algorithm = provider.keys[refs[0]].algorithm
-    kind = "C" if len(refs) == 1 else "Z"
-    await provider.make(f"{kind}9", algorithm=algorithm)
-    await Roll(provider, CSK if kind == "C" else ZSK).whole([refs[-1]], [f"{kind}9"])
 
 
-async def lost_ksk(zone):
-    """The private key of the KSK is lost. The DNSKEY set keeps its signature."""
+async def halfway(zone, name):
+    """A roll that has come to its second report."""
     provider = await first_keys(zone, "K1", "Z1")
-    provider.keys["K1"].lost = True
-    await provider.make("K2")
-    await Roll(provider, DOUBLE_DS).whole(["K1"], ["K2"])
+    old, new, _ = KEYS[name]
+    await provider.make(*new, algorithm=15 if name == ALGORITHM else 13)
+    roll = Roll(provider, name)
+    await roll.start(old, new)
+    await roll.report(1)
+    await roll.wait(1)
+    return provider
 
 
-def lost_in_mid_roll(name):
-    """The new KSK is lost when it has its DS and signs. The calls are made to the end, and the
-    DNSKEY set that it would have to sign stays as it is. Then comes a double-DS roll to a third
-    key."""
+def lines_lost(name, *refs):
+    """The script is lost in mid-roll. All stays as it is, and a new script begins with these
+    keys. The others leave later."""
 
     async def scene(zone):
-        provider = await first_keys(zone, "K1", "Z1")
-        await provider.make("K2")
-        roll = Roll(provider, name)
-        await roll.start(["K1"], ["K2"])
-        await roll.report(1)
-        await roll.wait(1)
-        provider.keys["K2"].lost = True
-        await roll.report(2)
-        await roll.accepted(2)
-        if "UpdateDnskeyRrset" not in roll.actions:
-            await roll.perform()
-        await roll.done()
-        await provider.make("K3")
-        await Roll(provider, DOUBLE_DS).whole(["K2"], ["K3"])
+        await new_script(await halfway(zone, name), refs)
 
     return scene
 
 
-def old_key_lost(name):
-    """An old key is lost when the new keys are published, and the roll goes on. What the old key
-    would have to sign keeps its signatures."""
+def comes_back(name, old, new):
+    """The old key comes back at the end of a roll, as if it was new."""
 
     async def scene(zone):
         provider = await first_keys(zone, "K1", "Z1")
-        old, new, _ = KEYS[name]
-        await provider.make(*new, algorithm=15 if name == ALGORITHM else 13)
-        roll = Roll(provider, name)
-        await roll.start(old, new)
-        provider.keys[old[-1]].lost = True
-        await provider.publish()
-        await provider.watch()
-        await roll.finish()
-        for ref in old:
-            provider.call(f"delete {ref}")
+        await provider.make(new)
+        await Roll(provider, name).whole([old], [new])
+        key = provider.keys[old]
+        provider.call(f"add-{key.kind} {old} - {key.algorithm} {key.tag} {rounded_down()} yes")
+        await Roll(provider, name).whole([new], [old])
 
     return scene
 
 
-async def lost_zsk(zone):
-    """The private key of the ZSK is lost. The zone keeps its signatures, and the KSK signs the SOA
-    record."""
-    provider = await first_keys(zone, "K1", "Z1")
-    provider.keys["Z1"].lost = True
-    await provider.make("Z2")
-    await Roll(provider, ZSK).whole(["Z1"], ["Z2"])
-
-
-async def lost_csk(zone):
-    """The private key of a CSK is lost. The zone goes unsigned, and comes back."""
-    provider = await first_keys(zone, "C1")
-    await asyncio.sleep(zone.longest() + 4)
-    provider.keys["C1"].lost = True
-    await go_unsigned(provider, "C1")
-    await provider.make("C2")
-    await Roll(provider, ALGORITHM).whole([], ["C2"])
-    zone.is_secure()
-    await asyncio.sleep(zone.longest() + 4)
-
-
-async def unsigned_by_setters(zone):
+def unsigned_in_mid_roll(name):
     """A roll in progress can't be ended, and the zone goes unsigned by setters. Then a new script
     begins with first keys."""
-    provider = await first_keys(zone, "K1", "Z1")
-    await provider.make("K2")
-    roll = Roll(provider, KSK)
-    await roll.start(["K1"], ["K2"])
-    await roll.report(1)
+
+    async def scene(zone):
+        provider = await halfway(zone, name)
+        await unsigned_by_setters(provider)
+
+    return scene
+
+
+async def unsigned_by_setters(provider):
+    zone, sets = provider.zone, provider.script.sets
     zone.clients.secure_from = float("inf")
-    for ref in ("K1", "K2"):
-        provider.call(f"set-at-parent {ref} no")
+    for ref in sets["ds"]:
+        provider.call(f"set-at-parent {ref} no", may_break=True)
     await provider.act(["CreateCdsRrset", "UpdateDsRrset"])
     await zone.watch_ds()
     await provider.take_cds_out()
     await asyncio.sleep(provider.sum_of_ds_and_dnskey(rounded_up()) + 1)
-    for ref in ("K1", "K2", "Z1"):
+    for ref in {*sets["dnskey"], *sets["zone"]}:
         provider.call(f"set-stale {ref}", may_break=True)
     await provider.act(["RemoveCdsRrset", "UpdateDnskeyRrset", "UpdateRrsig"])
     await provider.watch()
@@ -182,6 +174,34 @@ async def unsigned_by_setters(zone):
     await Roll(provider, ALGORITHM).whole([], ["K5", "Z5"])
     zone.is_secure()
     await asyncio.sleep(zone.longest() + 4)
+
+
+async def unsigned_before_first_wait(zone):
+    """The same, with the DS of the old key only."""
+    provider = await first_keys(zone, "K1", "Z1")
+    await provider.make("K2")
+    roll = Roll(provider, KSK)
+    await roll.start(["K1"], ["K2"])
+    await roll.report(1)
+    await unsigned_by_setters(provider)
+
+
+def unsigned_after_early_end(name):
+    """A roll is ended early, and the zone goes unsigned at once."""
+
+    async def scene(zone):
+        provider = await first_keys(zone, "K1", "Z1")
+        old, new, _ = KEYS[name]
+        await provider.make(*new, algorithm=15 if name == ALGORITHM else 13)
+        roll = Roll(provider, name)
+        await roll.start(old, new)
+        await roll.abort()
+        # (No other change of the DS set is asked for while the parent is at work on the first.)
+        while zone.is_at_work:
+            await asyncio.sleep(0.1)
+        await go_unsigned(provider, "K1", "Z1")
+
+    return scene
 
 
 async def lost_ds(zone):
@@ -300,12 +320,18 @@ def with_changing_ttls(name):
 HONEST = {
     **{f"{name}-stolen-new-key": stolen_new_key(name) for name in KEYS},
     "algorithm-roll-stolen-new-zsk": stolen_new_key(ALGORITHM, 1),
-    "lost-ksk": lost_ksk,
-    **{f"lost-in-mid-{name}": lost_in_mid_roll(name) for name in (KSK, DOUBLE_DS)},
-    **{f"{name}-old-key-lost": old_key_lost(name) for name in (KSK, DOUBLE_DS, ZSK, ALGORITHM)},
-    "lost-zsk": lost_zsk,
-    "lost-csk": lost_csk,
-    "unsigned-by-setters": unsigned_by_setters,
+    **{
+        f"from-csk-stolen-new-{kind}": stolen_new_key(CSK, number, FROM_CSK)
+        for number, kind in enumerate(("ksk", "zsk"))
+    },
+    "first-keys-stolen-new-key": stolen_new_key(ALGORITHM, 0, FIRST),
+    **{f"{name}-lines-lost": lines_lost(name, *refs) for name, refs in LEFT.items()},
+    "ksk-roll-old-key-comes-back": comes_back(KSK, "K1", "K2"),
+    "zsk-roll-old-key-comes-back": comes_back(ZSK, "Z1", "Z2"),
+    **{f"{name}-unsigned-in-mid-roll": unsigned_in_mid_roll(name) for name in LEFT},
+    **{f"{name}-unsigned-after-early-end": unsigned_after_early_end(name)
+       for name in (DOUBLE_DS, ALGORITHM)},
+    "unsigned-by-setters": unsigned_before_first_wait,
     "lost-ds": lost_ds,
     "false-lines": false_lines,
     "signatures-expire": signatures_expire,

@@ -13,8 +13,6 @@ from processes import Failed, outcome, program
 
 RSA = 8
 HOSTS = 12
-# The sets that the keys of `signers=` sign.
-ENTRY = ("DNSKEY", "CDS", "CDNSKEY")
 
 
 @dataclass
@@ -64,7 +62,8 @@ async def make_key(folder, zone, ref, kind, algorithm):
 class Version:
     """What is published of a zone. `cds` has the keys of CDS and CDNSKEY. It is empty for the entry
     that deletes, and None if there are no such sets. The keys of `cds_signers` sign them, and those
-    of `zone`. Answers that there is no such set have the TTL `negative`, unless that is 0."""
+    of `changing`: these sign all that changes in the zone, and are the keys of `zone`, if none of
+    them is lost. Answers that there is no such set have the TTL `negative`, unless that is 0."""
 
     serial: int
     ttl: int
@@ -72,6 +71,7 @@ class Version:
     dnskey: tuple = ()
     signers: tuple = ()
     zone: tuple = ()
+    changing: tuple = ()
     cds: Optional[tuple] = None
     cds_signers: tuple = ()
     negative: int = 0
@@ -121,13 +121,22 @@ def covered(line):
 
 
 def set_of(line):
-    """Which set a line is part of, or signs."""
-    return covered(line) or line.split(None, 4)[3]
+    """The owner and the type of the set which a line is part of, or signs."""
+    return line.split(None, 1)[0], covered(line) or line.split(None, 4)[3]
 
 
 def tag_of(line):
     """The tag of the key that has made this signature."""
     return int(line.split()[10])
+
+
+def sets_of(lines):
+    """The records and the signatures of each set."""
+    sets = {}
+    for line in lines:
+        records, signatures = sets.setdefault(set_of(line), ([], []))
+        (signatures if covered(line) else records).append(line)
+    return sets
 
 
 class Signing:
@@ -139,32 +148,45 @@ class Signing:
         self.last, self.lifetime = [], 24 * 3600
 
     async def text(self, version):
-        """The zone's file with the signatures that a version asks for. If a key is lost, its last
-        signatures are kept."""
+        """The zone's file with the signatures that a version asks for."""
         plain = list(plain_records(self.zone, version, self.providers))
         if not version.dnskey:
             return "\n".join(plain) + "\n"
         keys = list(key_records(self.zone, version))
+        options = ("-3", "-", "-H", "0") if version.is_nsec3 else ()
+        lines = await self.signed([*plain, *keys], version.changing, *options)
+        lines = [line for line in lines if covered(line) != "DNSKEY"]
+        lines = self.as_it_was(lines, version)
         entry = await self.signed([plain[0], *keys], version.signers)
-        tags = {key.tag for key in version.cds_signers}
-        entry = [
-            line for line in entry
-            if covered(line) not in ("CDS", "CDNSKEY") or tag_of(line) in tags
-        ]
-        if any(key.lost for key in version.zone):
-            lines = [line for line in self.last if set_of(line) not in ("SOA", "DNSKEY")]
-            lines += [line for line in entry if set_of(line) in ("SOA", "DNSKEY")]
-        else:
-            options = ("-3", "-", "-H", "0") if version.is_nsec3 else ()
-            lines = await self.signed([*plain, *keys], version.zone, *options)
-            lines = [line for line in lines if covered(line) != "DNSKEY"]
-            lines += [line for line in entry if covered(line) in ENTRY]
-        lost = {key.tag for key in version.signers if key.lost}
-        lines += [
-            line for line in self.last if covered(line) == "DNSKEY" and tag_of(line) in lost
-        ]
+        lines += self.of_entry(entry, version)
         self.last = lines
         return "\n".join(lines) + "\n"
+
+    def of_entry(self, entry, version):
+        """The signatures of the DNSKEY set, and those of CDS and CDNSKEY that no key of the zone
+        has made. The last ones of a lost key are kept."""
+        lost = {key.tag for key in version.signers if key.lost}
+        more = {key.tag for key in version.cds_signers} - {key.tag for key in version.changing}
+        return [
+            *(line for line in entry if covered(line) == "DNSKEY"),
+            *(line for line in self.last if covered(line) == "DNSKEY" and tag_of(line) in lost),
+            *(line for line in entry if covered(line) in ("CDS", "CDNSKEY")
+              and tag_of(line) in more),
+        ]
+
+    def as_it_was(self, lines, version):
+        """If a key of the zone is lost, its last signatures are kept, for each set that doesn't
+        change. Only what changes is signed by the KSK in its place."""
+        lost = {key.tag for key in version.zone if key.lost}
+        able = {key.tag for key in version.zone} - lost
+        before, kept = sets_of(self.last) if lost else {}, []
+        for name, (records, signatures) in sets_of(lines).items():
+            old, made = before.get(name, ([], []))
+            made = [line for line in made if tag_of(line) in lost]
+            if made and sorted(old) == sorted(records):
+                signatures = [*made, *(line for line in signatures if tag_of(line) in able)]
+            kept += [*records, *signatures]
+        return kept
 
     async def signed(self, records, keys, *options):
         """The lines of these records, signed only by these keys."""

@@ -3,10 +3,13 @@
 import asyncio
 import time
 
-from one_signer import DOUBLE_SIGNATURE, KEYS, KSK, ZSK, first_keys
+from lost import zsk_beside
+from one_signer import DOUBLE_SIGNATURE, KEYS, KSK, ZSK, first_keys, with_least_ttl
 from rolls import ALGORITHM, DOUBLE_DS, Roll, spoken_of
 from script import rounded_down
-from two_signers import in_step_keys, providers, shared
+from two_signers import (
+    both_perform, end_in_step, in_step_keys, providers, shared, start_in_step,
+)
 
 AHEAD = 100_000
 
@@ -41,8 +44,8 @@ class BeforePublishing(Roll):
 
 
 class WaitOfTheOriginal(Roll):
-    """The original takes the second wait of a Double-DS roll for over at once (docs/DIFFERENCES.md),
-    as if the old DNSKEY set had a TTL of 0."""
+    """The original takes the second wait of a Double-DS roll for over at once, as if the old DNSKEY
+    set had a TTL of 0 (docs/DIFFERENCES.md)."""
 
     async def report(self, number, ttl=None):
         await super().report(number, 0 if number == 2 else ttl)
@@ -112,6 +115,39 @@ async def ds_of_one_signer(zone):
     await Roll(a, ALGORITHM).whole([], ["K1", "Z1"])
 
 
+async def ends_before_who_leaves(zone):
+    """A leaves in the middle of a change of the algorithm, and B ends it while A has its DS."""
+    signers = await in_step_keys(zone, "K1", "Z1")
+    for signer in signers:
+        await signer.make("K2", "Z2", algorithm=15)
+    rolls = await start_in_step(signers, ["K1", "Z1"], ["K2", "Z2"])
+    await both_perform(rolls)
+    await asyncio.gather(*(roll.report(1) for roll in rolls))
+    await rolls[1].wait(1)
+    await rolls[1].report(2)
+    await end_in_step(rolls[1:])
+
+
+async def least_ttl_left_out(zone):
+    """A resolver's cache keeps all sets longer than their TTL, and that isn't counted."""
+    await with_least_ttl(zone)
+
+
+async def lost_before_its_signatures(zone):
+    """A new ZSK is lost when the first wait is accepted, before it has signed the zone, and the
+    calls are made to the end, as if it had."""
+    provider = await first_keys(zone, "K1", "Z1")
+    await provider.make("Z2")
+    roll = Roll(provider, ZSK)
+    await roll.start(["Z1"], ["Z2"])
+    await roll.report(1)
+    await roll.accepted(1)
+    await provider.watch()
+    await roll.report(2)
+    await roll.wait(2)
+    await asyncio.sleep(zone.longest())
+
+
 # How long a resolver may repeat that something is bogus (Unbound, `val-bogus-ttl`).
 BOGUS = 60
 
@@ -157,9 +193,13 @@ LYING = {
     **{f"{name}-{lie}": lying(name, roll) for lie, roll in LIES.items() for name in KEYS},
     f"{DOUBLE_DS}-wait-of-the-original": lying(DOUBLE_DS, WaitOfTheOriginal),
     "signatures-not-renewed": signatures_not_renewed,
+    "least-ttl-left-out": least_ttl_left_out,
+    "lost-before-its-signatures": lost_before_its_signatures,
+    "lost-zsk-whose-ksk-leaves": zsk_beside(DOUBLE_DS, stays=False),
     "false-line-taken-back": taken_back,
 }
 LYING_TWO = {
     "two-ttl-of-the-other-left-out": ttl_of_the_other,
     "two-ds-of-one-signer-too-early": ds_of_one_signer,
+    "two-ends-in-step-before-who-leaves": ends_before_who_leaves,
 }

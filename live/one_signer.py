@@ -6,7 +6,7 @@ import time
 from dataclasses import replace
 
 from asking import ask
-from places import CACHE, RESOLVERS
+from places import CACHE, LEAST, LEAST_CACHE, LEAST_TTL, RESOLVERS
 from provider import Provider
 from rolls import ALGORITHM, DOUBLE_DS, Roll
 from script import rounded_down
@@ -69,6 +69,19 @@ def beside(ksk_roll, zsk_roll):
     return scene
 
 
+async def slow_parent(zone):
+    """The parent is slow, and CDS is out through rolls of the ZSK beside a roll of the KSK."""
+    provider = await first_keys(zone, "K1", "Z1")
+    zone.slowest = 30
+    await provider.make("K2", "Z2", "Z3")
+
+    async def zsks():
+        await Roll(provider, ZSK).whole(["Z1"], ["Z2"])
+        await Roll(provider, DOUBLE_SIGNATURE).whole(["Z2"], ["Z3"])
+
+    await asyncio.gather(Roll(provider, DOUBLE_DS).whole(["K1"], ["K2"]), zsks())
+
+
 def ended_early(name):
     """A roll that is ended early, after all is published or before, and begun again."""
 
@@ -88,6 +101,93 @@ def ended_early(name):
         await Roll(provider, name).whole(old, third)
 
     return scene
+
+
+# Rolls in a row, each with the keys that leave and those that come.
+ROW = (
+    (KSK, "K1", "K2"), (ZSK, "Z1", "Z2"), (KSK, "K2", "K3"), (DOUBLE_DS, "K3", "K4"),
+    (DOUBLE_SIGNATURE, "Z2", "Z3"), (ALGORITHM, "K4 Z3", "K5 Z5"), (CSK, "K5 Z5", "C6"),
+    (ALGORITHM, "C6", "K7 Z7"), (ZSK, "Z7", "Z8"),
+)
+
+
+def in_a_row(kind):
+    """Roll after roll, each at once after the one before. Sets of one kind have a much longer TTL
+    than all others."""
+
+    async def scene(zone):
+        for each in ("zone", "dnskey", "ds"):
+            setattr(zone.ttls, each, 10 if each == kind else 1)
+        provider = await first_keys(zone, "K1", "Z1")
+        algorithm = 13
+        for name, old, new in ROW:
+            algorithm = 28 - algorithm if name == ALGORITHM else algorithm
+            await provider.make(*new.split(), algorithm=algorithm)
+            await Roll(provider, name).whole(old.split(), new.split())
+
+    return scene
+
+
+async def least_ttl(zone):
+    """Clients ask a resolver too whose cache keeps all sets longer than their TTL. That counts."""
+    zone.counts_least(LEAST_TTL)
+    await with_least_ttl(zone)
+
+
+async def with_least_ttl(zone):
+    await zone.clients.begin_to_ask("unbound-least-ttl", LEAST)
+    zone.ttls.zone = zone.ttls.dnskey = zone.ttls.ds = 1
+    provider = await first_keys(zone, "K1", "Z1")
+    await asyncio.sleep(LEAST_TTL)
+    await is_cached_anew(provider, LEAST_CACHE)
+    for name in (ZSK, KSK, ALGORITHM):
+        old, new, _ = KEYS[name] if name != ALGORITHM else (["K2", "Z2"], ["C3"], None)
+        await provider.make(*new, algorithm=15 if name == ALGORITHM else 13)
+        await Roll(provider, name).whole(old, new)
+
+
+async def both_algorithms(zone):
+    """A zone of two algorithms, each with a KSK and a ZSK, which roll one at a time. Then one of
+    the algorithms gives way to a third."""
+    provider = Provider(zone, zone.servers)
+    await provider.make("K1", "Z1")
+    await provider.make("K2", "Z2", algorithm=15)
+    await Roll(provider, ALGORITHM).whole([], ["K1", "Z1", "K2", "Z2"])
+    zone.is_secure()
+    for name, old, new, algorithm in (
+        (KSK, "K1", "K3", 13), (ZSK, "Z2", "Z4", 15), (DOUBLE_DS, "K2", "K4", 15),
+        (DOUBLE_SIGNATURE, "Z1", "Z3", 13), (ALGORITHM, "K3 Z3", "K5 Z5", 8),
+    ):
+        await provider.make(*new.split(), algorithm=algorithm)
+        await Roll(provider, name).whole(old.split(), new.split())
+    await go_unsigned(provider, "K4", "Z4", "K5", "Z5")
+
+
+# Rolls that are ended early, each with its new keys, the roll that comes at once after it, and the
+# old and the new keys of that.
+THEN = (
+    (KSK, "K2", ALGORITHM, "K1 Z1", "K3 Z3"), (ALGORITHM, "K4 Z4", CSK, "K3 Z3", "C5"),
+    (CSK, "K6 Z6", ALGORITHM, "C5", "K7 Z7"), (DOUBLE_DS, "K8", KSK, "K7", "K9"),
+    (ZSK, "Z10", DOUBLE_SIGNATURE, "Z7", "Z11"), (DOUBLE_SIGNATURE, "Z12", ZSK, "Z11", "Z13"),
+)
+
+
+async def early_then_another(zone):
+    """Each roll is ended early, and another roll comes at once after it."""
+    provider = await first_keys(zone, "K1", "Z1")
+    old, algorithm = ["K1", "Z1"], 13
+    for ended, kept, name, leaving, coming in THEN:
+        other = 28 - algorithm
+        await provider.make(*kept.split(), algorithm=other if ended == ALGORITHM else algorithm)
+        roll = Roll(provider, ended)
+        kinds = {ref[0] for ref in kept.split()} if ended != CSK else set("KZC")
+        await roll.start([ref for ref in old if ref[0] in kinds], kept.split())
+        await asyncio.sleep(zone.dice.uniform(0, 2))
+        await roll.abort()
+        algorithm = other if name == ALGORITHM else algorithm
+        await provider.make(*coming.split(), algorithm=algorithm)
+        await Roll(provider, name).whole(leaving.split(), coming.split())
+        old = [ref for ref in old if ref not in leaving.split()] + coming.split()
 
 
 def start_unsigned(provider, *old):
@@ -111,12 +211,13 @@ async def hold_back(roll):
     await asyncio.sleep(roll.moment + roll.reported - time.time())
 
 
-async def is_cached_anew(provider):
-    """Waits until the cache has just got the DNSKEY set again. So it keeps that set for long after
+async def is_cached_anew(provider, cache=CACHE):
+    """Waits until a cache has just got the DNSKEY set again. So it keeps that set for long after
     no server gives it."""
-    zone, ttl = provider.zone, provider.version.dnskey_ttl
+    zone = provider.zone
+    ttl = LEAST_TTL if cache == LEAST_CACHE else provider.version.dnskey_ttl
     while True:
-        answer = await ask(CACHE, zone.world.port, zone.name, "DNSKEY", True)
+        answer = await ask(cache, zone.world.port, zone.name, "DNSKEY", True)
         if answer and any(rrset.ttl >= ttl - 1 for rrset in answer.answer):
             return
         await asyncio.sleep(0.2)
@@ -258,6 +359,13 @@ async def restarted(zone):
     await Restarting(provider, ALGORITHM).whole(["K2", "Z2"], ["C3"])
 
 
+LONG = {
+    **{f"in-a-row-long-{kind}": in_a_row(kind) for kind in ("ds", "dnskey", "zone")},
+    "least-ttl": least_ttl,
+    "both-algorithms": both_algorithms,
+    "early-then-another": early_then_another,
+}
+
 HONEST = {
     "raised-ttls": raised_ttls,
     "nsec3": nsec3,
@@ -265,6 +373,7 @@ HONEST = {
     "ended-early-beside": ended_early_beside,
     **{name: one_roll(name) for name in KEYS},
     "csks": csks,
+    "slow-parent": slow_parent,
     "ksk-beside-zsk": beside(KSK, ZSK),
     "double-ds-beside-double-signature": beside(DOUBLE_DS, DOUBLE_SIGNATURE),
     **{f"{name}-ended-early": ended_early(name) for name in KEYS},

@@ -8,7 +8,7 @@ import socket
 import subprocess
 import time
 
-from places import CACHE, RESOLVERS, SERVERS
+from places import ALL
 
 # Debian's package for each program that is run.
 PACKAGES = {
@@ -41,7 +41,7 @@ def missing():
 
 def is_taken(port):
     """Whether another process listens at one of the addresses."""
-    for address in (*SERVERS, CACHE, *RESOLVERS.values()):
+    for address in ALL:
         with socket.socket(socket.AF_INET, socket.SOCK_DGRAM) as probe:
             try:
                 probe.bind((address, port))

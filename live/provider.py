@@ -13,11 +13,6 @@ KINDS = {"K": "ksk", "Z": "zsk", "C": "csk"}
 UPDATES = {"UpdateDnskeyRrset": "dnskey", "UpdateRrsig": "zone"}
 
 
-def soa_signers(version):
-    """The keys that sign the SOA record: those of the DNSKEY set, if a ZSK is lost."""
-    return version.signers if any(key.lost for key in version.zone) else version.zone
-
-
 class Provider:
     """Signs a zone by a script of its own, and serves it. If a zone has two providers, each puts
     its letter before the references of its keys."""
@@ -25,7 +20,7 @@ class Provider:
     def __init__(self, zone, servers, letter=""):
         self.zone, self.servers, self.letter = zone, servers, letter
         self.begin_script()
-        self.keys, self.notes = {}, Notes()
+        self.keys, self.notes = {}, Notes(zone.least)
         self.ttls = zone.ttls_of.get(letter, zone.ttls)
         self.signing = Signing(zone.folder, zone.name, zone.letters, letter)
         self.version = Version(1, zone.ttls.zone, zone.ttls.zone)
@@ -103,21 +98,42 @@ class Provider:
                 changes.update(dnskey=self.keys_of("dnskey"), signers=self.keys_of("signers"))
             if "zone" in kinds:
                 changes.update(zone=self.keys_of("zone"))
-            signers = changes.get("signers", self.version.signers)
+            next_one = replace(self.version, **changes)
             self.version = replace(
-                self.version, serial=next(self.zone.serials), ttl=self.ttls.zone,
+                next_one, serial=next(self.zone.serials), ttl=self.ttls.zone,
                 dnskey_ttl=self.ttls.dnskey, negative=self.ttls.negative, cds=self.zone.cds,
-                cds_signers=self.cds_signers(signers), is_nsec3=self.is_nsec3, **changes,
+                cds_signers=self.cds_signers(next_one), changing=self.changing(next_one),
+                is_nsec3=self.is_nsec3,
             )
             self.note_version()
             text = await self.signing.text(self.version)
             self.zone.world.fleet.publish(self.servers, self.zone.name, text)
 
-    def cds_signers(self, signers):
+    def able(self, version):
+        """The keys of `signers=` that aren't lost, first those that have a DS now."""
+        able = [key for key in version.signers if not key.lost]
+        return sorted(able, key=lambda key: key.ds not in self.zone.ds())
+
+    def cds_signers(self, version):
         """The key of `signers=` that signs CDS and CDNSKEY (rule 3): one that has a DS now, by
-        which the parent checks them, or before the first DS one that gets it."""
-        with_ds = [key for key in signers if key.ds in self.zone.ds()]
-        return tuple((with_ds or signers)[:1])
+        which the parent checks them, or before the first DS one that gets it. None, if it is
+        lost."""
+        signers, ds = self.able(version), self.zone.ds()
+        has_one = any(key.ds in ds for key in version.signers)
+        return tuple(key for key in signers if key.ds in ds or not has_one)[:1]
+
+    def changing(self, version):
+        """The keys that sign what changes in the zone: those of `zone=`, and in the place of each
+        lost one a KSK of its algorithm."""
+        keys = [key for key in version.zone if not key.lost]
+        lost = {key.algorithm for key in version.zone if key.lost}
+        able = [key for key in self.able(version)[::-1] if key not in keys]
+        in_place = {key.algorithm: key for key in able if key.algorithm in lost}
+        return *keys, *in_place.values()
+
+    def can_sign_cds(self):
+        """Whether each signer has a key that can sign CDS by rule 3."""
+        return all(one.cds_signers(one.version) for one in (self, *self.others()))
 
     async def act(self, actions):
         """Does what an answer asks: publishes it in one version, and has the DS set changed."""
@@ -126,7 +142,7 @@ class Provider:
         if "CreateCdsRrset" in actions:
             await self.take_cds_out()
             # Without a key that can sign them the parent gets its DS set by another way.
-            if not any(key.lost for key in self.version.signers):
+            if self.can_sign_cds():
                 self.zone.cds = self.zone.ds_keys()
         # (At `RemoveCdsRrset` they are out already.)
         is_of_cds = self.zone.cds != before
@@ -168,7 +184,7 @@ class Provider:
             # (A server that another provider had may still give a version of that provider.)
             version = self.versions.get(given[0]) if given else None
             return version and version.serial >= serial and (
-                {key.tag for key in soa_signers(version)} == tags_of(answer, "SOA")
+                {key.tag for key in version.changing} == tags_of(answer, "SOA")
             )
 
         def has_keys(answer):
@@ -213,7 +229,7 @@ class Provider:
         """The TTL to report if a validator may check a DNSKEY set by an old DS set once more. The
         present DNSKEY set counts too, and one that is on its way."""
         present = [
-            ttl for provider in self.zone.providers
+            max(ttl, self.zone.least) for provider in self.zone.providers
             for ttl in (provider.version.dnskey_ttl, provider.ttls.dnskey)
         ]
         return self.highest("ds", moment) + max(self.highest("dnskey", moment), *present)

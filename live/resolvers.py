@@ -1,7 +1,9 @@
 """The validating resolvers, each of another maker or with other settings. The last one asks a cache
 that doesn't validate."""
 
-from places import BEHIND, BIND, CACHE, CHILD, PARENT, POWERDNS, STRICT, UNBOUND
+from places import (
+    BEHIND, BIND, CACHE, CHILD, LEAST, LEAST_CACHE, LEAST_TTL, PARENT, POWERDNS, STRICT, UNBOUND,
+)
 
 UNBOUND_SERVER = """\
 server:
@@ -41,6 +43,10 @@ server:
 forward-zone:
   name: "."
   forward-addr: {address}@{port}
+"""
+UNBOUND_LEAST = f"""\
+server:
+  cache-min-ttl: {LEAST_TTL}
 """
 NAMED = """\
 options {{
@@ -97,9 +103,8 @@ class Resolvers:
         self.unbound("unbound-strict", STRICT, stubs, strict="yes")
         self.named("bind", BIND)
         self.recursor("powerdns", POWERDNS)
-        self.unbound("cache", CACHE, stubs, modules="iterator")
-        forward = UNBOUND_FORWARD.format(address=CACHE, port=self.port)
-        self.unbound("unbound-behind-cache", BEHIND, forward)
+        self.behind_cache("unbound-behind-cache", BEHIND, CACHE, stubs)
+        self.behind_cache("unbound-least-ttl", LEAST, LEAST_CACHE, stubs + UNBOUND_LEAST)
 
     async def restart(self, name):
         """One of them starts again, with an empty cache."""
@@ -132,6 +137,11 @@ class Resolvers:
         )
         (folder / "conf").write_text(text + more)
         self.processes.start(name, "unbound", "-d", "-c", str(folder / "conf"))
+
+    def behind_cache(self, name, address, cache, settings):
+        """A resolver that asks a cache, which has these settings and doesn't validate."""
+        self.unbound(f"cache-of-{name}", cache, settings, modules="iterator")
+        self.unbound(name, address, UNBOUND_FORWARD.format(address=cache, port=self.port))
 
     def named(self, name, address):
         folder = self.folder(name)

@@ -22,6 +22,8 @@ TOP = Path(__file__).resolve().parent.parent
 KEYSET = TOP / "crates" / "keyset" / "out" / "keyset"
 PORT = 15353
 DEBIANS = "/usr/bin/python3"
+# Debian's packages of modules.
+MODULES = {"dns": "python3-dnspython", "cryptography": "python3-cryptography"}
 # The most seconds that the short form and the whole run may take.
 SHORT, WHOLE = 600, 3600
 FAULTS_SHOWN = 8
@@ -131,10 +133,10 @@ class Run:
 def missing_packages():
     """Which packages are missing, with the command that installs them; None if all are there."""
     packages = missing()
-    if find_spec("dns") is None:
+    if lacking := [name for name in MODULES if find_spec(name) is None]:
         if sys.executable != DEBIANS:
-            return f"{sys.executable} doesn't find the package dns: take {DEBIANS}, Debian's Python"
-        packages.append("python3-dnspython")
+            return f"{sys.executable} doesn't find {' '.join(lacking)}: take {DEBIANS}, of Debian"
+        packages += [MODULES[name] for name in lacking]
     names = " ".join(packages)
     return f"missing: {names}\nto install them: apt-get install {names}" if packages else None
 

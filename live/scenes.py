@@ -5,7 +5,9 @@ from typing import Callable, NamedTuple
 
 import by_command
 import emergencies
+import lost
 import one_signer
+import two_emergencies
 import two_signers
 from lies import LYING, LYING_TWO
 
@@ -27,9 +29,12 @@ class Scene(NamedTuple):
 # The longest come first.
 SCENES = [
     Scene("resolvers-restarted", one_signer.restarted, "A", False),
+    *(Scene(name, play, "A", False) for name, play in one_signer.LONG.items()),
     *(Scene(name, play, "AB", False) for name, play in two_signers.HONEST.items()),
+    *(Scene(name, play, "AB", False) for name, play in two_emergencies.HONEST.items()),
     *(Scene(name, play, "AB", True) for name, play in LYING_TWO.items()),
     *(Scene(name, play, "A", False) for name, play in emergencies.HONEST.items()),
+    *(Scene(name, play, "A", False) for name, play in lost.HONEST.items()),
     *(Scene(name, play, "A", True) for name, play in LYING.items()),
     *(Scene(name, play, "A", False) for name, play in one_signer.HONEST.items()),
     Scene("by-command", by_command.tour, "A", False),
@@ -43,19 +48,24 @@ ONLY_WHOLE = {
     "two-ksk-rolls-at-once",
     "two-csk-joins-and-leaves",
     "two-rolls-while-joining",
-    "lost-in-mid-ksk-roll",
-    "lost-in-mid-ksk-double-ds-roll",
+    "two-lost-csk",
+    "two-new-scripts",
+    "two-unsigned-in-mid-roll",
     "lost-csk",
+    "lost-ksk-ended-early",
     "lost-ds",
     "false-line-taken-back",
     "ended-early-beside",
+    "slow-parent",
     "raised-ttls",
     "nsec3",
     "csks",
     "double-ds-beside-double-signature",
 }
 ALIKE = re.compile(
-    r"-(ended-early|stolen-new-\w+|old-key-lost|changing-ttls|of-the-clock|ttl-of-0|publishing)$"
+    r"-(ended-early|stolen-new-\w+|lost|lost-before|lost-later|at-wait|comes-back|in-mid-roll|"
+    r"early-end|changing-ttls|of-the-clock|ttl-of-0|publishing)$|^(in-a-row|lost-\w+-beside)-|"
+    r"^two-leaves-"
 )
 OF_THEM = {
     "ksk-roll-ended-early",
@@ -63,6 +73,12 @@ OF_THEM = {
     "ksk-roll-stolen-new-key",
     "algorithm-roll-changing-ttls",
     "two-changing-ttls",
+    "two-leaves-in-algorithm-roll",
+    "algorithm-roll-old-key-lost",
+    "algorithm-roll-lines-lost",
+    "csk-roll-new-key-lost-at-wait",
+    "zsk-roll-new-zsk-lost-later",
+    "lost-zsk-beside-ksk-roll",
     "zsk-roll-wait-ahead-of-the-clock",
     "ksk-roll-ttl-of-0",
     "csk-roll-report-before-publishing",

@@ -236,10 +236,10 @@ async def csk_joins_and_leaves(zone):
         await roll_of_one(a, b, CSK, ["C1"], ["K2", "Z2"])
 
 
-async def join(a, of_a, refs, meanwhile=None):
+async def join(a, of_a, refs, meanwhile=None, letter="B"):
     """The table "B joins". The rolls beside it begin once each signer has the other's keys."""
     zone = a.zone
-    b = Provider(zone, [], "B")
+    b = Provider(zone, [], letter)
     await b.make(*refs)
     for key in shared(a, of_a):
         b.add_public(key)
@@ -250,13 +250,17 @@ async def join(a, of_a, refs, meanwhile=None):
     await roll.watch()
     going = meanwhile and asyncio.ensure_future(meanwhile(b))
     await roll.finish()
-    # The NS sets name B's servers only after B's second wait.
-    a.servers, b.servers = CHILD["A"], CHILD["B"]
-    await b.publish()
-    await b.watch()
+    await is_named(a, b)
     if going:
         await going
     return b
+
+
+async def is_named(a, b):
+    """The NS sets name the servers of who joins only after its second wait."""
+    a.servers, b.servers = CHILD[a.letter], CHILD[b.letter]
+    await b.publish()
+    await b.watch()
 
 
 async def leave(a, b):

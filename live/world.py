@@ -7,7 +7,7 @@ from asking import ask
 from clients import Clients
 from keys import Signing, Version
 from parent import Parent
-from places import CACHE, PARENT, RESOLVERS, SERVERS
+from places import ALL, PARENT, SERVERS
 from processes import Failed, Processes
 from resolvers import Resolvers
 from servers import Fleet
@@ -45,7 +45,7 @@ class World:
 
     async def are_up(self):
         """Waits until each server and each resolver answers for each zone."""
-        for address in (*SERVERS, CACHE, *RESOLVERS.values()):
+        for address in ALL:
             for zone in self.zones_of(address):
                 await self.is_up(address, zone)
 

@@ -6,7 +6,7 @@ import time
 from dataclasses import dataclass
 from typing import Optional
 
-from asking import PATIENCE, ask, data_of, tags_of
+from asking import PATIENCE, ask, data_of, is_signed_by_ds
 from parent import NEGATIVE
 from places import CHILD
 from processes import Failed
@@ -25,13 +25,14 @@ class Held:
 
 
 class Notes:
-    """The notes of rule 1, by the kind of the set."""
+    """The notes of rule 1, by the kind of the set. A cache keeps each set for `least` seconds at
+    least."""
 
-    def __init__(self):
-        self.held = {"dnskey": [], "zone": [], "ds": []}
+    def __init__(self, least=0):
+        self.held, self.least = {"dnskey": [], "zone": [], "ds": []}, least
 
     def published(self, kind, ttl, number):
-        self.held[kind].append(Held(ttl, number))
+        self.held[kind].append(Held(max(ttl, self.least), number))
 
     def seen(self, kind, number):
         """Notes that all servers give the version of this number, and none an older one."""
@@ -73,10 +74,13 @@ class Zone:
         self.ttls = Ttls.any(dice)
         self.ttls_of = {letter: Ttls.any(dice) for letter in providers}
         self.providers, self.letters = [], providers
-        self.notes, self.serials, self.ds_number = Notes(), itertools.count(2), 0
+        self.least, self.serials = 0, itertools.count(2)
+        self.notes, self.ds_number = Notes(), 0
         self.notes.published("ds", NEGATIVE, 0)
         self.cds, self.turn, self.at_parent = None, asyncio.Lock(), asyncio.Lock()
-        self.reads_cds, self.wanted = dice.random() < 0.5, set()
+        self.reads_cds, self.is_at_work, self.wanted = dice.random() < 0.5, False, set()
+        # For how many seconds at most the parent is at work on a request.
+        self.slowest = 1
         self.folder = world.folder / f"keys-{name.rstrip('.')}"
         self.folder.mkdir()
 
@@ -87,7 +91,12 @@ class Zone:
     def longest(self):
         """The highest TTL that is published."""
         every = [self.ttls, *(provider.ttls for provider in self.providers)]
-        return max(ttl for ttls in every for ttl in vars(ttls).values())
+        return max(self.least, *(ttl for ttls in every for ttl in vars(ttls).values()))
+
+    def counts_least(self, least):
+        """From now on the TTLs of rule 1 are no less than this."""
+        self.least, self.notes = least, Notes(least)
+        self.notes.published("ds", NEGATIVE, 0)
 
     def is_secure(self):
         """From now on all answers have to be validated, once caches have lost what they hold from
@@ -101,7 +110,7 @@ class Zone:
         doesn't or can't, it gets the change by another way, after a while."""
         self.wanted = {key.ds for key in keys}
         if not (self.reads_cds and self.cds is not None and self.ds()):
-            await asyncio.sleep(self.dice.uniform(0, 1))
+            await self.work()
             await self.publish_ds(self.wanted)
 
     def ds(self):
@@ -132,15 +141,30 @@ class Zone:
 
     async def read_cds(self):
         """The parent reads CDS of one of the servers now and then. It takes them if a key signs
-        them that is in the DS set (RFC 7344, section 4.1)."""
+        them that is in the DS set and in the DNSKEY set (RFC 7344, section 4.1), and is at work on
+        that for a while."""
         while True:
             await asyncio.sleep(self.dice.uniform(0.3, 1.5))
             servers = [address for provider in self.providers for address in provider.servers]
             if not (self.reads_cds and self.ds() and servers):
                 continue
-            answer = await ask(self.dice.choice(servers), self.world.port, self.name, "CDS")
-            data = data_of(answer, "CDS") if answer else set()
-            signed = {str(tag) for tag in tags_of(answer, "CDS")} if answer else set()
-            data, is_there = data - {DELETE}, bool(data)
-            if is_there and data != self.ds() and signed & {one.split()[0] for one in self.ds()}:
+            data = await self.taken(self.dice.choice(servers))
+            if data is not None and data != self.ds():
+                self.is_at_work = True
+                await self.work()
                 await self.publish_ds(data)
+                self.is_at_work = False
+
+    async def work(self):
+        """The parent is at work on a request."""
+        await asyncio.sleep(self.slowest * self.dice.uniform(0, 1))
+
+    async def taken(self, server):
+        """The data of CDS that the parent takes from a server, or None. There are none if the entry
+        deletes."""
+        cds, keys = [
+            await ask(server, self.world.port, self.name, kind) for kind in ("CDS", "DNSKEY")
+        ]
+        data = data_of(cds, "CDS") if cds and keys else set()
+        is_taken = data and is_signed_by_ds(cds, "CDS", keys, self.ds())
+        return data - {DELETE} if is_taken else None
