@@ -5,7 +5,9 @@ ghost use Rattle.dnssec_run.specs.Published.{id_of};
 ghost use Rattle.dnssec_judge.specs.Inner.Chained.{is_none};
 ghost use Rattle.dnssec_judge.specs.Inner.Window.{keys_hold, parts_of, set_of_held, zone_holds};
 
-use crate::shared::{SharedKey, Trust, are_same, share_all, share_keys, test_keys, test_zone};
+use crate::shared::{
+    Found, SharedKey, Trust, are_same, share_all, share_keys, test_keys, test_zone,
+};
 use dnssec_keyset::Error;
 use dnssec_run::PublishedKey;
 use std::alloc::Global;
@@ -114,7 +116,7 @@ impl Held {
     pub(crate) fn trusts_keys_of<'a>(
         &'a self,
         dnskey: &Held,
-        before: Option<&'a SharedKey>,
+        before: Option<Found<'a>>,
     ) -> Trust<'a>
         ensures { result.holds ≡ keys_hold (set_of_held self.now) (set_of_held dnskey.now) }
     {
@@ -129,11 +131,7 @@ impl Held {
 
     /// Whether one of its keys, as those of a DNSKEY set, signs the zone. The key of the test
     /// before is tried first.
-    pub(crate) fn trusts_signers<'a>(
-        &self,
-        zone: &'a Held,
-        before: Option<&'a SharedKey>,
-    ) -> Trust<'a>
+    pub(crate) fn trusts_signers<'a>(&self, zone: &'a Held, before: Option<Found<'a>>) -> Trust<'a>
         ensures { result.holds ≡ zone_holds (set_of_held self.now) (set_of_held zone.now) }
     {
         test_zone(&self.keys, &zone.keys, before)

@@ -190,42 +190,129 @@ fn is_found(keys: &[SharedKey], key: &SharedKey) -> bool
     }
 }
 
+/// A key by which two sets hold, and where it stands in them: in the DS set or among the zone
+/// signers, in the DNSKEY set, and among the signers of that. In the next set it stands near.
+#[derive(Clone, Copy)]
+pub(crate) struct Found<'a> {
+    key: &'a SharedKey,
+    first: usize,
+    dnskey: usize,
+    signers: usize,
+}
+
+impl<'a> Found<'a> {
+    /// A key of which no place is known.
+    fn new(key: &'a SharedKey) -> Self {
+        Found {
+            key,
+            first: 0,
+            dnskey: 0,
+            signers: 0,
+        }
+    }
+
+    /// The same key, if a search finds it in the DS set, in the DNSKEY set and among its signers.
+    fn in_keys(
+        self,
+        ds: &[SharedKey],
+        dnskey: &[SharedKey],
+        signers: &[SharedKey],
+    ) -> Option<Found<'a>>
+        ensures { IfSome result (λ found. trusts_keys (map shared_id ds.now)
+            (map shared_id dnskey.now) (map shared_id signers.now) ≡ true) }
+    {
+        let key = self.key;
+        let place = near(ds, key, self.first);
+        let dnskey_place = near(dnskey, key, self.dnskey);
+        let signers_place = near(signers, key, self.signers);
+        if !is_at(ds, key, place) {
+            return None;
+        }
+        if !is_at(dnskey, key, dnskey_place) {
+            return None;
+        }
+        if !is_at(signers, key, signers_place) {
+            return None;
+        }
+        Some(Found {
+            key,
+            first: place,
+            dnskey: dnskey_place,
+            signers: signers_place,
+        })
+    }
+
+    /// The same key, if a search finds it in the DNSKEY set and among the zone signers.
+    fn in_zone(self, dnskey: &[SharedKey], zone: &[SharedKey]) -> Option<Found<'a>>
+        ensures { IfSome result (λ found. trusts_zone (map shared_id dnskey.now)
+            (map shared_id zone.now) ≡ true) }
+    {
+        let key = self.key;
+        let place = near(zone, key, self.first);
+        let dnskey_place = near(dnskey, key, self.dnskey);
+        if !is_at(zone, key, place) {
+            return None;
+        }
+        if !is_at(dnskey, key, dnskey_place) {
+            return None;
+        }
+        Some(Found {
+            key,
+            first: place,
+            dnskey: dnskey_place,
+            signers: 0,
+        })
+    }
+}
+
+/// Whether the key stands at this place.
+fn is_at(keys: &[SharedKey], key: &SharedKey, place: usize) -> bool
+    ensures { result ≡ true → is_in (map shared_id keys.now) (shared_id key.now) ≡ true }
+{
+    match keys.get(place) {
+        Some(other) => *other == *key,
+        None => false,
+    }
+}
+
+/// Where the key should stand, if it stood at this place in another set.
+fn near(keys: &[SharedKey], key: &SharedKey, place: usize) -> usize {
+    if may_be_at(keys, key, place) {
+        return place;
+    }
+    let next = place.saturating_add(1);
+    if may_be_at(keys, key, next) {
+        return next;
+    }
+    let before = place.saturating_sub(1);
+    if may_be_at(keys, key, before) {
+        return before;
+    }
+    place_of(keys, key)
+}
+
+/// Whether the key at this place was added at the same position.
+fn may_be_at(keys: &[SharedKey], key: &SharedKey, place: usize) -> bool {
+    match keys.get(place) {
+        Some(other) => other.key.added == key.key.added,
+        None => false,
+    }
+}
+
+/// Where the key stands in a list that is in order, or else would.
+fn place_of(keys: &[SharedKey], key: &SharedKey) -> usize {
+    match keys.binary_search_by(|other| other.key.reference.cmp(&key.key.reference)) {
+        Ok(place) => place,
+        Err(place) => place,
+    }
+}
+
 /// What a test of two sets came to.
 #[derive(Clone, Copy)]
 pub(crate) struct Trust<'a> {
     pub(crate) holds: bool,
     /// The key that a search found, if it holds. It is tried first with the next set.
-    pub(crate) by: Option<&'a SharedKey>,
-}
-
-/// Whether a search finds the key in the DS set, in the DNSKEY set and among its signers.
-fn is_found_by_all(
-    key: &SharedKey,
-    ds: &[SharedKey],
-    dnskey: &[SharedKey],
-    signers: &[SharedKey],
-) -> bool
-    ensures { result ≡ true → trusts_keys (map shared_id ds.now) (map shared_id dnskey.now)
-        (map shared_id signers.now) ≡ true }
-{
-    if !is_found(ds, key) {
-        return false;
-    }
-    if !is_found(dnskey, key) {
-        return false;
-    }
-    is_found(signers, key)
-}
-
-/// Whether a search finds the key in the DNSKEY set and among the zone signers.
-fn is_found_by_both(key: &SharedKey, dnskey: &[SharedKey], zone: &[SharedKey]) -> bool
-    ensures { result ≡ true → trusts_zone (map shared_id dnskey.now) (map shared_id zone.now)
-        ≡ true }
-{
-    if !is_found(zone, key) {
-        return false;
-    }
-    is_found(dnskey, key)
+    pub(crate) by: Option<Found<'a>>,
 }
 
 /// A DS key that a search finds in the DNSKEY set and among its signers.
@@ -265,23 +352,23 @@ pub(crate) fn test_keys<'a>(
     ds: &'a [SharedKey],
     dnskey: &[SharedKey],
     signers: &[SharedKey],
-    before: Option<&'a SharedKey>,
+    before: Option<Found<'a>>,
 ) -> Trust<'a>
     ensures { result.holds ≡ trusts_keys (map shared_id ds.now) (map shared_id dnskey.now)
         (map shared_id signers.now) }
 {
-    if let Some(key) = before {
-        if is_found_by_all(key, ds, dnskey, signers) {
+    if let Some(found) = before {
+        if let Some(again) = found.in_keys(ds, dnskey, signers) {
             return Trust {
                 holds: true,
-                by: before,
+                by: Some(again),
             };
         }
     }
     match find_trusted(ds, dnskey, signers) {
         Some(key) => Trust {
             holds: true,
-            by: Some(key),
+            by: Some(Found::new(key)),
         },
         None => Trust {
             holds: has_trusted(ds, dnskey, signers),
@@ -294,22 +381,22 @@ pub(crate) fn test_keys<'a>(
 pub(crate) fn test_zone<'a>(
     dnskey: &[SharedKey],
     zone: &'a [SharedKey],
-    before: Option<&'a SharedKey>,
+    before: Option<Found<'a>>,
 ) -> Trust<'a>
     ensures { result.holds ≡ trusts_zone (map shared_id dnskey.now) (map shared_id zone.now) }
 {
-    if let Some(key) = before {
-        if is_found_by_both(key, dnskey, zone) {
+    if let Some(found) = before {
+        if let Some(again) = found.in_zone(dnskey, zone) {
             return Trust {
                 holds: true,
-                by: before,
+                by: Some(again),
             };
         }
     }
     match find_signer(dnskey, zone) {
         Some(key) => Trust {
             holds: true,
-            by: Some(key),
+            by: Some(Found::new(key)),
         },
         None => Trust {
             holds: has_signer(dnskey, zone),

@@ -1,11 +1,11 @@
 -- Both lists have the key.
 use Rattle.std.proofs.Common.{map}
 use Rattle.dnssec_judge.specs.Inner.Chained.{shared_id}
-use Rattle.dnssec_judge.proofs.shared.is_found_by_both.Goals as goal
+use Rattle.dnssec_judge.proofs.shared.Found.in_zone.Goals as goal
 use Rattle.dnssec_judge.proofs.Verdicts.Chains.{met-zone}
 
 pub returns : goal.returns
-returns c t =
+returns c =
     met-zone (map shared_id c.args.dnskey.now) (map shared_id c.args.zone.now)
-    (shared_id c.args.key.now) (c.is_found.ensures c.if-not-is_found.false)
-    (c.is_found-2.ensures t)
+    (shared_id c.args.self.key.now) (c.is_at.ensures c.if-not-is_at.false)
+    (c.is_at-2.ensures c.if-not-is_at-2.false)
