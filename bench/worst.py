@@ -161,15 +161,15 @@ def adds(count):
 
 
 def long_lists(count):
-    """The start of a roll from many keys to many keys, and its early end."""
-    half = count // 4
+    """A roll to many keys, and then from these to many others: its start and its early end."""
+    half = count // 2
     old = [f"A{i}" for i in range(half)]
     new = [f"B{i}" for i in range(half)]
     adds = [f"add-zsk {name} - 13 {i + 2} 150 yes" for i, name in enumerate(old + new)]
-    shown = [line for name in old
-             for line in (f"set-present {name} yes 160", f"set-signer {name} yes")]
-    start = f"start zsk-roll {','.join(old)} {','.join(new)} 200"
-    return lines(adds, shown, [start, "abort zsk-roll"] * 2)
+    roll = [f"start zsk-roll Z0 {','.join(old)} 200", "report1 zsk-roll 60 200",
+            "wait1 zsk-roll 260", "report2 zsk-roll 60 260", "wait2 zsk-roll 320", "done zsk-roll"]
+    start = f"start zsk-roll {','.join(old)} {','.join(new)} 400"
+    return lines(adds, roll, [start, "abort zsk-roll"] * 2)
 
 
 def stale(count):
@@ -237,10 +237,10 @@ class Row:
 ROWS = [
     Row("starts ended early", 8192, early_ends, "lines"),
     Row("three setters toggled", 8192, toggles, "lines"),
-    Row("a key more in each set a round", 1024, growing_sets, "lines² · keys; lines · keys"),
+    Row("a key more in each set a round", 1024, growing_sets, "lines²; lines · keys"),
     Row("no two sets the same", 8192, subsets, "lines²; lines · keys in use"),
-    Row("2,000 keys in use, one toggled", 2048, in_use, "lines · keys in use; both"),
-    Row("public keys published one by one", 4096, published, "lines²"),
+    Row("2,000 keys in use, one toggled", 2048, in_use, "lines², by the first 4,000; lines · keys"),
+    Row("public keys published one by one", 4096, published, "lines²; lines · keys"),
     Row("the same beside a reference of 1 MB", 512, long_reference, "lines², and the reference"),
     Row("a reference of 1 MB, another toggled", 1024, long_reference_beside,
         "lines, and the reference"),
@@ -249,7 +249,7 @@ ROWS = [
     Row("broken at once, then keys published", 4096, broken_first, "lines²; lines"),
     Row("no two sets the same, broken at last", 8192, broken_last, "lines²"),
     Row("65,536 keys", 65534, adds, "lines"),
-    Row("a start from many keys to many", 65532, long_lists, "lines"),
+    Row("rolls from many keys to many", 65532, long_lists, "lines"),
     Row("set-stale of unpublished keys", 8192, stale, "lines"),
     Row("64 rolls beside published keys", 12288, crowded_rolls, "lines²"),
     Row("10,000 references of one hash", 10000, colliding, "lines²; lines"),

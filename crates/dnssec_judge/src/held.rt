@@ -5,7 +5,9 @@ ghost use Rattle.dnssec_run.specs.Published.{id_of};
 ghost use Rattle.dnssec_judge.specs.Inner.Chained.{is_none};
 ghost use Rattle.dnssec_judge.specs.Inner.Window.{keys_hold, parts_of, set_of_held, zone_holds};
 
-use crate::shared::{SharedKey, are_same, share_all, share_keys, trusts_keys, trusts_zone};
+use crate::shared::{
+    Found, SharedKey, Trust, are_same, share_all, share_keys, test_keys, test_zone,
+};
 use dnssec_keyset::Error;
 use dnssec_run::PublishedKey;
 use std::alloc::Global;
@@ -20,6 +22,8 @@ pub(crate) struct Held {
     pub(crate) since: usize,
     /// The last position at which it was published, but not at the one before.
     pub(crate) last: usize,
+    /// Sets with other sums are other sets.
+    sum: usize,
 }
 
 impl Held {
@@ -33,15 +37,17 @@ impl Held {
             signers: Vec::new(alloc),
             since: 0,
             last: 0,
+            sum: 0,
         }
     }
 
-    /// The set of a position. Keys that it has in common with another set are shared.
+    /// The set of a position, with its sum. Keys that it has in common with another set are shared.
     pub(crate) fn new(
         alloc: Global,
         at: usize,
         keys: &[PublishedKey],
         signers: &[PublishedKey],
+        sum: usize,
         before: &[SharedKey],
     ) -> Result<Self, Error>
         ensures ok { IfOk result (λ h. (set_of_held h ≡ (map id_of keys.now, map id_of signers.now))
@@ -55,6 +61,7 @@ impl Held {
             signers,
             since: at,
             last: at,
+            sum,
         })
     }
 
@@ -68,14 +75,18 @@ impl Held {
             signers: share_all(alloc, &self.signers)?,
             since: self.since,
             last: self.last,
+            sum: self.sum,
         })
     }
 
-    /// Whether it is this set.
-    pub(crate) fn is(&self, keys: &[PublishedKey], signers: &[PublishedKey]) -> bool
+    /// Whether it is this set, which has this sum.
+    pub(crate) fn is(&self, keys: &[PublishedKey], signers: &[PublishedKey], sum: usize) -> bool
         ensures { result ≡ true →
             set_of_held self.now ≡ (map id_of keys.now, map id_of signers.now) }
     {
+        if self.sum != sum {
+            return false;
+        }
         are_same(&self.keys, keys) && are_same(&self.signers, signers)
     }
 
@@ -101,17 +112,29 @@ impl Held {
     }
 
     /// Whether it is a DS set with no key, or one of its keys is in the DNSKEY set and signs it.
-    pub(crate) fn trusts_keys_of(&self, dnskey: &Held) -> bool
-        ensures { result ≡ keys_hold (set_of_held self.now) (set_of_held dnskey.now) }
+    /// The key of the test before is tried first.
+    pub(crate) fn trusts_keys_of<'a>(
+        &'a self,
+        dnskey: &Held,
+        before: Option<Found<'a>>,
+    ) -> Trust<'a>
+        ensures { result.holds ≡ keys_hold (set_of_held self.now) (set_of_held dnskey.now) }
     {
-        self.has_no_keys() || trusts_keys(&self.keys, &dnskey.keys, &dnskey.signers)
+        if self.has_no_keys() {
+            return Trust {
+                holds: true,
+                by: before,
+            };
+        }
+        test_keys(&self.keys, &dnskey.keys, &dnskey.signers, before)
     }
 
-    /// Whether one of its keys, as those of a DNSKEY set, signs the zone.
-    pub(crate) fn trusts_signers(&self, zone: &Held) -> bool
-        ensures { result ≡ zone_holds (set_of_held self.now) (set_of_held zone.now) }
+    /// Whether one of its keys, as those of a DNSKEY set, signs the zone. The key of the test
+    /// before is tried first.
+    pub(crate) fn trusts_signers<'a>(&self, zone: &'a Held, before: Option<Found<'a>>) -> Trust<'a>
+        ensures { result.holds ≡ zone_holds (set_of_held self.now) (set_of_held zone.now) }
     {
-        trusts_zone(&self.keys, &zone.keys)
+        test_zone(&self.keys, &zone.keys, before)
     }
 }
 

@@ -1,22 +1,20 @@
 -- A copy of a judge knows what the judge knows.
-use Rattle.std.proofs.Common.{◌≡◌, ℕ, zero, suc, ◌≤◌, refl, sym, ◌∙◌, ap, arith, List, Some, subst}
+use Rattle.std.proofs.Common.{◌≡◌, ℕ, zero, suc, refl, sym, ◌∙◌, ap, arith, List, Some, subst}
 use Rattle.std.proofs.Common.{[], ◌∷◌, length, map}
 use Rattle.std.specs.Prelude.{slice_get}
 use Rattle.dnssec_run.specs.declared.record.Entry.{Entry}
 use Rattle.dnssec_run.specs.Safe.{SetKind, position_at}
 use Rattle.dnssec_run.specs.Steps.{step_of}
 use Rattle.dnssec_run.specs.declared.steps.Steps.{Steps}
-use Rattle.dnssec_judge.specs.declared.due.Due.{Due}
 use Rattle.dnssec_judge.specs.declared.held.Held.{Held}
 use Rattle.dnssec_judge.specs.declared.judging.Judge.{Judge}
-use Rattle.dnssec_judge.specs.declared.verdict.Broken.{Broken}
 use Rattle.dnssec_judge.specs.declared.window.Span.{Span}
 use Rattle.dnssec_judge.specs.declared.window.Window.{Window}
-use Rattle.dnssec_judge.specs.Judge.{Follows, Knows}
+use Rattle.dnssec_judge.specs.Judge.{Knows}
 use Rattle.dnssec_judge.specs.Verdict.{IsVerdict}
 use Rattle.dnssec_judge.specs.Inner.Window.{AreKept, Begins, GoesOnAbove, IsSame, Keeps, StillRests}
 use Rattle.dnssec_judge.specs.Inner.Window.{Tested}
-use Rattle.dnssec_judge.specs.Inner.Window.{Stretch, Tiles, Watches, begin_of, floor_with, parts_of}
+use Rattle.dnssec_judge.specs.Inner.Window.{Tiles, Watches, begin_of, floor_with, parts_of}
 use Rattle.dnssec_judge.specs.Inner.Window.{set_at, set_at_place, stretches, stretches_of}
 use Rattle.dnssec_judge.proofs.OneByOne.Pairs.{tested-on}
 

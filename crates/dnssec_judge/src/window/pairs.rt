@@ -67,7 +67,17 @@ impl Window {
             (λ q. keys_hold (set_of_held ds.now) q)) self.now.sets.items }
     {
         let begin = self.begin();
-        self.sets.iter().all(|dnskey| dnskey.has_left(begin) || ds.trusts_keys_of(dnskey))
+        let mut by = None;
+        for dnskey in &self.sets {
+            if !dnskey.has_left(begin) {
+                let trust = ds.trusts_keys_of(dnskey, by);
+                if !trust.holds {
+                    return false;
+                }
+                by = trust.by;
+            }
+        }
+        true
     }
 
     /// Whether each of these DS sets trusts the DNSKEY set.
@@ -76,9 +86,17 @@ impl Window {
             (λ p. keys_hold p (set_of_held dnskey.now))) self.now.sets.items }
     {
         let begin = self.begin();
-        self.sets
-            .iter()
-            .all(|ds| ds.has_left(begin) || ds.trusts_keys_of(dnskey))
+        let mut by = None;
+        for ds in &self.sets {
+            if !ds.has_left(begin) {
+                let trust = ds.trusts_keys_of(dnskey, by);
+                if !trust.holds {
+                    return false;
+                }
+                by = trust.by;
+            }
+        }
+        true
     }
 
     /// Whether each of these DNSKEY sets trusts the zone signers.
@@ -87,7 +105,17 @@ impl Window {
             (λ q. zone_holds q (set_of_held zone.now))) self.now.sets.items }
     {
         let begin = self.begin();
-        self.sets.iter().all(|dnskey| dnskey.has_left(begin) || dnskey.trusts_signers(zone))
+        let mut by = None;
+        for dnskey in &self.sets {
+            if !dnskey.has_left(begin) {
+                let trust = dnskey.trusts_signers(zone, by);
+                if !trust.holds {
+                    return false;
+                }
+                by = trust.by;
+            }
+        }
+        true
     }
 
     /// Whether the DNSKEY set trusts all of these zone signers.
@@ -96,8 +124,16 @@ impl Window {
             (λ z. zone_holds (set_of_held dnskey.now) z)) self.now.sets.items }
     {
         let begin = self.begin();
-        self.sets
-            .iter()
-            .all(|zone| zone.has_left(begin) || dnskey.trusts_signers(zone))
+        let mut by = None;
+        for zone in &self.sets {
+            if !zone.has_left(begin) {
+                let trust = dnskey.trusts_signers(zone, by);
+                if !trust.holds {
+                    return false;
+                }
+                by = trust.by;
+            }
+        }
+        true
     }
 }

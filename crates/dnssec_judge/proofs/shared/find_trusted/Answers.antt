@@ -3,11 +3,11 @@ use Rattle.std.proofs.Common.{◌≡◌, true, sym, ◌∙◌, map}
 use Rattle.std.specs.Prelude.{◌&&◌}
 use Rattle.std.proofs.lemmas.List.Folds.{list_any-from_Any}
 use Rattle.dnssec_judge.specs.Inner.Chained.{is_in, shared_id}
-use Rattle.dnssec_judge.proofs.shared.finds_keys.Goals as goal
+use Rattle.dnssec_judge.proofs.shared.find_trusted.Goals as goal
 use Rattle.dnssec_judge.proofs.Verdicts.Chains.{list_any-map}
 
 pub returns-then-is_found-2 : goal.returns-then-is_found-2
-returns-then-is_found-2 c t =
+returns-then-is_found-2 c =
     let dnskey = map shared_id c.args.dnskey.now in
     let signers = map shared_id c.args.signers.now in
     let one : is_in dnskey (shared_id c.key-item.result) ≡ true =
