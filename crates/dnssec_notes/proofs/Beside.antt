@@ -1,5 +1,5 @@
 -- Notes beside a session: what is taken after one more line, and after more calls.
-use Rattle.std.proofs.Common.{◌≡◌, ℕ, ◌≤◌, ◌<◌, ◌∙◌, sym, ap, subst, refl, arith, List, [], ◌∷◌, ◌++◌}
+use Rattle.std.proofs.Common.{◌≡◌, ℕ, ◌≤◌, ◌∙◌, sym, ap, subst, refl, arith, List, [], ◌∷◌, ◌++◌}
 use Rattle.std.proofs.Common.{Option, None, Some, Bool, true, false, map, length}
 use Rattle.std.specs.Prelude.{if◌then◌else◌, nat_lt}
 use Rattle.std.proofs.lemmas.List.{map-append}
@@ -14,7 +14,8 @@ use Rattle.dnssec_network.specs.declared.fact.News.TheVariants.{Published, Every
 use Rattle.dnssec_network.specs.declared.fact.NoteFault.{NoteFault}
 use Rattle.dnssec_network.specs.declared.fact.NoteFault.TheVariants.{CallNotMade}
 use Rattle.dnssec_network.specs.declared.progress.Newest.{Newest}
-use Rattle.dnssec_network.specs.Notes.{NotesParts, fall, newest_of, news_refusal, progress_of, refusal}
+use Rattle.dnssec_network.specs.Notes.{NotesParts, fall, newest_of, news_refusal, progress_of}
+use Rattle.dnssec_network.specs.Notes.{refusal}
 use Rattle.dnssec_run.specs.declared.call.Call.{Call}
 use Rattle.dnssec_run.specs.declared.record.Entry.{Entry}
 use Rattle.dnssec_run.specs.declared.steps.Steps.{Steps}
@@ -106,9 +107,12 @@ taken-line calls n [] line old new same has taken = absurd (none-some old (sym t
 taken-line calls n (first ∷ lines) line old new same has taken =
     let is : taken.0 ≡ old = sym (same_Some old taken.0 taken.1) in
     let are : AreNotes n (first ∷ lines) old.before old.facts =
-    subst (λ (p : NotesParts). AreNotes n (first ∷ lines) p.before p.facts) is taken.2 in
-    (new, refl, notes-one-more n first lines line old new
-    (subst (λ k. HasLine k old line new) same has) are)
+    subst (λ (p : NotesParts). AreNotes n (first ∷ lines) p.before p.facts) is taken.2 in (
+      new,
+      refl,
+      notes-one-more n first lines line old new
+          (subst (λ k. HasLine k old line new) same has) are,
+    )
 
 pub taken-first : (n : ℕ) (lines : List (List ℕ)) (line : List ℕ) (noted : Option NotesParts)
     → IsFirstLine line noted → HasTaken n lines None → HasTaken n (lines ++ line ∷ []) noted

@@ -25,7 +25,7 @@ pub mod Texts
 pub mod Reading
 pub mod Running
 pub mod Kept
-pub mod Reached
+pub mod Counted
 pub mod Sessions
 pub mod Judging
 pub mod Answering

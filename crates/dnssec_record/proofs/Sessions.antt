@@ -128,7 +128,7 @@ fits name calls entries call next other reply same so = record {
 
 -- ---- copies
 
--- the text of a set tells no more than its keys
+-- the text of a set says no more than its keys
 abbrev ids_text : List Id → List ℕ
 ids_text [] = codes "-"
 ids_text (id ∷ ids) = id.0 ++ flat_map (λ (i : Id). codes "," ++ i.0) ids

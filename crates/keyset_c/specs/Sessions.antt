@@ -1,4 +1,4 @@
--- What C is told by a session. A closed one keeps nothing.
+-- What a session answers to C. A closed one keeps nothing.
 use Rattle.std.specs.Prelude.{◌≡◌, ℕ, List, [], ◌∷◌, ◌++◌, Option, None, Some, length, string_bytes}
 use Rattle.dnssec_network.specs.declared.fact.NoteFault.TheVariants as note
 use Rattle.dnssec_network.specs.declared.fact.NoteFault.TheVariants.{CallNotMade, MomentFalls}

@@ -12,7 +12,8 @@ ghost use Rattle.dnssec_run.specs.declared.call.Call.{Call};
 ghost use Rattle.keyset_c.specs.Answered.{TextEndsSafe, IsAnswerOfLength, StaysSafeIfPlain};
 ghost use Rattle.keyset_c.specs.Handles.{IsWhole, kept_by};
 ghost use Rattle.keyset_c.specs.Sessions.{Calls, CallsAtLength, ClosesWith, Copies, LacksNotes};
-ghost use Rattle.keyset_c.specs.Sessions.{Notes, Opens, RefusesNote, Repeats, ShowsDue, ShowsStatus};
+ghost use Rattle.keyset_c.specs.Sessions.{Notes, Opens, RefusesNote, Repeats, ShowsDue};
+ghost use Rattle.keyset_c.specs.Sessions.{ShowsStatus};
 
 mod answered;
 mod handle;

@@ -77,7 +77,7 @@ fn tell(alloc: Global, question: Question, kept: &Kept, out: &mut [u8]) -> Answe
     }
 }
 
-/// Lets a session keep this after a call, and writes what it told.
+/// Lets a session keep this after a call, and writes the answer.
 pub(crate) fn put_next(alloc: Global, session: &mut Handle, kept: Kept, out: &mut [u8]) -> Answered
     requires whole { IsWhole session.old }
     requires closed { kept_by session.old ≡ None }

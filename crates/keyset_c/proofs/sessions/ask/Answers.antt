@@ -1,4 +1,4 @@
--- What is told is told of what was kept.
+-- What is answered is so of what was kept.
 use Rattle.std.proofs.Common.{Option, Some, ap, subst, sym, take, ◌∙◌}
 use Rattle.keyset_c.specs.Sessions.{Lacks, Tells}
 use Rattle.keyset_c.specs.declared.kept.Kept.{Kept}

@@ -1,5 +1,5 @@
 use Rattle.std.proofs.Common.{refl}
-use Rattle.dnssec_record.proofs.Reached.{none-reached}
+use Rattle.dnssec_record.proofs.Counted.{none-reached}
 use Rattle.dnssec_record.proofs.reached.Reached.new.Goals as goal
 
 pub returns : goal.returns
