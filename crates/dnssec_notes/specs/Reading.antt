@@ -7,7 +7,7 @@ use Rattle.dnssec_network.specs.Notes.{NotesParts, refusal}
 use Rattle.dnssec_record.specs.Script.{lines_of}
 use Rattle.dnssec_notes.specs.Lines.{as_before, as_fact, before_says, fact_says}
 use Rattle.dnssec_notes.specs.declared.fault.LineFault.{LineFault}
-use Rattle.dnssec_notes.specs.declared.fault.LineFault.TheVariants as fault
+use Rattle.dnssec_notes.specs.declared.fault.LineFault.TheVariants as why
 use Rattle.dnssec_notes.specs.declared.fault.NotesFault.{NotesFault}
 use Rattle.dnssec_notes.specs.declared.fault.NotesFault.TheVariants.{Malformed, Refused}
 use Rattle.dnssec_notes.specs.declared.fault.NotesFault.TheVariants.{OutOfMemory}
@@ -37,17 +37,17 @@ AreNotes calls (first ∷ lines) before facts =
 
 -- why a line is not taken after these facts: it says no fact, or one that is refused
 abbrev pub IsFactFault : ℕ → List Fact → List ℕ → LineFault → Type 0
-IsFactFault calls facts line fault.Malformed = as_fact line ≡ None
-IsFactFault calls facts line (fault.Refused cause) = (fact : Fact)
+IsFactFault calls facts line why.Malformed = as_fact line ≡ None
+IsFactFault calls facts line (why.Refused cause) = (fact : Fact)
     × (as_fact line ≡ Some (fact_says fact)) × (refusal calls facts fact ≡ Some cause)
-IsFactFault calls facts line fault.OutOfMemory = Unit {0}
+IsFactFault calls facts line why.OutOfMemory = Unit {0}
 
 -- the same of a line with its number
 abbrev pub IsLineFault : ℕ → List Fact → List ℕ → ℕ → NotesFault → Type 0
 IsLineFault calls facts line n (Malformed m) =
-    (m ≡ n) × IsFactFault calls facts line fault.Malformed
+    (m ≡ n) × IsFactFault calls facts line why.Malformed
 IsLineFault calls facts line n (Refused m cause) =
-    (m ≡ n) × IsFactFault calls facts line (fault.Refused cause)
+    (m ≡ n) × IsFactFault calls facts line (why.Refused cause)
 IsLineFault calls facts line n OutOfMemory = Unit {0}
 
 -- the first such line after line 1
@@ -102,9 +102,9 @@ IsFirstLine line noted = (before : Before) × (as_before line ≡ Some (before_s
 
 -- why a line can't be the first
 abbrev pub IsFirstFault : List ℕ → LineFault → Type 0
-IsFirstFault line fault.Malformed = as_before line ≡ None
-IsFirstFault line (fault.Refused cause) = ⊥
-IsFirstFault line fault.OutOfMemory = Unit {0}
+IsFirstFault line why.Malformed = as_before line ≡ None
+IsFirstFault line (why.Refused cause) = ⊥
+IsFirstFault line why.OutOfMemory = Unit {0}
 
 -- why a line is not taken
 abbrev pub IsTakeFault : ℕ → Option NotesParts → List ℕ → LineFault → Type 0

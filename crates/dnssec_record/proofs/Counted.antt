@@ -1,10 +1,12 @@
 -- How far a record has come, with one more call.
 use Rattle.std.proofs.Common.{◌≡◌, ℕ, suc, ◌∙◌, sym, ap, arith, refl, List, [], ◌∷◌, ◌++◌, length}
-use Rattle.std.proofs.Common.{length-append, None, Some, Result, Ok, Err, ◌+◌}
+use Rattle.std.proofs.Common.{length-append, None, Some, Result, Ok, Err, ◌+◌, ◌⊎◌, inl, inr}
+use Rattle.std.proofs.Common.{Bool, false}
 use Rattle.std.specs.Prelude.{if◌then◌else◌, IfOk}
 use Rattle.dnssec_key.specs.declared.roll.RollType.{RollType}
 use Rattle.dnssec_run.specs.declared.record.Entry.{Entry}
 use Rattle.dnssec_run.specs.declared.record.Mark.{Mark}
+use Rattle.dnssec_run.specs.declared.record.Mark.TheVariants.{Other, Report}
 use Rattle.dnssec_run.specs.Safe.{base_below, is_step, position_at}
 use Rattle.dnssec_run.specs.Steps.{step_of}
 use Rattle.dnssec_run.specs.declared.steps.Steps.{Steps}
@@ -37,6 +39,26 @@ reaches-more entries e old new mark at next is steps same so =
           ∙ sym (base-new entries e roll) ∙ ap (λ k. base_below more roll (suc k)) (sym count);
     }
 
+-- a call without a step
+abbrev pub HasNoStep : Mark → Type 0
+HasNoStep mark = (mark ≡ Other)
+    ⊎ ((roll : RollType) × (second : Bool) × (ttl : ℕ) × (mark ≡ Report roll second ttl))
+
+no-step : (roll : RollType) (mark : Mark) → HasNoStep mark → is_step roll mark ≡ false
+no-step roll mark none = elim none [
+  | inl other ↦ ap (is_step roll) other
+  | inr report ↦ ap (is_step roll) report.3
+]
+
+pub goes-on : (old : Reached) (mark : Mark) (at : ℕ) → at ≡ old.calls + 1 → HasNoStep mark
+    → (entries : List Entry) (e : Entry) → e.mark ≡ mark → Reaches entries old
+    → Reaches (entries ++ e ∷ []) (record { calls = at; steps = old.steps })
+goes-on old mark at next none entries e same so =
+    reaches-more entries e old (record { calls = at; steps = old.steps }) mark at next refl
+    (λ roll. let no : is_step roll mark ≡ false = no-step roll mark none in
+    λ i. if sym no i then Some at else step_in old roll)
+    same so
+
 module _ {E : Type 0} where
   -- the steps after a call, kept with its number
   pub counted : (r : Result Reached E) (old : Reached) (steps : Steps) (mark : Mark) (at : ℕ)
@@ -49,15 +71,3 @@ module _ {E : Type 0} where
   counted (Ok n) old steps mark at next is kept after = λ entries e same so.
       reaches-more entries e old n mark at next is (λ roll. kept roll ∙ after roll) same so
   counted (Err e) old steps mark at next is kept after = tt
-
-  -- a copy of the steps, kept with the same number
-  pub copied-steps : (r : Result Reached E) (old : Reached) (steps : Steps)
-      → IfOk r (λ (n : Reached). n.calls ≡ old.calls)
-      → IfOk r (λ (n : Reached). (roll : RollType) → step_in n roll ≡ step_of steps roll)
-      → ((roll : RollType) → step_of steps roll ≡ step_in old roll)
-      → IfOk r (λ (n : Reached). (entries : List Entry) → Reaches entries old → Reaches entries n)
-  copied-steps (Ok n) old steps is kept same = λ entries so. record {
-    calls = is ∙ so.calls;
-    steps = λ roll. kept roll ∙ same roll ∙ so.steps roll;
-  }
-  copied-steps (Err e) old steps is kept same = tt
