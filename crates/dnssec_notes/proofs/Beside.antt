@@ -3,6 +3,7 @@ use Rattle.std.proofs.Common.{◌≡◌, ℕ, ◌≤◌, ◌∙◌, sym, ap, sub
 use Rattle.std.proofs.Common.{Option, None, Some, Bool, true, false, map, length}
 use Rattle.std.specs.Prelude.{if◌then◌else◌, nat_lt}
 use Rattle.std.proofs.lemmas.List.{map-append}
+use Rattle.std.proofs.lemmas.Bool.{true≢false}
 use Rattle.std.proofs.lemmas.Option.{none-some, same_Some}
 use Rattle.dnssec_key.specs.declared.roll.RollType.{RollType}
 use Rattle.dnssec_keyset.specs.KeySet.{KeySetParts}
@@ -40,8 +41,8 @@ made-parts false rest e = (refl, e)
 
 still-made : (b : Bool) (rest : Option NoteFault) → b ≡ false → rest ≡ None
     → (if b then Some CallNotMade else rest) ≡ None
-still-made true rest no none = none
-still-made false rest no none = none
+still-made true rest off e = absurd (true≢false off)
+still-made false rest off e = e
 
 news-outlast : (calls more : ℕ) (newest : Newest) (news : News) → calls ≤ more
     → news_refusal calls newest news ≡ None → news_refusal more newest news ≡ None

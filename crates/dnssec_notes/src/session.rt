@@ -35,6 +35,7 @@ pub struct SessionNotes {
 }
 
 impl Model for SessionNotes {
+    ghost use Rattle.std.specs.Option.{option_map};
     ghost use Rattle.std.specs.Prelude.{Option};
     ghost use Rattle.dnssec_network.specs.Notes.{NotesParts};
 
