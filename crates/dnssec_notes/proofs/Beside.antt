@@ -1,6 +1,7 @@
 -- Notes beside a session: what is taken after one more line, and after more calls.
 use Rattle.std.proofs.Common.{◌≡◌, ℕ, ◌≤◌, ◌∙◌, sym, ap, subst, refl, arith, List, [], ◌∷◌, ◌++◌}
 use Rattle.std.proofs.Common.{Option, None, Some, Bool, true, false, map, length}
+use Rattle.std.specs.Option.{option_map}
 use Rattle.std.specs.Prelude.{if◌then◌else◌, nat_lt}
 use Rattle.std.proofs.lemmas.List.{map-append}
 use Rattle.std.proofs.lemmas.Bool.{true≢false}
@@ -159,3 +160,12 @@ due-after s steps set noted seconds text is so wrote lines (first ∷ notes) ent
           ∙ (λ i. due_text (world_at stands.name stands.calls entries n).set.rolls
           (λ roll. last roll i) noted.before noted.facts seconds);
     }
+
+-- ---- what a session's notes keep
+
+-- the value of the box that is kept
+pub shown : {B : Type 0} (value : B → NotesParts) (kept : Option B) (b : B)
+    (now : Option NotesParts) (noted : NotesParts) → option_map value kept ≡ now → kept ≡ Some b
+    → noted ≡ value b → now ≡ Some noted
+shown value kept b now noted view is same =
+    sym view ∙ ap (option_map value) is ∙ ap Some (sym same)
