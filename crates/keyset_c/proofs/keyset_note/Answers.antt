@@ -15,7 +15,7 @@ returns-clause-noted c = λ noted. record {
 }
 
 pub returns-clause-refused : goal.returns-clause-refused
-returns-clause-refused c = λ other open. record {
+returns-clause-refused c = λ other still. record {
   kept = c.in-Some.kept.value;
   is = c.in-Some.ensures.taken;
   refuses = subst (λ (k : Kept). RefusesLine k c.args.line.now c.note-status.result)
