@@ -46,7 +46,10 @@ enum {
     KEYSET_OUT_OF_MEMORY = 3, /* the library got no memory */
     KEYSET_SHORT = 4,         /* the answer is longer than `out` */
     KEYSET_CLOSED = 5,        /* the session is closed */
-    KEYSET_IS_OPEN = 6        /* the session is open */
+    KEYSET_IS_OPEN = 6,       /* the session is open */
+    KEYSET_NO_SUCH_CALL = 7,  /* a line of notes has the sets of a call that wasn't made yet */
+    KEYSET_SEEN_EARLY = 8,    /* a line of notes: seen everywhere before it was published */
+    KEYSET_MOMENT_FALLS = 9   /* a line of notes: its moment lies before the last one */
 };
 
 struct keyset_answered {
@@ -123,8 +126,31 @@ struct keyset_answered keyset_closing(struct keyset_session *session, uint8_t *o
 struct keyset_answered keyset_status(struct keyset_session *session, uint8_t *out,
                                      size_t out_length);
 
-/* Opens another session after the same calls, with the same last answer (copied). So you can try a
-   call on it. The first session stays as it is (same). Each may go to a thread of its own.
+/* Takes the next line of the zone's notes, after the calls that the session has made so far: what is
+   published, with which TTL, and when all servers gave it. docs/NOTES.md has the form of the lines.
+   Notes stay when the session makes more calls (notes_outlast_calls).
+
+   answered       the line is taken (noted)
+   malformed      it is no line of notes; the first one begins with `before`
+   no such call, seen early, moment falls
+                  its fact can't follow those before it
+   out of memory  asking again may help
+   closed         the session is closed (closed)
+
+   Unless it is answered, the session and its notes are as they were (unchanged), and the status says
+   why (refused). */
+uint32_t keyset_note(struct keyset_session *session, const uint8_t *line, size_t line_length);
+
+/* Writes the reports that the rolls wait for, as they would be made at this second since 1970: a line
+   for each, in the form that docs/NOTES.md has. They are those that the program keyset_notes answers
+   for the lines of the session and of its notes (told). A session without notes is malformed
+   (no_notes). Else it is as the three functions above. */
+struct keyset_answered keyset_due(struct keyset_session *session, uint64_t seconds, uint8_t *out,
+                                  size_t out_length);
+
+/* Opens another session after the same calls, with the same last answer and the same notes (copied).
+   So you can try a call on it. The first session stays as it is (same). Each may go to a thread of
+   its own.
 
    answered       the other session is open
    out of memory  asking again may help

@@ -11,6 +11,7 @@
    come here: -Wl,--wrap=malloc,--wrap=realloc,--wrap=free */
 
 #define _GNU_SOURCE
+#include "border.h"
 #include "reader.h"
 
 #include <keyset.h>
@@ -24,7 +25,6 @@
 #define THREADS 4
 #define ROUNDS 8
 #define REFUSED "refused: out of memory\n"
-#define FILLER 0xA5
 /* How often each script is damaged, and what is put in. */
 #define DAMAGES 200
 static const char *const PIECES[] = {
@@ -33,72 +33,11 @@ static const char *const PIECES[] = {
     "000000000000000000001", "yes", "ED448", "abort ", "zone ", "CSK-roll",
 };
 
-void *__real_malloc(size_t size);
-void *__real_realloc(void *block, size_t size);
-void __real_free(void *block);
-
-/* What the library asks for while it is called: how often it asks, which request has to fail, and
-   how many blocks it holds. */
-static _Thread_local struct {
-    bool is_called;
-    size_t made, failing, held;
-} requests;
-
-static bool is_to_fail(void)
-{
-    return requests.is_called && ++requests.made == requests.failing;
-}
-
-void *__wrap_malloc(size_t size)
-{
-    void *block = is_to_fail() ? NULL : __real_malloc(size);
-    requests.held += requests.is_called && block != NULL;
-    return block;
-}
-
-void *__wrap_realloc(void *block, size_t size)
-{
-    void *grown = is_to_fail() ? NULL : __real_realloc(block, size);
-    requests.held += requests.is_called && block == NULL && grown != NULL;
-    return grown;
-}
-
-void __wrap_free(void *block)
-{
-    requests.held -= requests.is_called && block != NULL;
-    __real_free(block);
-}
-
 struct stored {
     const char *name;
     const char *script, *answer;
     size_t script_length, answer_length;
 };
-
-static void expect(bool holds, const char *what, const char *name)
-{
-    if (!holds) {
-        fprintf(stderr, "%s: not as expected: %s\n", name, what);
-        exit(EXIT_FAILURE);
-    }
-}
-
-/* A buffer of this length, of its own, so that a checker of memory sees what is past its end. */
-static uint8_t *filled(size_t length)
-{
-    uint8_t *bytes = malloc(length > 0 ? length : 1);
-    expect(bytes != NULL, "memory for a buffer", "library");
-    memset(bytes, FILLER, length);
-    return bytes;
-}
-
-static bool is_filled(const uint8_t *bytes, size_t length)
-{
-    for (size_t i = 0; i < length; i++)
-        if (bytes[i] != FILLER)
-            return false;
-    return true;
-}
 
 /* A call in which the request of this number fails; with 0 none does. */
 static struct keyset_answered ask(const char *script, size_t length, uint8_t *out, size_t room,

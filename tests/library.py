@@ -24,9 +24,10 @@ from pathlib import Path
 
 import install
 import long
+import noted
 import release
 import sessions
-from tools import CRATES, STRICT, TOP, Wrong, run
+from tools import CRATES, STRICT, TOP, WRAPPED, Wrong, c_flags, run
 
 LIBRARY = TOP / "library"
 PROGRAM = CRATES / "keyset" / "out" / "keyset"
@@ -36,7 +37,6 @@ EXAMPLES = sorted((TOP / "examples").rglob("*.script"))
 
 # What the header declares.
 EXPORTS = set(re.findall(r"^\S.* \*?(keyset_\w+)\(", (LIBRARY / "keyset.h").read_text(), re.M))
-WRAPPED = [f"-Wl,--wrap={name}" for name in ("malloc", "realloc", "free")]
 # Under a checker of memory it would take too long to try each length.
 STEP = 61
 # How often each example is damaged.
@@ -95,10 +95,6 @@ def expect_no_links(folder):
         raise Wrong(f"{folder} has links: {links}")
 
 
-def c_flags(folder):
-    return [f"-I{folder}/include", f"-L{folder}/lib", "-l:libkeyset.a"]
-
-
 def build_in_c(folder, program, *flags, more=()):
     """Builds the tests in C as a program."""
     sources = [TOP / "tests" / name for name in ("library.c", "reader.c", *more)]
@@ -121,6 +117,10 @@ def test_sessions(folder, room):
     return run(build_sessions(folder, room / "sessions"), STORED).strip()
 
 
+def test_notes(folder, room):
+    return run(noted.build(folder, room / "notes"), *noted.EXAMPLE).strip()
+
+
 def test_statuses(folder):
     return run(sys.executable, "-B", TOP / "tests" / "sessions.py", folder).strip()
 
@@ -130,7 +130,9 @@ def under_valgrind(folder, room):
     before += ["--errors-for-leak-kinds=all"]
     library = build_in_c(folder, room / "library", "-g")
     programs = library, build_sessions(folder, room / "sessions", "-g")
-    return "".join(run(*before, program, STORED, STEP) for program in programs).strip()
+    told = [run(*before, program, STORED, STEP) for program in programs]
+    told.append(run(*before, noted.build(folder, room / "notes", "-g"), *noted.EXAMPLE, STEP))
+    return "".join(told).strip()
 
 
 def under_asan(folder, room):
@@ -138,10 +140,12 @@ def under_asan(folder, room):
     try:
         library = build_in_c(folder, room / "library", *flags)
         programs = library, build_sessions(folder, room / "sessions", *flags)
+        notes = noted.build(folder, room / "notes", *flags)
     except Wrong as wrong:
         text = f"{wrong}\nthe C compiler wants its runtime libraries of {flags[1]} here"
         raise Wrong(text) from None
-    return "".join(run(program, STORED, STEP) for program in programs).strip()
+    told = [run(program, STORED, STEP) for program in programs]
+    return "".join([*told, run(notes, *noted.EXAMPLE, STEP)]).strip()
 
 
 CHECKERS = {"valgrind": under_valgrind, "asan": under_asan}
@@ -444,12 +448,16 @@ def test(folder, room):
     yield "library", test_static_buffer(folder, room)
     yield "sessions", test_sessions(folder, room)
     yield "sessions", test_statuses(folder)
+    yield "library", test_notes(folder, room)
     yield "library", test_c_caller(room, "C", c_flags(folder))
     yield "library", test_c_caller(room, "C over the shared object", shared_flags(folder))
     yield "library", test_rust_caller(folder, room)
     yield "library", test_cargo_project(folder, room)
     yield "library", test_python_caller(folder)
+    questions = noted.questions_of_operators()
+    yield "library", noted.test_callers(folder, room, questions)
     keyset = python_module(folder)
+    yield "library", noted.test_in_python(keyset, questions)
     yield "sessions", test_in_python(keyset)
     yield "sessions", test_status_program(keyset)
     yield "library", test_resumed(keyset)

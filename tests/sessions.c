@@ -11,6 +11,8 @@
    realloc and free of the library come here: -Wl,--wrap=malloc,--wrap=realloc,--wrap=free */
 
 #define _GNU_SOURCE
+#include "border.h"
+
 #include <keyset.h>
 
 #include <pthread.h>
@@ -22,7 +24,6 @@
 #define BESIDE 8
 #define COPIES 20000
 #define REFUSED "refused: out of memory\n"
-#define FILLER 0xA5
 /* Room for any answer to a line, and for any status of the stored scripts. */
 #define LINE_ROOM 512
 #define ROOM (1 << 16)
@@ -33,50 +34,6 @@ static const char *const MALFORMED[] = {
     "report1 ksk-roll 4294967296 0", "wait1 ksk-roll 18446744073709551616", "delete \xFF",
 };
 #define MALFORMED_LINES (sizeof MALFORMED / sizeof *MALFORMED)
-
-void *__real_malloc(size_t size);
-void *__real_realloc(void *block, size_t size);
-void __real_free(void *block);
-
-/* What the library asks for while it is called: how often it asks, which request has to fail, and
-   how many blocks it holds. */
-static _Thread_local struct {
-    bool is_called;
-    size_t made, failing, held;
-} requests;
-
-static bool is_to_fail(void)
-{
-    return requests.is_called && ++requests.made == requests.failing;
-}
-
-void *__wrap_malloc(size_t size)
-{
-    void *block = is_to_fail() ? NULL : __real_malloc(size);
-    requests.held += requests.is_called && block != NULL;
-    return block;
-}
-
-void *__wrap_realloc(void *block, size_t size)
-{
-    void *grown = is_to_fail() ? NULL : __real_realloc(block, size);
-    requests.held += requests.is_called && block == NULL && grown != NULL;
-    return grown;
-}
-
-void __wrap_free(void *block)
-{
-    requests.held -= requests.is_called && block != NULL;
-    __real_free(block);
-}
-
-static void expect(bool holds, const char *what, const char *name)
-{
-    if (!holds) {
-        fprintf(stderr, "%s: not as expected: %s\n", name, what);
-        exit(EXIT_FAILURE);
-    }
-}
 
 struct stored {
     const char *name;
@@ -157,23 +114,6 @@ static void close_session(struct keyset_session *session)
 }
 
 /* ---- what is expected */
-
-/* A buffer of this length, of its own, so that a checker of memory sees what is past its end. */
-static uint8_t *filled(size_t length)
-{
-    uint8_t *bytes = malloc(length > 0 ? length : 1);
-    expect(bytes != NULL, "memory for a buffer", "sessions");
-    memset(bytes, FILLER, length);
-    return bytes;
-}
-
-static bool is_filled(const uint8_t *bytes, size_t length)
-{
-    for (size_t i = 0; i < length; i++)
-        if (bytes[i] != FILLER)
-            return false;
-    return true;
-}
 
 /* The answer to a question, as a new text. */
 static char *answer_of(question asked, struct keyset_session *session)

@@ -8,6 +8,12 @@ CRATES = TOP / "crates"
 
 # How C is compiled, by `cc`.
 STRICT = ["-std=gnu11", "-O2", "-Wall", "-Wextra", "-Werror", "-pthread"]
+WRAPPED = [f"-Wl,--wrap={name}" for name in ("malloc", "realloc", "free")]
+
+
+def c_flags(folder):
+    """The flags for the library that `make lib` has left in a folder."""
+    return [f"-I{folder}/include", f"-L{folder}/lib", "-l:libkeyset.a"]
 
 
 class Wrong(Exception):

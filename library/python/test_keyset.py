@@ -9,6 +9,7 @@ from pathlib import Path
 from keyset import (
     Action,
     Damaged,
+    Due,
     KeySet,
     Locked,
     Malformed,
@@ -78,6 +79,27 @@ class Calls(unittest.TestCase):
                 KeySet(zone)
         with self.assertRaises(Malformed):
             KeySet.resume("")
+
+    def test_notes_say_which_reports_are_due(self):
+        keys = after(FIRST[:2])
+        with self.assertRaises(Malformed):
+            keys.due(9)
+        keys.note("before 60 7200 3600")
+        published = ["published dnskey 3 3600 10", "published zone 3 3600 10"]
+        with self.assertRaises(Malformed) as early:
+            keys.note(published[0])
+        self.assertEqual(str(early.exception), "line 2: malformed: no such call yet")
+        keys.call(FIRST[2])
+        for line, due in zip(published, (Due("report1", ROLL, None, "zone"), None)):
+            keys.note(line)
+            kind = line.split(" ")[1]
+            with self.assertRaises(Malformed) as early:
+                keys.note(f"everywhere {kind} 9")
+            self.assertEqual(early.exception.reason, "seen before it was published")
+            keys.note(f"everywhere {kind} 30")
+            self.assertEqual(keys.due(40), [due or Due("report1", ROLL, 7190)])
+        keys.call("report1 algorithm-roll 7190 40")
+        self.assertEqual(keys.due(40), [])
 
     def test_a_closed_key_set_is_told_as_such(self):
         keys = after(FIRST[:4])

@@ -21,7 +21,7 @@ use Rattle.dnssec_notes.specs.declared.fault.NotesFault.TheVariants.{Malformed, 
 use Rattle.dnssec_notes.specs.declared.fault.NotesFault.TheVariants.{OutOfMemory}
 
 -- one fact more is taken
-taken-more : (calls : ℕ) (old facts : List Fact) (fact : Fact) → AreTaken calls old facts
+pub taken-more : (calls : ℕ) (old facts : List Fact) (fact : Fact) → AreTaken calls old facts
     → refusal calls (old ++ facts) fact ≡ None → AreTaken calls old (facts ++ fact ∷ [])
 taken-more calls old [] fact taken here =
     (subst (λ fs. refusal calls fs fact ≡ None) (append-nil old) here, tt)

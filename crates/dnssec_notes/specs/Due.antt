@@ -4,19 +4,22 @@ use Rattle.std.specs.Prelude.{decimal, Option, None, Some, Result, Ok, Err}
 use Rattle.std.specs.List.{flat_map}
 use Rattle.dnssec_key.specs.declared.roll.RollType.{RollType}
 use Rattle.dnssec_key.specs.Texts.{roll_name}
-use Rattle.dnssec_keyset.specs.KeySet.{KeySetParts}
 use Rattle.dnssec_zone.specs.Rolls.{Rolls, all_rolls, phase_of}
+use Rattle.dnssec_run.specs.declared.call.Call.{Call}
 use Rattle.dnssec_run.specs.declared.record.Entry.{Entry}
 use Rattle.dnssec_run.specs.declared.caches.SetKind.{SetKind}
+use Rattle.dnssec_run.specs.Record.{IsRun, world_at}
 use Rattle.dnssec_run.specs.Safe.{base_below}
 use Rattle.dnssec_network.specs.declared.due.DueReport.{DueReport}
 use Rattle.dnssec_network.specs.declared.fact.Before.{Before}
 use Rattle.dnssec_network.specs.declared.fact.Fact.{Fact}
+use Rattle.dnssec_network.specs.Notes.{NotesParts}
 use Rattle.dnssec_network.specs.Reports.{due_report}
-use Rattle.dnssec_record.specs.Answer.{IsRunOf}
-use Rattle.dnssec_record.specs.Script.{lines_of}
+use Rattle.dnssec_record.specs.Script.{AreScript, lines_of}
+use Rattle.dnssec_record.specs.Session.{Stands}
+use Rattle.dnssec_record.specs.declared.session.Session.{Session}
 use Rattle.dnssec_notes.specs.Lines.{kind_name}
-use Rattle.dnssec_notes.specs.Reading.{AreNotes}
+use Rattle.dnssec_notes.specs.Reading.{AreNotes, HasTaken}
 
 -- the word of a report
 abbrev pub report_word : Bool → List ℕ
@@ -53,14 +56,30 @@ due_text rolls step before facts seconds =
 
 -- ---- of a script
 
--- the text has the lines of the reports that are due at this second behind a run of the script, by
--- these notes
-pub record IsDueAnswer (script notes : List ℕ) (seconds : ℕ) (text : List ℕ) : Type 0 where
-  pub set : KeySetParts
+-- the text has the lines of the reports that are due at this second, after a run of the script that
+-- these lines are, by the notes that the others are
+pub record IsDueAfter (lines notes : List (List ℕ)) (seconds : ℕ) (text : List ℕ) : Type 0 where
+  pub name : List ℕ
+  pub calls : List Call
   pub entries : List Entry
   pub before : Before
   pub facts : List Fact
-  pub is_run : IsRunOf script set entries
-  pub are_notes : AreNotes (length entries) (lines_of notes) before facts
-  pub is_text : text ≡ due_text set.rolls (λ roll. base_below entries roll (suc (length entries)))
-      before facts seconds
+  pub is_script : AreScript lines name calls
+  pub is_run : IsRun name calls entries
+  pub are_notes : AreNotes (length entries) notes before facts
+  pub is_text : text ≡ due_text (world_at name calls entries (length entries)).set.rolls
+      (λ roll. base_below entries roll (suc (length entries))) before facts seconds
+
+-- the same of two texts
+abbrev pub IsDueAnswer : List ℕ → List ℕ → ℕ → List ℕ → Type 0
+IsDueAnswer script notes = IsDueAfter (lines_of script) (lines_of notes)
+
+-- ---- of a session with its notes
+
+-- whatever lines the session had, and whatever lines its notes took: the text is that of a run of
+-- the ones by the others; there is none as long as there are no notes
+abbrev pub AnswersDue : Session → Option NotesParts → ℕ → Option (List ℕ) → Type 0
+AnswersDue session noted seconds None = noted ≡ None
+AnswersDue session noted seconds (Some text) =
+    (lines notes : List (List ℕ)) (entries : List Entry) → Stands lines entries session →
+    HasTaken (length entries) notes noted → IsDueAfter lines notes seconds text

@@ -42,14 +42,14 @@ abbrev pub as_position : Form
 as_position = as_number 18446744073709551615
 
 -- what the fields after a word and a kind have to be
-abbrev pub forms_behind : Word → List Form
-forms_behind Published = as_position ∷ as_ttl ∷ as_time ∷ []
-forms_behind Everywhere = as_time ∷ []
+abbrev pub forms_after : Word → List Form
+forms_after Published = as_position ∷ as_ttl ∷ as_time ∷ []
+forms_after Everywhere = as_time ∷ []
 
 -- what such fields say, with their word
-abbrev pub news_behind : Word → List (List ℕ) → Option (Word × List Value)
-news_behind word fields =
-    option_map (λ values. (word, values)) (values_of (forms_behind word) fields)
+abbrev pub news_after : Word → List (List ℕ) → Option (Word × List Value)
+news_after word fields =
+    option_map (λ values. (word, values)) (values_of (forms_after word) fields)
 
 -- the word that stands first, and the fields after it
 abbrev pub word_at : List (List ℕ) → Option (Word × List (List ℕ))
@@ -65,7 +65,7 @@ kind_at (name ∷ fields) = option_map (λ k. (k, fields)) (kind_named name)
 unfoldable pub as_fact : List ℕ → Option (SetKind × (Word × List Value))
 as_fact line =
     option_and_then (λ w.
-    option_and_then (λ k. option_map (λ said. (k.0, said)) (news_behind w.0 k.1)) (kind_at w.1))
+    option_and_then (λ k. option_map (λ said. (k.0, said)) (news_after w.0 k.1)) (kind_at w.1))
     (word_at (fields_of line))
 
 -- news in the words of notes

@@ -1,11 +1,13 @@
 -- Which lines are notes, and which line of other texts is the first that is not.
-use Rattle.std.specs.Prelude.{◌≡◌, ◌⊎◌, ℕ, ◌+◌, ◌<◌, ◌++◌, List, [], ◌∷◌, map, length, take, Option}
-use Rattle.std.specs.Prelude.{None, Some, slice_index_or}
+use Rattle.std.specs.Prelude.{◌≡◌, ◌⊎◌, ℕ, ◌+◌, ◌<◌, ◌≤◌, ◌++◌, List, [], ◌∷◌, map, length, take}
+use Rattle.std.specs.Prelude.{Option, None, Some, slice_index_or}
 use Rattle.dnssec_network.specs.declared.fact.Before.{Before}
 use Rattle.dnssec_network.specs.declared.fact.Fact.{Fact}
 use Rattle.dnssec_network.specs.Notes.{NotesParts, refusal}
 use Rattle.dnssec_record.specs.Script.{lines_of}
 use Rattle.dnssec_notes.specs.Lines.{as_before, as_fact, before_says, fact_says}
+use Rattle.dnssec_notes.specs.declared.fault.LineFault.{LineFault}
+use Rattle.dnssec_notes.specs.declared.fault.LineFault.TheVariants as why
 use Rattle.dnssec_notes.specs.declared.fault.NotesFault.{NotesFault}
 use Rattle.dnssec_notes.specs.declared.fault.NotesFault.TheVariants.{Malformed, Refused}
 use Rattle.dnssec_notes.specs.declared.fault.NotesFault.TheVariants.{OutOfMemory}
@@ -33,11 +35,19 @@ AreNotes calls (first ∷ lines) before facts =
 
 -- ---- other lines
 
--- after these facts a line says no fact, or one that is refused
+-- why a line is not taken after these facts: it says no fact, or one that is refused
+abbrev pub IsFactFault : ℕ → List Fact → List ℕ → LineFault → Type 0
+IsFactFault calls facts line why.Malformed = as_fact line ≡ None
+IsFactFault calls facts line (why.Refused cause) = (fact : Fact)
+    × (as_fact line ≡ Some (fact_says fact)) × (refusal calls facts fact ≡ Some cause)
+IsFactFault calls facts line why.OutOfMemory = Unit {0}
+
+-- the same of a line with its number
 abbrev pub IsLineFault : ℕ → List Fact → List ℕ → ℕ → NotesFault → Type 0
-IsLineFault calls facts line n (Malformed m) = (m ≡ n) × (as_fact line ≡ None)
-IsLineFault calls facts line n (Refused m cause) = (m ≡ n) × ((fact : Fact)
-    × (as_fact line ≡ Some (fact_says fact)) × (refusal calls facts fact ≡ Some cause))
+IsLineFault calls facts line n (Malformed m) =
+    (m ≡ n) × IsFactFault calls facts line why.Malformed
+IsLineFault calls facts line n (Refused m cause) =
+    (m ≡ n) × IsFactFault calls facts line (why.Refused cause)
 IsLineFault calls facts line n OutOfMemory = Unit {0}
 
 -- the first such line after line 1
@@ -71,3 +81,32 @@ pub record HasLine (calls : ℕ) (old : NotesParts) (line : List ℕ) (new : Not
   pub said : as_fact line ≡ Some (fact_says fact)
   pub taken : refusal calls old.facts fact ≡ None
   pub notes : new ≡ record old { facts = old.facts ++ fact ∷ [] }
+
+-- ---- beside a session
+
+-- after so many calls these lines are taken: they are the notes, or there is none yet
+abbrev pub HasTaken : ℕ → List (List ℕ) → Option NotesParts → Type 0
+HasTaken calls [] noted = noted ≡ None
+HasTaken calls (first ∷ lines) noted = (notes : NotesParts) × (noted ≡ Some notes)
+    × AreNotes calls (first ∷ lines) notes.before notes.facts
+
+-- lines that are taken stay so after more calls
+abbrev pub NotesOutlastCalls : Type 0
+NotesOutlastCalls = (calls more : ℕ) (lines : List (List ℕ)) (noted : Option NotesParts) →
+    calls ≤ more → HasTaken calls lines noted → HasTaken more lines noted
+
+-- the notes have this line only
+abbrev pub IsFirstLine : List ℕ → Option NotesParts → Type 0
+IsFirstLine line noted = (before : Before) × (as_before line ≡ Some (before_says before))
+    × (noted ≡ Some (record { before = before; facts = [] }))
+
+-- why a line can't be the first
+abbrev pub IsFirstFault : List ℕ → LineFault → Type 0
+IsFirstFault line why.Malformed = as_before line ≡ None
+IsFirstFault line (why.Refused cause) = ⊥
+IsFirstFault line why.OutOfMemory = Unit {0}
+
+-- why a line is not taken
+abbrev pub IsTakeFault : ℕ → Option NotesParts → List ℕ → LineFault → Type 0
+IsTakeFault calls None line fault = IsFirstFault line fault
+IsTakeFault calls (Some notes) line fault = IsFactFault calls notes.facts line fault

@@ -4,11 +4,19 @@ use Rattle.dnssec_network.specs.Texts.{fault_text}
 use Rattle.dnssec_record.specs.Fault.{script_fault_text}
 use Rattle.dnssec_notes.specs.declared.fault.DueFault.{DueFault}
 use Rattle.dnssec_notes.specs.declared.fault.DueFault.TheVariants.{Script, Notes}
+use Rattle.dnssec_notes.specs.declared.fault.LineFault.{LineFault}
+use Rattle.dnssec_notes.specs.declared.fault.LineFault.TheVariants as line
 use Rattle.dnssec_notes.specs.declared.fault.NotesFault.{NotesFault}
 use Rattle.dnssec_notes.specs.declared.fault.NotesFault.TheVariants.{Malformed, Refused}
 use Rattle.dnssec_notes.specs.declared.fault.NotesFault.TheVariants.{OutOfMemory}
 
--- what is said of notes
+-- what is said of a line
+abbrev pub line_fault_text : LineFault → List ℕ
+line_fault_text line.Malformed = codes "malformed"
+line_fault_text (line.Refused fault) = fault_text fault
+line_fault_text line.OutOfMemory = codes "out of memory"
+
+-- of notes
 abbrev pub notes_fault_text : NotesFault → List ℕ
 notes_fault_text (Malformed n) = codes "line " ++ decimal n ++ codes ": malformed"
 notes_fault_text (Refused n fault) = codes "line " ++ decimal n ++ codes ": " ++ fault_text fault

@@ -1,6 +1,6 @@
 //! Why notes were not read, or a question about reports not answered.
 ghost use Rattle.std.specs.Prelude.{◌≡◌, Some};
-ghost use Rattle.dnssec_notes.specs.Texts.{due_fault_text, notes_fault_text};
+ghost use Rattle.dnssec_notes.specs.Texts.{due_fault_text, line_fault_text, notes_fault_text};
 ghost use Rattle.dnssec_notes.specs.declared.fault.DueFault.TheVariants as due;
 ghost use Rattle.dnssec_notes.specs.declared.fault.NotesFault.TheVariants.{OutOfMemory};
 
@@ -8,6 +8,32 @@ use dnssec_network::NoteFault;
 use dnssec_record::ScriptFault;
 use std::alloc::AllocError;
 use std::fmt;
+
+/// Why a line was not taken as one of notes.
+#[derive(Clone, Copy, Debug, PartialEq)]
+pub enum LineFault {
+    /// It doesn't have the form of a line of notes.
+    Malformed,
+    /// Its fact can't follow those before it.
+    Refused(NoteFault),
+    /// Memory has run out.
+    OutOfMemory,
+}
+
+impl fmt::Display for LineFault {
+    ghost output = { λ fault. Some (line_fault_text fault) };
+
+    /// Writes what a program shows its user, as `seen before it was published`.
+    fn fmt<W: fmt::Write>(&self, f: &mut fmt::Formatter<W>) -> fmt::Result {
+        match self {
+            LineFault::Malformed => f.write_str("malformed"),
+            LineFault::Refused(fault) => write!(f, "{fault}"),
+            LineFault::OutOfMemory => f.write_str("out of memory"),
+        }
+    }
+}
+
+impl std::error::Error for LineFault {}
 
 /// Why a text was not read as notes.
 #[derive(Clone, Copy, Debug, PartialEq)]

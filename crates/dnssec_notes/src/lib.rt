@@ -6,9 +6,11 @@ mod fault;
 mod line;
 mod reading;
 mod reports;
+mod session;
 
 pub use answer::answer_due;
 pub use dnssec_network::{Before, DueReport, Fact, News, NoteFault, Notes, SetKind, Steps};
-pub use fault::{DueFault, NotesFault};
+pub use fault::{DueFault, LineFault, NotesFault};
 pub use reading::read_notes;
 pub use reports::due_lines;
+pub use session::{SessionNotes, notes_outlast_calls};

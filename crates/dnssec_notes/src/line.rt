@@ -3,7 +3,7 @@ ghost use Rattle.std.specs.Prelude.{◌≡◌, List};
 ghost use Rattle.std.specs.Option.{option_map};
 ghost use Rattle.dnssec_record.specs.Script.{values_of};
 ghost use Rattle.dnssec_notes.specs.Lines.{as_before, as_fact, before_forms, before_says};
-ghost use Rattle.dnssec_notes.specs.Lines.{fact_says, kind_at, kind_name, kind_named, news_behind};
+ghost use Rattle.dnssec_notes.specs.Lines.{fact_says, kind_at, kind_name, kind_named, news_after};
 ghost use Rattle.dnssec_notes.specs.Lines.{news_says, word_at, word_named};
 
 use dnssec_network::{Before, Fact, News, SetKind};
@@ -78,13 +78,13 @@ pub(crate) fn read_fact(line: &[u8]) -> Option<Fact>
 {
     let (word, fields) = first_word(Fields::of(line))?;
     let (kind, fields) = first_kind(fields)?;
-    let news = behind(word, fields)?;
+    let news = read_news(word, fields)?;
     Some(Fact { kind, news })
 }
 
 /// What the fields after a word and a kind say.
-fn behind(word: Word, fields: Fields<'_>) -> Option<News>
-    ensures { option_map news_says result ≡ news_behind word fields.entry }
+fn read_news(word: Word, fields: Fields<'_>) -> Option<News>
+    ensures { option_map news_says result ≡ news_after word fields.entry }
 {
     match word {
         Word::Published => published(fields),
@@ -93,7 +93,7 @@ fn behind(word: Word, fields: Fields<'_>) -> Option<News>
 }
 
 fn published(fields: Fields<'_>) -> Option<News>
-    ensures { option_map news_says result ≡ news_behind Word.Published fields.entry }
+    ensures { option_map news_says result ≡ news_after Word.Published fields.entry }
 {
     let (position, fields) = fields.number(u64::MAX)?;
     let (ttl, fields) = fields.ttl()?;
@@ -107,7 +107,7 @@ fn published(fields: Fields<'_>) -> Option<News>
 }
 
 fn everywhere(fields: Fields<'_>) -> Option<News>
-    ensures { option_map news_says result ≡ news_behind Word.Everywhere fields.entry }
+    ensures { option_map news_says result ≡ news_after Word.Everywhere fields.entry }
 {
     let (moment, fields) = fields.time()?;
     fields.end()?;

@@ -2,10 +2,10 @@
 ghost use Rattle.std.specs.Prelude.{◌≡◌, ℕ, List, IfOk, IfErr, OnOk, map};
 ghost use denote.Bor.{now};
 ghost use Rattle.dnssec_record.specs.Script.{lines_of};
-ghost use Rattle.dnssec_notes.specs.Reading.{AreFacts, AreNotes, HasLine, IsFactsFault};
-ghost use Rattle.dnssec_notes.specs.Reading.{IsLineFault, IsNotesFault};
+ghost use Rattle.dnssec_notes.specs.Reading.{AreFacts, AreNotes, HasLine, IsFactFault};
+ghost use Rattle.dnssec_notes.specs.Reading.{IsFactsFault, IsLineFault, IsNotesFault};
 
-use crate::fault::NotesFault;
+use crate::fault::{LineFault, NotesFault};
 use crate::line::{read_before, read_fact};
 use dnssec_network::{Before, NoteFault, Notes};
 use dnssec_record::all_lines;
@@ -71,12 +71,26 @@ fn note_line(notes: &mut Notes, calls: usize, line: &[u8], number: usize) -> Res
     ensures ok { OnOk result (HasLine calls notes.old line.now notes.new) }
     ensures err { IfErr result (IsLineFault calls notes.old.facts line.now number) }
 {
+    match take_fact(notes, calls, line) {
+        Ok(()) => Ok(()),
+        Err(LineFault::Malformed) => Err(NotesFault::Malformed(number)),
+        Err(LineFault::Refused(fault)) => Err(NotesFault::Refused(number, fault)),
+        Err(LineFault::OutOfMemory) => Err(NotesFault::OutOfMemory),
+    }
+}
+
+/// Notes the fact of a line.
+pub(crate) fn take_fact(notes: &mut Notes, calls: usize, line: &[u8]) -> Result<(), LineFault>
+    ensures ok { OnOk result (HasLine calls notes.old line.now notes.new) }
+    ensures err { IfErr result (IsFactFault calls notes.old.facts line.now) }
+    ensures kept { IfErr result (λ _. notes.new ≡ notes.old) }
+{
     match read_fact(line) {
-        None => Err(NotesFault::Malformed(number)),
+        None => Err(LineFault::Malformed),
         Some(fact) => match notes.note(calls, fact.kind, fact.news) {
             Ok(()) => Ok(()),
-            Err(NoteFault::OutOfMemory) => Err(NotesFault::OutOfMemory),
-            Err(fault) => Err(NotesFault::Refused(number, fault)),
+            Err(NoteFault::OutOfMemory) => Err(LineFault::OutOfMemory),
+            Err(fault) => Err(LineFault::Refused(fault)),
         },
     }
 }

@@ -25,6 +25,7 @@ pub mod Texts
 pub mod Reading
 pub mod Running
 pub mod Kept
+pub mod Counted
 pub mod Sessions
 pub mod Judging
 pub mod Answering

@@ -19,7 +19,7 @@ use Rattle.dnssec_record.specs.Output.{published_text, reply_text, set_text, set
 use Rattle.dnssec_record.specs.Script.{AreLinesOf, AreScript, IsLineOf, IsZoneLine, call_says, says}
 use Rattle.dnssec_record.specs.Inner.Reading.{IsOfStatements}
 use Rattle.dnssec_record.specs.Inner.Statement.{statement_says}
-use Rattle.dnssec_record.specs.Session.{Advances, GoesOn, Resumes, Stands, StandsAfter}
+use Rattle.dnssec_record.specs.Session.{Advances, GoesOn, Reaches, Resumes, Stands, StandsAfter}
 use Rattle.dnssec_record.specs.declared.courses.Turn.{Turn}
 use Rattle.dnssec_record.specs.declared.session.Session.{Session}
 use Rattle.dnssec_key.specs.declared.roll.RollType.{RollType}
@@ -53,13 +53,15 @@ folded_more f none calls entries call e same =
 
 -- before the first call
 pub begun : (name : List ℕ) (s : Session) → Records name [] [] s.recorder → Knows [] s.judge
-    → s.courses.listed.items ≡ [] → s.courses.ended.items ≡ [] → StandsAfter name [] [] s
-begun name s records knows listed ended = record {
+    → s.courses.listed.items ≡ [] → s.courses.ended.items ≡ [] → Reaches [] s.reached
+    → StandsAfter name [] [] s
+begun name s records knows listed ended reached = record {
   records = records;
   knows = knows;
   shown = none_shown name s.recorder records;
   listed = ap (map as_listed) listed;
   ended = ended;
+  reached = reached;
 }
 
 -- after one more call
@@ -78,9 +80,11 @@ pub advances : (name : List ℕ) (calls : List Call) (entries : List Entry) (old
     → map as_listed new.courses.listed.items
     ≡ listed_after (map as_listed old.courses.listed.items) turn
     → new.courses.ended.items ≡ ended_after old.courses.ended.items turn
+    → ((entries : List Entry) (e : Entry) → e.mark ≡ outcome.mark → Reaches entries old.reached
+    → Reaches (entries ++ e ∷ []) new.reached)
     → Advances name calls entries call new outcome.reply
 advances name calls entries old new call outcome news so made kept handed judged turn is listed
-    ended =
+    ended reached =
     let e : Entry = record {
       reply = outcome.reply;
       moment = outcome.moment;
@@ -105,6 +109,7 @@ advances name calls entries old new call outcome news so made kept handed judged
         ended = ended ∙ ap (λ (rs : List RollType). ended_after rs turn) so.ended
             ∙ ap (ended_after (ended_by calls entries)) is
             ∙ sym (folded_more ended_after [] calls entries call e so.records.run.count);
+        reached = reached entries e refl so.reached;
       };
       is_reply = refl;
     }
@@ -123,7 +128,7 @@ fits name calls entries call next other reply same so = record {
 
 -- ---- copies
 
--- the text of a set tells no more than its keys
+-- the text of a set says no more than its keys
 abbrev ids_text : List Id → List ℕ
 ids_text [] = codes "-"
 ids_text (id ∷ ids) = id.0 ++ flat_map (λ (i : Id). codes "," ++ i.0) ids
@@ -156,13 +161,15 @@ pub copied : (name : List ℕ) (calls : List Call) (entries : List Entry) (s cop
     → Knows entries copy.judge → HasSameKeys copy.recorder.published s.recorder.published
     → map as_listed copy.courses.listed.items ≡ map as_listed s.courses.listed.items
     → copy.courses.ended.items ≡ s.courses.ended.items
+    → Reaches entries copy.reached
     → StandsAfter name calls entries copy
-copied name calls entries s copy so records knows same listed ended = record {
+copied name calls entries s copy so records knows same listed ended reached = record {
   records = records;
   knows = knows;
   shown = same_sets copy.recorder.published s.recorder.published same ∙ so.shown;
   listed = listed ∙ so.listed;
   ended = ended ∙ so.ended;
+  reached = reached;
 }
 
 -- ---- statements

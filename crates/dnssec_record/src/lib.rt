@@ -8,6 +8,7 @@ mod device;
 mod fault;
 mod fields;
 mod lines;
+mod reached;
 mod script;
 mod session;
 mod statement;

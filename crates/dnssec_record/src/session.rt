@@ -1,11 +1,13 @@
 //! A zone's calls as they come: one at a time, each answered at once.
-ghost use Rattle.std.specs.Prelude.{◌≡◌, ◌∷◌, ℕ, List, [], map, IfOk, IfErr, string_bytes};
+ghost use Rattle.std.specs.Prelude.{◌≡◌, ◌∷◌, ℕ, List, [], length, map, IfOk, IfErr};
+ghost use Rattle.std.specs.Prelude.{string_bytes};
 ghost use Rattle.dnssec_judge.specs.Verdict.{IsVerdict};
 ghost use Rattle.dnssec_record.specs.Answer.{AnswerFault};
 ghost use Rattle.dnssec_record.specs.Inner.Reading.{IsOfStatements};
 ghost use Rattle.dnssec_record.specs.Courses.{as_listed, ended_by, listed_by};
 ghost use Rattle.dnssec_record.specs.Session.{Advances, Closes, FaultOfZone, Stands, StandsAfter};
 ghost use Rattle.dnssec_record.specs.Session.{Resumes, Takes};
+ghost use Rattle.dnssec_run.specs.Steps.{AreStepsOf};
 ghost use Rattle.dnssec_run.specs.declared.call.Call.{Call};
 ghost use Rattle.dnssec_run.specs.declared.record.Entry.{Entry};
 
@@ -13,11 +15,12 @@ use crate::answers::{push_answer, push_chain_line, push_published};
 use crate::courses::{Courses, Listed, Turn};
 use crate::fault::ScriptFault;
 use crate::lines::{read_script, zone};
+use crate::reached::Reached;
 use crate::statement::{Statement, read_line};
 use dnssec_base::Name;
 use dnssec_judge::{Broken, Judge};
 use dnssec_keyset::{KeySet, RollType};
-use dnssec_run::{Call, Published, Recorder, Reply};
+use dnssec_run::{Call, Published, Recorder, Reply, Steps};
 use std::alloc::{AllocError, Global};
 
 /// Up to this many keys a session is fitted to them, so that no call costs more for that than
@@ -54,6 +57,7 @@ pub struct Session {
     recorder: Recorder,
     judge: Judge,
     courses: Courses,
+    reached: Reached,
 }
 
 impl Session {
@@ -119,6 +123,7 @@ impl Session {
                 recorder: Recorder::new(alloc, name),
                 judge,
                 courses: Courses::new(alloc),
+                reached: Reached::new(),
             }),
             Err(_) => Err(AllocError),
         }
@@ -141,10 +146,12 @@ impl Session {
             return Err(AllocError);
         };
         let courses = self.courses.try_clone(alloc)?;
+        let reached = self.reached.try_clone(alloc)?;
         Ok(Session {
             recorder,
             judge,
             courses,
+            reached,
         })
     }
 
@@ -182,6 +189,7 @@ impl Session {
             mut recorder,
             judge,
             mut courses,
+            reached,
         } = self;
         let turn = Turn::of(&call);
         let Ok(outcome) = recorder.advance(alloc, call) else {
@@ -192,10 +200,12 @@ impl Session {
             return Err(AllocError);
         };
         courses.take(alloc, turn.after(&outcome.reply))?;
+        let reached = reached.after(alloc, outcome.mark)?;
         let session = Session {
             recorder,
             judge,
             courses,
+            reached,
         };
         Ok((session.fitted(alloc), outcome.reply))
     }
@@ -214,6 +224,7 @@ impl Session {
                 recorder,
                 judge: self.judge,
                 courses: self.courses,
+                reached: self.reached,
             },
             Err(_) => self,
         }
@@ -274,6 +285,22 @@ impl Session {
             StandsAfter name calls entries self.now → result.now ≡ ended_by calls entries }
     {
         self.courses.ended()
+    }
+
+    /// How many calls were made so far, also refused ones: the length of the record.
+    pub fn calls(&self) -> usize
+        ensures { (name : List ℕ) (calls : List Call) (entries : List Entry) →
+            StandsAfter name calls entries self.now → result ≡ length entries }
+    {
+        self.reached.calls()
+    }
+
+    /// The last step of each roll so far: what its next report counts from.
+    pub fn steps(&self) -> Steps
+        ensures { (name : List ℕ) (calls : List Call) (entries : List Entry) →
+            StandsAfter name calls entries self.now → AreStepsOf entries result }
+    {
+        self.reached.steps()
     }
 
     /// The verdict on the record so far: what `audit` answers of it.

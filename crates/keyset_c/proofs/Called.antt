@@ -1,5 +1,5 @@
 -- A session that is kept after a call stands after one line more.
-use Rattle.std.proofs.Common.{◌≡◌, ℕ, List, Option, Some, refl, string_bytes, subst, sym}
+use Rattle.std.proofs.Common.{◌≡◌, ℕ, List, Option, Some, ap, refl, string_bytes, subst, sym, ◌∙◌}
 use Rattle.dnssec_run.specs.declared.record.Entry.{Entry}
 use Rattle.dnssec_record.specs.Session.{GoesOn, Stands}
 use Rattle.keyset_c.specs.Sessions.{Calls}
@@ -10,8 +10,8 @@ pub called : (old new : Option Kept) (line text : List ℕ) (kept before after :
     → old ≡ Some kept → before ≡ kept → new ≡ Some after → string_bytes after.told ≡ text
     → ((lines : List (List ℕ)) (entries : List Entry) → Stands lines entries before.session
     → GoesOn lines entries line after.session (string_bytes after.told))
-    → Calls old new line text
-called old new line text kept before after was same is tells goes = record {
+    → after.notes ≡ before.notes → Calls old new line text
+called old new line text kept before after was same is tells goes notes = record {
   before = kept;
   is_before = was;
   after = after;
@@ -21,4 +21,5 @@ called old new line text kept before after was same is tells goes = record {
       subst (GoesOn lines entries line after.session) tells
       (goes lines entries
       (subst (λ (k : Kept). Stands lines entries k.session) (sym same) stands));
+  notes = notes ∙ ap (λ (k : Kept). k.notes) same;
 }

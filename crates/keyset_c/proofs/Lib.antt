@@ -2,4 +2,5 @@
 -- as a pointer and comes back (Values, and the five proofs by hand under parts and place).
 mod Handed
 pub mod Called
+pub mod Refused
 pub mod Values

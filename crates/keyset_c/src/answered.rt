@@ -1,5 +1,8 @@
 //! How C is answered.
 ghost use Rattle.std.specs.Prelude.{◌≡◌, ◌⊎◌, ◌<◌, ◌≤◌, length, take, drop};
+ghost use Rattle.keyset_c.specs.Sessions.{status_of};
+
+use dnssec_notes::{LineFault, NoteFault};
 
 /// The answer was written.
 pub(crate) const ANSWERED: u32 = 0;
@@ -13,6 +16,12 @@ pub(crate) const SHORT: u32 = 4;
 pub(crate) const CLOSED: u32 = 5;
 /// The session is open.
 pub(crate) const IS_OPEN: u32 = 6;
+/// A line of notes has the sets of a call that wasn't made yet.
+pub(crate) const NO_SUCH_CALL: u32 = 7;
+/// By a line of notes a version was seen everywhere before it was published.
+pub(crate) const SEEN_EARLY: u32 = 8;
+/// A line of notes has a moment before the last one.
+pub(crate) const MOMENT_FALLS: u32 = 9;
 
 /// How a call of the library was answered.
 #[repr(C)]
@@ -26,6 +35,19 @@ pub struct Answered {
     pub length: usize,
     /// Malformed script: the first malformed line, counted from 1. Else 0.
     pub line: usize,
+}
+
+/// The status for a line that notes don't take.
+pub(crate) fn refused(fault: LineFault) -> u32
+    ensures { result ≡ status_of fault }
+{
+    match fault {
+        LineFault::Malformed => MALFORMED,
+        LineFault::Refused(NoteFault::CallNotMade) => NO_SUCH_CALL,
+        LineFault::Refused(NoteFault::SeenBeforePublished) => SEEN_EARLY,
+        LineFault::Refused(NoteFault::MomentFalls) => MOMENT_FALLS,
+        LineFault::Refused(NoteFault::OutOfMemory) | LineFault::OutOfMemory => OUT_OF_MEMORY,
+    }
 }
 
 /// A status without an answer.

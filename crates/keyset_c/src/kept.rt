@@ -1,9 +1,11 @@
 //! What a session of C keeps.
+use dnssec_notes::SessionNotes;
 use dnssec_record::Session;
 
-/// A session, and the line that it answered last.
+/// A session, the line that it answered last, and the notes beside it.
 #[derive(Drop)]
 pub struct Kept {
     pub(crate) session: Session,
     pub(crate) told: String,
+    pub(crate) notes: SessionNotes,
 }

@@ -11,7 +11,8 @@ ghost use Rattle.dnssec_record.specs.Script.{IsFirstMalformed, IsScript, IsZoneL
 ghost use Rattle.dnssec_run.specs.declared.call.Call.{Call};
 ghost use Rattle.keyset_c.specs.Answered.{TextEndsSafe, IsAnswerOfLength, StaysSafeIfPlain};
 ghost use Rattle.keyset_c.specs.Handles.{IsWhole, kept_by};
-ghost use Rattle.keyset_c.specs.Sessions.{Calls, CallsAtLength, ClosesWith, Copies, Opens, Repeats};
+ghost use Rattle.keyset_c.specs.Sessions.{Calls, CallsAtLength, ClosesWith, Copies, LacksNotes};
+ghost use Rattle.keyset_c.specs.Sessions.{Notes, Opens, RefusesNote, Repeats, ShowsDue};
 ghost use Rattle.keyset_c.specs.Sessions.{ShowsStatus};
 
 mod answered;
@@ -25,7 +26,8 @@ pub use crate::answered::Answered;
 use crate::answered::{ANSWERED, CLOSED, IS_OPEN, MALFORMED, OUT_OF_MEMORY, fault, hand_out};
 pub use crate::handle::Handle;
 use crate::kept::Kept;
-use crate::sessions::{Question, ask, copy_of, put_back, put_next};
+use crate::sessions::{Question, ask, copy_of, note, put_back, put_next};
+use dnssec_notes::SessionNotes;
 use dnssec_record::{ScriptFault, Session, Std, Told, run_script};
 use std::alloc::Global;
 
@@ -112,6 +114,7 @@ pub extern "C" fn keyset_open(alloc: Global, line: &[u8], session: &mut Handle) 
             let kept = Kept {
                 session: opened,
                 told: String::new(alloc),
+                notes: SessionNotes::new(),
             };
             match Box::new(alloc, kept) {
                 Ok(kept) => {
@@ -173,12 +176,14 @@ pub extern "C" fn keyset_call(
     let Kept {
         session: before,
         told,
+        notes,
     } = Box::into_inner(kept);
     match before.call(alloc, line) {
         Ok(Told::Answered(after, text)) => {
             let kept = Kept {
                 session: after,
                 told: text,
+                notes,
             };
             put_next(alloc, session, kept, out)
         }
@@ -186,6 +191,7 @@ pub extern "C" fn keyset_call(
             let kept = Kept {
                 session: same,
                 told,
+                notes,
             };
             put_back(alloc, session, kept)
         }
@@ -242,6 +248,53 @@ pub extern "C" fn keyset_status(alloc: Global, session: &mut Handle, out: &mut [
     ensures silent { result.status ≢ 0 → out.new ≡ out.old }
 {
     ask(alloc, session, Question::Status, out)
+}
+
+/// Takes the next line of the notes beside a session, after the calls that it has made so far.
+///
+/// 0 if it is taken. Else the session is as it was: 1 for a malformed line, 3 for lack of memory, 5
+/// if the session is closed; 7 if no such call was made yet, 8 if a version was seen everywhere
+/// before it was published, 9 for a moment before the last one.
+#[unsafe(no_mangle)]
+pub extern "C" fn keyset_note(alloc: Global, session: &mut Handle, line: &[u8]) -> u32
+    requires { IsWhole session.old }
+    ensures whole { IsWhole session.new }
+    ensures noted { result ≡ 0 → Notes (kept_by session.old) line.now (kept_by session.new) }
+    ensures refused { result ≢ 0 → result ≢ 5 →
+        RefusesNote (kept_by session.old) line.now result }
+    ensures closed { (result ≡ 5) ↔ (kept_by session.old ≡ None) }
+    ensures unchanged { result ≢ 0 → kept_by session.new ≡ kept_by session.old }
+{
+    let Some(mut kept) = session.take(alloc) else {
+        return CLOSED;
+    };
+    let status = note(alloc, &mut *kept, line);
+    session.put(kept);
+    status
+}
+
+/// Writes the reports that are due at this second since 1970, by the notes beside the session. 1 if
+/// there are none.
+#[unsafe(no_mangle)]
+pub extern "C" fn keyset_due(
+    alloc: Global,
+    session: &mut Handle,
+    seconds: u64,
+    out: &mut [u8],
+) -> Answered
+    requires { IsWhole session.old }
+    ensures whole { IsWhole session.new }
+    ensures same { kept_by session.new ≡ kept_by session.old }
+    ensures told { result.status ≡ 0 →
+        ShowsDue seconds (kept_by session.old) (take result.length out.new) }
+    ensures no_notes { result.status ≡ 1 → LacksNotes (kept_by session.old) }
+    ensures fits { result.status ≡ 0 → result.length ≤ length out.new }
+    ensures rest { result.status ≡ 0 → drop result.length out.new ≡ drop result.length out.old }
+    ensures short { result.status ≡ 4 → length out.old < result.length }
+    ensures closed { (result.status ≡ 5) ↔ (kept_by session.old ≡ None) }
+    ensures silent { result.status ≢ 0 → out.new ≡ out.old }
+{
+    ask(alloc, session, Question::Due(seconds), out)
 }
 
 /// Opens another session after the same calls, to try one: 0, or 3 for lack of memory, 5 if the

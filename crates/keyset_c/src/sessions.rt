@@ -6,9 +6,11 @@ ghost use Rattle.dnssec_run.specs.declared.call.Call.{Call};
 ghost use Rattle.dnssec_run.specs.declared.record.Entry.{Entry};
 ghost use Rattle.dnssec_status.specs.Status.{IsStatus};
 ghost use Rattle.keyset_c.specs.Handles.{IsWhole, kept_by};
-ghost use Rattle.keyset_c.specs.Sessions.{Tells};
+ghost use Rattle.keyset_c.specs.Sessions.{IsDueOf, Lacks, NotesLine, RefusesLine, Tells};
 
-use crate::answered::{Answered, CLOSED, MALFORMED, OUT_OF_MEMORY, fault, hand_out};
+use crate::answered::{
+    ANSWERED, Answered, CLOSED, MALFORMED, OUT_OF_MEMORY, fault, hand_out, refused,
+};
 use crate::handle::Handle;
 use crate::kept::Kept;
 use dnssec_record::Session;
@@ -24,6 +26,8 @@ pub(crate) enum Question {
     Closing,
     /// The status of the zone.
     Status,
+    /// The reports that are due at this second since 1970.
+    Due(u64),
 }
 
 /// Answers a question, and leaves the session as it was.
@@ -41,6 +45,7 @@ pub(crate) fn ask(
     ensures fits { result.status ≡ 0 → result.length ≤ length out.new }
     ensures rest { result.status ≡ 0 → drop result.length out.new ≡ drop result.length out.old }
     ensures short { result.status ≡ 4 → length out.old < result.length }
+    ensures missing { result.status ≡ 1 → Lacks question (kept_by session.old) }
     ensures closed { (result.status ≡ 5) ↔ (kept_by session.old ≡ None) }
     ensures silent { result.status ≢ 0 → out.new ≡ out.old }
 {
@@ -56,7 +61,9 @@ pub(crate) fn ask(
 fn tell(alloc: Global, question: Question, kept: &Kept, out: &mut [u8]) -> Answered
     ensures told { result.status ≡ 0 →
         Tells question (Some kept.now) (take result.length out.new) }
-    ensures status { (result.status ≡ 0) ⊎ (result.status ≡ 3) ⊎ (result.status ≡ 4) }
+    ensures missing { result.status ≡ 1 → Lacks question (Some kept.now) }
+    ensures status { (result.status ≡ 0) ⊎ (result.status ≡ 1) ⊎ (result.status ≡ 3)
+        ⊎ (result.status ≡ 4) }
     ensures fits { result.status ≡ 0 → result.length ≤ length out.new }
     ensures rest { result.status ≡ 0 → drop result.length out.new ≡ drop result.length out.old }
     ensures short { result.status ≡ 4 → length out.old < result.length }
@@ -66,10 +73,11 @@ fn tell(alloc: Global, question: Question, kept: &Kept, out: &mut [u8]) -> Answe
         Question::Last => hand_out(kept.told.as_bytes(), out),
         Question::Closing => tell_closing(alloc, &kept.session, out),
         Question::Status => tell_status(alloc, &kept.session, out),
+        Question::Due(seconds) => tell_due(alloc, kept, seconds, out),
     }
 }
 
-/// Lets a session keep this after a call, and writes what it told.
+/// Lets a session keep this after a call, and writes the answer.
 pub(crate) fn put_next(alloc: Global, session: &mut Handle, kept: Kept, out: &mut [u8]) -> Answered
     requires whole { IsWhole session.old }
     requires closed { kept_by session.old ≡ None }
@@ -147,6 +155,38 @@ fn tell_status(alloc: Global, session: &Session, out: &mut [u8]) -> Answered
     }
 }
 
+/// Writes the reports that are due at a second since 1970.
+fn tell_due(alloc: Global, kept: &Kept, seconds: u64, out: &mut [u8]) -> Answered
+    ensures told { result.status ≡ 0 →
+        IsDueOf seconds kept.now (take result.length out.new) }
+    ensures missing { result.status ≡ 1 → kept.now.notes ≡ None }
+    ensures status { (result.status ≡ 0) ⊎ (result.status ≡ 1) ⊎ (result.status ≡ 3)
+        ⊎ (result.status ≡ 4) }
+    ensures fits { result.status ≡ 0 → result.length ≤ length out.new }
+    ensures rest { result.status ≡ 0 → drop result.length out.new ≡ drop result.length out.old }
+    ensures short { result.status ≡ 4 → length out.old < result.length }
+    ensures silent { result.status ≢ 0 → out.new ≡ out.old }
+{
+    match kept.notes.due_now(alloc, &kept.session, seconds) {
+        Ok(Some(text)) => hand_out(text.as_bytes(), out),
+        Ok(None) => fault(MALFORMED),
+        Err(_) => fault(OUT_OF_MEMORY),
+    }
+}
+
+/// Lets the notes take a line: its status.
+pub(crate) fn note(alloc: Global, kept: &mut Kept, line: &[u8]) -> u32
+    ensures noted { result ≡ 0 → NotesLine kept.old line.now kept.new }
+    ensures refused { result ≢ 0 → RefusesLine kept.old line.now result }
+    ensures unchanged { result ≢ 0 → kept.new ≡ kept.old }
+    ensures open { result ≢ 5 }
+{
+    match kept.notes.take_line(alloc, &kept.session, line) {
+        Ok(()) => ANSWERED,
+        Err(fault) => refused(fault),
+    }
+}
+
 /// A copy of what a session keeps.
 pub(crate) fn copy_of(alloc: Global, kept: &Kept) -> Result<Box<Kept>, AllocError>
     ensures stands { IfOk result (λ copy.
@@ -155,10 +195,12 @@ pub(crate) fn copy_of(alloc: Global, kept: &Kept) -> Result<Box<Kept>, AllocErro
         StandsAfter name calls entries copy.value.session) }
     ensures told { IfOk result (λ copy.
         string_bytes copy.value.told ≡ string_bytes kept.now.told) }
+    ensures notes { IfOk result (λ copy. copy.value.notes ≡ kept.now.notes) }
 {
     let copy = Kept {
         session: kept.session.try_clone(alloc)?,
         told: kept.told.clone()?,
+        notes: kept.notes.try_clone(alloc)?,
     };
     match Box::new(alloc, copy) {
         Ok(copy) => Ok(copy),

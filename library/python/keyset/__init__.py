@@ -16,6 +16,7 @@ from .notes import Notes
 from .values import (
     Action,
     Broken,
+    Due,
     Key,
     Malformed,
     Published,
@@ -32,6 +33,7 @@ __all__ = [
     "Action",
     "Broken",
     "Damaged",
+    "Due",
     "Key",
     "KeySet",
     "Lines",

@@ -16,7 +16,7 @@ import weakref
 from pathlib import Path
 
 from .lines import why_malformed
-from .values import Malformed, Unavailable
+from .values import Due, Malformed, Unavailable
 
 # The version of the library's interface: KEYSET_VERSION of its header.
 INTERFACE = 2
@@ -24,6 +24,13 @@ INTERFACE = 2
 TREE = Path(__file__).resolve().parents[3]
 LIBRARIES = (TREE / "library" / "out" / "lib" / "libkeyset.so", TREE / "lib" / "libkeyset.so")
 ANSWERED, MALFORMED, OUT_OF_MEMORY, SHORT, CLOSED = 0, 1, 3, 4, 5
+# Why a line of notes isn't taken.
+NOT_TAKEN = {
+    MALFORMED: "malformed",
+    7: "no such call yet",
+    8: "seen before it was published",
+    9: "moment before the last one",
+}
 
 
 class _Handle(ctypes.Structure):
@@ -62,6 +69,10 @@ def _library():
     for name in ("keyset_told", "keyset_closing", "keyset_status"):
         getattr(library, name).argtypes = [handle, *text]
         getattr(library, name).restype = _Answered
+    library.keyset_note.restype = ctypes.c_uint32
+    library.keyset_note.argtypes = [handle, *text]
+    library.keyset_due.restype = _Answered
+    library.keyset_due.argtypes = [handle, ctypes.c_uint64, *text]
     library.keyset_copy.restype = ctypes.c_uint32
     library.keyset_copy.argtypes = [handle, handle]
     library.keyset_close.restype = None
@@ -74,7 +85,7 @@ class Session:
     that gets no memory closes it."""
 
     def __init__(self, line):
-        self._begin(1)
+        self._begin(1, 0)
         data = line.encode()
         status = _library().keyset_open(data, len(data), ctypes.byref(self._handle))
         if status == MALFORMED:
@@ -82,10 +93,10 @@ class Session:
         if status:
             raise _fault(status)
 
-    def _begin(self, number):
-        """Begins with a closed handle and the number of the last line. If nobody closes the
+    def _begin(self, number, notes):
+        """Begins with a closed handle and the numbers of the last lines. If nobody closes the
         session, it is closed when it is no longer in use."""
-        self._handle, self._number = _Handle(), number
+        self._handle, self._number, self._notes = _Handle(), number, notes
         close = _library().keyset_close
         self._close = weakref.finalize(self, close, ctypes.byref(self._handle))
 
@@ -110,10 +121,32 @@ class Session:
         ask = functools.partial(library.keyset_status, handle)
         return json.loads(self._answer(ask, library.keyset_status))
 
+    def note(self, line):
+        """Takes the next line of the zone's notes. Notes stay when more calls are made."""
+        data = line.encode()
+        status = _library().keyset_note(ctypes.byref(self._handle), data, len(data))
+        if status in NOT_TAKEN:
+            raise Malformed(self._notes + 1, NOT_TAKEN[status])
+        if status:
+            raise _fault(status)
+        self._notes += 1
+
+    def due(self, moment):
+        """The reports that are due at a second since 1970, by the notes: a line for each."""
+        library, handle = _library(), ctypes.byref(self._handle)
+
+        def ask(*out):
+            return library.keyset_due(handle, moment, *out)
+
+        try:
+            return self._answer(ask, lambda _, *out: ask(*out))
+        except Malformed:
+            raise Malformed(1, NOT_TAKEN[MALFORMED]) from None
+
     def copy(self):
-        """Another session in the same state."""
+        """Another session in the same state, with the same notes."""
         made = Session.__new__(Session)
-        made._begin(self._number)
+        made._begin(self._number, self._notes)
         status = _library().keyset_copy(ctypes.byref(self._handle), ctypes.byref(made._handle))
         if status:
             raise _fault(status)
@@ -146,7 +179,7 @@ class Replay:
     """A key set of the programs: each call runs all lines so far again."""
 
     def __init__(self, line, *more):
-        self._lines = [line, *more]
+        self._lines, self._notes = [line, *more], []
         self._closing = run(self._lines)[-2:]
 
     def call(self, line):
@@ -165,8 +198,20 @@ class Replay:
     def status(self):
         return json.loads(_program("keyset_status", self._kept()))
 
+    def note(self, line):
+        number = len(self._notes) + 1
+        if "\n" in line or not line or line.startswith("due "):
+            raise Malformed(number, NOT_TAKEN[MALFORMED])
+        _program("keyset_notes", [*self._kept(), "", *self._notes, line, "due 0"])
+        self._notes.append(line)
+
+    def due(self, moment):
+        return _program("keyset_notes", [*self._kept(), "", *self._notes, f"due {moment}"])
+
     def copy(self):
-        return Replay(*self._kept())
+        made = Replay(*self._kept())
+        made._notes = list(self._notes)
+        return made
 
     def close(self):
         self._lines = None
@@ -224,12 +269,17 @@ def status(lines):
 def due(lines, notes, moment):
     """The reports that are due at a moment, by the notes: for each roll that waits for one its TTL,
     or None if a set isn't everywhere yet."""
-    told = _program("keyset_notes", [*lines, "", *notes, f"due {moment}"])
-    found = {}
-    for line in told.splitlines():
-        word, roll, *rest = line.removeprefix("not yet: ").split(" ")
-        found[roll] = int(rest[0]) if line.startswith(word) else None
-    return found
+    if _library() is None:
+        told = _program("keyset_notes", [*lines, "", *notes, f"due {moment}"])
+    else:
+        session = _opened(lines[:1])
+        for line in lines[1:]:
+            session.call(line)
+        for line in notes:
+            session.note(line)
+        told = session.due(moment)
+        session.close()
+    return {one.roll.value: one.ttl for one in map(Due.of, told.splitlines())}
 
 
 def _opened(first):

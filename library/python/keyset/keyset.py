@@ -10,6 +10,7 @@ from . import engine, file
 from .values import (
     Action,
     Broken,
+    Due,
     Key,
     Malformed,
     Published,
@@ -224,6 +225,17 @@ class KeySet:
 
     def _make(self, *words):
         return self.call(" ".join(map(str, words)))
+
+    def note(self, line: str) -> None:
+        """Takes the next line of the zone's notes, kept in memory only: keep the lines in a file of
+        your own, as `Notes` does, and hand them in again after you have opened the key set.
+        `Malformed`: it isn't one, or its fact can't follow those before it."""
+        self._session.note(line)
+
+    def due(self, now: float | None = None) -> list[Due]:
+        """The reports that the rolls wait for, as they would be made at this moment, by the
+        notes. `Malformed`: there are none."""
+        return [Due.of(line) for line in self._session.due(_up(now)).splitlines()]
 
     def status(self) -> dict:
         """The status of the zone, read from its JSON: `keys` and `rolls` are taken from it."""

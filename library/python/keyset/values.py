@@ -118,6 +118,26 @@ class Published:
 
 
 @dataclass(frozen=True)
+class Due:
+    """A report that a roll waits for: `report1` or `report2`, and the TTL to report. If it isn't due
+    yet, it has no TTL, but the first kind whose older sets servers may still give: `ds`, `dnskey` or
+    `zone`."""
+
+    call: str
+    roll: RollType
+    ttl: int | None
+    waits_for: str | None = None
+
+    @classmethod
+    def of(cls, line: str) -> Due:
+        """Reads a line of what is due."""
+        call, roll, *rest = line.removeprefix("not yet: ").split(" ")
+        if line.startswith("not yet: "):
+            return cls(call, RollType(roll), None, rest[-1])
+        return cls(call, RollType(roll), int(rest[0]))
+
+
+@dataclass(frozen=True)
 class Broken:
     """The first sets without a chain of trust. They met after call `at`; the other numbers are the
     calls that the DS set, the DNSKEY set and the zone signers are of."""

@@ -56,6 +56,27 @@ impl fmt::Display for Refusal {
     }
 }
 
+/// Why a fact can't follow those before it.
+#[derive(Clone, Copy, Debug, PartialEq, Eq)]
+pub enum NoteRefusal {
+    /// It has the sets of a call that wasn't made yet.
+    NoSuchCall,
+    /// All servers are said to have given a version before it was published.
+    SeenEarly,
+    /// Its moment lies before the last one: a clock was set back, or there are two.
+    MomentFalls,
+}
+
+impl fmt::Display for NoteRefusal {
+    fn fmt(&self, f: &mut fmt::Formatter<'_>) -> fmt::Result {
+        f.write_str(match self {
+            NoteRefusal::NoSuchCall => "no such call yet",
+            NoteRefusal::SeenEarly => "seen before it was published",
+            NoteRefusal::MomentFalls => "moment before the last one",
+        })
+    }
+}
+
 /// Why a call or a question has no answer. Nothing has changed.
 #[derive(Debug)]
 pub enum Error {
@@ -65,6 +86,11 @@ pub enum Error {
     Wait { seconds: u64 },
     /// This line of the script, counted from 1, doesn't have the form of a line.
     Malformed { line: usize },
+    /// This line of the notes, counted from 1, doesn't have the form of a line; or it isn't there
+    /// yet.
+    MalformedNote { line: usize },
+    /// The fact on this line of the notes, counted from 1, isn't taken.
+    RefusedNote { line: usize, refusal: NoteRefusal },
     /// The call may be made again.
     OutOfMemory,
     /// The file can't be read or written, or another program has it.
@@ -90,6 +116,8 @@ impl fmt::Display for Error {
             Error::Refused(refusal) => write!(f, "refused: {refusal}"),
             Error::Wait { seconds } => write!(f, "refused: {EARLY}{seconds}s"),
             Error::Malformed { line } => write!(f, "line {line}: malformed"),
+            Error::MalformedNote { line } => write!(f, "notes: line {line}: malformed"),
+            Error::RefusedNote { line, refusal } => write!(f, "notes: line {line}: {refusal}"),
             Error::OutOfMemory => f.write_str("out of memory"),
             Error::Io(error) => error.fmt(f),
         }

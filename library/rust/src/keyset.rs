@@ -2,6 +2,7 @@
 
 use crate::error::Error;
 use crate::file::Lines;
+use crate::notes::{Due, Note};
 use crate::session::Session;
 use crate::status::{Action, Broken, Key, Published, Roll, RollType, Status};
 use std::collections::BTreeMap;
@@ -270,6 +271,19 @@ impl KeySet {
     /// Ends the roll early, before its first report.
     pub fn abort_roll(&mut self, roll: RollType) -> Result<Vec<Action>, Error> {
         self.call(&format!("abort {roll}"))
+    }
+
+    /// Takes the next line of the zone's notes. They are kept in memory only: keep their lines in a
+    /// file of your own, each before you go on, and hand them in again after you have opened the key
+    /// set.
+    pub fn note(&mut self, note: Note) -> Result<(), Error> {
+        self.session.note(&note.to_string())
+    }
+
+    /// The reports that the rolls wait for, as they would be made at this moment, by the notes.
+    pub fn due(&mut self, now: u64) -> Result<Vec<Due>, Error> {
+        let lines = self.session.due(now)?;
+        Ok(lines.lines().filter_map(Due::read).collect())
     }
 
     /// The status of the zone, which the questions below read.

@@ -22,11 +22,13 @@ mod error;
 mod file;
 mod json;
 mod keyset;
+mod notes;
 mod session;
 mod status;
 
 pub use self::keyset::{Algorithm, KeySet, NewKey};
-pub use error::{Error, Refusal};
+pub use error::{Error, NoteRefusal, Refusal};
+pub use notes::{Due, Note, SetKind};
 pub use session::{answer, version, Session};
 pub use status::{
     Action, Broken, Key, Kind, Phase, Published, Role, Roll, RollType, Stamps, Status,

@@ -1,6 +1,6 @@
 //! The library's functions, in a value that closes its session.
 
-use crate::error::Error;
+use crate::error::{Error, NoteRefusal};
 use std::ffi::c_void;
 use std::ptr;
 
@@ -25,6 +25,9 @@ mod c {
     pub const ANSWERED: u32 = 0;
     pub const MALFORMED: u32 = 1;
     pub const SHORT: u32 = 4;
+    pub const NO_SUCH_CALL: u32 = 7;
+    pub const SEEN_EARLY: u32 = 8;
+    pub const MOMENT_FALLS: u32 = 9;
 
     extern "C" {
         pub fn keyset_answer(script: *const u8, len: usize, out: *mut u8, room: usize) -> Answered;
@@ -40,6 +43,13 @@ mod c {
         pub fn keyset_told(session: *mut Handle, out: *mut u8, room: usize) -> Answered;
         pub fn keyset_closing(session: *mut Handle, out: *mut u8, room: usize) -> Answered;
         pub fn keyset_status(session: *mut Handle, out: *mut u8, room: usize) -> Answered;
+        pub fn keyset_note(session: *mut Handle, line: *const u8, len: usize) -> u32;
+        pub fn keyset_due(
+            session: *mut Handle,
+            seconds: u64,
+            out: *mut u8,
+            room: usize,
+        ) -> Answered;
         pub fn keyset_copy(session: *mut Handle, copy: *mut Handle) -> u32;
         pub fn keyset_close(session: *mut Handle);
     }
@@ -56,6 +66,7 @@ const CLOSED: c::Handle = c::Handle {
 pub struct Session {
     handle: c::Handle,
     lines: usize,
+    notes: usize,
 }
 
 // SAFETY: what a session shares with its copies is only read, and its owners are counted
@@ -68,7 +79,11 @@ impl Session {
         let mut handle = CLOSED;
         // SAFETY: the pointer is that of the text with its length, and the handle is a closed one.
         match unsafe { c::keyset_open(line.as_ptr(), line.len(), &mut handle) } {
-            c::ANSWERED => Ok(Session { handle, lines: 1 }),
+            c::ANSWERED => Ok(Session {
+                handle,
+                lines: 1,
+                notes: 0,
+            }),
             c::MALFORMED => Err(Error::Malformed { line: 1 }),
             _ => Err(Error::OutOfMemory),
         }
@@ -99,7 +114,53 @@ impl Session {
         self.ask(c::keyset_status)
     }
 
-    /// Another session in the same state.
+    /// Takes the next line of the zone's notes. The first one begins with `before`. Notes stay when
+    /// more calls are made.
+    pub fn note(&mut self, line: &str) -> Result<(), Error> {
+        let number = self.notes + 1;
+        let refused = |refusal| {
+            Err(Error::RefusedNote {
+                line: number,
+                refusal,
+            })
+        };
+        // SAFETY: the pointer is that of the text with its length; only we use the handle.
+        match unsafe { c::keyset_note(&mut self.handle, line.as_ptr(), line.len()) } {
+            c::ANSWERED => {
+                self.notes = number;
+                Ok(())
+            }
+            c::MALFORMED => Err(Error::MalformedNote { line: number }),
+            c::NO_SUCH_CALL => refused(NoteRefusal::NoSuchCall),
+            c::SEEN_EARLY => refused(NoteRefusal::SeenEarly),
+            c::MOMENT_FALLS => refused(NoteRefusal::MomentFalls),
+            _ => Err(Error::OutOfMemory),
+        }
+    }
+
+    /// The reports that are due at this second since 1970, by the notes: a line for each roll that
+    /// waits for one. Without notes the error is `MalformedNote` of their first line.
+    pub fn due(&mut self, seconds: u64) -> Result<String, Error> {
+        let mut out = vec![0; ROOM];
+        loop {
+            // SAFETY: the pointer is that of the slice with its length; only we use the handle.
+            let told = unsafe {
+                let (text, room) = (out.as_mut_ptr(), out.len());
+                c::keyset_due(&mut self.handle, seconds, text, room)
+            };
+            match told.status {
+                c::ANSWERED => {
+                    out.truncate(told.length);
+                    return String::from_utf8(out).map_err(|_| Error::OutOfMemory);
+                }
+                c::SHORT => out.resize(told.length, 0),
+                c::MALFORMED => return Err(Error::MalformedNote { line: 1 }),
+                _ => return Err(Error::OutOfMemory),
+            }
+        }
+    }
+
+    /// Another session in the same state, with the same notes.
     pub fn try_clone(&mut self) -> Result<Self, Error> {
         let mut handle = CLOSED;
         // SAFETY: only we use the two handles, and the second is a closed one.
@@ -107,6 +168,7 @@ impl Session {
             c::ANSWERED => Ok(Session {
                 handle,
                 lines: self.lines,
+                notes: self.notes,
             }),
             _ => Err(Error::OutOfMemory),
         }

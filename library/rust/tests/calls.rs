@@ -1,6 +1,9 @@
 //! What a caller relies on, over the library that `make lib` has made.
 
-use keyset::{version, Action, Algorithm, Error, KeySet, NewKey, Refusal, RollType};
+use keyset::{
+    version, Action, Algorithm, Due, Error, KeySet, NewKey, Note, NoteRefusal, Refusal, RollType,
+    SetKind,
+};
 use std::fs;
 use std::thread;
 
@@ -71,6 +74,47 @@ fn a_malformed_line_is_told() -> Result<(), Error> {
     assert!(KeySet::new("a..b").is_err());
     assert!(KeySet::new("a\nadd-zsk Z1 - 13 1 0 yes").is_err());
     assert!(KeySet::resume("").is_err());
+    Ok(())
+}
+
+#[test]
+fn notes_say_which_reports_are_due() -> Result<(), Error> {
+    let mut keys = after(&FIRST[..2])?;
+    let published = |kind| Note::Published {
+        kind,
+        call: 3,
+        ttl: 3600,
+        moment: 10,
+    };
+    let everywhere = |kind, moment| Note::Everywhere { kind, moment };
+    assert!(matches!(keys.due(9), Err(Error::MalformedNote { line: 1 })));
+    keys.note(Note::Before {
+        ds: 60,
+        dnskey: 7200,
+        zone: 3600,
+    })?;
+    let early = keys.note(published(SetKind::Zone));
+    let refusal = NoteRefusal::NoSuchCall;
+    assert_eq!(
+        early.expect_err("no call 3 yet").to_string(),
+        format!("notes: line 2: {refusal}")
+    );
+    keys.call(FIRST[2])?;
+    let roll = RollType::AlgorithmRoll;
+    for (kind, ttl) in [
+        (SetKind::Dnskey, Err(SetKind::Zone)),
+        (SetKind::Zone, Ok(7190)),
+    ] {
+        keys.note(published(kind))?;
+        let seen = keys.note(everywhere(kind, 9));
+        let refusal = NoteRefusal::SeenEarly;
+        assert!(matches!(seen, Err(Error::RefusedNote { refusal: it, .. }) if it == refusal));
+        keys.note(everywhere(kind, 30))?;
+        let second = false;
+        assert_eq!(keys.due(40)?, [Due { roll, second, ttl }]);
+    }
+    keys.call("report1 algorithm-roll 7190 40")?;
+    assert_eq!(keys.due(40)?, []);
     Ok(())
 }
 

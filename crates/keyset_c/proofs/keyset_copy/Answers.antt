@@ -14,4 +14,5 @@ returns-in-Ok-clause-copied c = λ copied. record {
       c.in-Ok.ensures.stands name calls entries
       (subst (λ (k : Kept). StandsAfter name calls entries k.session) (sym c.deref.ensures) stands);
   tells = c.in-Ok.ensures.told ∙ ap (λ (k : Kept). string_bytes k.told) c.deref.ensures;
+  notes = c.in-Ok.ensures.notes ∙ ap (λ (k : Kept). k.notes) c.deref.ensures;
 }

@@ -10,4 +10,5 @@ returns-in-Ok-new-clause-opened c = λ opened. record {
   is = c.put.ensures.kept;
   stands = subst (λ (k : Kept). Stands (c.args.line.now ∷ []) [] k.session)
       (sym c.in-Ok-new.ensures.ok) c.in-Ok.ensures.ok;
+  notes = ap (λ (k : Kept). k.notes) c.in-Ok-new.ensures.ok ∙ c.new-in-Ok.ensures;
 }

@@ -1,6 +1,7 @@
 -- The lines are due after the run of the script.
 use Rattle.std.proofs.Common.{◌≡◌, ℕ, suc, sym, ap, ◌∙◌, arith, length, List, subst}
 use Rattle.std.specs.Prelude.{vec_len}
+use Rattle.dnssec_keyset.specs.KeySet.{KeySetParts}
 use Rattle.dnssec_run.specs.declared.record.Entry.{Entry}
 use Rattle.dnssec_run.specs.Safe.{base_below}
 use Rattle.dnssec_record.specs.Script.{lines_of}
@@ -12,13 +13,16 @@ pub returns : goal.returns
 returns c =
     let entries = c.in_ok-ran.ran.entries in
     let noted = c.in_ok-noted.noted in
+    let ran = c.in_ok-ran.ensures.ok in
     let count : vec_len entries ≡ length entries.items = omega (arith, entries.ok.0) in
     record {
-      set = c.in_ok-ran.ran.keyset;
+      name = ran.name;
+      calls = ran.calls;
       entries = entries.items;
       before = noted.before;
       facts = noted.facts;
-      is_run = c.in_ok-ran.ensures.ok;
+      is_script = ran.is_script;
+      is_run = ran.is_run;
       are_notes = subst (λ n. AreNotes n (lines_of c.args.notes.now) noted.before noted.facts)
           (c.len.ensures ∙ count) c.in_ok-noted.ensures.ok;
       is_text = c.in_ok-lines.ensures
@@ -26,5 +30,8 @@ returns c =
           (λ roll. c.of_record-steps.ensures roll i) noted.before noted.facts c.args.seconds)
           ∙ ap (λ (es : List Entry). due_text c.in_ok-ran.ran.keyset.rolls
           (λ roll. base_below es roll (suc (length es))) noted.before noted.facts c.args.seconds)
-          c.deref.ensures.value;
+          c.deref.ensures.value
+          ∙ ap (λ (set : KeySetParts). due_text set.rolls
+          (λ roll. base_below entries.items roll (suc (length entries.items))) noted.before
+          noted.facts c.args.seconds) ran.is_set;
     }

@@ -1,6 +1,6 @@
--- What is told is told of what was kept.
+-- What is answered is so of what was kept.
 use Rattle.std.proofs.Common.{Option, Some, ap, subst, sym, take, ◌∙◌}
-use Rattle.keyset_c.specs.Sessions.{Tells}
+use Rattle.keyset_c.specs.Sessions.{Lacks, Tells}
 use Rattle.keyset_c.specs.declared.kept.Kept.{Kept}
 use Rattle.keyset_c.proofs.sessions.ask.Goals as goal
 
@@ -10,3 +10,9 @@ returns-clause-told c = λ answered.
     (take c.tell-answered.result.length c.tell-answered.new.out))
     (ap Some c.deref.ensures ∙ sym c.in-Some.ensures.taken)
     (c.tell-answered.ensures.told answered)
+
+pub returns-clause-missing : goal.returns-clause-missing
+returns-clause-missing c = λ missing.
+    subst (λ (kept : Option Kept). Lacks c.args.question kept)
+    (ap Some c.deref.ensures ∙ sym c.in-Some.ensures.taken)
+    (c.tell-answered.ensures.missing missing)

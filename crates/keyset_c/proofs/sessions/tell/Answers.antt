@@ -1,6 +1,7 @@
 -- Question by question.
 use Rattle.std.proofs.Common.{Some, refl, subst, sym, take, ◌∙◌}
-use Rattle.keyset_c.specs.Sessions.{ClosesWith, Repeats, ShowsStatus, Tells}
+use Rattle.keyset_c.specs.Sessions.{ClosesWith, Lacks, LacksNotes, Repeats, ShowsDue, ShowsStatus}
+use Rattle.keyset_c.specs.Sessions.{Tells}
 use Rattle.keyset_c.specs.declared.sessions.Question.{Question}
 use Rattle.keyset_c.proofs.sessions.tell.Goals as goal
 
@@ -33,3 +34,22 @@ returns-in-Status-clause-told c = λ answered.
       shows = c.tell_status.ensures.told answered;
     } in
     subst (λ (q : Question). Tells q (Some c.args.kept.now) text) (sym c.in-Status.is) told
+
+pub returns-in-Due-clause-told : goal.returns-in-Due-clause-told
+returns-in-Due-clause-told c = λ answered.
+    let text = take c.tell_due.result.length c.tell_due.new.out in
+    let told : ShowsDue c.in-Due.seconds (Some c.args.kept.now) text = record {
+      kept = c.args.kept.now;
+      is = refl;
+      due = c.tell_due.ensures.told answered;
+    } in
+    subst (λ (q : Question). Tells q (Some c.args.kept.now) text) (sym c.in-Due.is) told
+
+pub returns-in-Due-clause-missing : goal.returns-in-Due-clause-missing
+returns-in-Due-clause-missing c = λ missing.
+    let lacks : LacksNotes (Some c.args.kept.now) = record {
+      kept = c.args.kept.now;
+      is = refl;
+      none = c.tell_due.ensures.missing missing;
+    } in
+    subst (λ (q : Question). Lacks q (Some c.args.kept.now)) (sym c.in-Due.is) lacks

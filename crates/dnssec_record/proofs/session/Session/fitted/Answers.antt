@@ -8,3 +8,4 @@ returns-in-Ok c name calls entries stands =
     copied name calls entries c.args.self _ stands
     (c.in-Ok.ensures.records name calls entries stands.records)
     stands.knows c.in-Ok.ensures.same.published refl refl
+    stands.reached

@@ -1,0 +1,18 @@
+-- A further line says a fact.
+use Rattle.std.proofs.Common.{length, subst}
+use Rattle.std.proofs.lemmas.Result.{on_ok_weaker}
+use Rattle.dnssec_notes.specs.Reading.{HasTaken}
+use Rattle.dnssec_notes.proofs.Beside.{shown, taken-line}
+use Rattle.dnssec_notes.proofs.session.SessionNotes.take_line.Goals as goal
+
+pub returns-in-Some-clause-ok : goal.returns-in-Some-clause-ok
+returns-in-Some-clause-ok c =
+    let old = c.deref_mut.result.now in
+    on_ok_weaker c.take_fact.result
+    (λ has name calls entries lines stands taken.
+    taken-line c.calls.result (length entries) lines c.args.line.now old c.take_fact.new.notes
+    (c.calls.ensures name calls entries stands) has
+    (subst (HasTaken (length entries) lines)
+    (shown _ c.self.inside.notes c.in-Some.notes c.args.self.now old c.self.view_is c.in-Some.is
+    c.deref_mut.ensures.value) taken))
+    c.take_fact.ensures.ok

@@ -1,0 +1,88 @@
+/* Says which reports are due by notes, as the program keyset_notes does: it reads a script, an empty
+   line, and the notes, with lines `due SECOND` among them. A session takes each line as it comes.
+
+       cc -o due due.c $(pkg-config --cflags --libs keyset)
+       ./due <../../crates/keyset_notes/stdin */
+
+#include <keyset.h>
+
+#include <stdio.h>
+#include <stdlib.h>
+#include <string.h>
+
+#define ROOM 1024
+
+static struct keyset_session session;
+
+static void give_up(const char *line, uint32_t status)
+{
+    static const char *const causes[] = {
+        [KEYSET_MALFORMED] = "malformed",
+        [KEYSET_OUT_OF_MEMORY] = "out of memory",
+        [KEYSET_SHORT] = "a longer answer than expected",
+        [KEYSET_CLOSED] = "closed",
+        [KEYSET_IS_OPEN] = "open",
+        [KEYSET_NO_SUCH_CALL] = "no such call yet",
+        [KEYSET_SEEN_EARLY] = "seen before it was published",
+        [KEYSET_MOMENT_FALLS] = "moment before the last one",
+    };
+    fprintf(stderr, "%s: %s\n", line, causes[status]);
+    exit(EXIT_FAILURE);
+}
+
+static void expect_answered(const char *line, uint32_t status)
+{
+    if (status != KEYSET_ANSWERED)
+        give_up(line, status);
+}
+
+/* The next line of a script: the first one opens its session. */
+static void take_call(const char *line)
+{
+    uint8_t out[ROOM];
+    const uint8_t *bytes = (const uint8_t *)line;
+    if (!session.is_open)
+        expect_answered(line, keyset_open(bytes, strlen(line), &session));
+    else
+        expect_answered(line, keyset_call(&session, bytes, strlen(line), out, ROOM).status);
+}
+
+/* The next line of its notes, or a question. */
+static void take_note(const char *line, bool *has_answered)
+{
+    uint8_t out[ROOM];
+    if (strncmp(line, "due ", 4) != 0) {
+        expect_answered(line, keyset_note(&session, (const uint8_t *)line, strlen(line)));
+        return;
+    }
+    struct keyset_answered told = keyset_due(&session, strtoull(line + 4, NULL, 10), out, ROOM);
+    expect_answered(line, told.status);
+    if (*has_answered)
+        putchar('\n');
+    *has_answered = true;
+    fwrite(out, 1, told.length, stdout);
+}
+
+int main(void)
+{
+    char *line = NULL;
+    size_t room = 0;
+    ssize_t length;
+    bool is_in_notes = false, has_answered = false;
+
+    while ((length = getline(&line, &room, stdin)) > 0) {
+        line[strcspn(line, "\n")] = '\0';
+        if (*line == '\0') {
+            if (is_in_notes)
+                keyset_close(&session);
+            is_in_notes = !is_in_notes;
+        } else if (is_in_notes) {
+            take_note(line, &has_answered);
+        } else {
+            take_call(line);
+        }
+    }
+    keyset_close(&session);
+    free(line);
+    return EXIT_SUCCESS;
+}
