@@ -114,8 +114,8 @@ are-true network kind base last v e n whole newest (Published at lives moment �
       are-true network kind base at v e (suc n) whole
           (newest_after (Published at lives moment) newest) later given
           (has-on (network.position kind) (network.ttl kind) whole base n at lives moment later has)
-          (follows-on (network.position kind) (network.ttl kind) whole base n newest.published at lives
-          moment later order.0 follows)
+          (follows-on (network.position kind) (network.ttl kind) whole base n newest.published at
+          lives moment later order.0 follows)
           (λ time.
           let more : whole time ≤ reached n (Published at lives moment ∷ later) time = low time in
           let on : reached n (Published at lives moment ∷ later) time ≤ reached (suc n) later time =

@@ -12,7 +12,8 @@ returns-in-Ok-clause-noted c = λ taken. record {
 }
 
 pub returns-in-Err-clause-noted : goal.returns-in-Err-clause-noted
-returns-in-Err-clause-noted c = λ taken. absurd (not_taken c.in-Err.fault (sym c.refused.ensures ∙ taken))
+returns-in-Err-clause-noted c = λ taken.
+    absurd (not_taken c.in-Err.fault (sym c.refused.ensures ∙ taken))
 
 pub returns-in-Err-clause-refused : goal.returns-in-Err-clause-refused
 returns-in-Err-clause-refused c = λ other. record {
