@@ -311,7 +311,7 @@ fn place_of(keys: &[SharedKey], key: &SharedKey) -> usize {
 #[derive(Clone, Copy)]
 pub(crate) struct Trust<'a> {
     pub(crate) holds: bool,
-    /// The key that a search found, if it holds. It is tried first with the next set.
+    /// The key that a search found, if it holds and a list is long. The next test tries it first.
     pub(crate) by: Option<Found<'a>>,
 }
 
@@ -345,6 +345,14 @@ fn find_signer<'a>(dnskey: &[SharedKey], zone: &'a [SharedKey]) -> Option<&'a Sh
     None
 }
 
+/// The key for the next test, if a list is long. Short lists are as fast read anew.
+fn for_next<'a>(key: &'a SharedKey, one: &[SharedKey], other: &[SharedKey]) -> Option<Found<'a>> {
+    if one.len() <= SHORT && other.len() <= SHORT {
+        return None;
+    }
+    Some(Found::new(key))
+}
+
 /// Whether a DS key is in the DNSKEY set and signs it. The key of the test before is tried first:
 /// sets of neighbouring positions mostly hold by the same key. Lists are read to the end only if no
 /// search finds a key. The lists of a run are in order, so for a run this happens at most once.
@@ -368,7 +376,7 @@ pub(crate) fn test_keys<'a>(
     match find_trusted(ds, dnskey, signers) {
         Some(key) => Trust {
             holds: true,
-            by: Some(Found::new(key)),
+            by: for_next(key, ds, dnskey),
         },
         None => Trust {
             holds: has_trusted(ds, dnskey, signers),
@@ -396,7 +404,7 @@ pub(crate) fn test_zone<'a>(
     match find_signer(dnskey, zone) {
         Some(key) => Trust {
             holds: true,
-            by: Some(Found::new(key)),
+            by: for_next(key, zone, dnskey),
         },
         None => Trust {
             holds: has_signer(dnskey, zone),
