@@ -100,11 +100,11 @@ POINTS = (
     ),
     MIXED := Point(
         "a KSK of one algorithm with a ZSK of another",
-        "Give each algorithm in use a KSK and a ZSK, or a CSK",
+        "every algorithm that has a KSK has a ZSK",
     ),
     ONE_SIDE := Point(
         "an algorithm roll of the KSKs only",
-        "An algorithm comes and goes only by an algorithm-roll that lists all its keys",
+        "After each start every algorithm that has a KSK has a ZSK",
     ),
     ALL_AT_ONCE := Point(
         "a zone of two algorithms rolls both at once",
@@ -112,7 +112,7 @@ POINTS = (
     ),
     NOT_IN_USE := Point(
         "a CSK roll brings in an algorithm, by an old key that was never in use",
-        "every other roll lists as old only keys in use",
+        "only an algorithm-roll gives KSKs a new algorithm",
     ),
     BACK_AT_ONCE := Point(
         "a DS set is taken back before the parent has it",
