@@ -99,10 +99,11 @@ def lying(name, roll):
 
 async def ttl_of_the_other(zone):
     a, b = await in_step_keys(zone, "K1", "Z1")
-    a.ttls.dnskey, b.ttls.dnskey = 2, LONGER
+    # (Until each resolver has come to B's servers once, whichever it likes best.)
+    a.ttls.dnskey, b.ttls.dnskey = 2, 2 * LONGER
     await b.publish()
     await b.watch()
-    await asyncio.sleep(LONG / 2)
+    await asyncio.sleep(LONGER / 2)
     await a.make("Z2")
     await b.take_in(*shared(a, ["Z2"]))
     await WithoutTheOther(a, ZSK).whole(["Z1"], ["Z2"])
