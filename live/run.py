@@ -152,10 +152,20 @@ def problem(arguments):
 
 async def main_task(run, limit):
     """The run, which ends at its limit and on a signal."""
-    task = asyncio.current_task()
+    interrupted = asyncio.Event()
     for number in (signal.SIGINT, signal.SIGTERM, signal.SIGHUP):
-        asyncio.get_running_loop().add_signal_handler(number, task.cancel)
-    await asyncio.wait_for(run.run(), limit)
+        asyncio.get_running_loop().add_signal_handler(number, interrupted.set)
+    running = asyncio.ensure_future(run.run())
+    waiting = asyncio.ensure_future(interrupted.wait())
+    await asyncio.wait((running, waiting), timeout=limit, return_when=asyncio.FIRST_COMPLETED)
+    is_late = not (running.done() or waiting.done())
+    # (A task that gets an answer just as it is cancelled may go on: it is cancelled once more.)
+    while not running.done():
+        running.cancel()
+        await asyncio.wait((running,), timeout=0.5)
+    if is_late:
+        raise asyncio.TimeoutError
+    running.result()
 
 
 def main():
