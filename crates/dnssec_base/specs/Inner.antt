@@ -1,6 +1,4 @@
--- Definitions for the inside of the crate. No contract of a public call names them, except that of
--- `KeyTimestamps::write`, which `dnssec_key` calls.
+-- Definitions for the inside of the crate. No contract of a public call names them.
 pub mod Draft
 pub mod DraftName
 pub mod Pieces
-pub mod Stamped

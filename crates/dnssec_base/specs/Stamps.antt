@@ -37,3 +37,11 @@ stamp_named Withdrawn t = t.withdrawn
 abbrev pub first_published : Bool → ℕ → Option ℕ → Option ℕ
 first_published true now None = Some now
 first_published value now before = before
+
+-- the stamps of a key after this one is written
+abbrev pub with_stamp : Stamp → ℕ → Stamps → Stamps
+with_stamp Published moment t = record t { published = Some moment }
+with_stamp Visible moment t = record t { visible = Some moment }
+with_stamp DsVisible moment t = record t { ds_visible = Some moment }
+with_stamp RrsigVisible moment t = record t { rrsig_visible = Some moment }
+with_stamp Withdrawn moment t = record t { withdrawn = Some moment }

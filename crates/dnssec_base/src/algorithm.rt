@@ -1,5 +1,5 @@
 //! Algorithm numbers of DNSSEC, and the names of some.
-ghost use Rattle.std.specs.Prelude.{◌≡◌, ◌↔◌, ◌∷◌, [], IsTrue};
+ghost use Rattle.std.specs.Prelude.{◌≡◌, ◌∷◌, []};
 ghost use Rattle.dnssec_base.specs.AlgorithmNames.{algorithm_named};
 
 use std::marker::Model;
@@ -93,8 +93,3 @@ impl SecurityAlgorithm {
         self.number
     }
 }
-
-/// Algorithms are equal if their numbers are. The function does nothing: its contract is a law.
-pub fn equal_algorithms_are_one(a: &SecurityAlgorithm, b: &SecurityAlgorithm)
-    ensures { IsTrue (⟦<SecurityAlgorithm as PartialEq>⟧.eq a.now b.now) ↔ (a.now ≡ b.now) }
-{}

@@ -1,8 +1,10 @@
 //! What a call refuses.
-ghost use Rattle.std.specs.Prelude.{Some};
+ghost use Rattle.std.specs.Prelude.{◌≡◌, Some};
 ghost use Rattle.dnssec_base.specs.ErrorTexts.{error_text};
+ghost use Rattle.dnssec_base.specs.declared.error.Error.TheVariants.{OutOfMemory};
 
 use crate::text::DurationText;
+use std::alloc::{AllocError, AllocFailed};
 use std::fmt;
 use std::time::Duration;
 
@@ -64,5 +66,23 @@ impl fmt::Display for Error {
             Error::UnknownRollType => f.write_str("unable to parse string as roll type"),
             Error::OutOfMemory => f.write_str("out of memory"),
         }
+    }
+}
+
+impl From<AllocError> for Error {
+    ghost from_gives = { λ _ error. error ≡ OutOfMemory };
+
+    /// So `?` hands on a request for memory that failed.
+    fn from(_: AllocError) -> Self {
+        Error::OutOfMemory
+    }
+}
+
+impl<T: Drop> From<AllocFailed<T>> for Error {
+    ghost from_gives = { λ _ error. error ≡ OutOfMemory };
+
+    /// The same, if a value comes back that found no memory.
+    fn from(_: AllocFailed<T>) -> Self {
+        Error::OutOfMemory
     }
 }

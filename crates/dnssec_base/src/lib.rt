@@ -8,24 +8,24 @@
 #![tactic(auto)]
 
 mod algorithm;
-mod comparisons;
 mod error;
+mod facts_for_proofs;
 mod name;
 mod stamps;
 mod text;
 mod time;
 mod timestamp;
 
-pub use algorithm::{SecurityAlgorithm, equal_algorithms_are_one};
-pub use comparisons::{
-    default_stamps_are_none, equal_errors_are_one, equal_moments_are_one,
+pub use algorithm::SecurityAlgorithm;
+pub use error::Error;
+pub use facts_for_proofs::{
+    default_stamps_are_none, equal_algorithms_are_one, equal_errors_are_one, equal_moments_are_one,
     moments_are_in_order_of_time,
 };
-pub use error::Error;
 pub use name::{
     Name, NameError, one_fault_stands_first, prints_its_spelling, spells_no_fault, spells_one_name,
     spells_unless_fault,
 };
-pub use stamps::{KeyTimestamps, Stamp, Stamped};
+pub use stamps::{KeyTimestamps, Stamp, new_stamps, stamp_named, write_stamp};
 pub use time::UnixTime;
 pub use timestamp::Timestamp;

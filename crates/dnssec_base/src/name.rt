@@ -132,6 +132,7 @@ impl Name<Vec<u8>> {
 impl fmt::Display for Name<Vec<u8>> {
     ghost output = { λ name. Some (name_text name) };
 
+    /// Writes the root as `.`, and else label after label.
     fn fmt<W: fmt::Write>(&self, f: &mut fmt::Formatter<W>) -> fmt::Result {
         let Some((first, mut rest)) = split_label(self.as_slice()) else {
             return f.write_str(".");

@@ -1,7 +1,6 @@
 //! When a key passed the stages of its life.
 ghost use Rattle.std.specs.Prelude.{◌≡◌, Some};
-ghost use Rattle.dnssec_base.specs.Stamps.{stamp_named, first_published, no_stamps};
-ghost use Rattle.dnssec_base.specs.Inner.Stamped.{stamps_with};
+ghost use Rattle.dnssec_base.specs.Stamps.{stamp_named, no_stamps, with_stamp};
 
 use crate::time::UnixTime;
 use std::marker::Model;
@@ -14,16 +13,6 @@ pub enum Stamp {
     DsVisible,
     RrsigVisible,
     Withdrawn,
-}
-
-/// Which stamps an event writes on a key.
-#[derive(Clone, Copy, Debug, Default, PartialEq, Eq)]
-pub struct Stamped {
-    pub published: bool,
-    pub visible: bool,
-    pub ds_visible: bool,
-    pub rrsig_visible: bool,
-    pub withdrawn: bool,
 }
 
 /// When a key passed the stages of its life. A stage that it has not passed has no stamp.
@@ -62,16 +51,6 @@ impl Model for KeyTimestamps {
 }
 
 impl KeyTimestamps {
-    /// The stamps of a key that was made at this moment and has passed no other stage.
-    pub fn of_new_key(creation: UnixTime) -> KeyTimestamps
-        ensures { result ≡ record no_stamps { creation = Some creation } }
-    {
-        KeyTimestamps {
-            creation: Some(creation),
-            ..KeyTimestamps::default()
-        }
-    }
-
     /// When the key was made.
     pub fn creation(&self) -> Option<UnixTime>
         ensures { result ≡ self.now.creation }
@@ -114,80 +93,41 @@ impl KeyTimestamps {
     {
         self.withdrawn
     }
+}
 
-    /// The stamp of this name, if it was written.
-    pub fn at(&self, stamp: Stamp) -> Option<UnixTime>
-        ensures { result ≡ stamp_named stamp self.now }
-    {
-        let moment = match stamp {
-            Stamp::Published => &self.published,
-            Stamp::Visible => &self.visible,
-            Stamp::DsVisible => &self.ds_visible,
-            Stamp::RrsigVisible => &self.rrsig_visible,
-            Stamp::Withdrawn => &self.withdrawn,
-        };
-        *moment
+/// The stamps of a key that was made at this moment and has passed no other stage.
+pub fn new_stamps(creation: UnixTime) -> KeyTimestamps
+    ensures { result ≡ record no_stamps { creation = Some creation } }
+{
+    KeyTimestamps {
+        creation: Some(creation),
+        ..KeyTimestamps::default()
     }
+}
 
-    pub fn with_visible(self, time: UnixTime) -> KeyTimestamps
-        ensures { result ≡ record self { visible = Some time } }
-    {
-        KeyTimestamps {
-            visible: Some(time),
-            ..self
-        }
-    }
+/// The stamp of this name, if it was written.
+pub fn stamp_named(stamps: &KeyTimestamps, stamp: Stamp) -> Option<UnixTime>
+    ensures { result ≡ stamp_named stamp stamps.now }
+{
+    let moment = match stamp {
+        Stamp::Published => &stamps.published,
+        Stamp::Visible => &stamps.visible,
+        Stamp::DsVisible => &stamps.ds_visible,
+        Stamp::RrsigVisible => &stamps.rrsig_visible,
+        Stamp::Withdrawn => &stamps.withdrawn,
+    };
+    *moment
+}
 
-    pub fn with_ds_visible(self, time: UnixTime) -> KeyTimestamps
-        ensures { result ≡ record self { ds_visible = Some time } }
-    {
-        KeyTimestamps {
-            ds_visible: Some(time),
-            ..self
-        }
-    }
-
-    pub fn with_rrsig_visible(self, time: UnixTime) -> KeyTimestamps
-        ensures { result ≡ record self { rrsig_visible = Some time } }
-    {
-        KeyTimestamps {
-            rrsig_visible: Some(time),
-            ..self
-        }
-    }
-
-    /// These stamps once the key is put into the DNSKEY set by hand, or taken out.
-    pub fn first_published(self, value: bool, now: UnixTime) -> KeyTimestamps
-        ensures { result ≡ record self { published = first_published value now self.published } }
-    {
-        if value && self.published.is_none() {
-            KeyTimestamps {
-                published: Some(now),
-                ..self
-            }
-        } else {
-            self
-        }
-    }
-
-    /// Writes these stamps at `now`.
-    pub fn write(&mut self, stamped: Stamped, now: UnixTime)
-        ensures { self.new ≡ stamps_with stamped now self.old }
-    {
-        if stamped.published {
-            self.published = Some(now);
-        }
-        if stamped.visible {
-            self.visible = Some(now);
-        }
-        if stamped.ds_visible {
-            self.ds_visible = Some(now);
-        }
-        if stamped.rrsig_visible {
-            self.rrsig_visible = Some(now);
-        }
-        if stamped.withdrawn {
-            self.withdrawn = Some(now);
-        }
+/// Writes the stamp of this name.
+pub fn write_stamp(stamps: &mut KeyTimestamps, stamp: Stamp, moment: UnixTime)
+    ensures { stamps.new ≡ with_stamp stamp moment stamps.old }
+{
+    match stamp {
+        Stamp::Published => stamps.published = Some(moment),
+        Stamp::Visible => stamps.visible = Some(moment),
+        Stamp::DsVisible => stamps.ds_visible = Some(moment),
+        Stamp::RrsigVisible => stamps.rrsig_visible = Some(moment),
+        Stamp::Withdrawn => stamps.withdrawn = Some(moment),
     }
 }

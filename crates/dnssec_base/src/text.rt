@@ -14,6 +14,7 @@ pub(crate) struct DurationText(pub Duration);
 impl fmt::Display for DurationText {
     ghost output = { λ d. Some (duration_text (as_nanos d.0)) };
 
+    /// Writes whole units, then decimals up to the last that isn't zero, then the unit.
     fn fmt<W: fmt::Write>(&self, f: &mut fmt::Formatter<W>) -> fmt::Result {
         let nanos = self.0.as_nanos();
         let unit = TimeUnit::of(nanos);
@@ -58,6 +59,7 @@ impl TimeUnit {
         }
     }
 
+    /// The unit, as it prints.
     fn name(self) -> &'static str
         ensures { result.now ≡ (in_table self).name }
     {

@@ -105,6 +105,7 @@ impl UnixTime {
         now.since_epoch().saturating_sub(self.since_epoch())
     }
 
+    /// The time since the start of 1970.
     fn since_epoch(&self) -> Duration
         ensures { as_nanos result ≡ self.now }
     {

@@ -7,7 +7,9 @@
 -- | `equal_kinds_are_one`  | `alike_kinds`                | Alike |
 -- | `set`, `clear` of bits | `written`                    | BitWords |
 -- | `retain` in the crates above | `filtered`             | Retained |
+-- | `Writes::write`        | `written`                    | Stampings |
 pub mod Words
 pub mod BitWords
 pub mod Retained
 pub mod Alike
+pub mod Stampings

@@ -1,28 +1,26 @@
 -- The six rolls as columns of one table (RFC 6781, section 4.1; stamps: RFC 7583, section 3). A
--- column says what a start does to a new key. For each half of the roll it says which stamps the
--- report writes, which keys the wait checks, and what the wait does once it is over. It says what
--- an early end takes back, and which actions are due. Tests are on the flags before the call. What
--- a column doesn't name stays as it was.
+-- column says what a start does to a new key; for each half of the roll which stamps the report
+-- writes, which keys the wait checks, and what the wait does once it is over; what an early end
+-- takes back; which actions are due. Tests read the flags before the call. The rest stays.
 use Rattle.std.specs.Prelude.{true, not, if◌then◌else◌, false, Bool, List, ◌||◌, [], ◌∷◌, ℕ, Some}
 use Rattle.std.specs.Prelude.{Option, None}
 use Rattle.dnssec_base.specs.declared.stamps.Stamp.{Stamp}
 use Rattle.dnssec_base.specs.declared.stamps.Stamp.TheVariants.{Visible, DsVisible, RrsigVisible}
-use Rattle.dnssec_base.specs.Stamps.{Stamps}
 use Rattle.dnssec_key.specs.State.{Flags, kept_present, kept_at_parent, old_present, is_any}
 use Rattle.dnssec_key.specs.State.{is_leaving, old_at_parent, kept_signing, old_silent, is_old}
 use Rattle.dnssec_key.specs.declared.kind.KeyType.{KeyType}
 use Rattle.dnssec_key.specs.declared.kind.KeyType.TheVariants.{Ksk, Zsk, Csk, Include}
-use Rattle.dnssec_key.specs.Key.{ksk, zsk, no_key, every_key, ksk_role, zsk_role, any_key, either}
-use Rattle.dnssec_key.specs.Key.{zone_key, KeyParts}
+use Rattle.dnssec_key.specs.Key.{ksk, zsk, every_key, ksk_role, zsk_role, any_key, zone_key}
+use Rattle.dnssec_key.specs.Key.{either, KeyParts}
+pub use Rattle.dnssec_key.specs.Stamping.{Writes, writes_nothing, stamps_after}
 use Rattle.dnssec_key.specs.declared.roll.Half.{Half as HalfOfCode}
 use Rattle.dnssec_key.specs.declared.roll.Action.{Action}
-use Rattle.dnssec_key.specs.declared.roll.Action.TheVariants.{UpdateDnskeyRrset, CreateCdsRrset}
-use Rattle.dnssec_key.specs.declared.roll.Action.TheVariants.{RemoveCdsRrset, UpdateDsRrset}
-use Rattle.dnssec_key.specs.declared.roll.Action.TheVariants.{ReportDnskeyPropagated}
-use Rattle.dnssec_key.specs.declared.roll.Action.TheVariants.{WaitDnskeyPropagated}
-use Rattle.dnssec_key.specs.declared.roll.Action.TheVariants.{ReportDsPropagated, WaitDsPropagated}
-use Rattle.dnssec_key.specs.declared.roll.Action.TheVariants.{UpdateRrsig, ReportRrsigPropagated}
-use Rattle.dnssec_key.specs.declared.roll.Action.TheVariants.{WaitRrsigPropagated}
+use Rattle.dnssec_key.specs.declared.roll.Action.TheVariants.{ReportDnskeyPropagated, UpdateRrsig}
+use Rattle.dnssec_key.specs.declared.roll.Action.TheVariants.{ReportRrsigPropagated, RemoveCdsRrset}
+use Rattle.dnssec_key.specs.declared.roll.Action.TheVariants.{WaitDnskeyPropagated, CreateCdsRrset}
+use Rattle.dnssec_key.specs.declared.roll.Action.TheVariants.{WaitRrsigPropagated, WaitDsPropagated}
+use Rattle.dnssec_key.specs.declared.roll.Action.TheVariants.{ReportDsPropagated, UpdateDnskeyRrset}
+use Rattle.dnssec_key.specs.declared.roll.Action.TheVariants.{UpdateDsRrset}
 use Rattle.dnssec_key.specs.declared.roll.RollType.{RollType}
 use Rattle.dnssec_key.specs.declared.roll.RollType.TheVariants.{KskRoll, KskDoubleDsRoll, ZskRoll}
 use Rattle.dnssec_key.specs.declared.roll.RollType.TheVariants.{ZskDoubleSignatureRoll, CskRoll}
@@ -112,24 +110,6 @@ abbrev pub at_zsk : (Flags → Flags) → KeyType → KeyType
 at_zsk f = only (zsk is_any) (at_roles stays f)
 
 -- ---- the columns
-
--- which stamps an event writes: each on the keys that pass
-pub record Writes : Type 0 where
-  pub published : KeyType → Bool
-  pub visible : KeyType → Bool
-  pub ds_visible : KeyType → Bool
-  pub rrsig_visible : KeyType → Bool
-  pub withdrawn : KeyType → Bool
-
--- no stamp, on no key
-abbrev pub writes_nothing : Writes
-writes_nothing = record {
-  published = no_key;
-  visible = no_key;
-  ds_visible = no_key;
-  rrsig_visible = no_key;
-  withdrawn = no_key;
-}
 
 -- the two halves of a roll
 pub data Half : Type 0 where
@@ -350,17 +330,6 @@ half_of roll First = (column roll).first
 half_of roll Second = (column roll).second
 
 -- ---- the table at one key
-
--- the stamps of a key of this kind after an event at now; what isn't written stays as it was
-abbrev pub stamps_after : Writes → KeyType → ℕ → Stamps → Stamps
-stamps_after writes kind now t = record {
-  creation = t.creation;
-  published = if writes.published kind then Some now else t.published;
-  visible = if writes.visible kind then Some now else t.visible;
-  ds_visible = if writes.ds_visible kind then Some now else t.ds_visible;
-  rrsig_visible = if writes.rrsig_visible kind then Some now else t.rrsig_visible;
-  withdrawn = if writes.withdrawn kind then Some now else t.withdrawn;
-}
 
 -- a key after an event that moves its flags and writes stamps, by its flags before
 abbrev pub key_by : (KeyType → KeyType) → Writes → ℕ → KeyParts → KeyParts

@@ -60,8 +60,9 @@ impl KeyType {
         }
     }
 
-    /// The state by which a key is in the DNSKEY set or not.
-    pub(crate) fn any(&self) -> Option<KeyState>
+    /// The first role of a key of this signer, by which it is in the DNSKEY set or not: of a CSK
+    /// its KSK role.
+    pub(crate) fn first_role(&self) -> Option<KeyState>
         ensures { result ≡ key_state self.now }
     {
         match *self {
@@ -70,8 +71,8 @@ impl KeyType {
         }
     }
 
-    /// The same, for a key that can sign the zone.
-    pub(crate) fn zone_key(&self) -> Option<KeyState>
+    /// The same, only of a key that can sign the zone: a ZSK or a CSK.
+    pub(crate) fn first_role_of_zone_key(&self) -> Option<KeyState>
         ensures { result ≡ zone_key_state self.now }
     {
         match *self {

@@ -25,6 +25,32 @@ pub enum RollType {
     AlgorithmRoll,
 }
 
+/// Which keys a roll changes.
+#[derive(Clone, Copy, Debug, PartialEq, Eq)]
+pub enum Side {
+    /// Only KSKs.
+    KskSide,
+    /// Only ZSKs.
+    ZskSide,
+    /// KSKs, ZSKs and CSKs.
+    BothSides,
+}
+
+/// What a start has to leave on a side that the roll changes: a key that serves.
+#[derive(Clone, Copy, Debug, PartialEq, Eq)]
+pub enum Want {
+    /// A KSK in the DNSKEY set.
+    PresentKsk,
+    /// A KSK with a DS at the parent.
+    KskAtParent,
+    /// A ZSK in the DNSKEY set.
+    PresentZsk,
+    /// A KSK or a CSK in the DNSKEY set.
+    PresentKskRole,
+    /// A ZSK or a CSK in the DNSKEY set.
+    PresentZskRole,
+}
+
 impl FromStr for RollType {
     type Err = Error;
 

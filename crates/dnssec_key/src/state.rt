@@ -1,6 +1,7 @@
 //! The state of a key in one of its roles.
-ghost use Rattle.std.specs.Prelude.{◌≡◌, Some};
-ghost use Rattle.dnssec_key.specs.State.{is_stale, is_fresh};
+ghost use Rattle.std.specs.Prelude.{◌≡◌, Some, false};
+ghost use Rattle.std.specs.Option.{option_map_or};
+ghost use Rattle.dnssec_key.specs.State.{is_stale, is_fresh, kept_present, kept_at_parent};
 ghost use Rattle.dnssec_key.specs.Key.{is_available, new_state};
 ghost use Rattle.dnssec_key.specs.Texts.{ending, state_text};
 
@@ -103,6 +104,20 @@ impl KeyState {
     {
         self.available && !self.old && !self.signer && !self.present && !self.at_parent
     }
+}
+
+/// Whether the role is there, in the DNSKEY set, and not old.
+pub fn is_kept_present(role: Option<KeyState>) -> bool
+    ensures { result ≡ option_map_or kept_present role false }
+{
+    role.is_some_and(|state| !state.old && state.present)
+}
+
+/// Whether the role is there, has to have a DS at the parent, and is not old.
+pub fn is_kept_at_parent(role: Option<KeyState>) -> bool
+    ensures { result ≡ option_map_or kept_at_parent role false }
+{
+    role.is_some_and(|state| !state.old && state.at_parent)
 }
 
 impl fmt::Display for KeyState {

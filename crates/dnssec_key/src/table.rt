@@ -1,295 +1,348 @@
-//! What the steps of each roll do to one key: the rows of the table of rolls.
+//! The table of rolls: each roll is one column, as in `specs/RollTable`. `specs/Sides` has the side
+//! of a roll, what its start asks, and `moves_kept`; `specs/Texts` its name.
 #![tactic(auto, unfolding(crate::specs::RollTable::column))]
 
 ghost use Rattle.std.specs.Prelude.{◌≡◌};
-ghost use Rattle.dnssec_key.specs.RollTable.{which, column, half_of, at_each_role, turns_old};
-ghost use Rattle.dnssec_key.specs.RollTable.{leaves_dnskey};
-ghost use Rattle.dnssec_key.specs.Inner.Stamped.{stamped_on};
+ghost use Rattle.dnssec_key.specs.RollTable.{which, column, half_of};
+ghost use Rattle.dnssec_key.specs.RollTable.{First as TheFirst, Second as TheSecond};
+ghost use Rattle.dnssec_key.specs.Sides.{side_of, wants, may_change_algorithms, wait_moves_kept};
+ghost use Rattle.dnssec_key.specs.Texts.{roll_name};
+ghost use Rattle.dnssec_key.specs.Inner.Columns.{half_roll_of, column_of};
 
-use crate::kind::KeyType;
-use crate::role::{is_kept_at_parent, is_kept_present, is_kept_signing, is_leaving};
-use crate::roll::Half::{First, Second};
-use crate::roll::RollType::{
-    AlgorithmRoll, CskRoll, KskDoubleDsRoll, KskRoll, ZskDoubleSignatureRoll, ZskRoll,
+use crate::column::KeyMove::{AtEachRole, AtEachRoleIf, AtKsk, AtRoles, AtZsk, NoRole};
+use crate::column::KeyTest::{AnyKey, EitherRole, EveryKey, Ksk, KskRole, ZoneKey, Zsk, ZskRole};
+use crate::column::RoleMove::{
+    ComesIn, ComesInSigning, DsComesIn, DsFollows, KeysChangePlaces, LeavesDnskey, LeavesDnskeyIf,
+    LeavesParent, LeavesParentIf, LeavesSilently, LeavesSilentlyIf, SignaturesFollow, Stays,
+    TurnsBack,
 };
-use crate::roll::{Half, RollType};
-use crate::state::KeyState;
-use dnssec_base::{Stamp, Stamped};
+use crate::column::RoleTest::{
+    KeptAtParent, KeptPresent, KeptSigning, LeavingOrKeptAtParent, LeavingOrKeptPresent, Old,
+    OldAtParent, OldPresent, OldSilent,
+};
+use crate::column::Writes::{Nothing, One, Two};
+use crate::column::{Column, HalfRoll};
+use crate::roll::Action::{
+    CreateCdsRrset, RemoveCdsRrset, ReportDnskeyPropagated, ReportDsPropagated,
+    ReportRrsigPropagated, UpdateDnskeyRrset, UpdateDsRrset, UpdateRrsig, WaitDnskeyPropagated,
+    WaitDsPropagated, WaitRrsigPropagated,
+};
+use crate::roll::Side::{BothSides, KskSide, ZskSide};
+use crate::roll::Want::{KskAtParent, PresentKsk, PresentKskRole, PresentZsk, PresentZskRole};
+use crate::roll::{Half, RollType, Side, Want};
+use dnssec_base::Stamp;
+use dnssec_base::Stamp::{DsVisible, Published, RrsigVisible, Visible, Withdrawn};
 
-/// A CSK leaves the DNSKEY set in both its roles.
-fn csk_leaves_dnskey(ksk: &mut KeyState, zsk: &mut KeyState)
-    ensures ksk { ksk.exit.now ≡ leaves_dnskey ksk.entry.now }
-    ensures zsk { zsk.exit.now ≡ leaves_dnskey zsk.entry.now }
-{
-    ksk.leaves_dnskey();
-    zsk.leaves_dnskey();
-}
+/// Double-Signature KSK roll: both sign the DNSKEY set, then the DS moves.
+static KSK_DOUBLE_SIGNATURE: Column = Column {
+    name: "ksk-roll",
+    side: KskSide,
+    wants: &[PresentKsk],
+    changes_algorithms: false,
+    comes: AtKsk(ComesInSigning),
+    writes: One(Published, EveryKey),
+    asks: &[UpdateDnskeyRrset, ReportDnskeyPropagated],
+    goes: AtKsk(LeavesDnskey),
+    returns: AtKsk(TurnsBack),
+    asks_early: &[UpdateDnskeyRrset, WaitDnskeyPropagated],
+    first: HalfRoll {
+        report: One(Visible, Ksk(KeptPresent)),
+        checks: Ksk(LeavingOrKeptPresent),
+        reads: Visible,
+        moves: AtKsk(DsFollows),
+        moves_kept: true,
+        writes: Nothing,
+    },
+    asks_between: &[CreateCdsRrset, UpdateDsRrset, ReportDsPropagated],
+    second: HalfRoll {
+        report: One(DsVisible, Ksk(KeptAtParent)),
+        checks: Ksk(LeavingOrKeptAtParent),
+        reads: DsVisible,
+        moves: AtKsk(LeavesDnskeyIf(OldPresent)),
+        moves_kept: false,
+        writes: One(Withdrawn, Ksk(OldPresent)),
+    },
+    asks_last: &[RemoveCdsRrset, UpdateDnskeyRrset, WaitDnskeyPropagated],
+};
 
-/// The rows.
-impl KeyType {
-    /// A start lists the key as old.
-    pub(crate) fn start_as_old(&mut self)
-        ensures { self.new ≡ at_each_role turns_old self.old }
+/// Double-DS KSK roll: both keys have a DS, then the keys change places.
+static KSK_DOUBLE_DS: Column = Column {
+    name: "ksk-double-ds-roll",
+    side: KskSide,
+    wants: &[KskAtParent],
+    changes_algorithms: false,
+    comes: AtKsk(DsComesIn),
+    writes: Nothing,
+    asks: &[CreateCdsRrset, UpdateDsRrset, ReportDsPropagated],
+    goes: AtKsk(LeavesParent),
+    returns: AtKsk(TurnsBack),
+    asks_early: &[CreateCdsRrset, UpdateDsRrset, WaitDsPropagated],
+    first: HalfRoll {
+        report: One(DsVisible, Ksk(KeptAtParent)),
+        checks: Ksk(KeptAtParent),
+        reads: DsVisible,
+        moves: AtKsk(KeysChangePlaces),
+        moves_kept: true,
+        writes: One(Published, Ksk(KeptAtParent)),
+    },
+    asks_between: &[RemoveCdsRrset, UpdateDnskeyRrset, ReportDnskeyPropagated],
+    second: HalfRoll {
+        report: One(Visible, Ksk(KeptPresent)),
+        checks: Ksk(KeptPresent),
+        reads: Visible,
+        moves: AtKsk(LeavesParentIf(OldAtParent)),
+        moves_kept: false,
+        writes: One(Withdrawn, Ksk(OldAtParent)),
+    },
+    asks_last: &[CreateCdsRrset, UpdateDsRrset, WaitDsPropagated],
+};
+
+/// Pre-Publish ZSK roll: the new key is published before it signs.
+static ZSK_PRE_PUBLISH: Column = Column {
+    name: "zsk-roll",
+    side: ZskSide,
+    wants: &[PresentZsk],
+    changes_algorithms: false,
+    comes: AtZsk(ComesIn),
+    writes: One(Published, EveryKey),
+    asks: &[UpdateDnskeyRrset, ReportDnskeyPropagated],
+    goes: AtZsk(LeavesSilently),
+    returns: AtZsk(TurnsBack),
+    asks_early: &[UpdateDnskeyRrset, WaitDnskeyPropagated],
+    first: HalfRoll {
+        report: One(Visible, Zsk(KeptPresent)),
+        checks: Zsk(KeptPresent),
+        reads: Visible,
+        moves: AtZsk(SignaturesFollow),
+        moves_kept: false,
+        writes: Nothing,
+    },
+    asks_between: &[UpdateRrsig, ReportRrsigPropagated],
+    second: HalfRoll {
+        report: One(RrsigVisible, Zsk(KeptSigning)),
+        checks: Zsk(KeptSigning),
+        reads: RrsigVisible,
+        moves: AtZsk(LeavesSilentlyIf(OldSilent)),
+        moves_kept: false,
+        writes: One(Withdrawn, Zsk(OldSilent)),
+    },
+    asks_last: &[UpdateDnskeyRrset, WaitDnskeyPropagated],
+};
+
+/// Double-Signature ZSK roll: both keys sign the zone for a while.
+static ZSK_DOUBLE_SIGNATURE: Column = Column {
+    name: "zsk-double-signature-roll",
+    side: ZskSide,
+    wants: &[PresentZsk],
+    changes_algorithms: false,
+    comes: AtZsk(ComesInSigning),
+    writes: One(Published, EveryKey),
+    asks: &[
+        UpdateDnskeyRrset,
+        UpdateRrsig,
+        ReportDnskeyPropagated,
+        ReportRrsigPropagated,
+    ],
+    goes: AtZsk(LeavesDnskey),
+    returns: AtZsk(TurnsBack),
+    asks_early: &[
+        UpdateDnskeyRrset,
+        UpdateRrsig,
+        WaitDnskeyPropagated,
+        WaitRrsigPropagated,
+    ],
+    first: HalfRoll {
+        report: Two(Visible, Zsk(KeptPresent), RrsigVisible, Zsk(KeptPresent)),
+        checks: Zsk(KeptPresent),
+        reads: Visible,
+        moves: AtZsk(LeavesDnskeyIf(Old)),
+        moves_kept: false,
+        writes: One(Withdrawn, Zsk(Old)),
+    },
+    asks_between: &[
+        UpdateDnskeyRrset,
+        UpdateRrsig,
+        ReportDnskeyPropagated,
+        ReportRrsigPropagated,
+    ],
+    second: HalfRoll {
+        report: Nothing,
+        checks: Zsk(KeptSigning),
+        reads: RrsigVisible,
+        moves: NoRole,
+        moves_kept: false,
+        writes: Nothing,
+    },
+    asks_last: &[],
+};
+
+/// CSK roll: the DNSKEY set, then DS and signatures.
+static CSK_ROLL: Column = Column {
+    name: "csk-roll",
+    side: BothSides,
+    wants: &[PresentKskRole, PresentZskRole],
+    changes_algorithms: false,
+    comes: AtRoles(ComesInSigning, ComesIn),
+    writes: One(Published, EveryKey),
+    asks: &[UpdateDnskeyRrset, ReportDnskeyPropagated],
+    goes: AtRoles(LeavesDnskey, LeavesSilently),
+    returns: AtEachRole(TurnsBack),
+    asks_early: &[UpdateDnskeyRrset, WaitDnskeyPropagated],
+    first: HalfRoll {
+        report: One(Visible, AnyKey(KeptPresent)),
+        checks: AnyKey(KeptPresent),
+        reads: Visible,
+        moves: AtRoles(DsFollows, SignaturesFollow),
+        moves_kept: true,
+        writes: Nothing,
+    },
+    asks_between: &[
+        CreateCdsRrset,
+        UpdateDsRrset,
+        UpdateRrsig,
+        ReportDsPropagated,
+        ReportRrsigPropagated,
+    ],
+    second: HalfRoll {
+        report: Two(
+            DsVisible,
+            KskRole(KeptPresent),
+            RrsigVisible,
+            ZskRole(KeptSigning),
+        ),
+        checks: ZskRole(KeptSigning),
+        reads: RrsigVisible,
+        moves: AtRoles(LeavesDnskeyIf(OldPresent), LeavesSilentlyIf(OldSilent)),
+        moves_kept: false,
+        writes: One(Withdrawn, EitherRole(OldPresent, OldSilent)),
+    },
+    asks_last: &[RemoveCdsRrset, UpdateDnskeyRrset, WaitDnskeyPropagated],
+};
+
+/// Algorithm roll: keys and signatures at once, then the DS.
+static ALGORITHM_ROLL: Column = Column {
+    name: "algorithm-roll",
+    side: BothSides,
+    wants: &[PresentKskRole, PresentZskRole],
+    changes_algorithms: true,
+    comes: AtEachRole(ComesInSigning),
+    writes: One(Published, EveryKey),
+    asks: &[
+        UpdateDnskeyRrset,
+        UpdateRrsig,
+        ReportDnskeyPropagated,
+        ReportRrsigPropagated,
+    ],
+    goes: AtEachRole(LeavesDnskey),
+    returns: AtEachRole(TurnsBack),
+    asks_early: &[
+        UpdateDnskeyRrset,
+        UpdateRrsig,
+        WaitDnskeyPropagated,
+        WaitRrsigPropagated,
+    ],
+    first: HalfRoll {
+        report: Two(
+            Visible,
+            AnyKey(KeptPresent),
+            RrsigVisible,
+            ZoneKey(KeptPresent),
+        ),
+        checks: AnyKey(KeptPresent),
+        reads: Visible,
+        moves: AtRoles(DsFollows, Stays),
+        moves_kept: true,
+        writes: Nothing,
+    },
+    asks_between: &[CreateCdsRrset, UpdateDsRrset, ReportDsPropagated],
+    second: HalfRoll {
+        report: One(DsVisible, KskRole(KeptPresent)),
+        checks: KskRole(KeptSigning),
+        reads: DsVisible,
+        moves: AtEachRoleIf(OldPresent, LeavesDnskey),
+        moves_kept: true,
+        writes: One(Withdrawn, AnyKey(OldPresent)),
+    },
+    asks_last: &[
+        RemoveCdsRrset,
+        UpdateDnskeyRrset,
+        UpdateRrsig,
+        WaitDnskeyPropagated,
+        WaitRrsigPropagated,
+    ],
+};
+
+impl RollType {
+    /// The column of a roll.
+    pub(crate) fn column(self) -> &'static Column
+        ensures means { column_of result.now ≡ column self }
+        ensures name { result.now.name.now ≡ roll_name self }
+        ensures side { result.now.side ≡ side_of self }
+        ensures wants { result.now.wants.now ≡ wants self }
+        ensures algorithms { result.now.changes_algorithms ≡ may_change_algorithms self }
+        ensures kept_first { result.now.first.moves_kept ≡ wait_moves_kept self TheFirst }
+        ensures kept_second { result.now.second.moves_kept ≡ wait_moves_kept self TheSecond }
     {
         match self {
-            KeyType::Ksk(state) => state.turns_old(),
-            KeyType::Zsk(state) => state.turns_old(),
-            KeyType::Csk(ksk, zsk) => {
-                ksk.turns_old();
-                zsk.turns_old();
-            }
-            KeyType::Include(_) => {}
+            RollType::KskRoll => &KSK_DOUBLE_SIGNATURE,
+            RollType::KskDoubleDsRoll => &KSK_DOUBLE_DS,
+            RollType::ZskRoll => &ZSK_PRE_PUBLISH,
+            RollType::ZskDoubleSignatureRoll => &ZSK_DOUBLE_SIGNATURE,
+            RollType::CskRoll => &CSK_ROLL,
+            RollType::AlgorithmRoll => &ALGORITHM_ROLL,
         }
     }
 
-    /// What a start puts on a new key.
-    pub(crate) fn start_as_new(&mut self, roll: RollType)
-        ensures { self.new ≡ (column roll).comes self.old }
-    {
-        match self {
-            KeyType::Ksk(state) => match roll {
-                KskRoll | CskRoll | AlgorithmRoll => state.comes_in_signing(),
-                KskDoubleDsRoll => state.ds_comes_in(),
-                ZskRoll | ZskDoubleSignatureRoll => {}
-            },
-            KeyType::Zsk(state) => match roll {
-                ZskRoll | CskRoll => state.comes_in(),
-                ZskDoubleSignatureRoll | AlgorithmRoll => state.comes_in_signing(),
-                KskRoll | KskDoubleDsRoll => {}
-            },
-            KeyType::Csk(ksk, zsk) => match roll {
-                CskRoll => {
-                    ksk.comes_in_signing();
-                    zsk.comes_in();
-                }
-                AlgorithmRoll => {
-                    ksk.comes_in_signing();
-                    zsk.comes_in_signing();
-                }
-                _ => {}
-            },
-            KeyType::Include(_) => {}
-        }
-    }
-
-    /// What an early end takes from a new key: what its start put on it.
-    pub(crate) fn end_early_as_new(&mut self, roll: RollType)
-        ensures { self.new ≡ (column roll).goes self.old }
-    {
-        match self {
-            KeyType::Ksk(state) => match roll {
-                KskRoll | CskRoll | AlgorithmRoll => state.leaves_dnskey(),
-                KskDoubleDsRoll => state.loses_ds(),
-                ZskRoll | ZskDoubleSignatureRoll => {}
-            },
-            KeyType::Zsk(state) => match roll {
-                ZskRoll | CskRoll => state.leaves_silently(),
-                ZskDoubleSignatureRoll | AlgorithmRoll => state.leaves_dnskey(),
-                KskRoll | KskDoubleDsRoll => {}
-            },
-            KeyType::Csk(ksk, zsk) => match roll {
-                CskRoll => {
-                    ksk.leaves_dnskey();
-                    zsk.leaves_silently();
-                }
-                AlgorithmRoll => csk_leaves_dnskey(ksk, zsk),
-                _ => {}
-            },
-            KeyType::Include(_) => {}
-        }
-    }
-
-    /// What an early end does to an old key: it is no longer old.
-    pub(crate) fn end_early_as_old(&mut self, roll: RollType)
-        ensures { self.new ≡ (column roll).returns self.old }
-    {
-        match self {
-            KeyType::Ksk(state) => match roll {
-                KskRoll | KskDoubleDsRoll | CskRoll | AlgorithmRoll => state.turns_back(),
-                ZskRoll | ZskDoubleSignatureRoll => {}
-            },
-            KeyType::Zsk(state) => match roll {
-                ZskRoll | ZskDoubleSignatureRoll | CskRoll | AlgorithmRoll => state.turns_back(),
-                KskRoll | KskDoubleDsRoll => {}
-            },
-            KeyType::Csk(ksk, zsk) => match roll {
-                CskRoll | AlgorithmRoll => {
-                    ksk.turns_back();
-                    zsk.turns_back();
-                }
-                _ => {}
-            },
-            KeyType::Include(_) => {}
-        }
-    }
-
-    /// What a start stamps on a new key.
-    pub(crate) fn stamps_at_start(&self, roll: RollType) -> Stamped
-        ensures { result ≡ stamped_on (column roll).writes self.now }
-    {
-        Stamped {
-            published: roll != KskDoubleDsRoll,
-            ..Stamped::default()
-        }
-    }
-
-    /// What a report stamps.
-    pub(crate) fn stamps_by_report(&self, roll: RollType, half: Half) -> Stamped
-        ensures { result ≡ stamped_on (half_of roll (which half)).report self.now }
-    {
-        let none = Stamped::default();
-        match (roll, half) {
-            (KskRoll, First) | (KskDoubleDsRoll, Second) => Stamped {
-                visible: is_kept_present(self.ksk()),
-                ..none
-            },
-            (KskRoll, Second) | (KskDoubleDsRoll, First) => Stamped {
-                ds_visible: is_kept_at_parent(self.ksk()),
-                ..none
-            },
-            (ZskRoll, First) => Stamped {
-                visible: is_kept_present(self.zsk()),
-                ..none
-            },
-            (ZskRoll, Second) => Stamped {
-                rrsig_visible: is_kept_signing(self.zsk()),
-                ..none
-            },
-            (ZskDoubleSignatureRoll, First) => Stamped {
-                visible: is_kept_present(self.zsk()),
-                rrsig_visible: is_kept_present(self.zsk()),
-                ..none
-            },
-            (ZskDoubleSignatureRoll, Second) => none,
-            (CskRoll, First) => Stamped {
-                visible: is_kept_present(self.any()),
-                ..none
-            },
-            (CskRoll, Second) => Stamped {
-                ds_visible: is_kept_present(self.ksk_role()),
-                rrsig_visible: is_kept_signing(self.zsk_role()),
-                ..none
-            },
-            (AlgorithmRoll, First) => Stamped {
-                visible: is_kept_present(self.any()),
-                rrsig_visible: is_kept_present(self.zone_key()),
-                ..none
-            },
-            (AlgorithmRoll, Second) => Stamped {
-                ds_visible: is_kept_present(self.ksk_role()),
-                ..none
-            },
-        }
-    }
-
-    /// Whether a wait checks the key.
-    pub(crate) fn is_checked(&self, roll: RollType, half: Half) -> bool
-        ensures { result ≡ (half_of roll (which half)).checks self.now }
-    {
-        match (roll, half) {
-            (KskRoll, First) => is_leaving(self.ksk()) || is_kept_present(self.ksk()),
-            (KskRoll, Second) => is_leaving(self.ksk()) || is_kept_at_parent(self.ksk()),
-            (KskDoubleDsRoll, First) => is_kept_at_parent(self.ksk()),
-            (KskDoubleDsRoll, Second) => is_kept_present(self.ksk()),
-            (ZskRoll | ZskDoubleSignatureRoll, First) => is_kept_present(self.zsk()),
-            (ZskRoll | ZskDoubleSignatureRoll, Second) => is_kept_signing(self.zsk()),
-            (CskRoll | AlgorithmRoll, First) => is_kept_present(self.any()),
-            (CskRoll, Second) => is_kept_signing(self.zsk_role()),
-            (AlgorithmRoll, Second) => is_kept_signing(self.ksk_role()),
-        }
-    }
-
-    /// What happens to the key once a wait is over, and what is stamped then.
-    pub(crate) fn go_on(&mut self, roll: RollType, half: Half) -> Stamped
-        ensures moved { self.new ≡ (half_of roll (which half)).moves self.old }
-        ensures stamped { result ≡ stamped_on (half_of roll (which half)).writes self.old }
+    /// A half of it.
+    pub(crate) fn half(self, half: Half) -> &'static HalfRoll
+        ensures means { half_roll_of result.now ≡ half_of self (which half) }
+        ensures kept { result.now.moves_kept ≡ wait_moves_kept self (which half) }
     {
         match half {
-            First => self.go_on_first(roll),
-            Second => self.go_on_second(roll),
-        }
-    }
-
-    fn go_on_first(&mut self, roll: RollType) -> Stamped
-        ensures moved { self.new ≡ (column roll).first.moves self.old }
-        ensures stamped { result ≡ stamped_on (column roll).first.writes self.old }
-    {
-        let mut stamped = Stamped::default();
-        match self {
-            KeyType::Ksk(state) => match roll {
-                KskRoll | CskRoll | AlgorithmRoll => state.ds_follows(),
-                KskDoubleDsRoll => stamped.published = state.changes_places(),
-                ZskRoll | ZskDoubleSignatureRoll => {}
-            },
-            KeyType::Zsk(state) => match roll {
-                ZskRoll | CskRoll => state.signatures_follow(),
-                ZskDoubleSignatureRoll => stamped.withdrawn = state.leaves_dnskey_if_old(),
-                KskRoll | KskDoubleDsRoll | AlgorithmRoll => {}
-            },
-            KeyType::Csk(ksk, zsk) => match roll {
-                CskRoll => {
-                    ksk.ds_follows();
-                    zsk.signatures_follow();
-                }
-                AlgorithmRoll => ksk.ds_follows(),
-                _ => {}
-            },
-            KeyType::Include(_) => {}
-        }
-        stamped
-    }
-
-    fn go_on_second(&mut self, roll: RollType) -> Stamped
-        ensures moved { self.new ≡ (column roll).second.moves self.old }
-        ensures stamped { result ≡ stamped_on (column roll).second.writes self.old }
-    {
-        let withdrawn = match self {
-            KeyType::Ksk(state) => match roll {
-                KskRoll | CskRoll | AlgorithmRoll => state.leaves_dnskey_if_present(),
-                KskDoubleDsRoll => state.leaves_parent(),
-                ZskRoll | ZskDoubleSignatureRoll => false,
-            },
-            KeyType::Zsk(state) => match roll {
-                ZskRoll | CskRoll => state.leaves_dnskey_if_silent(),
-                AlgorithmRoll => state.leaves_dnskey_if_present(),
-                KskRoll | KskDoubleDsRoll | ZskDoubleSignatureRoll => false,
-            },
-            KeyType::Csk(ksk, zsk) => match roll {
-                CskRoll => {
-                    let by_ksk = ksk.leaves_dnskey_if_present();
-                    let by_zsk = zsk.leaves_dnskey_if_silent();
-                    by_ksk || by_zsk
-                }
-                AlgorithmRoll => {
-                    let leaves = ksk.old && ksk.present;
-                    if leaves {
-                        csk_leaves_dnskey(ksk, zsk);
-                    }
-                    leaves
-                }
-                _ => false,
-            },
-            KeyType::Include(_) => false,
-        };
-        Stamped {
-            withdrawn,
-            ..Stamped::default()
+            Half::First => &self.column().first,
+            Half::Second => &self.column().second,
         }
     }
 }
 
-/// What a roll reads.
-impl RollType {
-    /// The stamp that a wait reads.
-    pub fn stamp_read(self, half: Half) -> Stamp
-        ensures { result ≡ (half_of self (which half)).reads }
-    {
-        match (self, half) {
-            (KskRoll, Second) | (KskDoubleDsRoll, First) | (AlgorithmRoll, Second) => {
-                Stamp::DsVisible
-            }
-            (ZskRoll | ZskDoubleSignatureRoll | CskRoll, Second) => Stamp::RrsigVisible,
-            (_, First) | (KskDoubleDsRoll, Second) => Stamp::Visible,
-        }
-    }
+/// The stamp that a wait reads.
+pub fn stamp_read(roll: RollType, half: Half) -> Stamp
+    ensures { result ≡ (half_of roll (which half)).reads }
+{
+    roll.half(half).reads
+}
+
+/// Whether a wait may change which keys that stay are in the DNSKEY set or have a DS.
+pub fn wait_moves_kept(roll: RollType, half: Half) -> bool
+    ensures { result ≡ wait_moves_kept roll (which half) }
+{
+    roll.half(half).moves_kept
+}
+
+/// Which keys a roll changes.
+pub fn side_of(roll: RollType) -> Side
+    ensures { result ≡ side_of roll }
+{
+    roll.column().side
+}
+
+/// What a start has to leave: a key that serves on each side of the roll.
+pub fn wants(roll: RollType) -> &'static [Want]
+    ensures { result.now ≡ wants roll }
+{
+    roll.column().wants
+}
+
+/// Whether the new keys of a roll may have other algorithms than the old ones.
+pub fn may_change_algorithms(roll: RollType) -> bool
+    ensures { result ≡ may_change_algorithms roll }
+{
+    roll.column().changes_algorithms
+}
+
+/// The name of a roll in a script.
+pub fn roll_name(roll: RollType) -> &'static str
+    ensures { result.now ≡ roll_name roll }
+{
+    roll.column().name
 }

@@ -1,6 +1,6 @@
 //! The tags in use.
 ghost use Rattle.std.specs.Prelude.{◌≡◌, ℕ, None, Some, false, true, is_none, nat_eq};
-ghost use Rattle.std.specs.Prelude.{if◌then◌else◌, IfOk, IfErr};
+ghost use Rattle.std.specs.Prelude.{if◌then◌else◌, IfOk, IsOkUnless};
 ghost use Rattle.std.specs.Option.{option_map};
 ghost use Rattle.dnssec_base.specs.declared.error.Error.TheVariants.{OutOfMemory};
 ghost use Rattle.dnssec_key.specs.Inner.Bits.{is_set};
@@ -29,15 +29,16 @@ impl TagIndex {
     #[inline(never)]
     pub fn empty(alloc: Global) -> Result<TagIndex, Error>
         ensures empty { IfOk result (λ index. (t : ℕ) → has index t ≡ Some false) }
-        ensures err { IfErr result (λ e. e ≡ OutOfMemory) }
+        ensures err { IsOkUnless result OutOfMemory }
     {
         boxed(alloc, [0; 1024])
     }
 
+    /// A copy of the index, or of none.
     #[inline(never)]
     pub fn try_clone(&self, alloc: Global) -> Result<TagIndex, Error>
         ensures same { IfOk result (λ index. (t : ℕ) → has index t ≡ has self.now t) }
-        ensures err { IfErr result (λ e. e ≡ OutOfMemory) }
+        ensures err { IsOkUnless result OutOfMemory }
     {
         match &self.tags {
             None => Ok(TagIndex::none()),
@@ -45,6 +46,7 @@ impl TagIndex {
         }
     }
 
+    /// Whether there is no index.
     pub fn is_none(&self) -> bool
         ensures { (t : ℕ) → result ≡ is_none (has self.now t) }
     {
@@ -61,6 +63,7 @@ impl TagIndex {
         }
     }
 
+    /// Notes a tag that comes into use, if there is an index.
     pub fn put(&mut self, key_tag: u16)
         ensures { (t : ℕ) → has self.new t ≡ option_map
             (λ b. if nat_eq key_tag t then true else b) (has self.old t) }
@@ -71,6 +74,7 @@ impl TagIndex {
         }
     }
 
+    /// Notes a tag that is no longer in use, if there is an index.
     pub fn remove(&mut self, key_tag: u16)
         ensures { (t : ℕ) → has self.new t ≡ option_map
             (λ b. if nat_eq key_tag t then false else b) (has self.old t) }
@@ -82,12 +86,11 @@ impl TagIndex {
     }
 }
 
+/// An index with these tags.
 fn boxed(alloc: Global, tags: TagSet) -> Result<TagIndex, Error>
     ensures ok { IfOk result (λ index. (t : ℕ) → has index t ≡ Some (is_set tags t)) }
-    ensures err { IfErr result (λ e. e ≡ OutOfMemory) }
+    ensures err { IsOkUnless result OutOfMemory }
 {
-    match Box::new(alloc, tags) {
-        Ok(tags) => Ok(TagIndex { tags: Some(tags) }),
-        Err(_) => Err(Error::OutOfMemory),
-    }
+    let tags = Box::new(alloc, tags)?;
+    Ok(TagIndex { tags: Some(tags) })
 }

@@ -46,6 +46,7 @@ impl Error for NameError {}
 impl From<AllocError> for NameError {
     ghost from_gives = { λ _ error. error ≡ OutOfMemory };
 
+    /// So `?` hands on a request for memory that failed.
     fn from(_error: AllocError) -> Self {
         NameError::OutOfMemory
     }

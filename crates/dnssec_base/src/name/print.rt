@@ -11,6 +11,7 @@ pub struct Label<'a>(pub &'a [u8]);
 impl<'a> fmt::Display for Label<'a> {
     ghost output = { λ label. Some (flat_map printed_byte label.0.now) };
 
+    /// Writes byte after byte.
     fn fmt<W: fmt::Write>(&self, f: &mut fmt::Formatter<W>) -> fmt::Result {
         for byte in self.0 {
             write!(f, "{}", LabelByte(*byte))?;
@@ -26,6 +27,7 @@ struct LabelByte(u8);
 impl fmt::Display for LabelByte {
     ghost output = { λ byte. Some (printed_byte byte.0) };
 
+    /// Writes the byte, a `\` and the byte, or `\` and its number.
     fn fmt<W: fmt::Write>(&self, f: &mut fmt::Formatter<W>) -> fmt::Result {
         let byte = self.0;
         match byte {

@@ -1,5 +1,5 @@
 use Rattle.std.proofs.Common.{rules}
-use Rattle.dnssec_base.proofs.comparisons.moments_are_in_order_of_time.Goals as goal
+use Rattle.dnssec_key.proofs.steps.stamp_report.Goals as goal
 
 pub returns : goal.returns
 returns c = search rules

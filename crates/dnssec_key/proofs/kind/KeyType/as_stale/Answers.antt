@@ -1,5 +1,0 @@
-use Rattle.std.proofs.Common.{rules}
-use Rattle.dnssec_key.proofs.kind.KeyType.as_stale.Goals as goal
-
-pub returns-in-Csk : goal.returns-in-Csk
-returns-in-Csk c = search rules

@@ -1,0 +1,50 @@
+-- Which keys a roll changes, what its start has to leave, whether it may change algorithms, and
+-- which waits change keys that stay (RFC 6781, section 4.1).
+use Rattle.std.specs.Prelude.{Bool, true, false, List, [], ◌∷◌}
+use Rattle.dnssec_key.specs.RollTable.{Half, First}
+use Rattle.dnssec_key.specs.declared.roll.Side.{Side}
+use Rattle.dnssec_key.specs.declared.roll.Side.TheVariants.{KskSide, ZskSide, BothSides}
+use Rattle.dnssec_key.specs.declared.roll.Want.{Want}
+use Rattle.dnssec_key.specs.declared.roll.Want.TheVariants.{PresentKsk, KskAtParent, PresentZsk}
+use Rattle.dnssec_key.specs.declared.roll.Want.TheVariants.{PresentKskRole, PresentZskRole}
+use Rattle.dnssec_key.specs.declared.roll.RollType.{RollType}
+use Rattle.dnssec_key.specs.declared.roll.RollType.TheVariants.{KskRoll, KskDoubleDsRoll, ZskRoll}
+use Rattle.dnssec_key.specs.declared.roll.RollType.TheVariants.{ZskDoubleSignatureRoll, CskRoll}
+use Rattle.dnssec_key.specs.declared.roll.RollType.TheVariants.{AlgorithmRoll}
+
+-- which keys a roll changes
+abbrev pub side_of : RollType → Side
+side_of KskRoll = KskSide
+side_of KskDoubleDsRoll = KskSide
+side_of ZskRoll = ZskSide
+side_of ZskDoubleSignatureRoll = ZskSide
+side_of CskRoll = BothSides
+side_of AlgorithmRoll = BothSides
+
+-- what a start has to leave: a key that serves on each side of the roll
+abbrev pub wants : RollType → List Want
+wants KskRoll = PresentKsk ∷ []
+wants KskDoubleDsRoll = KskAtParent ∷ []
+wants ZskRoll = PresentZsk ∷ []
+wants ZskDoubleSignatureRoll = PresentZsk ∷ []
+wants CskRoll = PresentKskRole ∷ PresentZskRole ∷ []
+wants AlgorithmRoll = PresentKskRole ∷ PresentZskRole ∷ []
+
+-- only an algorithm roll goes from one set of algorithms to another (RFC 6781, section 4.1.4)
+abbrev pub may_change_algorithms : RollType → Bool
+may_change_algorithms KskRoll = false
+may_change_algorithms KskDoubleDsRoll = false
+may_change_algorithms ZskRoll = false
+may_change_algorithms ZskDoubleSignatureRoll = false
+may_change_algorithms CskRoll = false
+may_change_algorithms AlgorithmRoll = true
+
+-- This wait may change which keys that stay are in the DNSKEY set or have a DS. By the first wait
+-- of a roll that changes KSKs a DS follows its key, or keys come in for others. By the second an
+-- algorithm roll takes the ZSK role of a CSK out of the DNSKEY set by its KSK role.
+abbrev pub wait_moves_kept : RollType → Half → Bool
+wait_moves_kept KskRoll First = true
+wait_moves_kept KskDoubleDsRoll First = true
+wait_moves_kept CskRoll First = true
+wait_moves_kept AlgorithmRoll half = true
+wait_moves_kept _ _ = false

@@ -1,0 +1,133 @@
+//! The words of a roll's column. `specs/Inner/Columns` gives each the meaning that it has in
+//! `specs/RollTable`.
+use crate::roll::{Action, Side, Want};
+use dnssec_base::Stamp;
+
+/// A test of one role. A role that is not old stays.
+#[derive(Clone, Copy)]
+pub(crate) enum RoleTest {
+    Old,
+    KeptPresent,
+    KeptSigning,
+    KeptAtParent,
+    LeavingOrKeptPresent,
+    LeavingOrKeptAtParent,
+    OldPresent,
+    OldAtParent,
+    OldSilent,
+}
+
+/// The keys with a role that passes.
+#[derive(Clone, Copy)]
+pub(crate) enum KeyTest {
+    EveryKey,
+    /// KSKs, but no CSKs.
+    Ksk(RoleTest),
+    /// ZSKs, but no CSKs.
+    Zsk(RoleTest),
+    /// KSKs and CSKs, by their KSK role.
+    KskRole(RoleTest),
+    /// ZSKs and CSKs, by their ZSK role.
+    ZskRole(RoleTest),
+    /// All keys of this signer, by their first role.
+    AnyKey(RoleTest),
+    /// ZSKs and CSKs, by their first role.
+    ZoneKey(RoleTest),
+    /// Keys of which the KSK role passes the one, or the ZSK role the other.
+    EitherRole(RoleTest, RoleTest),
+}
+
+/// What happens to one role.
+#[derive(Clone, Copy)]
+pub(crate) enum RoleMove {
+    Stays,
+    TurnsOld,
+    TurnsBack,
+    ComesIn,
+    ComesInSigning,
+    DsComesIn,
+    DsFollows,
+    SignaturesFollow,
+    KeysChangePlaces,
+    LeavesDnskey,
+    LeavesParent,
+    LeavesSilently,
+    LeavesDnskeyIf(RoleTest),
+    LeavesParentIf(RoleTest),
+    LeavesSilentlyIf(RoleTest),
+    /// What an operator sets by hand.
+    SetPresent(bool),
+    SetSigner(bool),
+    SetAtParent(bool),
+    SetStale,
+}
+
+/// To which roles of a key it happens.
+#[derive(Clone, Copy)]
+pub(crate) enum KeyMove {
+    NoRole,
+    /// The role of a KSK, but not of a CSK.
+    AtKsk(RoleMove),
+    /// The role of a ZSK, but not of a CSK.
+    AtZsk(RoleMove),
+    /// The one to each KSK role, the other to each ZSK role.
+    AtRoles(RoleMove, RoleMove),
+    AtEachRole(RoleMove),
+    /// Each role of a key of this signer whose first role passes.
+    AtEachRoleIf(RoleTest, RoleMove),
+    /// Each state, also that of another signer's key.
+    AtEachState(RoleMove),
+}
+
+/// Which stamps an event writes: each on the keys that pass.
+pub(crate) enum Writes {
+    Nothing,
+    One(Stamp, KeyTest),
+    Two(Stamp, KeyTest, Stamp, KeyTest),
+}
+
+/// Half of a roll: a change spreads and is reported, then old data leaves the caches.
+pub(crate) struct HalfRoll {
+    /// The stamps that the report writes.
+    pub(crate) report: Writes,
+    /// The keys that the wait checks.
+    pub(crate) checks: KeyTest,
+    /// The stamp that it reads of them.
+    pub(crate) reads: Stamp,
+    /// What happens once the wait is over.
+    pub(crate) moves: KeyMove,
+    /// Whether that may change which keys that stay are in the DNSKEY set or have a DS.
+    pub(crate) moves_kept: bool,
+    /// The stamps that it writes then.
+    pub(crate) writes: Writes,
+}
+
+/// A roll: its start, its two halves, and the actions due.
+pub(crate) struct Column {
+    /// Its name in a script.
+    pub(crate) name: &'static str,
+    /// Which keys it changes.
+    pub(crate) side: Side,
+    /// What its start has to leave.
+    pub(crate) wants: &'static [Want],
+    /// Whether its new keys may have other algorithms than its old ones.
+    pub(crate) changes_algorithms: bool,
+    /// What a start puts on a new key.
+    pub(crate) comes: KeyMove,
+    /// The stamps that it writes on it.
+    pub(crate) writes: Writes,
+    /// The actions due after the start.
+    pub(crate) asks: &'static [Action],
+    /// What an early end takes from a new key.
+    pub(crate) goes: KeyMove,
+    /// What it takes from an old one.
+    pub(crate) returns: KeyMove,
+    /// The actions due after an early end.
+    pub(crate) asks_early: &'static [Action],
+    pub(crate) first: HalfRoll,
+    /// The actions due after the first wait.
+    pub(crate) asks_between: &'static [Action],
+    pub(crate) second: HalfRoll,
+    /// The actions due after the second wait.
+    pub(crate) asks_last: &'static [Action],
+}
