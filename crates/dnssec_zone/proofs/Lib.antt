@@ -3,18 +3,17 @@
 -- | Function or law                  | Lemma                          | Files                    |
 -- |----------------------------------|--------------------------------|--------------------------|
 -- | `Keys`: the map that it shows    | ruleset `shown`, `get-walked`  | Shown, Walks             |
--- | `Keys`: the tags that it keeps   | `TagsAgree-added` and the like | Tags, Quantified         |
--- | `Keys`: the counts that it keeps | `counts-added` and the like    | Counted, Walks           |
+-- | `Derived`: the tags              | `TagsAgree-added` and the like | Tags, Quantified         |
+-- | `Derived`: the counts            | `counts-added` and the like    | Counted, Walks           |
 -- | `check_many_new`                 | `fault-found`, `fault-behind`  | Entries, Marks, TwoLists |
 -- | `mark_old`, `mark_new` and back  | `mark_more`                    | Marks, TwoLists          |
 -- | `may_go_over`                    | `same_algorithms`              | Algorithms               |
 -- | `check_suitability`              | `all_met-walked`               | Starts                   |
--- | `go_on_all`, `delete`            | `counts-waited` and the like   | Counted, Tests           |
+-- | `go_on_all`, `delete`            | `counts-waited` and the like   | Counted, Wants           |
 -- | `Lists`: the entries             | `list-more`, `filtered`        | Listing                  |
 -- | the phases of rolls              | ruleset `phases`               | Phases                   |
--- | `latest_over`                    | `walk-lost`                    | Waits                    |
 -- | `over_from`                      | `walk-lacks`, `walk-over`      | Waits                    |
--- | `set`, `delete`: the begun wait  | `known-after`, `known-removed` | Begun                    |
+-- | `Derived`: the reported wait     | `known-after`, `known-removed` | Reported                 |
 --
 -- `Tests` computes tables over all rolls and keys; `Flags` says by it what flags a key may have on
 -- each side: for the laws of key sets and of runs.
@@ -33,6 +32,7 @@ pub mod Marks
 pub mod Entries
 pub mod Longest
 pub mod Waits
-pub mod Begun
+pub mod Reported
 pub mod Tests
+pub mod Wants
 pub mod Flags

@@ -16,9 +16,10 @@ use Rattle.dnssec_key.specs.declared.roll.RollType.TheVariants.{ZskDoubleSignatu
 use Rattle.dnssec_key.specs.declared.roll.RollType.TheVariants.{AlgorithmRoll}
 use Rattle.dnssec_key.specs.State.{Flags}
 use Rattle.dnssec_key.specs.Key.{KeyParts}
-use Rattle.dnssec_key.specs.RollTable.{column, at_ksk, at_zsk, at_roles, turns_old, comes_in}
-use Rattle.dnssec_key.specs.RollTable.{comes_in_signing, ds_comes_in, old_at_start, new_at_start}
+use Rattle.dnssec_key.specs.RollTable.{column, at_roles, turns_old, old_at_start, new_at_start}
 use Rattle.dnssec_zone.specs.Start.{is_listed}
+use Rattle.dnssec_zone.proofs.Tests.{both, both-at, each_in_roll, each_in_roll-at, same_kind}
+use Rattle.dnssec_zone.proofs.Tests.{same_kind-is}
 use Rattle.dnssec_zone.proofs.TwoLists.{map-push}
 
 -- ---- a mark that is made twice
@@ -30,20 +31,6 @@ at_roles-twice f g ff gg (Zsk s) = ap Zsk (gg s)
 at_roles-twice f g ff gg (Csk s t) = λ i. Csk (ff s i) (gg t i)
 at_roles-twice f g ff gg (Include s) = refl
 
-at_ksk-twice : (f : Flags → Flags) → ((s : Flags) → f (f s) ≡ f s) → (t : KeyType) →
-    at_ksk f (at_ksk f t) ≡ at_ksk f t
-at_ksk-twice f ff (Ksk s) = ap Ksk (ff s)
-at_ksk-twice f ff (Zsk s) = refl
-at_ksk-twice f ff (Csk s t) = refl
-at_ksk-twice f ff (Include s) = refl
-
-at_zsk-twice : (f : Flags → Flags) → ((s : Flags) → f (f s) ≡ f s) → (t : KeyType) →
-    at_zsk f (at_zsk f t) ≡ at_zsk f t
-at_zsk-twice f ff (Ksk s) = refl
-at_zsk-twice f ff (Zsk s) = ap Zsk (ff s)
-at_zsk-twice f ff (Csk s t) = refl
-at_zsk-twice f ff (Include s) = refl
-
 pub marked_old-twice : (k : KeyParts) → old_at_start (old_at_start k) ≡ old_at_start k
 marked_old-twice k =
     λ i. record k {
@@ -51,29 +38,35 @@ marked_old-twice k =
           i;
     }
 
+comes_twice : RollType → KeyType → Bool
+comes_twice r t = same_kind ((column r).comes ((column r).comes t)) ((column r).comes t)
+
+comes_tested : (a b : Bool) → each_in_roll a b comes_twice ≡ true
+unfolding comes_twice column
+comes_tested a b = both-at (λ b. each_in_roll a b comes_twice)
+    (both-at (λ a. both (λ b. each_in_roll a b comes_twice)) refl a) b
+
+comes-once : (r : RollType) (t : KeyType)
+    → (column r).comes ((column r).comes t) ≡ (column r).comes t
+unfolding comes_twice
+comes-once r t = same_kind-is _ _ (each_in_roll-at comes_twice comes_tested r t)
+
 pub marked_new-twice : (roll : RollType) (now : ℕ) (k : KeyParts) →
     new_at_start roll now (new_at_start roll now k) ≡ new_at_start roll now k
 unfolding column
-marked_new-twice KskRoll now k =
-    λ i. record (new_at_start KskRoll now k)
-    { keytype = at_ksk-twice comes_in_signing (λ s. refl) k.keytype i }
+marked_new-twice KskRoll now k = λ i. record (new_at_start KskRoll now k)
+    { keytype = comes-once KskRoll k.keytype i }
 marked_new-twice KskDoubleDsRoll now k = λ i. record (new_at_start KskDoubleDsRoll now k)
-    { keytype = at_ksk-twice ds_comes_in (λ s. refl) k.keytype i }
-marked_new-twice ZskRoll now k =
-    λ i. record (new_at_start ZskRoll now k) {
-      keytype = at_zsk-twice comes_in (λ s. refl) k.keytype
-          i;
-    }
+    { keytype = comes-once KskDoubleDsRoll k.keytype i }
+marked_new-twice ZskRoll now k = λ i. record (new_at_start ZskRoll now k)
+    { keytype = comes-once ZskRoll k.keytype i }
 marked_new-twice ZskDoubleSignatureRoll now k =
     λ i. record (new_at_start ZskDoubleSignatureRoll now k)
-    { keytype = at_zsk-twice comes_in_signing (λ s. refl) k.keytype i }
-marked_new-twice CskRoll now k =
-    λ i. record (new_at_start CskRoll now k)
-    { keytype = at_roles-twice comes_in_signing comes_in (λ s. refl) (λ s. refl) k.keytype i }
-marked_new-twice AlgorithmRoll now k = λ i. record (new_at_start AlgorithmRoll now k) {
-  keytype = at_roles-twice comes_in_signing comes_in_signing (λ s. refl) (λ s. refl) k.keytype
-      i;
-}
+    { keytype = comes-once ZskDoubleSignatureRoll k.keytype i }
+marked_new-twice CskRoll now k = λ i. record (new_at_start CskRoll now k)
+    { keytype = comes-once CskRoll k.keytype i }
+marked_new-twice AlgorithmRoll now k = λ i. record (new_at_start AlgorithmRoll now k)
+    { keytype = comes-once AlgorithmRoll k.keytype i }
 
 -- ---- a step of the loop
 

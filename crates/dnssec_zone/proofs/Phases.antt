@@ -1,8 +1,8 @@
 -- The phases that a key set shows, read through the hash map that it holds.
 use Rattle.std.proofs.Common.{◌≡◌, cond, List, [], ◌∷◌, Some, refl, sym, ◌∙◌, None, ℕ, zero, suc}
 use Rattle.std.proofs.Common.{Bool, true, false, ap, length, arith}
-use Rattle.std.specs.Prelude.{Option, nat_eq, if◌then◌else◌, ◌↔◌}
-use Rattle.std.proofs.lemmas.Bool.{eqb-true}
+use Rattle.std.specs.Prelude.{Option, nat_eq, if◌then◌else◌}
+use Rattle.std.proofs.lemmas.Bool.{eq-eqb, eqb-true}
 use Rattle.std.specs.HashMap.{HashMap, get, hash_map_len}
 use Rattle.std.specs.Map.{lookup}
 use Rattle.dnssec_key.specs.declared.roll.RollType.{RollType}
@@ -13,7 +13,7 @@ use Rattle.dnssec_key.specs.declared.roll.RollState.{RollState}
 use Rattle.dnssec_key.specs.contracts.roll.RollTypePartialEq.TheImpl.{eq-value}
 use Rattle.dnssec_zone.specs.Lists.{Listed, Lists, listed_by, with_listed, without, others}
 use Rattle.dnssec_zone.specs.Rolls.{Rolls, same_roll, rolls_in_map, phase_of, with_phase}
-use Rattle.dnssec_zone.specs.Rolls.{roll_number, no_rolls, rolls_by}
+use Rattle.dnssec_zone.specs.Rolls.{roll_number, no_rolls}
 use Rattle.dnssec_key.specs.contracts.roll.RollType.{the_type}
 use denote.Enum.Declared.{tag_of}
 
@@ -38,52 +38,20 @@ lookup-same_roll a (e ∷ es) = λ i. cond (sym (same_roll-eq a e.0) i) (Some e.
 
 -- rolls with the same phases are equal
 pub same_rolls : (a b : Rolls) → ((q : RollType) → phase_of a q ≡ phase_of b q) → a ≡ b
-same_rolls a b h = λ i. record {
-  ksk_roll = h KskRoll i;
-  ksk_double_ds_roll = h KskDoubleDsRoll i;
-  zsk_roll = h ZskRoll i;
-  zsk_double_signature_roll = h ZskDoubleSignatureRoll i;
-  csk_roll =
-      h CskRoll i;
-  algorithm_roll = h AlgorithmRoll i;
-}
+same_rolls a b h = λ i roll. h roll i
 
 pub phase_of-with_phase : (r : Rolls) (roll : RollType) (phase : Option RollState) (q : RollType)
     → phase_of (with_phase r roll phase) q ≡ (if same_roll roll q then phase else phase_of r q)
-phase_of-with_phase r roll phase KskRoll = refl
-phase_of-with_phase r roll phase KskDoubleDsRoll = refl
-phase_of-with_phase r roll phase ZskRoll = refl
-phase_of-with_phase r roll phase ZskDoubleSignatureRoll = refl
-phase_of-with_phase r roll phase CskRoll = refl
-phase_of-with_phase r roll phase AlgorithmRoll = refl
+phase_of-with_phase r roll phase q = refl
 
 -- there are none at first
 pub no_phases : (q : RollType) → phase_of no_rolls q ≡ None
-no_phases KskRoll = refl
-no_phases KskDoubleDsRoll = refl
-no_phases ZskRoll = refl
-no_phases ZskDoubleSignatureRoll = refl
-no_phases CskRoll = refl
-no_phases AlgorithmRoll = refl
-
--- the phases that f gives
-phase_of-by : (f : RollType → Option RollState) (q : RollType) → phase_of (rolls_by f) q ≡ f q
-phase_of-by f KskRoll = refl
-phase_of-by f KskDoubleDsRoll = refl
-phase_of-by f ZskRoll = refl
-phase_of-by f ZskDoubleSignatureRoll = refl
-phase_of-by f CskRoll = refl
-phase_of-by f AlgorithmRoll = refl
+no_phases q = refl
 
 -- ---- rolls by their numbers
 
 pub same-itself : (a : RollType) → same_roll a a ≡ true
-same-itself KskRoll = refl
-same-itself KskDoubleDsRoll = refl
-same-itself ZskRoll = refl
-same-itself ZskDoubleSignatureRoll = refl
-same-itself CskRoll = refl
-same-itself AlgorithmRoll = refl
+same-itself a = eq-eqb (roll_number a) (roll_number a) refl
 
 rolled : ℕ → RollType
 rolled zero = KskRoll
@@ -109,7 +77,7 @@ same_roll-is a b e = sym (rolled-number a) ∙ ap rolled (eqb-true _ _ e) ∙ ro
 pub same-phase : (r : Rolls) (roll : RollType) (phase : Option RollState)
     → phase_of r roll ≡ phase → with_phase r roll phase ≡ r
 same-phase r roll phase is =
-    same_rolls _ _ (λ q. phase_of-with_phase r roll phase q ∙ at q (same_roll roll q) refl)
+    λ i q. at q (same_roll roll q) refl i
   where
     at : (q : RollType) (b : Bool) → same_roll roll q ≡ b →
         (if b then phase else phase_of r q) ≡ phase_of r q
@@ -118,42 +86,20 @@ same-phase r roll phase is =
 
 -- the same of what is kept of starts
 pub same_lists : (a b : Lists) → ((q : RollType) → listed_by a q ≡ listed_by b q) → a ≡ b
-same_lists a b h = λ i. record {
-  ksk_roll = h KskRoll i;
-  ksk_double_ds_roll = h KskDoubleDsRoll i;
-  zsk_roll = h ZskRoll i;
-  zsk_double_signature_roll = h ZskDoubleSignatureRoll i;
-  csk_roll = h CskRoll i;
-  algorithm_roll = h AlgorithmRoll i;
-}
+same_lists a b h = λ i roll. h roll i
 
 pub listed_by-with_listed : (l : Lists) (roll : RollType) (listed : Listed) (q : RollType)
     → listed_by (with_listed l roll listed) q ≡ (if same_roll roll q then listed else listed_by l q)
-listed_by-with_listed l roll listed KskRoll = refl
-listed_by-with_listed l roll listed KskDoubleDsRoll = refl
-listed_by-with_listed l roll listed ZskRoll = refl
-listed_by-with_listed l roll listed ZskDoubleSignatureRoll = refl
-listed_by-with_listed l roll listed CskRoll = refl
-listed_by-with_listed l roll listed AlgorithmRoll = refl
+listed_by-with_listed l roll listed q = refl
 
 pub listed_by-without : (r : List ℕ) (l : Lists) (roll : RollType) → listed_by (without r l) roll
     ≡ record { olds = others r (listed_by l roll).olds; news = others r (listed_by l roll).news }
-listed_by-without r l KskRoll = refl
-listed_by-without r l KskDoubleDsRoll = refl
-listed_by-without r l ZskRoll = refl
-listed_by-without r l ZskDoubleSignatureRoll = refl
-listed_by-without r l CskRoll = refl
-listed_by-without r l AlgorithmRoll = refl
+listed_by-without r l roll = refl
 
 module _ {S : Type 0} where
   pub phase_of-shown : (m : HashMap RollType RollState S) (roll : RollType)
       → phase_of (rolls_in_map m) roll ≡ get eq-value.it m roll
-  phase_of-shown m KskRoll = lookup-same_roll KskRoll m.entries
-  phase_of-shown m KskDoubleDsRoll = lookup-same_roll KskDoubleDsRoll m.entries
-  phase_of-shown m ZskRoll = lookup-same_roll ZskRoll m.entries
-  phase_of-shown m ZskDoubleSignatureRoll = lookup-same_roll ZskDoubleSignatureRoll m.entries
-  phase_of-shown m CskRoll = lookup-same_roll CskRoll m.entries
-  phase_of-shown m AlgorithmRoll = lookup-same_roll AlgorithmRoll m.entries
+  phase_of-shown m roll = lookup-same_roll roll m.entries
 
   -- the phases after one of them is put in or taken out
   pub rolls_shown-updates : (m n : HashMap RollType RollState S) (roll : RollType)
@@ -163,26 +109,16 @@ module _ {S : Type 0} where
       ≡ with_phase (rolls_in_map m) roll phase
   rolls_shown-updates m n roll phase h =
       same_rolls _ _ (λ q. phase_of-shown n q ∙ h q
-      ∙ (λ i. cond (same_roll-eq roll q i) phase (sym (phase_of-shown m q) i))
-      ∙ sym (phase_of-with_phase (rolls_in_map m) roll phase q))
+      ∙ (λ i. cond (same_roll-eq roll q i) phase (sym (phase_of-shown m q) i)))
 
-  -- a hash map without phases is empty, and an empty one has none
-  pub shown-none : (m : HashMap RollType RollState S) → (hash_map_len m ≡ 0)
-      ↔ (rolls_in_map m ≡ no_rolls)
-  shown-none m = (λ e. none m.entries e, λ e. empty m.entries e)
+  -- an empty hash map has no phases
+  pub shown-none : (m : HashMap RollType RollState S) → hash_map_len m ≡ 0
+      → rolls_in_map m ≡ no_rolls
+  shown-none m = none m.entries
     where
       none : (es : List (RollType × RollState)) → length es ≡ 0
-          → rolls_by (λ r. lookup (same_roll r) es) ≡ no_rolls
+          → (λ r. lookup (same_roll r) es) ≡ no_rolls
       none [] e = refl
       none (x ∷ es) e = absurd (omega (arith, e))
-
-      empty : (es : List (RollType × RollState))
-          → rolls_by (λ r. lookup (same_roll r) es) ≡ no_rolls → length es ≡ 0
-      empty [] e = refl
-      empty (x ∷ es) e =
-          let f : RollType → Option RollState = λ r. lookup (same_roll r) (x ∷ es) in
-          let there : Some x.1 ≡ None =
-          ap (λ b. cond b (Some x.1) (lookup (same_roll x.0) es)) (sym (same-itself x.0))
-          ∙ sym (phase_of-by f x.0) ∙ ap (λ r. phase_of r x.0) e ∙ no_phases x.0 in cc
 
 pub ruleset phases = (phase_of-shown, rolls_shown-updates)

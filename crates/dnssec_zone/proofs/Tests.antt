@@ -17,55 +17,28 @@ pub both-at : (p : Bool → Bool) → both p ≡ true → (b : Bool) → p b ≡
 both-at p e true = (and_parts (p true) (p false) e).0
 both-at p e false = (and_parts (p true) (p false) e).1
 
+-- a test of four flags
+abbrev pub each_four : (Bool → Bool → Bool → Bool → Bool) → Bool
+each_four p = both (λ o. both (λ g. both (λ r. both (λ t. p o g r t))))
+
+each_four-at : (p : Bool → Bool → Bool → Bool → Bool) → each_four p ≡ true
+    → (o g r t : Bool) → p o g r t ≡ true
+each_four-at p e o g r t = both-at (λ t. p o g r t)
+    (both-at (λ r. both (λ t. p o g r t))
+    (both-at (λ g. both (λ r. both (λ t. p o g r t)))
+    (both-at (λ o. both (λ g. both (λ r. both (λ t. p o g r t)))) e o) g) r) t
+
+abbrev pub flags : Bool → Bool → Bool → Bool → Bool → KeyState
+flags a o g r t =
+    record { available = a; old = o; signer = g; present = r; at_parent = t }
+
 abbrev pub each_state : Bool → (KeyState → Bool) → Bool
-each_state a p =
-    both (λ o. both
-    (λ s. both (λ r.
-    both (λ t. p (record {
-      available = a;
-      old = o;
-      signer = s;
-      present = r;
-      at_parent = t;
-    })))))
+each_state a p = each_four (λ o g r t. p (flags a o g r t))
 
 pub each_state-at : (p : KeyState → Bool) (s : KeyState) → each_state s.available p ≡ true
     → p s ≡ true
-each_state-at p s e =
-    both-at (λ t. p (record {
-      available = s.available;
-      old = s.old;
-      signer = s.signer;
-      present = s.present;
-      at_parent = t;
-    }))
-    (both-at (λ r.
-    both (λ t. p (record {
-      available = s.available;
-      old = s.old;
-      signer = s.signer;
-      present = r;
-      at_parent = t;
-    })))
-    (both-at (λ g.
-    both (λ r. both
-    (λ t. p (record {
-      available = s.available;
-      old = s.old;
-      signer = g;
-      present = r;
-      at_parent = t;
-    }))))
-    (both-at (λ o.
-    both (λ g. both
-    (λ r. both (λ t. p (record {
-      available = s.available;
-      old = o;
-      signer = g;
-      present = r;
-      at_parent = t;
-    })))))
-    e s.old) s.signer) s.present) s.at_parent
+each_state-at p s e = each_four-at (λ o g r t. p (flags s.available o g r t)) e
+    s.old s.signer s.present s.at_parent
 
 -- a test of all keys whose states have these `available`
 abbrev pub each_key : Bool → Bool → (KeyType → Bool) → Bool

@@ -6,20 +6,19 @@ use Rattle.std.specs.Prelude.{if◌then◌else◌, unwrap_or}
 use Rattle.std.specs.List.{list_any, fold}
 use Rattle.std.specs.Option.{option_map, option_map_or, option_and_then}
 use Rattle.std.specs.String.{string_eq}
+use Rattle.std.specs.declared.string.String.{String}
 use Rattle.std.specs.FinMap.{get}
-use Rattle.std.specs.HashMap.{IsUnique, values as hash_values}
+use Rattle.std.specs.HashMap.{HashMap, IsUnique, values as hash_values}
 use Rattle.std.proofs.lemmas.Bool.Decides.{nat_tests}
 use Rattle.dnssec_key.specs.RollTable.{Half, half_of}
 use Rattle.dnssec_key.specs.declared.roll.RollType.{RollType}
 use Rattle.dnssec_base.specs.declared.error.Error.TheVariants.{WrongKeyState}
-use Rattle.dnssec_zone.specs.declared.keys.Keys.TheInside.{Inside}
-use Rattle.dnssec_zone.specs.contracts.keys.Keys.{the_view}
 use Rattle.dnssec_key.specs.Key.{KeyParts}
-use Rattle.dnssec_zone.specs.Keys.{Keys, some_key}
+use Rattle.dnssec_zone.specs.Keys.{Keys, keys_in_map, some_key}
 use Rattle.dnssec_zone.specs.Wait.{lacks_stamp, time_left, longest_left, left_since, stamp_read}
 use Rattle.dnssec_zone.specs.Wait.{Barred, early_by, wait_in_phase, IsOverFrom, LacksStamp}
 use Rattle.dnssec_zone.specs.Inner.Over.{over_at, over_since, over_with}
-use Rattle.dnssec_zone.proofs.Walks.{some_key-view}
+use Rattle.dnssec_zone.proofs.Walks.{some_key-shown}
 use Rattle.dnssec_zone.proofs.Quantified.{some_key-found, some_key-none}
 use Rattle.dnssec_zone.proofs.Longest.{longest-most, longest-is, none-left, some-left}
 use Rattle.std.proofs.lemmas.Bool.{cases_Bool, or_from, or_right, or_left}
@@ -108,13 +107,10 @@ module _ (f : KeyParts → Option ℕ) where
 
 -- a walk that finds a key without its stamp
 pub walk-lost : (roll : RollType) (half : Half) (ttl a : ℕ) (k : KeyParts) (ks : List KeyParts)
-    → (half_of roll half).checks k.keytype ≡ true → stamp_read roll half k ≡ None
-    → fold (over_with roll half ttl) (Some a) (k ∷ ks) ≡ None
+    → over_at roll half ttl k ≡ None → fold (over_with roll half ttl) (Some a) (k ∷ ks) ≡ None
 unfolding further
-walk-lost roll half ttl a k ks checked absent =
-    ap (λ o. fold (over_with roll half ttl) (option_map (λ y. max a y) o) ks)
-    (ap (λ b. if b then option_map (over_since ttl) (stamp_read roll half k) else Some 0) checked
-    ∙ ap (option_map (over_since ttl)) absent)
+walk-lost roll half ttl a k ks absent =
+    ap (λ o. fold (over_with roll half ttl) (option_map (λ y. max a y) o) ks) absent
     ∙ lost (over_at roll half ttl) ks
 
 module _ (f : KeyParts → Option ℕ) where
@@ -207,26 +203,29 @@ module _ (roll : RollType) (half : Half) (ttl : ℕ) where
 
 -- ---- the keys of a key set
 
-module _ (roll : RollType) (half : Half) (ttl : ℕ) (i : Inside) (v : Keys)
-    (view : the_view i ≡ v) (unique : IsUnique string_eq i.map) where
+module _ {Y S : Type 0} (roll : RollType) (half : Half) (ttl : ℕ)
+    (m : HashMap (String Y) KeyParts S) (unique : IsUnique string_eq m) where
+  v : Keys
+  v = keys_in_map m
+
   over : KeyParts → Option ℕ
   over k = over_at roll half ttl k
 
   ks : List KeyParts
-  ks = hash_values i.map
+  ks = hash_values m
 
   seen : (p : KeyParts → Bool) → some_key p v ≡ list_any p ks
-  unfolding ks
-  seen p = some_key-view p i v view unique
+  unfolding ks v
+  seen p = some_key-shown p m unique
 
   lacks : some_key (lacks_stamp roll half) v ≡ list_any (is_missing over) ks
   unfolding over is_missing
   lacks = (λ j. some_key (λ k. missing-same roll half ttl k j) v) ∙ seen (is_missing over)
 
   -- a walk that finds a stamp missing
-  pub walk-lacks : None ≡ fold (over_with roll half ttl) (Some 0) (hash_values i.map)
-      → LacksStamp roll half ttl v
-  unfolding over ks further
+  pub walk-lacks : None ≡ fold (over_with roll half ttl) (Some 0) (hash_values m)
+      → LacksStamp roll half ttl (keys_in_map m)
+  unfolding over ks further v
   walk-lacks walk now =
       ap (λ b. if b then Barred WrongKeyState else early_by (longest_left roll half ttl now v))
       (lacks ∙ walk-missing over ks 0 (sym walk))
@@ -238,9 +237,9 @@ module _ (roll : RollType) (half : Half) (ttl : ℕ) (i : Inside) (v : Keys)
       (lacks ∙ none)
 
   -- a walk that finds from when on the wait is over
-  pub walk-over : (end : ℕ) → Some end ≡ fold (over_with roll half ttl) (Some 0) (hash_values i.map)
-      → IsOverFrom roll half ttl v end
-  unfolding over ks further is_above left_of
+  pub walk-over : (end : ℕ) → Some end ≡ fold (over_with roll half ttl) (Some 0) (hash_values m)
+      → IsOverFrom roll half ttl (keys_in_map m) end
+  unfolding over ks further is_above left_of v
   walk-over end walk = record {
     early = λ now less.
         let just : list_any (is_just over end) ks

@@ -20,9 +20,7 @@ use Rattle.std.proofs.lemmas.List.Sorted.{IsPermutation-map, list_any-IsPermutat
 use Rattle.std.proofs.lemmas.Map.{lookup-none}
 use Rattle.std.proofs.lemmas.Map.Text.{is_text}
 use Rattle.dnssec_key.specs.Key.{KeyParts}
-use Rattle.dnssec_zone.specs.Keys.{Keys, keys_in_map, entries_by_bytes, some_key}
-use Rattle.dnssec_zone.specs.declared.keys.Keys.TheInside.{Inside}
-use Rattle.dnssec_zone.specs.contracts.keys.Keys.{the_view}
+use Rattle.dnssec_zone.specs.Keys.{keys_in_map, entries_by_bytes, some_key}
 use Rattle.dnssec_zone.proofs.Shown.{find_by_bytes}
 
 module _ {X : Type 0} where
@@ -102,8 +100,3 @@ module _ {Y : Type 0} where
     pub some_key-shown : (p : KeyParts → Bool) (m : HashMap (String Y) KeyParts S)
         → IsUnique string_eq m → some_key p (keys_in_map m) ≡ list_any p (values m)
     some_key-shown p m unique = sym (list_any-IsPermutation p _ _ (values_permute m unique))
-
--- what some key of a key set passes, through the hash map that it holds
-pub some_key-view : (p : KeyParts → Bool) (i : Inside) (v : Keys) → the_view i ≡ v →
-    IsUnique string_eq i.map → some_key p v ≡ list_any p (values i.map)
-some_key-view p i v e unique = sym (ap (some_key p) e) ∙ some_key-shown p i.map unique

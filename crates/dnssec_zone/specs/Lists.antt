@@ -4,9 +4,6 @@ use Rattle.std.specs.Str.{bytes_eq}
 use Rattle.std.specs.FinMap.{get}
 use Rattle.std.specs.Option.{option_map_or}
 use Rattle.dnssec_key.specs.declared.roll.RollType.{RollType}
-use Rattle.dnssec_key.specs.declared.roll.RollType.TheVariants.{KskRoll, KskDoubleDsRoll, ZskRoll}
-use Rattle.dnssec_key.specs.declared.roll.RollType.TheVariants.{ZskDoubleSignatureRoll, CskRoll}
-use Rattle.dnssec_key.specs.declared.roll.RollType.TheVariants.{AlgorithmRoll}
 use Rattle.dnssec_key.specs.State.{is_kept}
 use Rattle.dnssec_key.specs.Key.{all_states}
 use Rattle.dnssec_key.specs.RollTable.{Half, First, Second}
@@ -23,42 +20,20 @@ abbrev pub nothing_listed : Listed
 nothing_listed = record { olds = []; news = [] }
 
 -- what is kept for each roll
-pub record Lists : Type 0 where
-  pub ksk_roll : Listed
-  pub ksk_double_ds_roll : Listed
-  pub zsk_roll : Listed
-  pub zsk_double_signature_roll : Listed
-  pub csk_roll : Listed
-  pub algorithm_roll : Listed
+abbrev pub Lists : Type 0
+Lists = RollType → Listed
 
 -- what is kept for one roll
 abbrev pub listed_by : Lists → RollType → Listed
-listed_by lists KskRoll = lists.ksk_roll
-listed_by lists KskDoubleDsRoll = lists.ksk_double_ds_roll
-listed_by lists ZskRoll = lists.zsk_roll
-listed_by lists ZskDoubleSignatureRoll = lists.zsk_double_signature_roll
-listed_by lists CskRoll = lists.csk_roll
-listed_by lists AlgorithmRoll = lists.algorithm_roll
-
--- the lists that f gives
-abbrev pub lists_by : (RollType → Listed) → Lists
-lists_by f = record {
-  ksk_roll = f KskRoll;
-  ksk_double_ds_roll = f KskDoubleDsRoll;
-  zsk_roll = f ZskRoll;
-  zsk_double_signature_roll = f ZskDoubleSignatureRoll;
-  csk_roll = f CskRoll;
-  algorithm_roll = f AlgorithmRoll;
-}
+listed_by lists roll = lists roll
 
 -- no start has listed a key
 abbrev pub no_lists : Lists
-no_lists = lists_by (λ roll. nothing_listed)
+no_lists = λ roll. nothing_listed
 
 -- the lists with these put in for one roll
 abbrev pub with_listed : Lists → RollType → Listed → Lists
-with_listed lists roll listed =
-    lists_by (λ other. if same_roll roll other then listed else listed_by lists other)
+with_listed lists roll listed = λ other. if same_roll roll other then listed else lists other
 
 -- a list without a reference
 abbrev pub others : List ℕ → List (List ℕ) → List (List ℕ)
@@ -66,10 +41,10 @@ others reference = filter (λ q. not (bytes_eq reference q))
 
 -- the lists without a reference
 abbrev pub without : List ℕ → Lists → Lists
-without reference lists = lists_by (λ roll. record {
-  olds = others reference (listed_by lists roll).olds;
-  news = others reference (listed_by lists roll).news;
-})
+without reference lists = λ roll. record {
+  olds = others reference (lists roll).olds;
+  news = others reference (lists roll).news;
+}
 
 -- ---- what is kept of a start, and until when
 

@@ -14,9 +14,12 @@ use Rattle.dnssec_base.specs.declared.error.Error.TheVariants.{KeyNotFound, Wron
 use Rattle.dnssec_base.specs.declared.error.Error.TheVariants.{WrongKeyState, AlgorithmSetsMismatch}
 use Rattle.dnssec_base.specs.declared.error.Error.TheVariants.{NoSuitableKeyPresent}
 use Rattle.dnssec_key.specs.declared.roll.RollType.{RollType}
-use Rattle.dnssec_key.specs.declared.roll.RollType.TheVariants.{KskRoll, KskDoubleDsRoll, ZskRoll}
-use Rattle.dnssec_key.specs.declared.roll.RollType.TheVariants.{ZskDoubleSignatureRoll, CskRoll}
-use Rattle.dnssec_key.specs.declared.roll.RollType.TheVariants.{AlgorithmRoll}
+pub use Rattle.dnssec_key.specs.declared.roll.Side.{Side}
+pub use Rattle.dnssec_key.specs.declared.roll.Side.TheVariants.{KskSide, ZskSide, BothSides}
+pub use Rattle.dnssec_key.specs.declared.roll.Want.{Want}
+pub use Rattle.dnssec_key.specs.declared.roll.Want.TheVariants.{PresentKsk, KskAtParent, PresentZsk}
+pub use Rattle.dnssec_key.specs.declared.roll.Want.TheVariants.{PresentKskRole, PresentZskRole}
+pub use Rattle.dnssec_key.specs.Sides.{side_of, wants, may_change_algorithms}
 use Rattle.dnssec_key.specs.declared.kind.KeyType.{KeyType}
 use Rattle.dnssec_key.specs.State.{is_any, is_fresh, kept_present, kept_at_parent}
 use Rattle.dnssec_key.specs.Key.{ksk, zsk, any_key, KeyParts, all_states, ksk_role, zsk_role}
@@ -24,21 +27,6 @@ use Rattle.dnssec_zone.specs.Rolls.{Rolls, phase_of, all_rolls}
 use Rattle.dnssec_zone.specs.Keys.{Keys, some_entry}
 
 -- ---- rolls side by side
-
--- which keys a roll changes: only KSKs, only ZSKs, or KSKs, ZSKs and CSKs
-pub data Side : Type 0 where
-  KskSide : Side
-  ZskSide : Side
-  BothSides : Side
-
--- the side of a roll
-abbrev pub side_of : RollType → Side
-side_of KskRoll = KskSide
-side_of KskDoubleDsRoll = KskSide
-side_of ZskRoll = ZskSide
-side_of ZskDoubleSignatureRoll = ZskSide
-side_of CskRoll = BothSides
-side_of AlgorithmRoll = BothSides
 
 -- one side has only KSKs, and the other only ZSKs
 abbrev pub are_apart : Side → Side → Bool
@@ -120,15 +108,6 @@ abbrev pub algorithms_within : (List ℕ → Option KeyParts) → List (List ℕ
 algorithms_within at qs others =
     list_all (λ q. option_map_or (λ k. has_algorithm at others k.algorithm) (at q) true) qs
 
--- only an algorithm roll goes from one set of algorithms to another (RFC 6781, section 4.1.4)
-abbrev pub may_change_algorithms : RollType → Bool
-may_change_algorithms KskRoll = false
-may_change_algorithms KskDoubleDsRoll = false
-may_change_algorithms ZskRoll = false
-may_change_algorithms ZskDoubleSignatureRoll = false
-may_change_algorithms CskRoll = false
-may_change_algorithms AlgorithmRoll = true
-
 -- the two lists differ in algorithms that the roll may not change (RFC 6781, section 4.1.4)
 abbrev pub algorithm_fault : RollType → (List ℕ → Option KeyParts) → List (List ℕ) → List (List ℕ)
     → Option Error
@@ -138,24 +117,6 @@ algorithm_fault roll at olds news =
     then None else Some AlgorithmSetsMismatch
 
 -- ---- the keys to go on with
-
--- a key that a start has to leave: a KSK in the DNSKEY set, a KSK with a DS, a ZSK in the DNSKEY
--- set; or there a KSK or CSK, or a ZSK or CSK
-pub data Want : Type 0 where
-  PresentKsk : Want
-  KskAtParent : Want
-  PresentZsk : Want
-  PresentKskRole : Want
-  PresentZskRole : Want
-
--- what a start has to leave: a key that serves on each side of the roll
-abbrev pub wants : RollType → List Want
-wants KskRoll = PresentKsk ∷ []
-wants KskDoubleDsRoll = KskAtParent ∷ []
-wants ZskRoll = PresentZsk ∷ []
-wants ZskDoubleSignatureRoll = PresentZsk ∷ []
-wants CskRoll = PresentKskRole ∷ PresentZskRole ∷ []
-wants AlgorithmRoll = PresentKskRole ∷ PresentZskRole ∷ []
 
 -- a new key serves as soon as it comes in
 abbrev pub serves_as_new : Want → KeyType → Bool

@@ -7,7 +7,6 @@ ghost use Rattle.std.specs.Str.{bytes_eq};
 ghost use Rattle.std.specs.FinMap as map;
 ghost use Rattle.dnssec_key.specs.Key.{KeyParts};
 ghost use Rattle.dnssec_key.specs.Inner.Bits.{is_set};
-ghost use Rattle.dnssec_zone.specs.Inner.Code.{as_want};
 ghost use Rattle.dnssec_zone.specs.Inner.Counts.{count_in, listed_passes};
 ghost use Rattle.dnssec_zone.specs.Inner.Kinds.{AreOf, is_met_among, some_serves};
 ghost use Rattle.dnssec_zone.specs.Inner.Tags.{HasListed, has_its_tag};
@@ -15,15 +14,18 @@ ghost use Rattle.dnssec_zone.specs.Start.{texts, is_listed, old_entry_fault, old
 ghost use Rattle.dnssec_zone.specs.Start.{new_entry_fault, new_fault, has_algorithm};
 ghost use Rattle.dnssec_zone.specs.Start.{algorithms_within, may_change_algorithms};
 ghost use Rattle.dnssec_zone.specs.Start.{serves_as_new, serves_as_kept, some_kept};
-ghost use Rattle.dnssec_zone.specs.Start.{suitability_fault, Want as WantOfStart};
+ghost use Rattle.dnssec_zone.specs.Start.{suitability_fault, Want as AnyWant};
 ghost use Rattle.dnssec_zone.specs.Refusals.{AnswersExactly};
 
 use crate::keys::Keys;
-use crate::side::{Kinds, Want, may_change_algorithms, side_of, wants};
-use dnssec_key::{AlgorithmSet, Error, Key, RollType, TagSet, is_set, set};
+use crate::side::{Kinds, may_list, serves_as_kept};
+use dnssec_key::{
+    AlgorithmSet, Error, Key, RollType, TagSet, Want, is_set, may_change_algorithms, set, side_of,
+    wants,
+};
 
-/// A list of more entries counts as long.
-const FEW: usize = 4;
+/// A list of more entries is long.
+const ENTRIES_OF_SHORT_LIST: usize = 4;
 
 /// What a start asks of its new keys together.
 #[derive(Clone, Copy)]
@@ -36,7 +38,7 @@ impl NewKeys {
     /// What it asks of no keys.
     fn none() -> NewKeys
         ensures algorithms { (a : ℕ) → is_set result.algorithms a ≡ false }
-        ensures kinds { (w : WantOfStart) → some_serves result.kinds w ≡ false }
+        ensures kinds { (w : AnyWant) → some_serves result.kinds w ≡ false }
     {
         NewKeys {
             algorithms: [0; 4],
@@ -48,7 +50,7 @@ impl NewKeys {
     fn add(&mut self, key: &Key)
         ensures algorithms { (a : ℕ) → is_set self.new.algorithms a
             ≡ (is_set self.old.algorithms a || nat_eq key.now.algorithm a) }
-        ensures kinds { (w : WantOfStart) → some_serves self.new.kinds w
+        ensures kinds { (w : AnyWant) → some_serves self.new.kinds w
             ≡ (some_serves self.old.kinds w || serves_as_new w key.now.keytype) }
     {
         set(&mut self.algorithms, u16::from(key.algorithm().to_int()));
@@ -56,6 +58,7 @@ impl NewKeys {
     }
 }
 
+/// Whether a reference stands in a list.
 fn is_listed(references: &[&str], reference: &str) -> bool
     ensures { result ≡ list_any (λ r. bytes_eq reference.now r.now) references.now }
 {
@@ -75,7 +78,7 @@ fn is_taken(old: &[&str], earlier: &[&str], reference: &str) -> bool
 fn new_key_fault(roll: RollType, key: &Key, is_taken: bool) -> Option<Error>
     ensures { result ≡ new_entry_fault roll (Some key.now) is_taken }
 {
-    if !side_of(roll).lists(key.keytype()) {
+    if !may_list(side_of(roll), key.keytype()) {
         Some(Error::WrongKeyType)
     } else if key.is_fresh() && !is_taken {
         None
@@ -108,7 +111,7 @@ impl Keys {
     {
         match self.get(reference) {
             None => Err(Error::KeyNotFound),
-            Some(key) if side_of(roll).lists(key.keytype()) => Ok(key),
+            Some(key) if may_list(side_of(roll), key.keytype()) => Ok(key),
             Some(_) => Err(Error::WrongKeyType),
         }
     }
@@ -147,7 +150,7 @@ impl Keys {
         ensures listed { (listed : List ℕ → Bool) → HasListed tags.old self.now listed
             → HasListed tags.new self.now (λ q. listed q || bytes_eq reference.now q) }
     {
-        self.differ_in_tags();
+        self.tags_differ();
         if let Some(key) = self.get(reference) {
             set(tags, key.key_tag());
         }
@@ -178,13 +181,14 @@ impl Keys {
             is_set keys.algorithms a ≡ has_algorithm (map.get self.now) (texts new.now) a) }
         ensures kinds { IfOk result (λ keys. AreOf (map.get self.now) (texts new.now) keys.kinds) }
     {
-        if old.len() <= FEW && new.len() <= FEW {
+        if old.len() <= ENTRIES_OF_SHORT_LIST && new.len() <= ENTRIES_OF_SHORT_LIST {
             self.check_few_new(roll, old, new)
         } else {
             self.check_many_new(roll, old, new)
         }
     }
 
+    /// The same for short lists: each new entry is looked for in both.
     #[tactic(auto, using(crate::proofs::TwoLists::lists))]
     fn check_few_new(&self, roll: RollType, old: &[&str], new: &[&str]) -> Result<NewKeys, Error>
         ensures fault { AnswersExactly
@@ -201,6 +205,7 @@ impl Keys {
         Ok(keys)
     }
 
+    /// The same for long lists: the tags of the keys that they name are put into a set.
     // Out of line, so that a start with short lists doesn't pay for the place of the set.
     #[inline(never)]
     #[tactic(auto, using(crate::proofs::TwoLists::lists))]
@@ -251,15 +256,17 @@ impl Keys {
         }
     }
 
+    /// Whether each want is met.
     fn are_met(&self, wants: &[Want], old: &[&str], new: Kinds) -> bool
         ensures { result ≡
-            list_all (λ w. is_met_among self.now (texts old.now) new (as_want w)) wants.now }
+            list_all (λ w. is_met_among self.now (texts old.now) new w) wants.now }
     {
         wants.iter().all(|want| self.is_met(*want, old, new))
     }
 
+    /// Whether a new key of these kinds serves, or a key that isn't listed as old.
     fn is_met(&self, want: Want, old: &[&str], new: Kinds) -> bool
-        ensures { result ≡ is_met_among self.now (texts old.now) new (as_want want) }
+        ensures { result ≡ is_met_among self.now (texts old.now) new want }
     {
         new.meet(want) || self.has_kept(want, old)
     }
@@ -267,7 +274,7 @@ impl Keys {
     /// Whether a key that isn't listed as old serves: more keys serve than the list has of these.
     #[tactic(auto, using(crate::proofs::Counted::Lists::counts))]
     fn has_kept(&self, want: Want, old: &[&str]) -> bool
-        ensures { result ≡ some_kept (serves_as_kept (as_want want)) self.now (texts old.now) }
+        ensures { result ≡ some_kept (serves_as_kept want) self.now (texts old.now) }
     {
         self.count_listed(want, old) < self.count(want)
     }
@@ -275,18 +282,19 @@ impl Keys {
     /// How many keys of a list serve, if they aren't listed as old: each is counted once.
     fn count_listed(&self, want: Want, old: &[&str]) -> usize
         ensures { result ≡
-            count_in (listed_passes (serves_as_kept (as_want want)) (texts old.now)) self.now }
+            count_in (listed_passes (serves_as_kept want) (texts old.now)) self.now }
     {
-        if old.len() <= FEW {
+        if old.len() <= ENTRIES_OF_SHORT_LIST {
             self.count_few_listed(want, old)
         } else {
             self.count_many_listed(want, old)
         }
     }
 
+    /// The same for a short list: an entry counts if none before it is the same.
     fn count_few_listed(&self, want: Want, old: &[&str]) -> usize
         ensures { result ≡
-            count_in (listed_passes (serves_as_kept (as_want want)) (texts old.now)) self.now }
+            count_in (listed_passes (serves_as_kept want) (texts old.now)) self.now }
     {
         let mut count = 0;
         for (i, reference) in old.iter().enumerate() {
@@ -297,10 +305,11 @@ impl Keys {
         count
     }
 
+    /// The same for a long list: the tags of the keys so far are put into a set.
     #[inline(never)]
     fn count_many_listed(&self, want: Want, old: &[&str]) -> usize
         ensures { result ≡
-            count_in (listed_passes (serves_as_kept (as_want want)) (texts old.now)) self.now }
+            count_in (listed_passes (serves_as_kept want) (texts old.now)) self.now }
     {
         let mut earlier = [0; 1024];
         let mut count = 0;
@@ -316,24 +325,24 @@ impl Keys {
     /// Whether the key at a reference serves, and isn't one of these.
     #[tactic(auto, using(crate::proofs::TwoLists::lists))]
     fn serves_but_for(&self, want: Want, reference: &str, earlier: &[&str]) -> bool
-        ensures { result ≡ option_map_or (λ k. serves_as_kept (as_want want) k.keytype
+        ensures { result ≡ option_map_or (λ k. serves_as_kept want k.keytype
             && not (is_listed (texts earlier.now) reference.now))
             (map.get self.now reference.now) false }
     {
         match self.get(reference) {
             None => false,
-            Some(key) => want.is_met_by_kept(key.keytype()) && !is_listed(earlier, reference),
+            Some(key) => serves_as_kept(want, key.keytype()) && !is_listed(earlier, reference),
         }
     }
 
     /// Whether the key at a reference serves, and isn't one of those with these tags.
     fn serves_first(&self, want: Want, reference: &str, earlier: &TagSet) -> bool
-        ensures { result ≡ option_map_or (λ k. serves_as_kept (as_want want) k.keytype
+        ensures { result ≡ option_map_or (λ k. serves_as_kept want k.keytype
             && not (is_set earlier.now k.key_tag)) (map.get self.now reference.now) false }
     {
         match self.get(reference) {
             None => false,
-            Some(key) => { want.is_met_by_kept(key.keytype()) && !is_set(earlier, key.key_tag()) }
+            Some(key) => { serves_as_kept(want, key.keytype()) && !is_set(earlier, key.key_tag()) }
         }
     }
 }

@@ -1,14 +1,10 @@
 //! How many keys a start could go on with.
 ghost use Rattle.std.specs.Prelude.{◌≡◌, if◌then◌else◌};
-ghost use Rattle.dnssec_key.specs.RollTable.{which};
 ghost use Rattle.dnssec_key.specs.Setters.{setting_of};
-ghost use Rattle.dnssec_zone.specs.Inner.Code.{as_want};
-ghost use Rattle.dnssec_zone.specs.Inner.Counts.{count_of, counts_stepped, moves_counts, no_counts};
-ghost use Rattle.dnssec_zone.specs.Inner.Counts.{one_step, wait_moves_counts, with_key};
-ghost use Rattle.dnssec_zone.specs.Inner.Counts.{without_key};
+ghost use Rattle.dnssec_zone.specs.Inner.Counts.{count_after, count_of, counts_after, moves_counts};
+ghost use Rattle.dnssec_zone.specs.Inner.Counts.{no_counts, with_key, without_key};
 
-use crate::side::Want;
-use dnssec_key::{Half, KeyType, RollType, Setting, is_kept_at_parent, is_kept_present};
+use dnssec_key::{KeyType, Setting, Want, is_kept_at_parent, is_kept_present};
 
 /// For each want, how many keys meet it in their state, whether a start lists them as old or not.
 #[derive(Clone, Copy)]
@@ -22,36 +18,23 @@ pub(crate) struct Counts {
 
 /// Whether a key comes into the counts, or goes out of them.
 #[derive(Clone, Copy)]
-enum Step {
-    In,
-    Out,
+pub(crate) enum Counting {
+    OneMore,
+    OneLess,
 }
 
-impl Step {
+impl Counting {
     /// Changes a count, if the key serves.
-    fn take(self, count: &mut usize, serves: bool)
-        ensures { count.new ≡ one_step serves self count.old }
+    fn change(self, count: &mut usize, serves: bool)
+        ensures { count.new ≡ count_after serves self count.old }
     {
         if serves {
             *count = match self {
-                Step::In => count.saturating_add(1),
-                Step::Out => count.saturating_sub(1),
+                Counting::OneMore => count.saturating_add(1),
+                Counting::OneLess => count.saturating_sub(1),
             };
         }
     }
-}
-
-/// Whether a wait may change the counts. Other waits change no flag that a count asks for, in a key
-/// that stays.
-pub(crate) fn wait_moves_counts(roll: RollType, half: Half) -> bool
-    ensures { result ≡ wait_moves_counts roll (which half) }
-{
-    matches!(
-        (roll, half),
-        (RollType::KskRoll | RollType::KskDoubleDsRoll, Half::First)
-            | (RollType::CskRoll, Half::First)
-            | (RollType::AlgorithmRoll, Half::First | Half::Second)
-    )
 }
 
 impl Counts {
@@ -68,8 +51,9 @@ impl Counts {
         }
     }
 
+    /// How many keys meet a want.
     pub(crate) fn of(&self, want: Want) -> usize
-        ensures { result ≡ count_of self.now (as_want want) }
+        ensures { result ≡ count_of self.now want }
     {
         match want {
             Want::PresentKsk => self.present_ksk,
@@ -80,47 +64,25 @@ impl Counts {
         }
     }
 
-    /// The counts with one key more.
-    pub(crate) fn with(mut self, keytype: &KeyType) -> Counts
-        ensures { result ≡ with_key keytype.now self }
-    {
-        self.put_in(keytype);
-        self
-    }
-
-    /// Counts a key.
-    pub(crate) fn put_in(&mut self, keytype: &KeyType)
-        ensures { self.new ≡ with_key keytype.now self.old }
-    {
-        self.step(keytype, Step::In);
-    }
-
-    /// Counts a key no longer.
-    pub(crate) fn take_out(&mut self, keytype: &KeyType)
-        ensures { self.new ≡ without_key keytype.now self.old }
-    {
-        self.step(keytype, Step::Out);
-    }
-
-    /// Changes the counts that the key is in.
-    fn step(&mut self, keytype: &KeyType, step: Step)
-        ensures { self.new ≡ counts_stepped step keytype.now self.old }
+    /// Counts a key, or counts it no longer.
+    pub(crate) fn count(&mut self, keytype: &KeyType, counting: Counting)
+        ensures { self.new ≡ counts_after counting keytype.now self.old }
     {
         match *keytype {
             KeyType::Ksk(ksk) => {
                 let present = is_kept_present(Some(ksk));
-                step.take(&mut self.present_ksk, present);
-                step.take(&mut self.present_ksk_role, present);
-                step.take(&mut self.ksk_at_parent, is_kept_at_parent(Some(ksk)));
+                counting.change(&mut self.present_ksk, present);
+                counting.change(&mut self.present_ksk_role, present);
+                counting.change(&mut self.ksk_at_parent, is_kept_at_parent(Some(ksk)));
             }
             KeyType::Zsk(zsk) => {
                 let present = is_kept_present(Some(zsk));
-                step.take(&mut self.present_zsk, present);
-                step.take(&mut self.present_zsk_role, present);
+                counting.change(&mut self.present_zsk, present);
+                counting.change(&mut self.present_zsk_role, present);
             }
             KeyType::Csk(ksk, zsk) => {
-                step.take(&mut self.present_ksk_role, is_kept_present(Some(ksk)));
-                step.take(&mut self.present_zsk_role, is_kept_present(Some(zsk)));
+                counting.change(&mut self.present_ksk_role, is_kept_present(Some(ksk)));
+                counting.change(&mut self.present_zsk_role, is_kept_present(Some(zsk)));
             }
             KeyType::Include(_) => {}
         }
@@ -135,8 +97,8 @@ impl Counts {
             setting,
             Setting::Present(_, _) | Setting::AtParent(_) | Setting::Stale
         ) {
-            self.take_out(before);
-            self.put_in(after);
+            self.count(before, Counting::OneLess);
+            self.count(after, Counting::OneMore);
         }
     }
 }

@@ -1,5 +1,5 @@
 //! The keys by their public references.
-ghost use Rattle.std.specs.Prelude.{◌≡◌, ◌<◌, ℕ, List, None, Some, true, string_bytes, IfOk, IfErr};
+ghost use Rattle.std.specs.Prelude.{◌≡◌, ℕ, List, None, Some, string_bytes, IfOk, IsOkUnless};
 ghost use Rattle.std.specs.Prelude.{IfSome, IfNone, OnOk, OnErr, if◌then◌else◌};
 ghost use Rattle.std.specs.Option.{option_map};
 ghost use Rattle.std.specs.Str.{bytes_eq};
@@ -10,25 +10,20 @@ ghost use Rattle.dnssec_key.specs.RollTable.{which, after_report, after_wait, ne
 ghost use Rattle.dnssec_key.specs.RollTable.{after_early_end, old_at_start};
 ghost use Rattle.dnssec_key.specs.Setters.{setting_of, set_by};
 ghost use Rattle.dnssec_key.specs.Inner.Bits.{is_set};
-ghost use Rattle.dnssec_key.specs.Inner.TagIndex.{has};
 ghost use Rattle.dnssec_zone.specs.Inner.Change.{makes};
-ghost use Rattle.dnssec_zone.specs.Inner.Code.{as_want};
-ghost use Rattle.dnssec_zone.specs.Inner.Counts.{CountsAgree, count_in, passes};
+ghost use Rattle.dnssec_zone.specs.Inner.Counts.{count_in, passes};
 ghost use Rattle.dnssec_zone.specs.Keys.{TagsApart, keys_in_map, has_tag};
 ghost use Rattle.dnssec_zone.specs.Start.{is_listed, serves_as_kept, texts};
 ghost use Rattle.dnssec_zone.specs.Refusals.{Answers, AnswersExactly, add_refusal};
 ghost use Rattle.dnssec_zone.specs.Refusals.{deletion_refusal, setting_refusal};
-ghost use Rattle.dnssec_zone.specs.Inner.Tags.{TagsAgree};
 ghost use Rattle.dnssec_zone.specs.Wait.{IsOverFrom, LacksStamp};
 
-use crate::begun_wait::{BegunWait, set_key};
-use crate::counts::Counts;
-use crate::key_map::{
-    clone_map, counts_after_wait, index_many, is_sound, latest_over, put_new, recount,
-    some_has_tag, unmark_key,
+use crate::derived::Derived;
+use crate::key_map::{put_new, references_differ, some_has_tag, unmark_key};
+use crate::wait_end::over_from;
+use dnssec_key::{
+    Error, Half, Key, RollType, Setting, TagSet, UnixTime, Want, move_on, stamp_report,
 };
-use crate::side::Want;
-use dnssec_key::{Error, Half, Key, RollType, Setting, TagIndex, TagSet, UnixTime, is_set};
 use std::alloc::Global;
 use std::collections::HashMap;
 use std::marker::Model;
@@ -37,22 +32,12 @@ use std::marker::Model;
 #[derive(Drop)]
 pub struct Keys {
     map: HashMap<String, Key>,
-    /// The tags of the keys, after there were many.
-    tags: TagIndex,
-    /// How many keys a start could go on with.
-    counts: Counts,
-    /// What is known of the wait that the last report began. A setter drops it if the wait then
-    /// sees a change in its key. An add and the steps of rolls always drop it. A deletion never
-    /// does: no wait checks a stale key.
-    begun: Option<BegunWait>,
+    derived: Derived,
 }
 
 impl Model for Keys {
     ghost use Rattle.std.specs.Coded.{codes};
-    ghost use Rattle.dnssec_zone.specs.Inner.Begun.{IsKnown};
-    ghost use Rattle.dnssec_zone.specs.Inner.Counts.{CountsAgree};
-    ghost use Rattle.dnssec_key.specs.Inner.TagIndex.{has};
-    ghost use Rattle.dnssec_zone.specs.Inner.Tags.{TagsAgree};
+    ghost use Rattle.dnssec_zone.specs.Inner.Derived.{IsDerived};
     ghost use Rattle.dnssec_zone.specs.Keys.{Keys as ByReference, keys_code, keys_in_map};
 
     ghost Value = { ByReference };
@@ -61,49 +46,35 @@ impl Model for Keys {
 
     ghost view = { λ s. keys_in_map s.map };
 
-    ghost invariant = { λ s. TagsAgree (has s.tags) (keys_in_map s.map)
-        × CountsAgree s.counts (keys_in_map s.map) × IsKnown s.begun (keys_in_map s.map) };
+    ghost invariant = { λ s. IsDerived s.derived (keys_in_map s.map) };
 }
 
-/// A change of one key.
+/// What a start does to a key that it lists.
 #[derive(Clone, Copy)]
 pub(crate) enum Change {
     MarkOld,
     MarkNew(RollType, UnixTime),
 }
 
-impl Change {
-    fn make(self, key: &mut Key)
-        ensures { key.new ≡ makes self key.old }
-    {
-        match self {
-            Change::MarkOld => key.mark_old(),
-            Change::MarkNew(roll, now) => key.mark_new(roll, now),
-        }
-    }
-}
-
 impl Keys {
+    /// No keys.
     pub fn new(alloc: Global) -> Self
         ensures { result ≡ map.empty }
     {
         Keys {
             map: HashMap::new(alloc),
-            tags: TagIndex::none(),
-            counts: Counts::none(),
-            begun: None,
+            derived: Derived::none(),
         }
     }
 
+    /// A copy, if there is memory for it.
     pub fn try_clone(&self, alloc: Global) -> Result<Keys, Error>
         ensures same { IfOk result (λ keys. keys ≡ self.now) }
-        ensures err { IfErr result (λ e. e ≡ OutOfMemory) }
+        ensures err { IsOkUnless result OutOfMemory }
     {
         Ok(Keys {
-            map: clone_map(&self.map)?,
-            tags: self.tags.try_clone(alloc)?,
-            counts: self.counts,
-            begun: self.begun,
+            map: self.map.clone()?,
+            derived: self.derived.try_clone(alloc)?,
         })
     }
 
@@ -123,8 +94,9 @@ impl Keys {
         self.map.get(reference)
     }
 
-    /// No two keys have one tag. The function does nothing: its contract is a law.
-    pub fn differ_in_tags(&self)
+    /// A law of the keys: no two have one tag. It does nothing: its contract serves the proofs of
+    /// its callers.
+    pub(crate) fn tags_differ(&self)
         ensures { TagsApart self.now }
     {
         let _ = &self.map;
@@ -134,7 +106,7 @@ impl Keys {
     fn has_tag(&self, key_tag: u16) -> bool
         ensures { result ≡ has_tag key_tag self.now }
     {
-        match self.tags.has(key_tag) {
+        match self.derived.tags.has(key_tag) {
             Some(has) => has,
             None => some_has_tag(&self.map, key_tag),
         }
@@ -142,9 +114,9 @@ impl Keys {
 
     /// How many keys meet a want in their state, whether a start lists them as old or not.
     pub(crate) fn count(&self, want: Want) -> usize
-        ensures { result ≡ count_in (passes (serves_as_kept (as_want want))) self.now }
+        ensures { result ≡ count_in (passes (serves_as_kept want)) self.now }
     {
-        self.counts.of(want)
+        self.derived.counts.of(want)
     }
 
     /// Adds a key. Its tag is looked for first, then its reference.
@@ -162,12 +134,10 @@ impl Keys {
         if self.has_tag(key_tag) {
             return Err(Error::DuplicateKeyTag);
         }
-        index_many(&mut self.tags, alloc, &self.map, pubref.as_str())?;
+        self.derived.index_many(alloc, &self.map, pubref.as_str())?;
         put_new(&mut self.map, pubref, key)?;
-        self.begun = None;
-        self.tags.put(key_tag);
-        self.counts.put_in(&keytype);
-        is_sound(&self.map);
+        self.derived.add(key_tag, &keytype);
+        references_differ(&self.map);
         Ok(())
     }
 
@@ -190,7 +160,7 @@ impl Keys {
         }
         let key_tag = key.key_tag();
         self.map.remove(pubref);
-        self.tags.remove(key_tag);
+        self.derived.delete(key_tag);
         Ok(key_tag)
     }
 
@@ -210,14 +180,11 @@ impl Keys {
             return Err(Error::KeyNotFound);
         };
         let key_tag = key.key_tag();
-        let before = key.keytype();
-        if !before.suits(&setting) {
+        if !setting.suits(&key.keytype()) {
             return Err(Error::WrongKeyType);
         }
-        set_key(key, setting, &mut self.begun);
-        let after = key.keytype();
-        self.counts.follow(&setting, &before, &after);
-        is_sound(&self.map);
+        self.derived.set(key, setting);
+        references_differ(&self.map);
         Ok(key_tag)
     }
 
@@ -248,12 +215,11 @@ impl Keys {
         ensures { (q : List ℕ) → map.get self.new q ≡ option_map (λ k. after_early_end roll
             (is_set olds.now k.key_tag) (is_set news.now k.key_tag) k) (map.get self.old q) }
     {
-        self.begun = None;
         self.map.retain(|_, key| {
             unmark_key(roll, olds, news, key);
             true
         });
-        self.counts = recount(&self.map);
+        self.derived.recount(&self.map);
     }
 
     /// Changes the key at a reference, if there is one. Each caller has one change.
@@ -263,35 +229,24 @@ impl Keys {
         ensures { (q : List ℕ) → map.get self.new q ≡ option_map
             (λ k. if bytes_eq reference.now q then makes change k else k) (map.get self.old q) }
     {
-        self.begun = None;
         let Some(key) = self.map.get_mut(reference) else {
             return;
         };
-        self.counts.take_out(&key.keytype());
-        change.make(key);
-        self.counts.put_in(&key.keytype());
-        is_sound(&self.map);
+        self.derived.change(key, change);
+        references_differ(&self.map);
     }
 
-    /// Stamps every key that a report speaks of. Tools ask often for the wait that it begins, so
-    /// what a walk finds out about that wait is kept.
+    /// Stamps every key that a report speaks of.
     pub fn report_all(&mut self, roll: RollType, half: Half, ttl: u32, now: UnixTime)
         ensures { (q : List ℕ) → map.get self.new q
             ≡ option_map (after_report roll (which half) now) (map.get self.old q) }
     {
-        self.begun = None;
         // `retain` says what is written on each key; it keeps them all.
         self.map.retain(|_, key| {
-            key.report(roll, half, now);
+            stamp_report(key, roll, half, now);
             true
         });
-        let over = self.walk_for_wait(roll, half, ttl);
-        self.begun = Some(BegunWait {
-            roll,
-            half,
-            ttl,
-            over,
-        });
+        self.derived.report(&self.map, roll, half, ttl);
     }
 
     /// Moves every key on, once a wait is over.
@@ -299,12 +254,11 @@ impl Keys {
         ensures { (q : List ℕ) → map.get self.new q
             ≡ option_map (after_wait roll (which half) now) (map.get self.old q) }
     {
-        self.begun = None;
         self.map.retain(|_, key| {
-            key.go_on(roll, half, now);
+            move_on(key, roll, half, now);
             true
         });
-        self.counts = counts_after_wait(&self.map, self.counts, roll, half);
+        self.derived.go_on(&self.map, roll, half);
     }
 
     /// The nanosecond since 1970 from which a wait of `ttl` seconds is over, or `None` if a stamp
@@ -314,18 +268,9 @@ impl Keys {
             IsOverFrom roll (which half) ttl self.now end) }
         ensures missing { IfNone result (LacksStamp roll (which half) ttl self.now) }
     {
-        match self.begun {
+        match self.derived.reported {
             Some(wait) if wait.is_of(roll, half, ttl) => wait.over,
-            _ => self.walk_for_wait(roll, half, ttl),
+            _ => over_from(&self.map, roll, half, ttl),
         }
-    }
-
-    /// The same, by a walk over the keys.
-    fn walk_for_wait(&self, roll: RollType, half: Half, ttl: u32) -> Option<u128>
-        ensures over { IfSome result (λ end.
-            IsOverFrom roll (which half) ttl self.now end) }
-        ensures missing { IfNone result (LacksStamp roll (which half) ttl self.now) }
-    {
-        latest_over(&self.map, roll, half, ttl)
     }
 }

@@ -1,5 +1,5 @@
 //! What starts have listed. It is kept while their rolls may be ended early.
-ghost use Rattle.std.specs.Prelude.{◌≡◌, ℕ, List, [], ◌++◌, IfOk, IfErr, OnOk};
+ghost use Rattle.std.specs.Prelude.{◌≡◌, ℕ, List, [], ◌++◌, IfOk, OnOk, IsOkUnless};
 ghost use Rattle.std.specs.Option.{option_map};
 ghost use Rattle.std.specs.FinMap as map;
 ghost use Rattle.dnssec_base.specs.declared.error.Error.TheVariants.{OutOfMemory};
@@ -16,14 +16,14 @@ use dnssec_key::{Error, Half, Key, RollType, TagSet, set};
 use std::alloc::Global;
 
 /// What a start lists a key as.
-#[derive(Clone, Copy, Debug, PartialEq, Eq)]
+#[derive(Clone, Copy)]
 pub(crate) enum Part {
     Old,
     New,
 }
 
 /// A key that the start of a roll has listed, by its tag.
-#[derive(Clone, Copy, Debug)]
+#[derive(Clone, Copy)]
 pub(crate) struct Entry {
     pub(crate) roll: RollType,
     pub(crate) part: Part,
@@ -38,6 +38,7 @@ pub struct Lists {
 }
 
 impl Entry {
+    /// Whether the start of this roll has listed it.
     #[tactic(auto, using(crate::proofs::Phases::phases))]
     fn is_of_roll(self, roll: RollType) -> bool
         ensures { result ≡ is_of_roll roll self }
@@ -45,12 +46,14 @@ impl Entry {
         roll == self.roll
     }
 
+    /// The tag of the key.
     fn key_tag(self) -> u16
         ensures { result ≡ self.key_tag }
     {
         self.key_tag
     }
 
+    /// Whether the start of this roll has listed it as this.
     fn is_of(self, roll: RollType, part: Part) -> bool
         ensures { result ≡ is_of roll part self }
     {
@@ -63,6 +66,7 @@ impl Entry {
 }
 
 impl Lists {
+    /// No start has listed a key.
     pub fn new(alloc: Global) -> Lists
         ensures { result.entries.items ≡ [] }
     {
@@ -71,14 +75,13 @@ impl Lists {
         }
     }
 
+    /// A copy, if there is memory for it.
     pub fn try_clone(&self) -> Result<Lists, Error>
         ensures same { IfOk result (λ lists. lists.entries.items ≡ self.now.entries.items) }
-        ensures err { IfErr result (λ e. e ≡ OutOfMemory) }
+        ensures err { IsOkUnless result OutOfMemory }
     {
-        match self.entries.clone() {
-            Ok(entries) => Ok(Lists { entries }),
-            Err(_) => Err(Error::OutOfMemory),
-        }
+        let entries = self.entries.clone()?;
+        Ok(Lists { entries })
     }
 
     /// These lists, with what a start lists in place of what its roll listed before.
@@ -91,7 +94,7 @@ impl Lists {
     ) -> Result<Lists, Error>
         ensures ok { IfOk result (λ lists. lists.entries.items ≡ entries_at_start keys.now roll
             (texts old.now) (texts new.now) self.now.entries.items) }
-        ensures err { IfErr result (λ e. e ≡ OutOfMemory) }
+        ensures err { IsOkUnless result OutOfMemory }
     {
         let mut lists = self.try_clone()?;
         lists.take_out(roll);
@@ -110,7 +113,7 @@ impl Lists {
     ) -> Result<(), Error>
         ensures ok { OnOk result (self.new.entries.items
             ≡ self.old.entries.items ++ entries_of keys.now roll part (texts references.now)) }
-        ensures err { IfErr result (λ e. e ≡ OutOfMemory) }
+        ensures err { IsOkUnless result OutOfMemory }
     {
         for reference in references {
             self.list_one(roll, part, keys.get(reference))?;
@@ -118,22 +121,21 @@ impl Lists {
         Ok(())
     }
 
+    /// Lists a key if there is one, and it isn't old.
     fn list_one(&mut self, roll: RollType, part: Part, key: Option<&Key>) -> Result<(), Error>
         ensures ok { OnOk result (self.new.entries.items ≡ self.old.entries.items
             ++ entry_of roll part (option_map (λ k. k.now) key.entry)) }
-        ensures err { IfErr result (λ e. e ≡ OutOfMemory) }
+        ensures err { IsOkUnless result OutOfMemory }
     {
         match key {
             Some(key) if key.is_kept() => {
                 let key_tag = key.key_tag();
-                match self.entries.push(Entry {
+                self.entries.push(Entry {
                     roll,
                     part,
                     key_tag,
-                }) {
-                    Ok(()) => Ok(()),
-                    Err(_) => Err(Error::OutOfMemory),
-                }
+                })?;
+                Ok(())
             }
             _ => Ok(()),
         }

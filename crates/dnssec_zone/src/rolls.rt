@@ -1,6 +1,6 @@
 //! The rolls in progress, each in its phase. No other module opens the map that has them.
-ghost use Rattle.std.specs.Prelude.{◌≡◌, ◌↔◌, not, ◌&&◌, is_some, IsSome, IsTrue, None, Some, IfOk};
-ghost use Rattle.std.specs.Prelude.{IfErr, OnOk, OnErr};
+ghost use Rattle.std.specs.Prelude.{◌≡◌, not, ◌&&◌, is_some, IsSome, None, Some, IfOk};
+ghost use Rattle.std.specs.Prelude.{IsOkUnless, OnOk, OnErr};
 ghost use Rattle.std.specs.HashMap as hash;
 ghost use Rattle.dnssec_base.specs.declared.error.Error.TheVariants.{OutOfMemory};
 ghost use Rattle.dnssec_key.specs.declared.roll.RollType.{RollType as AnyRoll};
@@ -17,6 +17,7 @@ use std::alloc::Global;
 use std::collections::HashMap;
 use std::marker::Model;
 
+/// The six rolls.
 const ALL_ROLLS: [RollType; 6] = [
     RollType::KskRoll,
     RollType::KskDoubleDsRoll,
@@ -34,16 +35,17 @@ pub struct Rolls {
 
 impl Model for Rolls {
     ghost use Rattle.std.specs.Coded.{codes};
-    ghost use Rattle.dnssec_zone.specs.Rolls.{Rolls as Phases, rolls_in_map};
+    ghost use Rattle.dnssec_zone.specs.Rolls.{Rolls as Phases, rolls_in_map, roll_code};
 
     ghost Value = { Phases };
 
-    ghost coded = { Prim.hlevel codes };
+    ghost coded = { Prim.hlevel (codes, roll_code) };
 
     ghost view = { λ s. rolls_in_map s.phases };
 }
 
 impl Rolls {
+    /// No roll is in progress.
     pub fn new(alloc: Global) -> Self
         ensures { result ≡ no_rolls }
     {
@@ -52,14 +54,13 @@ impl Rolls {
         }
     }
 
+    /// A copy, if there is memory for it.
     pub fn try_clone(&self) -> Result<Rolls, Error>
         ensures same { IfOk result (λ rolls. rolls ≡ self.now) }
-        ensures err { IfErr result (λ e. e ≡ OutOfMemory) }
+        ensures err { IsOkUnless result OutOfMemory }
     {
-        match self.phases.clone() {
-            Ok(phases) => Ok(Rolls { phases }),
-            Err(_) => Err(Error::OutOfMemory),
-        }
+        let phases = self.phases.clone()?;
+        Ok(Rolls { phases })
     }
 
     /// The map itself, for callers to read.
@@ -80,24 +81,15 @@ impl Rolls {
         self.phases.get(&roll).copied()
     }
 
-    /// Whether no roll is in progress.
-    fn is_empty(&self) -> bool
-        ensures { IsTrue result ↔ (self.now ≡ no_rolls) }
-    {
-        self.phases.is_empty()
-    }
-
     /// Puts a roll into a phase. Without memory for it nothing is changed.
     #[tactic(auto, using(crate::proofs::Phases::phases))]
     pub fn put_in(&mut self, roll: RollType, phase: RollState) -> Result<(), Error>
         ensures ok { OnOk result (self.new ≡ with_phase self.old roll (Some phase)) }
         ensures err { OnErr result (self.new ≡ self.old) }
-        ensures memory { IfErr result (λ e. e ≡ OutOfMemory) }
+        ensures memory { IsOkUnless result OutOfMemory }
     {
-        match self.phases.insert(roll, phase) {
-            Ok(_) => Ok(()),
-            Err(_) => Err(Error::OutOfMemory),
-        }
+        self.phases.insert(roll, phase)?;
+        Ok(())
     }
 
     /// Moves a roll in progress to another phase.
@@ -131,6 +123,7 @@ impl Rolls {
         Ok(())
     }
 
+    /// Ends a roll.
     #[tactic(auto, using(crate::proofs::Phases::phases))]
     pub fn take_out(&mut self, roll: RollType)
         ensures { self.new ≡ with_phase self.old roll None }
@@ -151,6 +144,7 @@ fn awaits_report(phase: RollState, half: Half) -> bool
 
 // What reads only the phases.
 impl Rolls {
+    /// Whether a roll is in progress beside which this one may not begin.
     fn has_conflict(&self, roll: RollType) -> bool
         ensures { result ≡ has_conflict roll self.now }
     {
@@ -163,7 +157,7 @@ impl Rolls {
         ensures { AnswersExactly (conflict roll self.now) result }
     {
         // Most starts find no roll in progress, and needn't ask for each.
-        if self.is_empty() {
+        if self.phases.is_empty() {
             return Ok(());
         }
         if self.phase_of(roll).is_some() {

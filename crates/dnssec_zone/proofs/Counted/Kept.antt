@@ -14,7 +14,6 @@ use Rattle.std.specs.Str.{bytes_eq}
 use Rattle.std.specs.Ordering.{nat_cmp}
 use Rattle.std.specs.Cmp.Lexicographic.{slice_cmp, nat_list_cmp_total}
 use Rattle.dnssec_key.specs.declared.kind.KeyType.{KeyType}
-use Rattle.dnssec_key.specs.declared.kind.KeyType.TheVariants.{Ksk, Zsk, Csk, Include}
 use Rattle.dnssec_key.specs.Key.{KeyParts}
 use Rattle.dnssec_key.specs.Setters.{Setting, Decoupled, Present, Signer, AtParent, Stale}
 use Rattle.dnssec_key.specs.Setters.{VisibleAt, DsVisibleAt, RrsigVisibleAt, set_by, at_each_state}
@@ -24,11 +23,13 @@ use Rattle.dnssec_zone.specs.declared.counts.Counts.{Counts}
 use Rattle.dnssec_zone.specs.Start.{serves_as_kept, Want, PresentKsk, KskAtParent, PresentZsk}
 use Rattle.dnssec_zone.specs.Start.{PresentKskRole, PresentZskRole}
 use Rattle.dnssec_zone.specs.Inner.Counts.{bit, count, count_in, share, passes, CountsAgree}
-use Rattle.dnssec_zone.specs.Inner.Counts.{moves_counts, count_of, no_counts, with_key, without_key}
-use Rattle.dnssec_zone.specs.Inner.Counts.{counts_stepped, one_step}
-use Rattle.dnssec_zone.specs.declared.counts.Step.{Step}
-use Rattle.dnssec_zone.specs.declared.counts.Step.TheVariants.{In, Out}
+use Rattle.dnssec_zone.specs.Inner.Counts.{moves_counts, count_of, counts_by, no_counts, with_key}
+use Rattle.dnssec_zone.specs.Inner.Counts.{without_key}
+use Rattle.dnssec_zone.specs.Inner.Counts.{count_after}
+use Rattle.dnssec_zone.specs.declared.counts.Counting.TheVariants.{OneMore, OneLess}
 use Rattle.dnssec_zone.proofs.Shown.{same_keys}
+use Rattle.dnssec_zone.proofs.Tests.{both-at, each_key, each_key-at}
+use Rattle.dnssec_zone.proofs.Wants.{serves_alike, serves_alike-at}
 use Rattle.dnssec_zone.proofs.Walks.{AreApart, apart_by_bytes}
 use Rattle.dnssec_zone.proofs.Counted.Lists.{count-at, count-changed, count-entries, count-shown}
 use Rattle.dnssec_zone.proofs.Counted.Lists.{same_itself}
@@ -70,44 +71,41 @@ module _ {Y S : Type 0} where
 
 -- if the keys can be counted, one more key counts one more
 in-one : (serves : Bool) (n : ℕ) → n + bit serves ≤ 18446744073709551615
-    → one_step serves In n ≡ n + bit serves
+    → count_after serves OneMore n ≡ n + bit serves
 in-one true n fits = omega (arith, fits)
 in-one false n fits = omega arith
 
-out-one : (serves : Bool) (n : ℕ) → one_step serves Out n ≡ n - bit serves
+out-one : (serves : Bool) (n : ℕ) → count_after serves OneLess n ≡ n - bit serves
 out-one true n = refl
 out-one false n = omega arith
 
-step-of : (step : Step) (t : KeyType) (c : Counts) (w : Want)
-    → count_of (counts_stepped step t c) w ≡ one_step (serves_as_kept w t) step (count_of c w)
-step-of step t c PresentKsk = refl
-step-of step t c KskAtParent = refl
-step-of step t c PresentZsk = refl
-step-of step t c PresentKskRole = refl
-step-of step t c PresentZskRole = refl
+-- the count of a want among those that f gives
+count_of-by : (f : Want → ℕ) (w : Want) → count_of (counts_by f) w ≡ f w
+count_of-by f PresentKsk = refl
+count_of-by f KskAtParent = refl
+count_of-by f PresentZsk = refl
+count_of-by f PresentKskRole = refl
+count_of-by f PresentZskRole = refl
 
 with-of : (t : KeyType) (c : Counts) (w : Want)
     → count_of c w + bit (serves_as_kept w t) ≤ 18446744073709551615
     → count_of (with_key t c) w ≡ count_of c w + bit (serves_as_kept w t)
-with-of t c w fits = step-of In t c w ∙ in-one (serves_as_kept w t) (count_of c w) fits
+with-of t c w fits =
+    count_of-by (λ x. count_after (serves_as_kept x t) OneMore (count_of c x)) w
+    ∙ in-one (serves_as_kept w t) (count_of c w) fits
 
 without-of : (t : KeyType) (c : Counts) (w : Want) →
     count_of (without_key t c) w ≡ count_of c w - bit (serves_as_kept w t)
-without-of t c w = step-of Out t c w ∙ out-one (serves_as_kept w t) (count_of c w)
+without-of t c w = count_of-by (λ x. count_after (serves_as_kept x t) OneLess (count_of c x)) w
+    ∙ out-one (serves_as_kept w t) (count_of c w)
 
 -- no more keys meet a want than can be counted
 pub Fits : Keys → Type 0
 Fits keys = (w : Want) → count_in (passes (serves_as_kept w)) keys ≤ 18446744073709551615
 
-none-of : (w : Want) → count_of no_counts w ≡ 0
-none-of PresentKsk = refl
-none-of KskAtParent = refl
-none-of PresentZsk = refl
-none-of PresentKskRole = refl
-none-of PresentZskRole = refl
-
 pub counts-none : (m : Keys) → ((q : List ℕ) → get m q ≡ None) → CountsAgree no_counts m
-counts-none m none w = none-of w ∙ sym (none_counted (passes (serves_as_kept w)) m none)
+counts-none m none w = count_of-by (λ w. 0) w
+    ∙ sym (none_counted (passes (serves_as_kept w)) m none)
 
 -- a key is new
 pub counts-added : (c : Counts) (m n : Keys) (r : List ℕ) (x : KeyParts) → get m r ≡ None
@@ -124,19 +122,25 @@ counts-added c m n r x absent is fits old w =
     with-of x.keytype c w (omega (arith, here, gone, change, old w, fits w))
     ∙ omega (arith, here, gone, change, old w)
 
+-- the key at r changes, and serves as before
+counts-same : (c : Counts) (m n : Keys) (r : List ℕ)
+    → ((q : List ℕ) → bytes_eq r q ≡ false → get n q ≡ get m q)
+    → ((w : Want) → share (passes (serves_as_kept w)) r (get n r)
+    ≡ share (passes (serves_as_kept w)) r (get m r)) → CountsAgree c m → CountsAgree c n
+counts-same c m n r others alike old w =
+    let change = count-changed (passes (serves_as_kept w)) m n r others in
+    omega (arith, alike w, change, old w)
+
 -- a key that served for nothing is gone
 pub counts-removed : (c : Counts) (m n : Keys) (r : List ℕ) (x : KeyParts) → get m r ≡ Some x
     → ((q : List ℕ) → get n q ≡ (if bytes_eq r q then None else get m q))
     → ((w : Want) → serves_as_kept w x.keytype ≡ false)
     → CountsAgree c m → CountsAgree c n
-counts-removed c m n r x found is serves old w =
-    let p : List ℕ → KeyParts → Bool = passes (serves_as_kept w) in
-    let here : share p r (get m r) ≡ 0 = ap (share p r) found ∙ ap bit (serves w) in
-    let gone : share p r (get n r) ≡ 0 =
-    ap (share p r) (is r ∙ ap (λ b. if b then None else get m r) (same_itself r)) in
-    let change = count-changed p m n r (λ q h. is q
-    ∙ ap (λ b. if b then None else get m q) h) in
-    omega (arith, here, gone, change, old w)
+counts-removed c m n r x found is serves = counts-same c m n r
+    (λ q h. is q ∙ ap (λ b. if b then None else get m q) h)
+    (λ w. ap (share (passes (serves_as_kept w)) r)
+    (is r ∙ ap (λ b. if b then None else get m r) (same_itself r))
+    ∙ sym (ap (share (passes (serves_as_kept w)) r) found ∙ ap bit (serves w)))
 
 -- a key is another one
 pub counts-changed : (c : Counts) (m n : Keys) (r : List ℕ) (k l : KeyParts) → get m r ≡ Some k
@@ -177,39 +181,17 @@ module _ (f : KeyParts → KeyParts) (c : Counts) (m n : Keys) (r : List ℕ) (k
     -- but it serves as before
     pub counts-alike : ((w : Want) → serves_as_kept w (f k).keytype ≡ serves_as_kept w k.keytype)
         → CountsAgree c m → CountsAgree c n
-    counts-alike serves old w =
-        let p : List ℕ → KeyParts → Bool = passes (serves_as_kept w) in
-        let there : share p r (get m r) ≡ bit (serves_as_kept w k.keytype) = ap (share p r) found in
-        let here : share p r (get n r) ≡ bit (serves_as_kept w (f k).keytype) =
-        ap (share p r) changed in
-        let same : bit (serves_as_kept w (f k).keytype) ≡ bit (serves_as_kept w k.keytype) =
-        ap bit (serves w) in
-        let change = count-changed p m n r others in
-        omega (arith, there, here, same, change, old w)
+    counts-alike serves = counts-same c m n r others
+        (λ w. ap (share (passes (serves_as_kept w)) r) changed ∙ ap bit (serves w)
+        ∙ sym (ap (share (passes (serves_as_kept w)) r) found))
 
 -- a key serves, whether it signs or not
 signing : (value : Bool) (t : KeyType) (w : Want)
     → serves_as_kept w (at_each_state (with_signer value) t) ≡ serves_as_kept w t
-signing value (Ksk s) PresentKsk = refl
-signing value (Ksk s) KskAtParent = refl
-signing value (Ksk s) PresentZsk = refl
-signing value (Ksk s) PresentKskRole = refl
-signing value (Ksk s) PresentZskRole = refl
-signing value (Zsk s) PresentKsk = refl
-signing value (Zsk s) KskAtParent = refl
-signing value (Zsk s) PresentZsk = refl
-signing value (Zsk s) PresentKskRole = refl
-signing value (Zsk s) PresentZskRole = refl
-signing value (Csk s u) PresentKsk = refl
-signing value (Csk s u) KskAtParent = refl
-signing value (Csk s u) PresentZsk = refl
-signing value (Csk s u) PresentKskRole = refl
-signing value (Csk s u) PresentZskRole = refl
-signing value (Include s) PresentKsk = refl
-signing value (Include s) KskAtParent = refl
-signing value (Include s) PresentZsk = refl
-signing value (Include s) PresentKskRole = refl
-signing value (Include s) PresentZskRole = refl
+signing value t = serves_alike-at (at_each_state (with_signer value)) t
+    (each_key-at (serves_alike (at_each_state (with_signer value)))
+    (λ a b. both-at (λ value. each_key a b (serves_alike (at_each_state (with_signer value)))) refl
+    value) t)
 
 -- a setter has changed the key at a reference
 pub counts-set : (setting : Setting) (c : Counts) (m n : Keys) (r : List ℕ) (k : KeyParts)
@@ -304,6 +286,6 @@ module _ {Y S : Type 0} where
   counts-walked m unique fits w =
       let these = count-shown (serves_as_kept w) m unique in
       let some = count-fits (passes (serves_as_kept w)) m unique fits in
-      let zero = none-of w in
+      let zero = count_of-by (λ w. 0) w in
       folded w (values m) no_counts (omega (arith, zero, these, some))
       ∙ omega (arith, zero, these)

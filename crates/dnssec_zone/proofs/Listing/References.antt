@@ -13,9 +13,6 @@ use Rattle.std.proofs.lemmas.Bool.{cases_Bool}
 use Rattle.std.proofs.lemmas.Bool.Decides.{nat_tests}
 use Rattle.std.proofs.lemmas.List.{append-nil, append_assoc}
 use Rattle.dnssec_key.specs.declared.roll.RollType.{RollType}
-use Rattle.dnssec_key.specs.declared.roll.RollType.TheVariants.{KskRoll, KskDoubleDsRoll, ZskRoll}
-use Rattle.dnssec_key.specs.declared.roll.RollType.TheVariants.{ZskDoubleSignatureRoll, CskRoll}
-use Rattle.dnssec_key.specs.declared.roll.RollType.TheVariants.{AlgorithmRoll}
 use Rattle.dnssec_key.specs.Key.{KeyParts}
 use Rattle.dnssec_zone.specs.declared.listed.Entry.{Entry}
 use Rattle.dnssec_zone.specs.declared.listed.Part.{Part}
@@ -25,9 +22,8 @@ use Rattle.dnssec_zone.specs.Inner.Entries.{without_tag, entry_of, entries_of}
 use Rattle.dnssec_zone.specs.Inner.Entries.{first_with, reference_of, references_of, lists_of}
 use Rattle.dnssec_zone.specs.Inner.Entries.{IsThere, AreThere, EntriesAgree}
 use Rattle.dnssec_zone.specs.Keys.{Keys, TagsApart, has_tag}
-use Rattle.dnssec_zone.specs.Lists.{Listed, lists_by, listed_by, without, others}
+use Rattle.dnssec_zone.specs.Lists.{listed_by, without, others}
 use Rattle.dnssec_zone.specs.Start.{is_listed, texts}
-use Rattle.dnssec_zone.proofs.Phases.{same_lists, listed_by-without}
 use Rattle.dnssec_zone.proofs.Tags.{apart-mapped, apart-added, apart-removed}
 use Rattle.dnssec_zone.proofs.TwoLists.{texts-more}
 use Rattle.dnssec_zone.proofs.Quantified.{first, second, itself, apart, below_found}
@@ -179,21 +175,13 @@ module _ (keys : Keys) (differ : TagsApart keys) (q : List ℕ) (k : KeyParts)
 pub listed_by-of : (keys : Keys) (es : List Entry) (roll : RollType)
     → listed_by (lists_of keys es) roll
     ≡ record { olds = references_of keys roll Old es; news = references_of keys roll New es }
-listed_by-of keys es KskRoll = refl
-listed_by-of keys es KskDoubleDsRoll = refl
-listed_by-of keys es ZskRoll = refl
-listed_by-of keys es ZskDoubleSignatureRoll = refl
-listed_by-of keys es CskRoll = refl
-listed_by-of keys es AlgorithmRoll = refl
+listed_by-of keys es roll = refl
 
 -- entries that mean the same for each roll and part
 same_entries : (one two : Keys) (es fs : List Entry)
     → ((roll : RollType) (part : Part) → references_of one roll part es
     ≡ references_of two roll part fs) → lists_of one es ≡ lists_of two fs
-same_entries one two es fs h = λ i. lists_by (λ roll. record {
-  olds = h roll Old i;
-  news = h roll New i;
-})
+same_entries one two es fs h = λ i roll. record { olds = h roll Old i; news = h roll New i }
 
 -- a list is cut, and each entry is of a key as before
 pub there-filter : (keys : Keys) (p : Entry → Bool) (es : List Entry) → AreThere keys es
@@ -321,14 +309,10 @@ means-added old new r x absent free is es agree =
 module _ (keys : Keys) (es : List Entry) (agree : EntriesAgree keys es) (r : List ℕ)
     (x : KeyParts) (found : get keys r ≡ Some x) where
   lists_of-forgotten : lists_of keys (without_tag x.key_tag es) ≡ without r (lists_of keys es)
-  lists_of-forgotten = same_lists _ _ (λ roll.
-      listed_by-of keys (without_tag x.key_tag es) roll
-      ∙ (λ i. record {
-        olds = others-is keys agree.apart r x found (is_of roll Old) es agree.there i;
-        news = others-is keys agree.apart r x found (is_of roll New) es agree.there i;
-      })
-      ∙ sym (ap (λ (l : Listed). record { olds = others r l.olds; news = others r l.news })
-      (listed_by-of keys es roll)) ∙ sym (listed_by-without r (lists_of keys es) roll))
+  lists_of-forgotten = λ i roll. record {
+    olds = others-is keys agree.apart r x found (is_of roll Old) es agree.there i;
+    news = others-is keys agree.apart r x found (is_of roll New) es agree.there i;
+  }
 
   -- though it stays
   pub forgotten : EntriesAgree keys (without_tag x.key_tag es)

@@ -19,13 +19,12 @@ use Rattle.dnssec_zone.specs.Inner.Entries.{entries_after_report}
 use Rattle.dnssec_zone.specs.Inner.Entries.{reference_of, references_of, lists_of}
 use Rattle.dnssec_zone.specs.Inner.Entries.{AreThere}
 use Rattle.dnssec_zone.specs.Keys.{Keys, TagsApart}
-use Rattle.dnssec_zone.specs.Lists.{Listed, listed_by, with_listed, others}
+use Rattle.dnssec_zone.specs.Lists.{Listed, with_listed, others}
 use Rattle.dnssec_zone.specs.Lists.{nothing_listed, has_kept_key, listed_at_start}
 use Rattle.dnssec_zone.specs.Lists.{lists_after_report}
 use Rattle.dnssec_zone.specs.Rolls.{same_roll}
-use Rattle.dnssec_zone.proofs.Phases.{same_lists, listed_by-with_listed}
 use Rattle.dnssec_zone.proofs.Phases.{same_roll-is, same-itself}
-use Rattle.dnssec_zone.proofs.Listing.References.{listed_by-of, reference_of-is, there-append}
+use Rattle.dnssec_zone.proofs.Listing.References.{reference_of-is, there-append}
 use Rattle.dnssec_zone.proofs.Listing.References.{there-filter}
 use Rattle.dnssec_base.specs.declared.error.Error.{Error}
 use Rattle.dnssec_base.specs.declared.error.Error.TheVariants.{WrongKeyType, WrongKeyState}
@@ -36,6 +35,25 @@ use Rattle.dnssec_zone.proofs.Tests.{each_key, each_key-at, mp, ◌⇒◌}
 use Rattle.std.specs.Option.{option_or}
 
 -- ---- the entries of one roll
+
+-- a test that refuses what a start lists finds none there
+none_of : (keys : Keys) (roll : RollType) (of : Part) (p : Entry → Bool)
+    → ((tag : ℕ) → p record { roll = roll; part = of; key_tag = tag } ≡ false)
+    → (qs : List (List ℕ)) → filter p (entries_of keys roll of qs) ≡ []
+none_of keys roll of p fails [] = refl
+none_of keys roll of p fails (q ∷ qs) =
+    filter-append p (entry_of roll of (get keys q)) (entries_of keys roll of qs)
+    ∙ (λ i. one (get keys q) i ++ none_of keys roll of p fails qs i)
+  where
+    kept : (k : KeyParts) (b : Bool)
+        → filter p (cond b (record { roll = roll; part = of; key_tag = k.key_tag } ∷ []) []) ≡ []
+    kept k true = ap (λ b. cond b (record { roll = roll; part = of; key_tag = k.key_tag } ∷ [])
+        []) (fails k.key_tag)
+    kept k false = refl
+
+    one : (o : Option KeyParts) → filter p (entry_of roll of o) ≡ []
+    one None = refl
+    one (Some k) = kept k (all_states is_kept k.keytype)
 
 -- those of another roll are the same
 module _ (roll other : RollType) (apart : same_roll roll other ≡ false) where
@@ -68,22 +86,8 @@ module _ (roll other : RollType) (apart : same_roll roll other ≡ false) where
 
   none_of_other : (keys : Keys) (of part : Part) (qs : List (List ℕ))
       → filter (is_of other part) (entries_of keys roll of qs) ≡ []
-  none_of_other keys of part [] = refl
-  none_of_other keys of part (q ∷ qs) =
-      filter-append (is_of other part) (entry_of roll of (get keys q))
-      (entries_of keys roll of qs)
-      ∙ (λ i. one (get keys q) i ++ none_of_other keys of part qs i)
-    where
-      kept : (k : KeyParts) (b : Bool) → filter (is_of other part)
-          (cond b (record { roll = roll; part = of; key_tag = k.key_tag } ∷ []) []) ≡ []
-      kept k true = ap (λ b. cond b (record { roll = roll; part = of; key_tag = k.key_tag } ∷ [])
-          []) (not_of part record { roll = roll; part = of; key_tag = k.key_tag }
-          (same-itself roll))
-      kept k false = refl
-
-      one : (o : Option KeyParts) → filter (is_of other part) (entry_of roll of o) ≡ []
-      one None = refl
-      one (Some k) = kept k (all_states is_kept k.keytype)
+  none_of_other keys of part = none_of keys roll of (is_of other part)
+      (λ tag. not_of part record { roll = roll; part = of; key_tag = tag } (same-itself roll))
 
 -- ---- a roll's own entries
 
@@ -104,26 +108,8 @@ none_of_same roll part (e ∷ es) = at (is_of_roll roll e) refl (none_of_same ro
 -- what a start lists as one part isn't of the other
 none_of_part : (keys : Keys) (roll : RollType) (of part : Part) → same_part part of ≡ false
     → (qs : List (List ℕ)) → filter (is_of roll part) (entries_of keys roll of qs) ≡ []
-none_of_part keys roll of part differs [] = refl
-none_of_part keys roll of part differs (q ∷ qs) =
-    filter-append (is_of roll part) (entry_of roll of (get keys q)) (entries_of keys roll of qs)
-    ∙ (λ i. one (get keys q) i ++ none_of_part keys roll of part differs qs i)
-  where
-    out : (b : Bool) → (b && false) ≡ false
-    out true = refl
-    out false = refl
-
-    kept : (k : KeyParts) (b : Bool) → filter (is_of roll part)
-        (cond b (record { roll = roll; part = of; key_tag = k.key_tag } ∷ []) []) ≡ []
-    kept k true = ap (λ b. cond (same_roll roll roll && b)
-        (record { roll = roll; part = of; key_tag = k.key_tag } ∷ []) []) differs
-        ∙ ap (λ b. cond b (record { roll = roll; part = of; key_tag = k.key_tag } ∷ []) [])
-        (out (same_roll roll roll))
-    kept k false = refl
-
-    one : (o : Option KeyParts) → filter (is_of roll part) (entry_of roll of o) ≡ []
-    one None = refl
-    one (Some k) = kept k (all_states is_kept k.keytype)
+none_of_part keys roll of part differs = none_of keys roll of (is_of roll part)
+    (λ tag. ap (λ b. b && same_part part of) (same-itself roll) ∙ differs)
 
 module _ (keys : Keys) (differ : TagsApart keys) (roll : RollType) (part : Part)
     (itself : same_part part part ≡ true) where
@@ -185,29 +171,20 @@ module _ (keys : Keys) (roll : RollType) where
       → ((other : RollType) → same_roll roll other ≡ false → (part : Part)
       → filter (is_of other part) fs ≡ filter (is_of other part) es)
       → lists_of keys fs ≡ with_listed (lists_of keys es) roll listed
-  lists_of-put es fs listed olds news others = same_lists _ _ (λ other.
-      listed_by-of keys fs other ∙ at other (same_roll roll other) refl
-      ∙ sym (listed_by-with_listed (lists_of keys es) roll listed other))
+  lists_of-put es fs listed olds news others = λ i other. at other (same_roll roll other) refl i
     where
       at : (other : RollType) (b : Bool) → same_roll roll other ≡ b
-          → record {
-            olds = references_of keys other Old fs;
-            news = references_of keys other New fs;
-          } ≡ (if same_roll roll other then listed else listed_by (lists_of keys es) other)
+          → lists_of keys fs other ≡ with_listed (lists_of keys es) roll listed other
       at other true t =
-          ap (λ (r : RollType). record {
-            olds = references_of keys r Old fs;
-            news = references_of keys r New fs;
-          }) (sym (same_roll-is roll other t))
+          ap (lists_of keys fs) (sym (same_roll-is roll other t))
           ∙ (λ i. record { olds = olds i; news = news i })
-          ∙ ap (λ (b : Bool). if b then listed else listed_by (lists_of keys es) other) (sym t)
+          ∙ ap (λ (b : Bool). if b then listed else lists_of keys es other) (sym t)
       at other false t =
           (λ i. record {
             olds = map (λ (e : Entry). reference_of keys e.key_tag) (others other t Old i);
             news = map (λ (e : Entry). reference_of keys e.key_tag) (others other t New i);
           })
-          ∙ sym (listed_by-of keys es other)
-          ∙ ap (λ (b : Bool). if b then listed else listed_by (lists_of keys es) other) (sym t)
+          ∙ ap (λ (b : Bool). if b then listed else lists_of keys es other) (sym t)
 
   -- nothing is kept for the roll any more
   pub lists_of-taken_out : (es : List Entry) → lists_of keys (without_roll roll es)

@@ -3,16 +3,12 @@ use Rattle.std.specs.Prelude.{◌≡◌, ℕ, ◌+◌, ◌-◌, min, Bool, true,
 use Rattle.std.specs.Prelude.{Some, List, [], ◌∷◌}
 use Rattle.std.specs.FinMap.{entries}
 use Rattle.dnssec_key.specs.declared.kind.KeyType.{KeyType}
-use Rattle.dnssec_key.specs.declared.roll.RollType.{RollType}
-use Rattle.dnssec_key.specs.declared.roll.RollType.TheVariants.{KskRoll, KskDoubleDsRoll, CskRoll}
-use Rattle.dnssec_key.specs.declared.roll.RollType.TheVariants.{AlgorithmRoll}
 use Rattle.dnssec_key.specs.Key.{KeyParts}
-use Rattle.dnssec_key.specs.RollTable.{Half, First}
 use Rattle.dnssec_key.specs.Setters.{Setting, Present, AtParent, Stale}
 use Rattle.dnssec_zone.specs.Keys.{Keys}
 use Rattle.dnssec_zone.specs.declared.counts.Counts.{Counts}
-use Rattle.dnssec_zone.specs.declared.counts.Step.{Step}
-use Rattle.dnssec_zone.specs.declared.counts.Step.TheVariants.{In, Out}
+use Rattle.dnssec_zone.specs.declared.counts.Counting.{Counting}
+use Rattle.dnssec_zone.specs.declared.counts.Counting.TheVariants.{OneMore, OneLess}
 use Rattle.dnssec_zone.specs.Start.{is_listed, serves_as_kept, Want, PresentKsk, KskAtParent}
 use Rattle.dnssec_zone.specs.Start.{PresentZsk, PresentKskRole, PresentZskRole}
 
@@ -71,22 +67,23 @@ no_counts = counts_by (λ w. 0)
 
 -- a key that serves adds one as it comes in, up to the greatest number that is kept, and takes one
 -- as it goes out
-abbrev pub one_step : Bool → Step → ℕ → ℕ
-one_step false step n = n
-one_step true In n = min 18446744073709551615 (n + 1)
-one_step true Out n = n - 1
+abbrev pub count_after : Bool → Counting → ℕ → ℕ
+count_after false counting n = n
+count_after true OneMore n = min 18446744073709551615 (n + 1)
+count_after true OneLess n = n - 1
 
 -- the counts once a key has come in, or gone out
-abbrev pub counts_stepped : Step → KeyType → Counts → Counts
-counts_stepped step t c = counts_by (λ w. one_step (serves_as_kept w t) step (count_of c w))
+abbrev pub counts_after : Counting → KeyType → Counts → Counts
+counts_after counting t c =
+    counts_by (λ w. count_after (serves_as_kept w t) counting (count_of c w))
 
 -- the counts with one key more
 abbrev pub with_key : KeyType → Counts → Counts
-with_key = counts_stepped In
+with_key = counts_after OneMore
 
 -- the counts with one key less
 abbrev pub without_key : KeyType → Counts → Counts
-without_key = counts_stepped Out
+without_key = counts_after OneLess
 
 -- a setter may change the counts; none of them asks whether a key signs
 abbrev pub moves_counts : Setting → Bool
@@ -94,16 +91,6 @@ moves_counts (Present value now) = true
 moves_counts (AtParent value) = true
 moves_counts Stale = true
 moves_counts _ = false
-
--- A wait may change the counts. By it a DS follows its key, or keys come in for others; and an
--- algorithm roll takes the ZSK role of a CSK out of the DNSKEY set by its KSK role. The other waits
--- change no flag that a count asks for in a key that stays.
-abbrev pub wait_moves_counts : RollType → Half → Bool
-wait_moves_counts KskRoll First = true
-wait_moves_counts KskDoubleDsRoll First = true
-wait_moves_counts CskRoll First = true
-wait_moves_counts AlgorithmRoll half = true
-wait_moves_counts _ _ = false
 
 -- each count is that of the keys
 abbrev pub CountsAgree : Counts → Keys → Type 0

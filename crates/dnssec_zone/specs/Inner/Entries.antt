@@ -12,7 +12,7 @@ use Rattle.dnssec_zone.specs.declared.listed.Entry.{Entry}
 use Rattle.dnssec_zone.specs.declared.listed.Part.{Part}
 use Rattle.dnssec_zone.specs.declared.listed.Part.TheVariants.{Old, New}
 use Rattle.dnssec_zone.specs.Keys.{Keys, TagsApart}
-use Rattle.dnssec_zone.specs.Lists.{Lists, lists_by}
+use Rattle.dnssec_zone.specs.Lists.{Lists}
 use Rattle.dnssec_zone.specs.Rolls.{same_roll}
 
 abbrev pub same_part : Part → Part → Bool
@@ -77,10 +77,10 @@ references_of keys roll part es =
     map (λ e. reference_of keys e.key_tag) (filter (is_of roll part) es)
 
 abbrev pub lists_of : Keys → List Entry → Lists
-lists_of keys es = lists_by (λ roll. record {
+lists_of keys es = λ roll. record {
   olds = references_of keys roll Old es;
   news = references_of keys roll New es;
-})
+}
 
 -- some key has the tag
 abbrev pub IsThere : Keys → ℕ → Type 0

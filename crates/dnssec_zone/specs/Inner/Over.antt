@@ -1,6 +1,6 @@
 -- The moment from which a wait is over, for one key and for all.
 use Rattle.std.specs.Prelude.{ℕ, ◌+◌, ◌*◌, Option, Some, if◌then◌else◌, max, nat_eq}
-use Rattle.std.specs.Option.{option_and_then, option_map, option_map_or}
+use Rattle.std.specs.Option.{option_and_then, option_map}
 use Rattle.dnssec_key.specs.declared.roll.RollType.{RollType}
 use Rattle.dnssec_key.specs.Key.{KeyParts}
 use Rattle.dnssec_key.specs.RollTable.{Half, half_of}
@@ -23,7 +23,3 @@ over_at roll half ttl k =
 abbrev pub over_with : RollType → Half → ℕ → Option ℕ → KeyParts → Option ℕ
 over_with roll half ttl a k =
     option_and_then (λ x. option_map (λ y. max x y) (over_at roll half ttl k)) a
-
--- the last of these moments, by the latest stamp of the keys that the wait checks
-abbrev pub over_by : ℕ → Option ℕ → ℕ
-over_by ttl latest = option_map_or (over_since ttl) latest 0

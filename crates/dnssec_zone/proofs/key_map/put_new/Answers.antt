@@ -7,13 +7,13 @@ use Rattle.dnssec_zone.proofs.key_map.put_new.Goals as goal
 
 pub returns-in-Vacant-clause-ok : goal.returns-in-Vacant-clause-ok
 returns-in-Vacant-clause-ok c q =
-    let entry = c.in-Ok.entry in
+    let entry = c.in_ok-place.field-0 in
     let key = c.args.key in
     let here = sym (subst (λ e. (entry_map_ref e).ghost_name ≡ c.entry-arg-1.given)
-    c.in-Vacant.is c.in-Ok.ensures.same_map) in
+    c.in-Vacant.is c.in_ok-place.ensures.same_map) in
     let written = c.map-in-Vacant-2-1.given.1 here
     ∙ ap (map_with_value _) c.insert.ensures.value
     ∙ ap (λ e. map_with_value e key) (sym c.in-Vacant.is) in
     ap (λ m. get_by_text m q) written
     ∙ hash_map_updates_text (string_bytes c.args.pubref) c.args.map.now (map_with_value entry key)
-    (Some key) (c.in-Ok.ensures.update.0 key) q
+    (Some key) (c.in_ok-place.ensures.update.0 key) q

@@ -18,12 +18,12 @@ invariant_of-self-2 c =
     let free : has_tag x.key_tag (keys_in_map i.map) ≡ false =
     ap (has_tag x.key_tag) c.self.view_is ∙ search rules in
     let is = get-updated i.map c.put_new.new.map r (Some x) c.in_ok-put_new.ensures.ok in (
-      TagsAgree-added (has c.index_many.new.tags) (has c.put.new.self)
+      TagsAgree-added (has c.index_many.new.self.tags) (has c.add.new.self.tags)
           (keys_in_map i.map) n r x absent free is (λ t. search rules)
           (c.index_many.ensures.agree c.self.invariant.0),
-      rw (c.put_in.ensures, c.keytype-keytype.ensures)
-          (counts-added i.counts (keys_in_map i.map) n r x
-          absent is (fits-shown c.put_new.new.map c.is_sound.ensures.unique
-          c.is_sound.ensures.fits) c.self.invariant.1),
-      tt,
+      rw (c.add.ensures.counts, c.keytype-keytype.ensures, c.index_many.ensures.counts)
+          (counts-added i.derived.counts (keys_in_map i.map) n r x
+          absent is (fits-shown c.put_new.new.map c.references_differ.ensures.unique
+          c.references_differ.ensures.fits) c.self.invariant.1),
+      rw c.add.ensures.reported tt,
     )

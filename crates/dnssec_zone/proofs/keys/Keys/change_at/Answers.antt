@@ -27,23 +27,20 @@ invariant_of-self-2 c =
     let i = c.self.inside in
     let r = c.args.reference.now in
     let f = makes c.args.change in
-    let n = c.get_mut.follows.lender c.make.new.key in
+    let n = c.get_mut.follows.lender c.change.new.key in
     let k = c.in-Some.key.now in
     let found : map.get (keys_in_map i.map) r ≡ Some k = search (rules, shown) in
     let is : (q : List ℕ) → map.get (keys_in_map n) q
     ≡ option_map (λ k. if bytes_eq r q then f k else k) (map.get (keys_in_map i.map) q) =
-    λ q. search (rules, shown) in
-    let after : c.keytype-2.result ≡ (f k).keytype = c.keytype-2.ensures
-    ∙ ap (λ (x : KeyParts). x.keytype) c.make.ensures in
-    let counts : c.put_in.new.self ≡ with_key (f k).keytype (without_key k.keytype i.counts) =
-    c.put_in.ensures ∙ ap (λ t. with_key t c.take_out.new.self) after
-    ∙ ap (with_key (f k).keytype) (c.take_out.ensures
-    ∙ ap (λ t. without_key t i.counts) c.keytype.ensures) in (
-      TagsAgree-mapped (has i.tags) (keys_in_map i.map) (keys_in_map n)
-          (λ q k. if bytes_eq r q then f k else k)
-          (λ q k. kept_at f (kept_made c.args.change) _ k) is c.self.invariant.0,
-      subst (λ counts. CountsAgree counts (keys_in_map n)) (sym counts)
-          (counts-at f i.counts (keys_in_map i.map) (keys_in_map n) r k found is
-          (fits-shown n c.is_sound.ensures.unique c.is_sound.ensures.fits) c.self.invariant.1),
-      tt,
+    λ q. search (rules, shown) in (
+      rw c.change.ensures.tags (TagsAgree-mapped (has i.derived.tags) (keys_in_map i.map)
+          (keys_in_map n) (λ q k. if bytes_eq r q then f k else k)
+          (λ q k. kept_at f (kept_made c.args.change) _ k) is c.self.invariant.0),
+      subst (λ counts. CountsAgree counts (keys_in_map n)) (sym (c.change.ensures.counts
+          ∙ ap (λ (x : KeyParts). with_key x.keytype (without_key k.keytype i.derived.counts))
+          c.change.ensures.key))
+          (counts-at f i.derived.counts (keys_in_map i.map) (keys_in_map n) r k found is
+          (fits-shown n c.references_differ.ensures.unique c.references_differ.ensures.fits)
+          c.self.invariant.1),
+      rw c.change.ensures.reported tt,
     )

@@ -1,3 +1,4 @@
+-- No entry so far has a fault.
 use Rattle.std.proofs.Common.{◌≡◌, ℕ, take, drop, []}
 use Rattle.std.specs.FinMap.{get}
 use Rattle.dnssec_key.specs.Inner.Bits.{is_set}

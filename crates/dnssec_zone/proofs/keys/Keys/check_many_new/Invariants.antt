@@ -1,3 +1,4 @@
+-- No entry so far has a fault, and the set has the tags of the keys before.
 use Rattle.std.proofs.Common.{◌≡◌, length, take, drop, []}
 use Rattle.std.specs.Prelude.{◌||◌}
 use Rattle.std.specs.FinMap.{get}

@@ -8,7 +8,8 @@ use Rattle.dnssec_zone.proofs.keys.Keys.check_suitability.Goals as goal
 pub returns-then-are_met : goal.returns-then-are_met
 returns-then-are_met c = λ news of.
     let met = is_met c.args.self.now (texts c.args.old.now) news in
-    let all : list_all met (wants c.args.roll) ≡ true = ap (list_all met) (sym c.wants.ensures)
+    let all : list_all met (wants c.args.roll) ≡ true =
+    ap (list_all met) (sym c.wants.ensures)
     ∙ all_met-walked c.args.self.now (texts c.args.old.now) news c.args.new of _
     ∙ sym c.are_met.ensures ∙ c.if-are_met.true in
     rw all refl
@@ -16,7 +17,8 @@ returns-then-are_met c = λ news of.
 pub returns-else-are_met : goal.returns-else-are_met
 returns-else-are_met c = λ news of.
     let met = is_met c.args.self.now (texts c.args.old.now) news in
-    let all : list_all met (wants c.args.roll) ≡ false = ap (list_all met) (sym c.wants.ensures)
+    let all : list_all met (wants c.args.roll) ≡ false =
+    ap (list_all met) (sym c.wants.ensures)
     ∙ all_met-walked c.args.self.now (texts c.args.old.now) news c.args.new of _
     ∙ sym c.are_met.ensures ∙ c.if-are_met.false in
     rw all refl

@@ -1,6 +1,5 @@
 -- Each turn counts one more of the listed keys, if it serves and stood nowhere before.
 use Rattle.std.proofs.Common.{◌≡◌, ◌+◌, arith, sym, ap, ◌∙◌}
-use Rattle.dnssec_zone.specs.Inner.Code.{as_want}
 use Rattle.dnssec_zone.specs.Inner.Counts.{bit}
 use Rattle.dnssec_zone.specs.Start.{serves_as_kept}
 use Rattle.dnssec_zone.proofs.Counted.Lists.{none_listed}
@@ -11,7 +10,7 @@ use Rattle.dnssec_zone.proofs.keys.Keys.count_few_listed.Goals.{else-serves_but_
 
 pub loop-i-init : goal.loop-i-init
 loop-i-init c =
-    (omega arith, sym (none_listed (serves_as_kept (as_want c.args.want)) c.args.self.now))
+    (omega arith, sym (none_listed (serves_as_kept c.args.want) c.args.self.now))
 
 pub loop-i-preserved : goal.loop-i-preserved
 loop-i-preserved c =
@@ -24,7 +23,7 @@ loop-i-preserved c =
           ∙ ap (λ b. l.count + bit b) (sym w.if-serves_but_for.false)
     ] in (
       low l.count c.if-serves_but_for.count l.i c.serves_but_for.result l.invariant.0 more,
-      counted-more (serves_as_kept (as_want c.args.want)) c.args.self.now c.args.old.now l.i _
+      counted-more (serves_as_kept c.args.want) c.args.self.now c.args.old.now l.i _
           c.loop-i-test.true c.serves_but_for.result c.serves_but_for.ensures l.count
           c.if-serves_but_for.count l.invariant.1 more,
     )

@@ -1,6 +1,5 @@
 -- Each turn counts one more of the listed keys, if it serves and stood nowhere before.
 use Rattle.std.proofs.Common.{◌≡◌, ◌+◌, refl, rules, arith, sym, ap, ◌∙◌, replicate}
-use Rattle.dnssec_zone.specs.Inner.Code.{as_want}
 use Rattle.dnssec_zone.specs.Inner.Counts.{bit}
 use Rattle.dnssec_zone.specs.Start.{serves_as_kept}
 use Rattle.dnssec_zone.proofs.Counted.Lists.{none_listed}
@@ -15,7 +14,7 @@ use Rattle.dnssec_zone.proofs.keys.Keys.count_many_listed.Goals.{else-serves_fir
 pub loop-reference-init : goal.loop-reference-init
 loop-reference-init c = (
   omega arith,
-  sym (none_listed (serves_as_kept (as_want c.args.want)) c.args.self.now),
+  sym (none_listed (serves_as_kept c.args.want) c.args.self.now),
   refl,
   listed-nothing c.args.self.now (replicate 1024 0) (zeros 1024),
 )
@@ -23,7 +22,7 @@ loop-reference-init c = (
 pub loop-reference-preserved : goal.loop-reference-preserved
 loop-reference-preserved c =
     let l = c.loop-reference in
-    let p = serves_as_kept (as_want c.args.want) in
+    let p = serves_as_kept c.args.want in
     let more : c.if-serves_first.count ≡ l.count + bit c.serves_first.result =
     elim c.if-serves_first.branch [
       | then-serves_first w ↦ w.count-is ∙ ap (λ b. l.count + bit b) (sym w.if-serves_first.true)

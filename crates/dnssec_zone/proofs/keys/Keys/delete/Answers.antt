@@ -6,7 +6,7 @@ use Rattle.std.proofs.lemmas.Map.Text.{hash_map_updates_text}
 use Rattle.dnssec_key.specs.State.{is_stale}
 use Rattle.dnssec_key.specs.Key.{all_states}
 use Rattle.dnssec_zone.specs.Keys.{keys_in_map}
-use Rattle.dnssec_zone.proofs.Begun.{known-removed}
+use Rattle.dnssec_zone.proofs.Reported.{known-removed}
 use Rattle.dnssec_zone.proofs.Counted.Kept.{counts-removed}
 use Rattle.dnssec_zone.proofs.Counted.Waits.{stale-serves}
 use Rattle.dnssec_zone.proofs.Shown.{shown, get-updated}
@@ -23,11 +23,13 @@ invariant_of-self c =
     let found : get (keys_in_map i.map) r ≡ Some x = search (rules, shown) in
     let is = get-updated i.map c.remove.new.self r None
     (hash_map_updates_text r i.map c.remove.new.self _ c.remove.ensures.updates) in (
-      TagsAgree-removed (has i.tags) (has c.remove-3.new.self)
+      TagsAgree-removed (has i.derived.tags) (has c.delete.new.self.tags)
           (keys_in_map i.map) n r x found is
-          (λ t. rw (← c.key_tag-key_tag.ensures) (c.remove-3.ensures t))
+          (λ t. rw (← c.key_tag-key_tag.ensures) (c.delete.ensures.tags t))
           c.self.invariant.0,
-      counts-removed i.counts (keys_in_map i.map) n r x found is
-          (stale-serves x.keytype stale) c.self.invariant.1,
-      known-removed (keys_in_map i.map) n r x found is stale i.begun c.self.invariant.2,
+      rw c.delete.ensures.counts (counts-removed i.derived.counts (keys_in_map i.map) n r x found is
+          (stale-serves x.keytype stale) c.self.invariant.1),
+      rw c.delete.ensures.reported
+          (known-removed (keys_in_map i.map) n r x found is stale i.derived.reported
+          c.self.invariant.2),
     )

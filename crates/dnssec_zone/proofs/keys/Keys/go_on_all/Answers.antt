@@ -19,13 +19,13 @@ pub invariant_of-self : goal.invariant_of-self
 invariant_of-self c =
     let i = c.self.inside in
     let n = c.retain.new.self in
-    let counted = c.counts_after_wait-self-inside in
     let step = after_wait c.args.roll (which c.args.half) c.args.now in
     let e = map_same_pairs _ step _ (λ k v b w f t. search rules) _ _ c.retain.ensures.filtered in (
-      TagsAgree-mapped (has i.tags) (keys_in_map i.map) (keys_in_map n) (λ q. step)
-          (λ q k. refl) (get-walked step i.map n _ refl e) c.self.invariant.0,
-      counts-waited c.args.roll (which c.args.half) c.args.now i.counts counted.result
+      rw c.go_on.ensures.tags (TagsAgree-mapped (has i.derived.tags) (keys_in_map i.map)
+          (keys_in_map n) (λ q. step) (λ q k. refl) (get-walked step i.map n _ refl e)
+          c.self.invariant.0),
+      counts-waited c.args.roll (which c.args.half) c.args.now i.derived.counts _
           i.map n c.retain.ensures.was_unique c.retain.ensures.unique e c.self.invariant.1
-          counted.ensures.moved counted.ensures.kept,
-      tt,
+          c.go_on.ensures.moved c.go_on.ensures.kept,
+      rw c.go_on.ensures.reported tt,
     )

@@ -9,8 +9,8 @@ use Rattle.dnssec_zone.proofs.keys.Keys.new.Goals as goal
 
 pub invariant_of-result : goal.invariant_of-result
 invariant_of-result c = (
-  TagsAgree-none (has c.none.result) (keys_in_map c.new.result) (λ t. search rules)
+  TagsAgree-none (has c.none.result.tags) (keys_in_map c.new.result) c.none.ensures.tags
       (λ q. search (rules, shown)),
-  rw c.none-2.ensures (counts-none (keys_in_map c.new.result) (λ q. search (rules, shown))),
-  tt,
+  rw c.none.ensures.counts (counts-none (keys_in_map c.new.result) (λ q. search (rules, shown))),
+  rw c.none.ensures.reported tt,
 )

@@ -1,3 +1,4 @@
+-- What is asked of the keys so far.
 use Rattle.std.proofs.Common.{◌≡◌, ℕ, take}
 use Rattle.std.specs.FinMap.{get}
 use Rattle.dnssec_key.specs.Inner.Bits.{is_set}

@@ -1,3 +1,4 @@
+-- What is known of the reported wait is so, if the wait is the same.
 use Rattle.std.proofs.Common.{rules}
 use Rattle.dnssec_zone.proofs.keys.Keys.over_from.Goals as goal
 

@@ -22,16 +22,11 @@ invariant_of-self c =
     let n = c.retain.new.self in
     let step = after_report c.args.roll (which c.args.half) c.args.now in
     let e = map_same_pairs _ step _ (λ k v b w f t. search rules) _ _ c.retain.ensures.filtered in (
-      TagsAgree-mapped (has i.tags) (keys_in_map i.map) (keys_in_map n) (λ q. step)
-          (λ q k. refl) (get-walked step i.map n _ refl e) c.self.invariant.0,
-      counts-kept step (λ w k. refl) i.counts i.map n c.retain.ensures.was_unique
-          c.retain.ensures.unique e c.self.invariant.1,
-      tt,
+      rw c.report.ensures.tags (TagsAgree-mapped (has i.derived.tags) (keys_in_map i.map)
+          (keys_in_map n) (λ q. step) (λ q k. refl) (get-walked step i.map n _ refl e)
+          c.self.invariant.0),
+      rw c.report.ensures.counts
+          (counts-kept step (λ w k. refl) i.derived.counts i.map n c.retain.ensures.was_unique
+          c.retain.ensures.unique e c.self.invariant.1),
+      c.report.ensures.reported,
     )
-
-pub invariant_of-self-2 : goal.invariant_of-self-2
-invariant_of-self-2 c = let stamped = invariant_of-self c.before.before in (
-  stamped.0,
-  stamped.1,
-  (c.walk_for_wait-over.ensures.over, c.walk_for_wait-over.ensures.missing),
-)

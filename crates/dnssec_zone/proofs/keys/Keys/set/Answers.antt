@@ -7,12 +7,12 @@ use Rattle.std.specs.Option.{option_map}
 use Rattle.std.specs.FinMap as map
 use Rattle.dnssec_key.specs.Key.{KeyParts}
 use Rattle.dnssec_key.specs.Setters.{setting_of, set_by}
-use Rattle.dnssec_zone.specs.Inner.Begun.{IsKnown, begun_after}
 use Rattle.dnssec_zone.specs.Inner.Counts.{CountsAgree, moves_counts, with_key, without_key}
-use Rattle.dnssec_zone.specs.Inner.Tags.{TagsAgree}
+use Rattle.dnssec_zone.specs.Inner.Reported.{IsKnown, known_after}
+use Rattle.dnssec_zone.specs.Inner.Derived.{IsDerived}
 use Rattle.dnssec_zone.specs.Keys.{keys_in_map}
-use Rattle.dnssec_zone.proofs.Begun.{known-after}
 use Rattle.dnssec_zone.proofs.Counted.Kept.{counts-set, fits-shown}
+use Rattle.dnssec_zone.proofs.Reported.{known-after}
 use Rattle.dnssec_zone.proofs.Shown.{same-written, shown}
 use Rattle.dnssec_zone.proofs.Tags.{TagsAgree-mapped, kept_at, kept_set}
 use Rattle.dnssec_zone.proofs.keys.Keys.set.Goals as goal
@@ -25,8 +25,7 @@ invariant_of-self-then-not-suits c =
     let found : map.get (keys_in_map i.map) r ≡ Some k = search (rules, shown) in
     let same = same-written (keys_in_map i.map) (keys_in_map (c.get_mut.follows.lender k)) r k found
     (λ q. search (rules, shown)) in
-    subst (λ keys. TagsAgree (has i.tags) keys × CountsAgree i.counts keys × IsKnown i.begun keys)
-    (sym same) c.self.invariant
+    subst (IsDerived i.derived) (sym same) c.self.invariant
 
 pub returns-then-not-suits-clause-err : goal.returns-then-not-suits-clause-err
 returns-then-not-suits-clause-err c =
@@ -43,29 +42,24 @@ invariant_of-self-2 c =
     let r = c.args.pubref.now in
     let setting = setting_of c.args.setting in
     let f = set_by setting in
-    let n = c.get_mut.follows.lender c.set_key.new.key in
+    let n = c.get_mut.follows.lender c.set.new.key in
     let k = c.in-Some.key.now in
     let found : map.get (keys_in_map i.map) r ≡ Some k = search (rules, shown) in
     let is : (q : List ℕ) → map.get (keys_in_map n) q
     ≡ option_map (λ k. if bytes_eq r q then f k else k) (map.get (keys_in_map i.map) q) =
-    λ q. search (rules, shown) in
-    let after : c.keytype-after.result ≡ (f k).keytype = c.keytype-after.ensures
-    ∙ ap (λ (x : KeyParts). x.keytype) c.set_key.ensures.key in
-    let counts : c.follow.new.self ≡ (if moves_counts setting
-    then with_key (f k).keytype (without_key k.keytype i.counts) else i.counts) =
-    c.follow.ensures
-    ∙ (λ j. if moves_counts setting
-    then with_key (after j) (without_key (c.keytype-before.ensures j) i.counts) else i.counts) in
-    let begun : c.set_key.new.begun ≡ begun_after i.begun k (f k) =
-    c.set_key.ensures.begun
-    ∙ ap (begun_after i.begun k) c.set_key.ensures.key in (
-      TagsAgree-mapped (has i.tags) (keys_in_map i.map) (keys_in_map n)
-          (λ q k. if bytes_eq r q then f k else k)
-          (λ q k. kept_at f (kept_set setting) _ k) is c.self.invariant.0,
-      subst (λ counts. CountsAgree counts (keys_in_map n)) (sym counts)
-          (counts-set setting i.counts (keys_in_map i.map) (keys_in_map n) r k found is
-          (fits-shown n c.is_sound.ensures.unique c.is_sound.ensures.fits) c.self.invariant.1),
-      subst (λ begun. IsKnown begun (keys_in_map n)) (sym begun)
-          (known-after f (keys_in_map i.map) (keys_in_map n) r k found is i.begun
+    λ q. search (rules, shown) in (
+      rw c.set.ensures.tags (TagsAgree-mapped (has i.derived.tags) (keys_in_map i.map)
+          (keys_in_map n) (λ q k. if bytes_eq r q then f k else k)
+          (λ q k. kept_at f (kept_set setting) _ k) is c.self.invariant.0),
+      subst (λ counts. CountsAgree counts (keys_in_map n)) (sym (c.set.ensures.counts
+          ∙ ap (λ (x : KeyParts). if moves_counts setting
+          then with_key x.keytype (without_key k.keytype i.derived.counts)
+          else i.derived.counts) c.set.ensures.key))
+          (counts-set setting i.derived.counts (keys_in_map i.map) (keys_in_map n) r k found is
+          (fits-shown n c.references_differ.ensures.unique c.references_differ.ensures.fits)
+          c.self.invariant.1),
+      subst (λ reported. IsKnown reported (keys_in_map n)) (sym (c.set.ensures.reported
+          ∙ ap (known_after i.derived.reported k) c.set.ensures.key))
+          (known-after f (keys_in_map i.map) (keys_in_map n) r k found is i.derived.reported
           c.self.invariant.2),
     )

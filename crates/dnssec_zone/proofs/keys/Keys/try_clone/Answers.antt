@@ -1,13 +1,26 @@
--- A clone of the index has the same tags, and the counts are the same.
+-- A copy of the map shows the same keys, and what is derived of them is the same.
+use Rattle.std.proofs.Common.{◌≡◌, ap, ◌∙◌}
+use Rattle.std.specs.FinMap.{from_entries}
 use Rattle.dnssec_key.specs.Inner.TagIndex.{has}
 use Rattle.dnssec_zone.specs.Keys.{keys_in_map}
+use Rattle.dnssec_zone.proofs.Shown.{entries_by_bytes-clones}
 use Rattle.dnssec_zone.proofs.Tags.{TagsAgree-same}
 use Rattle.dnssec_zone.proofs.keys.Keys.try_clone.Goals as goal
 
+pub returns-clause-same : goal.returns-clause-same
+returns-clause-same c = ap from_entries (entries_by_bytes-clones c.self.inside.map.entries
+    c.in_ok-clone.field-0.entries c.in_ok-clone.ensures.cases) ∙ c.self.view_is
+
 pub invariant_of-result : goal.invariant_of-result
-invariant_of-result c = rw c.in_ok-clone_map.ensures.same (
-  TagsAgree-same (has c.self.inside.tags) (has c.in_ok-try_clone.field-0)
-      (keys_in_map c.self.inside.map) c.in_ok-try_clone.ensures.same c.self.invariant.0,
-  c.self.invariant.1,
-  c.self.invariant.2,
-)
+invariant_of-result c =
+    let i = c.self.inside in
+    let copy = c.in_ok-try_clone in
+    let same : keys_in_map c.in_ok-clone.field-0 ≡ keys_in_map i.map =
+    ap from_entries (entries_by_bytes-clones i.map.entries c.in_ok-clone.field-0.entries
+    c.in_ok-clone.ensures.cases) in
+    rw (same, copy.ensures.counts, copy.ensures.reported) (
+      TagsAgree-same (has i.derived.tags) (has copy.field-0.tags) (keys_in_map i.map)
+          copy.ensures.tags c.self.invariant.0,
+      c.self.invariant.1,
+      c.self.invariant.2,
+    )

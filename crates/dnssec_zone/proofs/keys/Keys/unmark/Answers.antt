@@ -24,9 +24,9 @@ invariant_of-self c =
     let step : KeyParts → KeyParts = λ k. after_early_end c.args.roll
     (is_set c.args.olds.now k.key_tag) (is_set c.args.news.now k.key_tag) k in
     let e = map_same_pairs _ step _ (λ k v b w f t. search rules) _ _ c.retain.ensures.filtered in (
-      TagsAgree-mapped (has i.tags) (keys_in_map i.map) (keys_in_map n) (λ q. step)
-          (λ q k. kept_unmarked c.args.roll _ _ k) (get-walked step i.map n _ refl e)
-          c.self.invariant.0,
-      c.recount-self-inside.ensures,
-      tt,
+      rw c.recount.ensures.tags (TagsAgree-mapped (has i.derived.tags) (keys_in_map i.map)
+          (keys_in_map n) (λ q. step) (λ q k. kept_unmarked c.args.roll _ _ k)
+          (get-walked step i.map n _ refl e) c.self.invariant.0),
+      c.recount.ensures.counts,
+      rw c.recount.ensures.reported tt,
     )

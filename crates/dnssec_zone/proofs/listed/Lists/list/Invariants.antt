@@ -1,3 +1,4 @@
+-- What has been listed so far.
 use Rattle.std.proofs.Common.{◌≡◌, ◌++◌, take}
 use Rattle.dnssec_zone.specs.Start.{texts}
 use Rattle.dnssec_zone.specs.Inner.Entries.{entries_of}

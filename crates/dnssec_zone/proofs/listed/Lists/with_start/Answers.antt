@@ -1,3 +1,4 @@
+-- What the roll listed before goes; the old keys come in, then the new ones.
 use Rattle.std.proofs.Common.{rules}
 use Rattle.dnssec_zone.proofs.listed.Lists.with_start.Goals as goal
 

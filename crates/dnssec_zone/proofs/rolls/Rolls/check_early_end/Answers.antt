@@ -1,3 +1,4 @@
+-- Only the first phase lets a roll end early.
 use Rattle.std.proofs.Common.{rules}
 use Rattle.dnssec_zone.proofs.rolls.Rolls.check_early_end.Goals as goal
 

@@ -1,3 +1,4 @@
+-- Only the last phase lets a roll end.
 use Rattle.std.proofs.Common.{rules}
 use Rattle.dnssec_zone.proofs.rolls.Rolls.check_end.Goals as goal
 

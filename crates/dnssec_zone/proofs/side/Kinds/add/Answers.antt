@@ -1,3 +1,4 @@
+-- A CSK serves as a KSK and as a ZSK.
 use Rattle.std.proofs.Common.{rules}
 use Rattle.dnssec_zone.proofs.side.Kinds.add.Goals as goal
 

@@ -1,0 +1,13 @@
+-- The latest moment so far.
+use Rattle.std.proofs.Common.{◌≡◌, Some}
+use Rattle.std.specs.List.{fold}
+use Rattle.std.specs.HashMap.{values}
+use Rattle.dnssec_key.specs.RollTable.{which}
+use Rattle.dnssec_zone.specs.Inner.Over.{over_with}
+use Rattle.dnssec_zone.proofs.wait_end.over_from.Given as goal
+
+-- the walk over the keys that are left begins at the latest moment so far
+abbrev pub invariant-loop-key : goal.invariant-loop-key
+invariant-loop-key l =
+    let step = over_with l.roll (which l.half) l.ttl in
+    fold step (Some l.over) l.key-iterator ≡ fold step (Some 0) (values l.keys)
