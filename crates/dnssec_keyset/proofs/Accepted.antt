@@ -1,5 +1,7 @@
 -- What an accepted or a refused call found and left: for the chain of trust and the laws of runs.
-use Rattle.std.proofs.Common.{◌≡◌, inl, inr, Bool, true, false, refl, sym, ◌∙◌, ap, Option, None}
+use Rattle.dnssec_keyset.proofs.After.{changed}
+use Rattle.dnssec_keyset.proofs.Changes.{Changes}
+use Rattle.std.proofs.Common.{◌≡◌, Bool, true, false, refl, sym, ◌∙◌, ap, Option, None}
 use Rattle.std.proofs.Common.{Some}
 use Rattle.std.specs.Prelude.{if◌then◌else◌, is_some}
 use Rattle.std.proofs.lemmas.Bool.{true≢false}
@@ -17,39 +19,17 @@ use Rattle.dnssec_zone.specs.Refusals as refusals
 use Rattle.dnssec_zone.proofs.Flags.{is_stale}
 use Rattle.dnssec_key.specs.Key.{KeyParts}
 
--- a refused call left the set as it was
-pub refused_same : (v : waits.Clearance) (old new : KeySetParts) (c : keyset.Call) (cause : Error)
-    → keyset.StepBy v old c (keyset.Refused cause) new → new ≡ old
-refused_same (waits.Barred e) old new c cause h = h.1
-refused_same (waits.Early left) old new c cause h = h.1
-refused_same waits.Clear old new c cause (inr h) = h.2
-refused_same waits.Clear old new c cause (inl h) = absurd (accepts c h.0)
-  where
-    accepts : (c : keyset.Call) → keyset.Refused cause ≡ keyset.accepted_reply c → ⊥
-    accepts (keyset.AddKey r k) e = cc
-    accepts (keyset.Set r s) e = cc
-    accepts (keyset.DeleteKey r) e = cc
-    accepts (keyset.StartRoll r o n t) e = cc
-    accepts (keyset.Report r h ttl t) e = cc
-    accepts (keyset.Wait r h t) e = cc
-    accepts (keyset.RollDone r) e = cc
-    accepts (keyset.AbortRoll r) e = cc
-
 abbrev pub is_refused : keyset.Reply → Bool
 is_refused (keyset.Refused cause) = true
 is_refused _ = false
 
 -- an accepted call was clear, made its change, and answered what is due
-pub accepted_changes : (v : waits.Clearance) (old new : KeySetParts) (c : keyset.Call)
-    (r : keyset.Reply) → is_refused r ≡ false → keyset.StepBy v old c r new → (v ≡ waits.Clear)
-    × keyset.Changes old c new × (r ≡ keyset.accepted_reply c)
-accepted_changes (waits.Barred e) old new c r a h =
-    absurd (true≢false (sym (ap is_refused h.0) ∙ a))
-accepted_changes (waits.Early left) old new c r a h =
-    absurd (true≢false (sym (ap is_refused h.0.1) ∙ a))
-accepted_changes waits.Clear old new c r a (inl h) = (refl, h.1, h.0)
-accepted_changes waits.Clear old new c r a (inr h) =
-    absurd (true≢false (sym (ap is_refused h.1) ∙ a))
+pub accepted_changes : (old new : KeySetParts) (c : keyset.Call) (r : keyset.Reply) → is_refused r
+    ≡ false → keyset.Step old c r new → (keyset.clearance old c ≡ waits.Clear) × Changes old c new
+    × (r ≡ keyset.accepted_reply c)
+accepted_changes old new c keyset.Done a h = (h.0, changed old new c h.2, h.1)
+accepted_changes old new c (keyset.Actions xs) a h = (h.0, changed old new c h.2, h.1)
+accepted_changes old new c (keyset.Refused cause) a h = absurd (true≢false a)
 
 pub no_some : {A : Type 0} (o : Option A) → is_some o ≡ false → o ≡ None
 no_some None e = refl

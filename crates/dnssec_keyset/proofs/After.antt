@@ -1,7 +1,8 @@
 -- What an accepted call changes fixes the set afterwards: it is the function of the set before and
 -- the call.
+use Rattle.dnssec_keyset.proofs.Changes.{Changes, MovesOn, PutsKey}
 use Rattle.std.proofs.Common.{◌≡◌, ℕ, Bool, true, false, cond, List, [], ◌∷◌, map, Some, None, refl}
-use Rattle.std.proofs.Common.{sym, ap, ◌∙◌, inl, inr}
+use Rattle.std.proofs.Common.{sym, ap, ◌∙◌, subst}
 use Rattle.std.specs.Prelude.{Option, if◌then◌else◌}
 use Rattle.std.specs.Option.{option_map}
 use Rattle.std.specs.Str.{bytes_eq}
@@ -15,14 +16,13 @@ use Rattle.std.proofs.lemmas.Iterator.Adapters.{option_map_id}
 use Rattle.std.proofs.lemmas.Map.Text.{is_eq-slice_cmp}
 use Rattle.dnssec_key.specs.Key.{KeyParts}
 use Rattle.dnssec_zone.specs.Keys.{Keys}
-use Rattle.dnssec_keyset.specs.KeySet.{KeySetParts, PutsKey, MovesOn}
+use Rattle.dnssec_keyset.specs.KeySet.{KeySetParts}
 use Rattle.dnssec_zone.specs.Lists.{Lists, without}
 use Rattle.dnssec_zone.specs.Rolls.{with_phase}
 use Rattle.dnssec_key.specs.Setters.{set_by}
 use Rattle.dnssec_keyset.specs.Step.{Call, AddKey, Set, DeleteKey, StartRoll, Report, Wait}
-use Rattle.dnssec_keyset.specs.Step.{RollDone, AbortRoll, Reply, Changes, Step, StepBy, clearance}
-use Rattle.dnssec_keyset.specs.Step.{accepted_reply, after, after_reply, keys_by}
-use Rattle.dnssec_zone.specs.Wait.{Clearance, Barred, Early, Clear}
+use Rattle.dnssec_keyset.specs.Step.{RollDone, AbortRoll, Reply, Done, Actions, Refused, Step}
+use Rattle.dnssec_keyset.specs.Step.{after, after_reply, keys_by}
 use Rattle.dnssec_zone.proofs.Shown.{same_keys}
 use Rattle.dnssec_zone.proofs.Quantified.{same_key}
 
@@ -96,7 +96,6 @@ module _ (old new : KeySetParts) where
 
   -- the set afterwards
   pub changes-after : (call : Call) → Changes old call new → new ≡ after call old
-  unfolding after
   changes-after (AddKey r key) h = put r key h
   changes-after (Set r setting) h =
       same_set _ _ h.name (same_keys _ _
@@ -114,7 +113,6 @@ module _ (old new : KeySetParts) where
 module _ (old : KeySetParts) where
   -- the set afterwards changes as the call does
   pub after-changes : (call : Call) → Changes old call (after call old)
-  unfolding after
   after-changes (AddKey r key) = record {
     name = refl;
     rolls = refl;
@@ -151,29 +149,14 @@ module _ (old : KeySetParts) where
     keys = λ q. sym (option_map_id (get old.keys q));
   }
 
+-- the same of a set that is the one afterwards
+pub changed : (old new : KeySetParts) (call : Call) → new ≡ after call old → Changes old call new
+changed old new call is = subst (Changes old call) (sym is) (after-changes old call)
+
 -- ---- the set after an allowed step
-
-accepted_after : (call : Call) (old : KeySetParts) → after call old
-    ≡ after_reply (accepted_reply call) call old
-accepted_after (AddKey r key) old = refl
-accepted_after (Set r setting) old = refl
-accepted_after (DeleteKey r) old = refl
-accepted_after (StartRoll roll olds news now) old = refl
-accepted_after (Report roll half ttl now) old = refl
-accepted_after (Wait roll half now) old = refl
-accepted_after (RollDone roll) old = refl
-accepted_after (AbortRoll roll) old = refl
-
-step_by-after : (v : Clearance) (old new : KeySetParts) (call : Call) (reply : Reply)
-    → StepBy v old call reply new → new ≡ after_reply reply call old
-step_by-after (Barred cause) old new call reply h = h.1 ∙ sym (ap (λ r. after_reply r call old) h.0)
-step_by-after (Early left) old new call reply h = h.1 ∙ sym (ap (λ r. after_reply r call old) h.0.1)
-step_by-after Clear old new call reply h = elim h [
-  | inl ok ↦ changes-after old new call ok.1 ∙ accepted_after call old
-      ∙ sym (ap (λ r. after_reply r call old) ok.0)
-  | inr none ↦ none.2 ∙ sym (ap (λ r. after_reply r call old) none.1)
-]
 
 pub step-after : (old new : KeySetParts) (call : Call) (reply : Reply) → Step old call reply new
     → new ≡ after_reply reply call old
-step-after old new call reply h = step_by-after (clearance old call) old new call reply h
+step-after old new call Done h = h.2
+step-after old new call (Actions actions) h = h.2
+step-after old new call (Refused cause) h = h.1

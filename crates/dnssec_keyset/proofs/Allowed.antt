@@ -1,66 +1,65 @@
--- From the clauses of a call to the allowed step.
-use Rattle.std.proofs.Common.{◌≡◌, Some, None, Ok, Err, List, [], ◌∷◌, inl, inr, ap, ◌∙◌, Vec}
-use Rattle.std.proofs.Common.{Global}
-use Rattle.std.specs.Prelude.{◌≢◌, Option, Result, OnOk, OnErr, IfOk}
-use Rattle.dnssec_key.specs.declared.roll.Action.{Action}
+-- From what a call found and changed to the allowed step.
+use Rattle.std.proofs.Common.{◌≡◌, ℕ, List, Some, None, Ok, Err, inl, inr, refl, ap}
+use Rattle.std.specs.Prelude.{Option, Result, OnOk, OnErr}
 use Rattle.dnssec_base.specs.declared.error.Error.{Error}
 use Rattle.dnssec_keyset.specs.KeySet.{KeySetParts}
-use Rattle.dnssec_keyset.specs.Step.{Call, Done, Actions, AnswersWait, accepted_reply, Changes}
-use Rattle.dnssec_keyset.specs.Step.{TakesMemory, StepBy, reply_done, reply_list}
+use Rattle.dnssec_keyset.specs.Step.{Call, AddKey, Set, DeleteKey, StartRoll, Report, Wait}
+use Rattle.dnssec_keyset.specs.Step.{RollDone, AbortRoll, Reply, Done, Actions, Refused}
+use Rattle.dnssec_keyset.specs.Step.{AnswersWait, accepted_reply, clearance, IsRefusedFor, Step}
+use Rattle.dnssec_keyset.specs.Step.{reply_done}
+use Rattle.dnssec_keyset.proofs.After.{changes-after}
+use Rattle.dnssec_keyset.proofs.Changes.{Changes}
 use Rattle.dnssec_zone.specs.Wait.{Clearance, Barred, Early, Clear, barred_by}
-use Rattle.dnssec_zone.specs.Refusals.{AnswersExactly, Answers}
+use Rattle.dnssec_key.specs.Key.{KeyParts}
+use Rattle.dnssec_zone.specs.Refusals.{Answers, AnswersExactly, add_refusal}
+use Rattle.dnssec_zone.proofs.Starts.{passed}
 
-module _ (old new : KeySetParts) (call : Call) where
-  pub done_exactly : (refusal : Option Error) (r : Result (Unit {0}) Error) → Done
-      ≡ accepted_reply call → AnswersExactly refusal r
-      → OnOk r (Changes old call new) → OnErr r (new ≡ old)
-      → StepBy (barred_by refusal) old call (reply_done r) new
-  done_exactly None (Ok u) is a ok err = inl (is, ok)
-  done_exactly None (Err e) is a ok err = cc
-  done_exactly (Some x) (Ok u) is a ok err = cc
-  done_exactly (Some x) (Err e) is a ok err = (cc, err)
+-- no accepted call answers a cause
+pub not-refused : (call : Call) (cause : Error) → Refused cause ≡ accepted_reply call → ⊥
+not-refused (AddKey r key) cause e = cc
+not-refused (Set r setting) cause e = cc
+not-refused (DeleteKey r) cause e = cc
+not-refused (StartRoll roll olds news now) cause e = cc
+not-refused (Report roll half ttl now) cause e = cc
+not-refused (Wait roll half now) cause e = cc
+not-refused (RollDone roll) cause e = cc
+not-refused (AbortRoll roll) cause e = cc
 
-  pub done_or_memory : (refusal : Option Error) (r : Result (Unit {0}) Error) → Done
-      ≡ accepted_reply call → TakesMemory call → Answers refusal r
-      → OnOk r (Changes old call new) → OnErr r (new ≡ old)
-      → StepBy (barred_by refusal) old call (reply_done r) new
-  done_or_memory None (Ok u) is memory a ok err = inl (is, ok)
-  done_or_memory None (Err e) is memory a ok err =
-      elim a [ inl h ↦ cc | inr h ↦ inr (memory, cc, err) ]
-  done_or_memory (Some x) (Ok u) is memory a ok err = cc
-  done_or_memory (Some x) (Err e) is memory a ok err = (cc, err)
+-- a clear call that made its change, and answers so, is an allowed step
+pub accepted-step : (s new : KeySetParts) (call : Call) (reply : Reply) → clearance s call ≡ Clear
+    → reply ≡ accepted_reply call → Changes s call new → Step s call reply new
+accepted-step s new call Done clear is changes = (clear, is, changes-after s new call changes)
+accepted-step s new call (Actions actions) clear is changes =
+    (clear, is, changes-after s new call changes)
+accepted-step s new call (Refused cause) clear is changes = absurd (not-refused call cause is)
 
-  module _ (wanted : List Action) (is : Actions wanted ≡ accepted_reply call) where
-    pub list_exactly : (refusal : Option Error) (r : Result (Vec Action Global) Error)
-        → AnswersExactly refusal r → IfOk r (λ v. v.items ≡ wanted)
-        → OnOk r (Changes old call new) → OnErr r (new ≡ old)
-        → StepBy (barred_by refusal) old call (reply_list r) new
-    list_exactly None (Ok v) a items ok err = inl (ap Actions items ∙ is, ok)
-    list_exactly None (Err e) a items ok err = cc
-    list_exactly (Some x) (Ok v) a items ok err = cc
-    list_exactly (Some x) (Err e) a items ok err = (cc, err)
+-- a check that passed bars nothing
+pub cleared : {T : Type 0} (o : Option Error) (x : T) → AnswersExactly o (Ok x)
+    → barred_by o ≡ Clear
+cleared o x h = ap barred_by (passed o x h)
 
-    pub list_or_memory : (refusal : Option Error) (r : Result (Vec Action Global) Error)
-        → TakesMemory call → Answers refusal r → IfOk r (λ v. v.items ≡ wanted)
-        → OnOk r (Changes old call new) → OnErr r (new ≡ old)
-        → StepBy (barred_by refusal) old call (reply_list r) new
-    list_or_memory None (Ok v) memory a items ok err = inl (ap Actions items ∙ is, ok)
-    list_or_memory None (Err e) memory a items ok err =
-        elim a [ inl h ↦ cc | inr h ↦ inr (memory, cc, err) ]
-    list_or_memory (Some x) (Ok v) memory a items ok err = cc
-    list_or_memory (Some x) (Err e) memory a items ok err = (cc, err)
+-- a wait that passed is over
+pub over : {T : Type 0} (v : Clearance) (x : T) → AnswersWait v (Ok x) → v ≡ Clear
+over (Barred e) x h = cc
+over (Early left) x h = let e = h.1 in cc
+over Clear x h = refl
 
-  pub list_waited : (wanted : List Action) → Actions wanted ≡ accepted_reply call
-      → (wanted ≢ [] → TakesMemory call)
-      → (v : Clearance) (r : Result (Vec Action Global) Error) → AnswersWait v wanted r
-      → IfOk r (λ v. v.items ≡ wanted)
-      → OnOk r (Changes old call new) → OnErr r (new ≡ old) → StepBy v old call (reply_list r) new
-  list_waited wanted is memory (Barred x) (Ok v) a items ok err = cc
-  list_waited wanted is memory (Barred x) (Err e) a items ok err = (cc, err)
-  list_waited wanted is memory (Early left) (Ok v) a items ok err = let h = a.1 in cc
-  list_waited wanted is memory (Early left) (Err e) a items ok err = let h = a.1 in
-      ((a.0, cc, a.2), err)
-  list_waited wanted is memory Clear (Ok v) a items ok err = inl (ap Actions items ∙ is, ok)
-  list_waited [] is memory Clear (Err e) a items ok err = cc
-  list_waited (x ∷ xs) is memory Clear (Err e) a items ok err =
-      elim a [ inl h ↦ cc | inr h ↦ inr (memory (λ none. cc), cc, err) ]
+-- an add answers what the keys answer
+module _ (old new : KeySetParts) (reference : List ℕ) (key : KeyParts) where
+  pub add-step : (r : Result (Unit {0}) Error)
+      → Answers (add_refusal old.keys reference key.key_tag) r
+      → OnOk r (Changes old (AddKey reference key) new) → OnErr r (new ≡ old)
+      → Step old (AddKey reference key) (reply_done r) new
+  add-step (Ok u) told changes same =
+      (clear _ told, refl, changes-after old new (AddKey reference key) changes)
+    where
+      clear : (o : Option Error) → Answers o (Ok u) → barred_by o ≡ Clear
+      clear None h = refl
+      clear (Some cause) h = cc
+  add-step (Err e) told changes same = (refused _ told, same)
+    where
+      refused : (o : Option Error) → Answers {T = Unit {0}} o (Err e)
+          → IsRefusedFor (barred_by o) (AddKey reference key) e
+      refused None (inl h) = cc
+      refused None (inr h) = (tt, cc)
+      refused (Some cause) h = cc

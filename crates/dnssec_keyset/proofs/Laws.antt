@@ -1,5 +1,7 @@
 -- Laws of every step, and so of every run: no two keys get one tag, and rolls in progress go
 -- together.
+use Rattle.dnssec_keyset.proofs.After.{changed}
+use Rattle.dnssec_keyset.proofs.Changes.{Changes, PutsKey}
 use Rattle.std.proofs.Common.{◌≡◌, ℕ, Bool, true, false, not, List, Some, None, refl, inl, inr, sym}
 use Rattle.std.proofs.Common.{ap, subst, ◌∙◌, arith}
 use Rattle.std.specs.Prelude.{Option, ◌⊎◌, ◌&&◌, ◌||◌, nat_eq, is_some, if◌then◌else◌}
@@ -25,16 +27,17 @@ use Rattle.dnssec_base.specs.declared.error.Error.TheVariants.{WrongStateForRoll
 use Rattle.dnssec_base.specs.declared.error.Error.TheVariants.{ConflictingRollInProgress}
 use Rattle.dnssec_key.specs.Key.{KeyParts}
 use Rattle.dnssec_zone.specs.Keys.{Keys, has_tag, TagsApart}
-use Rattle.dnssec_keyset.specs.KeySet.{KeySetParts, PutsKey, new_set}
+use Rattle.dnssec_keyset.specs.KeySet.{KeySetParts, new_set}
 use Rattle.dnssec_zone.specs.Lists.{Lists, without}
 use Rattle.dnssec_zone.specs.Rolls.{Rolls, phase_of, with_phase, same_roll, all_rolls}
 use Rattle.dnssec_key.specs.RollTable.{Half, First, Second, after_start, after_early_end}
 use Rattle.dnssec_key.specs.Setters.{Setting, Decoupled, Present, Signer, AtParent, Stale}
 use Rattle.dnssec_key.specs.Setters.{VisibleAt, DsVisibleAt, RrsigVisibleAt, set_by}
-use Rattle.dnssec_zone.specs.Wait.{ttl_in, Clearance, Barred, Early, Clear, barred_by}
+use Rattle.dnssec_zone.specs.Wait.{ttl_in, Clear, barred_by}
 use Rattle.dnssec_zone.specs.Wait.{wait_in_phase}
 use Rattle.dnssec_keyset.specs.Step.{Call, AddKey, Set, DeleteKey, StartRoll, Report, Wait}
-use Rattle.dnssec_keyset.specs.Step.{RollDone, AbortRoll, Reply, Changes, Step, StepBy, clearance}
+use Rattle.dnssec_keyset.specs.Step.{RollDone, AbortRoll, Reply, Done, Actions, Refused, Step}
+use Rattle.dnssec_keyset.specs.Step.{clearance}
 use Rattle.dnssec_zone.specs.Refusals.{add_refusal, report_refusal}
 use Rattle.dnssec_keyset.specs.Laws.{RollsTogether, in_progress}
 use Rattle.dnssec_zone.proofs.Phases.{phase_of-with_phase, no_phases, same_roll-is}
@@ -43,16 +46,11 @@ use Rattle.dnssec_zone.proofs.Tags.{mapped}
 
 -- ---- a step changes nothing, or makes a change for which no cause stood
 
-moved_by : (v : Clearance) (old new : KeySetParts) (call : Call) (reply : Reply)
-    → StepBy v old call reply new → (new ≡ old) ⊎ ((v ≡ Clear) × Changes old call new)
-moved_by (Barred cause) old new call reply h = inl h.1
-moved_by (Early left) old new call reply h = inl h.1
-moved_by Clear old new call reply h =
-    elim h [ inl ok ↦ inr (refl, ok.1) | inr memory ↦ inl memory.2 ]
-
 pub moved : (old new : KeySetParts) (call : Call) (reply : Reply) → Step old call reply new
     → (new ≡ old) ⊎ ((clearance old call ≡ Clear) × Changes old call new)
-moved old new call reply h = moved_by (clearance old call) old new call reply h
+moved old new call Done h = inr (h.0, changed old new call h.2)
+moved old new call (Actions actions) h = inr (h.0, changed old new call h.2)
+moved old new call (Refused cause) h = inl h.1
 
 pub no_cause : (o : Option Error) → barred_by o ≡ Clear → o ≡ None
 no_cause None e = refl

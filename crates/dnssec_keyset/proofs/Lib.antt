@@ -3,20 +3,21 @@
 -- | Function or law                | Lemma                          | Files                |
 -- |--------------------------------|--------------------------------|----------------------|
 -- | `check_start`                  | `algorithms-told`, `told-last` | StartReplies, Starts |
--- | `check_wait`                   | `told-early`, `told-over`      | WaitReplies, Steps   |
+-- | `check_wait`                   | `told-early`, `told-over`      | WaitReplies          |
 -- | `StaysSound`                   | `apart-step`, `together-step`  | Laws                 |
 -- | `KeepsSidesApart`              | `leaves-others`                | Sides, Laws          |
 -- | `NeighboursMayBeExchanged`     | `Law.exchange`                 | Exchange             |
 -- | the set after an accepted call | `step-after`                   | After                |
--- | `Call::make`                   | `done_exactly` and the like    | Allowed              |
+-- | the calls' one clause          | `accepted-step`                | Allowed, Changes     |
 --
 -- `Accepted` says what an accepted call found: for the laws of runs.
 pub mod Listing
 pub mod WaitReplies
 pub mod StartReplies
-pub mod Steps
+pub mod Changes
 pub mod After
 pub mod Allowed
+pub mod ByClearance
 pub mod Laws
 pub mod Sides
 pub mod Exchange

@@ -21,7 +21,8 @@ use Rattle.dnssec_zone.specs.Start.{algorithm_fault, conflict, is_listed, lists_
 use Rattle.dnssec_zone.specs.Start.{new_entry_fault, new_fault, old_entry_fault, old_fault, side_of}
 use Rattle.dnssec_zone.specs.Start.{suitability_fault}
 use Rattle.dnssec_keyset.specs.Step.{start_refusal, Call, AddKey, Set, DeleteKey, StartRoll, Report}
-use Rattle.dnssec_keyset.specs.Step.{Wait, RollDone, AbortRoll, Reply, Changes, Step, clearance}
+use Rattle.dnssec_keyset.specs.Step.{Wait, RollDone, AbortRoll, Reply, Step, clearance}
+use Rattle.dnssec_keyset.proofs.Changes.{Changes}
 use Rattle.dnssec_zone.specs.Wait.{Clear}
 use Rattle.dnssec_keyset.specs.Laws.{LeavesOthers, roll_of}
 use Rattle.dnssec_keyset.proofs.Laws.{moved, no_cause, no_first, no_rest}

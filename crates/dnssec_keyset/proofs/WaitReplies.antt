@@ -1,46 +1,26 @@
 -- What a wait answers at any moment, from the end that the walk over the keys finds.
-use Rattle.std.proofs.Common.{◌≡◌, ℕ, ◌<◌, ◌≤◌, List, [], ◌∷◌, Some, None, Ok, Err, refl, sym, ap}
+use Rattle.std.proofs.Common.{◌≡◌, ℕ, ◌<◌, ◌≤◌, Some, None, Ok, Err, refl, sym, ap}
 use Rattle.std.proofs.Common.{subst, ◌∙◌, min}
-use Rattle.std.specs.Prelude.{Option, Result, IsOk, ◌⊎◌, ◌*◌, ◌-◌}
+use Rattle.std.specs.Prelude.{Option, ◌*◌, ◌-◌}
 use Rattle.std.specs.Duration.{as_nanos}
 use Rattle.std.specs.declared.time.Duration.{Duration}
 use Rattle.dnssec_key.specs.RollTable.{Half, First, Second, cache_expire}
 use Rattle.dnssec_key.specs.declared.roll.RollType.{RollType}
-use Rattle.dnssec_key.specs.declared.roll.Action.{Action}
 use Rattle.dnssec_base.specs.declared.error.Error.{Error}
 use Rattle.dnssec_base.specs.declared.error.Error.TheVariants.{WrongKeyState}
 use Rattle.dnssec_base.specs.declared.error.Error.TheVariants.{WrongStateForRollOperation, Wait}
-use Rattle.dnssec_base.specs.declared.error.Error.TheVariants.{OutOfMemory}
 use Rattle.dnssec_keyset.specs.declared.set.KeySet.TheInside.{Inside as SetInside}
 use Rattle.dnssec_keyset.specs.contracts.set.KeySet.{the_view as set_view}
 use Rattle.dnssec_zone.specs.Keys.{Keys}
 use Rattle.dnssec_keyset.specs.KeySet.{KeySetParts}
 use Rattle.dnssec_zone.specs.Rolls.{phase_of}
-use Rattle.dnssec_zone.specs.Wait.{ttl_in, Clearance, Barred, Early, Clear, wait_in_phase}
+use Rattle.dnssec_zone.specs.Wait.{ttl_in, Barred, wait_in_phase}
 use Rattle.dnssec_zone.specs.Wait.{IsOverFrom, LacksStamp}
 use Rattle.dnssec_keyset.specs.Step.{AnswersWait, wait_clearance}
 use Rattle.dnssec_keyset.specs.WaitEnd.{HasNoWait}
 use Rattle.dnssec_key.specs.declared.roll.RollState.{RollState}
 use Rattle.dnssec_key.specs.declared.roll.RollState.TheVariants.{Propagation1}
 use Rattle.dnssec_key.specs.declared.roll.RollState.TheVariants.{Propagation2, Done}
-
-module _ (T U : Type 0) where
-  -- a check that refuses
-  pub wait-refused : (v : Clearance) (e : Error) (actions : List Action) →
-      AnswersWait {T = T} v [] (Err e) → AnswersWait {T = U} v actions (Err e)
-  wait-refused (Barred x) e actions h = cc
-  wait-refused (Early left) e actions h = let is = h.1 in (h.0, cc, h.2)
-  wait-refused Clear e actions h = cc
-
-  -- a check that passes, and a list of actions, or no memory for it
-  pub wait-passed : (v : Clearance) (x : T) (actions : List Action) (r : Result U Error) →
-      AnswersWait {T = T} v [] (Ok x)
-      → (actions ≡ [] → IsOk r) → IsOk r ⊎ (r ≡ Err OutOfMemory) →
-      AnswersWait {T = U} v actions r
-  wait-passed (Barred e) x actions r h none some = cc
-  wait-passed (Early left) x actions r h none some = let is = h.1 in cc
-  wait-passed Clear x [] r h none some = none refl
-  wait-passed Clear x (a ∷ actions) r h none some = some
 
 -- the phase that a contract sees of a key set is that of its rolls
 pub ttl-shown : (half : Half) (roll : RollType) (i : SetInside) (v : KeySetParts) →
@@ -54,18 +34,18 @@ module _ (T : Type 0) (roll : RollType) (half : Half) (ttl : ℕ) (keys : Keys) 
   -- a wait before the end
   pub told-early : (now : ℕ) → now < end → (d : Duration) →
       as_nanos d ≡ min (ttl * 1_000_000_000) (end - now)
-      → AnswersWait {T = T} (wait_in_phase roll half t now keys) [] (Err (Wait d))
+      → AnswersWait {T = T} (wait_in_phase roll half t now keys) (Err (Wait d))
   told-early now less d is = rw (phase, over.early now less) (d, refl, is)
 
   -- a wait at the end or later
   pub told-over : (now : ℕ) → end ≤ now → (x : T) →
-      AnswersWait {T = T} (wait_in_phase roll half t now keys) [] (Ok x)
+      AnswersWait {T = T} (wait_in_phase roll half t now keys) (Ok x)
   told-over now late x = rw (phase, over.over now late) refl
 
 -- a wait for a key that lacks its stamp
 pub told-missing : (T : Type 0) (roll : RollType) (half : Half) (ttl : ℕ) (keys : Keys)
     (t : Option ℕ) → t ≡ Some ttl → LacksStamp roll half ttl keys → (now : ℕ) →
-    AnswersWait {T = T} (wait_in_phase roll half t now keys) [] (Err WrongKeyState)
+    AnswersWait {T = T} (wait_in_phase roll half t now keys) (Err WrongKeyState)
 told-missing T roll half ttl keys t phase lacks now = rw (phase, lacks now) refl
 
 -- what is left, if the moment is given as a duration

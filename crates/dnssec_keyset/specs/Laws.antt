@@ -1,15 +1,13 @@
 -- What holds of a key set after any calls, and of calls on different sides (RFC 6781, section 3.1:
 -- KSKs and ZSKs are rolled independently of each other).
 use Rattle.std.specs.Prelude.{Bool, is_some, ◌≡◌, true, ◌⊎◌, Option, None, Some, ℕ, false, List}
-use Rattle.std.specs.Prelude.{◌≢◌}
 use Rattle.std.specs.FinMap.{get}
-use Rattle.dnssec_base.specs.declared.error.Error.TheVariants.{OutOfMemory}
 use Rattle.dnssec_key.specs.declared.roll.RollType.{RollType}
 use Rattle.dnssec_key.specs.Key.{KeyParts}
 use Rattle.dnssec_zone.specs.Rolls.{Rolls, phase_of, same_roll}
 use Rattle.dnssec_zone.specs.Start.{together, lists_kind, side_of}
 use Rattle.dnssec_keyset.specs.Step.{Call, StartRoll, Report, Wait, RollDone, AbortRoll, Reply}
-use Rattle.dnssec_keyset.specs.Step.{Refused, Step}
+use Rattle.dnssec_keyset.specs.Step.{Step}
 use Rattle.dnssec_keyset.specs.KeySet.{KeySetParts}
 
 -- the roll is in progress
@@ -36,15 +34,13 @@ LeavesOthers old call new = (roll : RollType) (q : List ℕ) (k : KeyParts) →
     roll_of call ≡ Some roll →
     get old.keys q ≡ Some k → lists_kind (side_of roll) k.keytype ≡ false → get new.keys q ≡ Some k
 
--- two calls on rolls that go together, neither refused for memory
-pub record AreApart (first second : Call) (reply_first reply_second : Reply) : Type 0 where
+-- two calls on rolls that go together
+pub record AreApart (first second : Call) : Type 0 where
   pub roll_first : RollType
   pub roll_second : RollType
   pub first_is : roll_of first ≡ Some roll_first
   pub second_is : roll_of second ≡ Some roll_second
   pub apart : together roll_first roll_second ≡ true
-  pub memory_first : reply_first ≢ Refused OutOfMemory
-  pub memory_second : reply_second ≢ Refused OutOfMemory
 
 -- in the other order the calls reply the same, and end in the same set
 pub record MayBeExchanged (before after : KeySetParts) (first second : Call)

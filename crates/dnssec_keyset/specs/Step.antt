@@ -1,8 +1,7 @@
 -- The allowed step: from a key set, which reply a call may have and which key set it then leaves
--- (RFC 6781, section 4.1). If there is a cause to refuse the call, it is answered, and nothing is
--- changed. Else the call is accepted; or, if it takes memory, it may have run out of memory, and
--- then too nothing is changed.
-use Rattle.std.specs.Prelude.{Option, None, List, [], ◌∷◌, ℕ, ◌≡◌, Result, Err, ◌⊎◌, IsOk, Ok}
+-- (RFC 6781, section 4.1). If there is a cause to refuse the call, it is answered. Else the call is
+-- accepted; or, if it takes memory, it may run out of it. This is the clause of each changing call.
+use Rattle.std.specs.Prelude.{Option, None, List, [], ◌∷◌, ℕ, ◌≡◌, Result, Err, IsOk, Ok}
 use Rattle.std.specs.Prelude.{if◌then◌else◌, Some, ◌≢◌, map}
 use Rattle.std.specs.Option.{option_or}
 use Rattle.std.specs.FinMap.{get, entries, from_entries, insert, remove}
@@ -30,7 +29,7 @@ use Rattle.dnssec_zone.specs.Refusals.{end_refusal, setting_refusal, report_refu
 use Rattle.dnssec_zone.specs.Lists.{Lists, without, listed_by, nothing_listed, with_listed}
 use Rattle.dnssec_zone.specs.Lists.{lists_after_report, listed_at_start}
 use Rattle.dnssec_zone.specs.Keys.{Keys}
-use Rattle.dnssec_keyset.specs.KeySet.{KeySetParts, PutsKey, MovesOn, ChangesKey}
+use Rattle.dnssec_keyset.specs.KeySet.{KeySetParts}
 
 -- ---- what a start and a wait answer
 
@@ -54,16 +53,11 @@ abbrev pub wait_clearance : RollType → Half → ℕ → KeySetParts → Cleara
 wait_clearance roll half now set =
     wait_in_phase roll half (ttl_in half (phase_of set.rolls roll)) now set.keys
 
--- the answer is to wait for that many nanoseconds
-abbrev pub IsToldToWait : {T : Type 0} → ℕ → Result T Error → Type 0
-IsToldToWait left r = (d : Duration) × (r ≡ Err (WaitFor d)) × (as_nanos d ≡ left)
-
--- a wait answers by its clearance, and takes memory only for a list of actions
-abbrev pub AnswersWait : {T : Type 0} → Clearance → List Action → Result T Error → Type 0
-AnswersWait (Barred cause) actions r = r ≡ Err cause
-AnswersWait (Early left) actions r = IsToldToWait left r
-AnswersWait Clear [] r = IsOk r
-AnswersWait Clear (action ∷ actions) r = IsOk r ⊎ (r ≡ Err OutOfMemory)
+-- a check of a wait answers by its clearance
+abbrev pub AnswersWait : {T : Type 0} → Clearance → Result T Error → Type 0
+AnswersWait (Barred cause) r = r ≡ Err cause
+AnswersWait (Early left) r = (d : Duration) × (r ≡ Err (WaitFor d)) × (as_nanos d ≡ left)
+AnswersWait Clear r = IsOk r
 
 -- ---- the step
 
@@ -123,60 +117,12 @@ abbrev pub lists_after_setting : Setting → List ℕ → Lists → Lists
 lists_after_setting setting reference lists =
     if is_flag_setting setting then without reference lists else lists
 
--- what an accepted call changes
-abbrev pub Changes : KeySetParts → Call → KeySetParts → Type 0
-Changes old (AddKey reference key) new = PutsKey old new reference (Some key) old.lists
-Changes old (Set reference setting) new =
-    ChangesKey old new reference (set_by setting) (lists_after_setting setting reference old.lists)
-Changes old (DeleteKey reference) new =
-    PutsKey old new reference None (without reference old.lists)
-Changes old (StartRoll roll olds news now) new =
-    MovesOn old new roll (Some Propagation1)
-    (with_listed old.lists roll (listed_at_start old.keys olds news))
-    (λ q. after_start roll now (is_listed olds q) (is_listed news q))
-Changes old (Report roll half ttl now) new =
-    MovesOn old new roll (Some (cache_expire half ttl)) (lists_after_report roll half old.lists)
-    (λ q. after_report roll half now)
-Changes old (Wait roll half now) new =
-    MovesOn old new roll (Some (behind half)) old.lists (λ q. after_wait roll half now)
-Changes old (RollDone roll) new = MovesOn old new roll None old.lists (λ q k. k)
-Changes old (AbortRoll roll) new =
-    let listed = listed_by old.lists roll in
-    MovesOn old new roll None (with_listed old.lists roll nothing_listed)
-    (λ q. after_early_end roll (is_listed listed.olds q) (is_listed listed.news q))
-
--- the calls that take memory: adds, starts, early ends, and waits with a list to answer
-abbrev pub TakesMemory : Call → Type 0
-TakesMemory (AddKey reference key) = Unit {0}
-TakesMemory (Set reference setting) = ⊥
-TakesMemory (DeleteKey reference) = ⊥
-TakesMemory (StartRoll roll olds news now) = Unit {0}
-TakesMemory (Report roll half ttl now) = ⊥
-TakesMemory (Wait roll half now) = actions_of roll (behind half) ≢ []
-TakesMemory (RollDone roll) = ⊥
-TakesMemory (AbortRoll roll) = Unit {0}
-
--- a call with this clearance may have the reply and leave new
-abbrev pub StepBy : Clearance → KeySetParts → Call → Reply → KeySetParts → Type 0
-StepBy (Barred cause) old call reply new = (reply ≡ Refused cause) × (new ≡ old)
-StepBy (Early left) old call reply new =
-    ((d : Duration) × (reply ≡ Refused (WaitFor d)) × (as_nanos d ≡ left)) × (new ≡ old)
-StepBy Clear old call reply new =
-    ((reply ≡ accepted_reply call) × Changes old call new)
-    ⊎ (TakesMemory call × (reply ≡ Refused OutOfMemory) × (new ≡ old))
-
--- from old, the call may have the reply and leave new
-abbrev pub Step : KeySetParts → Call → Reply → KeySetParts → Type 0
-Step old call reply new = StepBy (clearance old call) old call reply new
-
--- ---- the set afterwards, as a function of the set before, the call and the reply
-
 -- every key changed by f, under its reference
 abbrev pub keys_by : (List ℕ → KeyParts → KeyParts) → Keys → Keys
 keys_by f keys = from_entries (map (λ (e : List ℕ × KeyParts). (e.0, f e.0 e.1)) (entries keys))
 
 -- the set after an accepted call
-unfoldable pub after : Call → KeySetParts → KeySetParts
+abbrev pub after : Call → KeySetParts → KeySetParts
 after (AddKey reference key) set = record set { keys = insert set.keys reference key }
 after (Set reference setting) set = record set {
   keys = keys_by (λ q k. if bytes_eq reference q then set_by setting k else k) set.keys;
@@ -209,6 +155,31 @@ after (AbortRoll roll) set =
       rolls = with_phase set.rolls roll None;
       lists = with_listed set.lists roll nothing_listed;
     }
+
+-- the calls that take memory: adds, starts, early ends, and waits with a list to answer
+abbrev pub TakesMemory : Call → Type 0
+TakesMemory (AddKey reference key) = Unit {0}
+TakesMemory (Set reference setting) = ⊥
+TakesMemory (DeleteKey reference) = ⊥
+TakesMemory (StartRoll roll olds news now) = Unit {0}
+TakesMemory (Report roll half ttl now) = ⊥
+TakesMemory (Wait roll half now) = actions_of roll (behind half) ≢ []
+TakesMemory (RollDone roll) = ⊥
+TakesMemory (AbortRoll roll) = Unit {0}
+
+-- what a call of this clearance may be refused for: what bars it; the time that is left; or, if it
+-- is clear and takes memory, for want of that
+abbrev pub IsRefusedFor : Clearance → Call → Error → Type 0
+IsRefusedFor (Barred cause) call error = error ≡ cause
+IsRefusedFor (Early left) call error = (d : Duration) × (error ≡ WaitFor d) × (as_nanos d ≡ left)
+IsRefusedFor Clear call error = TakesMemory call × (error ≡ OutOfMemory)
+
+-- From old, the call may have the reply and leave new. Refused, it changed nothing. Accepted, it
+-- was clear, and its answer and its changes are the table's.
+abbrev pub Step : KeySetParts → Call → Reply → KeySetParts → Type 0
+Step old call (Refused error) new = IsRefusedFor (clearance old call) call error × (new ≡ old)
+Step old call reply new =
+    (clearance old call ≡ Clear) × (reply ≡ accepted_reply call) × (new ≡ after call old)
 
 -- the set after a call with this reply
 abbrev pub after_reply : Reply → Call → KeySetParts → KeySetParts

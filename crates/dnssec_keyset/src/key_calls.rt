@@ -1,18 +1,15 @@
 //! The calls on one key: adds, setters and the deletion.
-ghost use Rattle.std.specs.Prelude.{◌≡◌, None, OnOk, OnErr, string_bytes};
+ghost use Rattle.std.specs.Prelude.{None, string_bytes};
 ghost use Rattle.std.specs.Option.{option_map};
-ghost use Rattle.std.specs.FinMap as map;
 ghost use Rattle.dnssec_key.specs.declared.kind.KeyType.TheVariants.{Ksk, Zsk, Csk, Include};
 ghost use Rattle.dnssec_key.specs.Key.{new_key, new_state, is_available};
 ghost use Rattle.dnssec_key.specs.Setters.{Decoupled, Present, Signer, AtParent, Stale, VisibleAt};
 ghost use Rattle.dnssec_key.specs.Setters.{DsVisibleAt, RrsigVisibleAt, setting_of};
-ghost use Rattle.dnssec_keyset.specs.Step.{AddKey, Set, DeleteKey, Changes};
-ghost use Rattle.dnssec_zone.specs.Refusals.{Answers, AnswersExactly, add_refusal, setting_refusal};
-ghost use Rattle.dnssec_zone.specs.Refusals.{deletion_refusal};
+ghost use Rattle.dnssec_keyset.specs.Step.{Step, AddKey, Set, DeleteKey, reply_done};
 
 use crate::set::KeySet;
 use dnssec_base::SecurityAlgorithm;
-use dnssec_key::{Available, Error, Key, KeyState, KeyType, Setting, UnixTime};
+use dnssec_key::{Available, Error, Key, KeyState, KeyType, Setting, UnixTime, new_key};
 
 impl KeySet {
     /// Adds a KSK, which may come in by a roll if it is available.
@@ -37,14 +34,13 @@ impl KeySet {
         creation_ts: UnixTime,
         available: Available,
     ) -> Result<(), Error>
-        ensures reply { Answers (add_refusal self.old.keys (string_bytes pubref) key_tag) result }
-        ensures ok { OnOk result (Changes self.old (AddKey (string_bytes pubref)
+        // Causes: `add_refusal`, and memory.
+        ensures { Step self.old (AddKey (string_bytes pubref)
             (new_key (option_map string_bytes privref) (Ksk (new_state (is_available available)))
-            algorithm key_tag creation_ts)) self.new) }
-        ensures err { OnErr result (self.new ≡ self.old) }
+            algorithm key_tag creation_ts)) (reply_done result) self.new }
     {
         let keytype = KeyType::Ksk(KeyState::new(available));
-        let key = Key::new(privref, keytype, algorithm, key_tag, creation_ts);
+        let key = new_key(privref, keytype, algorithm, key_tag, creation_ts);
         self.add(pubref, key)
     }
 
@@ -62,14 +58,13 @@ impl KeySet {
         creation_ts: UnixTime,
         available: Available,
     ) -> Result<(), Error>
-        ensures reply { Answers (add_refusal self.old.keys (string_bytes pubref) key_tag) result }
-        ensures ok { OnOk result (Changes self.old (AddKey (string_bytes pubref)
+        // Causes: `add_refusal`, and memory.
+        ensures { Step self.old (AddKey (string_bytes pubref)
             (new_key (option_map string_bytes privref) (Zsk (new_state (is_available available)))
-            algorithm key_tag creation_ts)) self.new) }
-        ensures err { OnErr result (self.new ≡ self.old) }
+            algorithm key_tag creation_ts)) (reply_done result) self.new }
     {
         let keytype = KeyType::Zsk(KeyState::new(available));
-        let key = Key::new(privref, keytype, algorithm, key_tag, creation_ts);
+        let key = new_key(privref, keytype, algorithm, key_tag, creation_ts);
         self.add(pubref, key)
     }
 
@@ -87,15 +82,14 @@ impl KeySet {
         creation_ts: UnixTime,
         available: Available,
     ) -> Result<(), Error>
-        ensures reply { Answers (add_refusal self.old.keys (string_bytes pubref) key_tag) result }
-        ensures ok { OnOk result (Changes self.old (AddKey (string_bytes pubref)
+        // Causes: `add_refusal`, and memory.
+        ensures { Step self.old (AddKey (string_bytes pubref)
             (new_key (option_map string_bytes privref)
             (Csk (new_state (is_available available)) (new_state (is_available available)))
-            algorithm key_tag creation_ts)) self.new) }
-        ensures err { OnErr result (self.new ≡ self.old) }
+            algorithm key_tag creation_ts)) (reply_done result) self.new }
     {
         let state = KeyState::new(available);
-        let key = Key::new(
+        let key = new_key(
             privref,
             KeyType::Csk(state, state),
             algorithm,
@@ -119,11 +113,10 @@ impl KeySet {
         creation_ts: UnixTime,
         available: bool,
     ) -> Result<(), Error>
-        ensures reply { Answers (add_refusal self.old.keys (string_bytes pubref) key_tag) result }
-        ensures ok { OnOk result (Changes self.old (AddKey (string_bytes pubref)
+        // Causes: `add_refusal`, and memory.
+        ensures { Step self.old (AddKey (string_bytes pubref)
             (new_key None (Include (new_state available)) algorithm key_tag creation_ts))
-            self.new) }
-        ensures err { OnErr result (self.new ≡ self.old) }
+            (reply_done result) self.new }
     {
         let available = if available {
             Available::Available
@@ -131,7 +124,7 @@ impl KeySet {
             Available::NotAvailable
         };
         let keytype = KeyType::Include(KeyState::new(available));
-        let key = Key::new(None, keytype, algorithm, key_tag, creation_ts);
+        let key = new_key(None, keytype, algorithm, key_tag, creation_ts);
         self.add(pubref, key)
     }
 
@@ -141,11 +134,8 @@ impl KeySet {
     ///
     /// `KeyNotFound` if no key has the reference. Nothing is then changed.
     pub fn set_decoupled(&mut self, pubref: &str, value: bool) -> Result<(), Error>
-        ensures reply { AnswersExactly
-            (setting_refusal (Decoupled value) (map.get self.old.keys pubref.now)) result }
-        ensures ok { OnOk result
-            (Changes self.old (Set pubref.now (Decoupled value)) self.new) }
-        ensures err { OnErr result (self.new ≡ self.old) }
+        // Causes: `setting_refusal`.
+        ensures { Step self.old (Set pubref.now (Decoupled value)) (reply_done result) self.new }
     {
         self.set(pubref, Setting::Decoupled(value))
     }
@@ -158,11 +148,9 @@ impl KeySet {
     ///
     /// `KeyNotFound` if no key has the reference. Nothing is then changed.
     pub fn set_present(&mut self, pubref: &str, value: bool, now: &UnixTime) -> Result<(), Error>
-        ensures reply { AnswersExactly
-            (setting_refusal (Present value now.now) (map.get self.old.keys pubref.now)) result }
-        ensures ok { OnOk result
-            (Changes self.old (Set pubref.now (Present value now.now)) self.new) }
-        ensures err { OnErr result (self.new ≡ self.old) }
+        // Causes: `setting_refusal`.
+        ensures { Step self.old (Set pubref.now (Present value now.now))
+            (reply_done result) self.new }
     {
         self.set(pubref, Setting::Present(value, *now))
     }
@@ -174,11 +162,8 @@ impl KeySet {
     /// `KeyNotFound` if no key has the reference, `WrongKeyType` for a key of another signer.
     /// Nothing is then changed.
     pub fn set_signer(&mut self, pubref: &str, value: bool) -> Result<(), Error>
-        ensures reply { AnswersExactly
-            (setting_refusal (Signer value) (map.get self.old.keys pubref.now)) result }
-        ensures ok { OnOk result
-            (Changes self.old (Set pubref.now (Signer value)) self.new) }
-        ensures err { OnErr result (self.new ≡ self.old) }
+        // Causes: `setting_refusal`.
+        ensures { Step self.old (Set pubref.now (Signer value)) (reply_done result) self.new }
     {
         self.set(pubref, Setting::Signer(value))
     }
@@ -191,11 +176,8 @@ impl KeySet {
     /// `KeyNotFound` if no key has the reference, `WrongKeyType` for a key of another kind. Nothing
     /// is then changed.
     pub fn set_at_parent(&mut self, pubref: &str, value: bool) -> Result<(), Error>
-        ensures reply { AnswersExactly
-            (setting_refusal (AtParent value) (map.get self.old.keys pubref.now)) result }
-        ensures ok { OnOk result
-            (Changes self.old (Set pubref.now (AtParent value)) self.new) }
-        ensures err { OnErr result (self.new ≡ self.old) }
+        // Causes: `setting_refusal`.
+        ensures { Step self.old (Set pubref.now (AtParent value)) (reply_done result) self.new }
     {
         self.set(pubref, Setting::AtParent(value))
     }
@@ -207,11 +189,8 @@ impl KeySet {
     ///
     /// `KeyNotFound` if no key has the reference. Nothing is then changed.
     pub fn set_stale(&mut self, pubref: &str) -> Result<(), Error>
-        ensures reply { AnswersExactly
-            (setting_refusal Stale (map.get self.old.keys pubref.now)) result }
-        ensures ok { OnOk result
-            (Changes self.old (Set pubref.now Stale) self.new) }
-        ensures err { OnErr result (self.new ≡ self.old) }
+        // Causes: `setting_refusal`.
+        ensures { Step self.old (Set pubref.now Stale) (reply_done result) self.new }
     {
         self.set(pubref, Setting::Stale)
     }
@@ -222,11 +201,8 @@ impl KeySet {
     ///
     /// `KeyNotFound` if no key has the reference. Nothing is then changed.
     pub fn set_visible(&mut self, pubref: &str, time: UnixTime) -> Result<(), Error>
-        ensures reply { AnswersExactly
-            (setting_refusal (VisibleAt time) (map.get self.old.keys pubref.now)) result }
-        ensures ok { OnOk result
-            (Changes self.old (Set pubref.now (VisibleAt time)) self.new) }
-        ensures err { OnErr result (self.new ≡ self.old) }
+        // Causes: `setting_refusal`.
+        ensures { Step self.old (Set pubref.now (VisibleAt time)) (reply_done result) self.new }
     {
         self.set(pubref, Setting::VisibleAt(time))
     }
@@ -238,11 +214,8 @@ impl KeySet {
     ///
     /// `KeyNotFound` if no key has the reference. Nothing is then changed.
     pub fn set_ds_visible(&mut self, pubref: &str, time: UnixTime) -> Result<(), Error>
-        ensures reply { AnswersExactly
-            (setting_refusal (DsVisibleAt time) (map.get self.old.keys pubref.now)) result }
-        ensures ok { OnOk result
-            (Changes self.old (Set pubref.now (DsVisibleAt time)) self.new) }
-        ensures err { OnErr result (self.new ≡ self.old) }
+        // Causes: `setting_refusal`.
+        ensures { Step self.old (Set pubref.now (DsVisibleAt time)) (reply_done result) self.new }
     {
         self.set(pubref, Setting::DsVisibleAt(time))
     }
@@ -253,11 +226,9 @@ impl KeySet {
     ///
     /// `KeyNotFound` if no key has the reference. Nothing is then changed.
     pub fn set_rrsig_visible(&mut self, pubref: &str, time: UnixTime) -> Result<(), Error>
-        ensures reply { AnswersExactly
-            (setting_refusal (RrsigVisibleAt time) (map.get self.old.keys pubref.now)) result }
-        ensures ok { OnOk result
-            (Changes self.old (Set pubref.now (RrsigVisibleAt time)) self.new) }
-        ensures err { OnErr result (self.new ≡ self.old) }
+        // Causes: `setting_refusal`.
+        ensures { Step self.old (Set pubref.now (RrsigVisibleAt time))
+            (reply_done result) self.new }
     {
         self.set(pubref, Setting::RrsigVisibleAt(time))
     }
@@ -270,10 +241,8 @@ impl KeySet {
     /// `KeyNotFound` if no key has the reference, `KeyNotOld` if the key isn't stale in one of its
     /// roles. Nothing is then changed.
     pub fn delete_key(&mut self, pubref: &str) -> Result<(), Error>
-        ensures reply { AnswersExactly
-            (deletion_refusal (map.get self.old.keys pubref.now)) result }
-        ensures ok { OnOk result (Changes self.old (DeleteKey pubref.now) self.new) }
-        ensures err { OnErr result (self.new ≡ self.old) }
+        // Causes: `deletion_refusal`.
+        ensures { Step self.old (DeleteKey pubref.now) (reply_done result) self.new }
     {
         let key_tag = self.keys.delete(pubref)?;
         self.lists.forget(key_tag);
@@ -283,21 +252,15 @@ impl KeySet {
     /// Adds a key.
     #[inline(always)]
     fn add(&mut self, pubref: String, key: Key) -> Result<(), Error>
-        ensures reply { Answers
-            (add_refusal self.old.keys (string_bytes pubref) key.key_tag) result }
-        ensures ok { OnOk result
-            (Changes self.old (AddKey (string_bytes pubref) key) self.new) }
-        ensures err { OnErr result (self.new ≡ self.old) }
+        ensures { Step self.old (AddKey (string_bytes pubref) key) (reply_done result) self.new }
     {
         self.keys.add(self.alloc, pubref, key)
     }
 
     /// Changes a key by hand. An early end leaves a key alone whose flag was set by hand.
     fn set(&mut self, pubref: &str, setting: Setting) -> Result<(), Error>
-        ensures reply { AnswersExactly
-            (setting_refusal (setting_of setting) (map.get self.old.keys pubref.now)) result }
-        ensures ok { OnOk result (Changes self.old (Set pubref.now (setting_of setting)) self.new) }
-        ensures err { OnErr result (self.new ≡ self.old) }
+        // Causes: `setting_refusal`.
+        ensures { Step self.old (Set pubref.now (setting_of setting)) (reply_done result) self.new }
     {
         let key_tag = self.keys.set(pubref, setting)?;
         if setting.sets_flag() {

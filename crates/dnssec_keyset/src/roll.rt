@@ -1,14 +1,11 @@
 //! The calls of a roll.
-ghost use Rattle.std.specs.Prelude.{◌≡◌, [], IfOk, IfErr, IsOk, OnOk, OnErr};
+ghost use Rattle.std.specs.Prelude.{◌≡◌, [], IfOk, IsOk, IsOkUnless};
 ghost use Rattle.dnssec_base.specs.declared.error.Error.TheVariants.{OutOfMemory};
-ghost use Rattle.dnssec_key.specs.RollTable.{which, First, Second, actions_due, actions_of, behind};
-ghost use Rattle.dnssec_key.specs.RollTable.{column};
+ghost use Rattle.dnssec_key.specs.RollTable.{which, First, Second, actions_due, actions_of};
 ghost use Rattle.dnssec_zone.specs.Rolls.{phase_of};
-ghost use Rattle.dnssec_keyset.specs.Step.{start_refusal, AnswersWait, StartRoll, Report, Wait};
-ghost use Rattle.dnssec_keyset.specs.Step.{RollDone, AbortRoll, Changes, wait_clearance};
+ghost use Rattle.dnssec_keyset.specs.Step.{Step, StartRoll, Report, Wait, RollDone, AbortRoll};
+ghost use Rattle.dnssec_keyset.specs.Step.{reply_list};
 ghost use Rattle.dnssec_zone.specs.Start.{texts};
-ghost use Rattle.dnssec_zone.specs.Refusals.{Answers, AnswersExactly, early_end_refusal};
-ghost use Rattle.dnssec_zone.specs.Refusals.{report_refusal, end_refusal};
 
 use crate::set::KeySet;
 use dnssec_key::{Action, Error, Half, RollState, RollType, UnixTime};
@@ -41,7 +38,6 @@ impl KeySet {
     /// // The actions: publish the DNSKEY set with Z2, and report when all servers have it.
     /// let actions = set.start_roll(RollType::ZskRoll, &["Z1"], &["Z2"], &now)?;
     /// ```
-    #[tactic(auto, using(crate::proofs::Steps::steps))]
     pub fn start_roll(
         &mut self,
         rolltype: RollType,
@@ -49,13 +45,9 @@ impl KeySet {
         new: &[&str],
         now: &UnixTime,
     ) -> Result<Vec<Action>, Error>
-        ensures reply { Answers
-            (start_refusal rolltype self.old (texts old.now) (texts new.now)) result }
-        ensures actions { IfOk result (λ actions.
-            actions.items ≡ actions_of rolltype RollState.Propagation1) }
-        ensures ok { OnOk result (Changes self.old
-            (StartRoll rolltype (texts old.now) (texts new.now) now.now) self.new) }
-        ensures err { OnErr result (self.new ≡ self.old) }
+        // Causes: `start_refusal`, and memory.
+        ensures { Step self.old (StartRoll rolltype (texts old.now) (texts new.now) now.now)
+            (reply_list result) self.new }
     {
         self.check_start(rolltype, old, new)?;
         let actions = list_actions(self.alloc, rolltype, RollState::Propagation1)?;
@@ -89,12 +81,8 @@ impl KeySet {
         ttl: u32,
         now: &UnixTime,
     ) -> Result<Vec<Action>, Error>
-        ensures reply { AnswersExactly
-            (report_refusal First (phase_of self.old.rolls rolltype)) result }
-        ensures actions { IfOk result (λ actions. actions.items ≡ []) }
-        ensures ok { OnOk result
-            (Changes self.old (Report rolltype First ttl now.now) self.new) }
-        ensures err { OnErr result (self.new ≡ self.old) }
+        // Causes: `report_refusal`.
+        ensures { Step self.old (Report rolltype First ttl now.now) (reply_list result) self.new }
     {
         self.report(rolltype, Half::First, ttl, now)
     }
@@ -124,13 +112,8 @@ impl KeySet {
         rolltype: RollType,
         now: &UnixTime,
     ) -> Result<Vec<Action>, Error>
-        ensures reply { AnswersWait (wait_clearance rolltype First now.now self.old)
-            (actions_of rolltype RollState.Propagation2) result }
-        ensures actions { IfOk result (λ actions.
-            actions.items ≡ actions_of rolltype RollState.Propagation2) }
-        ensures ok { OnOk result
-            (Changes self.old (Wait rolltype First now.now) self.new) }
-        ensures err { OnErr result (self.new ≡ self.old) }
+        // Causes: `wait_clearance`, and memory for a list of actions.
+        ensures { Step self.old (Wait rolltype First now.now) (reply_list result) self.new }
     {
         self.go_on(rolltype, Half::First, now)
     }
@@ -147,12 +130,8 @@ impl KeySet {
         ttl: u32,
         now: &UnixTime,
     ) -> Result<Vec<Action>, Error>
-        ensures reply { AnswersExactly
-            (report_refusal Second (phase_of self.old.rolls rolltype)) result }
-        ensures actions { IfOk result (λ actions. actions.items ≡ []) }
-        ensures ok { OnOk result
-            (Changes self.old (Report rolltype Second ttl now.now) self.new) }
-        ensures err { OnErr result (self.new ≡ self.old) }
+        // Causes: `report_refusal`.
+        ensures { Step self.old (Report rolltype Second ttl now.now) (reply_list result) self.new }
     {
         self.report(rolltype, Half::Second, ttl, now)
     }
@@ -169,13 +148,8 @@ impl KeySet {
         rolltype: RollType,
         now: &UnixTime,
     ) -> Result<Vec<Action>, Error>
-        ensures reply { AnswersWait (wait_clearance rolltype Second now.now self.old)
-            (actions_of rolltype RollState.Done) result }
-        ensures actions { IfOk result (λ actions.
-            actions.items ≡ actions_of rolltype RollState.Done) }
-        ensures ok { OnOk result
-            (Changes self.old (Wait rolltype Second now.now) self.new) }
-        ensures err { OnErr result (self.new ≡ self.old) }
+        // Causes: `wait_clearance`, and memory for a list of actions.
+        ensures { Step self.old (Wait rolltype Second now.now) (reply_list result) self.new }
     {
         self.go_on(rolltype, Half::Second, now)
     }
@@ -190,12 +164,9 @@ impl KeySet {
     /// set.roll_done(RollType::ZskRoll)?;
     /// set.delete_key("Z1")?;
     /// ```
-    #[tactic(auto, using(crate::proofs::Steps::steps))]
     pub fn roll_done(&mut self, rolltype: RollType) -> Result<Vec<Action>, Error>
-        ensures reply { AnswersExactly (end_refusal (phase_of self.old.rolls rolltype)) result }
-        ensures actions { IfOk result (λ actions. actions.items ≡ []) }
-        ensures ok { OnOk result (Changes self.old (RollDone rolltype) self.new) }
-        ensures err { OnErr result (self.new ≡ self.old) }
+        // Causes: `end_refusal`.
+        ensures { Step self.old (RollDone rolltype) (reply_list result) self.new }
     {
         self.rolls.check_end(rolltype)?;
         self.rolls.take_out(rolltype);
@@ -222,12 +193,9 @@ impl KeySet {
     /// set.abort_roll(RollType::ZskRoll)?;
     /// // Z1 isn't old any more, and Z2 may come in by another roll.
     /// ```
-    #[tactic(auto, using(crate::proofs::Steps::steps))]
     pub fn abort_roll(&mut self, rolltype: RollType) -> Result<Vec<Action>, Error>
-        ensures reply { Answers (early_end_refusal (phase_of self.old.rolls rolltype)) result }
-        ensures actions { IfOk result (λ actions. actions.items ≡ (column rolltype).asks_early) }
-        ensures ok { OnOk result (Changes self.old (AbortRoll rolltype) self.new) }
-        ensures err { OnErr result (self.new ≡ self.old) }
+        // Causes: `early_end_refusal`, and memory.
+        ensures { Step self.old (AbortRoll rolltype) (reply_list result) self.new }
     {
         self.rolls.check_early_end(rolltype)?;
         let actions = copy_actions(self.alloc, rolltype.asks_at_early_end())?;
@@ -249,7 +217,7 @@ impl KeySet {
         ensures list { IfOk result (λ actions.
             actions.items ≡ actions_due rolltype (phase_of self.now.rolls rolltype)) }
         ensures none { actions_due rolltype (phase_of self.now.rolls rolltype) ≡ [] → IsOk result }
-        ensures err { IfErr result (λ e. e ≡ OutOfMemory) }
+        ensures err { IsOkUnless result OutOfMemory }
     {
         match self.rolls.phase_of(rolltype) {
             None => Ok(Vec::new(self.alloc)),
@@ -258,7 +226,6 @@ impl KeySet {
     }
 
     /// A report of the first or the second half.
-    #[tactic(auto, using(crate::proofs::Steps::steps))]
     fn report(
         &mut self,
         rolltype: RollType,
@@ -266,12 +233,8 @@ impl KeySet {
         ttl: u32,
         now: &UnixTime,
     ) -> Result<Vec<Action>, Error>
-        ensures reply { AnswersExactly
-            (report_refusal (which half) (phase_of self.old.rolls rolltype)) result }
-        ensures actions { IfOk result (λ actions. actions.items ≡ []) }
-        ensures ok { OnOk result
-            (Changes self.old (Report rolltype (which half) ttl now.now) self.new) }
-        ensures err { OnErr result (self.new ≡ self.old) }
+        ensures { Step self.old (Report rolltype (which half) ttl now.now)
+            (reply_list result) self.new }
     {
         // A report takes no memory, so one step checks the phase and writes it.
         self.rolls.take_report(rolltype, half, ttl)?;
@@ -281,20 +244,13 @@ impl KeySet {
     }
 
     /// The end of a wait of the first or the second half.
-    #[tactic(auto, using(crate::proofs::Steps::steps))]
     fn go_on(
         &mut self,
         rolltype: RollType,
         half: Half,
         now: &UnixTime,
     ) -> Result<Vec<Action>, Error>
-        ensures reply { AnswersWait (wait_clearance rolltype (which half) now.now self.old)
-            (actions_of rolltype (behind (which half))) result }
-        ensures actions { IfOk result (λ actions.
-            actions.items ≡ actions_of rolltype (behind (which half))) }
-        ensures ok { OnOk result
-            (Changes self.old (Wait rolltype (which half) now.now) self.new) }
-        ensures err { OnErr result (self.new ≡ self.old) }
+        ensures { Step self.old (Wait rolltype (which half) now.now) (reply_list result) self.new }
     {
         self.check_wait(rolltype, half, now)?;
         let actions = list_actions(self.alloc, rolltype, half.behind())?;
@@ -304,25 +260,23 @@ impl KeySet {
     }
 }
 
-/// The actions of a roll in a phase. An empty list takes no memory.
+/// The actions of a roll in a phase.
 fn list_actions(alloc: Global, roll: RollType, phase: RollState) -> Result<Vec<Action>, Error>
     ensures list { IfOk result (λ actions. actions.items ≡ actions_of roll phase) }
     ensures none { actions_of roll phase ≡ [] → IsOk result }
-    ensures err { IfErr result (λ e. e ≡ OutOfMemory) }
+    ensures err { IsOkUnless result OutOfMemory }
 {
     copy_actions(alloc, roll.actions_in(phase))
 }
 
+/// A list of these actions. An empty list takes no memory.
 fn copy_actions(alloc: Global, actions: &[Action]) -> Result<Vec<Action>, Error>
     ensures list { IfOk result (λ list. list.items ≡ actions.now) }
     ensures none { actions.now ≡ [] → IsOk result }
-    ensures err { IfErr result (λ e. e ≡ OutOfMemory) }
+    ensures err { IsOkUnless result OutOfMemory }
 {
     if actions.is_empty() {
         return Ok(Vec::new(alloc));
     }
-    match actions.to_vec(alloc) {
-        Ok(list) => Ok(list),
-        Err(_) => Err(Error::OutOfMemory),
-    }
+    Ok(actions.to_vec(alloc)?)
 }

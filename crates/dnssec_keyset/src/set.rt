@@ -1,5 +1,5 @@
 //! The key set: its keys and its rolls in progress.
-ghost use Rattle.std.specs.Prelude.{◌≡◌, ℕ, List, IfOk, IfErr};
+ghost use Rattle.std.specs.Prelude.{◌≡◌, ℕ, List, IfOk, IsOkUnless};
 ghost use Rattle.std.specs.FinMap as map;
 ghost use Rattle.std.specs.HashMap as hash;
 ghost use Rattle.dnssec_base.specs.declared.error.Error.TheVariants.{OutOfMemory};
@@ -35,8 +35,8 @@ pub struct KeySet {
     pub(crate) alloc: Global,
 }
 
-// Written by hand, so that a caller drops a key set by one call.
 impl Drop for KeySet {
+    /// Written by hand, so that a caller drops a key set by one call.
     fn drop(self) {
         let KeySet {
             name: _,
@@ -52,11 +52,12 @@ impl Model for KeySet {
     ghost use Rattle.std.specs.Coded.{codes};
     ghost use Rattle.dnssec_keyset.specs.KeySet.{KeySetParts};
     ghost use Rattle.dnssec_zone.specs.Keys.{keys_code};
+    ghost use Rattle.dnssec_zone.specs.Rolls.{roll_code};
     ghost use Rattle.dnssec_zone.specs.Inner.Entries.{EntriesAgree, lists_of};
 
     ghost Value = { KeySetParts };
 
-    ghost coded = { Prim.hlevel (codes, keys_code) };
+    ghost coded = { Prim.hlevel (codes, keys_code, roll_code) };
 
     ghost view = { λ s. record {
       name = s.name;
@@ -90,7 +91,7 @@ impl KeySet {
     /// Only `OutOfMemory`, if there is no memory for the copy.
     pub fn try_clone(&self) -> Result<KeySet, Error>
         ensures same { IfOk result (λ set. set ≡ self.now) }
-        ensures err { IfErr result (λ e. e ≡ OutOfMemory) }
+        ensures err { IsOkUnless result OutOfMemory }
     {
         Ok(KeySet {
             name: clone_name(&self.name)?,
@@ -126,9 +127,10 @@ impl KeySet {
     }
 }
 
+/// A copy of a name.
 fn clone_name(name: &Name<Vec<u8>>) -> Result<Name<Vec<u8>>, Error>
     ensures same { IfOk result (λ made. made ≡ name.now) }
-    ensures err { IfErr result (λ e. e ≡ OutOfMemory) }
+    ensures err { IsOkUnless result OutOfMemory }
 {
     match name.try_clone() {
         Ok(made) => Ok(made),

@@ -1,5 +1,5 @@
 //! When a wait is over, and why it is refused before. Nothing is changed here.
-ghost use Rattle.std.specs.Prelude.{◌≡◌, ◌-◌, ◌*◌, ◌^◌, ◌≤◌, [], min, OnOk, IsSome, IfSome, IfNone};
+ghost use Rattle.std.specs.Prelude.{◌≡◌, ◌-◌, ◌*◌, ◌^◌, ◌≤◌, min, OnOk, IsSome, IfSome, IfNone};
 ghost use Rattle.std.specs.Duration.{as_nanos};
 ghost use Rattle.dnssec_key.specs.RollTable.{which};
 ghost use Rattle.dnssec_zone.specs.Rolls.{phase_of};
@@ -58,8 +58,7 @@ impl KeySet {
         half: Half,
         now: &UnixTime,
     ) -> Result<(), Error>
-        ensures reply { AnswersWait
-            (wait_clearance rolltype (which half) now.now self.now) [] result }
+        ensures reply { AnswersWait (wait_clearance rolltype (which half) now.now self.now) result }
         ensures there { OnOk result (IsSome (phase_of self.now.rolls rolltype)) }
     {
         let Some(ttl) = self.rolls.ttl_in(rolltype, half) else {

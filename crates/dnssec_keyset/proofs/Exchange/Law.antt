@@ -1,14 +1,15 @@
 -- Two neighbouring calls of rolls that go together may be exchanged: neither sees what the other
 -- changes.
+use Rattle.dnssec_keyset.proofs.Allowed.{accepted-step}
+use Rattle.dnssec_keyset.proofs.Changes.{Changes}
 use Rattle.std.proofs.Common.{◌≡◌, ℕ, Bool, true, false, cond, List, [], ◌∷◌, Some, None, refl, inl}
 use Rattle.std.proofs.Common.{inr, sym, ap, subst, ◌∙◌}
-use Rattle.std.specs.Prelude.{Option, ◌⊎◌, ◌≢◌, filter, if◌then◌else◌}
+use Rattle.std.specs.Prelude.{Option, ◌⊎◌, filter, if◌then◌else◌}
 use Rattle.std.specs.Option.{option_map, option_map_or}
 use Rattle.std.specs.FinMap.{get}
 use Rattle.std.proofs.lemmas.Option.{same_Some}
 use Rattle.dnssec_key.specs.declared.roll.RollType.{RollType}
 use Rattle.dnssec_key.specs.declared.roll.RollState.{RollState}
-use Rattle.dnssec_base.specs.declared.error.Error.TheVariants.{OutOfMemory}
 use Rattle.dnssec_key.specs.State.{is_kept}
 use Rattle.dnssec_key.specs.Key.{KeyParts, all_states}
 use Rattle.dnssec_keyset.specs.KeySet.{KeySetParts}
@@ -18,11 +19,11 @@ use Rattle.dnssec_key.specs.RollTable.{First, Second, after_early_end}
 use Rattle.dnssec_zone.specs.Start.{is_listed, lists_kind, old_entry_fault, old_fault, side_of}
 use Rattle.dnssec_zone.specs.Start.{together}
 use Rattle.dnssec_keyset.specs.Step.{start_refusal, Call, AddKey, Set, DeleteKey, StartRoll, Report}
-use Rattle.dnssec_keyset.specs.Step.{Wait, RollDone, AbortRoll, Reply, Refused, Changes, Step}
-use Rattle.dnssec_keyset.specs.Step.{StepBy, accepted_reply, after, clearance}
-use Rattle.dnssec_zone.specs.Wait.{Clearance, Barred, Early, Clear}
+use Rattle.dnssec_keyset.specs.Step.{Wait, RollDone, AbortRoll, Reply, Done, Actions, Refused}
+use Rattle.dnssec_keyset.specs.Step.{Step, IsRefusedFor, accepted_reply, after, clearance}
+use Rattle.dnssec_zone.specs.Wait.{Clear}
 use Rattle.dnssec_keyset.specs.Laws.{AreApart, MayBeExchanged, roll_of}
-use Rattle.dnssec_keyset.proofs.After.{after-changes}
+use Rattle.dnssec_keyset.proofs.After.{after-changes, changed}
 use Rattle.dnssec_keyset.proofs.Laws.{no_cause, no_first, no_rest, same-is}
 use Rattle.dnssec_zone.proofs.Phases.{phase_of-with_phase, same_rolls, same_lists}
 use Rattle.dnssec_zone.proofs.Phases.{listed_by-with_listed}
@@ -46,31 +47,17 @@ record IsAccepted (s : KeySetParts) (call : Call) (reply : Reply) (new : KeySetP
   reply_is : reply ≡ accepted_reply call
   changes : Changes s call new
 
-answered : (s new : KeySetParts) (call : Call) (reply : Reply) → reply ≢ Refused OutOfMemory
-    → Step s call reply new → IsRefused s call reply new ⊎ IsAccepted s call reply new
-answered s new call reply memory step = at (clearance s call) refl step
-  where
-    at : (v : Clearance) → clearance s call ≡ v → StepBy v s call reply new
-        → IsRefused s call reply new ⊎ IsAccepted s call reply new
-    at (Barred cause) is h = inl (record {
-      stays = h.1;
-      elsewhere = λ b t on same. subst (λ v. StepBy v t call reply t)
-          (sym (sym (clearance-same b s t call on same) ∙ is)) (h.0, refl);
-    })
-    at (Early left) is h = inl (record {
-      stays = h.1;
-      elsewhere = λ b t on same. subst (λ v. StepBy v t call reply t)
-          (sym (sym (clearance-same b s t call on same) ∙ is)) (h.0, refl);
-    })
-    at Clear is h = elim h [
-      | inl ok ↦ inr (record { clear = is; reply_is = ok.0; changes = ok.1 })
-      | inr none ↦ absurd (memory none.1)
-    ]
-
-accepted-step : (s new : KeySetParts) (call : Call) (reply : Reply) → clearance s call ≡ Clear
-    → reply ≡ accepted_reply call → Changes s call new → Step s call reply new
-accepted-step s new call reply clear is changes =
-    subst (λ v. StepBy v s call reply new) (sym clear) (inl (is, changes))
+answered : (s new : KeySetParts) (call : Call) (reply : Reply) → Step s call reply new
+    → IsRefused s call reply new ⊎ IsAccepted s call reply new
+answered s new call Done h =
+    inr (record { clear = h.0; reply_is = h.1; changes = changed s new call h.2 })
+answered s new call (Actions xs) h =
+    inr (record { clear = h.0; reply_is = h.1; changes = changed s new call h.2 })
+answered s new call (Refused cause) h = inl (record {
+  stays = h.1;
+  elsewhere = λ b t on same.
+      (subst (λ v. IsRefusedFor v call cause) (clearance-same b s t call on same) h.0, refl);
+})
 
 -- ---- both are accepted
 
@@ -288,15 +275,15 @@ apart-back : (a b : RollType) → together a b ≡ true → together b a ≡ tru
 apart-back a b e = apart-side a b e
 
 pub exchange : (s s1 s2 : KeySetParts) (first second : Call) (r1 r2 : Reply)
-    → AreApart first second r1 r2 → Step s first r1 s1 → Step s1 second r2 s2
+    → AreApart first second → Step s first r1 s1 → Step s1 second r2 s2
     → MayBeExchanged s s2 first second r1 r2
 exchange s s1 s2 first second r1 r2 calls step1 step2 =
-    elim (answered s s1 first r1 calls.memory_first step1) [
+    elim (answered s s1 first r1 step1) [
       | inl no1 ↦
           let second_here : Step s second r2 s2 =
           subst (λ x. Step x second r2 s2) no1.stays step2 in
           let same : SameFor a s s2 =
-          elim (answered s s2 second r2 calls.memory_second second_here) [
+          elim (answered s s2 second r2 second_here) [
             | inl no2 ↦ subst (SameFor a s) (sym no2.stays) (same-itself a s)
             | inr ok2 ↦ same-after b a (apart-back a b calls.apart) s s2 second calls.second_is
                 ok2.clear ok2.changes
@@ -310,7 +297,7 @@ exchange s s1 s2 first second r1 r2 calls step1 step2 =
       | inr ok1 ↦
           let seen : SameFor b s s1 = same-after a b calls.apart s s1 first calls.first_is ok1.clear
           ok1.changes in
-          elim (answered s1 s2 second r2 calls.memory_second step2) [
+          elim (answered s1 s2 second r2 step2) [
             | inl no2 ↦ record {
               between = s;
               second_step = no2.elsewhere b s calls.second_is (same-sym b s s1 seen);

@@ -1,7 +1,9 @@
 -- The walk over the keys and the move of the roll are what an accepted wait changes.
-use Rattle.std.proofs.Common.{refl}
-use Rattle.dnssec_key.specs.RollTable.{which}
+use Rattle.std.proofs.Common.{refl, ap, ◌∙◌}
+use Rattle.dnssec_key.specs.RollTable.{which, actions_of}
 use Rattle.dnssec_keyset.proofs.Listing.{waited}
+use Rattle.dnssec_keyset.proofs.Allowed.{accepted-step, over}
+use Rattle.dnssec_keyset.specs.Step.{Actions, Wait, wait_clearance}
 use Rattle.dnssec_keyset.proofs.set.KeySet.go_on.Goals as goal
 
 pub invariant_of-self : goal.invariant_of-self
@@ -9,13 +11,19 @@ invariant_of-self c = (waited c.self.inside.keys c.go_on_all.new.self
     c.self.inside.lists.entries.items c.self.invariant c.args.rolltype (which c.args.half)
     c.args.now.now c.go_on_all.ensures).0
 
-pub returns-clause-ok : goal.returns-clause-ok
-returns-clause-ok c = rw (← c.behind-2.ensures, ← c.self.view_is) record {
-  name = refl;
-  rolls =
-      c.move_to.ensures;
-  lists = (waited c.self.inside.keys c.go_on_all.new.self
-      c.self.inside.lists.entries.items c.self.invariant c.args.rolltype (which c.args.half)
-      c.args.now.now c.go_on_all.ensures).1;
-  keys = c.go_on_all.ensures;
-}
+pub returns : goal.returns
+returns c = accepted-step c.args.self.now _
+    (Wait c.args.rolltype (which c.args.half) c.args.now.now) _
+    (over (wait_clearance c.args.rolltype (which c.args.half) c.args.now.now c.args.self.now) _
+    c.in_ok-check_wait.ensures.reply)
+    (ap Actions (c.in_ok-actions.ensures.list
+    ∙ ap (actions_of c.args.rolltype) c.behind.ensures))
+    (rw (← c.behind-2.ensures, ← c.self.view_is) record {
+      name = refl;
+      rolls =
+          c.move_to.ensures;
+      lists = (waited c.self.inside.keys c.go_on_all.new.self
+          c.self.inside.lists.entries.items c.self.invariant c.args.rolltype (which c.args.half)
+          c.args.now.now c.go_on_all.ensures).1;
+      keys = c.go_on_all.ensures;
+    })

@@ -8,9 +8,11 @@ use Rattle.dnssec_zone.specs.Inner.Entries.{entries_at_start, lists_of}
 use Rattle.dnssec_zone.specs.Lists.{with_listed, listed_at_start}
 use Rattle.dnssec_zone.specs.Start.{texts, is_listed}
 use Rattle.dnssec_zone.proofs.Starts.{passed}
-use Rattle.dnssec_keyset.specs.Step.{start_refusal}
+use Rattle.dnssec_zone.specs.Wait.{barred_by}
+use Rattle.dnssec_keyset.specs.Step.{start_refusal, Actions, StartRoll}
 use Rattle.dnssec_keyset.specs.contracts.set.KeySet.{the_view}
 use Rattle.dnssec_keyset.proofs.Listing.{Listing, started, started-keys}
+use Rattle.dnssec_keyset.proofs.Allowed.{accepted-step}
 use Rattle.dnssec_keyset.proofs.set.KeySet.start_roll.Goals as goal
 
 marked : (c : goal.After-mark_new) (q : List ℕ) → get c.mark_new.new.self q
@@ -21,6 +23,11 @@ marked : (c : goal.After-mark_new) (q : List ℕ) → get c.mark_new.new.self q
 marked c q = c.mark_new.ensures q ∙ ap (option_map (λ k. if is_listed (texts c.args.new.now) q
     then new_at_start c.args.rolltype c.args.now.now k else k)) (c.mark_old.ensures q)
 
+-- no cause stands
+clear : (c : goal.After-mark_new) → start_refusal c.args.rolltype c.args.self.now
+    (texts c.args.old.now) (texts c.args.new.now) ≡ None
+clear c = passed _ _ c.in_ok-check_start.ensures
+
 listing : (c : goal.After-mark_new) → Listing c.mark_new.new.self
     (entries_at_start c.self.inside.keys c.args.rolltype (texts c.args.old.now)
     (texts c.args.new.now) c.self.inside.lists.entries.items)
@@ -30,17 +37,20 @@ listing c = started (the_view c.self.inside) c.mark_new.new.self
     c.self.inside.lists.entries.items c.self.invariant c.args.rolltype (texts c.args.old.now)
     (texts c.args.new.now) c.args.now.now (marked c)
     (subst (λ set. start_refusal c.args.rolltype set (texts c.args.old.now)
-    (texts c.args.new.now) ≡ None) (sym c.self.view_is) (passed _ _ c.in_ok-check_start.ensures))
+    (texts c.args.new.now) ≡ None) (sym c.self.view_is) (clear c))
 
 pub invariant_of-self-2 : goal.invariant_of-self-2
 invariant_of-self-2 c = rw (c.in_ok-lists.ensures.ok) (listing c).0
 
-pub returns-clause-ok : goal.returns-clause-ok
-returns-clause-ok c = rw (← c.self.view_is) record {
-  name = refl;
-  rolls = c.in_ok-put_in.ensures.ok;
-  lists = rw (c.in_ok-lists.ensures.ok) (listing c).1;
-  keys = started-keys (the_view c.self.inside) c.mark_new.new.self
-      c.self.inside.lists.entries.items c.self.invariant c.args.rolltype (texts c.args.old.now)
-      (texts c.args.new.now) c.args.now.now (marked c);
-}
+pub returns : goal.returns
+returns c = accepted-step c.args.self.now _
+    (StartRoll c.args.rolltype (texts c.args.old.now) (texts c.args.new.now) c.args.now.now) _
+    (ap barred_by (clear c)) (ap Actions c.in_ok-actions.ensures.list)
+    (rw (← c.self.view_is) record {
+      name = refl;
+      rolls = c.in_ok-put_in.ensures.ok;
+      lists = rw (c.in_ok-lists.ensures.ok) (listing c).1;
+      keys = started-keys (the_view c.self.inside) c.mark_new.new.self
+          c.self.inside.lists.entries.items c.self.invariant c.args.rolltype (texts c.args.old.now)
+          (texts c.args.new.now) c.args.now.now (marked c);
+    })
