@@ -1,5 +1,7 @@
 -- What every step keeps holds at every position of a record.
-use Rattle.std.proofs.Common.{◌≡◌, ℕ, zero, suc, List, Some, None, refl, subst}
+use Rattle.std.proofs.Common.{length, arith, ◌≤◌, inl, inr, ◌≡◌, ℕ, zero, suc, List, Some, None}
+use Rattle.std.proofs.Common.{refl, subst}
+use Rattle.std.proofs.lemmas.Option.{slice_get_cases}
 use Rattle.std.specs.Prelude.{Option, slice_get}
 use Rattle.dnssec_keyset.specs.KeySet.{KeySetParts, new_set}
 use Rattle.dnssec_zone.specs.Keys.{TagsApart}
@@ -14,31 +16,45 @@ use Rattle.dnssec_keyset.proofs.Exchange.Law.{exchange}
 use Rattle.dnssec_run.specs.Record.{IsRun, StaysSound, KeepsSidesApart, NeighboursMayBeExchanged}
 use Rattle.dnssec_run.specs.Record.{call_of, reply_of, world_behind, world_at}
 
+-- what each call of a list keeps
+pub kept-by : (name : List ℕ) (calls : List Call) (entries : List Entry) (P : KeySetParts → Type 0)
+    → P (new_set name) → ((n : ℕ) (c : Call) (e : Entry) → slice_get calls n ≡ Some c
+    → slice_get entries n ≡ Some e → P (world_at name calls entries n).set
+    → P (world_at name calls entries (suc n)).set) → (n : ℕ) → P (world_at name calls entries n).set
+unfolding world_at
+kept-by name calls entries P start step zero = start
+kept-by name calls entries P start step (suc n) = at (slice_get calls n) (slice_get entries n) refl
+    refl (kept-by name calls entries P start step n)
+  where
+    at : (oc : Option Call) (oe : Option Entry) → slice_get calls n ≡ oc → slice_get entries n ≡ oe
+        → P (world_at name calls entries n).set
+        → P (world_behind (suc n) (world_at name calls entries n) oc oe).set
+    at None oe ci ei before = before
+    at (Some c) None ci ei before = before
+    at (Some c) (Some e) ci ei before = subst (λ (w : World). P w.set)
+        (λ i. world_behind (suc n) (world_at name calls entries n) (ci i) (ei i))
+        (step n c e ci ei before)
+
 module _ (P : KeySetParts → Type 0) (start : (name : List ℕ) → P (new_set name))
     (step : (old new : KeySetParts) (call : keyset.Call) (reply : keyset.Reply) → P old
     → keyset.Step old call reply new → P new)
     (name : List ℕ) (calls : List Call) (entries : List Entry) (run : IsRun name calls entries)
   where
     pub kept-at : (n : ℕ) → P (world_at name calls entries n).set
-    unfolding world_at
-    kept-at zero = start name
-    kept-at (suc n) = at (slice_get calls n) (slice_get entries n) refl refl (kept-at n)
-      where
-        next : Option Call → Option Entry → World
-        next c e = world_behind (suc n) (world_at name calls entries n) c e
+    kept-at = kept-by name calls entries P (start name) (λ n c e ci ei before.
+        step _ _ (call_of c) (reply_of e.reply) before (run.each n c e ci ei).step)
 
-        at : (oc : Option Call) (oe : Option Entry) → slice_get calls n ≡ oc → slice_get entries n
-            ≡ oe → P (world_at name calls entries n).set
-            → P (world_behind (suc n) (world_at name calls entries n) oc oe).set
-        at None oe ci ei before = before
-        at (Some c) None ci ei before = before
-        at (Some c) (Some e) ci ei before =
-            let then : world_at name calls entries (suc n)
-            ≡ world_behind (suc n) (world_at name calls entries n) (Some c) (Some e) =
-            λ i. world_behind (suc n) (world_at name calls entries n) (ci i) (ei i) in
-            step _ _ (call_of c) (reply_of e.reply) before
-            (subst (λ (w : World). keyset.Step (world_at name calls entries n).set (call_of c)
-            (reply_of e.reply) w.set) then (run.each n c e ci ei).step)
+-- the call after a position, with its entry
+pub made-at : (name : List ℕ) (calls : List Call) (entries : List Entry) → IsRun name calls entries
+    → (n : ℕ) → suc n ≤ length entries → (c : Call) × (e : Entry) × (slice_get calls n ≡ Some c)
+    × (slice_get entries n ≡ Some e)
+made-at name calls entries run n within = elim ((slice_get_cases entries n).1) [
+  | inl e ↦ elim ((slice_get_cases calls n).1) [
+    | inl c ↦ (c.0, e.0, c.2, e.2)
+    | inr c ↦ absurd (omega (arith, c.0, run.count))
+  ]
+  | inr e ↦ absurd (omega (arith, e.0))
+]
 
 -- tags stay apart and rolls together
 pub stays-sound : (name : List ℕ) (calls : List Call) (entries : List Entry)

@@ -10,7 +10,8 @@
 -- | `Recorder::new`           | `agrees-new`, `published-new` | Next                         |
 -- | `Recorder::advance`, `ok` | `entry-of`, `world_more`      | Next, Grow                   |
 -- | `advance`, both           | `agrees-accepted`             | Next; the key set's After    |
--- | `read_sets`, `ok`         | `shows-all`                   | Positions                    |
+-- | `read_sets`, `ok`         | `reads-all`                   | Renewed, Positions           |
+-- | `advance`, `leaves`       | `leaves`                      | Asked                        |
 -- | `renew_key`, `read`       | `published-then`              | OneKey                       |
 -- | `starts_suffice`          | `starts-suffice`              | Starts                       |
 -- | `whole_runs_stay_safe`    | `chain-holds`, `each-holds`   | Chain                        |
@@ -28,3 +29,4 @@ pub mod EarlyEnds
 pub mod Premise
 pub mod Starts
 pub mod Recorded
+pub mod Renewed

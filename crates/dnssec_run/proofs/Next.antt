@@ -1,6 +1,6 @@
 -- The positions that the recorder keeps go along with each call.
 use Rattle.std.proofs.Common.{◌≡◌, ℕ, Bool, true, false, cond, List, Some, None, refl, sym, ap, ◌∙◌}
-use Rattle.std.proofs.Common.{◌∷◌, subst, map}
+use Rattle.std.proofs.Common.{◌∷◌, subst, map, [], string_bytes, Global}
 use Rattle.std.specs.Prelude.{Option, if◌then◌else◌}
 use Rattle.std.specs.Option.{option_map}
 use Rattle.std.specs.Str.{bytes_eq}
@@ -12,14 +12,12 @@ use Rattle.std.specs.List.{AllZip}
 use Rattle.std.specs.Ordering.{nat_cmp, is_eq}
 use Rattle.std.specs.Cmp.Lexicographic.{slice_cmp}
 use Rattle.std.specs.declared.string.String.{String}
-use Rattle.std.proofs.Common.{[], string_bytes, Global}
 use Rattle.dnssec_key.specs.Key.{KeyParts}
 use Rattle.dnssec_key.specs.Setters.{Setting, set_by}
 use Rattle.dnssec_keyset.specs.KeySet.{KeySetParts, new_set}
 use Rattle.dnssec_keyset.specs.Step as keyset
 use Rattle.dnssec_keyset.specs.Step.{AddKey, Set, DeleteKey, StartRoll, Report, Wait, RollDone}
-use Rattle.dnssec_keyset.specs.Step.{AbortRoll}
-use Rattle.dnssec_keyset.specs.Step.{after, after_reply}
+use Rattle.dnssec_keyset.specs.Step.{AbortRoll, after, after_reply}
 use Rattle.dnssec_keyset.proofs.After.{after-changes}
 use Rattle.dnssec_run.specs.declared.call.Call.{Call}
 use Rattle.dnssec_run.specs.declared.record.Entry.{Entry}
@@ -29,8 +27,8 @@ use Rattle.dnssec_run.specs.declared.record.Reply.{Reply}
 use Rattle.dnssec_run.specs.declared.record.Reply.TheVariants.{Done, Actions, Refused}
 use Rattle.dnssec_run.specs.Published.{IsPublished, World, id_of, in_ds, in_dnskey, signs_dnskey}
 use Rattle.dnssec_run.specs.Published.{signs_zone}
-use Rattle.dnssec_run.specs.Record.{call_of, reply_of, is_accepted, mark_of, mark_after}
-use Rattle.dnssec_run.specs.Record.{IsEntry, reference_added, with_added, world_after, new_world}
+use Rattle.dnssec_run.specs.Record.{call_of, reply_of, is_accepted, mark_of, mark_after, IsEntry}
+use Rattle.dnssec_run.specs.Record.{reference_added, with_added, world_after, new_world}
 use Rattle.dnssec_run.specs.declared.record.Mark.TheVariants.{Other}
 use Rattle.dnssec_run.specs.Recorder.{Agrees, HasSameKeys, IsOutcome, TellsOutcome, positions_after}
 use Rattle.dnssec_run.specs.Recorder.{ChangesAt, ChangesOnly, reference_deleted, reference_set}
@@ -153,13 +151,7 @@ changes-only n w call reply = by (call_of call) reply
     by (Set r setting) (Actions actions) = accepted r setting
     by (Set r setting) (Refused cause) =
         record { others = λ q apart. refl; added = λ q. refl }
-    by (AddKey r key) reply = tt
-    by (DeleteKey r) reply = tt
-    by (StartRoll roll olds news now) reply = tt
-    by (Report roll half ttl now) reply = tt
-    by (Wait roll half now) reply = tt
-    by (RollDone roll) reply = tt
-    by (AbortRoll roll) reply = tt
+    by _ _ = tt
 
 -- clones of the positions are the same positions
 pub positions-cloned : {Y : Type 0} (es fs : List (String Y × ℕ))

@@ -1,20 +1,19 @@
 -- The place of one key in a set: what a search finds is taken out, and in the gap that it finds a
 -- key is put in. Then the set is the one that is published, if the other keys are as they were.
-use Rattle.std.proofs.Common.{◌≡◌, ◌≤◌, ◌<◌, ◌∙◌, ℕ, zero, suc, Bool, true, false, cond, List}
-use Rattle.std.proofs.Common.{[], ◌∷◌, map, length, get_or, Some, None, refl, sym, ap, subst, arith}
+use Rattle.std.proofs.Common.{◌≡◌, ◌≤◌, ◌<◌, ◌∙◌, ℕ, zero, suc, Bool, true, false, cond, List, []}
+use Rattle.std.proofs.Common.{◌∷◌, map, length, get_or, Some, None, refl, sym, ap, subst, arith}
 use Rattle.std.proofs.Common.{string_bytes}
-use Rattle.std.specs.Prelude.{Option, T, not, is_some}
+use Rattle.std.specs.Prelude.{Option, T, not, is_some, IsSortedBy}
 use Rattle.std.specs.declared.cmp.Ordering.{Ordering}
 use Rattle.std.specs.declared.cmp.Ordering.TheVariants.{Less, Equal, Greater}
 use Rattle.std.specs.Cmp.Lexicographic.{slice_cmp, nat_list_cmp_total, bytes_decides}
 use Rattle.std.specs.Option.{option_map}
 use Rattle.std.specs.FinMap.{get, slice_cmp-IsAntisymmetric, nat_cmp-IsAntisymmetric}
-use Rattle.std.specs.FinMap.Entries.{below_all, by_order, find-put, find-where_key}
-use Rattle.std.specs.FinMap.Entries.{is_sorted-put, is_sorted-where_key, put, where_key}
+use Rattle.std.specs.FinMap.Entries.{below_all, by_order, find-put, find-where_key, is_sorted-put}
+use Rattle.std.specs.FinMap.Entries.{is_sorted-where_key, put, where_key}
 use Rattle.std.specs.List.{insert, remove}
 use Rattle.std.specs.List.Sorted.{IsNonDecreasingBy, IsPartitionPoint}
 use Rattle.std.specs.Ordering.{eq_by_cmp, is_eq, is_lt, nat_cmp, ordering_index, ordering_reverse}
-use Rattle.std.specs.Prelude.{IsSortedBy}
 use Rattle.std.specs.Str.{bytes_eq}
 use Rattle.std.proofs.lemmas.List.Sorted.{searchable_from_sorted}
 use Rattle.std.proofs.lemmas.Map.Text.{is_eq-slice_cmp}
@@ -37,11 +36,10 @@ reference k = string_bytes k.reference
 abbrev pub ids : List PublishedKey → List Id
 ids keys = map id_of keys
 
--- a key whose reference is below another's isn't that one
-less_apart : (o : Ordering) → T (is_lt o) → not (is_eq o) ≡ true
-less_apart Less h = refl
-less_apart Equal h = absurd h
-less_apart Greater h = absurd h
+lower : (o : Ordering) → T (is_lt o) → o ≡ Less
+lower Less h = refl
+lower Equal h = absurd h
+lower Greater h = absurd h
 
 module _ (r : List ℕ) where
   -- how a key stands to the reference r
@@ -66,12 +64,8 @@ module _ (r : List ℕ) where
       {x = suc k} (omega arith) (up keys h k d (omega arith))
     where
       below : (x y : List ℕ) → T (is_lt (order x y)) → is_lt (order y x) ≡ false
-      below x y h = ap is_lt (nat_list_cmp_total.antisymm y x) ∙ at (order x y) h
-        where
-          at : (o : Ordering) → T (is_lt o) → is_lt (ordering_reverse o) ≡ false
-          at Less h = refl
-          at Equal h = absurd h
-          at Greater h = absurd h
+      below x y h = ap is_lt (nat_list_cmp_total.antisymm y x)
+          ∙ ap (λ o. is_lt (ordering_reverse o)) (lower (order x y) h)
 
       up : (keys : List PublishedKey) → IsAscending (ids keys) → (k : ℕ) (d : PublishedKey)
           → suc k < length keys
@@ -140,7 +134,7 @@ module _ (r : List ℕ) where
   all_others : (l : List Id) → T (below_all order r l) → others l ≡ l
   all_others [] h = refl
   all_others (e ∷ es) h =
-      ap (λ b. cond b (e ∷ others es) (others es)) (less_apart _ (first _ _ h))
+      ap (λ o. cond (not (is_eq o)) (e ∷ others es) (others es)) (lower _ (first _ _ h))
       ∙ ap (λ (l : List Id). e ∷ l) (all_others es (second _ _ h))
 
   below_here : (x : List ℕ) (keys : List PublishedKey) (i : ℕ) → i < length keys
@@ -165,11 +159,6 @@ module _ (r : List ℕ) where
       (turned (reference x) Less
       (lower (order (reference x) r)
       (below_here (reference x) xs i (omega arith) (first _ _ h) here))))
-    where
-      lower : (o : Ordering) → T (is_lt o) → o ≡ Less
-      lower Less h = refl
-      lower Equal h = absurd h
-      lower Greater h = absurd h
 
   present : (keys : List PublishedKey) (i : ℕ) → i < length keys → IsHere keys i
       → is_some (position_in (ids keys) r) ≡ true
@@ -196,8 +185,7 @@ module _ (r : List ℕ) where
     where
       at : (o : Ordering) → is_eq (ordering_reverse o) ≡ is_eq o
       at Less = refl
-      at Equal = refl
-      at Greater = refl
+      at _ = refl
 
   -- at r the set has this, elsewhere what it had
   at_reference : (at : Option ℕ) (old : List Id) (q : List ℕ) (new : Option ℕ)

@@ -1,8 +1,7 @@
 -- A published list has exactly the keys that its set shows, in their order: for `run` and
 -- `changes`.
 use Rattle.std.proofs.Common.{◌≡◌, ℕ, Bool, true, false, cond, List, [], ◌∷◌, map, None, Some, refl}
-use Rattle.std.proofs.Common.{sym, ap, subst, ◌∙◌, string_bytes, ◌++◌, append_assoc}
-use Rattle.std.proofs.Common.{append-nil}
+use Rattle.std.proofs.Common.{sym, ap, subst, ◌∙◌, string_bytes, ◌++◌, append_assoc, append-nil}
 use Rattle.std.specs.Prelude.{Option, ◌&&◌, T, filter}
 use Rattle.std.specs.declared.string.String.{String}
 use Rattle.std.specs.declared.cmp.Ordering.TheVariants.{Less}
@@ -21,7 +20,7 @@ use Rattle.std.specs.FinMap.Entries.{below_all, is_sorted, same_entries, find-wh
 use Rattle.std.specs.FinMap.Entries.{is_sorted-where_key}
 use Rattle.dnssec_key.specs.declared.kind.KeyType.{KeyType}
 use Rattle.dnssec_key.specs.Key.{KeyParts}
-use Rattle.dnssec_keyset.specs.KeySet.{KeySetParts, new_set}
+use Rattle.dnssec_keyset.specs.KeySet.{KeySetParts}
 use Rattle.dnssec_zone.proofs.Quantified.{apart, first, itself, same_key, second}
 use Rattle.dnssec_run.specs.Published.{Id, World, keys_where}
 use Rattle.dnssec_run.specs.Record.{new_world}
@@ -243,75 +242,6 @@ module _ {Y : Type 0} (p : KeyType → Bool) (key : List ℕ → Option KeyParts
       passing-by_bytes m.entries ∙ ap (filter (test p key)) same
       ∙ filter-placed w.added p key es there
 
--- ---- lists of the same keys
-
-module _ (p : KeyType → Bool) (w : World) where
-  found_there : AreFound (get w.set.keys) (entries w.set.keys)
-  found_there = found_by (λ q. find (slice_cmp nat_cmp) q (entries w.set.keys)) (get w.set.keys)
-      (λ q. get-entries w.set.keys q) (entries w.set.keys)
-      (all_found (entries w.set.keys) (entries_sorted w.set.keys))
-
-  shown-tested : filter (test p (get w.set.keys)) (placed w.added (entries w.set.keys))
-      ≡ keys_where p w
-  unfolding placed
-  shown-tested = filter-placed w.added p (get w.set.keys) (entries w.set.keys) found_there
-
-  sorted-tested : T (is_sorted (slice_cmp nat_cmp)
-      (filter (test p (get w.set.keys)) (placed w.added (entries w.set.keys))))
-  unfolding test
-  sorted-tested = is_sorted-where_key (slice_cmp nat_cmp)
-      (λ q. option_map_or (λ (k : KeyParts). p k.keytype) (get w.set.keys q) false) _
-      (sorted-placed w.added (entries w.set.keys) (entries_sorted w.set.keys))
-
-  find-tested : (q : List ℕ) → find (slice_cmp nat_cmp) q
-      (filter (test p (get w.set.keys)) (placed w.added (entries w.set.keys)))
-      ≡ cond (option_map_or (λ (k : KeyParts). p k.keytype) (get w.set.keys q) false)
-      (option_map (λ k. w.added q) (get w.set.keys q)) None
-  unfolding test
-  find-tested q = find-where_key (slice_cmp nat_cmp)
-      (λ q. option_map_or (λ (k : KeyParts). p k.keytype) (get w.set.keys q) false) q
-      (λ x e. ap (λ q. option_map_or (λ (k : KeyParts). p k.keytype) (get w.set.keys q) false)
-      (sym (same_key q x (ap is_eq e)))) _
-      ∙ ap (λ o. cond (option_map_or (λ (k : KeyParts). p k.keytype) (get w.set.keys q) false) o
-      None)
-      (find-placed w.added (entries w.set.keys) q
-      ∙ ap (option_map (λ k. w.added q)) (sym (get-entries w.set.keys q)))
-
--- if the same keys pass, each added at the same position, `keys_where` is the same list
-pub same-shown : (p : KeyType → Bool) (w v : World)
-    → ((q : List ℕ) → option_map_or (λ (k : KeyParts). p k.keytype) (get v.set.keys q) false
-    ≡ option_map_or (λ (k : KeyParts). p k.keytype) (get w.set.keys q) false)
-    → ((q : List ℕ) (k : KeyParts) → get w.set.keys q ≡ Some k → v.added q ≡ w.added q)
-    → keys_where p v ≡ keys_where p w
-same-shown p w v passes added =
-    sym (shown-tested p v) ∙ same_entries (slice_cmp nat_cmp) nat_list_cmp_total
-    (slice_cmp-IsAntisymmetric nat_cmp-IsAntisymmetric) _ _ (sorted-tested p v) (sorted-tested p w)
-    (λ q. find-tested p v q ∙ at q (get v.set.keys q) (get w.set.keys q) (passes q) (added q)
-    ∙ sym (find-tested p w q)) ∙ shown-tested p w
-  where
-    at : (q : List ℕ) (o u : Option KeyParts)
-        → option_map_or (λ (k : KeyParts). p k.keytype) o false
-        ≡ option_map_or (λ (k : KeyParts). p k.keytype) u false
-        → ((k : KeyParts) → u ≡ Some k → v.added q ≡ w.added q)
-        → cond (option_map_or (λ (k : KeyParts). p k.keytype) o false)
-        (option_map (λ k. v.added q) o) None
-        ≡ cond (option_map_or (λ (k : KeyParts). p k.keytype) u false)
-        (option_map (λ k. w.added q) u) None
-    at q None None same added = refl
-    at q None (Some k) same added = ap (λ b. cond b (Some (w.added q)) None) same
-    at q (Some j) None same added = ap (λ b. cond b (Some (v.added q)) None) same
-    at q (Some j) (Some k) same added = λ i. cond (same i) (Some (added k refl i)) None
-
--- a new set shows nothing
-pub shown-none : (p : KeyType → Bool) (name : List ℕ) → keys_where p (new_world name) ≡ []
-shown-none p name =
-    ap (λ es. map (λ (e : List ℕ × KeyParts). (e.0, 0))
-    (filter (λ (e : List ℕ × KeyParts). p e.1.keytype) es))
-    (same_entries (slice_cmp nat_cmp) nat_list_cmp_total
-    (slice_cmp-IsAntisymmetric nat_cmp-IsAntisymmetric) (entries (new_set name).keys) []
-    (entries_sorted (new_set name).keys) tt
-    (λ q. sym (get-entries (new_set name).keys q) ∙ get-empty (slice_cmp nat_cmp) q))
-
 -- ---- a set by its look-ups
 
 module _ (passes : KeyType → Bool) (w : World) where
@@ -361,3 +291,27 @@ module _ (passes : KeyType → Bool) (w : World) where
   shown-by ids up found = same_entries (slice_cmp nat_cmp) nat_list_cmp_total
       (slice_cmp-IsAntisymmetric nat_cmp-IsAntisymmetric) ids (keys_where passes w) up
       shown-ascending (λ q. found q ∙ sym (shown-found q))
+
+-- if the same keys pass, each added at the same position, `keys_where` is the same list
+pub same-shown : (p : KeyType → Bool) (w v : World)
+    → ((q : List ℕ) → option_map_or (λ (k : KeyParts). p k.keytype) (get v.set.keys q) false
+    ≡ option_map_or (λ (k : KeyParts). p k.keytype) (get w.set.keys q) false)
+    → ((q : List ℕ) (k : KeyParts) → get w.set.keys q ≡ Some k → v.added q ≡ w.added q)
+    → keys_where p v ≡ keys_where p w
+same-shown p w v passes added = shown-by p w (keys_where p v) (shown-ascending p v)
+    (λ q. shown-found p v q ∙ at q (get v.set.keys q) (get w.set.keys q) (passes q) (added q))
+  where
+    at : (q : List ℕ) (o u : Option KeyParts)
+        → option_map_or (λ (k : KeyParts). p k.keytype) o false
+        ≡ option_map_or (λ (k : KeyParts). p k.keytype) u false
+        → ((k : KeyParts) → u ≡ Some k → v.added q ≡ w.added q)
+        → position_shown p o (Some (v.added q)) ≡ position_shown p u (Some (w.added q))
+    at q None None same added = refl
+    at q None (Some k) same added = ap (λ b. cond b (Some (w.added q)) None) same
+    at q (Some j) None same added = ap (λ b. cond b (Some (v.added q)) None) same
+    at q (Some j) (Some k) same added = λ i. cond (same i) (Some (added k refl i)) None
+
+-- a new set shows nothing
+pub shown-none : (p : KeyType → Bool) (name : List ℕ) → keys_where p (new_world name) ≡ []
+shown-none p name = sym (shown-by p (new_world name) [] tt
+    (λ q. ap (λ o. position_shown p o (Some 0)) (sym (get-empty (slice_cmp nat_cmp) q))))

@@ -1,6 +1,7 @@
 -- What a plain list sets by hand and starts, said of the key set at each position, as the proofs
 -- use it. On every run it is the same as the definitions, which speak only of calls and replies:
 -- the kind of a key never changes. For `chain` and the laws of whole rolls.
+use Rattle.dnssec_keyset.proofs.Changes.{Changes}
 use Rattle.std.proofs.Common.{◌≡◌, ℕ, zero, suc, ◌<◌, Bool, true, false, List, Option, None, Some}
 use Rattle.std.proofs.Common.{refl, sym, ap, subst, ◌∙◌}
 use Rattle.std.specs.Prelude.{if◌then◌else◌, nat_eq, slice_get}
@@ -14,19 +15,15 @@ use Rattle.dnssec_key.specs.declared.kind.KeyType.TheVariants.{Ksk, Zsk, Csk, In
 use Rattle.dnssec_key.specs.declared.roll.RollType.{RollType}
 use Rattle.dnssec_key.specs.declared.roll.RollType.TheVariants.{AlgorithmRoll}
 use Rattle.dnssec_key.specs.Key.{KeyParts}
-use Rattle.dnssec_key.specs.State.{Flags}
 use Rattle.dnssec_key.specs.RollTable.{First, after_start, after_report, after_wait}
-use Rattle.dnssec_key.specs.RollTable.{after_early_end, stays}
-use Rattle.dnssec_key.specs.Setters.{Setting, Decoupled, Present, Signer, AtParent, Stale}
-use Rattle.dnssec_key.specs.Setters.{VisibleAt, DsVisibleAt, RrsigVisibleAt, set_by}
-use Rattle.dnssec_key.specs.Setters.{at_each_state, stale_by_hand, with_at_parent, with_present}
-use Rattle.dnssec_key.specs.Setters.{with_signer}
+use Rattle.dnssec_key.specs.RollTable.{after_early_end}
+use Rattle.dnssec_key.specs.Setters.{Setting, Decoupled, Present, Stale, set_by}
 use Rattle.dnssec_zone.specs.Lists.{listed_by}
 use Rattle.dnssec_zone.specs.Start.{is_listed}
 use Rattle.dnssec_keyset.specs.KeySet.{KeySetParts}
 use Rattle.dnssec_keyset.specs.Step as keyset
-use Rattle.dnssec_keyset.proofs.Accepted.{accepted_changes, refused_same}
-use Rattle.dnssec_keyset.proofs.Exchange.Kinds.{kind_number, number-at_roles, number-moves}
+use Rattle.dnssec_keyset.proofs.Accepted.{accepted_changes}
+use Rattle.dnssec_keyset.proofs.Exchange.Kinds.{kind_number, number-moves}
 use Rattle.dnssec_run.specs.declared.call.Call.{Call}
 use Rattle.dnssec_run.specs.declared.call.Call.TheVariants as call
 use Rattle.dnssec_run.specs.declared.record.Entry.{Entry}
@@ -103,51 +100,36 @@ pub record IsPlainBySets (name : List ℕ) (calls : List Call) (entries : List E
 is-number : (k : KeyType) → is_another_signers k ≡ nat_eq (kind_number k) 3
 unfolding kind_number
 is-number (Ksk s) = refl
-is-number (Zsk s) = refl
-is-number (Csk s t) = refl
-is-number (Include s) = refl
+is-number _ = refl
 
 same-kind : (j k : KeyType) → kind_number j ≡ kind_number k
     → is_another_signers j ≡ is_another_signers k
 same-kind j k e = is-number j ∙ ap (λ n. nat_eq n 3) e ∙ sym (is-number k)
 
-each-state : (f : Flags → Flags) (k : KeyType)
-    → is_another_signers (at_each_state f k) ≡ is_another_signers k
-each-state f (Ksk s) = refl
-each-state f (Zsk s) = refl
-each-state f (Csk s t) = refl
-each-state f (Include s) = refl
-
-after-setter : (s : Setting) (k : KeyParts)
-    → is_another_signers (set_by s k).keytype ≡ is_another_signers k.keytype
-after-setter (Decoupled value) k = refl
-after-setter (Present value now) k = each-state (with_present value) k.keytype
-after-setter (Signer value) k = each-state (with_signer value) k.keytype
-after-setter (AtParent value) k =
-    same-kind _ k.keytype (number-at_roles (with_at_parent value) stays k.keytype)
-after-setter Stale k = each-state stale_by_hand k.keytype
-after-setter (VisibleAt time) k = refl
-after-setter (DsVisibleAt time) k = refl
-after-setter (RrsigVisibleAt time) k = refl
+set-by : (t : KeyType) (s : Setting) (k : KeyParts)
+    → is_another_signers (set_by s (record k { keytype = t })).keytype ≡ is_another_signers t
+set-by (Ksk a) Stale k = refl
+set-by (Zsk a) Stale k = refl
+set-by (Csk a b) Stale k = refl
+set-by (Include a) Stale k = refl
+set-by _ _ k = refl
 
 set-at : (b : Bool) (s : Setting) (k : KeyParts)
     → is_another_signers (if b then set_by s k else k).keytype ≡ is_another_signers k.keytype
-set-at true s k = after-setter s k
+set-at true s k = set-by k.keytype s k
 set-at false s k = refl
 
 start-stays : (r : RollType) (now : ℕ) (o i : Bool) (k : KeyParts)
     → is_another_signers (after_start r now o i k).keytype ≡ is_another_signers k.keytype
 start-stays r now true true k = same-kind _ k.keytype (number_started r true true k.keytype)
-start-stays r now true false k = same-kind _ k.keytype (number_started r true false k.keytype)
 start-stays r now false true k = same-kind _ k.keytype (number_started r false true k.keytype)
-start-stays r now false false k = refl
+start-stays r now o i k = same-kind _ k.keytype (number_started r o i k.keytype)
 
 end-stays : (r : RollType) (o i : Bool) (k : KeyParts)
     → is_another_signers (after_early_end r o i k).keytype ≡ is_another_signers k.keytype
 end-stays r true true k = same-kind _ k.keytype (number_ended r true true k.keytype)
-end-stays r true false k = same-kind _ k.keytype (number_ended r true false k.keytype)
 end-stays r false true k = same-kind _ k.keytype (number_ended r false true k.keytype)
-end-stays r false false k = refl
+end-stays r o i k = same-kind _ k.keytype (number_ended r o i k.keytype)
 
 -- ---- whose key it is, from one call to the next
 
@@ -177,27 +159,9 @@ others_by _ q before = before
 call-others : (c : Call) (q : List ℕ) (b : Bool) → plain.others_after c q b
     ≡ others_by (call_of c) q b
 call-others (call.AddKeyKsk a b c d e f) q x = refl
-call-others (call.AddKeyZsk a b c d e f) q x = refl
-call-others (call.AddKeyCsk a b c d e f) q x = refl
-call-others (call.AddPublicKey a b c d e) q x = refl
-call-others (call.SetDecoupled a b) q x = refl
-call-others (call.SetPresent a b c) q x = refl
-call-others (call.SetSigner a b) q x = refl
-call-others (call.SetAtParent a b) q x = refl
-call-others (call.SetStale a) q x = refl
-call-others (call.SetVisible a b) q x = refl
-call-others (call.SetDsVisible a b) q x = refl
-call-others (call.SetRrsigVisible a b) q x = refl
-call-others (call.DeleteKey a) q x = refl
-call-others (call.StartRoll a b c d) q x = refl
-call-others (call.Propagation1Complete a b c) q x = refl
-call-others (call.CacheExpired1 a b) q x = refl
-call-others (call.Propagation2Complete a b c) q x = refl
-call-others (call.CacheExpired2 a b) q x = refl
-call-others (call.RollDone a) q x = refl
-call-others (call.AbortRoll a) q x = refl
+call-others _ q x = refl
 
-others-step : (old new : KeySetParts) (c : keyset.Call) → keyset.Changes old c new → (q : List ℕ)
+others-step : (old new : KeySetParts) (c : keyset.Call) → Changes old c new → (q : List ℕ)
     → others_key (get new.keys q) ≡ others_by c q (others_key (get old.keys q))
 others-step old new (keyset.AddKey r key) h q = ap others_key (h.keys q)
     ∙ others-put (bytes_eq r q) (Some key) (get old.keys q)
@@ -228,15 +192,15 @@ others-told : (old new : KeySetParts) (c : Call) (r : Reply)
     else others_key (get old.keys q)) ≡ others_key (get new.keys q)
 others-told old new c reply.Done step q =
     call-others c q (others_key (get old.keys q))
-    ∙ sym (others-step old new (call_of c) (accepted_changes (keyset.clearance old (call_of c)) old
+    ∙ sym (others-step old new (call_of c) (accepted_changes old
     new (call_of c) keyset.Done refl step).1 q)
 others-told old new c (reply.Actions actions) step q =
     call-others c q (others_key (get old.keys q))
-    ∙ sym (others-step old new (call_of c) (accepted_changes (keyset.clearance old (call_of c)) old
+    ∙ sym (others-step old new (call_of c) (accepted_changes old
     new (call_of c) (keyset.Actions actions.items) refl step).1 q)
 others-told old new c (reply.Refused cause) step q =
     ap (λ (s : KeySetParts). others_key (get s.keys q))
-    (sym (refused_same (keyset.clearance old (call_of c)) old new (call_of c) cause step))
+    (sym step.1)
 
 -- ---- the same of one call
 
@@ -248,27 +212,9 @@ present-others value now (Some k) = refl
 same-setting : (set : KeySetParts) (others : List ℕ → Bool)
     → ((q : List ℕ) → others q ≡ others_key (get set.keys q)) → (c : Call)
     → sets_nothing set (call_of c) ≡ plain.sets_only_others others c
-same-setting set others same (call.AddKeyKsk a b c d e f) = refl
-same-setting set others same (call.AddKeyZsk a b c d e f) = refl
-same-setting set others same (call.AddKeyCsk a b c d e f) = refl
-same-setting set others same (call.AddPublicKey a b c d e) = refl
-same-setting set others same (call.SetDecoupled a b) = refl
 same-setting set others same (call.SetPresent a b c) =
     present-others b c (get set.keys a.now) ∙ sym (same a.now)
-same-setting set others same (call.SetSigner a b) = refl
-same-setting set others same (call.SetAtParent a b) = refl
-same-setting set others same (call.SetStale a) = refl
-same-setting set others same (call.SetVisible a b) = refl
-same-setting set others same (call.SetDsVisible a b) = refl
-same-setting set others same (call.SetRrsigVisible a b) = refl
-same-setting set others same (call.DeleteKey a) = refl
-same-setting set others same (call.StartRoll a b c d) = refl
-same-setting set others same (call.Propagation1Complete a b c) = refl
-same-setting set others same (call.CacheExpired1 a b) = refl
-same-setting set others same (call.Propagation2Complete a b c) = refl
-same-setting set others same (call.CacheExpired2 a b) = refl
-same-setting set others same (call.RollDone a) = refl
-same-setting set others same (call.AbortRoll a) = refl
+same-setting set others same _ = refl
 
 -- what a call does for a roll, by the call and by what the key set sees: the roll that it starts,
 -- that whose first wait it ends, that which it ends early, and that which it ends
@@ -276,25 +222,7 @@ pub same-rolls : (c : Call) → (plain.start_of c ≡ start_of (call_of c))
     × (plain.first_wait_of c ≡ first_wait_of (call_of c))
     × (plain.early_end_of c ≡ early_end_of (call_of c)) × (rolls.end_of c ≡ end_of (call_of c))
 same-rolls (call.AddKeyKsk a b c d e f) = (refl, refl, refl, refl)
-same-rolls (call.AddKeyZsk a b c d e f) = (refl, refl, refl, refl)
-same-rolls (call.AddKeyCsk a b c d e f) = (refl, refl, refl, refl)
-same-rolls (call.AddPublicKey a b c d e) = (refl, refl, refl, refl)
-same-rolls (call.SetDecoupled a b) = (refl, refl, refl, refl)
-same-rolls (call.SetPresent a b c) = (refl, refl, refl, refl)
-same-rolls (call.SetSigner a b) = (refl, refl, refl, refl)
-same-rolls (call.SetAtParent a b) = (refl, refl, refl, refl)
-same-rolls (call.SetStale a) = (refl, refl, refl, refl)
-same-rolls (call.SetVisible a b) = (refl, refl, refl, refl)
-same-rolls (call.SetDsVisible a b) = (refl, refl, refl, refl)
-same-rolls (call.SetRrsigVisible a b) = (refl, refl, refl, refl)
-same-rolls (call.DeleteKey a) = (refl, refl, refl, refl)
-same-rolls (call.StartRoll a b c d) = (refl, refl, refl, refl)
-same-rolls (call.Propagation1Complete a b c) = (refl, refl, refl, refl)
-same-rolls (call.CacheExpired1 a b) = (refl, refl, refl, refl)
-same-rolls (call.Propagation2Complete a b c) = (refl, refl, refl, refl)
-same-rolls (call.CacheExpired2 a b) = (refl, refl, refl, refl)
-same-rolls (call.RollDone a) = (refl, refl, refl, refl)
-same-rolls (call.AbortRoll a) = (refl, refl, refl, refl)
+same-rolls _ = (refl, refl, refl, refl)
 
 does-too : (f g : Call → Option RollType) → ((c : Call) → f c ≡ g c) → (calls : List Call)
     (entries : List Entry) (n : ℕ) (roll : RollType) → plain.DoesAt f calls entries n roll

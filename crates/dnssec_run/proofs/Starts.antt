@@ -4,11 +4,13 @@
 -- | Law             | Lemma            |
 -- |-----------------|------------------|
 -- | `StartsSuffice` | `starts-suffice` |
+use Rattle.dnssec_keyset.proofs.Changes.{Changes}
+use Rattle.dnssec_run.proofs.Laws.{made-at}
 use Rattle.std.proofs.Common.{◌≡◌, ℕ, zero, suc, ◌<◌, ◌≤◌, ◌⊎◌, inl, inr, Bool, true, false, refl}
 use Rattle.std.proofs.Common.{sym, ◌∙◌, ap, subst, arith, List, length, Option, None, Some}
 use Rattle.std.specs.Prelude.{◌≢◌, slice_get}
 use Rattle.std.proofs.lemmas.Bool.{true≢false, cases_lt, cases_Bool}
-use Rattle.std.proofs.lemmas.Option.{same_Some, none-some, slice_get_cases, slice_get_within}
+use Rattle.std.proofs.lemmas.Option.{same_Some, none-some, slice_get_within}
 use Rattle.dnssec_key.specs.declared.roll.RollType.{RollType}
 use Rattle.dnssec_key.specs.declared.roll.RollType.TheVariants.{AlgorithmRoll}
 use Rattle.dnssec_key.specs.declared.roll.RollState.{RollState}
@@ -18,19 +20,19 @@ use Rattle.dnssec_keyset.specs.KeySet.{KeySetParts}
 use Rattle.dnssec_zone.specs.Rolls.{phase_of, same_roll, with_phase}
 use Rattle.dnssec_keyset.specs.Step as keyset
 use Rattle.dnssec_zone.specs.Wait as waits
-use Rattle.dnssec_keyset.proofs.Accepted.{finishes, spreads_second}
+use Rattle.dnssec_keyset.proofs.Accepted.{finishes}
 use Rattle.dnssec_run.specs.declared.call.Call.{Call}
 use Rattle.dnssec_run.specs.declared.record.Entry.{Entry}
 use Rattle.dnssec_run.specs.Plain.{IsPlain, EndsNoneEarly, IsPlainByStarts}
-use Rattle.dnssec_run.specs.Record.{IsRun, call_of, is_accepted, reply_of, world_at}
-use Rattle.dnssec_run.proofs.Chain.Allowed.{can_start, waits_in_phase}
+use Rattle.dnssec_run.specs.Record.{IsRun, call_of, is_accepted, world_at}
+use Rattle.dnssec_run.proofs.Chain.Allowed.{can_start, waits_in_phase, spreads}
 use Rattle.dnssec_run.proofs.Chain.RollFacts.{alone_first}
 use Rattle.dnssec_run.proofs.Chain.Rolls.{same-same}
 use Rattle.dnssec_run.proofs.Premise.{DoesAt, early_end_of, first_wait_of, start_of, same-rolls}
 use Rattle.dnssec_run.proofs.Premise.{first_wait-told, start-seen}
 use Rattle.dnssec_run.proofs.WholeRolls.Order.{world_of}
 use Rattle.dnssec_run.proofs.WholeRolls.Phases.{put_aside, put_there}
-use Rattle.dnssec_run.proofs.WholeRolls.Replies.{accepted_step, refused_step}
+use Rattle.dnssec_run.proofs.WholeRolls.Replies.{did, idle}
 use Rattle.dnssec_keyset.proofs.Laws.{same-is, no_cause}
 
 -- ---- one call
@@ -61,8 +63,15 @@ module _ (old new : KeySetParts) where
       ∙ ap (λ r. is_early (phase_of old.rolls r)) (sym (same-is r AlgorithmRoll s))
       ∙ ap is_early phase ∙ past)
 
+  -- a call on a roll, by what it does if that is the algorithm roll
+  on_roll : {X : Type 0} (r : RollType) (o : Option RollState)
+      → new.rolls ≡ with_phase old.rolls r o → IsEarly old
+      → (same_roll r AlgorithmRoll ≡ true → X ⊎ IsEarly new) → X ⊎ IsEarly new
+  on_roll r o rolls e same = elim (cases_Bool (same_roll r AlgorithmRoll))
+      [ inl s ↦ same s | inr d ↦ inr (aside r o rolls d e) ]
+
   -- only the end of its first wait takes an algorithm roll further
-  moves-on : (c : keyset.Call) → keyset.clearance old c ≡ waits.Clear → keyset.Changes old c new
+  moves-on : (c : keyset.Call) → keyset.clearance old c ≡ waits.Clear → Changes old c new
       → early_end_of c ≢ Some AlgorithmRoll → IsEarly old → (first_wait_of c ≡ Some AlgorithmRoll)
       ⊎ IsEarly new
   moves-on (keyset.AddKey q k) v m none e =
@@ -72,64 +81,34 @@ module _ (old new : KeySetParts) where
   moves-on (keyset.DeleteKey q) v m none e =
       inr (ap (λ x. is_early (phase_of x AlgorithmRoll)) m.rolls ∙ e)
   moves-on (keyset.StartRoll r olds news now) v m none e =
-      elim (cases_Bool (same_roll r AlgorithmRoll)) [
-        | inl s ↦ inr (there r (Some Propagation1) m.rolls s refl)
-        | inr d ↦ inr (aside r (Some Propagation1) m.rolls d e)
-      ]
+      on_roll r _ m.rolls e (λ s. inr (there r (Some Propagation1) m.rolls s refl))
   moves-on (keyset.Report r First ttl now) v m none e =
-      elim (cases_Bool (same_roll r AlgorithmRoll)) [
-        | inl s ↦ inr (there r _ m.rolls s refl)
-        | inr d ↦ inr (aside r _ m.rolls d e)
-      ]
-  moves-on (keyset.Report r Second ttl now) v m none e =
-      elim (cases_Bool (same_roll r AlgorithmRoll)) [
-        | inl s ↦ absurd (not_early r _ (spreads_second _ (no_cause _ v)) refl s e)
-        | inr d ↦ inr (aside r _ m.rolls d e)
-      ]
-  moves-on (keyset.Wait r First now) v m none e = elim (cases_Bool (same_roll r AlgorithmRoll)) [
-    | inl s ↦ inl (ap Some (same-is r AlgorithmRoll s))
-    | inr d ↦ inr (aside r _ m.rolls d e)
-  ]
-  moves-on (keyset.Wait r Second now) v m none e = elim (cases_Bool (same_roll r AlgorithmRoll)) [
-    | inl s ↦ absurd
-        (not_early r _ (waits_in_phase r true now (world_of old) v).1 refl s e)
-    | inr d ↦ inr (aside r _ m.rolls d e)
-  ]
-  moves-on (keyset.AbortRoll r) v m none e = elim (cases_Bool (same_roll r AlgorithmRoll)) [
-    | inl s ↦ absurd (none (ap Some (same-is r AlgorithmRoll s)))
-    | inr d ↦ inr (aside r _ m.rolls d e)
-  ]
-  moves-on (keyset.RollDone r) v m none e = elim (cases_Bool (same_roll r AlgorithmRoll)) [
-    | inl s ↦ absurd (not_early r _ (finishes _ (no_cause _ v)) refl s e)
-    | inr d ↦ inr (aside r _ m.rolls d e)
-  ]
+      on_roll r _ m.rolls e (λ s. inr (there r _ m.rolls s refl))
+  moves-on (keyset.Report r Second ttl now) v m none e = on_roll r _ m.rolls e
+      (λ s. absurd (not_early r _ (spreads Second _ (no_cause _ v)) refl s e))
+  moves-on (keyset.Wait r First now) v m none e =
+      on_roll r _ m.rolls e (λ s. inl (ap Some (same-is r AlgorithmRoll s)))
+  moves-on (keyset.Wait r Second now) v m none e = on_roll r _ m.rolls e
+      (λ s. absurd (not_early r _ (waits_in_phase r Second now (world_of old) v).1 refl s e))
+  moves-on (keyset.AbortRoll r) v m none e = on_roll r _ m.rolls e
+      (λ s. absurd (none (ap Some (same-is r AlgorithmRoll s))))
+  moves-on (keyset.RollDone r) v m none e = on_roll r _ m.rolls e
+      (λ s. absurd (not_early r _ (finishes _ (no_cause _ v)) refl s e))
 
   -- a started one is before it
-  started : (c : keyset.Call) → keyset.Changes old c new → start_of c ≡ Some AlgorithmRoll
+  started : (c : keyset.Call) → Changes old c new → start_of c ≡ Some AlgorithmRoll
       → IsEarly new
-  started (keyset.AddKey q k) m s = absurd (none-some AlgorithmRoll s)
-  started (keyset.Set q x) m s = absurd (none-some AlgorithmRoll s)
-  started (keyset.DeleteKey q) m s = absurd (none-some AlgorithmRoll s)
   started (keyset.StartRoll r olds news now) m s = there r (Some Propagation1) m.rolls
       (ap (λ r. same_roll r AlgorithmRoll) (same_Some r AlgorithmRoll s) ∙ same-same AlgorithmRoll)
       refl
-  started (keyset.Report r h ttl now) m s = absurd (none-some AlgorithmRoll s)
-  started (keyset.Wait r h now) m s = absurd (none-some AlgorithmRoll s)
-  started (keyset.RollDone r) m s = absurd (none-some AlgorithmRoll s)
-  started (keyset.AbortRoll r) m s = absurd (none-some AlgorithmRoll s)
+  started _ m s = absurd (none-some AlgorithmRoll s)
 
 -- if the start of a roll is accepted, no algorithm roll is in progress
 alone : (set : KeySetParts) (c : keyset.Call) → keyset.clearance set c ≡ waits.Clear
     → (roll : RollType) → start_of c ≡ Some roll → phase_of set.rolls AlgorithmRoll ≡ None
-alone set (keyset.AddKey q k) v roll s = absurd (none-some roll s)
-alone set (keyset.Set q x) v roll s = absurd (none-some roll s)
-alone set (keyset.DeleteKey q) v roll s = absurd (none-some roll s)
 alone set (keyset.StartRoll r olds news now) v roll s =
     (can_start (world_of set) r olds news (no_cause _ v)).alone AlgorithmRoll (alone_first r)
-alone set (keyset.Report r h ttl now) v roll s = absurd (none-some roll s)
-alone set (keyset.Wait r h now) v roll s = absurd (none-some roll s)
-alone set (keyset.RollDone r) v roll s = absurd (none-some roll s)
-alone set (keyset.AbortRoll r) v roll s = absurd (none-some roll s)
+alone set _ v roll s = absurd (none-some roll s)
 
 -- ---- the run
 
@@ -147,57 +126,43 @@ module _ (name : List ℕ) (calls : List Call) (entries : List Entry) (run : IsR
   step_of : (does : keyset.Call → Option RollType) (n : ℕ) (roll : RollType)
       → (d : DoesAt does calls entries n roll)
       → (keyset.clearance (set_at n) (call_of d.call) ≡ waits.Clear)
-      × keyset.Changes (set_at n) (call_of d.call) (set_at (suc n))
+      × Changes (set_at n) (call_of d.call) (set_at (suc n))
   step_of does n roll d =
-      let x = accepted_step (keyset.clearance (set_at n) (call_of d.call)) (set_at n)
-      (set_at (suc n)) (call_of d.call) d.entry.reply d.accepted
-      (run.each n d.call d.entry d.call_is d.entry_is).step
-      in
+      let x = did name calls entries run n d.call d.entry d.call_is d.entry_is d.accepted in
       (x.0, x.1)
 
   began-next : (n : ℕ) (c : Call) (e : Entry) → slice_get calls n ≡ Some c
       → slice_get entries n ≡ Some e → Began n → Began (suc n)
   began-next n c e ci ei (inl w) = inl (w.0, omega (arith, w.1), w.2)
-  began-next n c e ci ei (inr h) = by (is_accepted e.reply) refl
-    where
-      step : keyset.Step (set_at n) (call_of c) (reply_of e.reply) (set_at (suc n))
-      step = (run.each n c e ci ei).step
-
-      by : (b : Bool) → is_accepted e.reply ≡ b → Began (suc n)
-      by false t = inr (ap (λ (x : KeySetParts). is_early (phase_of x.rolls AlgorithmRoll))
-          (refused_step (keyset.clearance (set_at n) (call_of c)) (set_at n) (set_at (suc n))
-          (call_of c) e.reply t step) ∙ h)
-      by true t =
-          let x = accepted_step (keyset.clearance (set_at n) (call_of c)) (set_at n)
-          (set_at (suc n)) (call_of c) e.reply t step in
-          elim (moves-on (set_at n) (set_at (suc n)) (call_of c) x.0 x.1
-          (λ ends. none n c AlgorithmRoll ci ((same-rolls c).2 ∙ ends)) h) [
-            | inl passes ↦ inl (
-              n,
-              omega arith,
-              record {
-                call = c;
-                entry = e;
-                call_is = ci;
-                entry_is = ei;
-                accepted = t;
-                roll_is = passes;
-              },
-            )
-            | inr early ↦ inr early
-          ]
+  began-next n c e ci ei (inr h) = elim (cases_Bool (is_accepted e.reply)) [
+    | inl t ↦
+        let x = did name calls entries run n c e ci ei t in
+        elim (moves-on (set_at n) (set_at (suc n)) (call_of c) x.0 x.1
+        (λ ends. none n c AlgorithmRoll ci ((same-rolls c).2 ∙ ends)) h) [
+          | inl passes ↦ inl (
+            n,
+            omega arith,
+            record {
+              call = c;
+              entry = e;
+              call_is = ci;
+              entry_is = ei;
+              accepted = t;
+              roll_is = passes;
+            },
+          )
+          | inr early ↦ inr early
+        ]
+    | inr t ↦ inr (ap (λ (x : KeySetParts). is_early (phase_of x.rolls AlgorithmRoll))
+        (idle name calls entries run n c e ci ei t) ∙ h)
+  ]
 
   began : (m : ℕ) → DoesAt start_of calls entries m AlgorithmRoll → (n : ℕ) → m < n
       → n ≤ length entries → Began n
   began m s zero lt within = absurd (omega arith)
   began m s (suc n) lt within = elim (cases_lt m n) [
-    | inl before ↦ elim ((slice_get_cases entries n).1) [
-      | inl e ↦ elim ((slice_get_cases calls n).1) [
-        | inl c ↦ began-next n c.0 e.0 c.2 e.2 (began m s n before (omega arith))
-        | inr c ↦ absurd (omega (arith, c.0, run.count))
-      ]
-      | inr e ↦ absurd (omega (arith, e.0))
-    ]
+    | inl before ↦ let x = made-at name calls entries run n within in
+        began-next n x.0 x.1 x.2 x.3 (began m s n before (omega arith))
     | inr ge ↦ let same : m ≡ n = omega arith in
         subst (λ n. Began (suc n)) same (inr
         (started (set_at m) (set_at (suc m)) (call_of s.call)

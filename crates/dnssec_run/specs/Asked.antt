@@ -11,7 +11,7 @@ use Rattle.dnssec_key.specs.declared.roll.Action.TheVariants.{ReportDnskeyPropag
 use Rattle.dnssec_key.specs.declared.roll.Action.TheVariants.{ReportDsPropagated}
 use Rattle.dnssec_key.specs.declared.roll.Action.TheVariants.{ReportRrsigPropagated}
 use Rattle.dnssec_key.specs.declared.roll.RollType.{RollType}
-use Rattle.dnssec_key.specs.Setters.{is_flag_setting}
+use Rattle.dnssec_key.specs.Setters.{Setting, Present, Signer, AtParent, Stale, is_flag_setting}
 use Rattle.dnssec_keyset.specs.Step as keyset
 use Rattle.dnssec_run.specs.declared.call.Call.{Call}
 use Rattle.dnssec_run.specs.declared.record.Entry.{Entry}
@@ -42,11 +42,25 @@ update_of Ds = UpdateDsRrset
 update_of Dnskey = UpdateDnskeyRrset
 update_of ZoneSigners = UpdateRrsig
 
+-- the action asks to publish the sets of this kind anew
+abbrev pub updates : SetKind → Action → Bool
+updates Ds UpdateDsRrset = true
+updates Dnskey UpdateDnskeyRrset = true
+updates ZoneSigners UpdateRrsig = true
+updates _ _ = false
+
 -- the action that asks to report when all servers have them
 abbrev pub report_of : SetKind → Action
 report_of Ds = ReportDsPropagated
 report_of Dnskey = ReportDnskeyPropagated
 report_of ZoneSigners = ReportRrsigPropagated
+
+-- the action asks to report the sets of this kind
+abbrev pub asks_to_report : SetKind → Action → Bool
+asks_to_report Ds ReportDsPropagated = true
+asks_to_report Dnskey ReportDnskeyPropagated = true
+asks_to_report ZoneSigners ReportRrsigPropagated = true
+asks_to_report _ _ = false
 
 -- ---- what changes
 
@@ -54,6 +68,20 @@ report_of ZoneSigners = ReportRrsigPropagated
 abbrev pub sets_flag : keyset.Call → Bool
 sets_flag (keyset.Set reference setting) = is_flag_setting setting
 sets_flag _ = false
+
+-- a setter of a flag that decides which keys are in the sets of this kind
+abbrev pub flag_shown : Setting → SetKind → Bool
+flag_shown (Present value now) Dnskey = true
+flag_shown (Signer value) Dnskey = true
+flag_shown (Signer value) ZoneSigners = true
+flag_shown (AtParent value) Ds = true
+flag_shown Stale kind = true
+flag_shown _ _ = false
+
+-- a call that sets such a flag by hand
+abbrev pub sets_shown : SetKind → keyset.Call → Bool
+sets_shown kind (keyset.Set reference setting) = flag_shown setting kind
+sets_shown kind _ = false
 
 -- what is published of this kind is the same at both positions
 abbrev pub SamePublished : SetKind → Position → Position → Type 0

@@ -26,7 +26,7 @@ abbrev pub added_algorithm : keyset.Call → ℕ
 added_algorithm (keyset.AddKey reference key) = key.algorithm
 added_algorithm _ = 0
 
--- that of the call behind which this position stands
+-- that of the call after which this position stands
 abbrev pub algorithm_at : List Call → ℕ → ℕ
 algorithm_at calls zero = 0
 algorithm_at calls (suc n) =

@@ -182,14 +182,13 @@ KeepsSidesApart name calls entries = (n : ℕ) (call : Call) (entry : Entry) →
     LeavesOthers (world_at name calls entries n).set (call_of call)
     (world_at name calls entries (suc n)).set
 
--- Two neighbouring calls of rolls that go together may be exchanged, unless one of them ran out of
--- memory. The second with its reply and then the first with its reply are allowed steps too, and
--- end in the same set.
+-- Two neighbouring calls of rolls that go together may be exchanged. The second with its reply and
+-- then the first with its reply are allowed steps too, and end in the same set.
 abbrev pub NeighboursMayBeExchanged : List ℕ → List Call → List Entry → Type 0
 NeighboursMayBeExchanged name calls entries = (n : ℕ) (first second : Call) (e f : Entry) →
     slice_get calls n ≡ Some first → slice_get entries n ≡ Some e →
     slice_get calls (suc n) ≡ Some second → slice_get entries (suc n) ≡ Some f →
-    AreApart (call_of first) (call_of second) (reply_of e.reply) (reply_of f.reply) →
+    AreApart (call_of first) (call_of second) →
     MayBeExchanged (world_at name calls entries n).set
     (world_at name calls entries (suc (suc n))).set
     (call_of first) (call_of second) (reply_of e.reply) (reply_of f.reply)

@@ -1,6 +1,6 @@
 -- What the recorder of a run keeps besides the key set.
 use denote.Ref.{Bor}
-use Rattle.std.specs.Prelude.{◌≡◌, ℕ, Bool, false, T, List, [], ◌∷◌, length, map, filter}
+use Rattle.std.specs.Prelude.{◌≡◌, ℕ, Bool, false, T, List, [], ◌∷◌, length, map, filter, take}
 use Rattle.std.specs.Prelude.{Option, None, Some}
 use Rattle.std.specs.Prelude.{if◌then◌else◌, string_bytes}
 use Rattle.std.specs.Option.{option_map, option_map_or}
@@ -20,11 +20,13 @@ use Rattle.dnssec_run.specs.declared.call.Call.{Call}
 use Rattle.dnssec_run.specs.declared.record.Entry.{Entry}
 use Rattle.dnssec_run.specs.declared.record.Outcome.{Outcome}
 use Rattle.dnssec_run.specs.declared.record.Published.{Published}
+use Rattle.dnssec_run.specs.declared.record.Touched.{Touched}
+use Rattle.dnssec_run.specs.declared.renewal.Renewal.{Renewal}
 use Rattle.dnssec_run.specs.declared.running.Recorder.{Recorder}
 use Rattle.dnssec_run.specs.declared.sets.Shown.{Shown}
 use Rattle.dnssec_run.specs.declared.sets.Shown.TheVariants.{Ds, Dnskey, DnskeySigners}
 use Rattle.dnssec_run.specs.declared.sets.Shown.TheVariants.{ZoneSigners}
-use Rattle.dnssec_run.specs.Published.{Id, IsPublished, World, id_of, in_ds, in_dnskey}
+use Rattle.dnssec_run.specs.Published.{Id, IsPublished, World, id_of, in_ds, in_dnskey, keys_where}
 use Rattle.dnssec_run.specs.Published.{signs_dnskey, signs_zone}
 use Rattle.dnssec_run.specs.Record.{IsRun, call_of, mark_after, call_moment, reply_of, world_at}
 
@@ -66,6 +68,15 @@ pub record ChangesAt (reference : List ℕ) (v w : World) : Type 0 where
 abbrev pub ChangesOnly : Option (List ℕ) → World → World → Type 0
 ChangesOnly None v w = Unit {0}
 ChangesOnly (Some reference) v w = ChangesAt reference v w
+
+-- the sets of the kinds that a call doesn't touch are the same after it
+pub record Leaves (touched : Touched) (v w : World) : Type 0 where
+  pub ds : touched.ds ≡ false → keys_where in_ds w ≡ keys_where in_ds v
+  pub dnskey : touched.dnskey ≡ false → keys_where in_dnskey w ≡ keys_where in_dnskey v
+  pub dnskey_signers : touched.dnskey ≡ false →
+      keys_where signs_dnskey w ≡ keys_where signs_dnskey v
+  pub zone_signers : touched.zone_signers ≡ false →
+      keys_where signs_zone w ≡ keys_where signs_zone v
 
 -- ---- the place of one key in a set
 
@@ -118,6 +129,10 @@ abbrev pub shown_once : (KeyType → Bool) → Option KeyParts → Id → List I
 shown_once passes None id = []
 shown_once passes (Some k) id = if passes k.keytype then id ∷ [] else []
 
+-- the keys of a set that were read anew
+abbrev pub ids_read : Renewal → List Id
+ids_read set = map id_of (take set.read set.keys.items)
+
 -- two sets of lists have the same keys
 pub record HasSameKeys (one other : Published) : Type 0 where
   pub ds : map id_of one.ds.items ≡ map id_of other.ds.items
@@ -131,14 +146,11 @@ pub record TellsOutcome (entry : Entry) (outcome : Outcome) : Type 0 where
   pub mark : entry.mark ≡ outcome.mark
   pub moment : entry.moment ≡ outcome.moment
 
--- an outcome is that of a call that goes from w to v; if it says that nothing was published, the
--- sets of w are those of v
+-- an outcome is that of a call that goes from w to v
 pub record IsOutcome (w v : World) (call : Call) (outcome : Outcome) : Type 0 where
   pub step : keyset.Step w.set (call_of call) (reply_of outcome.reply) v.set
   pub mark : outcome.mark ≡ mark_after call outcome.reply
   pub moment : outcome.moment ≡ call_moment call
-  pub kept : outcome.may_publish ≡ false → (sets : Published) → IsPublished sets w →
-      IsPublished sets v
 
 -- the entries are the record of the calls so far on a new key set of this name, and the recorder
 -- stands after the last of them

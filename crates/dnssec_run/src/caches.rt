@@ -1,8 +1,10 @@
 //! What caches hold of a record, and what a report retires of it.
 ghost use Rattle.std.specs.Prelude.{◌≡◌};
+ghost use Rattle.std.specs.List.{list_any};
+ghost use Rattle.dnssec_run.specs.Asked.{asks_to_report};
 ghost use Rattle.dnssec_run.specs.Safe.{kind_of, retires};
 
-use dnssec_keyset::RollType;
+use dnssec_keyset::{Action, RollState, RollType};
 
 /// The kinds of sets that caches hold.
 #[derive(Clone, Copy, Debug, PartialEq, Eq)]
@@ -15,7 +17,7 @@ pub enum SetKind {
     ZoneSigners,
 }
 
-/// Whether a report of the roll retires sets of this kind: once the report's TTL is over, it
+/// Whether a report of the roll retires sets of this kind, as the actions due ask for it: once the report's TTL is over, it
 /// retires those from before the roll's last start or first wait (RFC 6781, section 4.1; RFC 7583,
 /// section 3). The second report of a roll retires other kinds than the first.
 ///
@@ -26,18 +28,28 @@ pub enum SetKind {
 pub fn retires(roll: RollType, second: bool, kind: SetKind) -> bool
     ensures { result ≡ retires roll second (kind_of kind) }
 {
-    match (roll, second, kind) {
-        (RollType::KskRoll, false, SetKind::Dnskey)
-        | (RollType::KskRoll, true, SetKind::Ds)
-        | (RollType::KskDoubleDsRoll, false, SetKind::Ds)
-        | (RollType::KskDoubleDsRoll, true, SetKind::Dnskey)
-        | (RollType::ZskRoll, false, SetKind::Dnskey)
-        | (RollType::ZskRoll, true, SetKind::ZoneSigners)
-        | (RollType::ZskDoubleSignatureRoll, _, SetKind::Dnskey | SetKind::ZoneSigners)
-        | (RollType::CskRoll, false, SetKind::Dnskey)
-        | (RollType::CskRoll, true, SetKind::Ds | SetKind::ZoneSigners)
-        | (RollType::AlgorithmRoll, false, SetKind::Dnskey | SetKind::ZoneSigners)
-        | (RollType::AlgorithmRoll, true, SetKind::Ds) => true,
-        _ => false,
+    if second {
+        ask_to_report(roll.actions_in(RollState::Propagation2), kind)
+    } else {
+        ask_to_report(roll.actions_in(RollState::Propagation1), kind)
     }
+}
+
+/// Whether one of these actions asks to report the sets of this kind.
+fn ask_to_report(actions: &[Action], kind: SetKind) -> bool
+    ensures { result ≡ list_any (asks_to_report (kind_of kind)) actions.now }
+{
+    actions.iter().any(|action| asks_to_report(*action, kind))
+}
+
+/// Whether an action asks to report the sets of this kind.
+fn asks_to_report(action: Action, kind: SetKind) -> bool
+    ensures { result ≡ asks_to_report (kind_of kind) action }
+{
+    matches!(
+        (kind, action),
+        (SetKind::Ds, Action::ReportDsPropagated)
+            | (SetKind::Dnskey, Action::ReportDnskeyPropagated)
+            | (SetKind::ZoneSigners, Action::ReportRrsigPropagated)
+    )
 }

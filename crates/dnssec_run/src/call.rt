@@ -2,11 +2,13 @@
 ghost use Rattle.std.specs.Prelude.{◌≡◌};
 ghost use Rattle.std.specs.Option.{option_map};
 ghost use Rattle.dnssec_keyset.specs.Step.{Step, reply_done, reply_list};
-ghost use Rattle.dnssec_run.specs.Asked.{sets_flag};
+ghost use Rattle.dnssec_run.specs.Asked.{sets_shown};
+ghost use Rattle.dnssec_run.specs.Safe.{kind_of};
 ghost use Rattle.dnssec_run.specs.Recorder.{reference_deleted, reference_set};
 ghost use Rattle.dnssec_run.specs.Record.{call_of, mark_of, call_moment, reference_added};
 ghost use Rattle.dnssec_run.specs.Record.{reply_of};
 
+use crate::caches::SetKind;
 use crate::record::{Mark, Reply};
 use dnssec_base::SecurityAlgorithm;
 use dnssec_keyset::{Action, Available, Error, KeySet, RollType, UnixTime};
@@ -192,17 +194,17 @@ impl<'a> Call<'a> {
         }
     }
 
-    /// Whether the call sets a flag of a key by hand.
-    pub(crate) fn sets_flag(&self) -> bool
-        ensures { result ≡ sets_flag (call_of self.now) }
+    /// Whether the call sets a flag by hand that the sets of this kind show.
+    pub(crate) fn sets_shown(&self, kind: SetKind) -> bool
+        ensures { result ≡ sets_shown (kind_of kind) (call_of self.now) }
     {
-        matches!(
-            self,
-            Call::SetPresent { .. }
-                | Call::SetSigner { .. }
-                | Call::SetAtParent { .. }
-                | Call::SetStale { .. }
-        )
+        match (self, kind) {
+            (Call::SetPresent { .. }, SetKind::Dnskey)
+            | (Call::SetSigner { .. }, SetKind::Dnskey | SetKind::ZoneSigners)
+            | (Call::SetAtParent { .. }, SetKind::Ds)
+            | (Call::SetStale { .. }, _) => true,
+            _ => false,
+        }
     }
 
     /// Makes the call.

@@ -1,13 +1,13 @@
 //! The places of one key in the sets.
-ghost use Rattle.std.specs.Prelude.{◌≡◌, ◌||◌, map, IfOk, IfErr, OnOk, false};
+ghost use Rattle.std.specs.Prelude.{◌≡◌, ◌||◌, map, IfOk, IfErr, OnOk, true, false};
 ghost use Rattle.std.specs.BTreeMap as tree;
 ghost use Rattle.std.specs.Option.{option_map};
 ghost use Rattle.dnssec_base.specs.declared.error.Error.TheVariants.{OutOfMemory};
 ghost use Rattle.dnssec_run.specs.Published.{IsPublished, World, id_of};
-ghost use Rattle.dnssec_run.specs.Recorder.{Agrees, ChangesAt, IsAscending, SetsPlace};
+ghost use Rattle.dnssec_run.specs.Recorder.{Agrees, ChangesAt, IsAscending, Leaves, SetsPlace};
 ghost use Rattle.dnssec_run.specs.Recorder.{position_shown, shows};
 
-use crate::record::{Published, PublishedKey};
+use crate::record::{Published, PublishedKey, Touched};
 use crate::sets::Shown;
 use dnssec_keyset::{Error, Key, KeySet};
 use std::alloc::Global;
@@ -19,24 +19,37 @@ pub(crate) fn renew_key(
     keyset: &KeySet,
     added: &BTreeMap<String, usize>,
     sets: &mut Published,
+    touched: Touched,
     reference: &str,
 ) -> Result<bool, Error>
     ensures kept { IfOk result (λ changed. changed ≡ false → sets.new ≡ sets.old) }
-    ensures read { OnOk result ((v w : World) → IsPublished sets.old v →
+    ensures read { OnOk result ((v w : World) → IsPublished sets.old v → Leaves touched v w →
         ChangesAt reference.now v w → Agrees keyset.now (tree.get_by_text added.now) w →
         IsPublished sets.new w) }
     ensures err { IfErr result (λ e. e ≡ OutOfMemory) }
 {
     let key = keyset.keys().get(reference);
     let at = added.get(reference).copied();
-    let ds = position(Shown::Ds, key, at);
-    let ds = set_place(alloc, &mut sets.ds, ds, reference)?;
-    let dnskey = position(Shown::Dnskey, key, at);
-    let dnskey = set_place(alloc, &mut sets.dnskey, dnskey, reference)?;
-    let signers = position(Shown::DnskeySigners, key, at);
-    let signers = set_place(alloc, &mut sets.dnskey_signers, signers, reference)?;
-    let zone = position(Shown::ZoneSigners, key, at);
-    let zone = set_place(alloc, &mut sets.zone_signers, zone, reference)?;
+    let to = position(Shown::Ds, key, at);
+    let ds = renew_place(alloc, touched.ds, &mut sets.ds, to, reference)?;
+    let to = position(Shown::Dnskey, key, at);
+    let dnskey = renew_place(alloc, touched.dnskey, &mut sets.dnskey, to, reference)?;
+    let to = position(Shown::DnskeySigners, key, at);
+    let signers = renew_place(
+        alloc,
+        touched.dnskey,
+        &mut sets.dnskey_signers,
+        to,
+        reference,
+    )?;
+    let to = position(Shown::ZoneSigners, key, at);
+    let zone = renew_place(
+        alloc,
+        touched.zone_signers,
+        &mut sets.zone_signers,
+        to,
+        reference,
+    )?;
     Ok(is_any(ds, dnskey, signers, zone))
 }
 
@@ -54,6 +67,27 @@ fn position(shown: Shown, key: Option<&Key>, at: Option<usize>) -> Option<usize>
         Some(key) if shown.shows(key.keytype()) => at,
         _ => None,
     }
+}
+
+/// The same for one set, if it may have changed.
+#[inline(always)]
+fn renew_place(
+    alloc: Global,
+    is_touched: bool,
+    keys: &mut Vec<PublishedKey>,
+    at: Option<usize>,
+    reference: &str,
+) -> Result<bool, Error>
+    ensures kept { IfOk result (λ changed. changed ≡ false → keys.new ≡ keys.old) }
+    ensures ok { OnOk result (is_touched ≡ true → IsAscending (map id_of keys.old.items) →
+        SetsPlace reference.now at (map id_of keys.old.items) (map id_of keys.new.items)) }
+    ensures left { OnOk result (is_touched ≡ false → keys.new ≡ keys.old) }
+    ensures err { IfErr result (λ e. e ≡ OutOfMemory) }
+{
+    if !is_touched {
+        return Ok(false);
+    }
+    set_place(alloc, keys, at, reference)
 }
 
 /// Puts a key into a set at its position, or takes it out if it has none. Says whether the set has

@@ -1,8 +1,11 @@
 //! What a run leaves: its entries, with what was published at each position.
-ghost use Rattle.std.specs.Prelude.{◌≡◌, ◌↔◌, [], true, false};
-ghost use Rattle.dnssec_run.specs.Asked.{asked_by};
+ghost use Rattle.std.specs.Prelude.{◌≡◌, ◌||◌, [], true, false};
+ghost use Rattle.std.specs.List.{list_any};
+ghost use Rattle.dnssec_run.specs.Asked.{asked_by, updates};
+ghost use Rattle.dnssec_run.specs.Safe.{Dnskey, Ds, ZoneSigners, kind_of};
 ghost use Rattle.dnssec_run.specs.Record.{is_accepted};
 
+use crate::caches::SetKind;
 use dnssec_keyset::{Action, Error, KeySet, RollType, UnixTime};
 use std::alloc::Global;
 
@@ -27,17 +30,73 @@ impl Reply {
         }
     }
 
-    /// Whether the call may have changed what is published: if it was accepted, and sets a flag by
-    /// hand or asks for an action.
-    pub(crate) fn may_publish(&self, sets_flag: bool) -> bool
-        ensures { (result ≡ false) ↔ (is_accepted self.now ≡ true →
-            (sets_flag ≡ false) × (asked_by self.now ≡ [])) }
+    /// Whether the call may have changed the sets of this kind: if it was accepted, and has set a
+    /// flag that they show, or asks to publish them.
+    fn touches(&self, kind: SetKind, by_hand: bool) -> bool
+        ensures { result ≡ false → is_accepted self.now ≡ true →
+            (by_hand ≡ false) × (list_any (updates (kind_of kind)) (asked_by self.now) ≡ false) }
     {
         match self {
-            Reply::Done => sets_flag,
-            Reply::Actions(actions) => sets_flag || !actions.is_empty(),
+            Reply::Done => by_hand,
+            Reply::Actions(actions) => by_hand || ask_to_update(actions, kind),
             Reply::Refused(_) => false,
         }
+    }
+}
+
+fn ask_to_update(actions: &[Action], kind: SetKind) -> bool
+    ensures { result ≡ list_any (updates (kind_of kind)) actions.now }
+{
+    actions.iter().any(|action| updates(kind, *action))
+}
+
+/// Whether the action asks to publish the sets of this kind.
+fn updates(kind: SetKind, action: Action) -> bool
+    ensures { result ≡ updates (kind_of kind) action }
+{
+    match (kind, action) {
+        (SetKind::Ds, Action::UpdateDsRrset)
+        | (SetKind::Dnskey, Action::UpdateDnskeyRrset)
+        | (SetKind::ZoneSigners, Action::UpdateRrsig) => true,
+        _ => false,
+    }
+}
+
+/// The kinds of sets that a call may have changed.
+#[derive(Clone, Copy)]
+pub(crate) struct Touched {
+    pub(crate) ds: bool,
+    pub(crate) dnskey: bool,
+    pub(crate) zone_signers: bool,
+}
+
+impl Touched {
+    /// What a call with this reply may have changed. `by_hand` are the kinds that show a flag which
+    /// the call sets.
+    pub(crate) fn after(reply: &Reply, by_hand: Touched) -> Touched
+        ensures ds { result.ds ≡ false → is_accepted reply.now ≡ true →
+            (by_hand.ds ≡ false) × (list_any (updates Ds) (asked_by reply.now) ≡ false) }
+        ensures dnskey { result.dnskey ≡ false → is_accepted reply.now ≡ true →
+            (by_hand.dnskey ≡ false) × (list_any (updates Dnskey) (asked_by reply.now) ≡ false) }
+        ensures zone_signers { result.zone_signers ≡ false → is_accepted reply.now ≡ true →
+            (by_hand.zone_signers ≡ false)
+            × (list_any (updates ZoneSigners) (asked_by reply.now) ≡ false) }
+    {
+        let ds = reply.touches(SetKind::Ds, by_hand.ds);
+        let dnskey = reply.touches(SetKind::Dnskey, by_hand.dnskey);
+        let zone_signers = reply.touches(SetKind::ZoneSigners, by_hand.zone_signers);
+        Touched {
+            ds,
+            dnskey,
+            zone_signers,
+        }
+    }
+
+    /// Whether there are any.
+    pub(crate) fn is_any(self) -> bool
+        ensures { result ≡ (self.ds || self.dnskey || self.zone_signers) }
+    {
+        self.ds || self.dnskey || self.zone_signers
     }
 }
 

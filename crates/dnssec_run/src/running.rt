@@ -15,13 +15,15 @@ ghost use Rattle.dnssec_run.specs.Published.{World};
 ghost use Rattle.dnssec_run.specs.Record.{IsRun, KeepsSidesApart};
 ghost use Rattle.dnssec_run.specs.Record.{NeighboursMayBeExchanged, StaysSound, call_of};
 ghost use Rattle.dnssec_run.specs.Record.{reference_added, world_after, world_at};
-ghost use Rattle.dnssec_run.specs.Recorder.{Agrees, HasSameKeys, IsCopyOf, IsOutcome, Records};
+ghost use Rattle.dnssec_run.specs.Recorder.{Agrees, HasSameKeys, IsCopyOf, IsOutcome, Leaves};
+ghost use Rattle.dnssec_run.specs.Recorder.{Records};
 ghost use Rattle.dnssec_run.specs.Recorder.{TellsOutcome, positions_after};
 ghost use Rattle.dnssec_run.specs.declared.call.Call.{Call};
 ghost use Rattle.dnssec_run.specs.declared.record.Entry.{Entry};
 
+use crate::caches::SetKind;
 use crate::call::Call;
-use crate::record::{Entry, Mark, Outcome, Published, Run};
+use crate::record::{Entry, Mark, Outcome, Published, Run, Touched};
 use crate::sets::{WalkOrder, copy_sets, renew};
 use dnssec_base::Name;
 use dnssec_keyset::{Error, KeySet};
@@ -69,25 +71,33 @@ fn clone_added(alloc: Global, call: &Call<'_>) -> Result<Option<String>, Error>
     }
 }
 
-/// Makes the call that stands at a position, and notes its key if it adds or deletes one.
+/// Makes the call that stands at a position, and notes its key if it adds or deletes one. Says what
+/// the call came to, and which sets it may have changed.
 fn advance(
     alloc: Global,
     keyset: &mut KeySet,
     added: &mut BTreeMap<String, usize>,
     call: Call<'_>,
     at: usize,
-) -> Result<Outcome, Error>
-    ensures outcome { IfOk result (λ outcome. (w : World) → Agrees keyset.old
+) -> Result<(Outcome, Touched), Error>
+    ensures outcome { IfOk result (λ made. (w : World) → Agrees keyset.old
         (tree.get_by_text added.old) w →
-        IsOutcome w (world_after at w call.entry outcome.reply) call.entry outcome) }
-    ensures next { IfOk result (λ outcome. (w : World) → Agrees keyset.old
+        IsOutcome w (world_after at w call.entry made.0.reply) call.entry made.0) }
+    ensures next { IfOk result (λ made. (w : World) → Agrees keyset.old
         (tree.get_by_text added.old) w → Agrees keyset.new
-        (tree.get_by_text added.new) (world_after at w call.entry outcome.reply)) }
+        (tree.get_by_text added.new) (world_after at w call.entry made.0.reply)) }
+    ensures leaves { IfOk result (λ made. (w : World) → Agrees keyset.old
+        (tree.get_by_text added.old) w →
+        Leaves made.1 w (world_after at w call.entry made.0.reply)) }
     ensures err { IfErr result (λ e. e ≡ OutOfMemory) }
 {
     let moment = call.moment();
     let mark = call.mark();
-    let sets_flag = call.sets_flag();
+    let by_hand = Touched {
+        ds: call.sets_shown(SetKind::Ds),
+        dnskey: call.sets_shown(SetKind::Dnskey),
+        zone_signers: call.sets_shown(SetKind::ZoneSigners),
+    };
     let put = clone_added(alloc, &call)?;
     let taken = call.reference_deleted();
     let reply = call.make(keyset);
@@ -97,13 +107,14 @@ fn advance(
     } else {
         Mark::Other
     };
-    let may_publish = reply.may_publish(sets_flag);
-    Ok(Outcome {
+    let touched = Touched::after(&reply, by_hand);
+    let outcome = Outcome {
         reply,
         moment,
         mark,
-        may_publish,
-    })
+        may_publish: false,
+    };
+    Ok((outcome, touched))
 }
 
 /// The order of the keys changes, if the call adds or deletes one.
@@ -162,6 +173,8 @@ impl Recorder {
     ///
     /// Only `OutOfMemory`, if there is no memory to note the call. The recorder is then of no more
     /// use: begin anew with the first call.
+    // Inline, so that no call moves its outcome.
+    #[inline(always)]
     pub fn advance(&mut self, alloc: Global, call: Call<'_>) -> Result<Outcome, Error>
         ensures ok { IfOk result (λ outcome.
             (name : List ℕ) (calls : List Call) (entries : List Entry) (entry : Entry) →
@@ -177,14 +190,15 @@ impl Recorder {
         };
         let set_by_hand = call.reference_set();
         forget(&mut self.order, &call);
-        let mut outcome = advance(alloc, &mut self.keyset, &mut self.added, call, at)?;
+        let made = advance(alloc, &mut self.keyset, &mut self.added, call, at)?;
+        let (mut outcome, touched) = made;
         outcome.may_publish = renew(
             alloc,
             &self.keyset,
             &self.added,
             &mut self.order,
             &mut self.published,
-            outcome.may_publish,
+            touched,
             set_by_hand,
         )?;
         self.at = at;

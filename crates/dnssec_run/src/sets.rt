@@ -6,14 +6,15 @@ ghost use Rattle.std.specs.HashMap as hash;
 ghost use Rattle.std.specs.Option.{option_map};
 ghost use Rattle.dnssec_base.specs.declared.error.Error.TheVariants.{OutOfMemory};
 ghost use Rattle.dnssec_run.specs.Published.{IsPublished, World, id_of};
-ghost use Rattle.dnssec_run.specs.Recorder.{Agrees, AreFound, ChangesOnly, HasSameKeys};
+ghost use Rattle.dnssec_run.specs.Recorder.{Agrees, AreFound, ChangesOnly, HasSameKeys, Leaves};
 ghost use Rattle.dnssec_run.specs.Recorder.{shown_once, shows};
 
 use crate::places::renew_key;
-use crate::record::{Published, PublishedKey};
+use crate::record::{Published, PublishedKey, Touched};
+use crate::renewal::Renewal;
 use dnssec_keyset::{Error, Key, KeySet, KeyType};
 use std::alloc::Global;
-use std::collections::{BTreeMap, HashMap, VecDeque};
+use std::collections::{BTreeMap, HashMap};
 use std::mem;
 
 /// The sets of an entry.
@@ -47,7 +48,7 @@ impl Shown {
 }
 
 /// A key of a record, with a copy of its reference.
-fn published_key(reference: &String, added: usize) -> Result<PublishedKey, Error>
+pub(crate) fn published_key(reference: &String, added: usize) -> Result<PublishedKey, Error>
     ensures ok { IfOk result (λ k. id_of k ≡ (string_bytes reference.now, added)) }
     ensures err { IfErr result (λ e. e ≡ OutOfMemory) }
 {
@@ -57,27 +58,16 @@ fn published_key(reference: &String, added: usize) -> Result<PublishedKey, Error
     }
 }
 
-/// Copies of keys of a record. `before` has copies that nothing needs any more. If both lists are
-/// in the order of their references, copies of keys that stand in both are used again.
-///
-/// # Errors
-///
-/// Only `OutOfMemory`.
-pub fn copy_keys(
-    alloc: Global,
-    keys: &[PublishedKey],
-    before: Vec<PublishedKey>,
-) -> Result<Vec<PublishedKey>, Error>
+/// Copies of keys of a record.
+fn copy_keys(alloc: Global, keys: &[PublishedKey]) -> Result<Vec<PublishedKey>, Error>
     ensures ok { IfOk result (λ copies. map id_of copies.items ≡ map id_of keys.now) }
     ensures err { IfErr result (λ e. e ≡ OutOfMemory) }
 {
-    let mut before = VecDeque::from(before);
     let Ok(mut copies) = Vec::with_capacity(alloc, keys.len()) else {
         return Err(Error::OutOfMemory);
     };
     for key in keys {
-        let kept = find_next(&mut before, &key.reference, key.added);
-        let copy = kept_or_new(kept, &key.reference, key.added)?;
+        let copy = published_key(&key.reference, key.added)?;
         if copies.push(copy).is_err() {
             return Err(Error::OutOfMemory);
         }
@@ -85,118 +75,18 @@ pub fn copy_keys(
     Ok(copies)
 }
 
-/// A set while it is read anew.
-#[derive(Drop)]
-struct Renewal {
-    keys: Vec<PublishedKey>,
-    /// What was there before and wasn't met yet. A key that stays is taken from here, so that only
-    /// references of new keys are copied.
-    before: VecDeque<PublishedKey>,
-}
+/// Up to this many keys are looked up, and not walked over.
+const FEW: usize = 8;
 
-impl Renewal {
-    /// A renewal with room for the keys of before and one more.
-    fn new(alloc: Global, before: Vec<PublishedKey>) -> Result<Self, Error>
-        ensures ok { IfOk result (λ set. set.keys.items ≡ []) }
-        ensures err { IfErr result (λ e. e ≡ OutOfMemory) }
-    {
-        match Vec::with_capacity(alloc, before.len().saturating_add(1)) {
-            Ok(keys) => Ok(Renewal {
-                keys,
-                before: VecDeque::from(before),
-            }),
-            Err(_) => Err(Error::OutOfMemory),
-        }
-    }
-
-    /// Puts a key at the end of the set, if the set shows it. It is called four times for each key,
-    /// and mostly there is nothing to put.
-    #[inline(always)]
-    fn show(
-        &mut self,
-        shown: Shown,
-        key: Option<&Key>,
-        reference: &String,
-        added: usize,
-    ) -> Result<(), Error>
-        ensures ok { OnOk result (map id_of self.new.keys.items ≡ map id_of self.old.keys.items
-            ++ shown_once (shows shown) (option_map (λ k. k.now) key.entry)
-            (string_bytes reference.now, added)) }
-        ensures err { IfErr result (λ e. e ≡ OutOfMemory) }
-    {
-        let Some(key) = key else {
-            return Ok(());
-        };
-        if !shown.shows(key.keytype()) {
-            return Ok(());
-        }
-        let kept = find_next(&mut self.before, reference, added);
-        let key = kept_or_new(kept, reference, added)?;
-        match self.keys.push(key) {
-            Ok(()) => Ok(()),
-            Err(_) => Err(Error::OutOfMemory),
-        }
-    }
-}
-
-/// This key, if it is in the list. Keys that come before it are dropped.
-fn find_next(
-    keys: &mut VecDeque<PublishedKey>,
-    reference: &String,
-    added: usize,
-) -> Option<PublishedKey>
-    ensures { IfSome result (λ k. id_of k ≡ (string_bytes reference.now, added)) }
-{
-    match next_if(keys, reference, added) {
-        Some(key) => Some(key),
-        None => {
-            skip_to(keys, reference);
-            next_if(keys, reference, added)
-        }
-    }
-}
-
-/// The first of these keys, if it is this one.
-fn next_if(
-    keys: &mut VecDeque<PublishedKey>,
-    reference: &String,
-    added: usize,
-) -> Option<PublishedKey>
-    ensures { IfSome result (λ k. id_of k ≡ (string_bytes reference.now, added)) }
-{
-    match keys.front() {
-        Some(key) if key.added == added && key.reference == *reference => keys.pop_front(),
-        _ => None,
-    }
-}
-
-/// Drops the keys whose references come before this one.
-fn skip_to(keys: &mut VecDeque<PublishedKey>, reference: &String) {
-    while keys.front().is_some_and(|key| key.reference < *reference) {
-        keys.pop_front();
-    }
-}
-
-fn kept_or_new(
-    kept: Option<PublishedKey>,
-    reference: &String,
-    added: usize,
-) -> Result<PublishedKey, Error>
-    requires { IfSome kept (λ k. id_of k ≡ (string_bytes reference.now, added)) }
-    ensures ok { IfOk result (λ k. id_of k ≡ (string_bytes reference.now, added)) }
-    ensures err { IfErr result (λ e. e ≡ OutOfMemory) }
-{
-    match kept {
-        Some(key) => Ok(key),
-        None => published_key(reference, added),
-    }
-}
-
-/// The keys of a set with their references, as a walk over the map lends them.
+/// The keys of a set with their references, as a walk over the map lends them. Of few keys it lends
+/// none.
 fn walk(alloc: Global, keys: &HashMap<String, Key>) -> Result<Vec<(&String, &Key)>, Error>
     ensures found { IfOk result (λ entries. AreFound (hash.get_by_text keys.now) entries.items) }
     ensures err { IfErr result (λ e. e ≡ OutOfMemory) }
 {
+    if keys.len() <= FEW {
+        return Ok(Vec::new(alloc));
+    }
     let Ok(entries) = keys.iter().collect::<Vec<_>>(alloc) else {
         return Err(Error::OutOfMemory);
     };
@@ -305,23 +195,24 @@ fn key_at<'a>(
 }
 
 /// Reads what is published of a key set, with the positions of its keys, in one walk in the order
-/// of the references. What was published before is used again.
+/// of the references. What was published before is used again, and sets that weren't touched stay.
 fn read_sets(
     alloc: Global,
     keyset: &KeySet,
     added: &BTreeMap<String, usize>,
     order: &mut WalkOrder,
     before: Published,
+    touched: Touched,
 ) -> Result<Published, Error>
-    ensures ok { IfOk result (λ sets. (w : World) →
+    ensures ok { IfOk result (λ sets. (v w : World) → IsPublished before v → Leaves touched v w →
         Agrees keyset.now (tree.get_by_text added.now) w → IsPublished sets w) }
     ensures err { IfErr result (λ e. e ≡ OutOfMemory) }
 {
     let keys = keyset.keys();
-    let mut ds = Renewal::new(alloc, before.ds)?;
-    let mut dnskey = Renewal::new(alloc, before.dnskey)?;
-    let mut dnskey_signers = Renewal::new(alloc, before.dnskey_signers)?;
-    let mut zone_signers = Renewal::new(alloc, before.zone_signers)?;
+    let mut ds = Renewal::new(before.ds, touched.ds);
+    let mut dnskey = Renewal::new(before.dnskey, touched.dnskey);
+    let mut dnskey_signers = Renewal::new(before.dnskey_signers, touched.dnskey);
+    let mut zone_signers = Renewal::new(before.zone_signers, touched.zone_signers);
     let entries = walk(alloc, keys)?;
     order.renew(alloc, &entries)?;
     let mut rank = 0usize;
@@ -334,39 +225,38 @@ fn read_sets(
         zone_signers.show(Shown::ZoneSigners, key, reference, *position)?;
     }
     Ok(Published {
-        ds: ds.keys,
-        dnskey: dnskey.keys,
-        dnskey_signers: dnskey_signers.keys,
-        zone_signers: zone_signers.keys,
+        ds: ds.into_keys(),
+        dnskey: dnskey.into_keys(),
+        dnskey_signers: dnskey_signers.into_keys(),
+        zone_signers: zone_signers.into_keys(),
     })
 }
 
-/// Renews the sets after a call that may have changed them, and says whether they may have changed.
-/// After a setter it looks only at that key.
+/// Renews the sets that a call has touched, and says whether they may have changed. After a setter
+/// it looks only at that key.
 pub(crate) fn renew(
     alloc: Global,
     keyset: &KeySet,
     added: &BTreeMap<String, usize>,
     order: &mut WalkOrder,
     sets: &mut Published,
-    may_publish: bool,
+    touched: Touched,
     set_by_hand: Option<&str>,
 ) -> Result<bool, Error>
     ensures kept { IfOk result (λ changed. changed ≡ false → sets.new ≡ sets.old) }
-    ensures calm { IfOk result (λ changed. may_publish ≡ false → changed ≡ false) }
-    ensures read { OnOk result (may_publish ≡ true → (v w : World) → IsPublished sets.old v →
+    ensures read { OnOk result ((v w : World) → IsPublished sets.old v → Leaves touched v w →
         ChangesOnly (option_map (λ r. r.now) set_by_hand.entry) v w →
         Agrees keyset.now (tree.get_by_text added.now) w → IsPublished sets.new w) }
     ensures err { IfErr result (λ e. e ≡ OutOfMemory) }
 {
-    if !may_publish {
+    if !touched.is_any() {
         return Ok(false);
     }
     match set_by_hand {
-        Some(reference) => renew_key(alloc, keyset, added, sets, reference),
+        Some(reference) => renew_key(alloc, keyset, added, sets, touched, reference),
         None => {
             let before = mem::replace(sets, Published::none(alloc));
-            *sets = read_sets(alloc, keyset, added, order, before)?;
+            *sets = read_sets(alloc, keyset, added, order, before, touched)?;
             Ok(true)
         }
     }
@@ -378,9 +268,9 @@ pub(crate) fn copy_sets(alloc: Global, sets: &Published) -> Result<Published, Er
     ensures err { IfErr result (λ e. e ≡ OutOfMemory) }
 {
     Ok(Published {
-        ds: copy_keys(alloc, &sets.ds, Vec::new(alloc))?,
-        dnskey: copy_keys(alloc, &sets.dnskey, Vec::new(alloc))?,
-        dnskey_signers: copy_keys(alloc, &sets.dnskey_signers, Vec::new(alloc))?,
-        zone_signers: copy_keys(alloc, &sets.zone_signers, Vec::new(alloc))?,
+        ds: copy_keys(alloc, &sets.ds)?,
+        dnskey: copy_keys(alloc, &sets.dnskey)?,
+        dnskey_signers: copy_keys(alloc, &sets.dnskey_signers)?,
+        zone_signers: copy_keys(alloc, &sets.zone_signers)?,
     })
 }

@@ -7,15 +7,17 @@ use Rattle.dnssec_key.specs.declared.roll.Action.{Action}
 use Rattle.dnssec_key.specs.declared.roll.Action.TheVariants as action
 use Rattle.dnssec_key.specs.declared.roll.RollType.{RollType}
 use Rattle.dnssec_key.specs.declared.kind.KeyType.{KeyType}
-use Rattle.dnssec_key.specs.RollTable.{column, half_of, behind, actions_of}
-use Rattle.dnssec_run.specs.Asked.{update_of, report_of}
-use Rattle.dnssec_run.specs.WholeRolls.{propagation}
+use Rattle.dnssec_key.specs.RollTable.{column, half_of, behind, actions_of, Half}
+use Rattle.dnssec_run.specs.Asked.{update_of, report_of, updates, asks_to_report}
+use Rattle.dnssec_run.specs.WholeRolls.{propagation, is_second}
 use Rattle.dnssec_run.specs.Published.{in_ds, in_dnskey, signs_dnskey, signs_zone}
 use Rattle.dnssec_run.specs.Safe.{SetKind, Ds, Dnskey, ZoneSigners, retires}
-use Rattle.dnssec_zone.proofs.Flags.{started, ended, is_blank, is_stale}
-use Rattle.dnssec_run.proofs.Chain.Tables.{half}
-use Rattle.dnssec_zone.proofs.Tests.{both, both-at, each_key, each_key-at, each_roll}
-use Rattle.dnssec_zone.proofs.Tests.{each_roll-at, ◌⇒◌, mp, alike, alike-same, and-both}
+use Rattle.dnssec_zone.proofs.Flags.{started, ended}
+use Rattle.dnssec_zone.proofs.Tests.{both, both-at, each_key, each_key-at, each_roll-at, ◌⇒◌, mp}
+use Rattle.dnssec_zone.proofs.Tests.{alike, alike-same, and-both}
+use Rattle.dnssec_key.specs.State.{is_stale, is_future}
+use Rattle.dnssec_key.specs.Key.{all_states}
+use Rattle.dnssec_run.proofs.Chain.Tables.{each_half, each_half-at}
 
 -- ---- an action in a list
 
@@ -38,51 +40,40 @@ module _ (p : Action → Bool) (x : Action) (one : (a : Action) → p a ≡ true
   finds (a ∷ list) (suc i, lt, e) =
       or_right (p a) (list_any p list) (finds list (i, omega (arith, lt), e))
 
-abbrev pub updates : SetKind → Action → Bool
-updates Ds action.UpdateDsRrset = true
-updates Dnskey action.UpdateDnskeyRrset = true
-updates ZoneSigners action.UpdateRrsig = true
-updates _ _ = false
-
 updates-one : (kind : SetKind) (a : Action) → updates kind a ≡ true → a ≡ update_of kind
 updates-one Ds action.UpdateDsRrset e = refl
 updates-one Dnskey action.UpdateDnskeyRrset e = refl
 updates-one ZoneSigners action.UpdateRrsig e = refl
 updates-one _ _ e = absurd (true≢false (sym e))
 
-abbrev pub reports : SetKind → Action → Bool
-reports Ds action.ReportDsPropagated = true
-reports Dnskey action.ReportDnskeyPropagated = true
-reports ZoneSigners action.ReportRrsigPropagated = true
-reports _ _ = false
-
-reports-one : (kind : SetKind) (a : Action) → reports kind a ≡ true → a ≡ report_of kind
+reports-one : (kind : SetKind) (a : Action) → asks_to_report kind a ≡ true
+    → a ≡ report_of kind
 reports-one Ds action.ReportDsPropagated e = refl
 reports-one Dnskey action.ReportDnskeyPropagated e = refl
 reports-one ZoneSigners action.ReportRrsigPropagated e = refl
 reports-one _ _ e = absurd (true≢false (sym e))
 
-reports-itself : (kind : SetKind) → reports kind (report_of kind) ≡ true
+reports-itself : (kind : SetKind) → asks_to_report kind (report_of kind) ≡ true
 reports-itself Ds = refl
-reports-itself Dnskey = refl
-reports-itself ZoneSigners = refl
+reports-itself _ = refl
 
 updates-itself : (kind : SetKind) → updates kind (update_of kind) ≡ true
 updates-itself Ds = refl
-updates-itself Dnskey = refl
-updates-itself ZoneSigners = refl
+updates-itself _ = refl
 
 pub asks_update : (kind : SetKind) (list : List Action) → list_any (updates kind) list ≡ true
     → Contains list (update_of kind)
 asks_update kind = found (updates kind) (update_of kind) (updates-one kind) (updates-itself kind)
 
-pub asks_report : (kind : SetKind) (list : List Action) → list_any (reports kind) list ≡ true
-    → Contains list (report_of kind)
-asks_report kind = found (reports kind) (report_of kind) (reports-one kind) (reports-itself kind)
+pub asks_report : (kind : SetKind) (list : List Action)
+    → list_any (asks_to_report kind) list ≡ true → Contains list (report_of kind)
+asks_report kind =
+    found (asks_to_report kind) (report_of kind) (reports-one kind) (reports-itself kind)
 
 pub report_asked : (kind : SetKind) (list : List Action) → Contains list (report_of kind)
-    → list_any (reports kind) list ≡ true
-report_asked kind = finds (reports kind) (report_of kind) (reports-one kind) (reports-itself kind)
+    → list_any (asks_to_report kind) list ≡ true
+report_asked kind =
+    finds (asks_to_report kind) (report_of kind) (reports-one kind) (reports-itself kind)
 
 -- ---- tests of all kinds of sets
 
@@ -98,22 +89,19 @@ each_kind-at p e ZoneSigners = (and_parts (p Ds && p Dnskey) (p ZoneSigners) e).
 
 -- ---- a report retires what its phase asks to report
 
-retires_table : RollType → Bool → SetKind → Bool
-retires_table r second kind =
-    alike (list_any (reports kind) (actions_of r (propagation (half second))))
-    (retires r second kind)
+retires_table : RollType → Half → SetKind → Bool
+retires_table r half kind =
+    alike (list_any (asks_to_report kind) (actions_of r (propagation half)))
+    (retires r (is_second half) kind)
 
-retires_all : each_roll (λ r. both (λ second. each_kind (retires_table r second))) ≡ true
+pub retires-asked : (r : RollType) (half : Half) (kind : SetKind)
+    → list_any (asks_to_report kind) (actions_of r (propagation half))
+    ≡ retires r (is_second half) kind
 unfolding retires_table column
-retires_all = refl
-
-pub retires-asked : (r : RollType) (second : Bool) (kind : SetKind)
-    → list_any (reports kind) (actions_of r (propagation (half second))) ≡ retires r second kind
-unfolding retires_table column
-retires-asked r second kind = alike-same _ _
-    (each_kind-at (retires_table r second)
-    (both-at (λ second. each_kind (retires_table r second))
-    (each_roll-at (λ r. both (λ second. each_kind (retires_table r second))) retires_all r) second)
+retires-asked r half kind = alike-same _ _
+    (each_kind-at (retires_table r half)
+    (each_half-at (λ half. each_kind (retires_table r half))
+    (each_roll-at (λ r. each_half (λ half. each_kind (retires_table r half))) refl r) half)
     kind)
 
 -- ---- what a start and a wait change is what they ask for
@@ -138,80 +126,59 @@ start_table : RollType → Bool → Bool → SetKind → KeyType → Bool
 start_table r o i kind k =
     list_any (updates kind) (column r).asks || same_in kind (started r o i k) k
 
-start_all : (a b : Bool)
-    → each_roll (λ r.
-    both (λ o. both (λ i. each_kind (λ kind. each_key a b (start_table r o i kind))))) ≡ true
-unfolding start_table column
-start_all a b = refl
-
 pub start-asks : (r : RollType) (o i : Bool) (kind : SetKind) (k : KeyType)
     → (list_any (updates kind) (column r).asks || same_in kind (started r o i k) k) ≡ true
-unfolding start_table
+unfolding start_table column
 start-asks r o i kind = each_key-at (start_table r o i kind) (λ a b.
     each_kind-at (λ kind. each_key a b (start_table r o i kind))
     (both-at (λ i. each_kind (λ kind. each_key a b (start_table r o i kind)))
     (both-at (λ o. both (λ i. each_kind (λ kind. each_key a b (start_table r o i kind))))
     (each_roll-at
     (λ r. both (λ o. both (λ i. each_kind (λ kind. each_key a b (start_table r o i kind)))))
-    (start_all a b) r) o) i) kind)
+    refl r) o) i) kind)
 
 early_end_table : RollType → Bool → Bool → SetKind → KeyType → Bool
 early_end_table r o i kind k =
     list_any (updates kind) (column r).asks_early || same_in kind (ended r o i k) k
 
-early_end_all : (a b : Bool)
-    → each_roll (λ r.
-    both (λ o. both (λ i. each_kind (λ kind. each_key a b (early_end_table r o i kind))))) ≡ true
-unfolding early_end_table column
-early_end_all a b = refl
-
 pub early-end-asks : (r : RollType) (o i : Bool) (kind : SetKind) (k : KeyType)
     → (list_any (updates kind) (column r).asks_early || same_in kind (ended r o i k) k) ≡ true
-unfolding early_end_table
+unfolding early_end_table column
 early-end-asks r o i kind = each_key-at (early_end_table r o i kind) (λ a b.
     each_kind-at (λ kind. each_key a b (early_end_table r o i kind))
     (both-at (λ i. each_kind (λ kind. each_key a b (early_end_table r o i kind)))
     (both-at (λ o. both (λ i. each_kind (λ kind. each_key a b (early_end_table r o i kind))))
     (each_roll-at
     (λ r. both (λ o. both (λ i. each_kind (λ kind. each_key a b (early_end_table r o i kind)))))
-    (early_end_all a b) r) o) i) kind)
+    refl r) o) i) kind)
 
-wait_table : RollType → Bool → SetKind → KeyType → Bool
-wait_table r second kind k = list_any (updates kind) (actions_of r (behind (half second)))
-    || same_in kind ((half_of r (half second)).moves k) k
+wait_table : RollType → Half → SetKind → KeyType → Bool
+wait_table r half kind k = list_any (updates kind) (actions_of r (behind half))
+    || same_in kind ((half_of r half).moves k) k
 
-wait_all : (a b : Bool)
-    → each_roll (λ r. both (λ second. each_kind (λ kind. each_key a b (wait_table r second kind))))
-    ≡ true
+pub wait-asks : (r : RollType) (half : Half) (kind : SetKind) (k : KeyType)
+    → (list_any (updates kind) (actions_of r (behind half))
+    || same_in kind ((half_of r half).moves k) k) ≡ true
 unfolding wait_table column
-wait_all a b = refl
-
-pub wait-asks : (r : RollType) (second : Bool) (kind : SetKind) (k : KeyType)
-    → (list_any (updates kind) (actions_of r (behind (half second)))
-    || same_in kind ((half_of r (half second)).moves k) k) ≡ true
-unfolding wait_table
-wait-asks r second kind = each_key-at (wait_table r second kind) (λ a b.
-    each_kind-at (λ kind. each_key a b (wait_table r second kind))
-    (both-at (λ second. each_kind (λ kind. each_key a b (wait_table r second kind)))
+wait-asks r half kind = each_key-at (wait_table r half kind) (λ a b.
+    each_kind-at (λ kind. each_key a b (wait_table r half kind))
+    (each_half-at (λ half. each_kind (λ kind. each_key a b (wait_table r half kind)))
     (each_roll-at
-    (λ r. both (λ second. each_kind (λ kind. each_key a b (wait_table r second kind))))
-    (wait_all a b) r) second) kind)
+    (λ r. each_half (λ half. each_kind (λ kind. each_key a b (wait_table r half kind))))
+    refl r) half) kind)
 
 -- ---- new keys and stale keys are in no set
 
 idle_table : SetKind → KeyType → Bool
-idle_table kind k = (is_blank k || is_stale k) ⇒ none_in kind k
+idle_table kind k = (all_states is_future k || all_states is_stale k) ⇒ none_in kind k
 
-idle_all : (a b : Bool) → each_kind (λ kind. each_key a b (idle_table kind)) ≡ true
-unfolding idle_table column
-idle_all a b = refl
-
-pub idle-unseen : (kind : SetKind) (k : KeyType) → (is_blank k || is_stale k) ≡ true
+pub idle-unseen : (kind : SetKind) (k : KeyType)
+    → (all_states is_future k || all_states is_stale k) ≡ true
     → none_in kind k ≡ true
-unfolding idle_table
+unfolding idle_table column
 idle-unseen kind k e =
     mp _ _ (each_key-at (idle_table kind)
-    (λ a b. each_kind-at (λ kind. each_key a b (idle_table kind)) (idle_all a b) kind) k) e
+    (λ a b. each_kind-at (λ kind. each_key a b (idle_table kind)) refl kind) k) e
 
 -- a key is in the same sets as itself
 pub same-itself : (kind : SetKind) (k : KeyType) → same_in kind k k ≡ true

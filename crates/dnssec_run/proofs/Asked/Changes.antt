@@ -1,4 +1,8 @@
--- A call that sets no flag changes only what it asks to publish: for the clause `changes`.
+-- A call that sets no flag changes only what it asks to publish: for the clause `changes`. The
+-- recorder reads no other sets anew: for `advance`.
+use Rattle.dnssec_keyset.proofs.Changes.{Changes}
+use Rattle.std.proofs.lemmas.Bool.{true≢false, and_parts, or_left, or_right}
+use Rattle.dnssec_run.proofs.Laws.{made-at}
 use Rattle.dnssec_keyset.proofs.Accepted.{no_some, gone_key, add_free}
 use Rattle.std.proofs.Common.{[], ◌≡◌, ℕ, zero, suc, ◌≤◌, ◌⊎◌, inl, inr, Bool, true, false, refl}
 use Rattle.std.proofs.Common.{sym, ◌∙◌, ap, subst, arith, List, length, Option, None, Some}
@@ -8,28 +12,31 @@ use Rattle.std.specs.Option.{option_map, option_map_or}
 use Rattle.std.specs.FinMap.{get}
 use Rattle.std.specs.Str.{bytes_eq}
 use Rattle.std.specs.Cmp.Lexicographic.{bytes_decides}
-use Rattle.std.proofs.lemmas.Bool.{true≢false, and_parts, or_left, or_right}
 use Rattle.std.proofs.lemmas.Option.{none-some, slice_get_cases}
 use Rattle.dnssec_key.specs.declared.roll.Action.{Action}
 use Rattle.dnssec_key.specs.declared.kind.KeyType.{KeyType}
+use Rattle.dnssec_key.specs.declared.kind.KeyType.TheVariants.{Ksk, Zsk, Csk, Include}
 use Rattle.dnssec_key.specs.Key.{KeyParts}
 use Rattle.dnssec_keyset.specs.KeySet.{KeySetParts}
 use Rattle.dnssec_zone.specs.Lists.{listed_by}
-use Rattle.dnssec_key.specs.RollTable.{First, Second}
+use Rattle.dnssec_key.specs.RollTable.{at_roles, stays as unmoved}
 use Rattle.dnssec_key.specs.Setters.{Setting, Decoupled, Present, Signer, AtParent, Stale}
 use Rattle.dnssec_key.specs.Setters.{VisibleAt, DsVisibleAt, RrsigVisibleAt, is_flag_setting}
-use Rattle.dnssec_key.specs.Setters.{set_by}
+use Rattle.dnssec_key.specs.Setters.{at_each_state, set_by, with_at_parent, with_present}
+use Rattle.dnssec_key.specs.Setters.{with_signer}
 use Rattle.dnssec_zone.specs.Start.{is_listed}
 use Rattle.dnssec_keyset.specs.Step as keyset
 use Rattle.dnssec_zone.specs.Wait as waits
 use Rattle.dnssec_run.specs.declared.call.Call.{Call}
 use Rattle.dnssec_run.specs.declared.record.Entry.{Entry}
-use Rattle.dnssec_run.specs.declared.record.Published.{Published}
+use Rattle.dnssec_run.specs.declared.record.Touched.{Touched}
 use Rattle.dnssec_run.specs.declared.record.Reply.{Reply}
 use Rattle.dnssec_run.specs.declared.record.Reply.TheVariants as reply
-use Rattle.dnssec_run.specs.Asked.{asked_by, asked_at, update_of, sets_flag}
+use Rattle.dnssec_run.specs.Asked.{asked_by, asked_at, flag_shown, update_of, updates, sets_flag}
+use Rattle.dnssec_run.specs.Asked.{sets_shown}
 use Rattle.dnssec_run.specs.Asked.{SamePublished, ChangesAsAsked}
-use Rattle.dnssec_run.specs.Published.{IsPublished, World, keys_where, in_ds, in_dnskey}
+use Rattle.dnssec_run.specs.Recorder.{Leaves}
+use Rattle.dnssec_run.specs.Published.{World, keys_where, in_ds, in_dnskey}
 use Rattle.dnssec_run.specs.Published.{signs_dnskey}
 use Rattle.dnssec_run.specs.Published.{signs_zone}
 use Rattle.dnssec_run.specs.Record.{IsRun, call_of, reply_of, is_accepted, world_at, with_added}
@@ -39,7 +46,7 @@ use Rattle.dnssec_run.proofs.Positions.{same-shown, shown-none}
 use Rattle.dnssec_run.proofs.Chain.Tale.{start-parts, early-end-parts}
 use Rattle.dnssec_zone.proofs.Tests.{alike-same, or_second}
 use Rattle.dnssec_run.proofs.Chain.Trust.{adds_blank, plainly}
-use Rattle.dnssec_run.proofs.Asked.Actions.{updates, asks_update, start-asks, wait-asks, same_in}
+use Rattle.dnssec_run.proofs.Asked.Actions.{asks_update, start-asks, wait-asks, same_in}
 use Rattle.dnssec_run.proofs.Asked.Actions.{early-end-asks}
 use Rattle.dnssec_run.proofs.Asked.Actions.{none_in, idle-unseen, same-itself}
 use Rattle.dnssec_run.proofs.WholeRolls.Replies.{accepted_step, refused_step, added-next}
@@ -87,22 +94,82 @@ agree-mapped : (kind : SetKind) (f : KeyParts → KeyParts) (o : Option KeyParts
 agree-mapped kind f None e = agree-same kind None
 agree-mapped kind f (Some k) e = agree-keys kind (f k) k (e k)
 
-same-kind : (kind : SetKind) (j k : KeyType) → j ≡ k → same_in kind j k ≡ true
-same-kind kind j k e = ap (λ j. same_in kind j k) e ∙ same-itself kind k
-
 -- ---- one call
 
-set-kind : (s : Setting) → is_flag_setting s ≡ false → (b : Bool) (k : KeyParts)
-    → (if b then set_by s k else k).keytype ≡ k.keytype
-set-kind s e false k = refl
-set-kind (Decoupled value) e true k = refl
-set-kind (VisibleAt time) e true k = refl
-set-kind (DsVisibleAt time) e true k = refl
-set-kind (RrsigVisibleAt time) e true k = refl
-set-kind (Present value now) e true k = absurd (true≢false e)
-set-kind (Signer value) e true k = absurd (true≢false e)
-set-kind (AtParent value) e true k = absurd (true≢false e)
-set-kind Stale e true k = absurd (true≢false e)
+-- a flag that the sets of a kind don't show is set
+present-ds : (value : Bool) (k : KeyType)
+    → same_in Ds (at_each_state (with_present value) k) k ≡ true
+present-ds value (Ksk s) = same-itself Ds (Ksk s)
+present-ds value (Zsk s) = same-itself Ds (Zsk s)
+present-ds value (Csk s t) = same-itself Ds (Csk s t)
+present-ds value (Include s) = same-itself Ds (Include s)
+
+present-zone : (value : Bool) (k : KeyType)
+    → same_in ZoneSigners (at_each_state (with_present value) k) k ≡ true
+present-zone value (Ksk s) = same-itself ZoneSigners (Ksk s)
+present-zone value (Zsk s) = same-itself ZoneSigners (Zsk s)
+present-zone value (Csk s t) = same-itself ZoneSigners (Csk s t)
+present-zone value (Include s) = same-itself ZoneSigners (Include s)
+
+signer-ds : (value : Bool) (k : KeyType)
+    → same_in Ds (at_each_state (with_signer value) k) k ≡ true
+signer-ds value (Ksk s) = same-itself Ds (Ksk s)
+signer-ds value (Zsk s) = same-itself Ds (Zsk s)
+signer-ds value (Csk s t) = same-itself Ds (Csk s t)
+signer-ds value (Include s) = same-itself Ds (Include s)
+
+parent-dnskey : (value : Bool) (k : KeyType)
+    → same_in Dnskey (at_roles (with_at_parent value) unmoved k) k ≡ true
+parent-dnskey value (Ksk s) = same-itself Dnskey (Ksk s)
+parent-dnskey value (Zsk s) = same-itself Dnskey (Zsk s)
+parent-dnskey value (Csk s t) = same-itself Dnskey (Csk s t)
+parent-dnskey value (Include s) = same-itself Dnskey (Include s)
+
+parent-zone : (value : Bool) (k : KeyType)
+    → same_in ZoneSigners (at_roles (with_at_parent value) unmoved k) k ≡ true
+parent-zone value (Ksk s) = same-itself ZoneSigners (Ksk s)
+parent-zone value (Zsk s) = same-itself ZoneSigners (Zsk s)
+parent-zone value (Csk s t) = same-itself ZoneSigners (Csk s t)
+parent-zone value (Include s) = same-itself ZoneSigners (Include s)
+
+set-stays : (kind : SetKind) (s : Setting) → flag_shown s kind ≡ false → (b : Bool) (k : KeyParts)
+    → same_in kind (if b then set_by s k else k).keytype k.keytype ≡ true
+set-stays kind s e false k = same-itself kind k.keytype
+set-stays kind (Decoupled value) e true k = same-itself kind k.keytype
+set-stays kind (VisibleAt time) e true k = same-itself kind k.keytype
+set-stays kind (DsVisibleAt time) e true k = same-itself kind k.keytype
+set-stays kind (RrsigVisibleAt time) e true k = same-itself kind k.keytype
+set-stays Ds (Present value now) e true k = present-ds value k.keytype
+set-stays Dnskey (Present value now) e true k = absurd (true≢false e)
+set-stays ZoneSigners (Present value now) e true k = present-zone value k.keytype
+set-stays Ds (Signer value) e true k = signer-ds value k.keytype
+set-stays Dnskey (Signer value) e true k = absurd (true≢false e)
+set-stays ZoneSigners (Signer value) e true k = absurd (true≢false e)
+set-stays Ds (AtParent value) e true k = absurd (true≢false e)
+set-stays Dnskey (AtParent value) e true k = parent-dnskey value k.keytype
+set-stays ZoneSigners (AtParent value) e true k = parent-zone value k.keytype
+set-stays kind Stale e true k = absurd (true≢false e)
+
+-- a call that sets no flag sets none that is shown
+no-flag : (kind : SetKind) (c : keyset.Call) → sets_flag c ≡ false → sets_shown kind c ≡ false
+no-flag kind (keyset.Set r s) calm = by s calm
+  where
+    by : (s : Setting) → is_flag_setting s ≡ false → flag_shown s kind ≡ false
+    by (Decoupled value) e = refl
+    by (VisibleAt time) e = refl
+    by (DsVisibleAt time) e = refl
+    by (RrsigVisibleAt time) e = refl
+    by (Present value now) e = absurd (true≢false e)
+    by (Signer value) e = absurd (true≢false e)
+    by (AtParent value) e = absurd (true≢false e)
+    by Stale e = absurd (true≢false e)
+no-flag kind (keyset.AddKey a b) calm = refl
+no-flag kind (keyset.DeleteKey a) calm = refl
+no-flag kind (keyset.StartRoll a b c d) calm = refl
+no-flag kind (keyset.Report a b c d) calm = refl
+no-flag kind (keyset.Wait a b c) calm = refl
+no-flag kind (keyset.RollDone a) calm = refl
+no-flag kind (keyset.AbortRoll a) calm = refl
 
 -- what a reply of the key set asks
 abbrev pub due : keyset.Reply → List Action
@@ -112,8 +179,7 @@ due (keyset.Refused cause) = []
 
 pub due_by : (r : Reply) → asked_by r ≡ due (reply_of r)
 due_by reply.Done = refl
-due_by (reply.Actions actions) = refl
-due_by (reply.Refused cause) = refl
+due_by _ = refl
 
 module _ (kind : SetKind) (old new : KeySetParts) where
   by_keys : (o : List ℕ → Option KeyParts) → ((q : List ℕ) → get new.keys q ≡ o q)
@@ -121,8 +187,8 @@ module _ (kind : SetKind) (old new : KeySetParts) where
       → (q : List ℕ) → Agree kind (get new.keys q) (get old.keys q)
   by_keys o keys agree q = subst (λ u. Agree kind u (get old.keys q)) (sym (keys q)) (agree q)
 
-  agree-step : (c : keyset.Call) → sets_flag c ≡ false → adds_blank c ≡ true
-      → keyset.clearance old c ≡ waits.Clear → keyset.Changes old c new
+  agree-step : (c : keyset.Call) → sets_shown kind c ≡ false → adds_blank c ≡ true
+      → keyset.clearance old c ≡ waits.Clear → Changes old c new
       → list_any (updates kind) (due (keyset.accepted_reply c)) ≡ false
       → (q : List ℕ) → Agree kind (get new.keys q) (get old.keys q)
   agree-step (keyset.AddKey r k) calm fresh v m none =
@@ -137,7 +203,7 @@ module _ (kind : SetKind) (old new : KeySetParts) where
       by q false t = agree-same kind (get old.keys q)
   agree-step (keyset.Set r s) calm fresh v m none =
       by_keys _ m.keys (λ q. agree-mapped kind _ (get old.keys q)
-      (λ k. same-kind kind _ _ (set-kind s calm (bytes_eq r q) k)))
+      (set-stays kind s calm (bytes_eq r q)))
   agree-step (keyset.DeleteKey r) calm fresh v m none =
       by_keys _ m.keys (λ q. by q (bytes_eq r q) refl)
     where
@@ -156,12 +222,9 @@ module _ (kind : SetKind) (old new : KeySetParts) where
   agree-step (keyset.Report r half ttl now) calm fresh v m none =
       by_keys _ m.keys (λ q. agree-mapped kind _ (get old.keys q)
       (λ k. same-itself kind k.keytype))
-  agree-step (keyset.Wait r First now) calm fresh v m none =
+  agree-step (keyset.Wait r half now) calm fresh v m none =
       by_keys _ m.keys (λ q. agree-mapped kind _ (get old.keys q)
-      (λ k. or_second _ _ (wait-asks r false kind k.keytype) none))
-  agree-step (keyset.Wait r Second now) calm fresh v m none =
-      by_keys _ m.keys (λ q. agree-mapped kind _ (get old.keys q)
-      (λ k. or_second _ _ (wait-asks r true kind k.keytype) none))
+      (λ k. or_second _ _ (wait-asks r half kind k.keytype) none))
   agree-step (keyset.AbortRoll r) calm fresh v m none =
       by_keys _ m.keys (λ q. agree-mapped kind _ (get old.keys q)
       (λ k. ap (λ (j : KeyParts). same_in kind j.keytype k.keytype)
@@ -174,7 +237,7 @@ module _ (kind : SetKind) (old new : KeySetParts) where
       (λ k. same-itself kind k.keytype))
 
 -- a key that is there isn't added
-added-same : (n : ℕ) (c : keyset.Call) (f : List ℕ → ℕ) (set : KeySetParts)
+pub added-same : (n : ℕ) (c : keyset.Call) (f : List ℕ → ℕ) (set : KeySetParts)
     → keyset.clearance set c ≡ waits.Clear → (q : List ℕ) (k : KeyParts)
     → get set.keys q ≡ Some k → with_added n (reference_added c) f q ≡ f q
 added-same n (keyset.AddKey r key) f set v q k there = by (bytes_eq r q) refl
@@ -183,13 +246,7 @@ added-same n (keyset.AddKey r key) f set v q k there = by (bytes_eq r q) refl
     by true t = absurd (true≢false (sym (ap is_some (ap (get set.keys) ((bytes_decides r q).0 t)
         ∙ there)) ∙ add_free _ _ _ _ (no_cause _ v)))
     by false t = refl
-added-same n (keyset.Set a b) f set v q k there = refl
-added-same n (keyset.DeleteKey a) f set v q k there = refl
-added-same n (keyset.StartRoll a b c d) f set v q k there = refl
-added-same n (keyset.Report a b c d) f set v q k there = refl
-added-same n (keyset.Wait a b c) f set v q k there = refl
-added-same n (keyset.RollDone a) f set v q k there = refl
-added-same n (keyset.AbortRoll a) f set v q k there = refl
+added-same n _ f set v q k there = refl
 
 -- ---- what is there after a call at position n
 
@@ -203,8 +260,7 @@ module _ (n : ℕ) (w v : World) (c : Call) (r : Reply)
 
   refused-stays : is_accepted r ≡ false → (kind : SetKind) → Stays kind
   refused-stays t kind =
-      let same = refused_step (keyset.clearance w.set (call_of c)) w.set v.set (call_of c) r
-      t step in
+      let same = refused_step w.set v.set (call_of c) r t step in
       record {
         keys = λ q. subst (λ (s : KeySetParts). Agree kind (get s.keys q) (get w.set.keys q))
             (sym same) (agree-same kind (get w.set.keys q));
@@ -213,11 +269,10 @@ module _ (n : ℕ) (w v : World) (c : Call) (r : Reply)
             else w.added) q) t;
       }
 
-  accepted-stays : is_accepted r ≡ true → sets_flag (call_of c) ≡ false → (kind : SetKind)
+  accepted-stays : is_accepted r ≡ true → (kind : SetKind) → sets_shown kind (call_of c) ≡ false
       → list_any (updates kind) (asked_by r) ≡ false → Stays kind
-  accepted-stays t calm kind none =
-      let ok = accepted_step (keyset.clearance w.set (call_of c)) w.set v.set (call_of c) r
-      t step in
+  accepted-stays t kind calm none =
+      let ok = accepted_step w.set v.set (call_of c) r t step in
       record {
         keys = agree-step kind w.set v.set (call_of c) calm (plainly c).blank ok.0 ok.1
             (ap (λ r. list_any (updates kind) (due r)) (sym ok.2)
@@ -228,37 +283,42 @@ module _ (n : ℕ) (w v : World) (c : Call) (r : Reply)
             ∙ added-same n (call_of c) w.added w.set ok.0 q k there;
       }
 
-  stays : sets_flag (call_of c) ≡ false → (kind : SetKind)
-      → list_any (updates kind) (asked_by r) ≡ false → Stays kind
-  stays calm kind none = by (is_accepted r) refl
+  -- the call was refused, or it set no flag that the kind shows and didn't ask to publish it
+  Passes : SetKind → Type 0
+  Passes kind = is_accepted r ≡ true → (sets_shown kind (call_of c) ≡ false)
+      × (list_any (updates kind) (asked_by r) ≡ false)
+
+  passed : (kind : SetKind) → Passes kind → Stays kind
+  unfolding Passes
+  passed kind calm = by (is_accepted r) refl
     where
       by : (b : Bool) → is_accepted r ≡ b → Stays kind
-      by true t = accepted-stays t calm kind none
+      by true t = accepted-stays t kind (calm t).0 (calm t).1
       by false t = refused-stays t kind
 
-  -- so what was published is published still
-  published-stays : ((kind : SetKind) → Stays kind) → (sets : Published) → IsPublished sets w
-      → IsPublished sets v
-  published-stays same sets p =
-      let ds = same Ds in let dnskey = same Dnskey in let zone = same ZoneSigners in
-      record {
-        ds = p.ds ∙ sym (same-shown in_ds w v ds.keys ds.places);
-        dnskey = p.dnskey ∙ sym (same-shown in_dnskey w v (λ q. (dnskey.keys q).0) dnskey.places);
-        dnskey_signers = p.dnskey_signers
-            ∙ sym (same-shown signs_dnskey w v (λ q. (dnskey.keys q).1) dnskey.places);
-        zone_signers = p.zone_signers ∙ sym (same-shown signs_zone w v zone.keys zone.places);
-      }
+  stays : sets_flag (call_of c) ≡ false → (kind : SetKind)
+      → list_any (updates kind) (asked_by r) ≡ false → Stays kind
+  unfolding Passes
+  stays calm kind none = passed kind (λ t. (no-flag kind (call_of c) calm, none))
 
-  -- after a call that was refused, or that set no flag and asked for nothing
-  pub unasked : (is_accepted r ≡ true → (sets_flag (call_of c) ≡ false) × (asked_by r ≡ []))
-      → (sets : Published) → IsPublished sets w → IsPublished sets v
-  unasked calm = by (is_accepted r) refl
-    where
-      by : (a : Bool) → is_accepted r ≡ a → (sets : Published) → IsPublished sets w
-          → IsPublished sets v
-      by false t = published-stays (refused-stays t)
-      by true t = published-stays (λ kind. accepted-stays t (calm t).0 kind
-          (ap (list_any (updates kind)) (calm t).1))
+  -- so the sets of a kind that isn't touched are the same
+  pub leaves : (touched : Touched) → (touched.ds ≡ false → is_accepted r ≡ true
+      → (sets_shown Ds (call_of c) ≡ false) × (list_any (updates Ds) (asked_by r) ≡ false))
+      → (touched.dnskey ≡ false → is_accepted r ≡ true
+      → (sets_shown Dnskey (call_of c) ≡ false) × (list_any (updates Dnskey) (asked_by r) ≡ false))
+      → (touched.zone_signers ≡ false → is_accepted r ≡ true
+      → (sets_shown ZoneSigners (call_of c) ≡ false)
+      × (list_any (updates ZoneSigners) (asked_by r) ≡ false)) → Leaves touched w v
+  unfolding Passes
+  leaves touched ds dnskey zone = record {
+    ds = λ no. let same = passed Ds (ds no) in same-shown in_ds w v same.keys same.places;
+    dnskey = λ no. let same = passed Dnskey (dnskey no) in
+        same-shown in_dnskey w v (λ q. (same.keys q).0) same.places;
+    dnskey_signers = λ no. let same = passed Dnskey (dnskey no) in
+        same-shown signs_dnskey w v (λ q. (same.keys q).1) same.places;
+    zone_signers = λ no. let same = passed ZoneSigners (zone no) in
+        same-shown signs_zone w v same.keys same.places;
+  }
 
 -- ---- the run
 
@@ -298,13 +358,8 @@ module _ (name : List ℕ) (calls : List Call) (entries : List Entry)
     signers = sym (shown-none signs_dnskey name);
     zone = sym (shown-none signs_zone name);
   }
-  shows-at (suc n) le = elim ((slice_get_cases entries n).1) [
-    | inl e ↦ elim ((slice_get_cases calls n).1) [
-      | inl c ↦ shows-entry n c.0 e.0 c.2 e.2
-      | inr c ↦ absurd (omega (arith, c.0, run.count))
-    ]
-    | inr e ↦ absurd (omega (arith, e.0))
-  ]
+  shows-at (suc n) le = let x = made-at name calls entries run n le in
+      shows-entry n x.0 x.1 x.2 x.3
 
   -- if the look-ups agree, the same is published
   published-same : (kind : SetKind) (n : ℕ) → suc n ≤ length entries

@@ -1,4 +1,6 @@
 -- A report counts from a start or a first wait, and retires what that asked: for `retires`.
+use Rattle.dnssec_keyset.proofs.Changes.{Changes}
+use Rattle.dnssec_run.proofs.Laws.{made-at}
 use Rattle.std.proofs.Common.{[], ◌≡◌, ℕ, zero, suc, ◌≤◌, ◌↔◌, inl, inr, Bool, true, false, refl}
 use Rattle.std.proofs.Common.{sym, ◌∙◌, ap, subst, arith, List, length, Option, None, Some}
 use Rattle.std.specs.Prelude.{slice_get, if◌then◌else◌}
@@ -9,29 +11,28 @@ use Rattle.dnssec_key.specs.declared.roll.RollType.{RollType}
 use Rattle.dnssec_key.specs.declared.roll.RollType.TheVariants.{KskRoll}
 use Rattle.dnssec_key.specs.declared.roll.RollState.{RollState}
 use Rattle.dnssec_key.specs.declared.roll.RollState.TheVariants.{Propagation1, CacheExpire1}
-use Rattle.dnssec_key.specs.declared.roll.RollState.TheVariants.{Propagation2, CacheExpire2}
-use Rattle.dnssec_key.specs.declared.roll.RollState.TheVariants.{Done}
+use Rattle.dnssec_key.specs.declared.roll.RollState.TheVariants.{Propagation2, CacheExpire2, Done}
 use Rattle.dnssec_keyset.specs.KeySet.{KeySetParts}
 use Rattle.dnssec_zone.specs.Rolls.{phase_of, same_roll, with_phase}
-use Rattle.dnssec_key.specs.RollTable.{First, Second, actions_of}
+use Rattle.dnssec_key.specs.RollTable.{Half, First, Second, actions_of, cache_expire}
+use Rattle.dnssec_run.specs.WholeRolls.{propagation}
 use Rattle.dnssec_keyset.specs.Step as keyset
 use Rattle.dnssec_zone.specs.Wait as waits
 use Rattle.dnssec_run.specs.declared.call.Call.{Call}
 use Rattle.dnssec_run.specs.declared.record.Entry.{Entry}
 use Rattle.dnssec_run.specs.declared.record.Mark.{Mark}
 use Rattle.dnssec_run.specs.declared.record.Mark.TheVariants.{Other, Report}
-use Rattle.dnssec_run.specs.Asked.{asked_by, asked_at, report_of, RetiresAsAsked}
-use Rattle.dnssec_run.specs.Record.{IsRun, call_of, reply_of, is_accepted, world_at}
+use Rattle.dnssec_run.specs.Asked.{asked_by, asked_at, report_of, RetiresAsAsked, asks_to_report}
+use Rattle.dnssec_run.specs.Record.{IsRun, call_of, is_accepted, world_at}
 use Rattle.dnssec_run.specs.Safe.{SetKind, position_at, base_below, is_step, retires}
 use Rattle.dnssec_run.proofs.Chain.Rolls.{same-same, same-sym}
-use Rattle.dnssec_run.proofs.Chain.Allowed.{waits_in_phase}
+use Rattle.dnssec_run.proofs.Chain.Allowed.{waits_in_phase, spreads}
 use Rattle.dnssec_run.proofs.Chain.History.{base_same, base_here}
 use Rattle.dnssec_run.proofs.Chain.Trust.{mark}
 use Rattle.dnssec_run.proofs.WholeRolls.Order.{world_of}
 use Rattle.dnssec_run.proofs.WholeRolls.Phases.{put_aside, put_there, roll_now}
-use Rattle.dnssec_keyset.proofs.Accepted.{spreads_first, spreads_second}
-use Rattle.dnssec_run.proofs.WholeRolls.Replies.{accepted_step, refused_step, at_position, marked}
-use Rattle.dnssec_run.proofs.Asked.Actions.{reports, asks_report, report_asked, retires-asked}
+use Rattle.dnssec_run.proofs.WholeRolls.Replies.{did, idle, at_position, marked}
+use Rattle.dnssec_run.proofs.Asked.Actions.{asks_report, report_asked, retires-asked}
 use Rattle.dnssec_run.proofs.Asked.Changes.{due, due_by}
 use Rattle.dnssec_keyset.proofs.Laws.{same-is, no_cause}
 use Rattle.dnssec_zone.proofs.Phases.{no_phases}
@@ -44,6 +45,11 @@ opening (CacheExpire1 ttl) = Propagation1
 opening Propagation2 = Propagation2
 opening (CacheExpire2 ttl) = Propagation2
 opening Done = Propagation2
+
+opening_half : (half : Half) (ttl : ℕ)
+    → opening (cache_expire half ttl) ≡ opening (propagation half)
+opening_half First ttl = refl
+opening_half Second ttl = refl
 
 -- after position n the next report of the roll would count from this position, and this was asked
 -- there
@@ -98,7 +104,7 @@ module _ (entries : List Entry) (n : ℕ) (old new : KeySetParts) where
   other-roll : (q r : RollType) → same_roll q r ≡ false → same_roll r q ≡ false
   other-roll q r e = same-sym r q ∙ e
 
-  based-step : (c : keyset.Call) → keyset.clearance old c ≡ waits.Clear → keyset.Changes old c new
+  based-step : (c : keyset.Call) → keyset.clearance old c ≡ waits.Clear → Changes old c new
       → (position_at entries (suc n)).mark ≡ mark c
       → asked_at entries (suc n) ≡ due (keyset.accepted_reply c) → Before → After
   based-step (keyset.AddKey r k) v m mk asked h = calm m.rolls (λ r. ap (is_step r) mk) h
@@ -109,17 +115,11 @@ module _ (entries : List Entry) (n : ℕ) (old new : KeySetParts) where
       (λ x e. subst (Based entries (suc n) q) (same_Some Propagation1 x e)
       (based-here entries n q Propagation1 (ap (is_step q) mk ∙ same-same q) asked))
       (λ r t. ap (is_step r) mk ∙ other-roll q r t) h
-  based-step (keyset.Report q First ttl now) v m mk asked h =
-      on_roll q (Some (CacheExpire1 ttl)) m.rolls
-      (λ x e. subst (Based entries (suc n) q) (same_Some (CacheExpire1 ttl) x e)
-      (based-on entries n q Propagation1 (CacheExpire1 ttl) refl (ap (is_step q) mk)
-      (h q Propagation1 (spreads_first _ (no_cause _ v)))))
-      (λ r t. ap (is_step r) mk) h
-  based-step (keyset.Report q Second ttl now) v m mk asked h =
-      on_roll q (Some (CacheExpire2 ttl)) m.rolls
-      (λ x e. subst (Based entries (suc n) q) (same_Some (CacheExpire2 ttl) x e)
-      (based-on entries n q Propagation2 (CacheExpire2 ttl) refl (ap (is_step q) mk)
-      (h q Propagation2 (spreads_second _ (no_cause _ v)))))
+  based-step (keyset.Report q half ttl now) v m mk asked h =
+      on_roll q (Some (cache_expire half ttl)) m.rolls
+      (λ x e. subst (Based entries (suc n) q) (same_Some (cache_expire half ttl) x e)
+      (based-on entries n q (propagation half) (cache_expire half ttl) (opening_half half ttl)
+      (ap (is_step q) mk) (h q (propagation half) (spreads half _ (no_cause _ v)))))
       (λ r t. ap (is_step r) mk) h
   based-step (keyset.Wait q First now) v m mk asked h =
       on_roll q (Some Propagation2) m.rolls
@@ -127,7 +127,7 @@ module _ (entries : List Entry) (n : ℕ) (old new : KeySetParts) where
       (based-here entries n q Propagation2 (ap (is_step q) mk ∙ same-same q) asked))
       (λ r t. ap (is_step r) mk ∙ other-roll q r t) h
   based-step (keyset.Wait q Second now) v m mk asked h =
-      let w = waits_in_phase q true now (world_of old) v in
+      let w = waits_in_phase q Second now (world_of old) v in
       on_roll q (Some Done) m.rolls
       (λ x e. subst (Based entries (suc n) q) (same_Some Done x e)
       (based-on entries n q (CacheExpire2 w.0) Done refl (ap (is_step q) mk)
@@ -152,22 +152,17 @@ module _ (name : List ℕ) (calls : List Call) (entries : List Entry)
       → slice_get entries n ≡ Some e → All n → All (suc n)
   based-next n c e ci ei h = by (is_accepted e.reply) refl
     where
-      step : keyset.Step (set_at n) (call_of c) (reply_of e.reply) (set_at (suc n))
-      step = (run.each n c e ci ei).step
-
       mark_is : (b : Bool) → is_accepted e.reply ≡ b
           → (position_at entries (suc n)).mark ≡ (if b then mark (call_of c) else Other)
       mark_is b t = (at_position name calls entries run n c e ci ei).mark_is ∙ marked c e.reply b t
 
       by : (b : Bool) → is_accepted e.reply ≡ b → All (suc n)
       by false t =
-          let same = refused_step (keyset.clearance (set_at n) (call_of c)) (set_at n)
-          (set_at (suc n)) (call_of c) e.reply t step in
+          let same = idle name calls entries run n c e ci ei t in
           calm entries n (set_at n) (set_at (suc n)) (ap (λ (s : KeySetParts). s.rolls) same)
           (λ r. ap (is_step r) (mark_is false t)) h
       by true t =
-          let ok = accepted_step (keyset.clearance (set_at n) (call_of c)) (set_at n)
-          (set_at (suc n)) (call_of c) e.reply t step in
+          let ok = did name calls entries run n c e ci ei t in
           based-step entries n (set_at n) (set_at (suc n)) (call_of c) ok.0 ok.1 (mark_is true t)
           (ap (λ o. option_map_or (λ (x : Entry). asked_by x.reply) o []) ei ∙ due_by e.reply
           ∙ ap due ok.2) h
@@ -175,13 +170,8 @@ module _ (name : List ℕ) (calls : List Call) (entries : List Entry)
   based : (n : ℕ) → n ≤ length entries → All n
   unfolding world_at
   based zero le = λ r p e. absurd (none-some p (sym (no_phases r) ∙ e))
-  based (suc n) le = elim ((slice_get_cases entries n).1) [
-    | inl e ↦ elim ((slice_get_cases calls n).1) [
-      | inl c ↦ based-next n c.0 e.0 c.2 e.2 (based n (omega arith))
-      | inr c ↦ absurd (omega (arith, c.0, run.count))
-    ]
-    | inr e ↦ absurd (omega (arith, e.0))
-  ]
+  based (suc n) le = let x = made-at name calls entries run n le in
+      based-next n x.0 x.1 x.2 x.3 (based n (omega arith))
 
   -- what the law says of one report
   abbrev Retires : ℕ → RollType → Bool → Type 0
@@ -190,7 +180,7 @@ module _ (name : List ℕ) (calls : List Call) (entries : List Entry)
       (retires roll second kind ≡ true) ↔ Contains (asked_at entries base) (report_of kind))
 
   retires-by : (n : ℕ) (r : RollType) (second : Bool) (p : RollState)
-      → ((kind : SetKind) → list_any (reports kind) (actions_of r (opening p))
+      → ((kind : SetKind) → list_any (asks_to_report kind) (actions_of r (opening p))
       ≡ retires r second kind)
       → Based entries n r p → Retires (suc n) r second
   retires-by n r second p table b = (
@@ -198,8 +188,8 @@ module _ (name : List ℕ) (calls : List Call) (entries : List Entry)
     b.base_is,
     λ kind. (
       λ t. asks_report kind (asked_at entries b.base)
-          (ap (list_any (reports kind)) b.asked ∙ table kind ∙ t),
-      λ c. sym (table kind) ∙ ap (list_any (reports kind)) (sym b.asked)
+          (ap (list_any (asks_to_report kind)) b.asked ∙ table kind ∙ t),
+      λ c. sym (table kind) ∙ ap (list_any (asks_to_report kind)) (sym b.asked)
           ∙ report_asked kind (asked_at entries b.base) c,
     ),
   )
@@ -218,20 +208,14 @@ module _ (name : List ℕ) (calls : List Call) (entries : List Entry)
       → mark c ≡ Report roll second ttl → Retires (suc n) roll second
   reported n le (keyset.Report r First t now) v roll second ttl e =
       subst (λ m. Retires (suc n) (roll_in m) (half_in m)) e
-      (retires-by n r false Propagation1 (retires-asked r false)
-      (based n le r Propagation1 (spreads_first _ (no_cause _ v))))
+      (retires-by n r false Propagation1 (retires-asked r First)
+      (based n le r Propagation1 (spreads First _ (no_cause _ v))))
   reported n le (keyset.Report r Second t now) v roll second ttl e =
       subst (λ m. Retires (suc n) (roll_in m) (half_in m)) e
-      (retires-by n r true Propagation2 (retires-asked r true)
-      (based n le r Propagation2 (spreads_second _ (no_cause _ v))))
-  reported n le (keyset.AddKey a b) v roll second ttl e = absurd (cc)
-  reported n le (keyset.Set a b) v roll second ttl e = absurd (cc)
-  reported n le (keyset.DeleteKey a) v roll second ttl e = absurd (cc)
-  reported n le (keyset.StartRoll a b c d) v roll second ttl e = absurd (cc)
+      (retires-by n r true Propagation2 (retires-asked r Second)
+      (based n le r Propagation2 (spreads Second _ (no_cause _ v))))
   reported n le (keyset.Wait a First b) v roll second ttl e = absurd (cc)
-  reported n le (keyset.Wait a Second b) v roll second ttl e = absurd (cc)
-  reported n le (keyset.RollDone a) v roll second ttl e = absurd (cc)
-  reported n le (keyset.AbortRoll a) v roll second ttl e = absurd (cc)
+  reported n le _ v roll second ttl e = absurd (cc)
 
   retires-at : (n : ℕ) (roll : RollType) (second : Bool) (ttl : ℕ)
       → (position_at entries n).mark ≡ Report roll second ttl → Retires n roll second
@@ -259,8 +243,7 @@ module _ (name : List ℕ) (calls : List Call) (entries : List Entry)
           by : (b : Bool) → is_accepted x.reply ≡ b → Retires (suc n) roll second
           by false t = let no : Other ≡ Report roll second ttl = mark_is false t in absurd (cc)
           by true t =
-              let ok = accepted_step (keyset.clearance (set_at n) (call_of c)) (set_at n)
-              (set_at (suc n)) (call_of c) x.reply t (run.each n c x ci xi).step in
+              let ok = did name calls entries run n c x ci xi t in
               reported n le (call_of c) ok.0 roll second ttl (mark_is true t)
 
 -- a report retires what the reply that it counts from asked to report

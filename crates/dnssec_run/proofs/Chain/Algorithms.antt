@@ -9,32 +9,27 @@ use Rattle.std.specs.Ordering.{nat_cmp}
 use Rattle.std.specs.Cmp.Lexicographic.{slice_cmp}
 use Rattle.std.proofs.lemmas.Option.{same_Some, none-some}
 use Rattle.dnssec_key.specs.RollTable.{after_start, after_report, after_wait, after_early_end}
-use Rattle.dnssec_key.specs.Setters.{Setting, Decoupled, Present, Signer, AtParent, Stale}
-use Rattle.dnssec_key.specs.Setters.{VisibleAt, DsVisibleAt, RrsigVisibleAt, set_by}
+use Rattle.dnssec_key.specs.Setters.{Setting, Decoupled, set_by}
 use Rattle.dnssec_key.specs.declared.roll.RollType.{RollType}
 use Rattle.dnssec_zone.specs.Lists.{listed_by}
 use Rattle.dnssec_keyset.specs.KeySet.{KeySetParts}
 use Rattle.dnssec_keyset.specs.Step as keyset
-use Rattle.dnssec_keyset.proofs.Accepted.{accepted_changes, refused_same}
+use Rattle.dnssec_keyset.proofs.Changes.{Changes}
+use Rattle.dnssec_keyset.proofs.Accepted.{accepted_changes}
 use Rattle.dnssec_run.specs.declared.call.Call.{Call}
 use Rattle.dnssec_run.specs.declared.record.Reply.{Reply}
 use Rattle.dnssec_run.specs.declared.record.Reply.TheVariants as reply
 use Rattle.dnssec_run.specs.Record as rec
 use Rattle.dnssec_run.specs.ByAlgorithm.{added_algorithm, algorithm_at}
-use Rattle.dnssec_run.proofs.Chain.Tale.{Tale, Key, world_at, is_listed}
+use Rattle.dnssec_run.proofs.Chain.Tale.{Tale, Key, world_at}
 use Rattle.dnssec_run.proofs.Chain.Places.{place_at, real}
+use Rattle.dnssec_zone.specs.Start.{is_listed}
 
 -- ---- no call changes the algorithm of a key
 
 after-setter : (s : Setting) (k : Key) → (set_by s k).algorithm ≡ k.algorithm
 after-setter (Decoupled value) k = refl
-after-setter (Present value now) k = refl
-after-setter (Signer value) k = refl
-after-setter (AtParent value) k = refl
-after-setter Stale k = refl
-after-setter (VisibleAt time) k = refl
-after-setter (DsVisibleAt time) k = refl
-after-setter (RrsigVisibleAt time) k = refl
+after-setter _ k = refl
 
 set-at : (b : Bool) (s : Setting) (k : Key) → (if b then set_by s k else k).algorithm ≡ k.algorithm
 set-at true s k = after-setter s k
@@ -43,16 +38,14 @@ set-at false s k = refl
 after-start : (r : RollType) (now : ℕ) (o i : Bool) (k : Key)
     → (after_start r now o i k).algorithm ≡ k.algorithm
 after-start r now true true k = refl
-after-start r now true false k = refl
 after-start r now false true k = refl
-after-start r now false false k = refl
+after-start r now _ _ k = refl
 
 after-end : (r : RollType) (o i : Bool) (k : Key)
     → (after_early_end r o i k).algorithm ≡ k.algorithm
 after-end r true true k = refl
-after-end r true false k = refl
 after-end r false true k = refl
-after-end r false false k = refl
+after-end r _ _ k = refl
 
 -- ---- one call
 
@@ -74,7 +67,7 @@ module _ (calls : List Call) (old new : KeySetParts) (was now : List ℕ → ℕ
       by (Some j) at f' = ap (algorithm_at calls) (added q) ∙ given q j at ∙ sym (same q j)
           ∙ ap (λ (k : Key). k.algorithm) (same_Some _ _ (sym (ap (option_map (f q)) at) ∙ f'))
 
-  accepted : (c : keyset.Call) → keyset.Changes old c new
+  accepted : (c : keyset.Call) → Changes old c new
       → algorithm_at calls (suc n) ≡ added_algorithm c
       → ((q : List ℕ) → now q ≡ rec.with_added (suc n) (rec.reference_added c) was q)
       → Given calls (get new.keys) now
@@ -96,8 +89,8 @@ module _ (calls : List Call) (old new : KeySetParts) (was now : List ℕ → ℕ
       by true f = absurd (none-some k f)
       by false f = ap (algorithm_at calls) (added q) ∙ given q k f
   accepted (keyset.StartRoll r olds news t) h here added q k e =
-      moved (λ q. after_start r t (is_listed q olds) (is_listed q news))
-      (λ q k. after-start r t (is_listed q olds) (is_listed q news) k) h.keys added q k e
+      moved (λ q. after_start r t (is_listed olds q) (is_listed news q))
+      (λ q k. after-start r t (is_listed olds q) (is_listed news q) k) h.keys added q k e
   accepted (keyset.Report r half ttl t) h here added q k e =
       moved (λ q. after_report r half t) (λ q k. refl) h.keys added q k e
   accepted (keyset.Wait r half t) h here added q k e =
@@ -105,10 +98,10 @@ module _ (calls : List Call) (old new : KeySetParts) (was now : List ℕ → ℕ
   accepted (keyset.RollDone r) h here added q k e =
       moved (λ q k. k) (λ q k. refl) h.keys added q k e
   accepted (keyset.AbortRoll r) h here added q k e = moved
-      (λ q. after_early_end r (is_listed q (listed_by old.lists r).olds)
-      (is_listed q (listed_by old.lists r).news))
-      (λ q k. after-end r (is_listed q (listed_by old.lists r).olds)
-      (is_listed q (listed_by old.lists r).news) k) h.keys added q k e
+      (λ q. after_early_end r (is_listed (listed_by old.lists r).olds q)
+      (is_listed (listed_by old.lists r).news q))
+      (λ q k. after-end r (is_listed (listed_by old.lists r).olds q)
+      (is_listed (listed_by old.lists r).news q) k) h.keys added q k e
 
   by_reply : (c : keyset.Call) (r : Reply) → keyset.Step old c (rec.reply_of r) new
       → algorithm_at calls (suc n) ≡ added_algorithm c
@@ -116,14 +109,13 @@ module _ (calls : List Call) (old new : KeySetParts) (was now : List ℕ → ℕ
       rec.with_added (suc n) (rec.reference_added c) was else was) q)
       → Given calls (get new.keys) now
   by_reply c (reply.Refused cause) step here added q k e =
-      let same = refused_same (keyset.clearance old c) old new c cause step in
+      let same = step.1 in
       ap (algorithm_at calls) (added q)
       ∙ given q k (sym (ap (λ (s : KeySetParts). get s.keys q) same) ∙ e)
   by_reply c reply.Done step here added q k e = accepted c
-      (accepted_changes (keyset.clearance old c) old new c keyset.Done refl step).1 here added q k e
+      (accepted_changes old new c keyset.Done refl step).1 here added q k e
   by_reply c (reply.Actions actions) step here added q k e = accepted c
-      (accepted_changes (keyset.clearance old c) old new c (keyset.Actions actions.items) refl
-      step).1 here added q k e
+      (accepted_changes old new c (keyset.Actions actions.items) refl step).1 here added q k e
 
 -- ---- the whole run
 

@@ -1,51 +1,49 @@
 -- What an accepted call says of the keys before it.
+use Rattle.dnssec_keyset.proofs.Accepted.{spreads_first, spreads_second}
+use Rattle.dnssec_zone.specs.Refusals.{report_refusal}
 use Rattle.std.proofs.Common.{[], ◌≡◌, ℕ, ◌-◌, ◌*◌, ◌≤◌, ◌⊎◌, inl, inr, Bool, true, false, not}
 use Rattle.std.proofs.Common.{◌&&◌, ◌||◌, refl, sym, ◌∙◌, ap, arith, List, ◌∷◌, ◌++◌, Option, None}
 use Rattle.std.proofs.Common.{Some, subst}
 use Rattle.std.specs.Prelude.{if◌then◌else◌, is_some, is_none, nat_eq}
-use Rattle.std.specs.List.{list_all}
+use Rattle.std.specs.List.{list_all, list_any}
 use Rattle.std.specs.Option.{option_map_or}
 use Rattle.std.specs.Str.{bytes_eq}
 use Rattle.std.specs.Cmp.Lexicographic.{bytes_decides}
 use Rattle.std.specs.FinMap.{get}
-use Rattle.std.proofs.lemmas.Bool.{true≢false, and_parts, not-true, or_parts, or_right}
+use Rattle.std.proofs.lemmas.Bool.{true≢false, and_parts, not-true, or_parts, or_right, cases_Bool}
 use Rattle.std.proofs.lemmas.Option.{none-some}
 use Rattle.dnssec_key.specs.declared.roll.RollType.{RollType}
-use Rattle.dnssec_key.specs.declared.roll.RollType.TheVariants.{KskRoll, KskDoubleDsRoll}
-use Rattle.dnssec_key.specs.declared.roll.RollType.TheVariants.{ZskRoll, ZskDoubleSignatureRoll}
-use Rattle.dnssec_key.specs.declared.roll.RollType.TheVariants.{CskRoll, AlgorithmRoll}
+use Rattle.dnssec_key.specs.declared.roll.RollType.TheVariants.{KskRoll, KskDoubleDsRoll, ZskRoll}
+use Rattle.dnssec_key.specs.declared.roll.RollType.TheVariants.{ZskDoubleSignatureRoll, CskRoll}
+use Rattle.dnssec_key.specs.declared.roll.RollType.TheVariants.{AlgorithmRoll}
 use Rattle.dnssec_key.specs.declared.roll.RollState.{RollState}
-use Rattle.dnssec_key.specs.declared.roll.RollState.TheVariants.{Propagation1, CacheExpire1}
-use Rattle.dnssec_key.specs.declared.roll.RollState.TheVariants.{Propagation2, CacheExpire2}
-use Rattle.dnssec_key.specs.declared.roll.RollState.TheVariants.{Done}
+use Rattle.dnssec_key.specs.declared.roll.RollState.TheVariants.{CacheExpire1, CacheExpire2}
 use Rattle.dnssec_key.specs.declared.kind.KeyType.{KeyType}
 use Rattle.dnssec_base.specs.declared.error.Error.{Error}
-use Rattle.dnssec_key.specs.State.{is_fresh}
+use Rattle.dnssec_key.specs.State.{is_fresh, is_future}
 use Rattle.dnssec_key.specs.Key.{KeyParts, all_states}
 use Rattle.dnssec_zone.specs.Rolls.{Rolls, phase_of}
 use Rattle.dnssec_zone.specs.Keys.{some_key}
 use Rattle.dnssec_zone.specs.Start.{is_listed as listed, conflict, has_conflict, together}
 use Rattle.dnssec_zone.specs.Start.{old_entry_fault, old_fault, new_entry_fault, new_fault}
-use Rattle.dnssec_keyset.specs.Step.{start_refusal}
-use Rattle.dnssec_zone.specs.Start.{some_listed, some_kept, is_met, wants}
-use Rattle.dnssec_zone.specs.Start.{algorithm_fault, suitability_fault, algorithms_within}
-use Rattle.dnssec_zone.specs.Start.{has_algorithm, may_change_algorithms}
+use Rattle.dnssec_zone.specs.Start.{some_listed, some_kept, is_met, wants, algorithm_fault}
+use Rattle.dnssec_zone.specs.Start.{suitability_fault, algorithms_within, has_algorithm}
+use Rattle.dnssec_zone.specs.Start.{may_change_algorithms, Want}
+use Rattle.dnssec_keyset.specs.Step.{start_refusal, first_of_causes, wait_clearance}
 use Rattle.std.proofs.lemmas.Bool.Decides.{nat_tests}
-use Rattle.std.specs.List.{list_any}
-use Rattle.dnssec_keyset.specs.Step.{first_of_causes}
-use Rattle.dnssec_zone.specs.Wait.{Barred, Clear, early_by, wait_in_phase}
-use Rattle.dnssec_keyset.specs.Step.{wait_clearance}
-use Rattle.dnssec_zone.specs.Wait.{lacks_stamp, longest_left, time_left, ttl_in, left_since}
-use Rattle.dnssec_zone.specs.Wait.{stamp_read}
+use Rattle.dnssec_zone.specs.Wait.{Barred, Clear, early_by, wait_in_phase, lacks_stamp}
+use Rattle.dnssec_zone.specs.Wait.{longest_left, time_left, ttl_in, left_since, stamp_read}
 use Rattle.dnssec_zone.proofs.Quantified.{some_key-none, some_entry-found}
 use Rattle.dnssec_zone.proofs.Longest.{longest-bound, clear-left}
 use Rattle.dnssec_run.specs.Published.{World as RealWorld}
-use Rattle.dnssec_zone.proofs.Flags.{SideOf, Keys, Zone, affects, is_blank, may_list}
-use Rattle.dnssec_run.proofs.Chain.Tables.{half, reads-stamp}
-use Rattle.dnssec_run.proofs.Chain.Tale.{seen, waiting, IsOver, HasSuitable, CanStart}
+use Rattle.dnssec_zone.proofs.Flags.{SideOf, Keys, Zone, affects, may_list}
+use Rattle.dnssec_run.proofs.Chain.Tables.{reads-stamp, want_on}
+use Rattle.dnssec_run.proofs.Chain.Tale.{seen, IsOver, HasSuitable, CanStart}
 use Rattle.dnssec_zone.proofs.Tests.{each_key, each_key-at, ◌⇒◌, mp, or_second}
 use Rattle.dnssec_keyset.proofs.Laws.{no_first, no_rest, no_roll, no_conflict}
 use Rattle.dnssec_keyset.proofs.Sides.{old-listed}
+use Rattle.dnssec_key.specs.RollTable.{cache_expire, Half, First, Second}
+use Rattle.dnssec_run.specs.WholeRolls.{propagation}
 
 -- ---- causes in their order
 
@@ -62,6 +60,14 @@ no_causes a b c d e h =
       no_first d (first_of_causes (e ∷ [])) z,
       no_first e None u,
     )
+
+no_else : (b : Bool) (o : Option Error) (e : Error) → (if b then o else Some e) ≡ None
+    → (b ≡ true) × (o ≡ None)
+no_else true o e h = (refl, h)
+no_else false o e h = absurd (none-some e (sym h))
+
+no_want : (b : Bool) (e : Error) → (if b then None else Some e) ≡ None → b ≡ true
+no_want b e h = (no_else b None e h).0
 
 -- ---- a start
 
@@ -83,72 +89,50 @@ module _ (r : RollType) (rolls : Rolls) where
       ≡ None
   none_beside e = alone_of (no_conflict r rolls e)
 
+-- a fresh key that the roll may list, not taken
+abbrev IsFree : RollType → Option KeyParts → Bool → Type 0
+IsFree r o taken = (k : KeyParts) × (o ≡ Some k) × (may_list r k.keytype ≡ true)
+    × (all_states is_fresh k.keytype ≡ true) × (taken ≡ false)
+
 module _ (r : RollType) (at : List ℕ → Option KeyParts) where
   old_kind : (o : Option KeyParts) → old_entry_fault r o ≡ None → (k : KeyParts) × (o ≡ Some k)
       × (may_list r k.keytype ≡ true)
   old_kind None e = absurd (none-some _ (sym e))
-  old_kind (Some k) e = by (may_list r k.keytype) refl
-    where
-      by : (b : Bool) → may_list r k.keytype ≡ b → (j : KeyParts) × (Some k ≡ Some j)
-          × (may_list r j.keytype ≡ true)
-      by true t = (k, refl, t)
-      by false t = absurd (none-some _
-          (sym (sym (ap (λ b. if b then None else Some Error.WrongKeyType) t) ∙ e)))
+  old_kind (Some k) e = (k, refl, no_want _ Error.WrongKeyType e)
 
   new_kind : (o : Option KeyParts) (taken : Bool) → new_entry_fault r o taken ≡ None
-      → (k : KeyParts) × (o ≡ Some k) × (may_list r k.keytype ≡ true)
-      × (all_states is_fresh k.keytype ≡ true) × (taken ≡ false)
+      → IsFree r o taken
   new_kind None taken e = absurd (none-some _ (sym e))
-  new_kind (Some k) taken e = by (may_list r k.keytype) refl (all_states is_fresh k.keytype) refl
-      taken refl
-    where
-      by : (b : Bool) → may_list r k.keytype ≡ b → (c : Bool) → all_states is_fresh k.keytype ≡ c
-          → (d : Bool) → taken ≡ d
-          → (j : KeyParts) × (Some k ≡ Some j) × (may_list r j.keytype ≡ true)
-          × (all_states is_fresh j.keytype ≡ true) × (taken ≡ false)
-      by true t true u false v = (k, refl, t, u, v)
-      by false t c u d v = absurd (none-some _
-          (sym (sym (ap (λ b. if b then (if all_states is_fresh k.keytype
-          && not taken then None else Some Error.WrongKeyState) else Some Error.WrongKeyType) t)
-          ∙ e)))
-      by true t false u d v = absurd (none-some _
-          (sym (sym (λ i. if t i then (if u i && not taken then None else Some Error.WrongKeyState)
-          else Some Error.WrongKeyType) ∙ e)))
-      by true t true u true v = absurd
-          (none-some _ (sym (sym (λ i. if t i then
-          (if u i && not (v i) then None else Some Error.WrongKeyState) else Some
-          Error.WrongKeyType) ∙ e)))
+  new_kind (Some k) taken e =
+      let x = no_else (may_list r k.keytype) _ Error.WrongKeyType e in
+      let y = and_parts (all_states is_fresh k.keytype) (not taken)
+      (no_want _ Error.WrongKeyState x.1) in
+      (k, refl, x.0, y.0, not-true taken y.1)
 
   old_all : (olds : List (List ℕ)) → old_fault r at olds ≡ None → (q : List ℕ) → listed olds q
       ≡ true → (k : KeyParts) × (at q ≡ Some k) × (may_list r k.keytype ≡ true)
   old_all olds e q l = old_kind (at q) (old-listed r at olds q e l)
 
   new_all : (olds earlier news : List (List ℕ)) → new_fault r at olds earlier news ≡ None
-      → (q : List ℕ) → listed news q ≡ true
-      → (k : KeyParts) × (at q ≡ Some k) × (may_list r k.keytype ≡ true)
-      × (all_states is_fresh k.keytype ≡ true) × (listed olds q ≡ false)
+      → (q : List ℕ) → listed news q ≡ true → IsFree r (at q) (listed olds q)
   new_all olds earlier [] e q l = absurd (true≢false (sym l))
   new_all olds earlier (x ∷ xs) e q l =
       by (new_all olds (earlier ++ x ∷ []) xs (no_rest _ _ e) q) (bytes_eq q x) refl
     where
-      by : (listed xs q ≡ true → (k : KeyParts) × (at q ≡ Some k) × (may_list r k.keytype ≡ true)
-          × (all_states is_fresh k.keytype ≡ true) × (listed olds q ≡ false)) → (b : Bool)
-          → bytes_eq q x ≡ b
-          → (k : KeyParts) × (at q ≡ Some k) × (may_list r k.keytype ≡ true)
-          × (all_states is_fresh k.keytype ≡ true) × (listed olds q ≡ false)
+      by : (listed xs q ≡ true → IsFree r (at q) (listed olds q)) → (b : Bool) → bytes_eq q x ≡ b
+          → IsFree r (at q) (listed olds q)
       by rest true t = let same = (bytes_decides q x).0 t in let h =
           new_kind (at x) (listed olds x || listed earlier x) (no_first _ _ e) in
           (h.0, ap at same ∙ h.1, h.2, h.3, ap (listed olds) same ∙ (or_parts _ _ h.4).0)
       by rest false t = rest (sym (ap (λ b. b || listed xs q) t) ∙ l)
 
-fresh_all : (a b : Bool) → each_key a b (λ k. all_states is_fresh k ⇒ is_blank k) ≡ true
+fresh_all : (a b : Bool) → each_key a b (λ k. all_states is_fresh k ⇒ all_states is_future k) ≡ true
 fresh_all true true = refl
-fresh_all true false = refl
-fresh_all false true = refl
-fresh_all false false = refl
+fresh_all _ _ = refl
 
-fresh_blank : (k : KeyType) → all_states is_fresh k ≡ true → is_blank k ≡ true
-fresh_blank k = mp _ _ (each_key-at (λ k. all_states is_fresh k ⇒ is_blank k) fresh_all k)
+fresh_blank : (k : KeyType) → all_states is_fresh k ≡ true → all_states is_future k ≡ true
+fresh_blank k = mp _ _ (each_key-at (λ k. all_states is_fresh k
+    ⇒ all_states is_future k) fresh_all k)
 
 -- ---- the key to go on with
 
@@ -157,63 +141,47 @@ abbrev some_listed_key : (KeyParts → Bool) → (List ℕ → Option KeyParts) 
 some_listed_key p at qs =
     list_any (λ (q : List ℕ). option_map_or (λ (k : KeyParts). p k) (at q) false) qs
 
+-- a listed key that passes
+abbrev Found : (KeyParts → Bool) → (List ℕ → Option KeyParts) → List (List ℕ) → Type 0
+Found p at qs = (q : List ℕ) × (k : KeyParts) × (at q ≡ Some k) × (listed qs q ≡ true)
+    × (p k ≡ true)
+
 listed_key : (p : KeyParts → Bool) (at : List ℕ → Option KeyParts) (qs : List (List ℕ))
-    → some_listed_key p at qs ≡ true
-    → (q : List ℕ) × (k : KeyParts) × (at q ≡ Some k) × (listed qs q ≡ true) × (p k ≡ true)
+    → some_listed_key p at qs ≡ true → Found p at qs
 listed_key p at [] e = absurd (true≢false (sym e))
 listed_key p at (x ∷ xs) e = by (listed_key p at xs) (at x) refl
   where
-    Found : Type 0
-    Found = (q : List ℕ) × (k : KeyParts) × (at q ≡ Some k) × (listed (x ∷ xs) q ≡ true)
-        × (p k ≡ true)
-
-    here : listed (x ∷ xs) x ≡ true
-    here = ap (λ b. b || listed xs x) ((bytes_decides x x).1 refl)
-
-    later : (some_listed_key p at xs ≡ true → (q : List ℕ) × (k : KeyParts) × (at q ≡ Some k)
-        × (listed xs q ≡ true) × (p k ≡ true)) → some_listed_key p at xs ≡ true
-        → (q : List ℕ) × (k : KeyParts) × (at q ≡ Some k) × (listed (x ∷ xs) q ≡ true)
-        × (p k ≡ true)
+    later : (some_listed_key p at xs ≡ true → Found p at xs) → some_listed_key p at xs ≡ true
+        → Found p at (x ∷ xs)
     later rest f = let h = rest f in (h.0, h.1, h.2, or_right (bytes_eq h.0 x) _ h.3, h.4)
 
-    by : (some_listed_key p at xs ≡ true → (q : List ℕ) × (k : KeyParts) × (at q ≡ Some k)
-        × (listed xs q ≡ true) × (p k ≡ true)) → (o : Option KeyParts) → at x ≡ o
-        → (q : List ℕ) × (k : KeyParts) × (at q ≡ Some k) × (listed (x ∷ xs) q ≡ true)
-        × (p k ≡ true)
+    by : (some_listed_key p at xs ≡ true → Found p at xs) → (o : Option KeyParts) → at x ≡ o
+        → Found p at (x ∷ xs)
     by rest None a = later rest (sym
         (ap (λ o. option_map_or (λ (k : KeyParts). p k) o false || some_listed_key p at xs) a)
         ∙ e)
-    by rest (Some k) a = at_key (p k) refl
-      where
-        at_key : (b : Bool) → p k ≡ b → (q : List ℕ) × (k : KeyParts) × (at q ≡ Some k)
-            × (listed (x ∷ xs) q ≡ true) × (p k ≡ true)
-        at_key true t = (x, k, a, here, t)
-        at_key false t = later rest (sym
-            (ap (λ o. option_map_or (λ (k : KeyParts). p k) o false || some_listed_key p at xs)
-            a ∙ ap (λ b. b || some_listed_key p at xs) t) ∙ e)
+    by rest (Some k) a = elim (cases_Bool (p k)) [
+      | inl t ↦ (x, k, a, ap (λ b. b || listed xs x) ((bytes_decides x x).1 refl), t)
+      | inr t ↦ later rest (sym
+          (ap (λ o. option_map_or (λ (k : KeyParts). p k) o false || some_listed_key p at xs)
+          a ∙ ap (λ b. b || some_listed_key p at xs) t) ∙ e)
+    ]
 
 serving_key : (w : RealWorld) (olds news : List (List ℕ)) (new kept : KeyType → Bool)
     → (some_listed new (get w.set.keys) news || some_kept kept w.set.keys olds) ≡ true
     → (q : List ℕ) × (k : KeyParts) × (get w.set.keys q ≡ Some k)
     × (((listed news q ≡ true) × (new k.keytype ≡ true))
     ⊎ ((listed olds q ≡ false) × (kept k.keytype ≡ true)))
-serving_key w olds news new kept e = by (some_listed new (get w.set.keys) news) refl
-  where
-    by : (b : Bool) → some_listed new (get w.set.keys) news ≡ b
-        → (q : List ℕ) × (k : KeyParts) × (get w.set.keys q ≡ Some k)
-        × (((listed news q ≡ true) × (new k.keytype ≡ true))
-        ⊎ ((listed olds q ≡ false) × (kept k.keytype ≡ true)))
-    by true t = let h = listed_key (λ k. new k.keytype) (get w.set.keys) news t in
-        (h.0, h.1, h.2, inl (h.3, h.4))
-    by false t =
-        let h = some_entry-found (λ q k. kept k.keytype && not (listed olds q)) w.set.keys
-        (sym (ap (λ b. b || some_kept kept w.set.keys olds) t) ∙ e) in
-        let x = and_parts _ _ h.3 in
-        (h.0, h.1, h.2, inr (not-true _ x.1, x.0))
-
-no_want : (b : Bool) (e : Error) → (if b then None else Some e) ≡ None → b ≡ true
-no_want true e h = refl
-no_want false e h = absurd (none-some e (sym h))
+serving_key w olds news new kept e =
+    elim (cases_Bool (some_listed new (get w.set.keys) news)) [
+      | inl t ↦ let h = listed_key (λ k. new k.keytype) (get w.set.keys) news t in
+          (h.0, h.1, h.2, inl (h.3, h.4))
+      | inr t ↦
+          let h = some_entry-found (λ q k. kept k.keytype && not (listed olds q)) w.set.keys
+          (sym (ap (λ b. b || some_kept kept w.set.keys olds) t) ∙ e) in
+          let x = and_parts _ _ h.3 in
+          (h.0, h.1, h.2, inr (not-true _ x.1, x.0))
+    ]
 
 within_listed : (at : List ℕ → Option KeyParts) (qs others : List (List ℕ))
     → algorithms_within at qs others ≡ true → (q : List ℕ) (k : KeyParts) → at q ≡ Some k
@@ -244,24 +212,22 @@ same_algorithm r at olds news e free q k at_q l =
     same_number : (m n : ℕ) → nat_eq m n ≡ true → m ≡ n
     same_number m n e = grind (arith, nat_tests)
 
+-- what a roll wants, it wants on each of its sides
+met : (p : Want → Bool) (r : RollType) → list_all p (wants r) ≡ true → (sd : SideOf)
+    → affects sd r ≡ true → p (want_on sd r) ≡ true
+met p ZskRoll e Keys own = absurd (true≢false (sym own))
+met p ZskDoubleSignatureRoll e Keys own = absurd (true≢false (sym own))
+met p KskRoll e Zone own = absurd (true≢false (sym own))
+met p KskDoubleDsRoll e Zone own = absurd (true≢false (sym own))
+met p CskRoll e Zone own = (and_parts _ _ (and_parts _ _ e).1).0
+met p AlgorithmRoll e Zone own = (and_parts _ _ (and_parts _ _ e).1).0
+met p _ e _ own = (and_parts _ _ e).0
+
 suitable_of : (w : RealWorld) (r : RollType) (olds news : List (List ℕ))
     → list_all (is_met w.set.keys olds news) (wants r) ≡ true → (sd : SideOf) → affects sd r ≡ true
     → HasSuitable sd r (seen w) olds news
-suitable_of w KskRoll olds news e Keys own = serving_key w olds news _ _ (and_parts _ _ e).0
-suitable_of w KskRoll olds news e Zone own = absurd (true≢false (sym own))
-suitable_of w KskDoubleDsRoll olds news e Keys own = serving_key w olds news _ _ (and_parts _ _ e).0
-suitable_of w KskDoubleDsRoll olds news e Zone own = absurd (true≢false (sym own))
-suitable_of w ZskRoll olds news e Keys own = absurd (true≢false (sym own))
-suitable_of w ZskRoll olds news e Zone own = serving_key w olds news _ _ (and_parts _ _ e).0
-suitable_of w ZskDoubleSignatureRoll olds news e Keys own = absurd (true≢false (sym own))
-suitable_of w ZskDoubleSignatureRoll olds news e Zone own =
-    serving_key w olds news _ _ (and_parts _ _ e).0
-suitable_of w CskRoll olds news e Keys own = serving_key w olds news _ _ (and_parts _ _ e).0
-suitable_of w CskRoll olds news e Zone own =
-    serving_key w olds news _ _ (and_parts _ _ (and_parts _ _ e).1).0
-suitable_of w AlgorithmRoll olds news e Keys own = serving_key w olds news _ _ (and_parts _ _ e).0
-suitable_of w AlgorithmRoll olds news e Zone own =
-    serving_key w olds news _ _ (and_parts _ _ (and_parts _ _ e).1).0
+suitable_of w r olds news e sd own =
+    serving_key w olds news _ _ (met (is_met w.set.keys olds news) r e sd own)
 
 pub can_start : (w : RealWorld) (r : RollType) (olds news : List (List ℕ))
     → start_refusal r w.set olds news ≡ None → CanStart r (seen w) olds news
@@ -293,40 +259,38 @@ over_key : (o : Option ℕ) (ttl now : ℕ) → is_none o ≡ false
 over_key None ttl now a b = absurd (true≢false a)
 over_key (Some m) ttl now a b = (m, refl, omega (arith, b))
 
-over : (r : RollType) (second : Bool) (ttl now : ℕ) (w : RealWorld)
-    → wait_in_phase r (half second) (Some ttl) now w.set.keys ≡ Clear
-    → IsOver r second (seen w) ttl now
-over r second ttl now w f q k at check =
-    let h = clear_wait (some_key (lacks_stamp r (half second)) w.set.keys)
-    (longest_left r (half second) ttl now w.set.keys) f in
-    let bound = longest-bound (time_left r (half second) ttl now) w.set.keys q k at in
-    let none : time_left r (half second) ttl now k ≤ 0 = omega (arith, bound, h.1) in
-    let o = over_key (stamp_read r (half second) k) ttl now
-    (sym (ap (λ b. b && is_none (stamp_read r (half second) k)) check)
-    ∙ some_key-none (lacks_stamp r (half second)) w.set.keys q k h.0 at)
+over : (r : RollType) (half : Half) (ttl now : ℕ) (w : RealWorld)
+    → wait_in_phase r half (Some ttl) now w.set.keys ≡ Clear
+    → IsOver r half (seen w) ttl now
+over r half ttl now w f q k at check =
+    let h = clear_wait (some_key (lacks_stamp r half) w.set.keys)
+    (longest_left r half ttl now w.set.keys) f in
+    let bound = longest-bound (time_left r half ttl now) w.set.keys q k at in
+    let none : time_left r half ttl now k ≤ 0 = omega (arith, bound, h.1) in
+    let o = over_key (stamp_read r half k) ttl now
+    (sym (ap (λ b. b && is_none (stamp_read r half k)) check)
+    ∙ some_key-none (lacks_stamp r half) w.set.keys q k h.0 at)
     (subst (λ n. n ≤ 0) (ap (λ b.
-    if b then option_map_or (left_since ttl now) (stamp_read r (half second) k) 0 else 0) check)
+    if b then option_map_or (left_since ttl now) (stamp_read r half k) 0 else 0) check)
     none) in
-    (o.0, sym (reads-stamp r second k.timestamps) ∙ o.1, o.2)
+    (o.0, sym (reads-stamp r half k.timestamps) ∙ o.1, o.2)
 
-pub waits_in_phase : (r : RollType) (second : Bool) (now : ℕ) (w : RealWorld)
-    → wait_clearance r (half second) now w.set ≡ Clear
-    → (ttl : ℕ) × ((seen w).roll r ≡ Some (waiting second ttl)) × IsOver r second (seen w) ttl now
-waits_in_phase r second now w e = by second (phase_of w.set.rolls r) refl e
+pub waits_in_phase : (r : RollType) (half : Half) (now : ℕ) (w : RealWorld)
+    → wait_clearance r half now w.set ≡ Clear
+    → (ttl : ℕ) × ((seen w).roll r ≡ Some (cache_expire half ttl)) × IsOver r half (seen w) ttl now
+waits_in_phase r half now w e = by half (phase_of w.set.rolls r) refl e
   where
-    by : (second : Bool) (o : Option RollState) → phase_of w.set.rolls r ≡ o
-        → wait_in_phase r (half second) (ttl_in (half second) o) now w.set.keys ≡ Clear
-        → (ttl : ℕ) × (phase_of w.set.rolls r ≡ Some (waiting second ttl))
-        × IsOver r second (seen w) ttl now
-    by false (Some (CacheExpire1 ttl)) p f = (ttl, p, over r false ttl now w f)
-    by true (Some (CacheExpire2 ttl)) p f = (ttl, p, over r true ttl now w f)
-    by false None p f = absurd (cc)
-    by false (Some Propagation1) p f = absurd (cc)
-    by false (Some Propagation2) p f = absurd (cc)
-    by false (Some (CacheExpire2 ttl)) p f = absurd (cc)
-    by false (Some Done) p f = absurd (cc)
-    by true None p f = absurd (cc)
-    by true (Some Propagation1) p f = absurd (cc)
-    by true (Some Propagation2) p f = absurd (cc)
-    by true (Some (CacheExpire1 ttl)) p f = absurd (cc)
-    by true (Some Done) p f = absurd (cc)
+    by : (half : Half) (o : Option RollState) → phase_of w.set.rolls r ≡ o
+        → wait_in_phase r half (ttl_in half o) now w.set.keys ≡ Clear
+        → (ttl : ℕ) × (phase_of w.set.rolls r ≡ Some (cache_expire half ttl))
+        × IsOver r half (seen w) ttl now
+    by First (Some (CacheExpire1 ttl)) p f = (ttl, p, over r First ttl now w f)
+    by Second (Some (CacheExpire2 ttl)) p f = (ttl, p, over r Second ttl now w f)
+    by _ _ p f = absurd (cc)
+
+-- ---- a report
+
+pub spreads : (half : Half) (o : Option RollState) → report_refusal half o ≡ None
+    → o ≡ Some (propagation half)
+spreads First = spreads_first
+spreads Second = spreads_second

@@ -1,41 +1,43 @@
 -- The invariant of both sides together, and what one step does to its parts.
-use Rattle.std.proofs.Common.{◌≡◌, ℕ, suc, ◌≤◌, Bool, true, false, refl, sym}
-use Rattle.std.proofs.Common.{◌∙◌, ap, subst, List, length, Option, None, Some}
+use Rattle.std.proofs.Common.{inr, inl, ◌≡◌, ℕ, suc, ◌≤◌, Bool, true, false, refl, sym, ◌∙◌, ap}
+use Rattle.std.proofs.Common.{subst, List, length, Option, None, Some}
+use Rattle.std.proofs.lemmas.Bool.{cases_Bool, and_parts}
 use Rattle.std.specs.Prelude.{◌==◌}
-use Rattle.std.specs.Option.{option_map}
-use Rattle.std.proofs.lemmas.Bool.{and_parts}
 use Rattle.std.proofs.lemmas.Option.{same_Some, none-some}
 use Rattle.dnssec_key.specs.declared.roll.RollType.{RollType}
 use Rattle.dnssec_key.specs.declared.roll.RollState.{RollState}
 use Rattle.dnssec_key.specs.declared.roll.RollState.TheVariants.{Propagation1, Propagation2, Done}
-use Rattle.dnssec_key.specs.declared.kind.KeyType.{KeyType}
 use Rattle.dnssec_zone.specs.Rolls.{same_roll}
 use Rattle.dnssec_run.specs.declared.record.Mark.TheVariants.{Other, Step, Report}
-use Rattle.dnssec_run.specs.Published.{Id, in_ds}
+use Rattle.dnssec_run.specs.Published.{in_ds}
 use Rattle.dnssec_run.specs.Safe.{Ds, position_at, is_step}
-use Rattle.dnssec_zone.proofs.Flags.{SideOf, Keys, Zone, tolerates, Stage}
+use Rattle.dnssec_zone.proofs.Flags.{SideOf, Keys, Zone, Stage}
 use Rattle.dnssec_run.proofs.Chain.Tale.{Tale, World, Key, found, if_some, world_at, put_roll}
-use Rattle.dnssec_run.proofs.Chain.Tale.{rolled, report_key, waiting, spreading}
+use Rattle.dnssec_run.proofs.Chain.Tale.{rolled}
 use Rattle.dnssec_run.proofs.Chain.Flags.{in_use, in_other, in_keys}
 use Rattle.dnssec_run.proofs.Chain.Facts.{test-seen}
 use Rattle.dnssec_run.proofs.Chain.Rolls.{same-sym, put-same, put-other}
 use Rattle.dnssec_run.proofs.Chain.Places.{NoDs, no_ds-next, no_ds-now, shows_ds, found_map}
 use Rattle.dnssec_run.proofs.Chain.Places.{some_weaker}
 use Rattle.dnssec_run.proofs.Chain.Returns.{KeepsLists}
-use Rattle.dnssec_run.proofs.Chain.Invariant.{At, Alive, at-gentle}
+use Rattle.dnssec_run.proofs.Chain.Invariant.{At, Alive, Gentle, at-gentle}
 use Rattle.dnssec_run.proofs.Chain.Life.{Life, PassesAt, life-on}
-use Rattle.dnssec_run.proofs.Chain.OneKey.{Mapped}
+use Rattle.dnssec_run.proofs.Chain.OneKey.{Mapped, came}
 use Rattle.dnssec_run.proofs.Chain.Gentles.{gentle-report, gentle-done}
 use Rattle.dnssec_run.proofs.Chain.KeyCalls.{Kept, gentle_kept}
 use Rattle.dnssec_run.proofs.Chain.Phases.{Phases, PhaseOf, Told, Reads, Aside, phase-aside}
-use Rattle.dnssec_run.proofs.Chain.Phases.{aside-kept, aside-report, told-report, reads-report}
+use Rattle.dnssec_run.proofs.Chain.Phases.{aside-kept, aside-report, aside-done, told-report}
+use Rattle.dnssec_run.proofs.Chain.Phases.{reads-report}
 use Rattle.dnssec_keyset.proofs.Laws.{same-is}
+use Rattle.dnssec_key.specs.RollTable.{after_report, cache_expire, Half, First, Second}
+use Rattle.dnssec_run.specs.WholeRolls.{propagation, is_second}
+use Rattle.dnssec_zone.specs.Start.{together}
 
 -- ---- the invariant
 
 abbrev pub Pairs : Tale → ℕ → Type 0
 Pairs tale n = (r q : RollType) (o p : RollState) → (world_at tale n).roll r ≡ Some o
-    → (world_at tale n).roll q ≡ Some p → same_roll r q ≡ false → tolerates r q ≡ true
+    → (world_at tale n).roll q ≡ Some p → same_roll r q ≡ false → together r q ≡ true
 
 pub record Inv (tale : Tale) (n : ℕ) : Type 0 where
   pub ks : Stage
@@ -55,11 +57,6 @@ mapped tale n f r o e = record {
   rolls = λ q. ap (λ w. w.roll q) e;
 }
 
-map_less : (p : KeyType → Bool) (f : Key → Key) → ((k : Key) → p (f k).keytype ≡ p k.keytype)
-    → (o : Option Key) → if_some p (option_map f o) ≡ true → if_some p o ≡ true
-map_less p f h None e = e
-map_less p f h (Some k) e = sym (h k) ∙ e
-
 -- if a key is in use on the side of keys, the DS set has a key of the family
 pub born : (tale : Tale) (n : ℕ) → n ≤ length tale.es → Alive tale Keys n → NoDs tale n → ⊥
 born tale n le a d =
@@ -74,8 +71,7 @@ module _ (tale : Tale) (n : ℕ) (here : suc n ≤ length tale.es) where
       → ((q : List ℕ) (k : Key) → in_ds (f q k).keytype ≡ in_ds k.keytype) → NoDs tale n
       → NoDs tale (suc n)
   ds_less f r o m h = no_ds-next tale n here
-      (λ id e. map_less in_ds (f id.0) (h id.0) (found (world_at tale n) id)
-      (sym (ap (if_some in_ds) (m.founds id)) ∙ e))
+      (λ id. came m id in_ds in_ds (λ k a e. sym (h id.0 k) ∙ e))
 
   -- the rolls in progress after one roll moved on
   pub pairs-on : (r : RollType) (o p : RollState) → (world_at tale n).roll r ≡ Some o
@@ -103,22 +99,38 @@ module _ (tale : Tale) (n : ℕ) (here : suc n ≤ length tale.es) where
       ≡ put_roll (world_at tale n).roll r (Some p) q) → PhaseOf tale r p (suc n)
       → ((q : RollType) (x : RollState) → (world_at tale n).roll q ≡ Some x → same_roll r q ≡ false
       → Aside tale n q) → Phases tale n → Phases tale (suc n)
-  phases-on r p rolls this aside h q x e = at_same (same_roll r q) refl
-    where
-      at_same : (b : Bool) → same_roll r q ≡ b → PhaseOf tale q x (suc n)
-      at_same true t = let eq = same-is r q t in
-          let state : p ≡ x = same_Some p x
-          (sym (put-same (world_at tale n).roll r (Some p)) ∙ sym (rolls r)
-          ∙ ap (world_at tale (suc n)).roll eq ∙ e) in
-          subst (λ q. PhaseOf tale q x (suc n)) eq
-          (subst (λ x. PhaseOf tale r x (suc n)) state this)
-      at_same false t = let was : (world_at tale n).roll q ≡ Some x =
-          sym (put-other (world_at tale n).roll r (Some p) q t) ∙ sym (rolls q) ∙ e in
-          phase-aside tale n q x (aside q x was t) (h q x was)
+  phases-on r p rolls this aside h q x e = elim (cases_Bool (same_roll r q)) [
+    | inl t ↦ let eq = same-is r q t in
+        let state : p ≡ x = same_Some p x
+        (sym (put-same (world_at tale n).roll r (Some p)) ∙ sym (rolls r)
+        ∙ ap (world_at tale (suc n)).roll eq ∙ e) in
+        subst (λ q. PhaseOf tale q x (suc n)) eq
+        (subst (λ x. PhaseOf tale r x (suc n)) state this)
+    | inr t ↦ let was : (world_at tale n).roll q ≡ Some x =
+        sym (put-other (world_at tale n).roll r (Some p) q t) ∙ sym (rolls q) ∙ e in
+        phase-aside tale n q x (aside q x was t) (h q x was)
+  ]
 
   pub step_other : (r q : RollType) → same_roll r q ≡ false → (position_at tale.es (suc n)).mark
       ≡ Step r → is_step q (position_at tale.es (suc n)).mark ≡ false
   step_other r q d mark = ap (is_step q) mark ∙ same-sym q r ∙ d
+
+  -- a call that leaves both sides where they are
+  stay : (h : Inv tale n)
+      → ((sd : SideOf) (st : Stage) → At tale sd st n → Gentle tale sd st n)
+      → (PassesAt tale n → ⊥) → Pairs tale (suc n) → Phases tale (suc n) → Inv tale (suc n)
+  stay h g none pairs phases =
+      let gk = g Keys h.ks h.keys in
+      let gz = g Zone h.zs h.zone in
+      record {
+        ks = h.ks;
+        zs = h.zs;
+        keys = at-gentle tale n here Keys h.ks gk h.keys;
+        zone = at-gentle tale n here Zone h.zs gz h.zone;
+        pairs = pairs;
+        phases = phases;
+        life = life-on tale n here h.ks h.zs gk gz none h.life;
+      }
 
   -- a refusal, an add, a deletion
   pub calm : (v : World) → world_at tale (suc n) ≡ v → Kept (world_at tale n) v
@@ -128,96 +140,59 @@ module _ (tale : Tale) (n : ℕ) (here : suc n ≤ length tale.es) where
       let dead = no_ds-next tale n here
       (λ id f. k.fore in_ds (λ t x. (test-seen Keys Ds t x).1) id
       (sym (ap (λ w. if_some in_ds (found w id)) e) ∙ f)) in
-      let gk = gentle_kept tale n v e k mark dead lists Keys h.ks h.keys.rolls h.keys.flags in
-      let gz = gentle_kept tale n v e k mark dead lists Zone h.zs h.zone.rolls h.zone.flags in
       let same = λ (q : RollType). ap (λ w. w.roll q) e ∙ k.rolls q in
-      record {
-        ks = h.ks;
-        zs = h.zs;
-        keys = at-gentle tale n here Keys h.ks gk h.keys;
-        zone = at-gentle tale n here Zone h.zs gz h.zone;
-        pairs = λ r q o p ro qp d. h.pairs r q o p (sym (same r) ∙ ro) (sym (same q) ∙ qp) d;
-        phases = λ r p f. phase-aside tale n r p (aside-kept tale n v e k mark r)
-            (h.phases r p (sym (same r) ∙ f));
-        life = life-on tale n here h.ks h.zs gk gz none h.life;
-      }
+      stay h (λ sd st x. gentle_kept tale n v e k mark dead lists sd st x.rolls x.flags) none
+      (λ r q o p ro qp d. h.pairs r q o p (sym (same r) ∙ ro) (sym (same q) ∙ qp) d)
+      (λ r p f. phase-aside tale n r p (aside-kept tale n v e k mark r)
+      (h.phases r p (sym (same r) ∙ f)))
 
   -- a report
-  pub report : (r : RollType) (second : Bool) (ttl now : ℕ)
-      → Mapped tale n (λ q. report_key r second now) r (Some (waiting second ttl))
-      → (world_at tale n).roll r ≡ Some (spreading second)
-      → (position_at tale.es (suc n)).mark ≡ Report r second ttl
+  pub report : (r : RollType) (half : Half) (ttl now : ℕ)
+      → Mapped tale n (λ q. after_report r half now) r (Some (cache_expire half ttl))
+      → (world_at tale n).roll r ≡ Some (propagation half)
+      → (position_at tale.es (suc n)).mark ≡ Report r (is_second half) ttl
       → (position_at tale.es (suc n)).moment ≡ Some now → (PassesAt tale n → ⊥)
       → ((sd : SideOf) → KeepsLists tale sd n) → Inv tale n → Inv tale (suc n)
-  report r second ttl now m phase mark moment none lists h =
-      let dead = ds_less (λ q. report_key r second now) r (Some (waiting second ttl)) m
+  report r half ttl now m phase mark moment none lists h =
+      let dead = ds_less (λ q. after_report r half now) r (Some (cache_expire half ttl)) m
       (λ q k. refl) in
-      let gk = gentle-report tale n Keys h.ks h.keys.rolls h.keys.flags dead (lists Keys) r second
-      ttl now m phase mark in
-      let gz = gentle-report tale n Zone h.zs h.zone.rolls h.zone.flags dead (lists Zone) r second
-      ttl now m phase mark in
-      record {
-        ks = h.ks;
-        zs = h.zs;
-        keys = at-gentle tale n here Keys h.ks gk h.keys;
-        zone = at-gentle tale n here Zone h.zs gz h.zone;
-        pairs = pairs-on r (spreading second) (waiting second ttl) phase m.rolls h.pairs;
-        phases = phases-on r (waiting second ttl) m.rolls
-            (this second phase (told-report tale n r second ttl now m mark moment)
-            (reads-report tale n r second ttl now m))
-            (λ q x e d. aside-report tale n r second ttl now q m
-            (h.pairs r q (spreading second) x phase e d) (ap (is_step q) mark)) h.phases;
-        life = life-on tale n here h.ks h.zs gk gz none h.life;
-      }
+      stay h (λ sd st x. gentle-report tale n sd st x.rolls x.flags dead (lists sd) r half ttl now
+      m phase mark) none
+      (pairs-on r (propagation half) (cache_expire half ttl) phase m.rolls h.pairs)
+      (phases-on r (cache_expire half ttl) m.rolls
+      (this half phase (told-report tale n r half ttl now m mark moment)
+      (reads-report tale n r half ttl now m))
+      (λ q x e d. aside-report tale n r half ttl now q m
+      (h.pairs r q (propagation half) x phase e d) (ap (is_step q) mark)) h.phases)
     where
-      this : (second : Bool) → (world_at tale n).roll r ≡ Some (spreading second)
-          → Told tale r second (suc n) ttl → (Reads tale r second n → Reads tale r second (suc n))
-          → PhaseOf tale r (waiting second ttl) (suc n)
-      this false phase told reads = (reads (h.phases r Propagation1 phase), told)
-      this true phase told reads = (reads (h.phases r Propagation2 phase), told)
+      this : (half : Half) → (world_at tale n).roll r ≡ Some (propagation half)
+          → Told tale r half (suc n) ttl → (Reads tale r half n → Reads tale r half (suc n))
+          → PhaseOf tale r (cache_expire half ttl) (suc n)
+      this First phase told reads = (reads (h.phases r Propagation1 phase), told)
+      this Second phase told reads = (reads (h.phases r Propagation2 phase), told)
 
   -- the rolls in progress after one roll is out
   pub was-rolling : (r : RollType) → ((q : RollType) → (world_at tale (suc n)).roll q
       ≡ put_roll (world_at tale n).roll r None q) → (q : RollType) (x : RollState)
       → (world_at tale (suc n)).roll q ≡ Some x
       → (same_roll r q ≡ false) × ((world_at tale n).roll q ≡ Some x)
-  was-rolling r rolls q x e = at_same (same_roll r q) refl
-    where
-      at_same : (b : Bool) → same_roll r q ≡ b → (same_roll r q ≡ false)
-          × ((world_at tale n).roll q ≡ Some x)
-      at_same true t = absurd (none-some x
-          (sym (put-same (world_at tale n).roll r None) ∙ sym (rolls r)
-          ∙ ap (world_at tale (suc n)).roll (same-is r q t) ∙ e))
-      at_same false t = (t, sym (put-other (world_at tale n).roll r None q t) ∙ sym (rolls q) ∙ e)
+  was-rolling r rolls q x e = elim (cases_Bool (same_roll r q)) [
+    | inl t ↦ absurd (none-some x
+        (sym (put-same (world_at tale n).roll r None) ∙ sym (rolls r)
+        ∙ ap (world_at tale (suc n)).roll (same-is r q t) ∙ e))
+    | inr t ↦ (t, sym (put-other (world_at tale n).roll r None q t) ∙ sym (rolls q) ∙ e)
+  ]
 
   -- the end of a roll
-  pub done : (r : RollType) → ((q : List ℕ) → (world_at tale (suc n)).key q
-      ≡ (world_at tale n).key q) → ((id : Id) → found (world_at tale (suc n)) id
-      ≡ found (world_at tale n) id)
-      → ((q : RollType) → (world_at tale (suc n)).roll q ≡ put_roll (world_at tale n).roll r None q)
+  pub done : (r : RollType) → Mapped tale n (λ q k. k) r None
       → (world_at tale n).roll r ≡ Some Done
       → (position_at tale.es (suc n)).mark ≡ Other → (PassesAt tale n → ⊥)
       → ((sd : SideOf) → KeepsLists tale sd n) → Inv tale n → Inv tale (suc n)
-  done r keys same rolls phase mark none lists h =
-      let dead = no_ds-next tale n here (λ id e. sym (ap (if_some in_ds) (same id)) ∙ e) in
-      let gk = gentle-done tale n Keys h.ks h.keys.rolls h.keys.flags dead (lists Keys) r same rolls
-      phase mark in
-      let gz = gentle-done tale n Zone h.zs h.zone.rolls h.zone.flags dead (lists Zone) r same rolls
-      phase mark in
-      record {
-        ks = h.ks;
-        zs = h.zs;
-        keys = at-gentle tale n here Keys h.ks gk h.keys;
-        zone = at-gentle tale n here Zone h.zs gz h.zone;
-        pairs = λ a b x y ax by d. h.pairs a b x y (was-rolling r rolls a x ax).1
-            (was-rolling r rolls b y by).1 d;
-        phases = λ q x e. phase-aside tale n q x
-            (record {
-              back = λ second id f. ap (if_some _) (same id) ∙ f;
-              keys =
-                  λ t j f l b. (j, sym (keys t) ∙ f, refl, λ s. refl);
-              no_step = ap (is_step q) mark;
-            })
-            (h.phases q x (was-rolling r rolls q x e).1);
-        life = life-on tale n here h.ks h.zs gk gz none h.life;
-      }
+  done r m phase mark none lists h =
+      let dead = ds_less (λ q k. k) r None m (λ q k. refl) in
+      stay h (λ sd st x. gentle-done tale n sd st x.rolls x.flags dead (lists sd) r m phase mark)
+      none
+      (λ a b x y ax by d. h.pairs a b x y (was-rolling r m.rolls a x ax).1
+      (was-rolling r m.rolls b y by).1 d)
+      (λ q x e. phase-aside tale n q x (aside-done tale n r q m (ap (is_step q) mark))
+      (h.phases q x (was-rolling r m.rolls q x e).1))

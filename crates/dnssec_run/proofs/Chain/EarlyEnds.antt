@@ -2,7 +2,7 @@
 use Rattle.dnssec_zone.proofs.Tests.{each_key, each_key-at, ◌⇒◌, mp, and-both, each_listed}
 use Rattle.dnssec_zone.proofs.Tests.{each_listed-at}
 use Rattle.dnssec_zone.proofs.Flags.{SideOf, Keys, Zone, affects, fits, Quiet, has_role, is_idle}
-use Rattle.dnssec_zone.proofs.Flags.{may_list, may_start, started, ended, tied, Stage, each_stage}
+use Rattle.dnssec_zone.proofs.Flags.{may_list, may_start, started, ended, tied, Stage}
 use Rattle.dnssec_zone.proofs.Flags.{each_stage-at}
 use Rattle.dnssec_keyset.proofs.Sides.{after_early_end-others}
 use Rattle.std.proofs.Common.{◌≡◌, Bool, true, false, not, ◌&&◌, refl, sym, ◌∙◌, ap}
@@ -13,11 +13,12 @@ use Rattle.dnssec_key.specs.declared.kind.KeyType.TheVariants.{Csk}
 use Rattle.dnssec_key.specs.State.{is_kept}
 use Rattle.dnssec_key.specs.Key.{all_states}
 use Rattle.dnssec_key.specs.RollTable.{column}
-use Rattle.dnssec_run.specs.Safe.{SetKind, Ds, Dnskey, ZoneSigners}
+use Rattle.dnssec_run.specs.Safe.{SetKind, Ds}
 use Rattle.dnssec_run.proofs.Chain.Tale.{Key, early-end-parts}
 use Rattle.dnssec_run.proofs.Chain.Flags.{test_of, in_use}
 use Rattle.dnssec_run.proofs.Chain.Facts.{Seen, test-seen, use-seen}
 use Rattle.dnssec_run.proofs.Chain.Kinds.{same_role, same_list, number_ended}
+use Rattle.dnssec_run.proofs.Chain.Tables.{side_listed-at}
 
 -- ---- after a start
 
@@ -33,93 +34,65 @@ is_tied _ = true
 tied_table : Stage → KeyType → Bool
 tied_table st k = fits Zone st k ⇒ is_tied k
 
-tied_all : (a b : Bool) → each_stage (λ st. each_key a b (tied_table st)) ≡ true
-unfolding tied_table
-tied_all a b = refl
-
 pub fits-tied : (st : Stage) (k : KeyType) → fits Zone st k ≡ true → is_tied k ≡ true
 unfolding tied_table
 fits-tied st k = mp _ _ (each_key-at (tied_table st)
-    (λ a b. each_stage-at (λ st. each_key a b (tied_table st)) (tied_all a b) st) k)
+    (λ a b. each_stage-at (λ st. each_key a b (tied_table st)) refl st) k)
 
 back_table : SideOf → RollType → Bool → Bool → KeyType → Bool
 back_table sd r o i k = (affects sd r && (may_start r o i k && fits sd Quiet k && is_tied k)) ⇒
     (fits sd Quiet (there_and_back r o i k)
     && (in_use sd k ⇒ in_use sd (there_and_back r o i k)))
 
-back_all : (sd : SideOf) (a b : Bool) → each_listed a b (back_table sd) ≡ true
-unfolding back_table column
-back_all Keys a b = refl
-back_all Zone a b = refl
-
 pub back-fits : (sd : SideOf) (r : RollType) (o i : Bool) (k : KeyType) → affects sd r ≡ true
     → may_start r o i k ≡ true → fits sd Quiet k ≡ true → is_tied k ≡ true
     → (fits sd Quiet (there_and_back r o i k) ≡ true)
     × (in_use sd k ≡ true → in_use sd (there_and_back r o i k) ≡ true)
-unfolding back_table
+unfolding back_table column
 back-fits sd r o i k own may fit both_in =
-    let x = and_parts _ _ (mp _ _ (each_listed-at (back_table sd) (back_all sd) r o i k)
+    let x = and_parts _ _ (mp _ _ (side_listed-at back_table (λ a b. refl) (λ a b. refl) sd r o i k)
     (and-both _ _ own (and-both _ _ (and-both _ _ may fit) both_in))) in
     (x.0, mp _ _ x.1)
 
 set_table : SideOf → SetKind → RollType → Bool → Bool → KeyType → Bool
-set_table sd kind r o i k = may_start r o i k
-    ⇒ (test_of sd kind (there_and_back r o i k) ⇒ test_of sd kind k)
+set_table sd kind r o i k =
+    (may_start r o i k ⇒ (test_of sd kind (there_and_back r o i k) ⇒ test_of sd kind k))
+    && (test_of sd kind (ended r o i k) ⇒ test_of sd kind k)
 
 set_all : (sd : SideOf) (kind : SetKind) (a b : Bool)
     → each_listed a b (set_table sd kind) ≡ true
 unfolding set_table column
 set_all Keys Ds a b = refl
-set_all Keys Dnskey a b = refl
-set_all Keys ZoneSigners a b = refl
 set_all Zone Ds a b = refl
-set_all Zone Dnskey a b = refl
-set_all Zone ZoneSigners a b = refl
+set_all _ _ a b = refl
 
 -- it is in no set that it wasn't in
 pub back-set : (sd : SideOf) (kind : SetKind) (r : RollType) (o i : Bool) (k : KeyType)
     → may_start r o i k ≡ true → test_of sd kind (there_and_back r o i k) ≡ true
     → test_of sd kind k ≡ true
 unfolding set_table
-back-set sd kind r o i k may h = mp _ _
-    (mp _ _ (each_listed-at (set_table sd kind) (set_all sd kind) r o i k) may) h
+back-set sd kind r o i k may h = mp _ _ (mp _ _
+    (and_parts _ _ (each_listed-at (set_table sd kind) (set_all sd kind) r o i k)).0 may) h
 
--- ---- of any key
-
-less_table : SideOf → SetKind → RollType → Bool → Bool → KeyType → Bool
-less_table sd kind r o i k = test_of sd kind (ended r o i k) ⇒ test_of sd kind k
-
-less_all : (sd : SideOf) (kind : SetKind) (a b : Bool)
-    → each_listed a b (less_table sd kind) ≡ true
-unfolding less_table column
-less_all Keys Ds a b = refl
-less_all Keys Dnskey a b = refl
-less_all Keys ZoneSigners a b = refl
-less_all Zone Ds a b = refl
-less_all Zone Dnskey a b = refl
-less_all Zone ZoneSigners a b = refl
-
--- an early end takes keys out of the sets, and puts none in
+-- an early end takes any key out of the sets, and puts none in
 pub ended-less : (sd : SideOf) (kind : SetKind) (r : RollType) (o i : Bool) (k : KeyType)
     → test_of sd kind (ended r o i k) ≡ true → test_of sd kind k ≡ true
-unfolding less_table
-ended-less sd kind r o i k = mp _ _ (each_listed-at (less_table sd kind) (less_all sd kind) r o i k)
+unfolding set_table
+ended-less sd kind r o i k = mp _ _
+    (and_parts _ _ (each_listed-at (set_table sd kind) (set_all sd kind) r o i k)).1
+
+-- ---- of any key
 
 use_table : SideOf → RollType → Bool → Bool → KeyType → Bool
 use_table sd r o i k = (in_use sd (ended r o i k) ⇒ in_use sd k)
     && (not (has_role sd k && not (is_idle k)) ⇒ fits sd Quiet (ended r o i k))
 
-use_all : (sd : SideOf) (a b : Bool) → each_listed a b (use_table sd) ≡ true
-unfolding use_table column
-use_all Keys a b = refl
-use_all Zone a b = refl
-
 use_facts : (sd : SideOf) (r : RollType) (o i : Bool) (k : KeyType)
     → (in_use sd (ended r o i k) ≡ true → in_use sd k ≡ true)
     × ((has_role sd k && not (is_idle k)) ≡ false → fits sd Quiet (ended r o i k) ≡ true)
-unfolding use_table
+unfolding use_table column
 use_facts sd r o i k =
-    let x = and_parts _ _ (each_listed-at (use_table sd) (use_all sd) r o i k) in
+    let x = and_parts _ _ (side_listed-at use_table (λ a b. refl) (λ a b. refl) sd r o i k) in
     (mp _ _ x.0, λ e. mp _ _ x.1 (ap not e))
 
 -- a key that the side doesn't see, or that is idle, fits the side at rest

@@ -1,41 +1,36 @@
 -- What a start makes of a family of keys: of all keys, by what it has to leave; of those of one
 -- algorithm, if it keeps the sets whole.
-use Rattle.std.proofs.Common.{◌≡◌, ℕ, suc, ◌≤◌, ◌⊎◌, inl, inr, Bool, true, false, ◌&&◌, ◌||◌}
-use Rattle.std.proofs.Common.{refl, sym, ◌∙◌, ap, subst, arith, List, length, Option, None, Some}
+use Rattle.std.proofs.lemmas.Bool.{cases_Bool, true≢false, and_parts}
+use Rattle.std.proofs.Common.{◌≡◌, ℕ, suc, ◌≤◌, ◌⊎◌, inl, inr, Bool, true, false, ◌&&◌, refl, sym}
+use Rattle.std.proofs.Common.{◌∙◌, ap, subst, arith, List, length, Option, None, Some}
 use Rattle.std.specs.Prelude.{nat_eq}
 use Rattle.std.specs.Option.{option_map}
-use Rattle.std.proofs.lemmas.Bool.{true≢false, and_parts}
 use Rattle.std.proofs.lemmas.Bool.Decides.{nat_tests}
 use Rattle.dnssec_key.specs.declared.roll.RollType.{RollType}
-use Rattle.dnssec_key.specs.declared.roll.RollType.TheVariants.{KskRoll, KskDoubleDsRoll, ZskRoll}
-use Rattle.dnssec_key.specs.declared.roll.RollType.TheVariants.{ZskDoubleSignatureRoll, CskRoll}
 use Rattle.dnssec_key.specs.declared.roll.RollType.TheVariants.{AlgorithmRoll}
 use Rattle.dnssec_key.specs.declared.roll.RollState.TheVariants.{Propagation1}
 use Rattle.dnssec_key.specs.declared.kind.KeyType.{KeyType}
 use Rattle.dnssec_zone.specs.Keys.{some_key}
-use Rattle.dnssec_zone.specs.Start.{may_change_algorithms}
+use Rattle.dnssec_zone.specs.Start.{may_change_algorithms, serves_as_new, serves_as_kept, is_listed}
 use Rattle.dnssec_zone.proofs.Quantified.{some_key-found, some_key-none}
 use Rattle.dnssec_zone.proofs.Tests.{and-both, or_second}
-use Rattle.dnssec_zone.proofs.Flags.{SideOf, Keys, Zone, affects, Quiet, Early, fits}
-use Rattle.dnssec_zone.proofs.Flags.{started}
-use Rattle.dnssec_run.specs.ByAlgorithm.{KeepsWhole, HasKeyOf, keeps_ksk, keeps_zsk}
-use Rattle.dnssec_run.specs.ByAlgorithm.{algorithm_at, algorithm_of}
+use Rattle.dnssec_zone.proofs.Flags.{SideOf, Keys, Zone, affects, Quiet, Early, fits, started}
+use Rattle.dnssec_run.specs.ByAlgorithm.{KeepsWhole, HasKeyOf, keeps_ksk, keeps_zsk, algorithm_at}
+use Rattle.dnssec_run.specs.ByAlgorithm.{algorithm_of}
 use Rattle.dnssec_run.specs.Plain.{needs_algorithm_roll}
 use Rattle.dnssec_run.specs.Published.{Id}
 use Rattle.dnssec_run.proofs.Premise.{DoesAt, start_of, start-told}
-use Rattle.dnssec_run.proofs.Chain.Tables.{serves_new, serves_kept}
-use Rattle.dnssec_run.proofs.Chain.Tale.{Tale, Key, found, if_some, world_at, start_key}
-use Rattle.dnssec_run.proofs.Chain.Tale.{is_listed, CanStart}
+use Rattle.dnssec_run.proofs.Chain.Tale.{Tale, Key, found, if_some, world_at, start_key, CanStart}
 use Rattle.dnssec_run.proofs.Chain.Flags.{in_use, remains, start_facts}
-use Rattle.dnssec_run.proofs.Chain.Keeping.{AtStart, at_start, before_first, engaged}
-use Rattle.dnssec_run.proofs.Chain.Keeping.{of_key, zone-remains}
+use Rattle.dnssec_run.proofs.Chain.Keeping.{at_start, before_first, engaged, of_key, zone-remains}
 use Rattle.dnssec_run.proofs.Chain.Places.{all_ok, found_key, found_now, real, some_key as a_key}
 use Rattle.dnssec_run.proofs.Chain.Places.{some_of}
 use Rattle.dnssec_run.proofs.Chain.Invariant.{Alive, Has, HasNo, Left}
-use Rattle.dnssec_run.proofs.Chain.OneKey.{Mapped, may_at, may_there, start-fit, suits}
+use Rattle.dnssec_run.proofs.Chain.OneKey.{Mapped, may_there, of_found, stands, suits}
 use Rattle.dnssec_run.proofs.Chain.RollFacts.{first_or}
-use Rattle.dnssec_run.proofs.Chain.Life.{Fades, Goes, Law, Unpassed}
+use Rattle.dnssec_run.proofs.Chain.Life.{Fades, Goes, Law}
 use Rattle.dnssec_run.proofs.Chain.Algorithms.{has-algorithm}
+use Rattle.dnssec_run.proofs.Chain.Tables.{want_on}
 
 -- ---- all keys
 
@@ -56,10 +51,11 @@ module _ (tale : Tale) (whole : tale.whole ≡ true) (n : ℕ) (r : RollType) (n
         id,
         ap (if_some (remains sd r)) (m.founds id
             ∙ ap (option_map (start_key r now old new s.0)) at_key)
-            ∙ (start_facts sd r (is_listed s.0 old) (is_listed s.0 new) s.1.keytype own
+            ∙ (start_facts sd r (is_listed old s.0) (is_listed new s.0) s.1.keytype own
             (may_there r (world_at tale n) old new can s.0 s.1 s.2) fit_key).some
-            (suits (is_listed s.0 old) (is_listed s.0 new) (serves_new sd r s.1.keytype)
-            (serves_kept sd r s.1.keytype) s.3),
+            (suits (is_listed old s.0) (is_listed new s.0)
+            (serves_as_new (want_on sd r) s.1.keytype)
+            (serves_as_kept (want_on sd r) s.1.keytype) s.3),
         tale.all whole id,
       )
 
@@ -67,20 +63,15 @@ module _ (tale : Tale) (whole : tale.whole ≡ true) (n : ℕ) (r : RollType) (n
   whole_goes starts = record {
     keys = λ own a. inl (suitable-left Keys own);
     zone = λ own h. suitable-left Zone own;
-    absent = λ own passed lacks. by (needs_algorithm_roll r) refl own passed;
-  }
-    where
-      by : (b : Bool) → needs_algorithm_roll r ≡ b → affects Keys r ≡ true
-          → (tale.whole ≡ true → Unpassed tale n) → HasNo tale engaged (suc n)
-          ⊎ ((r ≡ AlgorithmRoll) × Left tale Keys (Early r) (suc n)
-          × Left tale Zone (Early r) (suc n))
-      by true w own passed = let x = tale.plain.first n r w starts in
-          absurd (passed whole x.0 x.1 x.2)
-      by false w own passed = elim (first_or r w) [
+    absent = λ own passed lacks. elim (cases_Bool (needs_algorithm_roll r)) [
+      | inl w ↦ let x = tale.plain.first n r w starts in absurd (passed whole x.0 x.1 x.2)
+      | inr w ↦ elim (first_or r w) [
         | inl first ↦ inr
             (first, suitable-left Keys own, suitable-left Zone (ap (affects Zone) first))
         | inr out ↦ absurd (true≢false (sym own ∙ out))
       ]
+    ];
+  }
 
 pub whole-law : (tale : Tale) → tale.whole ≡ true → Law tale
 whole-law tale whole n here r now old new m can starts flags =
@@ -103,12 +94,8 @@ pub number_same : (m n : ℕ) → m ≡ n → nat_eq m n ≡ true
 number_same m n e = grind (arith, nat_tests)
 
 changes_first : (r : RollType) → may_change_algorithms r ≡ true → r ≡ AlgorithmRoll
-changes_first KskRoll e = absurd (true≢false (sym e))
-changes_first KskDoubleDsRoll e = absurd (true≢false (sym e))
-changes_first ZskRoll e = absurd (true≢false (sym e))
-changes_first ZskDoubleSignatureRoll e = absurd (true≢false (sym e))
-changes_first CskRoll e = absurd (true≢false (sym e))
 changes_first AlgorithmRoll e = refl
+changes_first _ e = absurd (true≢false (sym e))
 
 module _ (all : Tale) (a : ℕ) where
   abbrev tale : Tale
@@ -142,21 +129,17 @@ module _ (all : Tale) (a : ℕ) where
   )
 
   decide : (p : KeyType → Bool) (n : ℕ) → n ≤ length all.es → Has tale p n ⊎ HasNo tale p n
-  decide p n le = by (some_key (λ k. p k.keytype && nat_eq k.algorithm a) (real all n).set.keys)
-      refl
-    where
-      by : (b : Bool) → some_key (λ k. p k.keytype && nat_eq k.algorithm a) (real all n).set.keys
-          ≡ b → Has tale p n ⊎ HasNo tale p n
-      by true t =
-          let h = some_key-found (λ k. p k.keytype && nat_eq k.algorithm a)
-          (real all n).set.keys t in
-          let x = and_parts _ _ h.3 in
-          inl (has_of p n le (h.0, h.1, h.2, x.0, same_number _ a x.1))
-      by false t = inr (λ id o e.
-          let h = of_has p n le (id, e, o) in
-          true≢false (sym (and-both _ _ h.3 (number_same _ a h.4))
-          ∙ some_key-none (λ k. p k.keytype && nat_eq k.algorithm a) (real all n).set.keys
-          h.0 h.1 t h.2))
+  decide p n le =
+      let test = λ (k : Key). p k.keytype && nat_eq k.algorithm a in
+      elim (cases_Bool (some_key test (real all n).set.keys)) [
+        | inl t ↦ let h = some_key-found test (real all n).set.keys t in
+            let x = and_parts _ _ h.3 in
+            inl (has_of p n le (h.0, h.1, h.2, x.0, same_number _ a x.1))
+        | inr t ↦ inr (λ id o e.
+            let h = of_has p n le (id, e, o) in
+            true≢false (sym (and-both _ _ h.3 (number_same _ a h.4))
+            ∙ some_key-none test (real all n).set.keys h.0 h.1 t h.2))
+      ]
 
   module _ (keeps : KeepsWhole all.name all.calls all.es) (n : ℕ) (here : suc n ≤ length all.es)
       (r : RollType) (now : ℕ) (old new : List (List ℕ))
@@ -166,9 +149,10 @@ module _ (all : Tale) (a : ℕ) where
       → all_ok (fits sd Quiet) (found (world_at tale n) id) ≡ true) where
     new_flags : (sd : SideOf) → affects sd r ≡ true → (id : Id)
         → all_ok (fits sd (Early r)) (found (world_at tale (suc n)) id) ≡ true
-    new_flags sd own id = ap (all_ok (fits sd (Early r))) (m.founds id)
-        ∙ start-fit sd r own now old new id.0 (found (world_at tale n) id)
-        (may_at r (world_at tale n) old new can id) (flags sd own id)
+    new_flags sd own id = stands m id (fits sd (Early r))
+        (λ k e. (start_facts sd r (is_listed old id.0) (is_listed new id.0) k.keytype own
+        (may_there r (world_at tale n) old new can id.0 k (found_key (world_at tale n) id k e).0)
+        (of_found (fits sd Quiet) _ k e (flags sd own id))).fit)
 
     keys_left : affects Keys r ≡ true → Has tale keeps_ksk (suc n)
         → Left tale Keys (Early r) (suc n)
@@ -211,16 +195,14 @@ module _ (all : Tale) (a : ℕ) where
         by (Some k) f =
             let then = m.founds id ∙ ap (option_map (start_key r now old new id.0)) f in
             let key = (found_key (world_at tale n) id k f).0 in
-            at_key then (at_start r (is_listed id.0 old) (is_listed id.0 new) k.keytype
-            (may_there r (world_at tale n) old new can id.0 k key)) (engaged k.keytype) refl
-          where
-            at_key : found (world_at tale (suc n)) id ≡ Some (start_key r now old new id.0 k)
-                → AtStart r (is_listed id.0 old) (is_listed id.0 new) k.keytype
-                → (b : Bool) → engaged k.keytype ≡ b → ⊥
-            at_key then s true t = lacks id o (ap (if_some engaged) f ∙ t)
-            at_key then s false t = none id o (ap (if_some keeps_ksk) then ∙ s.engages own
-                (sym (ap (all_ok (fits Keys Quiet)) f) ∙ flags Keys own id)
-                (sym (ap (if_some engaged) then) ∙ e) t)
+            let s = at_start r (is_listed old id.0) (is_listed new id.0) k.keytype
+            (may_there r (world_at tale n) old new can id.0 k key) in
+            elim (cases_Bool (engaged k.keytype)) [
+              | inl t ↦ lacks id o (ap (if_some engaged) f ∙ t)
+              | inr t ↦ none id o (ap (if_some keeps_ksk) then ∙ s.engages own
+                  (sym (ap (all_ok (fits Keys Quiet)) f) ∙ flags Keys own id)
+                  (sym (ap (if_some engaged) then) ∙ e) t)
+            ]
 
     -- where all KSK roles get old, a new key takes over on the side of the zone
     takes_over : affects Keys r ≡ true → may_change_algorithms r ≡ false → Alive tale Keys n
@@ -228,58 +210,37 @@ module _ (all : Tale) (a : ℕ) where
     takes_over own free alive none =
         let k = a_key (in_use Keys) (found (world_at tale n) alive.0) alive.1 in
         let key = found_key (world_at tale n) alive.0 k.0 k.1 in
-        by k.0 k.1 key.0 k.2 (is_listed alive.0.0 old) refl
-        (sym (has-algorithm all n (omega (arith, here)) alive.0.0 k.0 key.0)
-        ∙ ap (algorithm_at all.calls) key.1 ∙ same_number _ a alive.2)
+        let same : k.0.algorithm ≡ a =
+        sym (has-algorithm all n (omega (arith, here)) alive.0.0 k.0 key.0)
+        ∙ ap (algorithm_at all.calls) key.1 ∙ same_number _ a alive.2 in
+        elim (cases_Bool (is_listed old alive.0.0)) [
+          | inl l ↦ let x = can.algorithms free alive.0.0 k.0 key.0 l in
+              new_key x.0 x.1 x.2 x.3 (x.4 ∙ same)
+          | inr l ↦ absurd (none alive.0 alive.2
+              (ap (if_some keeps_ksk) (m.founds alive.0
+              ∙ ap (option_map (start_key r now old new alive.0.0)) k.1)
+              ∙ (at_start r (is_listed old alive.0.0) (is_listed new alive.0.0) k.0.keytype
+              (may_there r (world_at tale n) old new can alive.0.0 k.0 key.0)).keeps own
+              (sym (ap (all_ok (fits Keys Quiet)) k.1) ∙ flags Keys own alive.0) k.2 l))
+        ]
       where
         new_key : (x : List ℕ) (j : Key) → (world_at tale n).key x ≡ Some j
-            → is_listed x new ≡ true → j.algorithm ≡ a
+            → is_listed new x ≡ true → j.algorithm ≡ a
             → (affects Zone r ≡ true) × Left tale Zone (Early r) (suc n)
         new_key x j at l same =
             let id : Id = (x, (world_at tale n).added x) in
             let o = family_id n (omega (arith, here)) x j at same in
             let then = m.founds id ∙ ap (option_map (start_key r now old new x))
             (found_now (world_at tale n) x ∙ at) in
-            let either = (at_start r (is_listed x old) (is_listed x new) j.keytype
+            let either = (at_start r (is_listed old x) (is_listed new x) j.keytype
             (may_there r (world_at tale n) old new can x j at)).new free l in
-            on_side then o (affects Keys r && remains Keys r
-            (started r (is_listed x old) (is_listed x new) j.keytype)) refl either
-          where
-            on_side : found (world_at tale (suc n)) (x, (world_at tale n).added x)
-                ≡ Some (start_key r now old new x j)
-                → tale.of (x, (world_at tale n).added x) ≡ true → (b : Bool)
-                → (affects Keys r && remains Keys r
-                (started r (is_listed x old) (is_listed x new) j.keytype)) ≡ b
-                → ((affects Keys r && remains Keys r
-                (started r (is_listed x old) (is_listed x new) j.keytype))
-                || (affects Zone r && remains Zone r
-                (started r (is_listed x old) (is_listed x new) j.keytype))) ≡ true
-                → (affects Zone r ≡ true) × Left tale Zone (Early r) (suc n)
-            on_side then o true t either = absurd (none_remains own none
-                (x, (world_at tale n).added x) o
-                (ap (if_some (remains Keys r)) then ∙ (and_parts _ _ t).1))
-            on_side then o false t either = let z = and_parts _ _ (or_second _ _ either t) in (
-              z.0,
-              (
-                (x, (world_at tale n).added x),
-                ap (if_some (remains Zone r)) then ∙ z.1,
-                o,
-              ),
-            )
-
-        by : (k : Key) → found (world_at tale n) alive.0 ≡ Some k
-            → (world_at tale n).key alive.0.0 ≡ Some k → in_use Keys k.keytype ≡ true → (b : Bool)
-            → is_listed alive.0.0 old ≡ b → k.algorithm ≡ a
-            → (affects Zone r ≡ true) × Left tale Zone (Early r) (suc n)
-        by k f key used true l same =
-            let x = can.algorithms free alive.0.0 k key l in
-            new_key x.0 x.1 x.2 x.3 (x.4 ∙ same)
-        by k f key used false l same = absurd (none alive.0 alive.2
-            (ap (if_some keeps_ksk) (m.founds alive.0
-            ∙ ap (option_map (start_key r now old new alive.0.0)) f)
-            ∙ (at_start r (is_listed alive.0.0 old) (is_listed alive.0.0 new) k.keytype
-            (may_there r (world_at tale n) old new can alive.0.0 k key)).keeps own
-            (sym (ap (all_ok (fits Keys Quiet)) f) ∙ flags Keys own alive.0) used l))
+            elim (cases_Bool (affects Keys r && remains Keys r
+            (started r (is_listed old x) (is_listed new x) j.keytype))) [
+              | inl t ↦ absurd (none_remains own none id o
+                  (ap (if_some (remains Keys r)) then ∙ (and_parts _ _ t).1))
+              | inr t ↦ let z = and_parts _ _ (or_second _ _ either t) in
+                  (z.0, (id, ap (if_some (remains Zone r)) then ∙ z.1, o))
+            ]
 
     fades : affects Keys r ≡ true → Alive tale Keys n → HasNo tale keeps_ksk (suc n) → (b : Bool)
         → may_change_algorithms r ≡ b → Fades tale (suc n) r

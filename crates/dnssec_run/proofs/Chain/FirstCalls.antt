@@ -1,7 +1,9 @@
 -- A start keeps the invariant of both sides.
+use Rattle.std.proofs.lemmas.Bool.{cases_Bool, true≢false, true_from_ne_false}
+use Rattle.dnssec_run.proofs.Chain.RollFacts.{some_side, both_clash, still_ds, together-sym}
+use Rattle.dnssec_run.proofs.Chain.RollFacts.{zone_free}
 use Rattle.std.proofs.Common.{◌≡◌, ◌&&◌, ℕ, suc, ◌≤◌, ◌⊎◌, inl, inr, Bool, true, false, refl, sym}
 use Rattle.std.proofs.Common.{◌∙◌, ap, subst, arith, List, length, Option, None, Some, not}
-use Rattle.std.proofs.lemmas.Bool.{true≢false, true_from_ne_false}
 use Rattle.std.proofs.lemmas.Option.{none-some}
 use Rattle.dnssec_key.specs.declared.roll.RollType.{RollType}
 use Rattle.dnssec_key.specs.declared.roll.RollType.TheVariants.{AlgorithmRoll}
@@ -14,9 +16,8 @@ use Rattle.dnssec_run.specs.Published.{Id}
 use Rattle.dnssec_run.specs.Safe.{position_at}
 use Rattle.dnssec_run.specs.Plain.{needs_algorithm_roll}
 use Rattle.dnssec_run.proofs.Premise.{DoesAt, start_of}
-use Rattle.dnssec_zone.proofs.Flags.{SideOf, Keys, Zone, affects, tolerates, Stage, Quiet, Early}
-use Rattle.dnssec_zone.proofs.Flags.{Late, fits}
-use Rattle.dnssec_run.proofs.Chain.Tale.{Tale, Key, found, world_at, start_key, is_listed, CanStart}
+use Rattle.dnssec_zone.proofs.Flags.{SideOf, Keys, Zone, affects, Stage, Quiet, Early, Late, fits}
+use Rattle.dnssec_run.proofs.Chain.Tale.{Tale, Key, found, world_at, start_key, CanStart}
 use Rattle.dnssec_run.proofs.Chain.Facts.{timer, timer-affects}
 use Rattle.dnssec_run.proofs.Chain.Keeping.{engaged, engaged-seen}
 use Rattle.dnssec_run.proofs.Chain.Rolls.{stage_fits, same-same, stage_quiet, put-other, clash}
@@ -29,11 +30,11 @@ use Rattle.dnssec_run.proofs.Chain.OneKey.{Mapped, may_at}
 use Rattle.dnssec_run.proofs.Chain.Steps.{at-start, alive-start}
 use Rattle.dnssec_run.proofs.Chain.Gentles.{gentle-start}
 use Rattle.dnssec_run.proofs.Chain.Phases.{Phases, aside-start, reads-start}
-use Rattle.dnssec_run.proofs.Chain.RollFacts.{both_clash, still_ds, tolerates-sym, zone_free}
 use Rattle.dnssec_run.proofs.Chain.Life.{Comes, Goes, Law, Life, PassesAt, Unpassed, lasts-keeps}
 use Rattle.dnssec_run.proofs.Chain.Life.{unpassed-next, without-engaged}
 use Rattle.dnssec_run.proofs.Chain.BothSides.{Inv, Pairs, born, ds_less, phases-on, step_other}
 use Rattle.dnssec_keyset.proofs.Laws.{same-is}
+use Rattle.dnssec_zone.specs.Start.{together, is_listed}
 
 -- what a side is after a call of r that takes it to `to`, if the roll affects it
 abbrev pub Moved : Tale → SideOf → RollType → Stage → Stage → ℕ → Type 0
@@ -46,17 +47,65 @@ module _ (tale : Tale) (n : ℕ) (sd : SideOf) (r : RollType) (st to : Stage) wh
   pub lasts-to : (x : Moved tale sd r st to n)
       → (affects sd r ≡ true → Lasts tale sd to (suc n))
       → (affects sd r ≡ false → Lasts tale sd st (suc n)) → Lasts tale sd x.0 (suc n)
-  lasts-to x goes stays = by (affects sd r) refl
-    where
-      by : (b : Bool) → affects sd r ≡ b → Lasts tale sd x.0 (suc n)
-      by true own = subst (λ s. Lasts tale sd s (suc n)) (sym (x.2 own)) (goes own)
-      by false out = subst (λ s. Lasts tale sd s (suc n)) (sym (x.3 out)) (stays out)
+  lasts-to x goes stays = elim (cases_Bool (affects sd r)) [
+    | inl own ↦ subst (λ s. Lasts tale sd s (suc n)) (sym (x.2 own)) (goes own)
+    | inr out ↦ subst (λ s. Lasts tale sd s (suc n)) (sym (x.3 out)) (stays out)
+  ]
 
   pub goes-on : affects sd r ≡ true → At tale sd to (suc n) → Moved tale sd r st to n
   goes-on own h = (to, h, λ e. refl, λ e. absurd (true≢false (sym own ∙ e)))
 
   pub stays-put : affects sd r ≡ false → At tale sd st (suc n) → Moved tale sd r st to n
   stays-put out h = (st, h, λ e. absurd (true≢false (sym e ∙ out)), λ e. refl)
+
+-- a call of r, that takes each of its sides from one stage to another
+module _ (tale : Tale) (n : ℕ) (here : suc n ≤ length tale.es) (r : RollType) where
+  -- a side after it: what it gives if the side is one of the roll's, or that it leaves it alone
+  abbrev pub Sided : SideOf → Stage → Stage → Type 0 → Type 0
+  Sided sd st to X = (moved : Moved tale sd r st to n) × (affects sd r ≡ true → X)
+      × (affects sd r ≡ false → Gentle tale sd st n)
+
+  pub sided : (sd : SideOf) (st to : Stage) (X : Type 0) → At tale sd st n
+      → (affects sd r ≡ true → At tale sd to (suc n) × X)
+      → (affects sd r ≡ false → Gentle tale sd st n) → Sided sd st to X
+  sided sd st to X h goes stays = by (affects sd r) refl
+    where
+      by : (b : Bool) → affects sd r ≡ b → Sided sd st to X
+      by true own = let x = goes own in (
+        goes-on tale n sd r st to own x.0,
+        λ _. x.1,
+        λ out. absurd (true≢false (sym own ∙ out)),
+      )
+      by false out = let g = stays out in (
+        stays-put tale n sd r st to out (at-gentle tale n here sd st g h),
+        λ own. absurd (true≢false (sym own ∙ out)),
+        λ _. g,
+      )
+
+  -- its sides are at one stage before it
+  module _ (from : Stage) (stage : (sd : SideOf) (st : Stage) → affects sd r ≡ true
+      → At tale sd st n → st ≡ from) where
+    pub flags_from : Inv tale n → (sd : SideOf) → affects sd r ≡ true → (id : Id)
+        → all_ok (fits sd from) (found (world_at tale n) id) ≡ true
+    flags_from h Keys own =
+        (subst (λ s. At tale Keys s n) (stage Keys h.ks own h.keys) h.keys).flags
+    flags_from h Zone own =
+        (subst (λ s. At tale Zone s n) (stage Zone h.zs own h.zone) h.zone).flags
+
+    -- a stage of both sides is that one
+    pub at_both : (h : Inv tale n) (st : Stage) → h.ks ≡ st → h.zs ≡ st → st ≡ from
+    at_both h st k z = elim (cases_Bool (affects Keys r)) [
+      | inl own ↦ sym k ∙ stage Keys h.ks own h.keys
+      | inr out ↦ sym z ∙ stage Zone h.zs (some_side r out) h.zone
+    ]
+
+    -- the family stays, if it does so by the call
+    pub lasts-on : (sd : SideOf) (st to : Stage)
+        (x : Sided sd st to (Left tale sd from n → Lasts tale sd to (suc n))) → At tale sd st n
+        → Lasts tale sd st n → Lasts tale sd x.0.0 (suc n)
+    lasts-on sd st to x h k = lasts-to tale n sd r st to x.0
+        (λ own. x.1 own (subst (λ s. Left tale sd s n) (stage sd st own h) k.1))
+        (λ out. lasts-gentle tale n here sd st (x.2 out) k)
 
 -- both sides after a call
 pub both : (tale : Tale) (n : ℕ) (r : RollType) {ks zs to : Stage} (a : Moved tale Keys r ks to n)
@@ -78,15 +127,17 @@ module _ (tale : Tale) (n : ℕ) (here : suc n ≤ length tale.es) where
       (m : Mapped tale n (start_key r now old new) r (Some Propagation1))
       (can : CanStart r (world_at tale n) old new)
       (mark : (position_at tale.es (suc n)).mark ≡ Step r)
-      (olds : (q : List ℕ) → is_listed q (listed_at tale r (suc n)).olds
-      ≡ (is_listed q old && has_kept_key (real tale n).set.keys q))
-      (news : (q : List ℕ) → is_listed q (listed_at tale r (suc n)).news ≡ is_listed q new)
+      (olds : (q : List ℕ) → is_listed (listed_at tale r (suc n)).olds q
+      ≡ (is_listed old q && has_kept_key (real tale n).set.keys q))
+      (news : (q : List ℕ) → is_listed (listed_at tale r (suc n)).news q ≡ is_listed new q)
       (lists : (sd : SideOf) → affects sd r ≡ false → KeepsLists tale sd n) where
-    quiet_now : (sd : SideOf) (st : Stage) → affects sd r ≡ true → At tale sd st n
-        → At tale sd Quiet n
-    quiet_now sd st own h = subst (λ s. At tale sd s n)
-        (stage_quiet sd st h.own (λ q e. sym
-        (ap (stage_fits st q) (can.alone q (clash sd r q own e))) ∙ h.rolls q e)) h
+    quiet_stage : (sd : SideOf) (st : Stage) → affects sd r ≡ true → At tale sd st n → st ≡ Quiet
+    quiet_stage sd st own h = stage_quiet sd st h.own
+        (λ q e. sym (ap (stage_fits st q) (can.alone q (clash sd r q own e))) ∙ h.rolls q e)
+
+    quiet_flags : Inv tale n → (sd : SideOf) → affects sd r ≡ true → (id : Id)
+        → all_ok (fits sd Quiet) (found (world_at tale n) id) ≡ true
+    quiet_flags = flags_from tale n here r Quiet quiet_stage
 
     ties : Inv tale n → (id : Id) → all_ok is_tied (found (world_at tale n) id) ≡ true
     ties h id = by (found (world_at tale n) id) (h.zone.flags id)
@@ -98,31 +149,20 @@ module _ (tale : Tale) (n : ℕ) (here : suc n ≤ length tale.es) where
     start_side : ((id : Id) → all_ok is_tied (found (world_at tale n) id) ≡ true)
         → (sd : SideOf) (st : Stage) → At tale sd st n → (NoDs tale n → NoDs tale (suc n))
         → (NoDs tale (suc n) ⊎ Alive tale sd n)
-        → (moved : Moved tale sd r st (Early r) n)
-        × (affects sd r ≡ true → Alive tale sd n → Alive tale sd (suc n))
-        × (affects sd r ≡ false → Gentle tale sd st n)
-    start_side tied sd st h dead life = by (affects sd r) refl
-      where
-        by : (b : Bool) → affects sd r ≡ b → (moved : Moved tale sd r st (Early r) n)
-            × (affects sd r ≡ true → Alive tale sd n → Alive tale sd (suc n))
-            × (affects sd r ≡ false → Gentle tale sd st n)
-        by true own = let q = quiet_now sd st own h in (
-          goes-on tale n sd r st (Early r) own
-              (at-start tale n here sd r own now old new m can mark olds news tied life q),
-          λ _. alive-start tale n here sd r own now old new m can mark olds news tied q,
-          λ out. absurd (true≢false (sym own ∙ out)),
-        )
-        by false out = let g = gentle-start tale n sd st h.rolls h.flags dead (lists sd out) r now
-            old new out m (may_at r (world_at tale n) old new can) mark in (
-              stays-put tale n sd r st (Early r) out (at-gentle tale n here sd st g h),
-              λ own. absurd (true≢false (sym own ∙ out)),
-              λ _. g,
-            )
+        → Sided tale n here r sd st (Early r) (Alive tale sd n → Alive tale sd (suc n))
+    start_side tied sd st h dead life = sided tale n here r sd st (Early r)
+        (Alive tale sd n → Alive tale sd (suc n)) h
+        (λ own. let q = subst (λ s. At tale sd s n) (quiet_stage sd st own h) h in (
+          at-start tale n here sd r own now old new m can mark olds news tied life q,
+          alive-start tale n here sd r own now old new m can mark olds news tied q,
+        ))
+        (λ out. gentle-start tale n sd st h.rolls h.flags dead (lists sd out) r now old new out m
+        (may_at r (world_at tale n) old new can) mark)
 
     -- the rolls in progress go together with it
     beside : (q : RollType) (x : RollState) → (world_at tale n).roll q ≡ Some x
-        → tolerates r q ≡ true
-    beside q x e = true_from_ne_false (tolerates r q)
+        → together r q ≡ true
+    beside q x e = true_from_ne_false (together r q)
         (λ f. none-some x (sym (can.alone q f) ∙ e))
 
     start_pairs : Pairs tale n → Pairs tale (suc n)
@@ -133,21 +173,15 @@ module _ (tale : Tale) (n : ℕ) (here : suc n ≤ length tale.es) where
         was q x t e = sym (put-other (world_at tale n).roll r (Some Propagation1) q t)
             ∙ sym (m.rolls q) ∙ e
 
-        at_a : (t : Bool) → same_roll r a ≡ t → tolerates a b ≡ true
+        at_a : (t : Bool) → same_roll r a ≡ t → together a b ≡ true
         at_a true t = let eq = same-is r a t in
-            subst (λ a. tolerates a b ≡ true) eq
+            subst (λ a. together a b ≡ true) eq
             (beside b y (was b y (ap (λ a. same_roll a b) eq ∙ d) by))
-        at_a false t = at_b (same_roll r b) refl
-          where
-            at_b : (u : Bool) → same_roll r b ≡ u → tolerates a b ≡ true
-            at_b true u = let eq = same-is r b u in tolerates-sym a b
-                ∙ subst (λ b. tolerates b a ≡ true) eq (beside a x (was a x t ax))
-            at_b false u = h a b x y (was a x t ax) (was b y u by) d
-
-    quiet_flags : Inv tale n → (sd : SideOf) → affects sd r ≡ true → (id : Id)
-        → all_ok (fits sd Quiet) (found (world_at tale n) id) ≡ true
-    quiet_flags h Keys own = (quiet_now Keys h.ks own h.keys).flags
-    quiet_flags h Zone own = (quiet_now Zone h.zs own h.zone).flags
+        at_a false t = elim (cases_Bool (same_roll r b)) [
+          | inl u ↦ let eq = same-is r b u in together-sym a b
+              ∙ subst (λ b. together b a ≡ true) eq (beside a x (was a x t ax))
+          | inr u ↦ h a b x y (was a x t ax) (was b y u by) d
+        ]
 
     start_phases : Inv tale n → Phases tale (suc n)
     start_phases h = phases-on tale n here r Propagation1 m.rolls
@@ -175,14 +209,10 @@ module _ (tale : Tale) (n : ℕ) (here : suc n ≤ length tale.es) where
           dead : NoDs tale n → NoDs tale (suc n)
           dead d = absurd (born tale n (omega arith) k.0 d)
 
-          x : (moved : Moved tale Keys r h.ks (Early r) n)
-              × (affects Keys r ≡ true → Alive tale Keys n → Alive tale Keys (suc n))
-              × (affects Keys r ≡ false → Gentle tale Keys h.ks n)
+          x : Sided tale n here r Keys h.ks (Early r) (Alive tale Keys n → Alive tale Keys (suc n))
           x = start_side (ties h) Keys h.ks h.keys dead (inr k.0)
 
-          y : (moved : Moved tale Zone r h.zs (Early r) n)
-              × (affects Zone r ≡ true → Alive tale Zone n → Alive tale Zone (suc n))
-              × (affects Zone r ≡ false → Gentle tale Zone h.zs n)
+          y : Sided tale n here r Zone h.zs (Early r) (Alive tale Zone n → Alive tale Zone (suc n))
           y = start_side (ties h) Zone h.zs h.zone dead (inr z.0)
 
           stays : Lasts tale Keys x.0.0 (suc n) → Inv tale (suc n)
@@ -236,7 +266,7 @@ module _ (tale : Tale) (n : ℕ) (here : suc n ≤ length tale.es) where
 
           still : needs_algorithm_roll r ≡ false → NoDs tale (suc n)
           still free = ds_less tale n here (start_key r now old new) r (Some Propagation1) m
-              (λ q k. still_ds r free (is_listed q old) (is_listed q new) k.keytype) d
+              (λ q k. still_ds r free (is_listed old q) (is_listed new q) k.keytype) d
 
           by : (b : Bool) → affects Keys r ≡ b → Inv tale (suc n)
           by true own = elim (goes.absent own passed lacks) [

@@ -1,5 +1,5 @@
 -- The finite facts of the tables on both sides of the chain, computed over all kinds and flags.
-use Rattle.dnssec_zone.proofs.Tests.{four, ◌⇒◌, mp, and-both, each_listed, each_listed-at}
+use Rattle.dnssec_zone.proofs.Tests.{four, ◌⇒◌, mp, and-both}
 use Rattle.dnssec_zone.proofs.Flags.{SideOf, affects, fits, has_role, may_start, started, Keys}
 use Rattle.dnssec_zone.proofs.Flags.{Zone, Quiet, Early, start-fits}
 use Rattle.std.proofs.Common.{◌≡◌, Bool, true, false, not, ◌&&◌, ◌||◌, refl}
@@ -13,7 +13,8 @@ use Rattle.dnssec_key.specs.declared.kind.KeyType.TheVariants.{Ksk, Zsk, Csk}
 use Rattle.dnssec_run.specs.Safe.{SetKind, Ds, Dnskey, ZoneSigners}
 use Rattle.dnssec_key.specs.RollTable.{column}
 use Rattle.dnssec_run.specs.Published.{in_ds, in_dnskey, signs_dnskey as signs_keys, signs_zone}
-use Rattle.dnssec_run.proofs.Chain.Tables.{serves_new, serves_kept}
+use Rattle.dnssec_zone.specs.Start.{serves_as_new, serves_as_kept}
+use Rattle.dnssec_run.proofs.Chain.Tables.{want_on, side_listed-at}
 
 -- at its first wait the roll changes its second set; else it only leaves the old keys out
 abbrev pub switches : SideOf → RollType → Bool
@@ -34,15 +35,25 @@ in_other Keys k = in_ds k
 in_other Zone k = signs_zone k
 
 -- the kinds of the sets of a roll on a side: the first grows at its start, the second changes at
--- its first wait
+-- its first wait; on the side of keys the DS sets are the first in a Double-DS roll
+abbrev pub ds_first : RollType → Bool
+ds_first KskDoubleDsRoll = true
+ds_first _ = false
+
+abbrev pub first_by : SideOf → Bool → SetKind
+first_by Keys true = Ds
+first_by _ _ = Dnskey
+
+abbrev pub second_by : SideOf → Bool → SetKind
+second_by Keys true = Dnskey
+second_by Keys false = Ds
+second_by Zone _ = ZoneSigners
+
 abbrev pub first_kind : SideOf → RollType → SetKind
-first_kind Keys KskDoubleDsRoll = Ds
-first_kind _ _ = Dnskey
+first_kind sd r = first_by sd (ds_first r)
 
 abbrev pub second_kind : SideOf → RollType → SetKind
-second_kind Keys KskDoubleDsRoll = Dnskey
-second_kind Keys _ = Ds
-second_kind Zone _ = ZoneSigners
+second_kind sd r = second_by sd (ds_first r)
 
 -- membership by kind, as a side sees it
 abbrev pub test_of : SideOf → SetKind → KeyType → Bool
@@ -82,17 +93,14 @@ start_table sd r o i k = (affects sd r && (may_start r o i k && fits sd Quiet k)
     && (in_use sd k ⇒ in_use sd (started r o i k))
     && ((switches sd r && second_test sd r (started r o i k)) ⇒
     (second_test sd r k && first_test sd r (started r o i k)))
-    && (((i && serves_new sd r k) || (not o && serves_kept sd r k)) ⇒ remains sd r
+    && (((i && serves_as_new (want_on sd r) k) || (not o && serves_as_kept (want_on sd r) k))
+    ⇒ remains sd r
     (started r o i k)))
-
-start_all : (sd : SideOf) (a b : Bool) → each_listed a b (start_table sd) ≡ true
-unfolding start_table column
-start_all Keys a b = refl
-start_all Zone a b = refl
 
 start_holds : (sd : SideOf) (r : RollType) (o i : Bool) (k : KeyType) → start_table sd r o i k
     ≡ true
-start_holds sd r o i = each_listed-at (start_table sd) (start_all sd) r o i
+unfolding start_table column
+start_holds sd r o i = side_listed-at start_table (λ a b. refl) (λ a b. refl) sd r o i
 
 pub record Started (sd : SideOf) (r : RollType) (o i : Bool) (k : KeyType) : Type 0 where
   pub fit : fits sd (Early r) (started r o i k) ≡ true
@@ -100,7 +108,8 @@ pub record Started (sd : SideOf) (r : RollType) (o i : Bool) (k : KeyType) : Typ
   pub used : in_use sd k ≡ true → in_use sd (started r o i k) ≡ true
   pub second : switches sd r ≡ true → second_test sd r (started r o i k) ≡ true
       → (second_test sd r k ≡ true) × (first_test sd r (started r o i k) ≡ true)
-  pub some : ((i && serves_new sd r k) || (not o && serves_kept sd r k)) ≡ true
+  pub some : ((i && serves_as_new (want_on sd r) k)
+      || (not o && serves_as_kept (want_on sd r) k)) ≡ true
       → remains sd r (started r o i k) ≡ true
 
 pub start_facts : (sd : SideOf) (r : RollType) (o i : Bool) (k : KeyType) → affects sd r ≡ true

@@ -1,6 +1,6 @@
 -- Positions of a record: time, retirement, bases; and the side of the key chain.
-use Rattle.std.proofs.Common.{[], ◌≡◌, ℕ, zero, suc, ◌≤◌, ◌⊎◌, inl, inr, refl, sym}
-use Rattle.std.proofs.Common.{Bool, true, false, ◌&&◌, subst, arith, List, ◌∷◌, Some, ◌<◌}
+use Rattle.std.proofs.Common.{[], ◌≡◌, ℕ, zero, suc, ◌≤◌, ◌⊎◌, inl, inr, refl, sym, Bool, true}
+use Rattle.std.proofs.Common.{false, ◌&&◌, subst, arith, List, ◌∷◌, Some, ◌<◌}
 use Rattle.std.specs.Prelude.{if◌then◌else◌}
 use Rattle.std.proofs.lemmas.Option.{none-some, same_Some}
 use Rattle.std.specs.List.{Contains}
@@ -14,6 +14,7 @@ use Rattle.dnssec_run.specs.Safe.{SetKind, Ds, Dnskey, ZoneSigners, position_at,
 use Rattle.dnssec_run.specs.Safe.{time_at, IsGone, is_step, retires}
 use Rattle.dnssec_run.proofs.Chain.Tale.{Tale}
 use Rattle.dnssec_run.proofs.Chain.Flags.{first_kind, second_kind, switches}
+use Rattle.dnssec_run.proofs.Chain.Tables.{by_side}
 
 pub time_grows : (es : List Entry) (n : ℕ) → time_at es n ≤ time_at es (suc n)
 unfolding time_at
@@ -99,17 +100,13 @@ retires_table : SideOf → RollType → Bool
 retires_table sd r = affects sd r
     ⇒ (retires r false (first_kind sd r) && retires r (switches sd r) (second_kind sd r))
 
-retires_all : (sd : SideOf) → each_roll (retires_table sd) ≡ true
-unfolding retires_table
-retires_all Keys = refl
-retires_all Zone = refl
-
 both_retire : (sd : SideOf) (r : RollType) → affects sd r ≡ true
     → (retires r false (first_kind sd r) ≡ true)
     × (retires r (switches sd r) (second_kind sd r) ≡ true)
 unfolding retires_table
 both_retire sd r own = and_parts _ _
-    (mp _ _ (each_roll-at (retires_table sd) (retires_all sd) r) own)
+    (mp _ _ (each_roll-at (retires_table sd) (by_side
+    (λ sd. each_roll (retires_table sd) ≡ true) refl refl sd) r) own)
 
 pub first-retires : (sd : SideOf) (r : RollType) → affects sd r ≡ true
     → retires r false (first_kind sd r) ≡ true

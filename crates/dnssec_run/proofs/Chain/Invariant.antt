@@ -1,12 +1,13 @@
 -- The invariant of a side, what it gives, and the calls that leave it alone.
+use Rattle.dnssec_run.proofs.Chain.Flags.{ds_first, first_by, second_by, test_of, first_kind}
+use Rattle.dnssec_run.proofs.Chain.Flags.{second_kind, first_test, second_test, in_use, in_keys}
+use Rattle.dnssec_run.proofs.Chain.Flags.{in_other, live, remains, switches}
 use Rattle.std.proofs.Common.{◌≡◌, ℕ, suc, ◌≤◌, Bool, true, false, refl, sym, ◌∙◌, arith, List}
 use Rattle.std.proofs.Common.{length, Option, None, Some, ◌⊎◌, inl, inr}
 use Rattle.std.proofs.lemmas.Bool.{true≢false, and_parts}
 use Rattle.std.proofs.lemmas.Option.{same_Some}
 use Rattle.dnssec_key.specs.declared.roll.RollType.{RollType}
 use Rattle.dnssec_key.specs.declared.roll.RollType.TheVariants.{KskRoll, KskDoubleDsRoll}
-use Rattle.dnssec_key.specs.declared.roll.RollType.TheVariants.{ZskRoll, ZskDoubleSignatureRoll}
-use Rattle.dnssec_key.specs.declared.roll.RollType.TheVariants.{CskRoll, AlgorithmRoll}
 use Rattle.dnssec_key.specs.declared.kind.KeyType.{KeyType}
 use Rattle.dnssec_run.specs.declared.record.Entry.{Entry}
 use Rattle.dnssec_run.specs.Published.{Id}
@@ -18,13 +19,11 @@ use Rattle.dnssec_run.proofs.Chain.Side.{upto, Rest, Early as EarlySets, Late as
 use Rattle.dnssec_run.proofs.Chain.Side.{Serves, Alive as AliveSide, rest-serves, early-serves}
 use Rattle.dnssec_run.proofs.Chain.Side.{late-serves, broad-serves, early-stays, late-stays}
 use Rattle.dnssec_run.proofs.Chain.Side.{broad-stays, leaving-serves, Settles}
-use Rattle.dnssec_run.proofs.Chain.Flags.{test_of, first_kind, second_kind, first_test, second_test}
-use Rattle.dnssec_run.proofs.Chain.Flags.{in_use, in_keys, in_other, live, remains, switches}
 use Rattle.dnssec_run.proofs.Chain.Facts.{Seen, test-seen, use-seen, live-seen, remains-seen}
 use Rattle.dnssec_run.proofs.Chain.Facts.{wait1_facts}
 use Rattle.dnssec_run.proofs.Chain.Rolls.{stage_fits, stage_own}
 use Rattle.dnssec_run.proofs.Chain.History.{Serving, Without, retired_stays, base_same}
-use Rattle.dnssec_run.proofs.Chain.Places.{all_ok, side, shows, NoDs, some_weaker}
+use Rattle.dnssec_run.proofs.Chain.Places.{side_by, all_ok, side, shows, NoDs, some_weaker}
 use Rattle.dnssec_run.proofs.Chain.Returns.{Back, KeepsLists, leads-on}
 
 abbrev pub AtRest : Tale → SideOf → ℕ → Type 0
@@ -93,21 +92,14 @@ abbrev pub Common : Tale → SideOf → ℕ → Type 0
 Common tale sd n = NoDs tale n ⊎ HasCommon tale sd n
 
 -- in use on a side: in both sets of each roll
+used_by : (sd : SideOf) (b : Bool) (k : KeyType) → in_use sd k ≡ true
+    → (test_of sd (first_by sd b) k ≡ true) × (test_of sd (second_by sd b) k ≡ true)
+used_by Keys true k e = let p = and_parts (in_keys Keys k) (in_other Keys k) e in (p.1, p.0)
+used_by sd _ k e = and_parts (in_keys sd k) (in_other sd k) e
+
 used_tests : (sd : SideOf) (r : RollType) (k : KeyType) → in_use sd k ≡ true
     → (first_test sd r k ≡ true) × (second_test sd r k ≡ true)
-used_tests Keys KskRoll k e = and_parts (in_keys Keys k) (in_other Keys k) e
-used_tests Keys KskDoubleDsRoll k e = let p = and_parts (in_keys Keys k) (in_other Keys k) e in
-    (p.1, p.0)
-used_tests Keys ZskRoll k e = and_parts (in_keys Keys k) (in_other Keys k) e
-used_tests Keys ZskDoubleSignatureRoll k e = and_parts (in_keys Keys k) (in_other Keys k) e
-used_tests Keys CskRoll k e = and_parts (in_keys Keys k) (in_other Keys k) e
-used_tests Keys AlgorithmRoll k e = and_parts (in_keys Keys k) (in_other Keys k) e
-used_tests Zone KskRoll k e = and_parts (in_keys Zone k) (in_other Zone k) e
-used_tests Zone KskDoubleDsRoll k e = and_parts (in_keys Zone k) (in_other Zone k) e
-used_tests Zone ZskRoll k e = and_parts (in_keys Zone k) (in_other Zone k) e
-used_tests Zone ZskDoubleSignatureRoll k e = and_parts (in_keys Zone k) (in_other Zone k) e
-used_tests Zone CskRoll k e = and_parts (in_keys Zone k) (in_other Zone k) e
-used_tests Zone AlgorithmRoll k e = and_parts (in_keys Zone k) (in_other Zone k) e
+used_tests sd r = used_by sd (ds_first r)
 
 pub used_first : (sd : SideOf) (r : RollType) (o : Option Key) → if_some (in_use sd) o ≡ true
     → if_some (first_test sd r) o ≡ true
@@ -118,52 +110,26 @@ pub used_second : (sd : SideOf) (r : RollType) (o : Option Key) → if_some (in_
 used_second sd r o = some_weaker (in_use sd) (second_test sd r) (λ k e. (used_tests sd r k e).1) o
 
 module _ (tale : Tale) (n : ℕ) where
+  common_by : (sd : SideOf) (b : Bool) → Serves (side_by tale sd b) n → HasCommon tale sd n
+  common_by Keys false h = λ p q pl pu ql qu. let w = h q p ql qu pl pu in (w.0, w.2, w.1, w.3)
+  common_by _ _ h = h
+
   common_of : (sd : SideOf) (r : RollType) → Serves (side tale sd r) n → HasCommon tale sd n
-  common_of Keys KskDoubleDsRoll h = h
-  common_of Keys KskRoll h = λ p q pl pu ql qu. let w = h q p ql qu pl pu in (w.0, w.2, w.1, w.3)
-  common_of Keys ZskRoll h = λ p q pl pu ql qu. let w = h q p ql qu pl pu in (w.0, w.2, w.1, w.3)
-  common_of Keys ZskDoubleSignatureRoll h = λ p q pl pu ql qu. let w = h q p ql qu pl pu in
-      (w.0, w.2, w.1, w.3)
-  common_of Keys CskRoll h = λ p q pl pu ql qu. let w = h q p ql qu pl pu in (w.0, w.2, w.1, w.3)
-  common_of Keys AlgorithmRoll h = λ p q pl pu ql qu. let w = h q p ql qu pl pu in
-      (w.0, w.2, w.1, w.3)
-  common_of Zone KskRoll h = h
-  common_of Zone KskDoubleDsRoll h = h
-  common_of Zone ZskRoll h = h
-  common_of Zone ZskDoubleSignatureRoll h = h
-  common_of Zone CskRoll h = h
-  common_of Zone AlgorithmRoll h = h
+  common_of sd r = common_by sd (ds_first r)
 
   pub rest_side : (sd : SideOf) (r : RollType) → AtRest tale sd n → Rest (side tale sd r) n
   rest_side sd r h = record { xs = h (first_kind sd r); ys = h (second_kind sd r) }
 
+  rest_by : (sd : SideOf) (b : Bool) → Rest (side_by tale sd b) n → AtRest tale sd n
+  rest_by Keys true h Ds = h.xs
+  rest_by Keys true h Dnskey = h.ys
+  rest_by Keys false h Ds = h.ys
+  rest_by Zone _ h ZoneSigners = h.ys
+  rest_by _ _ h Dnskey = h.xs
+  rest_by _ _ h _ = λ q le un id e. tt
+
   pub side_rest : (sd : SideOf) (r : RollType) → Rest (side tale sd r) n → AtRest tale sd n
-  side_rest Keys KskDoubleDsRoll h Ds = h.xs
-  side_rest Keys KskDoubleDsRoll h Dnskey = h.ys
-  side_rest Keys KskRoll h Ds = h.ys
-  side_rest Keys KskRoll h Dnskey = h.xs
-  side_rest Keys ZskRoll h Ds = h.ys
-  side_rest Keys ZskRoll h Dnskey = h.xs
-  side_rest Keys ZskDoubleSignatureRoll h Ds = h.ys
-  side_rest Keys ZskDoubleSignatureRoll h Dnskey = h.xs
-  side_rest Keys CskRoll h Ds = h.ys
-  side_rest Keys CskRoll h Dnskey = h.xs
-  side_rest Keys AlgorithmRoll h Ds = h.ys
-  side_rest Keys AlgorithmRoll h Dnskey = h.xs
-  side_rest Keys r h ZoneSigners = λ q le un id e. tt
-  side_rest Zone KskRoll h ZoneSigners = h.ys
-  side_rest Zone KskRoll h Dnskey = h.xs
-  side_rest Zone KskDoubleDsRoll h ZoneSigners = h.ys
-  side_rest Zone KskDoubleDsRoll h Dnskey = h.xs
-  side_rest Zone ZskRoll h ZoneSigners = h.ys
-  side_rest Zone ZskRoll h Dnskey = h.xs
-  side_rest Zone ZskDoubleSignatureRoll h ZoneSigners = h.ys
-  side_rest Zone ZskDoubleSignatureRoll h Dnskey = h.xs
-  side_rest Zone CskRoll h ZoneSigners = h.ys
-  side_rest Zone CskRoll h Dnskey = h.xs
-  side_rest Zone AlgorithmRoll h ZoneSigners = h.ys
-  side_rest Zone AlgorithmRoll h Dnskey = h.xs
-  side_rest Zone r h Ds = λ q le un id e. tt
+  side_rest sd r = rest_by sd (ds_first r)
 
   alive_side : (sd : SideOf) (r : RollType) → Alive tale sd n → AliveSide (side tale sd r) n
   alive_side sd r a = (
@@ -201,12 +167,8 @@ module _ (tale : Tale) (n : ℕ) where
   -- a DS set without the family serves for any key
   bare_serves : (r : RollType) → affects Zone r ≡ true → (q : ℕ) (k : Id) → Without tale q
       → Serving tale Keys (second_kind Keys r) q k
-  bare_serves KskRoll own q k none = inl none
   bare_serves KskDoubleDsRoll own q k none = absurd (true≢false (sym own))
-  bare_serves ZskRoll own q k none = inl none
-  bare_serves ZskDoubleSignatureRoll own q k none = inl none
-  bare_serves CskRoll own q k none = inl none
-  bare_serves AlgorithmRoll own q k none = inl none
+  bare_serves _ own q k none = inl none
 
   -- a family that leaves: from the first wait on the DS sets have none of it
   pub leaving-common : (r : RollType) (b : ℕ) → affects Zone r ≡ true

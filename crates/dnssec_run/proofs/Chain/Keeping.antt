@@ -1,16 +1,15 @@
 -- More facts of the tables: keys in a set on the side of keys, and keys that stay, for a family of
 -- keys that comes, stays or leaves.
-use Rattle.dnssec_zone.proofs.Tests.{each_key, each_key-at, ◌⇒◌, mp, and-both, each_in_roll}
-use Rattle.dnssec_zone.proofs.Tests.{each_in_roll-at, each_listed, each_listed-at}
-use Rattle.dnssec_zone.proofs.Tests.{or_second}
-use Rattle.dnssec_zone.proofs.Flags.{Keys, Zone, affects, fits, Quiet, Early, Late}
-use Rattle.dnssec_zone.proofs.Flags.{has_role, is_idle, may_start, started, waited1, waited2}
+use Rattle.dnssec_zone.proofs.Tests.{each_key-at, ◌⇒◌, mp, and-both, each_in_roll-at}
+use Rattle.dnssec_zone.proofs.Tests.{each_listed-at, or_second}
+use Rattle.dnssec_zone.proofs.Flags.{Keys, Zone, affects, fits, Quiet, Early, Late, has_role}
+use Rattle.dnssec_zone.proofs.Flags.{is_idle, may_start, started, waited1, waited2}
 use Rattle.std.proofs.Common.{◌≡◌, Bool, true, false, not, ◌&&◌, ◌||◌, refl}
 use Rattle.std.proofs.lemmas.Bool.{and_parts, not-true}
 use Rattle.dnssec_key.specs.declared.roll.RollType.{RollType}
 use Rattle.dnssec_key.specs.declared.roll.RollType.TheVariants.{AlgorithmRoll}
 use Rattle.dnssec_key.specs.declared.kind.KeyType.{KeyType}
-use Rattle.dnssec_key.specs.RollTable.{column}
+use Rattle.dnssec_key.specs.RollTable.{column, First}
 use Rattle.dnssec_zone.specs.Start.{may_change_algorithms}
 use Rattle.dnssec_run.specs.ByAlgorithm.{keeps_ksk, keeps_zsk}
 use Rattle.dnssec_run.specs.Published.{in_ds}
@@ -30,10 +29,6 @@ key_table k = (engaged k ⇒ (has_role Keys k && not (is_idle k)))
     && ((fits Keys Quiet k && in_use Keys k) ⇒ keeps_ksk k)
     && (live Keys k ⇒ keeps_ksk k)
 
-key_all : (a b : Bool) → each_key a b key_table ≡ true
-unfolding key_table
-key_all a b = refl
-
 pub record OfKey (k : KeyType) : Type 0 where
   pub sight : engaged k ≡ true → (has_role Keys k && not (is_idle k)) ≡ true
   pub rest_ds : fits Keys Quiet k ≡ true → engaged k ≡ true → in_ds k ≡ true
@@ -44,7 +39,7 @@ pub record OfKey (k : KeyType) : Type 0 where
 pub of_key : (k : KeyType) → OfKey k
 unfolding key_table
 of_key k =
-    let e = and_parts _ _ (each_key-at key_table key_all k) in
+    let e = and_parts _ _ (each_key-at key_table (λ a b. refl) k) in
     let d = and_parts _ _ e.0 in
     let c = and_parts _ _ d.0 in
     let b = and_parts _ _ c.0 in
@@ -69,10 +64,6 @@ early_table r k = (affects Keys r && fits Keys (Early r) k) ⇒
     && (keeps_ksk k ⇒ remains Keys r k)
     && (remains Keys r k ⇒ keeps_ksk k))
 
-early_all : (a b : Bool) → each_in_roll a b early_table ≡ true
-unfolding early_table column
-early_all a b = refl
-
 pub record BeforeFirst (r : RollType) (k : KeyType) : Type 0 where
   pub engages : engaged (waited1 r k) ≡ true → engaged k ≡ true
   pub lives : live Keys (waited1 r k) ≡ true → remains Keys r k ≡ true
@@ -82,9 +73,9 @@ pub record BeforeFirst (r : RollType) (k : KeyType) : Type 0 where
 
 pub before_first : (r : RollType) (k : KeyType) → affects Keys r ≡ true
     → fits Keys (Early r) k ≡ true → BeforeFirst r k
-unfolding early_table
+unfolding early_table column
 before_first r k own fit =
-    let e = and_parts _ _ (mp _ _ (each_in_roll-at early_table early_all r k)
+    let e = and_parts _ _ (mp _ _ (each_in_roll-at early_table (λ a b. refl) r k)
     (and-both _ _ own fit)) in
     let d = and_parts _ _ e.0 in
     let c = and_parts _ _ d.0 in
@@ -103,16 +94,13 @@ late_table : RollType → KeyType → Bool
 late_table r k = (affects Keys r && fits Keys (Late r) k) ⇒
     ((engaged (waited2 r k) ⇒ engaged k) && (engaged (waited2 r k) ⇒ live Keys k))
 
-late_all : (a b : Bool) → each_in_roll a b late_table ≡ true
-unfolding late_table column
-late_all a b = refl
-
 pub before_second : (r : RollType) (k : KeyType) → affects Keys r ≡ true
     → fits Keys (Late r) k ≡ true → (engaged (waited2 r k) ≡ true → engaged k ≡ true)
     × (engaged (waited2 r k) ≡ true → live Keys k ≡ true)
-unfolding late_table
+unfolding late_table column
 before_second r k own fit =
-    let e = and_parts _ _ (mp _ _ (each_in_roll-at late_table late_all r k) (and-both _ _ own fit))
+    let e = and_parts _ _ (mp _ _ (each_in_roll-at late_table (λ a b. refl) r k)
+    (and-both _ _ own fit))
     in
     (mp _ _ e.0, mp _ _ e.1)
 
@@ -122,20 +110,16 @@ zone_table : RollType → KeyType → Bool
 zone_table r k = (in_use Zone k ⇒ in_use Zone (waited1 AlgorithmRoll k))
     && ((affects Zone r && fits Zone (Early r) k && keeps_zsk k) ⇒ remains Zone r k)
 
-zone_all : (a b : Bool) → each_in_roll a b zone_table ≡ true
-unfolding zone_table column
-zone_all a b = refl
-
 -- the first wait of an algorithm roll leaves the keys that sign the zone
 pub zone-stays : (k : KeyType) → in_use Zone k ≡ true → in_use Zone (waited1 AlgorithmRoll k) ≡ true
-unfolding zone_table
-zone-stays k = mp _ _ (and_parts _ _ (each_in_roll-at zone_table zone_all AlgorithmRoll k)).0
+unfolding zone_table column
+zone-stays k = mp _ _ (and_parts _ _ (each_in_roll-at zone_table (λ a b. refl) AlgorithmRoll k)).0
 
 pub zone-remains : (r : RollType) (k : KeyType) → affects Zone r ≡ true
     → fits Zone (Early r) k ≡ true → keeps_zsk k ≡ true → remains Zone r k ≡ true
-unfolding zone_table
+unfolding zone_table column
 zone-remains r k own fit keeps = mp _ _
-    (and_parts _ _ (each_in_roll-at zone_table zone_all r k)).1
+    (and_parts _ _ (each_in_roll-at zone_table (λ a b. refl) r k)).1
     (and-both _ _ (and-both _ _ own fit) keeps)
 
 -- ---- a start
@@ -150,10 +134,6 @@ start_table r o i k = may_start r o i k ⇒
     ((affects Keys r && remains Keys r (started r o i k))
     || (affects Zone r && remains Zone r (started r o i k)))))
 
-start_all : (a b : Bool) → each_listed a b start_table ≡ true
-unfolding start_table column
-start_all a b = refl
-
 pub record AtStart (r : RollType) (o i : Bool) (k : KeyType) : Type 0 where
   pub engages : affects Keys r ≡ true → fits Keys Quiet k ≡ true
       → engaged (started r o i k) ≡ true → engaged k ≡ false
@@ -166,9 +146,9 @@ pub record AtStart (r : RollType) (o i : Bool) (k : KeyType) : Type 0 where
 
 pub at_start : (r : RollType) (o i : Bool) (k : KeyType) → may_start r o i k ≡ true
     → AtStart r o i k
-unfolding start_table
+unfolding start_table column
 at_start r o i k may =
-    let x = and_parts _ _ (mp _ _ (each_listed-at start_table start_all r o i k) may) in
+    let x = and_parts _ _ (mp _ _ (each_listed-at start_table (λ a b. refl) r o i k) may) in
     let y = and_parts _ _ x.0 in
     record {
       engages = λ own fit h none. or_second _ _
@@ -181,13 +161,9 @@ at_start r o i k may =
 -- ---- what a waiting algorithm roll reads
 
 reads_table : KeyType → Bool
-reads_table k = (fits Keys (Early AlgorithmRoll) k && stays AlgorithmRoll false k) ⇒ engaged k
-
-reads_all : (a b : Bool) → each_key a b reads_table ≡ true
-unfolding reads_table
-reads_all a b = refl
+reads_table k = (fits Keys (Early AlgorithmRoll) k && stays AlgorithmRoll First k) ⇒ engaged k
 
 pub reads-engaged : (k : KeyType) → fits Keys (Early AlgorithmRoll) k ≡ true
-    → stays AlgorithmRoll false k ≡ true → engaged k ≡ true
+    → stays AlgorithmRoll First k ≡ true → engaged k ≡ true
 unfolding reads_table
-reads-engaged k fit h = mp _ _ (each_key-at reads_table reads_all k) (and-both _ _ fit h)
+reads-engaged k fit h = mp _ _ (each_key-at reads_table (λ a b. refl) k) (and-both _ _ fit h)

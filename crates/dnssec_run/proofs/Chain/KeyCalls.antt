@@ -1,6 +1,6 @@
 -- A refusal, an add, a deletion and a setter of a plain list leave both sides alone.
-use Rattle.std.proofs.Common.{◌≡◌, ℕ, suc, Bool, true, false, refl, sym, ◌∙◌, ap, subst, List}
-use Rattle.std.proofs.Common.{Option, None, Some}
+use Rattle.std.proofs.Common.{◌⊎◌, inl, inr, ◌≡◌, ℕ, suc, Bool, true, false, refl, sym, ◌∙◌, ap}
+use Rattle.std.proofs.Common.{List, Option, None, Some}
 use Rattle.std.specs.Prelude.{if◌then◌else◌, ◌==◌}
 use Rattle.std.specs.Option.{option_map}
 use Rattle.std.proofs.lemmas.Bool.{true≢false}
@@ -14,9 +14,8 @@ use Rattle.dnssec_run.specs.Published.{Id}
 use Rattle.dnssec_run.specs.Safe.{position_at, is_step}
 use Rattle.dnssec_zone.proofs.Flags.{SideOf, affects, Stage, fits, idle-fits, is_idle}
 use Rattle.dnssec_run.proofs.Chain.Tables.{Stamp}
-use Rattle.dnssec_run.proofs.Chain.Tale.{Tale, World, Key, found, if_some, world_at, put}
-use Rattle.dnssec_run.proofs.Chain.Tale.{stamp_of}
-use Rattle.dnssec_run.proofs.Chain.Setters.{Harmless, harmless-alike, harmless-busy, others-idle}
+use Rattle.dnssec_run.proofs.Chain.Tale.{Tale, World, Key, found, if_some, world_at, put, stamp_of}
+use Rattle.dnssec_run.proofs.Chain.Setters.{Harmless, others-idle}
 use Rattle.dnssec_run.proofs.Chain.Rolls.{stage_fits}
 use Rattle.dnssec_run.proofs.Chain.Places.{all_ok, NoDs}
 use Rattle.dnssec_run.proofs.Chain.Returns.{KeepsLists}
@@ -37,183 +36,173 @@ pub record Kept (w v : World) : Type 0 where
   pub flags : (sd : SideOf) (st : Stage) → ((id : Id) → all_ok (fits sd st) (found w id) ≡ true)
       → (id : Id) → all_ok (fits sd st) (found v id) ≡ true
 
-pub kept_same : (w : World) → Kept w w
-kept_same w = record {
-  rolls = λ q. refl;
-  keys = λ q j e u. (j, e, refl, λ s. refl);
-  fore =
-      λ p u id e. e;
-  back = λ p u id e. e;
-  flags = λ sd st h. h;
+-- ---- one reference
+
+-- the same key, but for what no wait reads
+abbrev pub SameKey : Option Key → Option Key → Type 0
+SameKey None None = Unit {0}
+SameKey (Some k) (Some j) = (j.keytype ≡ k.keytype) × ((s : Stamp) → stamp_of s j ≡ stamp_of s k)
+SameKey _ _ = ⊥
+
+-- no key in use, before and after
+abbrev pub BothIdle : Option Key → Option Key → Type 0
+BothIdle o u = (all_ok is_idle o ≡ true) × (all_ok is_idle u ≡ true)
+
+abbrev pub Alike : Option Key → Option Key → Type 0
+Alike o u = SameKey o u ⊎ BothIdle o u
+
+pub same_key : (o : Option Key) → SameKey o o
+same_key None = tt
+same_key (Some k) = (refl, λ s. refl)
+
+turned : (o u : Option Key) → SameKey o u → SameKey u o
+turned None None h = tt
+turned (Some k) (Some j) h = (sym h.0, λ s. sym (h.1 s))
+turned None (Some j) h = h
+turned (Some k) None h = h
+
+pub alike-turned : (o u : Option Key) → Alike o u → Alike u o
+alike-turned o u h = elim h [ inl s ↦ inl (turned o u s) | inr i ↦ inr (i.1, i.0) ]
+
+-- a key is put in or taken out
+pub put_alike : (b : Bool) (o x : Option Key) → (b ≡ true → BothIdle o x)
+    → Alike o (if b then x else o)
+put_alike true o x h = inr (h refl)
+put_alike false o x h = inl (same_key o)
+
+-- a call that changes only keys of other signers, and what no wait reads
+abbrev pub AllHarmless : (Key → Key) → Option Key → Type 0
+AllHarmless f o = (k : Key) → o ≡ Some k → Harmless k (f k)
+
+pub map_alike : (f : Key → Key) (o : Option Key) → AllHarmless f o → Alike o (option_map f o)
+map_alike f None h = inl tt
+map_alike f (Some k) h = let a = h k refl in elim (a.kind) [
+  | inl e ↦ inl (e, a.stamps)
+  | inr e ↦ inr (others-idle k.keytype e.0, others-idle (f k).keytype e.1)
+]
+
+-- a key in use then was there before
+pub was_key : (o u : Option Key) → Alike o u → (j : Key) → u ≡ Some j → is_idle j.keytype ≡ false
+    → (k : Key) × (o ≡ Some k) × (k.keytype ≡ j.keytype)
+    × ((s : Stamp) → stamp_of s k ≡ stamp_of s j)
+was_key o u (inr i) j e busy = absurd (true≢false (sym (sym (ap (all_ok is_idle) e) ∙ i.1) ∙ busy))
+was_key o None (inl s) j e busy = absurd (none-some j e)
+was_key None (Some i) (inl s) j e busy = absurd s
+was_key (Some k) (Some i) (inl s) j e busy = let same : i ≡ j = same_Some i j e in (
+  k,
+  refl,
+  sym s.0 ∙ ap (λ (k : Key). k.keytype) same,
+  λ t. sym (s.1 t) ∙ ap (stamp_of t) same,
+)
+
+-- ---- all of them
+
+-- so it is with the position of its add too
+abbrev AlikeAt : World → World → List ℕ → Type 0
+AlikeAt w v q = ((v.added q ≡ w.added q) × SameKey (w.key q) (v.key q))
+    ⊎ BothIdle (w.key q) (v.key q)
+
+carried : (w v : World) (p : KeyType → Bool) → Busy p → (id : Id) → AlikeAt w v id.0
+    → if_some p (found v id) ≡ true → if_some p (found w id) ≡ true
+carried w v p busy id (inl a) e = by (w.added id.0 == id.1) (w.key id.0) (v.key id.0) a.1
+    (ap (λ n. if_some p (if n == id.1 then v.key id.0 else None)) (sym a.0) ∙ e)
+  where
+    by : (b : Bool) (o u : Option Key) → SameKey o u → if_some p (if b then u else None) ≡ true
+        → if_some p (if b then o else None) ≡ true
+    by false o u s h = absurd (true≢false (sym h))
+    by true None None s h = h
+    by true None (Some j) s h = absurd s
+    by true (Some k) None s h = absurd s
+    by true (Some k) (Some j) s h = ap p (sym s.0) ∙ h
+carried w v p busy id (inr i) e = absurd (by (v.added id.0 == id.1) (v.key id.0) i.1 e)
+  where
+    by : (b : Bool) (u : Option Key) → all_ok is_idle u ≡ true
+        → if_some p (if b then u else None) ≡ true → ⊥
+    by false u i h = true≢false (sym h)
+    by true None i h = true≢false (sym h)
+    by true (Some j) i h = true≢false (sym i ∙ busy j.keytype h)
+
+fitting : (w v : World) (sd : SideOf) (st : Stage) (id : Id) → AlikeAt w v id.0
+    → all_ok (fits sd st) (found w id) ≡ true → all_ok (fits sd st) (found v id) ≡ true
+fitting w v sd st id (inl a) e =
+    ap (λ n. all_ok (fits sd st) (if n == id.1 then v.key id.0 else None)) a.0
+    ∙ by (w.added id.0 == id.1) (w.key id.0) (v.key id.0) a.1 e
+  where
+    by : (b : Bool) (o u : Option Key) → SameKey o u
+        → all_ok (fits sd st) (if b then o else None) ≡ true
+        → all_ok (fits sd st) (if b then u else None) ≡ true
+    by false o u s h = refl
+    by true None None s h = refl
+    by true None (Some j) s h = absurd s
+    by true (Some k) None s h = refl
+    by true (Some k) (Some j) s h = ap (fits sd st) s.0 ∙ h
+fitting w v sd st id (inr i) e = by (v.added id.0 == id.1) (v.key id.0) i.1
+  where
+    by : (b : Bool) (u : Option Key) → all_ok is_idle u ≡ true
+        → all_ok (fits sd st) (if b then u else None) ≡ true
+    by false u i = refl
+    by true None i = refl
+    by true (Some j) i = idle-fits sd st j.keytype i
+
+kept_by : (w v : World) → ((q : RollType) → v.roll q ≡ w.roll q)
+    → ((q : List ℕ) → Alike (w.key q) (v.key q))
+    → ((q : List ℕ) → (v.added q ≡ w.added q) ⊎ BothIdle (w.key q) (v.key q)) → Kept w v
+kept_by w v rolls keys places = record {
+  rolls = rolls;
+  keys = λ q. was_key (w.key q) (v.key q) (keys q);
+  fore = λ p busy id. carried w v p busy id (at id.0);
+  back = λ p busy id. carried v w p busy id (elim (at id.0) [
+    | inl a ↦ inl (sym a.0, turned (w.key id.0) (v.key id.0) a.1)
+    | inr i ↦ inr (i.1, i.0)
+  ]);
+  flags = λ sd st h id. fitting w v sd st id (at id.0) (h id);
 }
+  where
+    at : (q : List ℕ) → AlikeAt w v q
+    at q = elim (places q) [
+      | inl a ↦ elim (keys q) [ inl s ↦ inl (a, s) | inr i ↦ inr i ]
+      | inr i ↦ inr i
+    ]
+
+-- ---- the calls
+
+pub kept_same : (w : World) → Kept w w
+kept_same w = kept_by w w (λ q. refl) (λ q. inl (same_key (w.key q))) (λ q. inl refl)
 
 abbrev pub with_key : World → List ℕ → ℕ → Key → World
 with_key w r n k = record w { key = put w.key r (Some k); added = put w.added r n }
 
-found_added : (b c d : Bool) (o : Option Key) (k : Key) → (b ≡ true → o ≡ None) → is_idle k.keytype
-    ≡ true
-    → (p : KeyType → Bool) → Busy p → if_some p
-    (if (if b then c else d) then (if b then Some k else o) else None) ≡ true
-    → if_some p (if d then o else None) ≡ true
-found_added true true d o k gone idle p busy e = absurd (true≢false (sym idle ∙ busy k.keytype e))
-found_added true false d o k gone idle p busy e = absurd (true≢false (sym e))
-found_added false c d o k gone idle p busy e = e
-
-still_found : (b c d : Bool) (o : Option Key) (k : Key) → (b ≡ true → o ≡ None)
-    → (p : KeyType → Bool) → if_some p (if d then o else None) ≡ true
-    → if_some p (if (if b then c else d) then (if b then Some k else o) else None) ≡ true
-still_found true c true o k gone p e = absurd (true≢false (sym e ∙ ap (if_some p) (gone refl)))
-still_found true c false o k gone p e = absurd (true≢false (sym e))
-still_found false c d o k gone p e = e
-
-fits_added : (b c d : Bool) (o : Option Key) (k : Key) → is_idle k.keytype ≡ true
-    → (sd : SideOf) (st : Stage) → all_ok (fits sd st) (if d then o else None) ≡ true
-    → all_ok (fits sd st) (if (if b then c else d) then (if b then Some k else o) else None) ≡ true
-fits_added true true d o k idle sd st e = idle-fits sd st k.keytype idle
-fits_added true false d o k idle sd st e = refl
-fits_added false c d o k idle sd st e = e
-
-tag_added : (b : Bool) (m n t : ℕ) → ((if b then n else m) == t)
-    ≡ (if b then (n == t) else (m == t))
-tag_added true m n t = refl
-tag_added false m n t = refl
-
-key_added : (b : Bool) (o : Option Key) (k j : Key) → is_idle k.keytype ≡ true
-    → (if b then Some k else o) ≡ Some j → is_idle j.keytype ≡ false → o ≡ Some j
-key_added true o k j idle e u = absurd
-    (true≢false (sym (subst (λ j. is_idle j.keytype ≡ true) (same_Some k j e) idle) ∙ u))
-key_added false o k j idle e u = e
-
 pub kept_added : (w : World) (r : List ℕ) (n : ℕ) (k : Key) → w.key r ≡ None → is_idle k.keytype
     ≡ true → Kept w (with_key w r n k)
-kept_added w r n k gone idle = record {
-  rolls = λ q. refl;
-  keys = λ q j e u. (j, key_added (bytes_eq r q) (w.key q) k j idle e u, refl, λ s. refl);
-  fore = λ p busy id e. found_added (bytes_eq r id.0) (n == id.1) (w.added id.0 == id.1)
-      (w.key id.0) k (none_at id.0) idle p busy
-      (sym (ap (λ t. if_some p (if t then (if bytes_eq r id.0 then Some k else w.key id.0) else
-      None)) (tag_added (bytes_eq r id.0) (w.added id.0) n id.1)) ∙ e);
-  back = λ p busy id e. ap (λ t. if_some p
-      (if t then (if bytes_eq r id.0 then Some k else w.key id.0) else None))
-      (tag_added (bytes_eq r id.0) (w.added id.0) n id.1)
-      ∙ still_found (bytes_eq r id.0) (n == id.1) (w.added id.0 == id.1) (w.key id.0) k
-      (none_at id.0) p e;
-  flags = λ sd st h id. ap (λ t. all_ok (fits sd st)
-      (if t then (if bytes_eq r id.0 then Some k else w.key id.0) else None))
-      (tag_added (bytes_eq r id.0) (w.added id.0) n id.1)
-      ∙ fits_added (bytes_eq r id.0) (n == id.1) (w.added id.0 == id.1) (w.key id.0) k idle sd st
-      (h id);
-}
+kept_added w r n k gone idle = kept_by w (with_key w r n k) (λ q. refl)
+    (λ q. put_alike (bytes_eq r q) (w.key q) (Some k) (idles q)) (λ q. by q (bytes_eq r q) refl)
   where
-    none_at : (q : List ℕ) → bytes_eq r q ≡ true → w.key q ≡ None
-    none_at q e = ap w.key (sym ((bytes_decides r q).0 e)) ∙ gone
+    idles : (q : List ℕ) → bytes_eq r q ≡ true → BothIdle (w.key q) (Some k)
+    idles q t = (ap (all_ok is_idle) (ap w.key (sym ((bytes_decides r q).0 t)) ∙ gone), idle)
+
+    by : (q : List ℕ) (b : Bool) → bytes_eq r q ≡ b → ((if b then n else w.added q) ≡ w.added q)
+        ⊎ BothIdle (w.key q) (if b then Some k else w.key q)
+    by q true t = inr (idles q t)
+    by q false t = inl refl
 
 abbrev pub without_key : World → List ℕ → World
 without_key w r = record w { key = put w.key r None }
 
-key_deleted : (b : Bool) (o : Option Key) (j : Key) → (if b then None else o) ≡ Some j → o ≡ Some j
-key_deleted true o j e = absurd (none-some j e)
-key_deleted false o j e = e
-
-found_deleted : (b d : Bool) (o : Option Key) (p : KeyType → Bool)
-    → if_some p (if d then (if b then None else o) else None) ≡ true
-    → if_some p (if d then o else None) ≡ true
-found_deleted true true o p e = absurd (true≢false (sym e))
-found_deleted true false o p e = e
-found_deleted false d o p e = e
-
-still_there : (b d : Bool) (o : Option Key) (p : KeyType → Bool)
-    → (b ≡ true → if_some p o ≡ true → ⊥) → if_some p (if d then o else None) ≡ true
-    → if_some p (if d then (if b then None else o) else None) ≡ true
-still_there true true o p not_it e = absurd (not_it refl e)
-still_there true false o p not_it e = e
-still_there false d o p not_it e = e
-
-fits_deleted : (b d : Bool) (o : Option Key) (sd : SideOf) (st : Stage)
-    → all_ok (fits sd st) (if d then o else None) ≡ true
-    → all_ok (fits sd st) (if d then (if b then None else o) else None) ≡ true
-fits_deleted true true o sd st e = refl
-fits_deleted true false o sd st e = refl
-fits_deleted false d o sd st e = e
-
 pub kept_deleted : (w : World) (r : List ℕ) (k : Key) → w.key r ≡ Some k → is_idle k.keytype ≡ true
     → Kept w (without_key w r)
-kept_deleted w r k at idle = record {
-  rolls = λ q. refl;
-  keys = λ q j e u. (j, key_deleted (bytes_eq r q) (w.key q) j e, refl, λ s. refl);
-  fore = λ p busy id. found_deleted (bytes_eq r id.0) (w.added id.0 == id.1) (w.key id.0) p;
-  back = λ p busy id. still_there (bytes_eq r id.0) (w.added id.0 == id.1) (w.key id.0) p
-      (not_used p busy id.0);
-  flags = λ sd st h id. fits_deleted (bytes_eq r id.0) (w.added id.0 == id.1) (w.key id.0) sd st
-      (h id);
-}
-  where
-    not_used : (p : KeyType → Bool) → Busy p → (q : List ℕ) → bytes_eq r q ≡ true
-        → if_some p (w.key q) ≡ true → ⊥
-    not_used p busy q e s =
-        let at_q : w.key q ≡ Some k = ap w.key (sym ((bytes_decides r q).0 e)) ∙ at in
-        let pass : p k.keytype ≡ true = subst (λ o. if_some p o ≡ true) at_q s in
-        true≢false (sym idle ∙ busy k.keytype pass)
+kept_deleted w r k at idle = kept_by w (without_key w r) (λ q. refl)
+    (λ q. put_alike (bytes_eq r q) (w.key q) None (λ t. (
+      ap (all_ok is_idle) (ap w.key (sym ((bytes_decides r q).0 t)) ∙ at) ∙ idle,
+      refl,
+    ))) (λ q. inl refl)
 
--- a call that changes only keys of other signers, and what no wait reads
 abbrev pub with_keys : World → (List ℕ → Key → Key) → World
 with_keys w f = record w { key = λ q. option_map (f q) (w.key q) }
 
-abbrev pub AllHarmless : (Key → Key) → Option Key → Type 0
-AllHarmless f o = (k : Key) → o ≡ Some k → Harmless k (f k)
-
-was_busy : (p : KeyType → Bool) → Busy p → (f : Key → Key) (o : Option Key) → AllHarmless f o
-    → (d : Bool) → if_some p (if d then option_map f o else None) ≡ true
-    → if_some p (if d then o else None) ≡ true
-was_busy p busy f None h true e = e
-was_busy p busy f (Some k) h true e =
-    ap p (sym (harmless-busy k (f k) (h k refl) (busy (f k).keytype e))) ∙ e
-was_busy p busy f o h false e = e
-
-still_busy : (p : KeyType → Bool) → Busy p → (f : Key → Key) (o : Option Key) → AllHarmless f o
-    → (d : Bool) → if_some p (if d then o else None) ≡ true
-    → if_some p (if d then option_map f o else None) ≡ true
-still_busy p busy f None h true e = e
-still_busy p busy f (Some k) h true e =
-    let same = harmless-alike is_idle true others-idle k (f k) (h k refl) in
-    ap p (harmless-busy k (f k) (h k refl) (same ∙ busy k.keytype e)) ∙ e
-still_busy p busy f o h false e = e
-
-still_fits : (sd : SideOf) (st : Stage) (f : Key → Key) (o : Option Key) → AllHarmless f o
-    → (d : Bool) → all_ok (fits sd st) (if d then o else None) ≡ true
-    → all_ok (fits sd st) (if d then option_map f o else None) ≡ true
-still_fits sd st f None h true e = e
-still_fits sd st f (Some k) h true e =
-    harmless-alike (fits sd st) true (λ t o. idle-fits sd st t (others-idle t o)) k (f k) (h k refl)
-    ∙ e
-still_fits sd st f o h false e = e
-
-key_changed : (f : Key → Key) (o : Option Key) → AllHarmless f o → (j : Key)
-    → option_map f o ≡ Some j → is_idle j.keytype ≡ false → (k : Key) × (o ≡ Some k)
-    × (k.keytype ≡ j.keytype) × ((s : Stamp) → stamp_of s k ≡ stamp_of s j)
-key_changed f None h j e u = absurd (none-some j e)
-key_changed f (Some k) h j e u =
-    let image : f k ≡ j = same_Some _ _ e in
-    let a = h k refl in
-    let same = harmless-busy k (f k) a (ap (λ j. is_idle j.keytype) image ∙ u) in (
-      k,
-      refl,
-      sym same ∙ ap (λ j. j.keytype) image,
-      λ s. sym (a.stamps s) ∙ ap (stamp_of s) image,
-    )
-
 pub kept_changed : (w : World) (f : List ℕ → Key → Key)
     → ((q : List ℕ) → AllHarmless (f q) (w.key q)) → Kept w (with_keys w f)
-kept_changed w f h = record {
-  rolls = λ q. refl;
-  keys = λ q. key_changed (f q) (w.key q) (h q);
-  fore = λ p busy id.
-      was_busy p busy (f id.0) (w.key id.0) (h id.0) (w.added id.0 == id.1);
-  back = λ p busy id.
-      still_busy p busy (f id.0) (w.key id.0) (h id.0) (w.added id.0 == id.1);
-  flags = λ sd st was id.
-      still_fits sd st (f id.0) (w.key id.0) (h id.0) (w.added id.0 == id.1) (was id);
-}
+kept_changed w f h = kept_by w (with_keys w f) (λ q. refl)
+    (λ q. map_alike (f q) (w.key q) (h q)) (λ q. inl refl)
 
 pub gentle_kept : (tale : Tale) (n : ℕ) (v : World) → world_at tale (suc n) ≡ v
     → Kept (world_at tale n) v → (position_at tale.es (suc n)).mark ≡ Other

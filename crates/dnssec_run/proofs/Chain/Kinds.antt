@@ -3,14 +3,13 @@ use Rattle.std.proofs.Common.{◌≡◌, ℕ, Bool, true, false, ◌||◌, refl,
 use Rattle.std.specs.Prelude.{nat_eq}
 use Rattle.dnssec_key.specs.declared.roll.RollType.{RollType}
 use Rattle.dnssec_key.specs.declared.kind.KeyType.{KeyType}
-use Rattle.dnssec_key.specs.declared.kind.KeyType.TheVariants.{Ksk, Zsk, Csk, Include}
-use Rattle.dnssec_key.specs.RollTable.{First, Second, at_roles, turns_old}
+use Rattle.dnssec_key.specs.declared.kind.KeyType.TheVariants.{Ksk}
+use Rattle.dnssec_key.specs.RollTable.{at_roles, turns_old, Half, half_of}
 use Rattle.dnssec_zone.specs.Start.{side_of}
 use Rattle.dnssec_keyset.proofs.Exchange.Kinds.{kind_number, lists-number, lists_by, number-comes}
 use Rattle.dnssec_keyset.proofs.Exchange.Kinds.{number-at_roles, number-goes, number-moves}
 use Rattle.dnssec_keyset.proofs.Exchange.Kinds.{number-returns}
-use Rattle.dnssec_zone.proofs.Flags.{SideOf, Keys, Zone, may_list, started, ended, waited1}
-use Rattle.dnssec_zone.proofs.Flags.{waited2, has_role}
+use Rattle.dnssec_zone.proofs.Flags.{SideOf, Keys, Zone, may_list, started, ended, has_role}
 
 pub number_started : (r : RollType) (o i : Bool) (k : KeyType)
     → kind_number (started r o i k) ≡ kind_number k
@@ -38,11 +37,9 @@ pub list_start : (q r : RollType) (o i : Bool) (k : KeyType) → may_list q (sta
     ≡ may_list q k
 list_start q r o i k = same_list q _ k (number_started r o i k)
 
-pub list_waited1 : (q r : RollType) (k : KeyType) → may_list q (waited1 r k) ≡ may_list q k
-list_waited1 q r k = same_list q _ k (number-moves r First k)
-
-pub list_waited2 : (q r : RollType) (k : KeyType) → may_list q (waited2 r k) ≡ may_list q k
-list_waited2 q r k = same_list q _ k (number-moves r Second k)
+pub list_waited : (q r : RollType) (half : Half) (k : KeyType)
+    → may_list q ((half_of r half).moves k) ≡ may_list q k
+list_waited q r half k = same_list q _ k (number-moves r half k)
 
 -- ---- its roles
 
@@ -53,13 +50,8 @@ role_by Zone n = nat_eq n 1 || nat_eq n 2
 role-number : (sd : SideOf) (k : KeyType) → has_role sd k ≡ role_by sd (kind_number k)
 unfolding role_by kind_number
 role-number Keys (Ksk s) = refl
-role-number Keys (Zsk s) = refl
-role-number Keys (Csk s t) = refl
-role-number Keys (Include s) = refl
 role-number Zone (Ksk s) = refl
-role-number Zone (Zsk s) = refl
-role-number Zone (Csk s t) = refl
-role-number Zone (Include s) = refl
+role-number _ _ = refl
 
 pub same_role : (sd : SideOf) (j k : KeyType) → kind_number j ≡ kind_number k
     → has_role sd j ≡ has_role sd k
@@ -69,10 +61,6 @@ pub role_start : (sd : SideOf) (r : RollType) (o i : Bool) (k : KeyType)
     → has_role sd (started r o i k) ≡ has_role sd k
 role_start sd r o i k = same_role sd _ k (number_started r o i k)
 
-pub role_waited1 : (sd : SideOf) (r : RollType) (k : KeyType) → has_role sd (waited1 r k)
-    ≡ has_role sd k
-role_waited1 sd r k = same_role sd _ k (number-moves r First k)
-
-pub role_waited2 : (sd : SideOf) (r : RollType) (k : KeyType) → has_role sd (waited2 r k)
-    ≡ has_role sd k
-role_waited2 sd r k = same_role sd _ k (number-moves r Second k)
+pub role_waited : (sd : SideOf) (r : RollType) (half : Half) (k : KeyType)
+    → has_role sd ((half_of r half).moves k) ≡ has_role sd k
+role_waited sd r half k = same_role sd _ k (number-moves r half k)

@@ -1,7 +1,7 @@
 -- How a family of keys fares: it stays on both sides, leaves, or isn't there. Calls that leave both
 -- sides alone keep that.
-use Rattle.std.proofs.Common.{◌≡◌, ℕ, suc, ◌<◌, ◌≤◌, ◌⊎◌, inl, inr, true, false}
-use Rattle.std.proofs.Common.{◌∙◌, subst, arith, length, List, Some}
+use Rattle.std.proofs.Common.{◌≡◌, ℕ, suc, ◌<◌, ◌≤◌, ◌⊎◌, inl, inr, true, false, ◌∙◌, subst, arith}
+use Rattle.std.proofs.Common.{length, List, Some}
 use Rattle.std.proofs.lemmas.Bool.{cases_lt, or_right}
 use Rattle.dnssec_key.specs.declared.roll.RollType.{RollType}
 use Rattle.dnssec_key.specs.declared.roll.RollType.TheVariants.{AlgorithmRoll}
@@ -19,8 +19,8 @@ use Rattle.dnssec_run.proofs.Chain.Flags.{in_use, live, remains}
 use Rattle.dnssec_run.proofs.Chain.Facts.{test-seen, use-seen, live-seen, remains-seen}
 use Rattle.dnssec_run.proofs.Chain.Keeping.{engaged, engaged-seen, of_key, before_first}
 use Rattle.dnssec_run.proofs.Chain.History.{Without, base_same}
-use Rattle.dnssec_run.proofs.Chain.Places.{all_ok, NoDs, LessDs, ds_shown}
-use Rattle.dnssec_run.proofs.Chain.Places.{without-next, some_of, some_weaker}
+use Rattle.dnssec_run.proofs.Chain.Places.{all_ok, NoDs, LessDs, ds_shown, without-next, some_of}
+use Rattle.dnssec_run.proofs.Chain.Places.{some_weaker}
 use Rattle.dnssec_run.proofs.Chain.Invariant.{At, Alive, Based, Gentle, Has, HasNo, Lasts, Left}
 use Rattle.dnssec_run.proofs.Chain.Invariant.{has-gentle, has_no-gentle, lasts-gentle}
 
@@ -119,7 +119,7 @@ abbrev pub Fades : Tale → ℕ → RollType → Type 0
 Fades tale n r = (affects Zone r ≡ true) × (tale.whole ≡ false) × HasNo tale (remains Keys r) n
     × (Left tale Zone (Early r) n ⊎ (r ≡ AlgorithmRoll))
 
--- What the start behind position n makes of the family. One in use stays or leaves on the side of
+-- What the start after position n makes of the family. One in use stays or leaves on the side of
 -- keys. It stays on that of the zone, if it does on the other. One that isn't there stays away, or
 -- an algorithm roll brings it in.
 pub record Goes (tale : Tale) (n : ℕ) (r : RollType) : Type 0 where

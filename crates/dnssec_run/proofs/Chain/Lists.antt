@@ -1,5 +1,9 @@
 -- What is kept of starts: how each call changes the lists, and which calls leave a side's keys in
 -- them as they were.
+use Rattle.std.proofs.lemmas.Bool.{false_from_ne_true}
+use Rattle.std.proofs.Math.Bool.{and-true, and-false}
+use Rattle.dnssec_zone.specs.Lists.{lists_after_report, nothing_listed, Listed, Lists, listed_by}
+use Rattle.dnssec_zone.specs.Lists.{with_listed, without, others}
 use Rattle.std.proofs.Common.{[], ◌∷◌, ◌≡◌, ℕ, suc, Bool, true, false, not, ◌&&◌, ◌||◌, refl, sym}
 use Rattle.std.proofs.Common.{◌∙◌, ap, List, Option, Some}
 use Rattle.std.specs.Prelude.{filter, if◌then◌else◌}
@@ -8,52 +12,45 @@ use Rattle.std.specs.Cmp.Lexicographic.{bytes_decides}
 use Rattle.dnssec_key.specs.declared.roll.RollType.{RollType}
 use Rattle.dnssec_key.specs.declared.roll.RollState.{RollState}
 use Rattle.dnssec_key.specs.declared.roll.RollState.TheVariants.{Propagation1}
-use Rattle.dnssec_zone.specs.Lists.{Listed, Lists, listed_by, with_listed, without, others}
 use Rattle.dnssec_zone.specs.Rolls.{same_roll}
 use Rattle.dnssec_zone.proofs.Flags.{SideOf, affects, has_role}
 use Rattle.dnssec_zone.proofs.Phases.{listed_by-with_listed, listed_by-without}
 use Rattle.dnssec_run.specs.Published.{Id}
-use Rattle.dnssec_run.proofs.Chain.Tale.{Tale, Key, found, world_at, put_roll, is_listed}
+use Rattle.dnssec_run.proofs.Chain.Tale.{Tale, Key, found, world_at, put_roll}
 use Rattle.dnssec_run.proofs.Chain.Rolls.{same-same, put-same, put-other}
 use Rattle.dnssec_run.proofs.Chain.Places.{real}
 use Rattle.dnssec_run.proofs.Chain.Returns.{KeepsLists, listed_at}
 use Rattle.dnssec_keyset.proofs.Laws.{same-is}
+use Rattle.dnssec_key.specs.RollTable.{Half, First, Second}
+use Rattle.dnssec_zone.specs.Start.{is_listed}
 
 -- ---- one list
 
 -- a list cut by a test of references
 pub is_listed-filter : (p : List ℕ → Bool) (qs : List (List ℕ)) (q : List ℕ)
-    → is_listed q (filter p qs) ≡ (is_listed q qs && p q)
+    → is_listed (filter p qs) q ≡ (is_listed qs q && p q)
 is_listed-filter p [] q = refl
 is_listed-filter p (x ∷ xs) q = by (p x) refl (bytes_eq q x) refl (is_listed-filter p xs q)
   where
-    out : (a : Bool) → (a && false) ≡ false
-    out true = refl
-    out false = refl
-
     by : (b : Bool) → p x ≡ b → (c : Bool) → bytes_eq q x ≡ c
-        → is_listed q (filter p xs) ≡ (is_listed q xs && p q)
-        → is_listed q (if b then x ∷ filter p xs else filter p xs)
-        ≡ ((bytes_eq q x || is_listed q xs) && p q)
-    by true t true u rest = (λ i. u i || is_listed q (filter p xs))
-        ∙ sym (ap p ((bytes_decides q x).0 u) ∙ t) ∙ (λ i. (sym u i || is_listed q xs) && p q)
-    by true t false u rest = (λ i. u i || is_listed q (filter p xs)) ∙ rest
-        ∙ (λ i. (sym u i || is_listed q xs) && p q)
+        → is_listed (filter p xs) q ≡ (is_listed xs q && p q)
+        → is_listed (if b then x ∷ filter p xs else filter p xs) q
+        ≡ ((bytes_eq q x || is_listed xs q) && p q)
+    by true t true u rest = (λ i. u i || is_listed (filter p xs) q)
+        ∙ sym (ap p ((bytes_decides q x).0 u) ∙ t) ∙ (λ i. (sym u i || is_listed xs q) && p q)
+    by true t false u rest = (λ i. u i || is_listed (filter p xs) q) ∙ rest
+        ∙ (λ i. (sym u i || is_listed xs q) && p q)
     by false t true u rest =
         let no : p q ≡ false = ap p ((bytes_decides q x).0 u) ∙ t in
-        rest ∙ ap (λ b. is_listed q xs && b) no ∙ out (is_listed q xs) ∙ sym no
-        ∙ (λ i. (sym u i || is_listed q xs) && p q)
-    by false t false u rest = rest ∙ (λ i. (sym u i || is_listed q xs) && p q)
+        rest ∙ ap (λ b. is_listed xs q && b) no ∙ and-false (is_listed xs q) ∙ sym no
+        ∙ (λ i. (sym u i || is_listed xs q) && p q)
+    by false t false u rest = rest ∙ (λ i. (sym u i || is_listed xs q) && p q)
 
 -- the list without a reference lists the others as before
 pub is_listed-others : (x : List ℕ) (qs : List (List ℕ)) (q : List ℕ) → bytes_eq x q ≡ false
-    → is_listed q (others x qs) ≡ is_listed q qs
+    → is_listed (others x qs) q ≡ is_listed qs q
 is_listed-others x qs q e = is_listed-filter (λ y. not (bytes_eq x y)) qs q
-    ∙ ap (λ b. is_listed q qs && not b) e ∙ all_in (is_listed q qs)
-  where
-    all_in : (a : Bool) → (a && true) ≡ a
-    all_in true = refl
-    all_in false = refl
+    ∙ ap (λ b. is_listed qs q && not b) e ∙ and-true (is_listed qs q)
 
 -- ---- all lists
 
@@ -69,6 +66,11 @@ pub listed-other : (l : Lists) (r : RollType) (listed : Listed) (q : RollType)
 listed-other l r listed q e = listed_by-with_listed l r listed q
     ∙ ap (λ b. if b then listed else listed_by l q) e
 
+pub listed-reported : (half : Half) (l : Lists) (r q : RollType) → same_roll r q ≡ false
+    → listed_by (lists_after_report r half l) q ≡ listed_by l q
+listed-reported First l r q e = listed-other l r nothing_listed q e
+listed-reported Second l r q e = refl
+
 -- ---- the calls
 
 module _ (tale : Tale) (n : ℕ) where
@@ -79,8 +81,8 @@ module _ (tale : Tale) (n : ℕ) where
   keeps-same rolls lists sd = record {
     phase = λ r own e. sym (rolls r) ∙ e;
     same = λ r own e id k f role. (
-      ap (λ l. is_listed id.0 (listed_by l r).olds) lists,
-      ap (λ l. is_listed id.0 (listed_by l r).news) lists,
+      ap (λ l. is_listed (listed_by l r).olds id.0) lists,
+      ap (λ l. is_listed (listed_by l r).news id.0) lists,
     );
   }
 
@@ -97,18 +99,18 @@ module _ (tale : Tale) (n : ℕ) where
   }
     where
       by : (r : RollType) (id : Id) (b : Bool) → bytes_eq x id.0 ≡ b → (bytes_eq x id.0 ≡ true → ⊥)
-          → (is_listed id.0 (listed_at tale r (suc n)).olds
-          ≡ is_listed id.0 (listed_at tale r n).olds)
-          × (is_listed id.0 (listed_at tale r (suc n)).news
-          ≡ is_listed id.0 (listed_at tale r n).news)
+          → (is_listed (listed_at tale r (suc n)).olds id.0
+          ≡ is_listed (listed_at tale r n).olds id.0)
+          × (is_listed (listed_at tale r (suc n)).news id.0
+          ≡ is_listed (listed_at tale r n).news id.0)
       by r id true t none = absurd (none t)
       by r id false t none = (
-        ap (λ l. is_listed id.0 (listed_by l r).olds) lists
-            ∙ ap (λ (l : Listed). is_listed id.0 l.olds)
+        ap (λ l. is_listed (listed_by l r).olds id.0) lists
+            ∙ ap (λ (l : Listed). is_listed l.olds id.0)
             (listed_by-without x (real tale n).set.lists r)
             ∙ is_listed-others x (listed_at tale r n).olds id.0 t,
-        ap (λ l. is_listed id.0 (listed_by l r).news) lists
-            ∙ ap (λ (l : Listed). is_listed id.0 l.news)
+        ap (λ l. is_listed (listed_by l r).news id.0) lists
+            ∙ ap (λ (l : Listed). is_listed l.news id.0)
             (listed_by-without x (real tale n).set.lists r)
             ∙ is_listed-others x (listed_at tale r n).news id.0 t,
       )
@@ -121,19 +123,16 @@ module _ (tale : Tale) (n : ℕ) where
   keeps-on r o moved rolls lists sd = record {
     phase = λ q own e. sym (put-other (world_at tale n).roll r o q (apart q e)) ∙ sym (rolls q) ∙ e;
     same = λ q own e id k f role. let same = lists q (apart q e) in (
-      ap (λ (l : Listed). is_listed id.0 l.olds) same,
-      ap (λ (l : Listed). is_listed id.0 l.news) same,
+      ap (λ (l : Listed). is_listed l.olds id.0) same,
+      ap (λ (l : Listed). is_listed l.news id.0) same,
     );
   }
     where
       apart : (q : RollType) → (world_at tale (suc n)).roll q ≡ Some Propagation1 → same_roll r q
           ≡ false
-      apart q e = by (same_roll r q) refl
-        where
-          by : (b : Bool) → same_roll r q ≡ b → b ≡ false
-          by true t = absurd (moved (sym (put-same (world_at tale n).roll r o) ∙ sym (rolls r)
-              ∙ ap (world_at tale (suc n)).roll (same-is r q t) ∙ e))
-          by false t = refl
+      apart q e = false_from_ne_true (same_roll r q)
+          (λ t. moved (sym (put-same (world_at tale n).roll r o) ∙ sym (rolls r)
+          ∙ ap (world_at tale (suc n)).roll (same-is r q t) ∙ e))
 
   -- a start of a roll of the other side
   pub keeps-start : (r : RollType) (o : Option RollState)
@@ -145,7 +144,7 @@ module _ (tale : Tale) (n : ℕ) where
     phase = λ q own e. sym (put-other (world_at tale n).roll r o q (apart q own)) ∙ sym (rolls q)
         ∙ e;
     same = λ q own e id k f role. let same = lists q (apart q own) in (
-      ap (λ (l : Listed). is_listed id.0 l.olds) same,
-      ap (λ (l : Listed). is_listed id.0 l.news) same,
+      ap (λ (l : Listed). is_listed l.olds id.0) same,
+      ap (λ (l : Listed). is_listed l.news id.0) same,
     );
   }

@@ -1,4 +1,5 @@
--- What a start, a wait and an early end do to one key of a side.
+-- What a roll call does to one key.
+use Rattle.dnssec_run.proofs.Chain.Places.{some_key, all_ok, found_key}
 use Rattle.std.proofs.Common.{◌≡◌, ℕ, suc, ◌⊎◌, inl, inr, Bool, true, false, not, ◌&&◌, ◌||◌, refl}
 use Rattle.std.proofs.Common.{sym, ◌∙◌, ap, subst, List, Option, None, Some}
 use Rattle.std.specs.Option.{option_map}
@@ -8,15 +9,13 @@ use Rattle.dnssec_key.specs.declared.roll.RollType.{RollType}
 use Rattle.dnssec_key.specs.declared.roll.RollState.{RollState}
 use Rattle.dnssec_key.specs.declared.kind.KeyType.{KeyType}
 use Rattle.dnssec_run.specs.Published.{Id}
-use Rattle.dnssec_zone.proofs.Flags.{SideOf, affects, may_list, is_blank, Quiet, Early, Late}
-use Rattle.dnssec_zone.proofs.Flags.{fits, may_start}
+use Rattle.dnssec_zone.proofs.Flags.{may_list, may_start}
 use Rattle.dnssec_run.proofs.Chain.Tale.{Tale, World, Key, found, if_some, world_at, put_roll}
-use Rattle.dnssec_run.proofs.Chain.Tale.{start_key, wait1_key, wait2_key, is_listed, CanStart}
+use Rattle.dnssec_run.proofs.Chain.Tale.{CanStart}
 use Rattle.dnssec_zone.proofs.Tests.{and-both}
-use Rattle.dnssec_run.proofs.Chain.Flags.{first_test, second_test, in_use, live, remains, switches}
-use Rattle.dnssec_run.proofs.Chain.Flags.{start_facts}
-use Rattle.dnssec_run.proofs.Chain.Facts.{wait1_facts, wait2_facts}
-use Rattle.dnssec_run.proofs.Chain.Places.{all_ok, found_key}
+use Rattle.dnssec_zone.specs.Start.{is_listed}
+use Rattle.dnssec_key.specs.State.{is_future}
+use Rattle.dnssec_key.specs.Key.{all_states}
 
 -- a roll call: each key is mapped, and one roll's state is put
 pub record Mapped (tale : Tale) (n : ℕ) (f : List ℕ → Key → Key) (r : RollType)
@@ -31,7 +30,8 @@ pub record Mapped (tale : Tale) (n : ℕ) (f : List ℕ → Key → Key) (r : Ro
 -- ---- one key
 
 pub may_by : (r : RollType) (o i : Bool) (k : KeyType) → (o ≡ true → may_list r k ≡ true)
-    → (i ≡ true → (may_list r k ≡ true) × (is_blank k ≡ true) × (o ≡ false)) → may_start r o i k
+    → (i ≡ true → (may_list r k ≡ true) × (all_states is_future k ≡ true) × (o ≡ false))
+    → may_start r o i k
     ≡ true
 may_by r true true k old new = absurd (true≢false (new refl).2)
 may_by r true false k old new = and-both _ true (old refl) refl
@@ -41,25 +41,25 @@ may_by r false false k old new = refl
 -- what an accepted start asks of a key that is there
 pub may_there : (r : RollType) (w : World) (old new : List (List ℕ)) → CanStart r w old new
     → (q : List ℕ) (k : Key) → w.key q ≡ Some k
-    → may_start r (is_listed q old) (is_listed q new) k.keytype ≡ true
+    → may_start r (is_listed old q) (is_listed new q) k.keytype ≡ true
 may_there r w old new can q k at =
-    may_by r (is_listed q old) (is_listed q new) k.keytype
+    may_by r (is_listed old q) (is_listed new q) k.keytype
     (λ t. let x = can.old_is q t in
     subst (λ k. may_list r k.keytype ≡ true) (same_Some x.0 k (sym x.1 ∙ at)) x.2)
     (λ t. let x = can.new_is q t in
     let same : x.0 ≡ k = same_Some x.0 k (sym x.1 ∙ at) in (
       subst (λ k. may_list r k.keytype ≡ true) same x.2,
-      subst (λ k. is_blank k.keytype ≡ true)
+      subst (λ k. all_states is_future k.keytype ≡ true)
           same x.3,
       x.4,
     ))
 
 pub may_at : (r : RollType) (w : World) (old new : List (List ℕ)) → CanStart r w old new → (id : Id)
-    → all_ok (may_start r (is_listed id.0 old) (is_listed id.0 new)) (found w id) ≡ true
+    → all_ok (may_start r (is_listed old id.0) (is_listed new id.0)) (found w id) ≡ true
 may_at r w old new can id = by (found w id) refl
   where
     by : (o : Option Key) → found w id ≡ o
-        → all_ok (may_start r (is_listed id.0 old) (is_listed id.0 new)) o ≡ true
+        → all_ok (may_start r (is_listed old id.0) (is_listed new id.0)) o ≡ true
     by None e = refl
     by (Some k) e = may_there r w old new can id.0 k (found_key w id k e).0
 
@@ -68,88 +68,46 @@ pub suits : (o i : Bool) (a b : Bool) → ((i ≡ true) × (a ≡ true)) ⊎ ((o
 suits o i a b (inl x) = or_left _ _ (and-both i a x.0 x.1)
 suits o i a b (inr x) = or_right (i && a) _ (and-both (not o) b (ap not x.0) x.1)
 
-module _ (sd : SideOf) (r : RollType) (own : affects sd r ≡ true) (now : ℕ) where
-  pub start-fit : (old new : List (List ℕ)) (q : List ℕ) (o : Option Key)
-      → all_ok (may_start r (is_listed q old) (is_listed q new)) o ≡ true
-      → all_ok (fits sd Quiet) o ≡ true
-      → all_ok (fits sd (Early r)) (option_map (start_key r now old new q) o) ≡ true
-  start-fit old new q None may h = refl
-  start-fit old new q (Some k) may h =
-      (start_facts sd r (is_listed q old) (is_listed q new) k.keytype own may h).fit
+-- ---- a key before a roll call and after it
 
-  pub start-inner : (old new : List (List ℕ)) (q : List ℕ) (o : Option Key)
-      → all_ok (may_start r (is_listed q old) (is_listed q new)) o ≡ true
-      → all_ok (fits sd Quiet) o ≡ true → if_some (second_test sd r) o ≡ true
-      → if_some (first_test sd r) o ≡ true
-  start-inner old new q None may h e = absurd (true≢false (sym e))
-  start-inner old new q (Some k) may h e =
-      (start_facts sd r (is_listed q old) (is_listed q new) k.keytype own may h).inner e
+-- what holds of a key that is there
+pub of_found : (p : KeyType → Bool) (o : Option Key) (k : Key) → o ≡ Some k → all_ok p o ≡ true
+    → p k.keytype ≡ true
+of_found p o k e h = sym (ap (all_ok p) e) ∙ h
 
-  pub start-second : (old new : List (List ℕ)) (q : List ℕ) (o : Option Key)
-      → all_ok (may_start r (is_listed q old) (is_listed q new)) o ≡ true
-      → all_ok (fits sd Quiet) o ≡ true → switches sd r ≡ true
-      → if_some (second_test sd r) (option_map (start_key r now old new q) o) ≡ true
-      → (if_some (second_test sd r) o ≡ true)
-      × (if_some (first_test sd r) (option_map (start_key r now old new q) o) ≡ true)
-  start-second old new q None may h w e = absurd (true≢false (sym e))
-  start-second old new q (Some k) may h w e =
-      (start_facts sd r (is_listed q old) (is_listed q new) k.keytype own may h).second w e
+-- one that passes passes another test then
+pub goes : {tale : Tale} {n : ℕ} {f : List ℕ → Key → Key} {r : RollType} {o : Option RollState}
+    → Mapped tale n f r o → (id : Id) (p q : KeyType → Bool)
+    → ((k : Key) → found (world_at tale n) id ≡ Some k → p k.keytype ≡ true
+    → q (f id.0 k).keytype ≡ true) → if_some p (found (world_at tale n) id) ≡ true
+    → if_some q (found (world_at tale (suc n)) id) ≡ true
+goes {tale = tale} {n = n} {f = f} m id p q on e =
+    let k = some_key p (found (world_at tale n) id) e in
+    ap (if_some q) (m.founds id ∙ ap (option_map (f id.0)) k.1) ∙ on k.0 k.1 k.2
 
-  pub start-used : (old new : List (List ℕ)) (q : List ℕ) (o : Option Key)
-      → all_ok (may_start r (is_listed q old) (is_listed q new)) o ≡ true
-      → all_ok (fits sd Quiet) o ≡ true → if_some (in_use sd) o ≡ true
-      → if_some (in_use sd) (option_map (start_key r now old new q) o) ≡ true
-  start-used old new q None may h e = absurd (true≢false (sym e))
-  start-used old new q (Some k) may h e =
-      (start_facts sd r (is_listed q old) (is_listed q new) k.keytype own may h).used e
+-- one that passes then passed another before
+pub came : {tale : Tale} {n : ℕ} {f : List ℕ → Key → Key} {r : RollType} {o : Option RollState}
+    → Mapped tale n f r o → (id : Id) (p q : KeyType → Bool)
+    → ((k : Key) → found (world_at tale n) id ≡ Some k → q (f id.0 k).keytype ≡ true
+    → p k.keytype ≡ true) → if_some q (found (world_at tale (suc n)) id) ≡ true
+    → if_some p (found (world_at tale n) id) ≡ true
+came {tale = tale} {n = n} {f = f} m id p q was e =
+    by (found (world_at tale n) id) refl (sym (ap (if_some q) (m.founds id)) ∙ e)
+  where
+    by : (x : Option Key) → found (world_at tale n) id ≡ x
+        → if_some q (option_map (f id.0) x) ≡ true → if_some p x ≡ true
+    by None a h = absurd (true≢false (sym h))
+    by (Some k) a h = was k a h
 
-  pub w1-fit : (o : Option Key) → all_ok (fits sd (Early r)) o ≡ true
-      → all_ok (fits sd (Late r)) (option_map (wait1_key r now) o) ≡ true
-  w1-fit None h = refl
-  w1-fit (Some k) h = (wait1_facts sd r k.keytype own h).fit
-
-  pub w1-first : (o : Option Key) → all_ok (fits sd (Early r)) o ≡ true
-      → if_some (first_test sd r) (option_map (wait1_key r now) o) ≡ true
-      → if_some (first_test sd r) o ≡ true
-  w1-first None h e = e
-  w1-first (Some k) h e = (wait1_facts sd r k.keytype own h).first e
-
-  pub w1-keep : (o : Option Key) → switches sd r ≡ true → all_ok (fits sd (Early r)) o ≡ true
-      → if_some (first_test sd r) o ≡ true
-      → if_some (first_test sd r) (option_map (wait1_key r now) o) ≡ true
-  w1-keep None w h e = e
-  w1-keep (Some k) w h e = (wait1_facts sd r k.keytype own h).keep w e
-
-  pub w1-second : (o : Option Key) → switches sd r ≡ false → all_ok (fits sd (Early r)) o ≡ true
-      → if_some (second_test sd r) (option_map (wait1_key r now) o) ≡ true
-      → if_some (second_test sd r) o ≡ true
-  w1-second None w h e = e
-  w1-second (Some k) w h e = (wait1_facts sd r k.keytype own h).second w e
-
-  pub w1-some : (o : Option Key) → all_ok (fits sd (Early r)) o ≡ true → if_some (remains sd r) o
-      ≡ true
-      → if_some (live sd) (option_map (wait1_key r now) o) ≡ true
-  w1-some None h e = absurd (true≢false (sym e))
-  w1-some (Some k) h e = (wait1_facts sd r k.keytype own h).some e
-
-  pub w2-fit : (o : Option Key) → all_ok (fits sd (Late r)) o ≡ true
-      → all_ok (fits sd Quiet) (option_map (wait2_key r now) o) ≡ true
-  w2-fit None h = refl
-  w2-fit (Some k) h = (wait2_facts sd r k.keytype own h).fit
-
-  pub w2-first : (o : Option Key) → all_ok (fits sd (Late r)) o ≡ true
-      → if_some (first_test sd r) (option_map (wait2_key r now) o) ≡ true
-      → if_some (first_test sd r) o ≡ true
-  w2-first None h e = e
-  w2-first (Some k) h e = (wait2_facts sd r k.keytype own h).first e
-
-  pub w2-second : (o : Option Key) → all_ok (fits sd (Late r)) o ≡ true
-      → if_some (second_test sd r) (option_map (wait2_key r now) o) ≡ true
-      → if_some (second_test sd r) o ≡ true
-  w2-second None h e = e
-  w2-second (Some k) h e = (wait2_facts sd r k.keytype own h).second e
-
-  pub w2-used : (o : Option Key) → all_ok (fits sd (Late r)) o ≡ true → if_some (live sd) o ≡ true
-      → if_some (in_use sd) (option_map (wait2_key r now) o) ≡ true
-  w2-used None h e = absurd (true≢false (sym e))
-  w2-used (Some k) h e = (wait2_facts sd r k.keytype own h).used e
+-- and what holds of it then
+pub stands : {tale : Tale} {n : ℕ} {f : List ℕ → Key → Key} {r : RollType} {o : Option RollState}
+    → Mapped tale n f r o → (id : Id) (q : KeyType → Bool)
+    → ((k : Key) → found (world_at tale n) id ≡ Some k → q (f id.0 k).keytype ≡ true)
+    → all_ok q (found (world_at tale (suc n)) id) ≡ true
+stands {tale = tale} {n = n} {f = f} m id q on =
+    ap (all_ok q) (m.founds id) ∙ by (found (world_at tale n) id) refl
+  where
+    by : (x : Option Key) → found (world_at tale n) id ≡ x
+        → all_ok q (option_map (f id.0) x) ≡ true
+    by None a = refl
+    by (Some k) a = on k a

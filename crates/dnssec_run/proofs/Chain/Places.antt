@@ -1,14 +1,16 @@
 -- A place of a run: the call, its entry, and the worlds before and after; a side of the chain over
 -- the record.
-use Rattle.std.proofs.Common.{◌≡◌, ◌↔◌, ℕ, zero, suc, ◌<◌, ◌≤◌, inl, inr, Bool, true, false}
-use Rattle.std.proofs.Common.{refl, sym, ◌∙◌, ap, subst, arith, List, length, Option, None, Some}
+use Rattle.dnssec_run.proofs.Laws.{made-at}
+use Rattle.dnssec_run.proofs.Chain.Flags.{ds_first, first_by, second_by, test_of, in_keys}
+use Rattle.std.proofs.Common.{◌≡◌, ◌↔◌, ℕ, zero, suc, ◌<◌, ◌≤◌, inr, Bool, true, false, refl, sym}
+use Rattle.std.proofs.Common.{◌∙◌, ap, subst, arith, List, length, Option, None, Some}
 use Rattle.std.specs.Prelude.{slice_get, if◌then◌else◌, ◌==◌}
 use Rattle.std.specs.Option.{option_map}
 use Rattle.std.specs.List.{Contains}
 use Rattle.std.specs.FinMap.{get-empty}
 use Rattle.std.specs.Ordering.{nat_cmp}
 use Rattle.std.specs.Cmp.Lexicographic.{slice_cmp}
-use Rattle.std.proofs.lemmas.Option.{slice_get_cases, same_Some, none-some}
+use Rattle.std.proofs.lemmas.Option.{same_Some, none-some}
 use Rattle.std.proofs.lemmas.Bool.{true≢false, and_parts, eqb-true, eq-eqb}
 use Rattle.dnssec_key.specs.declared.kind.KeyType.{KeyType}
 use Rattle.dnssec_key.specs.declared.kind.KeyType.TheVariants.{Ksk, Zsk, Csk, Include}
@@ -25,8 +27,6 @@ use Rattle.dnssec_run.proofs.Premise.{sets_nothing, DoesAt}
 use Rattle.dnssec_zone.proofs.Flags.{SideOf, Keys, Zone}
 use Rattle.dnssec_run.proofs.Chain.Tale.{Tale, World, Key, seen, found, if_some, world_at}
 use Rattle.dnssec_run.proofs.Chain.Shown.{shown-found}
-use Rattle.dnssec_run.proofs.Chain.Flags.{test_of, first_kind, second_kind, first_test, second_test}
-use Rattle.dnssec_run.proofs.Chain.Flags.{in_keys}
 use Rattle.dnssec_run.proofs.Chain.History.{Serving, Without, retired_stays, never-gone-now}
 use Rattle.dnssec_run.proofs.Chain.Side.{Side, upto}
 
@@ -86,26 +86,23 @@ pub record Place (tale : Tale) (i : ℕ) : Type 0 where
 
 pub place_at : (tale : Tale) (i : ℕ) → i < length tale.es → Place tale i
 unfolding position_at rec.world_at
-place_at tale i lt = elim ((slice_get_cases tale.es i).1) [
-  | inl e ↦ elim ((slice_get_cases tale.calls i).1) [
-    | inl c ↦ let ok = tale.run.each i c.0 e.0 c.2 e.2 in record {
-      call = c.0;
-      entry = e.0;
-      call_is = c.2;
-      entry_is = e.2;
+place_at tale i lt =
+    let x = made-at tale.name tale.calls tale.es tale.run i (omega arith) in
+    let ok = tale.run.each i x.0 x.1 x.2 x.3 in
+    record {
+      call = x.0;
+      entry = x.1;
+      call_is = x.2;
+      entry_is = x.3;
       ok = ok;
-      plain = tale.plain.setters i c.0 c.2;
-      position_is = rw e.2 refl;
-      added_is = rw (c.2, e.2) refl;
+      plain = tale.plain.setters i x.0 x.2;
+      position_is = rw x.3 refl;
+      added_is = rw (x.2, x.3) refl;
       ds = shows_by in_ds (real tale (suc i)) _ ok.published.ds;
       dnskey = shows_by in_dnskey (real tale (suc i)) _ ok.published.dnskey;
       signers = shows_by signs_keys (real tale (suc i)) _ ok.published.dnskey_signers;
       zone = shows_by signs_zone (real tale (suc i)) _ ok.published.zone_signers;
     }
-    | inr c ↦ absurd (omega (arith, c.0, tale.run.count))
-  ]
-  | inr e ↦ absurd (omega (arith, e.0))
-]
 
 pub empty_found : (p : KeyType → Bool) (b : Bool) → if_some p (if b then None else None) ≡ true → ⊥
 empty_found p true e = true≢false (sym e)
@@ -204,24 +201,28 @@ pub no_ds-next : (tale : Tale) (n : ℕ) → suc n ≤ length tale.es → LessDs
 no_ds-next tale n here less h =
     no_ds-bare tale n here (without-next tale n here less (no_ds-now tale n h)) h
 
--- a roll's side of the chain
-abbrev pub side : Tale → SideOf → RollType → Side
-side tale sd r = record {
+-- a side of the chain, by whether its DS sets are the first
+abbrev pub side_by : Tale → SideOf → Bool → Side
+side_by tale sd b = record {
   Id = Id;
   Of = λ id. tale.of id ≡ true;
   last = length tale.es;
   D = NoDs tale;
-  RX = IsGone tale.es (first_kind sd r);
-  RY = IsGone tale.es (second_kind sd r);
-  X = Serving tale sd (first_kind sd r);
-  Y = Serving tale sd (second_kind sd r);
-  x = λ n id. if_some (first_test sd r) (found (world_at tale n) id) ≡ true;
-  y = λ n id. if_some (second_test sd r) (found (world_at tale n) id) ≡ true;
-  keepX = retired_stays tale.es (first_kind sd r);
-  keepY = retired_stays tale.es (second_kind sd r);
-  showX = shows tale sd (first_kind sd r);
-  showY = shows tale sd (second_kind sd r);
+  RX = IsGone tale.es (first_by sd b);
+  RY = IsGone tale.es (second_by sd b);
+  X = Serving tale sd (first_by sd b);
+  Y = Serving tale sd (second_by sd b);
+  x = λ n id. if_some (test_of sd (first_by sd b)) (found (world_at tale n) id) ≡ true;
+  y = λ n id. if_some (test_of sd (second_by sd b)) (found (world_at tale n) id) ≡ true;
+  keepX = retired_stays tale.es (first_by sd b);
+  keepY = retired_stays tale.es (second_by sd b);
+  showX = shows tale sd (first_by sd b);
+  showY = shows tale sd (second_by sd b);
 }
+
+-- a roll's side of the chain
+abbrev pub side : Tale → SideOf → RollType → Side
+side tale sd r = side_by tale sd (ds_first r)
 
 -- what an accepted call does for a roll is done by the call of its place
 pub same_call : (does : keyset.Call → Option RollType) (tale : Tale) (n : ℕ) (p : Place tale n)

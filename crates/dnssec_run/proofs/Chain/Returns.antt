@@ -11,13 +11,14 @@ use Rattle.dnssec_run.specs.Safe.{SetKind, IsGone}
 use Rattle.dnssec_zone.proofs.Tests.{and-both}
 use Rattle.dnssec_zone.proofs.Flags.{SideOf, affects, Stage, Quiet, Early, Late, fits, has_role}
 use Rattle.dnssec_zone.proofs.Flags.{is_idle, ended}
-use Rattle.dnssec_run.proofs.Chain.Tale.{Tale, Key, found, if_some, world_at, is_listed}
+use Rattle.dnssec_run.proofs.Chain.Tale.{Tale, Key, found, if_some, world_at}
 use Rattle.dnssec_run.proofs.Chain.Side.{upto}
 use Rattle.dnssec_run.proofs.Chain.Flags.{test_of, in_use}
 use Rattle.dnssec_run.proofs.Chain.Facts.{Seen}
 use Rattle.dnssec_run.proofs.Chain.EarlyEnds.{ended-less, unseen-ended, ended-seen, ended-used}
 use Rattle.dnssec_run.proofs.Chain.History.{Serving, retired_stays}
 use Rattle.dnssec_run.proofs.Chain.Places.{real, all_ok, shows, NoDs, some_key, some_weaker}
+use Rattle.dnssec_zone.specs.Start.{is_listed}
 
 -- what is kept of the start of a roll
 abbrev pub listed_at : Tale → RollType → ℕ → Listed
@@ -26,7 +27,7 @@ listed_at tale r n = listed_by (real tale n).set.lists r
 -- the kind at a reference after an early end of the roll now
 abbrev pub kind_back : Tale → RollType → ℕ → List ℕ → KeyType → KeyType
 kind_back tale r n q k =
-    ended r (is_listed q (listed_at tale r n).olds) (is_listed q (listed_at tale r n).news) k
+    ended r (is_listed (listed_at tale r n).olds q) (is_listed (listed_at tale r n).news q) k
 
 -- and the key: no stamp changes
 abbrev pub early_end_key : Tale → RollType → ℕ → List ℕ → Key → Key
@@ -56,9 +57,9 @@ pub record KeepsLists (tale : Tale) (sd : SideOf) (n : ℕ) : Type 0 where
   pub same : (r : RollType) → affects sd r ≡ true → (world_at tale (suc n)).roll r
       ≡ Some Propagation1 → (id : Id) (k : Key) → found (world_at tale (suc n)) id ≡ Some k
       → has_role sd k.keytype ≡ true
-      → (is_listed id.0 (listed_at tale r (suc n)).olds ≡ is_listed id.0 (listed_at tale r n).olds)
-      × (is_listed id.0 (listed_at tale r (suc n)).news
-      ≡ is_listed id.0 (listed_at tale r n).news)
+      → (is_listed (listed_at tale r (suc n)).olds id.0 ≡ is_listed (listed_at tale r n).olds id.0)
+      × (is_listed (listed_at tale r (suc n)).news id.0
+      ≡ is_listed (listed_at tale r n).news id.0)
 
 -- a key that the side sees, and that an early end would leave in no order
 misfits : SideOf → (KeyType → KeyType) → KeyType → Bool

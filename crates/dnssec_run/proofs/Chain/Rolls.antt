@@ -6,15 +6,14 @@ use Rattle.std.proofs.lemmas.Bool.{true≢false, not-true}
 use Rattle.dnssec_key.specs.declared.roll.RollType.{RollType}
 use Rattle.dnssec_key.specs.declared.roll.RollState.{RollState}
 use Rattle.dnssec_key.specs.declared.roll.RollState.TheVariants.{Propagation1, CacheExpire1}
-use Rattle.dnssec_key.specs.declared.roll.RollState.TheVariants.{Propagation2, CacheExpire2}
-use Rattle.dnssec_key.specs.declared.roll.RollState.TheVariants.{Done}
+use Rattle.dnssec_key.specs.declared.roll.RollState.TheVariants.{Propagation2, CacheExpire2, Done}
 use Rattle.dnssec_zone.specs.Rolls.{same_roll}
 use Rattle.dnssec_run.proofs.Chain.Tale.{put_roll}
-use Rattle.dnssec_zone.proofs.Flags.{SideOf, Keys, Zone, affects, tolerates, Stage, Quiet, Early}
-use Rattle.dnssec_zone.proofs.Flags.{Late}
-use Rattle.dnssec_zone.proofs.Tests.{each_roll, each_roll-at, alike, alike-same, mp, and-both}
-use Rattle.dnssec_zone.proofs.Tests.{◌⇒◌}
+use Rattle.dnssec_zone.proofs.Flags.{SideOf, affects, Stage, Quiet, Early, Late}
+use Rattle.dnssec_zone.proofs.Tests.{each_roll, each_roll-at, alike, alike-same, mp, and-both, ◌⇒◌}
 use Rattle.dnssec_keyset.proofs.Laws.{same-is}
+use Rattle.dnssec_zone.specs.Start.{together}
+use Rattle.dnssec_run.proofs.Chain.Tables.{by_side}
 
 abbrev pub stage_fits : Stage → RollType → Option RollState → Bool
 stage_fits Quiet _ None = true
@@ -50,55 +49,32 @@ same-sym r q = alike-same _ _ (each_roll-at (same-table r)
     (each_roll-at (λ r. each_roll (same-table r)) same-all r) q)
 
 clash_table : SideOf → RollType → RollType → Bool
-clash_table sd r q = (affects sd r && affects sd q) ⇒ not (tolerates r q)
-
-clash_all : (sd : SideOf) → each_roll (λ r. each_roll (clash_table sd r)) ≡ true
-unfolding clash_table
-clash_all Keys = refl
-clash_all Zone = refl
+clash_table sd r q = (affects sd r && affects sd q) ⇒ not (together r q)
 
 -- two rolls of a side never run together
 pub clash : (sd : SideOf) (r q : RollType) → affects sd r ≡ true → affects sd q ≡ true
-    → tolerates r q ≡ false
+    → together r q ≡ false
 unfolding clash_table
 clash sd r q e f = not-true _ (mp _ _ (each_roll-at (clash_table sd r)
-    (each_roll-at (λ r. each_roll (clash_table sd r)) (clash_all sd) r) q) (and-both _ _ e f))
+    (each_roll-at (λ r. each_roll (clash_table sd r))
+    (by_side (λ sd. each_roll (λ r. each_roll (clash_table sd r)) ≡ true) refl refl sd) r) q)
+    (and-both _ _ e f))
 
 pub stage_early : (st : Stage) (r : RollType) (p : RollState) → stage_fits (Early r) r (Some p)
     ≡ true → stage_fits st r (Some p) ≡ true → st ≡ Early r
-stage_early Quiet r Propagation1 k e = absurd (true≢false (sym e))
-stage_early Quiet r (CacheExpire1 t) k e = absurd (true≢false (sym e))
-stage_early Quiet r Propagation2 k e = absurd (true≢false (sym k))
-stage_early Quiet r (CacheExpire2 t) k e = absurd (true≢false (sym k))
-stage_early Quiet r Done k e = absurd (true≢false (sym k))
 stage_early (Early q) r Propagation1 k e = ap Early (same-is q r e)
 stage_early (Early q) r (CacheExpire1 t) k e = ap Early (same-is q r e)
-stage_early (Early q) r Propagation2 k e = absurd (true≢false (sym k))
-stage_early (Early q) r (CacheExpire2 t) k e = absurd (true≢false (sym k))
-stage_early (Early q) r Done k e = absurd (true≢false (sym k))
-stage_early (Late q) r Propagation1 k e = absurd (true≢false (sym e))
-stage_early (Late q) r (CacheExpire1 t) k e = absurd (true≢false (sym e))
-stage_early (Late q) r Propagation2 k e = absurd (true≢false (sym k))
-stage_early (Late q) r (CacheExpire2 t) k e = absurd (true≢false (sym k))
-stage_early (Late q) r Done k e = absurd (true≢false (sym k))
+stage_early Quiet r Propagation1 k e = cc
+stage_early (Late q) r Propagation1 k e = cc
+stage_early _ r _ k e = cc
 
 pub stage_late : (st : Stage) (r : RollType) (p : RollState) → stage_fits (Late r) r (Some p) ≡ true
     → stage_fits st r (Some p) ≡ true → st ≡ Late r
-stage_late Quiet r Propagation1 k e = absurd (true≢false (sym k))
-stage_late Quiet r (CacheExpire1 t) k e = absurd (true≢false (sym k))
-stage_late Quiet r Propagation2 k e = absurd (true≢false (sym e))
-stage_late Quiet r (CacheExpire2 t) k e = absurd (true≢false (sym e))
-stage_late Quiet r Done k e = absurd (true≢false (sym k))
-stage_late (Early q) r Propagation1 k e = absurd (true≢false (sym k))
-stage_late (Early q) r (CacheExpire1 t) k e = absurd (true≢false (sym k))
-stage_late (Early q) r Propagation2 k e = absurd (true≢false (sym e))
-stage_late (Early q) r (CacheExpire2 t) k e = absurd (true≢false (sym e))
-stage_late (Early q) r Done k e = absurd (true≢false (sym k))
-stage_late (Late q) r Propagation1 k e = absurd (true≢false (sym k))
-stage_late (Late q) r (CacheExpire1 t) k e = absurd (true≢false (sym k))
 stage_late (Late q) r Propagation2 k e = ap Late (same-is q r e)
 stage_late (Late q) r (CacheExpire2 t) k e = ap Late (same-is q r e)
-stage_late (Late q) r Done k e = absurd (true≢false (sym k))
+stage_late Quiet r Propagation2 k e = cc
+stage_late (Early q) r Propagation2 k e = cc
+stage_late _ r _ k e = cc
 
 pub stage_quiet : (sd : SideOf) (st : Stage) → stage_own sd st ≡ true
     → ((q : RollType) → affects sd q ≡ true → stage_fits st q None ≡ true) → st ≡ Quiet
@@ -109,20 +85,14 @@ stage_quiet sd (Late r) own h = absurd (true≢false (sym (h r own) ∙ ap not (
 pub others_early : (r q : RollType) (o : Option RollState) → stage_fits (Early r) q o ≡ true
     → same_roll r q ≡ false → o ≡ None
 others_early r q None e d = refl
-others_early r q (Some Propagation1) e d = absurd (true≢false (sym e ∙ d))
-others_early r q (Some (CacheExpire1 t)) e d = absurd (true≢false (sym e ∙ d))
-others_early r q (Some Propagation2) e d = absurd (true≢false (sym e))
-others_early r q (Some (CacheExpire2 t)) e d = absurd (true≢false (sym e))
-others_early r q (Some Done) e d = absurd (true≢false (sym e))
+others_early r q (Some Propagation1) e d = cc
+others_early r q _ e d = cc
 
 pub others_late : (r q : RollType) (o : Option RollState) → stage_fits (Late r) q o ≡ true
     → same_roll r q ≡ false → o ≡ None
 others_late r q None e d = refl
-others_late r q (Some Propagation1) e d = absurd (true≢false (sym e))
-others_late r q (Some (CacheExpire1 t)) e d = absurd (true≢false (sym e))
-others_late r q (Some Propagation2) e d = absurd (true≢false (sym e ∙ d))
-others_late r q (Some (CacheExpire2 t)) e d = absurd (true≢false (sym e ∙ d))
-others_late r q (Some Done) e d = absurd (true≢false (sym e))
+others_late r q (Some Propagation1) e d = cc
+others_late r q _ e d = cc
 
 -- a stage after one roll's state is put
 pub put-fits : (st : Stage) (f : RollType → Option RollState) (r : RollType) (o : Option RollState)

@@ -1,4 +1,5 @@
 -- What a setter of a plain list leaves as it was: all but another signer's key.
+use Rattle.dnssec_zone.proofs.Flags.{Keys, Zone, SideOf, has_role, is_idle, may_list}
 use Rattle.std.proofs.Common.{◌≡◌, ℕ, ◌⊎◌, inl, inr, Bool, true, false, refl, sym, ◌∙◌, ap, List}
 use Rattle.std.proofs.Common.{Option, None, Some, not}
 use Rattle.std.specs.Prelude.{if◌then◌else◌}
@@ -10,27 +11,23 @@ use Rattle.std.proofs.lemmas.Bool.{true≢false, not-true}
 use Rattle.std.proofs.lemmas.Option.{same_Some}
 use Rattle.dnssec_key.specs.declared.roll.RollType.{RollType}
 use Rattle.dnssec_key.specs.declared.kind.KeyType.{KeyType}
-use Rattle.dnssec_key.specs.declared.kind.KeyType.TheVariants.{Ksk, Zsk, Csk, Include}
+use Rattle.dnssec_key.specs.declared.kind.KeyType.TheVariants.{Include}
 use Rattle.dnssec_key.specs.Key.{KeyParts}
-use Rattle.dnssec_key.specs.Setters.{Setting, Decoupled, Present, Signer, AtParent, Stale}
-use Rattle.dnssec_key.specs.Setters.{VisibleAt, DsVisibleAt, RrsigVisibleAt, set_by}
-use Rattle.dnssec_key.specs.Setters.{at_each_state, with_present}
+use Rattle.dnssec_key.specs.Setters.{Setting, Decoupled, Present, set_by, at_each_state}
+use Rattle.dnssec_key.specs.Setters.{with_present}
 use Rattle.dnssec_keyset.specs.KeySet.{KeySetParts}
-use Rattle.dnssec_zone.proofs.Flags.{SideOf, Keys, Zone, has_role, is_idle, may_list}
 use Rattle.dnssec_zone.proofs.Tests.{each_in_roll-at, each_key-at, mp, ◌⇒◌}
 use Rattle.dnssec_run.proofs.Premise.{is_another_signers, is_plain_setting}
-use Rattle.dnssec_run.proofs.Chain.Tables.{Stamp, Visible, DsVisible, RrsigVisible}
+use Rattle.dnssec_run.proofs.Chain.Tables.{Stamp, Visible}
 use Rattle.dnssec_run.proofs.Chain.Tale.{stamp_of}
 
 -- ---- another signer's key
 
 pub others-role : (sd : SideOf) (k : KeyType) → is_another_signers k ≡ true
     → has_role sd k ≡ false
-others-role sd (Ksk s) e = absurd (true≢false (sym e))
-others-role sd (Zsk s) e = absurd (true≢false (sym e))
-others-role sd (Csk s t) e = absurd (true≢false (sym e))
 others-role Keys (Include s) e = refl
 others-role Zone (Include s) e = refl
+others-role _ _ e = cc
 
 pub others-idle : (k : KeyType) → is_another_signers k ≡ true → is_idle k ≡ true
 others-idle k = mp _ _ (each_key-at (λ k. is_another_signers k ⇒ is_idle k) (λ a b. refl) k)
@@ -57,29 +54,18 @@ harmless-alike p c others k j h = elim (h.kind) [
   | inr e ↦ others j.keytype e.1 ∙ sym (others k.keytype e.0)
 ]
 
--- a key in use is as it was
-pub harmless-busy : (k j : KeyParts) → Harmless k j → is_idle j.keytype ≡ false
-    → j.keytype ≡ k.keytype
-harmless-busy k j h busy = elim (h.kind) [
-  | inl e ↦ e
-  | inr e ↦ absurd (true≢false (sym (others-idle j.keytype e.1) ∙ busy))
-]
-
 pub harmless-same : (k : KeyParts) → Harmless k k
 harmless-same k = record { kind = inl refl; stamps = λ s. refl }
 
 still_another : (value : Bool) (k : KeyType) → is_another_signers k ≡ true
     → is_another_signers (at_each_state (with_present value) k) ≡ true
-still_another value (Ksk s) e = e
-still_another value (Zsk s) e = e
-still_another value (Csk s t) e = e
 still_another value (Include s) e = e
+still_another value _ e = e
 
 present_stamp : (value : Bool) (now : ℕ) (k : KeyParts) (s : Stamp)
     → stamp_of s (set_by (Present value now) k) ≡ stamp_of s k
 present_stamp value now k Visible = refl
-present_stamp value now k DsVisible = refl
-present_stamp value now k RrsigVisible = refl
+present_stamp value now k _ = refl
 
 set_alike : (s : Setting) (k : KeyParts) → is_plain_setting s (Some k) ≡ true
     → Harmless k (set_by s k)
@@ -88,12 +74,7 @@ set_alike (Present value now) k e = record {
   kind = inr (e, still_another value k.keytype e);
   stamps = present_stamp value now k;
 }
-set_alike (Signer value) k e = absurd (true≢false (sym e))
-set_alike (AtParent value) k e = absurd (true≢false (sym e))
-set_alike Stale k e = absurd (true≢false (sym e))
-set_alike (VisibleAt time) k e = absurd (true≢false (sym e))
-set_alike (DsVisibleAt time) k e = absurd (true≢false (sym e))
-set_alike (RrsigVisibleAt time) k e = absurd (true≢false (sym e))
+set_alike _ k e = absurd (true≢false (sym e))
 
 -- a key that a plain list puts in or takes out is another signer's
 pub present_others : (value : Bool) (now : ℕ) (o : Option KeyParts)

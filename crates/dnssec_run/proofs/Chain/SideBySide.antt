@@ -1,9 +1,10 @@
 -- A second wait and an early end keep the invariant of both sides; and the chain that it gives.
+use Rattle.std.proofs.lemmas.Bool.{cases_Bool, true≢false, cases_lt, or_left, or_right}
+use Rattle.dnssec_run.proofs.Chain.RollFacts.{waited_ds, both_retires, both_timed, early-late}
+use Rattle.dnssec_run.proofs.Chain.RollFacts.{early-same, late-same, switch_timed}
 use Rattle.std.proofs.Common.{◌≡◌, ℕ, suc, ◌≤◌, ◌⊎◌, inl, inr, Bool, true, false, refl, sym, ◌∙◌}
-use Rattle.std.proofs.Common.{ap, subst, arith, length, Option, None, Some}
-use Rattle.std.specs.Option.{option_map}
+use Rattle.std.proofs.Common.{ap, subst, arith, length, None, Some}
 use Rattle.std.specs.List.{Contains}
-use Rattle.std.proofs.lemmas.Bool.{true≢false, cases_lt, or_left, or_right}
 use Rattle.dnssec_key.specs.declared.roll.RollType.{RollType}
 use Rattle.dnssec_key.specs.declared.roll.RollType.TheVariants.{AlgorithmRoll}
 use Rattle.dnssec_key.specs.declared.roll.RollState.TheVariants.{Propagation1, CacheExpire2, Done}
@@ -15,36 +16,35 @@ use Rattle.dnssec_run.specs.Safe.{MayBeCached}
 use Rattle.dnssec_zone.proofs.Flags.{SideOf, Keys, Zone, affects, Stage, Quiet, Early, Late, fits}
 use Rattle.dnssec_zone.proofs.Flags.{ended}
 use Rattle.dnssec_zone.proofs.Tests.{or_second}
-use Rattle.dnssec_run.proofs.Chain.Tale.{Tale, Key, found, if_some, world_at, wait2_key, IsOver}
+use Rattle.dnssec_run.proofs.Chain.Tale.{Tale, Key, found, if_some, world_at, IsOver}
 use Rattle.dnssec_run.proofs.Chain.Side.{upto}
 use Rattle.dnssec_run.proofs.Chain.Flags.{in_keys, live, switches}
 use Rattle.dnssec_run.proofs.Chain.Keeping.{before_second, engaged, engaged-seen, of_key}
 use Rattle.dnssec_run.proofs.Chain.Rolls.{stage_fits, same-same, stage_early, stage_late}
 use Rattle.dnssec_run.proofs.Chain.History.{Serving, Without, second-retires}
-use Rattle.dnssec_run.proofs.Chain.Places.{all_ok, NoDs, no_ds-bare, no_ds-next, no_ds-now}
-use Rattle.dnssec_run.proofs.Chain.Places.{shows_ds, some_of}
+use Rattle.dnssec_run.proofs.Chain.Places.{NoDs, no_ds-bare, no_ds-next, no_ds-now, shows_ds}
+use Rattle.dnssec_run.proofs.Chain.Places.{some_of}
 use Rattle.dnssec_run.proofs.Chain.EarlyEnds.{ended-less}
 use Rattle.dnssec_run.proofs.Chain.Returns.{KeepsLists, early_end_key}
-use Rattle.dnssec_run.proofs.Chain.Invariant.{At, Alive, Common, Gentle, HasNo, Lasts, Left}
-use Rattle.dnssec_run.proofs.Chain.Invariant.{at-common, at-gentle, has_no-gentle, lasts-gentle}
-use Rattle.dnssec_run.proofs.Chain.Invariant.{leaving-common}
-use Rattle.dnssec_run.proofs.Chain.OneKey.{Mapped}
+use Rattle.dnssec_run.proofs.Chain.Invariant.{At, Alive, Common, HasNo, Lasts, Left, at-common}
+use Rattle.dnssec_run.proofs.Chain.Invariant.{has_no-gentle, lasts-gentle, leaving-common}
+use Rattle.dnssec_run.proofs.Chain.OneKey.{Mapped, of_found, came}
 use Rattle.dnssec_run.proofs.Chain.Steps.{at-wait2, alive-wait2, at-early-end, alive-early-end}
-use Rattle.dnssec_run.proofs.Chain.Gentles.{gentle-wait2, gentle-early-end}
-use Rattle.dnssec_run.proofs.Chain.Phases.{Phases, gone, phase-aside, aside-wait2, aside-early-end}
-use Rattle.dnssec_run.proofs.Chain.RollFacts.{both_retires, both_timed, early-late, early-same}
-use Rattle.dnssec_run.proofs.Chain.RollFacts.{late-same, some_side, switch_timed, waited2_ds}
+use Rattle.dnssec_run.proofs.Chain.Gentles.{gentle-wait, gentle-early-end}
+use Rattle.dnssec_run.proofs.Chain.Phases.{Phases, gone, phase-aside, aside-wait, aside-early-end}
 use Rattle.dnssec_run.proofs.Chain.Life.{Absent, LeavesLate, Life, PassesAt, Unpassed}
 use Rattle.dnssec_run.proofs.Chain.Life.{unpassed-next, without-engaged}
-use Rattle.dnssec_run.proofs.Chain.BothSides.{Inv, Pairs, born, ds_less, pairs-on, phases-on}
-use Rattle.dnssec_run.proofs.Chain.BothSides.{was-rolling}
-use Rattle.dnssec_run.proofs.Chain.FirstCalls.{Moved, both, goes-on, lasts-to, stays-put}
+use Rattle.dnssec_run.proofs.Chain.BothSides.{Inv, born, ds_less, pairs-on, phases-on, was-rolling}
+use Rattle.dnssec_run.proofs.Chain.FirstCalls.{Sided, sided, at_both, both, flags_from, lasts-on}
+use Rattle.dnssec_run.proofs.Chain.FirstCalls.{lasts-to}
+use Rattle.dnssec_key.specs.RollTable.{after_wait, Second}
 
 module _ (tale : Tale) (n : ℕ) (here : suc n ≤ length tale.es) where
   -- the second wait
-  module _ (r : RollType) (ttl now : ℕ) (m : Mapped tale n (λ q. wait2_key r now) r (Some Done))
+  module _ (r : RollType) (ttl now : ℕ) (m : Mapped tale n (λ q. after_wait r Second now) r
+      (Some Done))
       (phase : (world_at tale n).roll r ≡ Some (CacheExpire2 ttl))
-      (over : IsOver r true (world_at tale n) ttl now)
+      (over : IsOver r Second (world_at tale n) ttl now)
       (mark : (position_at tale.es (suc n)).mark ≡ Other)
       (moment : (position_at tale.es (suc n)).moment ≡ Some now)
       (lists : (sd : SideOf) → KeepsLists tale sd n) where
@@ -52,70 +52,51 @@ module _ (tale : Tale) (n : ℕ) (here : suc n ≤ length tale.es) where
     late_stage sd st own h = stage_late st r (CacheExpire2 ttl) (same-same r)
         (sym (ap (stage_fits st r) phase) ∙ h.rolls r own)
 
+    abbrev Waited : SideOf → Stage → Type 0
+    Waited sd st = Sided tale n here r sd st Quiet
+        (Left tale sd (Late r) n → Lasts tale sd Quiet (suc n))
+
     wait2_side : (sd : SideOf) (st : Stage) → Phases tale n → At tale sd st n
-        → (NoDs tale n → NoDs tale (suc n))
-        → (moved : Moved tale sd r st Quiet n)
-        × (affects sd r ≡ true → Left tale sd (Late r) n → Alive tale sd (suc n))
-        × (affects sd r ≡ false → Gentle tale sd st n)
-    wait2_side sd st phases h dead = by (affects sd r) refl
-      where
-        by : (b : Bool) → affects sd r ≡ b → (moved : Moved tale sd r st Quiet n)
-            × (affects sd r ≡ true → Left tale sd (Late r) n → Alive tale sd (suc n))
-            × (affects sd r ≡ false → Gentle tale sd st n)
-        by true own =
-            let e = subst (λ s. At tale sd s n) (late_stage sd st own h) h in
-            let p = phases r (CacheExpire2 ttl) phase in
-            let g = λ (kind : SetKind) (w : switches sd r ≡ true). gone tale n r true ttl now
-            (switch_timed sd r own w) p.0 p.1 over moment kind in (
-              goes-on tale n sd r st Quiet own
-                  (at-wait2 tale n here sd r own now m g (second-retires sd r own) e),
-              λ _. alive-wait2 tale n here sd r own now m g (second-retires sd r own) e,
-              λ out. absurd (true≢false (sym own ∙ out)),
-            )
-        by false out = let g = gentle-wait2 tale n sd st h.rolls h.flags dead (lists sd) r now out m
-            mark in (
-              stays-put tale n sd r st Quiet out (at-gentle tale n here sd st g h),
-              λ own. absurd (true≢false (sym own ∙ out)),
-              λ _. g,
-            )
+        → (NoDs tale n → NoDs tale (suc n)) → Waited sd st
+    wait2_side sd st phases h dead = sided tale n here r sd st Quiet
+        (Left tale sd (Late r) n → Lasts tale sd Quiet (suc n)) h
+        (λ own.
+        let e = subst (λ s. At tale sd s n) (late_stage sd st own h) h in
+        let p = phases r (CacheExpire2 ttl) phase in
+        let g = λ (kind : SetKind) (w : switches sd r ≡ true). gone tale n r Second ttl now
+        (switch_timed sd r own w) p.0 p.1 over moment kind in (
+          at-wait2 tale n here sd r own now m g (second-retires sd r own) e,
+          λ left. (alive-wait2 tale n here sd r own now m g (second-retires sd r own) e left, tt),
+        ))
+        (λ out. gentle-wait tale n sd st h.rolls h.flags dead (lists sd) Second r now out m
+        (λ q d. ap (is_step q) mark))
 
-    wait2_phases : Inv tale n → Phases tale (suc n)
-    wait2_phases h = phases-on tale n here r Done m.rolls tt
-        (λ q x e d. aside-wait2 tale n now r q m (h.pairs r q (CacheExpire2 ttl) x phase e d)
-        (ap (is_step q) mark)) h.phases
+    -- both sides after it
+    waited : (h : Inv tale n) (x : Waited Keys h.ks) (y : Waited Zone h.zs)
+        → Life tale x.0.0 y.0.0 (suc n) → Inv tale (suc n)
+    waited h x y = both tale n r x.0 y.0
+        (pairs-on tale n here r (CacheExpire2 ttl) Done phase m.rolls h.pairs)
+        (phases-on tale n here r Done m.rolls tt
+        (λ q x e d. aside-wait tale n Second now r q m (h.pairs r q (CacheExpire2 ttl) x phase e d)
+        (ap (is_step q) mark)) h.phases)
 
-    wait2_pairs : Pairs tale n → Pairs tale (suc n)
-    wait2_pairs = pairs-on tale n here r (CacheExpire2 ttl) Done phase m.rolls
-
-    -- a roll of both sides that is there behind its first wait is this one
-    this_late : (h : Inv tale n) (q : RollType) → h.ks ≡ Late q → h.zs ≡ Late q → q ≡ r
-    this_late h q k z = by (affects Keys r) refl
-      where
-        by : (b : Bool) → affects Keys r ≡ b → q ≡ r
-        by true own = late-same q r (sym k ∙ late_stage Keys h.ks own h.keys)
-        by false out = late-same q r (sym z ∙ late_stage Zone h.zs (some_side r out) h.zone)
-
+    -- no roll of both sides is there before its first wait
     not_early : (h : Inv tale n) (q : RollType) → h.ks ≡ Early q → h.zs ≡ Early q → ⊥
-    not_early h q k z = by (affects Keys r) refl
-      where
-        by : (b : Bool) → affects Keys r ≡ b → ⊥
-        by true own = early-late q r (sym k ∙ late_stage Keys h.ks own h.keys)
-        by false out = early-late q r (sym z ∙ late_stage Zone h.zs (some_side r out) h.zone)
+    not_early h q k z =
+        early-late q r (at_both tale n here r (Late r) late_stage h (Early q) k z)
 
     -- a key in a set on the side of keys was there before, and stays
     was_engaged : (h : Inv tale n) → affects Keys r ≡ true → (id : Id)
         → if_some engaged (found (world_at tale (suc n)) id) ≡ true
         → (if_some engaged (found (world_at tale n) id) ≡ true)
         × (if_some (live Keys) (found (world_at tale n) id) ≡ true)
-    was_engaged h own id e = by (found (world_at tale n) id)
-        ((subst (λ s. At tale Keys s n) (late_stage Keys h.ks own h.keys) h.keys).flags id)
-        (sym (ap (if_some engaged) (m.founds id)) ∙ e)
-      where
-        by : (o : Option Key) → all_ok (fits Keys (Late r)) o ≡ true
-            → if_some engaged (option_map (wait2_key r now) o) ≡ true
-            → (if_some engaged o ≡ true) × (if_some (live Keys) o ≡ true)
-        by None f e = absurd (true≢false (sym e))
-        by (Some k) f e = let x = before_second r k.keytype own f in (x.0 e, x.1 e)
+    was_engaged h own id e =
+        let facts = λ (k : Key) (a : found (world_at tale n) id ≡ Some k).
+        before_second r k.keytype own (of_found (fits Keys (Late r)) _ k a
+        (flags_from tale n here r (Late r) late_stage h Keys own id)) in (
+          came m id engaged engaged (λ k a. (facts k a).0) e,
+          came m id (live Keys) engaged (λ k a. (facts k a).1) e,
+        )
 
     module _ (none : PassesAt tale n → ⊥) (h : Inv tale n) where
       -- the family was there
@@ -125,21 +106,9 @@ module _ (tale : Tale) (n : ℕ) (here : suc n ≤ length tale.es) where
           (born tale n (omega arith) k.0 d) in
           let x = wait2_side Keys h.ks h.phases h.keys dead in
           let y = wait2_side Zone h.zs h.phases h.zone dead in
-          both tale n r x.0 y.0 (wait2_pairs h.pairs) (wait2_phases h) (inl (
-            lasts-to tale n Keys r h.ks Quiet x.0
-                (λ own. (
-                  x.1 own
-                      (subst (λ s. Left tale Keys s n) (late_stage Keys h.ks own h.keys) k.1),
-                  tt,
-                ))
-                (λ out. lasts-gentle tale n here Keys h.ks (x.2 out) k),
-            lasts-to tale n Zone r h.zs Quiet y.0
-                (λ own. (
-                  y.1 own
-                      (subst (λ s. Left tale Zone s n) (late_stage Zone h.zs own h.zone) z.1),
-                  tt,
-                ))
-                (λ out. lasts-gentle tale n here Zone h.zs (y.2 out) z),
+          waited h x y (inl (
+            lasts-on tale n here r (Late r) late_stage Keys h.ks Quiet x h.keys k,
+            lasts-on tale n here r (Late r) late_stage Zone h.zs Quiet y h.zone z,
           ))
 
       -- it isn't in any DS set from now on
@@ -148,8 +117,7 @@ module _ (tale : Tale) (n : ℕ) (here : suc n ≤ length tale.es) where
       wait2_without d passed lacks =
           let x = wait2_side Keys h.ks h.phases h.keys (λ _. d) in
           let y = wait2_side Zone h.zs h.phases h.zone (λ _. d) in
-          both tale n r x.0 y.0 (wait2_pairs h.pairs) (wait2_phases h)
-          (inr (inr (d, passed, inl lacks)))
+          waited h x y (inr (inr (d, passed, inl lacks)))
 
       -- it has left: the second report has retired the DS sets that had it
       wait2_leaves : affects Keys r ≡ true → affects Zone r ≡ true → tale.whole ≡ false
@@ -159,7 +127,7 @@ module _ (tale : Tale) (n : ℕ) (here : suc n ≤ length tale.es) where
           let at = l.3 in
           let bare = at.2 in
           let p = h.phases r (CacheExpire2 ttl) phase in
-          let out = gone tale n r true ttl now (both_timed r own zone) p.0 p.1 over moment Ds
+          let out = gone tale n r Second ttl now (both_timed r own zone) p.0 p.1 over moment Ds
           (both_retires r own zone) at.0 at.1.1 in
           wait2_without (upto (λ q. (IsGone tale.es Ds q (suc n) → ⊥) → Without tale q) n
           (λ q le un. elim (cases_lt q at.0) [
@@ -180,10 +148,10 @@ module _ (tale : Tale) (n : ℕ) (here : suc n ≤ length tale.es) where
           by : (b : Bool) → affects Keys r ≡ b → Inv tale (suc n)
           by true own = next (λ id o e. lacks id o (was_engaged h own id e).0)
           by false out =
-              let less = ds_less tale n here (λ q. wait2_key r now) r (Some Done) m
-              (λ q k. waited2_ds r out k.keytype) in
-              let g = gentle-wait2 tale n Keys h.ks h.keys.rolls h.keys.flags less (lists Keys) r
-              now out m mark in
+              let less = ds_less tale n here (λ q. after_wait r Second now) r (Some Done) m
+              (λ q k. waited_ds r Second out k.keytype) in
+              let g = gentle-wait tale n Keys h.ks h.keys.rolls h.keys.flags less (lists Keys)
+              Second r now out m (λ q d. ap (is_step q) mark) in
               next (has_no-gentle tale n here Keys h.ks engaged engaged-seen g lacks)
 
       wait2_by : Life tale h.ks h.zs n → Inv tale (suc n)
@@ -191,7 +159,8 @@ module _ (tale : Tale) (n : ℕ) (here : suc n ≤ length tale.es) where
       wait2_by (inr (inl l)) = elim (l.stage) [
         | inl e ↦ absurd (not_early h l.roll e.0 e.1)
         | inr e ↦
-            let same = this_late h l.roll e.0 e.1 in
+            let same = late-same l.roll r
+            (at_both tale n here r (Late r) late_stage h (Late l.roll) e.0 e.1) in
             wait2_leaves (ap (affects Keys) (sym same) ∙ l.keys_own)
             (ap (affects Zone) (sym same) ∙ l.zone_own) l.mixed
             (subst (λ r. LeavesLate tale r h.ks h.zs n) same e)
@@ -215,75 +184,41 @@ module _ (tale : Tale) (n : ℕ) (here : suc n ≤ length tale.es) where
 
     end_side : (sd : SideOf) (st : Stage) → At tale sd st n
         → (NoDs tale n → NoDs tale (suc n))
-        → (moved : Moved tale sd r st Quiet n)
-        × (affects sd r ≡ true → (NoDs tale n → ⊥) → Alive tale sd (suc n))
-        × (affects sd r ≡ false → Gentle tale sd st n)
-    end_side sd st h dead = by (affects sd r) refl
-      where
-        by : (b : Bool) → affects sd r ≡ b → (moved : Moved tale sd r st Quiet n)
-            × (affects sd r ≡ true → (NoDs tale n → ⊥) → Alive tale sd (suc n))
-            × (affects sd r ≡ false → Gentle tale sd st n)
-        by true own =
-            let e = subst (λ s. At tale sd s n) (spread_stage sd st own h) h in (
-              goes-on tale n sd r st Quiet own
-                  (at-early-end tale n here sd r own m (e.back phase) e),
-              λ _. alive-early-end tale n here sd r own m (e.back phase),
-              λ out. absurd (true≢false (sym own ∙ out)),
-            )
-        by false out = let g = gentle-early-end tale n sd st h.rolls h.flags dead (lists sd) r out m
-            mark in (
-              stays-put tale n sd r st Quiet out (at-gentle tale n here sd st g h),
-              λ own. absurd (true≢false (sym own ∙ out)),
-              λ _. g,
-            )
+        → Sided tale n here r sd st Quiet ((NoDs tale n → ⊥) → Alive tale sd (suc n))
+    end_side sd st h dead = sided tale n here r sd st Quiet
+        ((NoDs tale n → ⊥) → Alive tale sd (suc n)) h
+        (λ own. let e = subst (λ s. At tale sd s n) (spread_stage sd st own h) h in (
+          at-early-end tale n here sd r own m (e.back phase) e,
+          alive-early-end tale n here sd r own m (e.back phase),
+        ))
+        (λ out. gentle-early-end tale n sd st h.rolls h.flags dead (lists sd) r out m mark)
 
     -- an early end puts no key into a set
     end_less : (p : KeyType → Bool)
         → ((o i : Bool) (k : KeyType) → p (ended r o i k) ≡ true → p k ≡ true) → (id : Id)
         → if_some p (found (world_at tale (suc n)) id) ≡ true
         → if_some p (found (world_at tale n) id) ≡ true
-    end_less p less id e = by (found (world_at tale n) id)
-        (sym (ap (if_some p) (m.founds id)) ∙ e)
-      where
-        by : (o : Option Key) → if_some p (option_map (early_end_key tale r n id.0) o) ≡ true
-            → if_some p o ≡ true
-        by None f = absurd (true≢false (sym f))
-        by (Some k) f = less _ _ k.keytype f
+    end_less p less id = came m id p p (λ k a. less _ _ k.keytype)
 
     end_dead : NoDs tale n → NoDs tale (suc n)
     end_dead = no_ds-next tale n here (end_less in_ds (λ o i k. ended-less Keys Ds r o i k))
 
     ended_engaged : (o i : Bool) (k : KeyType) → engaged (ended r o i k) ≡ true → engaged k ≡ true
-    ended_engaged o i k e = by (in_keys Keys (ended r o i k)) refl
-      where
-        by : (b : Bool) → in_keys Keys (ended r o i k) ≡ b → engaged k ≡ true
-        by true t = or_left (in_keys Keys k) _ (ended-less Keys Dnskey r o i k t)
-        by false t = or_right (in_keys Keys k) _ (ended-less Keys Ds r o i k
-            (or_second (in_keys Keys (ended r o i k)) _ e t))
-
-    not_past : (h : Inv tale n) (q : RollType) → h.ks ≡ Late q → h.zs ≡ Late q → ⊥
-    not_past h q k z = by (affects Keys r) refl
-      where
-        by : (b : Bool) → affects Keys r ≡ b → ⊥
-        by true own = early-late r q (sym (spread_stage Keys h.ks own h.keys) ∙ k)
-        by false out = early-late r q (sym (spread_stage Zone h.zs (some_side r out) h.zone) ∙ z)
+    ended_engaged o i k e = elim (cases_Bool (in_keys Keys (ended r o i k))) [
+      | inl t ↦ or_left (in_keys Keys k) _ (ended-less Keys Dnskey r o i k t)
+      | inr t ↦ or_right (in_keys Keys k) _ (ended-less Keys Ds r o i k
+          (or_second (in_keys Keys (ended r o i k)) _ e t))
+    ]
 
     this_spread : (h : Inv tale n) (q : RollType) → h.ks ≡ Early q → h.zs ≡ Early q → q ≡ r
-    this_spread h q k z = by (affects Keys r) refl
-      where
-        by : (b : Bool) → affects Keys r ≡ b → q ≡ r
-        by true own = early-same q r (sym k ∙ spread_stage Keys h.ks own h.keys)
-        by false out = early-same q r (sym z ∙ spread_stage Zone h.zs (some_side r out) h.zone)
+    this_spread h q k z =
+        early-same q r (at_both tale n here r (Early r) spread_stage h (Early q) k z)
 
     module _ (none : PassesAt tale n → ⊥) (h : Inv tale n) where
-      x : (moved : Moved tale Keys r h.ks Quiet n)
-          × (affects Keys r ≡ true → (NoDs tale n → ⊥) → Alive tale Keys (suc n))
-          × (affects Keys r ≡ false → Gentle tale Keys h.ks n)
+      x : Sided tale n here r Keys h.ks Quiet ((NoDs tale n → ⊥) → Alive tale Keys (suc n))
       x = end_side Keys h.ks h.keys end_dead
 
-      y : (moved : Moved tale Zone r h.zs Quiet n)
-          × (affects Zone r ≡ true → (NoDs tale n → ⊥) → Alive tale Zone (suc n))
-          × (affects Zone r ≡ false → Gentle tale Zone h.zs n)
+      y : Sided tale n here r Zone h.zs Quiet ((NoDs tale n → ⊥) → Alive tale Zone (suc n))
       y = end_side Zone h.zs h.zone end_dead
 
       end_both : Life tale x.0.0 y.0.0 (suc n) → Inv tale (suc n)
@@ -330,7 +265,8 @@ module _ (tale : Tale) (n : ℕ) (here : suc n ≤ length tale.es) where
               lasts-to tale n Zone r h.zs Quiet y.0 (λ own. (y.1 own born, tt))
                   (λ out. absurd (true≢false (sym zone ∙ out))),
             ))
-        | inr e ↦ absurd (not_past h l.roll e.0 e.1)
+        | inr e ↦ absurd (early-late r l.roll
+            (sym (at_both tale n here r (Early r) spread_stage h (Late l.roll) e.0 e.1)))
       ]
       end_by (inr (inr d)) = end_both (inr (inr (
         end_dead d.0,

@@ -8,24 +8,20 @@ use Rattle.std.specs.Option.{option_map}
 use Rattle.std.specs.Str.{bytes_eq}
 use Rattle.dnssec_key.specs.declared.roll.RollType.{RollType}
 use Rattle.dnssec_key.specs.declared.roll.RollState.{RollState}
-use Rattle.dnssec_key.specs.declared.roll.RollState.TheVariants.{Propagation1, CacheExpire1}
-use Rattle.dnssec_key.specs.declared.roll.RollState.TheVariants.{Propagation2, CacheExpire2}
 use Rattle.dnssec_key.specs.declared.kind.KeyType.{KeyType}
-use Rattle.dnssec_key.specs.Key.{KeyParts}
+use Rattle.dnssec_key.specs.Key.{KeyParts, all_states}
 use Rattle.dnssec_zone.specs.Rolls.{phase_of, same_roll}
-use Rattle.dnssec_key.specs.RollTable.{after_start, after_report, after_wait, after_early_end}
-use Rattle.dnssec_key.specs.RollTable.{First, Second}
-use Rattle.dnssec_key.specs.RollTable.{column, stamps_after}
-use Rattle.dnssec_zone.specs.Start.{is_listed as listed, may_change_algorithms}
+use Rattle.dnssec_key.specs.RollTable.{after_start, after_early_end, column, stamps_after, Half}
+use Rattle.dnssec_zone.specs.Start.{is_listed, may_change_algorithms, together, serves_as_new}
+use Rattle.dnssec_zone.specs.Start.{serves_as_kept}
 use Rattle.dnssec_run.specs.declared.call.Call.{Call}
 use Rattle.dnssec_run.specs.declared.record.Entry.{Entry}
 use Rattle.dnssec_run.specs.Published.{Id, World as RealWorld}
 use Rattle.dnssec_run.specs.Record as rec
 use Rattle.dnssec_run.proofs.Premise.{IsPlainBySets}
-use Rattle.dnssec_zone.proofs.Flags.{started, ended, aged, tolerates, may_list, is_blank, SideOf}
-use Rattle.dnssec_zone.proofs.Flags.{affects}
-use Rattle.dnssec_run.proofs.Chain.Tables.{Stamp, stamp_in, half, read, checked, serves_new}
-use Rattle.dnssec_run.proofs.Chain.Tables.{serves_kept}
+use Rattle.dnssec_zone.proofs.Flags.{started, ended, aged, may_list, SideOf, affects}
+use Rattle.dnssec_run.proofs.Chain.Tables.{Stamp, stamp_in, read, checked, want_on}
+use Rattle.dnssec_key.specs.State.{is_future}
 
 -- a run of a plain list, with its record, and a family of keys whose chain is shown
 pub record Tale : Type 0 where
@@ -56,9 +52,6 @@ seen w = record { key = get w.set.keys; added = w.added; roll = phase_of w.set.r
 abbrev pub world_at : Tale → ℕ → World
 world_at tale n = seen (rec.world_at tale.name tale.calls tale.es n)
 
-abbrev pub is_listed : List ℕ → List (List ℕ) → Bool
-is_listed r qs = listed qs r
-
 abbrev pub found : World → Id → Option Key
 found w id = if w.added id.0 == id.1 then w.key id.0 else None
 
@@ -84,57 +77,39 @@ started_key r now o i k = record k {
 pub start-parts : (r : RollType) (now : ℕ) (o i : Bool) (k : Key) → after_start r now o i k
     ≡ started_key r now o i k
 start-parts r now true true k = refl
-start-parts r now true false k = refl
 start-parts r now false true k = refl
-start-parts r now false false k = refl
+start-parts r now _ _ k = refl
 
 pub early-end-parts : (r : RollType) (o i : Bool) (k : Key)
     → after_early_end r o i k ≡ record k { keytype = ended r o i k.keytype }
 early-end-parts r true true k = refl
-early-end-parts r true false k = refl
 early-end-parts r false true k = refl
-early-end-parts r false false k = refl
+early-end-parts r _ _ k = refl
 
 abbrev pub start_key : RollType → ℕ → List (List ℕ) → List (List ℕ) → List ℕ → Key → Key
-start_key r now old new q k = started_key r now (is_listed q old) (is_listed q new) k
-
-abbrev pub report_key : RollType → Bool → ℕ → Key → Key
-report_key r second now k = after_report r (half second) now k
-
-abbrev pub wait1_key : RollType → ℕ → Key → Key
-wait1_key r now k = after_wait r First now k
-
-abbrev pub wait2_key : RollType → ℕ → Key → Key
-wait2_key r now k = after_wait r Second now k
-
-abbrev pub waiting : Bool → ℕ → RollState
-waiting false ttl = CacheExpire1 ttl
-waiting true ttl = CacheExpire2 ttl
-
-abbrev pub spreading : Bool → RollState
-spreading false = Propagation1
-spreading true = Propagation2
+start_key r now old new q k = started_key r now (is_listed old q) (is_listed new q) k
 
 abbrev pub rolled : World → (List ℕ → Key → Key) → RollType → Option RollState → World
 rolled w f r o = record w { key = λ q. option_map (f q) (w.key q); roll = put_roll w.roll r o }
 
-abbrev pub IsOver : RollType → Bool → World → ℕ → ℕ → Type 0
-IsOver r second w ttl now = (q : List ℕ) (k : Key) → w.key q ≡ Some k → checked r second k.keytype
+abbrev pub IsOver : RollType → Half → World → ℕ → ℕ → Type 0
+IsOver r half w ttl now = (q : List ℕ) (k : Key) → w.key q ≡ Some k → checked r half k.keytype
     ≡ true →
-    (m : ℕ) × (stamp_of (read r second) k ≡ Some m) × (ttl * 1_000_000_000 ≤ now - m)
+    (m : ℕ) × (stamp_of (read r half) k ≡ Some m) × (ttl * 1_000_000_000 ≤ now - m)
 
 abbrev pub HasSuitable : SideOf → RollType → World → List (List ℕ) → List (List ℕ) → Type 0
 HasSuitable sd r w old new = (q : List ℕ) × (k : Key) × (w.key q ≡ Some k)
-    × (((is_listed q new ≡ true) × (serves_new sd r k.keytype ≡ true))
-    ⊎ ((is_listed q old ≡ false) × (serves_kept sd r k.keytype ≡ true)))
+    × (((is_listed new q ≡ true) × (serves_as_new (want_on sd r) k.keytype ≡ true))
+    ⊎ ((is_listed old q ≡ false) × (serves_as_kept (want_on sd r) k.keytype ≡ true)))
 
 pub record CanStart (r : RollType) (w : World) (old new : List (List ℕ)) : Type 0 where
-  pub alone : (q : RollType) → tolerates r q ≡ false → w.roll q ≡ None
-  pub old_is : (q : List ℕ) → is_listed q old ≡ true → (k : Key) × (w.key q ≡ Some k)
+  pub alone : (q : RollType) → together r q ≡ false → w.roll q ≡ None
+  pub old_is : (q : List ℕ) → is_listed old q ≡ true → (k : Key) × (w.key q ≡ Some k)
       × (may_list r k.keytype ≡ true)
-  pub new_is : (q : List ℕ) → is_listed q new ≡ true → (k : Key) × (w.key q ≡ Some k)
-      × (may_list r k.keytype ≡ true) × (is_blank k.keytype ≡ true) × (is_listed q old ≡ false)
+  pub new_is : (q : List ℕ) → is_listed new q ≡ true → (k : Key) × (w.key q ≡ Some k)
+      × (may_list r k.keytype ≡ true) × (all_states is_future k.keytype ≡ true)
+      × (is_listed old q ≡ false)
   pub algorithms : may_change_algorithms r ≡ false → (q : List ℕ) (k : Key) → w.key q ≡ Some k
-      → is_listed q old ≡ true → (x : List ℕ) × (j : Key) × (w.key x ≡ Some j)
-      × (is_listed x new ≡ true) × (j.algorithm ≡ k.algorithm)
+      → is_listed old q ≡ true → (x : List ℕ) × (j : Key) × (w.key x ≡ Some j)
+      × (is_listed new x ≡ true) × (j.algorithm ≡ k.algorithm)
   pub suitable : (sd : SideOf) → affects sd r ≡ true → HasSuitable sd r w old new

@@ -1,10 +1,12 @@
 -- Each call of a run keeps the invariant of the chain. So each position of a plain run is safe, and
 -- safe by each algorithm if its starts keep the sets whole.
-use Rattle.dnssec_keyset.proofs.Accepted.{refused_same, is_refused, accepted_changes, no_some}
-use Rattle.dnssec_keyset.proofs.Accepted.{no_error, gone_key, spreads_first, spreads_second}
-use Rattle.dnssec_keyset.proofs.Accepted.{finishes, ends_early}
-use Rattle.std.proofs.Common.{◌≡◌, ℕ, zero, suc, ◌≤◌, inl, inr, Bool, true, false, refl, sym}
-use Rattle.std.proofs.Common.{◌∙◌, ap, subst, arith, List, length, Option, None, Some}
+use Rattle.dnssec_keyset.proofs.Changes.{ChangesKey, MovesOn, Changes}
+use Rattle.dnssec_run.proofs.Chain.Lists.{listed-reported, keeps-same, keeps-without, keeps-on}
+use Rattle.dnssec_run.proofs.Chain.Lists.{keeps-start, listed-same, listed-other, is_listed-filter}
+use Rattle.dnssec_keyset.proofs.Accepted.{accepted_changes, no_some, no_error, gone_key, finishes}
+use Rattle.dnssec_keyset.proofs.Accepted.{ends_early}
+use Rattle.std.proofs.Common.{◌≡◌, ℕ, zero, suc, ◌≤◌, inl, inr, Bool, true, false, refl, sym, ◌∙◌}
+use Rattle.std.proofs.Common.{ap, subst, arith, List, length, Option, None, Some}
 use Rattle.std.specs.Prelude.{if◌then◌else◌, ◌==◌}
 use Rattle.std.specs.Option.{option_map}
 use Rattle.std.specs.Str.{bytes_eq}
@@ -13,23 +15,17 @@ use Rattle.std.specs.Ordering.{nat_cmp}
 use Rattle.std.specs.Cmp.Lexicographic.{slice_cmp, bytes_decides}
 use Rattle.std.proofs.lemmas.Bool.{true≢false}
 use Rattle.std.proofs.lemmas.Option.{same_Some, none-some}
-use Rattle.std.proofs.lemmas.Iterator.Adapters.{option_map_id}
 use Rattle.dnssec_key.specs.declared.roll.RollType.{RollType}
 use Rattle.dnssec_key.specs.declared.roll.RollType.TheVariants.{AlgorithmRoll}
 use Rattle.dnssec_key.specs.declared.roll.RollState.{RollState}
-use Rattle.dnssec_key.specs.declared.roll.RollState.TheVariants.{Propagation1, CacheExpire1}
-use Rattle.dnssec_key.specs.declared.roll.RollState.TheVariants.{Propagation2, CacheExpire2}
-use Rattle.dnssec_key.specs.declared.roll.RollState.TheVariants.{Done}
+use Rattle.dnssec_key.specs.declared.roll.RollState.TheVariants.{Propagation1, Propagation2, Done}
 use Rattle.dnssec_key.specs.declared.kind.KeyType.{KeyType}
 use Rattle.dnssec_zone.specs.Lists.{Listed, listed_by, nothing_listed, Lists}
-use Rattle.dnssec_keyset.specs.KeySet.{ChangesKey}
-use Rattle.dnssec_keyset.specs.KeySet.{KeySetParts, MovesOn}
+use Rattle.dnssec_keyset.specs.KeySet.{KeySetParts}
 use Rattle.dnssec_zone.specs.Rolls.{phase_of}
-use Rattle.dnssec_zone.proofs.Phases.{phase_of-with_phase}
-use Rattle.dnssec_key.specs.RollTable.{First, Second}
-use Rattle.dnssec_key.specs.Setters.{Setting, Decoupled, Present, Signer, AtParent, Stale}
-use Rattle.dnssec_key.specs.Setters.{VisibleAt, DsVisibleAt, RrsigVisibleAt}
-use Rattle.dnssec_key.specs.Setters.{set_by}
+use Rattle.dnssec_zone.proofs.Phases.{phase_of-with_phase, no_phases}
+use Rattle.dnssec_key.specs.RollTable.{First, Second, after_wait, after_report, cache_expire, Half}
+use Rattle.dnssec_key.specs.Setters.{Setting, Decoupled, Present, set_by}
 use Rattle.dnssec_keyset.specs.Step as keyset
 use Rattle.dnssec_zone.specs.Wait as waits
 use Rattle.dnssec_zone.specs.Lists as lists
@@ -47,16 +43,12 @@ use Rattle.dnssec_run.specs.ByAlgorithm.{IsSafeByEach, KeepsWhole, StaysSafeByEa
 use Rattle.std.specs.List.{Contains}
 use Rattle.dnssec_run.proofs.Premise.{DoesAt, start_of, first_wait_of, is_plain_setting}
 use Rattle.dnssec_run.proofs.Premise.{plain-by-sets, sets_nothing}
-use Rattle.dnssec_zone.proofs.Flags.{SideOf, Keys, Zone, is_blank, Quiet, fits, stale-idle}
-use Rattle.dnssec_zone.proofs.Flags.{blank-idle}
+use Rattle.dnssec_zone.proofs.Flags.{SideOf, Keys, Zone, Quiet, fits, stale-idle, blank-idle}
 use Rattle.dnssec_run.proofs.Chain.Tale.{Tale, World, Key, world_at, rolled, start_key}
-use Rattle.dnssec_run.proofs.Chain.Tale.{early-end-parts, start-parts, report_key, wait1_key}
-use Rattle.dnssec_run.proofs.Chain.Tale.{wait2_key, is_listed}
+use Rattle.dnssec_run.proofs.Chain.Tale.{early-end-parts, start-parts}
 use Rattle.dnssec_run.proofs.Chain.Setters.{harmless, others-role, present_others}
 use Rattle.dnssec_run.proofs.Chain.Rolls.{stage_fits}
 use Rattle.dnssec_run.proofs.Chain.Returns.{KeepsLists, early_end_key}
-use Rattle.dnssec_run.proofs.Chain.Lists.{keeps-same, keeps-without, keeps-on, keeps-start}
-use Rattle.dnssec_run.proofs.Chain.Lists.{listed-same, listed-other, is_listed-filter}
 use Rattle.dnssec_run.proofs.Chain.OneKey.{Mapped}
 use Rattle.dnssec_run.proofs.Chain.Places.{place_at, real, all_ok, same_call, none_at_start}
 use Rattle.dnssec_run.proofs.Chain.Places.{found_key}
@@ -71,26 +63,21 @@ use Rattle.dnssec_run.proofs.Chain.SideBySide.{wait2, end_early, family-safe}
 use Rattle.dnssec_run.proofs.Chain.Keeping.{engaged}
 use Rattle.dnssec_run.proofs.Chain.History.{nothing_in, not_in_empty}
 use Rattle.dnssec_run.proofs.Chain.Life.{Law, PassesAt}
-use Rattle.dnssec_run.proofs.Chain.Family.{algorithm-law, of_algorithm, whole-law}
-use Rattle.dnssec_run.proofs.Chain.Family.{number_same, same_number}
-use Rattle.dnssec_run.proofs.Chain.Allowed.{can_start, waits_in_phase}
+use Rattle.dnssec_run.proofs.Chain.Family.{algorithm-law, of_algorithm, whole-law, number_same}
+use Rattle.dnssec_run.proofs.Chain.Family.{same_number}
+use Rattle.dnssec_run.proofs.Chain.Allowed.{can_start, waits_in_phase, spreads}
 use Rattle.dnssec_keyset.proofs.Laws.{no_cause}
-use Rattle.dnssec_zone.proofs.Phases.{no_phases}
-
--- ---- replies
-
-accepted_reply : (r : Reply) → rec.is_accepted r ≡ true → is_refused (rec.reply_of r) ≡ false
-accepted_reply reply.Done e = refl
-accepted_reply (reply.Actions actions) e = refl
-accepted_reply (reply.Refused cause) e = absurd (true≢false (sym e))
+use Rattle.dnssec_run.specs.WholeRolls.{is_second}
+use Rattle.dnssec_zone.specs.Start.{is_listed}
+use Rattle.dnssec_key.specs.State.{is_future}
+use Rattle.dnssec_key.specs.Key.{all_states}
 
 -- ---- marks, moments and new keys, from the key set's calls
 
 abbrev pub mark : keyset.Call → Mark
 mark (keyset.StartRoll r o n t) = Step r
 mark (keyset.Wait r First t) = Step r
-mark (keyset.Report r First ttl t) = Report r false ttl
-mark (keyset.Report r Second ttl t) = Report r true ttl
+mark (keyset.Report r half ttl t) = Report r (is_second half) ttl
 mark _ = Other
 
 abbrev pub moment : keyset.Call → Option ℕ
@@ -101,7 +88,7 @@ moment (keyset.Wait r h now) = Some now
 moment _ = None
 
 abbrev pub adds_blank : keyset.Call → Bool
-adds_blank (keyset.AddKey r k) = is_blank k.keytype
+adds_blank (keyset.AddKey r k) = all_states is_future k.keytype
 adds_blank _ = true
 
 pub record Plainly (c : Call) : Type 0 where
@@ -110,28 +97,9 @@ pub record Plainly (c : Call) : Type 0 where
   pub blank : adds_blank (rec.call_of c) ≡ true
 
 pub plainly : (c : Call) → Plainly c
-plainly (call.AddKeyKsk a b c d e f) = record { mark_is = refl; moment_is = refl; blank = refl }
-plainly (call.AddKeyZsk a b c d e f) = record { mark_is = refl; moment_is = refl; blank = refl }
-plainly (call.AddKeyCsk a b c d e f) = record { mark_is = refl; moment_is = refl; blank = refl }
-plainly (call.AddPublicKey a b c d e) = record { mark_is = refl; moment_is = refl; blank = refl }
-plainly (call.SetDecoupled a b) = record { mark_is = refl; moment_is = refl; blank = refl }
-plainly (call.SetPresent a b c) = record { mark_is = refl; moment_is = refl; blank = refl }
-plainly (call.SetSigner a b) = record { mark_is = refl; moment_is = refl; blank = refl }
-plainly (call.SetAtParent a b) = record { mark_is = refl; moment_is = refl; blank = refl }
-plainly (call.SetStale a) = record { mark_is = refl; moment_is = refl; blank = refl }
-plainly (call.SetVisible a b) = record { mark_is = refl; moment_is = refl; blank = refl }
-plainly (call.SetDsVisible a b) = record { mark_is = refl; moment_is = refl; blank = refl }
-plainly (call.SetRrsigVisible a b) = record { mark_is = refl; moment_is = refl; blank = refl }
-plainly (call.DeleteKey a) = record { mark_is = refl; moment_is = refl; blank = refl }
-plainly (call.StartRoll a b c d) = record { mark_is = refl; moment_is = refl; blank = refl }
 plainly (call.Propagation1Complete a b c) =
     record { mark_is = refl; moment_is = refl; blank = refl }
-plainly (call.CacheExpired1 a b) = record { mark_is = refl; moment_is = refl; blank = refl }
-plainly (call.Propagation2Complete a b c) =
-    record { mark_is = refl; moment_is = refl; blank = refl }
-plainly (call.CacheExpired2 a b) = record { mark_is = refl; moment_is = refl; blank = refl }
-plainly (call.RollDone a) = record { mark_is = refl; moment_is = refl; blank = refl }
-plainly (call.AbortRoll a) = record { mark_is = refl; moment_is = refl; blank = refl }
+plainly _ = record { mark_is = refl; moment_is = refl; blank = refl }
 
 -- ---- worlds
 
@@ -158,10 +126,15 @@ module _ (tale : Tale) (law : Law tale) (n : ℕ) (here : suc n ≤ length tale.
   moved : (f g : List ℕ → Key → Key) (r : RollType) (o : Option RollState) {kept : Lists}
       → MovesOn before after r o kept f → ((q : List ℕ) (k : Key) → f q k ≡ g q k)
       → ((q : List ℕ) → (world_at tale (suc n)).added q ≡ (world_at tale n).added q)
-      → world_at tale (suc n) ≡ rolled (world_at tale n) g r o
-  moved f g r o h same added = worlds (world_at tale (suc n)) (rolled (world_at tale n) g r o)
+      → Mapped tale n g r o
+  moved f g r o h same added = mapped tale n g r o
+      (worlds (world_at tale (suc n)) (rolled (world_at tale n) g r o)
       (λ q. h.keys q ∙ map_by (f q) (g q) (same q) (get before.keys q)) added
-      (λ q. ap (λ rolls. phase_of rolls q) h.rolls ∙ phase_of-with_phase before.rolls r o q)
+      (λ q. ap (λ rolls. phase_of rolls q) h.rolls ∙ phase_of-with_phase before.rolls r o q))
+
+  expires : (half : Half) (ttl : ℕ) → Some (cache_expire half ttl) ≡ Some Propagation1 → ⊥
+  expires First ttl e = cc
+  expires Second ttl e = cc
 
   -- a setter of a plain list takes from the lists another signer's key at most
   set_lists : (x : List ℕ) (s : Setting) → is_plain_setting s (get before.keys x) ≡ true
@@ -184,15 +157,10 @@ module _ (tale : Tale) (law : Law tale) (n : ℕ) (here : suc n ≤ length tale.
           (λ k. if t i then set_by (Present value now) k else k)
           (get before.keys (sym ((bytes_decides x id.0).0 t) i))))
           ∙ (found_key (world_at tale (suc n)) id j f).0))))
-      by (Signer value) plain h = absurd (true≢false (sym plain))
-      by (AtParent value) plain h = absurd (true≢false (sym plain))
-      by Stale plain h = absurd (true≢false (sym plain))
-      by (VisibleAt time) plain h = absurd (true≢false (sym plain))
-      by (DsVisibleAt time) plain h = absurd (true≢false (sym plain))
-      by (RrsigVisibleAt time) plain h = absurd (true≢false (sym plain))
+      by _ plain h = absurd (true≢false (sym plain))
 
   accepted : (c : keyset.Call) → keyset.clearance before c ≡ waits.Clear
-      → keyset.Changes before c after → sets_nothing before c ≡ true → adds_blank c ≡ true
+      → Changes before c after → sets_nothing before c ≡ true → adds_blank c ≡ true
       → ((q : List ℕ) → (world_at tale (suc n)).added q
       ≡ rec.with_added (suc n) (rec.reference_added c) (world_at tale n).added q)
       → (position_at tale.es (suc n)).mark ≡ mark c → (position_at tale.es (suc n)).moment
@@ -228,73 +196,50 @@ module _ (tale : Tale) (law : Law tale) (n : ℕ) (here : suc n ≤ length tale.
       (h.keys id.0 ∙ ap (λ b. if b then None else get before.keys id.0) t)
       ∙ (found_key (world_at tale (suc n)) id j f).0))) inv
   accepted (keyset.StartRoll r old new now) v h plain blank added m t only some inv =
-      let on : Mapped tale n (start_key r now old new) r (Some Propagation1) =
-      mapped tale n (start_key r now old new) r (Some Propagation1)
-      (moved _ (start_key r now old new) r (Some Propagation1) h
-      (λ q. start-parts r now (is_listed q old) (is_listed q new)) added) in
+      let on = moved _ (start_key r now old new) r (Some Propagation1) h
+      (λ q. start-parts r now (is_listed old q) (is_listed new q)) added in
       start tale n here r now old new on (can_start (real tale n) r old new (no_cause _ v)) m
-      (λ q. ap (λ l. is_listed q (listed_by l r).olds) h.lists
-      ∙ ap (λ (l : Listed). is_listed q l.olds)
+      (λ q. ap (λ l. is_listed (listed_by l r).olds q) h.lists
+      ∙ ap (λ (l : Listed). is_listed l.olds q)
       (listed-same before.lists r (lists.listed_at_start before.keys old new))
       ∙ is_listed-filter (lists.has_kept_key before.keys) old q)
-      (λ q. ap (λ l. is_listed q (listed_by l r).news) h.lists
-      ∙ ap (λ (l : Listed). is_listed q l.news)
+      (λ q. ap (λ l. is_listed (listed_by l r).news q) h.lists
+      ∙ ap (λ (l : Listed). is_listed l.news q)
       (listed-same before.lists r (lists.listed_at_start before.keys old new)))
       (λ sd out. keeps-start tale n r (Some Propagation1) on.rolls
       (λ q d. ap (λ l. listed_by l q) h.lists
       ∙ listed-other before.lists r (lists.listed_at_start before.keys old new) q d) sd
       (λ q own. distinct sd r q out own))
       law (some r refl) (λ s. none-some AlgorithmRoll (only s)) inv
-  accepted (keyset.Report r First ttl now) v h plain blank added m t only some inv =
-      let on : Mapped tale n (λ q. report_key r false now) r (Some (CacheExpire1 ttl)) =
-      mapped tale n (λ q. report_key r false now) r (Some (CacheExpire1 ttl))
-      (moved _ (λ q. report_key r false now) r (Some (CacheExpire1 ttl)) h (λ q k. refl) added)
-      in
-      report tale n here r false ttl now on
-      (spreads_first _ (no_cause _ v)) m t (λ s. none-some AlgorithmRoll (only s))
-      (keeps-on tale n r (Some (CacheExpire1 ttl)) (λ e. cc) on.rolls
-      (λ q d. ap (λ l. listed_by l q) h.lists ∙ listed-other before.lists r nothing_listed q d))
-      inv
-  accepted (keyset.Report r Second ttl now) v h plain blank added m t only some inv =
-      let on : Mapped tale n (λ q. report_key r true now) r (Some (CacheExpire2 ttl)) =
-      mapped tale n (λ q. report_key r true now) r (Some (CacheExpire2 ttl))
-      (moved _ (λ q. report_key r true now) r (Some (CacheExpire2 ttl)) h (λ q k. refl) added)
-      in
-      report tale n here r true ttl now on
-      (spreads_second _ (no_cause _ v)) m t (λ s. none-some AlgorithmRoll (only s))
-      (keeps-on tale n r (Some (CacheExpire2 ttl)) (λ e. cc) on.rolls
-      (λ q d. ap (λ l. listed_by l q) h.lists)) inv
+  accepted (keyset.Report r half ttl now) v h plain blank added m t only some inv =
+      let on = moved _ (λ q. after_report r half now) r (Some (cache_expire half ttl)) h
+      (λ q k. refl) added in
+      report tale n here r half ttl now on
+      (spreads half _ (no_cause _ v)) m t (λ s. none-some AlgorithmRoll (only s))
+      (keeps-on tale n r (Some (cache_expire half ttl)) (expires half ttl) on.rolls
+      (λ q d. ap (λ l. listed_by l q) h.lists ∙ listed-reported half before.lists r q d)) inv
   accepted (keyset.Wait r First now) v h plain blank added m t only some inv =
-      let w = waits_in_phase r false now (real tale n) v in
-      let on : Mapped tale n (λ q. wait1_key r now) r (Some Propagation2) =
-      mapped tale n (λ q. wait1_key r now) r (Some Propagation2)
-      (moved _ (λ q. wait1_key r now) r (Some Propagation2) h (λ q k. refl) added) in
+      let w = waits_in_phase r First now (real tale n) v in
+      let on = moved _ (λ q. after_wait r First now) r (Some Propagation2) h (λ q k. refl) added in
       wait1 tale n here r w.0 now on w.1 w.2 m t
       (keeps-on tale n r (Some Propagation2) (λ e. cc) on.rolls
       (λ q d. ap (λ l. listed_by l q) h.lists)) (λ s. same_Some r AlgorithmRoll (only s)) inv
   accepted (keyset.Wait r Second now) v h plain blank added m t only some inv =
-      let w = waits_in_phase r true now (real tale n) v in
-      let on : Mapped tale n (λ q. wait2_key r now) r (Some Done) =
-      mapped tale n (λ q. wait2_key r now) r (Some Done)
-      (moved _ (λ q. wait2_key r now) r (Some Done) h (λ q k. refl) added) in
+      let w = waits_in_phase r Second now (real tale n) v in
+      let on = moved _ (λ q. after_wait r Second now) r (Some Done) h (λ q k. refl) added in
       wait2 tale n here r w.0 now on w.1 w.2 m t
       (keeps-on tale n r (Some Done) (λ e. cc) on.rolls (λ q d. ap (λ l. listed_by l q) h.lists))
       (λ s. none-some AlgorithmRoll (only s)) inv
   accepted (keyset.AbortRoll r) v h plain blank added m t only some inv =
-      let on : Mapped tale n (early_end_key tale r n) r None =
-      mapped tale n (early_end_key tale r n) r None
-      (moved _ (early_end_key tale r n) r None h (λ q. early-end-parts r _ _) added) in
+      let on = moved _ (early_end_key tale r n) r None h (λ q. early-end-parts r _ _) added in
       end_early tale n here r on (ends_early _ (no_cause _ v)) m
       (keeps-on tale n r None (λ e. none-some Propagation1 e) on.rolls
       (λ q d. ap (λ l. listed_by l q) h.lists ∙ listed-other before.lists r nothing_listed q d))
       (λ s. none-some AlgorithmRoll (only s)) inv
   accepted (keyset.RollDone r) v h plain blank added m t only some inv =
-      let keys = λ (q : List ℕ). h.keys q ∙ option_map_id (get before.keys q) in
-      let rolls = λ (q : RollType). ap (λ rolls. phase_of rolls q) h.rolls
-      ∙ phase_of-with_phase before.rolls r None q in
-      done tale n here r keys (λ id. λ i. if added id.0 i == id.1 then keys id.0 i else None)
-      rolls (finishes _ (no_cause _ v)) m (λ s. none-some AlgorithmRoll (only s))
-      (keeps-on tale n r None (λ e. none-some Propagation1 e) rolls
+      let on = moved _ (λ q k. k) r None h (λ q k. refl) added in
+      done tale n here r on (finishes _ (no_cause _ v)) m (λ s. none-some AlgorithmRoll (only s))
+      (keeps-on tale n r None (λ e. none-some Propagation1 e) on.rolls
       (λ q d. ap (λ l. listed_by l q) h.lists)) inv
 
   by_reply : (c : keyset.Call) (r : Reply) → keyset.Step before c (rec.reply_of r) after
@@ -309,7 +254,7 @@ module _ (tale : Tale) (law : Law tale) (n : ℕ) (here : suc n ≤ length tale.
       → DoesAt start_of tale.calls tale.es n q)
       → Inv tale n → Inv tale (suc n)
   by_reply c (reply.Refused cause) step plain blank added m t only some inv =
-      let same = refused_same (keyset.clearance before c) before after c cause step in
+      let same = step.1 in
       calm tale n here (world_at tale n)
       (worlds (world_at tale (suc n)) (world_at tale n) (λ q. ap (λ s. get s.keys q) same) added
       (λ q. ap (λ s. phase_of s.rolls q) same))
@@ -317,11 +262,10 @@ module _ (tale : Tale) (law : Law tale) (n : ℕ) (here : suc n ≤ length tale.
       (keeps-same tale n (λ q. ap (λ s. phase_of s.rolls q) same)
       (ap (λ (s : KeySetParts). s.lists) same)) inv
   by_reply c reply.Done step plain blank added m t only some inv =
-      let h = accepted_changes (keyset.clearance before c) before after c keyset.Done refl step in
+      let h = accepted_changes before after c keyset.Done refl step in
       accepted c h.0 h.1 plain blank added m t (λ s. (only s).1) (λ q. some q refl) inv
   by_reply c (reply.Actions actions) step plain blank added m t only some inv =
-      let h = accepted_changes (keyset.clearance before c) before after c
-      (keyset.Actions actions.items) refl step in
+      let h = accepted_changes before after c (keyset.Actions actions.items) refl step in
       accepted c h.0 h.1 plain blank added m t (λ s. (only s).1) (λ q. some q refl) inv
 
   mark_after : (c : Call) (r : Reply) → rec.mark_after c r

@@ -1,4 +1,5 @@
 -- A roll in its first phase, and the keys that it lists, over one call that isn't on it.
+use Rattle.dnssec_keyset.proofs.Changes.{Changes}
 use Rattle.std.proofs.Common.{◌≡◌, ℕ, inl, inr, Bool, true, false, ◌&&◌, refl, sym, ◌∙◌, ap, List}
 use Rattle.std.proofs.Common.{Option, None, Some}
 use Rattle.std.specs.Prelude.{if◌then◌else◌, is_some}
@@ -11,20 +12,17 @@ use Rattle.std.proofs.lemmas.Option.{none-some}
 use Rattle.dnssec_key.specs.declared.roll.RollType.{RollType}
 use Rattle.dnssec_key.specs.declared.roll.RollState.{RollState}
 use Rattle.dnssec_key.specs.declared.roll.RollState.TheVariants.{Propagation1, CacheExpire1}
-use Rattle.dnssec_key.specs.declared.roll.RollState.TheVariants.{Propagation2, CacheExpire2}
-use Rattle.dnssec_key.specs.declared.roll.RollState.TheVariants.{Done}
+use Rattle.dnssec_key.specs.declared.roll.RollState.TheVariants.{Propagation2, CacheExpire2, Done}
 use Rattle.dnssec_key.specs.Key.{KeyParts}
 use Rattle.dnssec_key.specs.RollTable.{First, Second, after_report}
-use Rattle.dnssec_key.specs.Setters.{Setting, Decoupled, Present, Signer, AtParent, Stale}
-use Rattle.dnssec_key.specs.Setters.{VisibleAt, DsVisibleAt, RrsigVisibleAt, is_flag_setting}
-use Rattle.dnssec_key.specs.Setters.{set_by}
+use Rattle.dnssec_key.specs.Setters.{Setting, Decoupled, is_flag_setting, set_by}
 use Rattle.dnssec_keyset.specs.KeySet.{KeySetParts}
 use Rattle.dnssec_zone.specs.Rolls.{phase_of, same_roll, with_phase}
 use Rattle.dnssec_keyset.specs.Laws.{LeavesOthers, RollsTogether, roll_of}
 use Rattle.dnssec_keyset.specs.Step as keyset
 use Rattle.dnssec_zone.specs.Wait as waits
 use Rattle.dnssec_keyset.proofs.Accepted.{add_free, ends_early}
-use Rattle.dnssec_zone.proofs.Flags.{may_list, tolerates}
+use Rattle.dnssec_zone.proofs.Flags.{may_list}
 use Rattle.dnssec_run.specs.EarlyEnds.{touches}
 use Rattle.dnssec_run.proofs.Chain.Allowed.{can_start, waits_in_phase}
 use Rattle.dnssec_run.proofs.Chain.Facts.{other}
@@ -32,6 +30,7 @@ use Rattle.dnssec_run.proofs.EarlyEnds.Lists.{IsAside}
 use Rattle.dnssec_run.proofs.WholeRolls.Order.{world_of}
 use Rattle.dnssec_run.proofs.WholeRolls.Phases.{put_aside, put_there}
 use Rattle.dnssec_keyset.proofs.Laws.{same-is, no_cause}
+use Rattle.dnssec_zone.specs.Start.{together}
 
 -- ---- the phase
 
@@ -50,7 +49,7 @@ module _ (roll : RollType) (old new : KeySetParts)
     | inr t ↦ (sym (put_aside old.rolls new.rolls r o roll rolls t) ∙ spreads, t)
   ]
 
-  pub phase-before : (c : keyset.Call) → keyset.Changes old c new
+  pub phase-before : (c : keyset.Call) → Changes old c new
       → ((olds news : List (List ℕ)) (now : ℕ) → c ≡ keyset.StartRoll roll olds news now → ⊥)
       → WasSo c
   phase-before (keyset.AddKey r k) m no_start =
@@ -79,18 +78,12 @@ same_kind_by : (b : Bool) (s : Setting) (k : KeyParts) → (is_flag_setting s &&
     → (if b then set_by s k else k).keytype ≡ k.keytype
 same_kind_by false s k none = refl
 same_kind_by true (Decoupled value) k none = refl
-same_kind_by true (Present value now) k none = absurd (true≢false none)
-same_kind_by true (Signer value) k none = absurd (true≢false none)
-same_kind_by true (AtParent value) k none = absurd (true≢false none)
-same_kind_by true Stale k none = absurd (true≢false none)
-same_kind_by true (VisibleAt time) k none = refl
-same_kind_by true (DsVisibleAt time) k none = refl
-same_kind_by true (RrsigVisibleAt time) k none = refl
+same_kind_by true _ k none = cc
 
 module _ (roll : RollType) (old new : KeySetParts) (all : RollsTogether old.rolls)
     (going : phase_of old.rolls roll ≡ Some Propagation1) where
   beside : (r : RollType) (x : RollState) → phase_of old.rolls r ≡ Some x
-      → same_roll r roll ≡ false → tolerates r roll ≡ true
+      → same_roll r roll ≡ false → together r roll ≡ true
   beside r x there aside = elim (all r roll (ap is_some there) (ap is_some going)) [
     | inl same ↦ absurd (true≢false (sym same ∙ aside))
     | inr t ↦ t
@@ -103,12 +96,12 @@ module _ (roll : RollType) (old new : KeySetParts) (all : RollsTogether old.roll
     Remains = (j : KeyParts) × (get new.keys q ≡ Some j) × (j.keytype ≡ k.keytype)
 
     left : (c : keyset.Call) (r : RollType) → LeavesOthers old c new
-        → roll_of c ≡ Some r → tolerates r roll ≡ true → Remains
+        → roll_of c ≡ Some r → together r roll ≡ true → Remains
     left c r leaves on apart =
         (k, leaves r q k on there (other r roll k.keytype apart own), refl)
 
     pub key-step : (c : keyset.Call) → keyset.clearance old c ≡ waits.Clear
-        → keyset.Changes old c new → LeavesOthers old c new → IsAside roll c
+        → Changes old c new → LeavesOthers old c new → IsAside roll c
         → touches c q ≡ false → Remains
     key-step (keyset.AddKey r key) v m leaves aside none = by (bytes_eq r q) refl
       where
@@ -130,7 +123,7 @@ module _ (roll : RollType) (old new : KeySetParts) (all : RollsTogether old.roll
         (k, m.keys q ∙ ap (λ b. if b then None else get old.keys q) none ∙ there, refl)
     key-step (keyset.StartRoll r olds news now) v m leaves aside none =
         let can = can_start (world_of old) r olds news (no_cause _ v) in
-        elim (cases_Bool (tolerates r roll)) [
+        elim (cases_Bool (together r roll)) [
           | inl t ↦ left (keyset.StartRoll r olds news now) r leaves refl t
           | inr t ↦ absurd (none-some Propagation1 (sym (can.alone roll t) ∙ going))
         ]
@@ -138,10 +131,10 @@ module _ (roll : RollType) (old new : KeySetParts) (all : RollsTogether old.roll
         let f = after_report r half now in
         (f k, m.keys q ∙ ap (option_map f) there, refl)
     key-step (keyset.Wait r First now) v m leaves aside none =
-        let f = waits_in_phase r false now (world_of old) v in
+        let f = waits_in_phase r First now (world_of old) v in
         left (keyset.Wait r First now) r leaves refl (beside r (CacheExpire1 f.0) f.1 aside)
     key-step (keyset.Wait r Second now) v m leaves aside none =
-        let f = waits_in_phase r true now (world_of old) v in
+        let f = waits_in_phase r Second now (world_of old) v in
         left (keyset.Wait r Second now) r leaves refl (beside r (CacheExpire2 f.0) f.1 aside)
     key-step (keyset.RollDone r) v m leaves aside none =
         (k, m.keys q ∙ ap (option_map (λ k. k)) there, refl)

@@ -1,59 +1,22 @@
 -- What is kept of a start over one call: a reference drops out if and only if the call touches its
 -- key.
-use Rattle.std.proofs.Common.{◌≡◌, ℕ, Bool, true, false, not, ◌&&◌, ◌||◌, cond, refl, sym, ◌∙◌, ap}
-use Rattle.std.proofs.Common.{List, [], ◌∷◌}
-use Rattle.std.specs.Prelude.{filter, if◌then◌else◌}
+use Rattle.dnssec_keyset.proofs.Changes.{Changes}
+use Rattle.std.proofs.Common.{inr, inl, ◌≡◌, ℕ, false, not, ◌&&◌, refl, sym, ◌∙◌, ap, List}
+use Rattle.std.proofs.lemmas.Bool.{cases_Bool}
+use Rattle.dnssec_run.proofs.Chain.Lists.{is_listed-filter}
+use Rattle.std.specs.Prelude.{if◌then◌else◌}
 use Rattle.std.specs.Str.{bytes_eq}
-use Rattle.std.specs.Cmp.Lexicographic.{bytes_decides}
 use Rattle.dnssec_key.specs.declared.roll.RollType.{RollType}
 use Rattle.dnssec_key.specs.RollTable.{First, Second}
 use Rattle.dnssec_key.specs.Setters.{is_flag_setting}
 use Rattle.dnssec_keyset.specs.KeySet.{KeySetParts}
-use Rattle.dnssec_zone.specs.Lists.{Listed, Lists, listed_by}
+use Rattle.dnssec_zone.specs.Lists.{Listed, Lists, listed_by, with_listed, without}
 use Rattle.dnssec_zone.specs.Rolls.{same_roll}
-use Rattle.dnssec_zone.specs.Lists.{with_listed, without}
 use Rattle.dnssec_zone.specs.Start.{is_listed}
 use Rattle.dnssec_keyset.specs.Step as keyset
 use Rattle.dnssec_zone.proofs.Phases.{listed_by-with_listed, listed_by-without}
 use Rattle.dnssec_run.specs.EarlyEnds.{touches}
-use Rattle.std.proofs.Math.Bool.{and-true, and-false}
-
--- ---- the references of a list that pass
-
-same_text : (q r : List ℕ) → bytes_eq q r ≡ true → q ≡ r
-same_text q r = (bytes_decides q r).0
-
-pub is_listed-filter : (p : List ℕ → Bool) (xs : List (List ℕ)) (q : List ℕ)
-    → is_listed (filter p xs) q ≡ (is_listed xs q && p q)
-is_listed-filter p [] q = refl
-is_listed-filter p (x ∷ xs) q = at (p x) refl (bytes_eq q x) refl (is_listed-filter p xs q)
-  where
-    more : (b c : Bool) → b ≡ c → (c || (is_listed xs q && b)) ≡ ((c || is_listed xs q) && b)
-    more true true e = refl
-    more true false e = cc
-    more false true e = cc
-    more false false e = refl
-
-    at : (b : Bool) → p x ≡ b → (c : Bool) → bytes_eq q x ≡ c
-        → is_listed (filter p xs) q ≡ (is_listed xs q && p q)
-        → is_listed (cond (p x) (x ∷ filter p xs) (filter p xs)) q
-        ≡ ((bytes_eq q x || is_listed xs q) && p q)
-    at true e true f rest =
-        ap (λ b. is_listed (cond b (x ∷ filter p xs) (filter p xs)) q) e
-        ∙ ap (λ c. c || is_listed (filter p xs) q) f
-        ∙ sym (ap (λ c. (c || is_listed xs q) && p q) f ∙ ap p (same_text q x f) ∙ e)
-    at true e false f rest =
-        ap (λ b. is_listed (cond b (x ∷ filter p xs) (filter p xs)) q) e
-        ∙ ap (λ c. c || is_listed (filter p xs) q) f
-        ∙ rest ∙ sym (ap (λ c. (c || is_listed xs q) && p q) f)
-    at false e true f rest =
-        ap (λ b. is_listed (cond b (x ∷ filter p xs) (filter p xs)) q) e
-        ∙ rest ∙ ap (λ b. is_listed xs q && b) (ap p (same_text q x f) ∙ e)
-        ∙ and-false (is_listed xs q)
-        ∙ sym (ap (λ c. (c || is_listed xs q) && p q) f ∙ ap p (same_text q x f) ∙ e)
-    at false e false f rest =
-        ap (λ b. is_listed (cond b (x ∷ filter p xs) (filter p xs)) q) e
-        ∙ rest ∙ sym (ap (λ c. (c || is_listed xs q) && p q) f)
+use Rattle.std.proofs.Math.Bool.{and-true}
 
 -- ---- one call
 
@@ -104,21 +67,19 @@ module _ (roll : RollType) (old : Lists) (q : List ℕ) where
       ∙ ap (λ b. if b then listed else listed_by old roll) aside) none
 
 pub lists-step : (roll : RollType) (old new : KeySetParts) (c : keyset.Call)
-    → keyset.Changes old c new → IsAside roll c → (q : List ℕ)
+    → Changes old c new → IsAside roll c → (q : List ℕ)
     → Follows (listed_by old.lists roll) (listed_by new.lists roll) c q
 lists-step roll old new (keyset.AddKey r k) m aside q =
     same_kept roll old.lists q new.lists _ (ap (λ l. listed_by l roll) m.lists) refl
-lists-step roll old new (keyset.Set r s) m aside q = by (is_flag_setting s) refl
-  where
-    by : (b : Bool) → is_flag_setting s ≡ b
-        → Follows (listed_by old.lists roll) (listed_by new.lists roll) (keyset.Set r s) q
-    by true t = dropped roll old.lists q new.lists (keyset.Set r s) r
-        (m.lists ∙ ap (λ b. if b then without r old.lists else old.lists) t)
-        (ap (λ b. b && bytes_eq r q) t)
-    by false t = same_kept roll old.lists q new.lists (keyset.Set r s)
-        (ap (λ l. listed_by l roll)
-        (m.lists ∙ ap (λ b. if b then without r old.lists else old.lists) t))
-        (ap (λ b. b && bytes_eq r q) t)
+lists-step roll old new (keyset.Set r s) m aside q = elim (cases_Bool (is_flag_setting s)) [
+  | inl t ↦ dropped roll old.lists q new.lists (keyset.Set r s) r
+      (m.lists ∙ ap (λ b. if b then without r old.lists else old.lists) t)
+      (ap (λ b. b && bytes_eq r q) t)
+  | inr t ↦ same_kept roll old.lists q new.lists (keyset.Set r s)
+      (ap (λ l. listed_by l roll)
+      (m.lists ∙ ap (λ b. if b then without r old.lists else old.lists) t))
+      (ap (λ b. b && bytes_eq r q) t)
+]
 lists-step roll old new (keyset.DeleteKey r) m aside q =
     dropped roll old.lists q new.lists (keyset.DeleteKey r) r m.lists refl
 lists-step roll old new (keyset.StartRoll r olds news now) m aside q =

@@ -1,5 +1,5 @@
 -- What a start and an early end do to the flags of one key, as tests that are computed.
-use Rattle.std.proofs.Common.{◌≡◌, Bool, true, false, ◌&&◌, ◌||◌, refl}
+use Rattle.std.proofs.Common.{◌≡◌, Bool, true, ◌&&◌, ◌||◌, refl, false}
 use Rattle.std.proofs.lemmas.Bool.{and_parts}
 use Rattle.dnssec_key.specs.declared.kind.KeyType.{KeyType}
 use Rattle.dnssec_key.specs.declared.kind.KeyType.TheVariants.{Csk}
@@ -21,15 +21,11 @@ tied_table : RollType → Bool → Bool → KeyType → Bool
 tied_table r o i k = tied k
     ⇒ (tied (started r o i k) && tied (waited1 r k) && tied (waited2 r k) && tied (ended r o i k))
 
-tied_all : (a b : Bool) → each_listed a b tied_table ≡ true
-unfolding tied_table column
-tied_all a b = refl
-
 pub tied_facts : (r : RollType) (o i : Bool) (k : KeyType) → tied k ≡ true
     → (tied (started r o i k) ≡ true) × (tied (waited1 r k) ≡ true)
     × (tied (waited2 r k) ≡ true) × (tied (ended r o i k) ≡ true)
-unfolding tied_table
-tied_facts r o i k h = four _ _ _ _ (mp _ _ (each_listed-at tied_table tied_all r o i k) h)
+unfolding tied_table column
+tied_facts r o i k h = four _ _ _ _ (mp _ _ (each_listed-at tied_table (λ a b. refl) r o i k) h)
 
 -- ---- an early end takes back what the start did
 
@@ -41,9 +37,8 @@ undone_table r o i k = (may_start r o i k && tied k)
 undone_all : (a b : Bool) → each_listed a b undone_table ≡ true
 unfolding undone_table column
 undone_all true true = refl
-undone_all true false = refl
 undone_all false true = refl
-undone_all false false = refl
+undone_all _ _ = refl
 
 pub undone_facts : (r : RollType) (o i : Bool) (k : KeyType)
     → (may_start r o i k && tied k) ≡ true

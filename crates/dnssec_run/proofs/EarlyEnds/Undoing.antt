@@ -1,13 +1,15 @@
 -- From the start of a roll to its early end: for the clause `undoes`.
+use Rattle.dnssec_keyset.proofs.Changes.{Changes}
+use Rattle.std.proofs.lemmas.Bool.{false_from_ne_true, true≢false, and_parts, cases_lt, cases_Bool}
+use Rattle.std.proofs.lemmas.Bool.{not-true, or_left, or_right}
+use Rattle.dnssec_run.proofs.Laws.{made-at, stays-sound}
 use Rattle.std.proofs.Common.{◌≡◌, ℕ, zero, suc, ◌<◌, ◌≤◌, inl, inr, Bool, true, false, not, ◌&&◌}
 use Rattle.std.proofs.Common.{◌||◌, refl, sym, ◌∙◌, ap, subst, arith, List, length, Option, None}
 use Rattle.std.proofs.Common.{Some}
 use Rattle.std.specs.Prelude.{slice_get, if◌then◌else◌}
 use Rattle.std.specs.Option.{option_map, option_map_or}
 use Rattle.std.specs.FinMap.{get}
-use Rattle.std.proofs.lemmas.Bool.{true≢false, and_parts, cases_lt, cases_Bool, not-true, or_left}
-use Rattle.std.proofs.lemmas.Bool.{or_right}
-use Rattle.std.proofs.lemmas.Option.{same_Some, slice_get_cases, slice_get_within}
+use Rattle.std.proofs.lemmas.Option.{same_Some, slice_get_within}
 use Rattle.dnssec_key.specs.declared.kind.KeyType.{KeyType}
 use Rattle.dnssec_key.specs.declared.roll.RollType.{RollType}
 use Rattle.dnssec_key.specs.declared.roll.RollState.TheVariants.{Propagation1}
@@ -15,10 +17,9 @@ use Rattle.dnssec_key.specs.State.{is_kept}
 use Rattle.dnssec_key.specs.Key.{KeyParts, all_states}
 use Rattle.dnssec_key.specs.RollTable.{after_early_end, after_start}
 use Rattle.dnssec_keyset.specs.KeySet.{KeySetParts}
-use Rattle.dnssec_zone.specs.Lists.{Listed, listed_by}
+use Rattle.dnssec_zone.specs.Lists.{Listed, listed_by, has_kept_key, listed_at_start}
 use Rattle.dnssec_zone.specs.Rolls.{phase_of}
 use Rattle.dnssec_zone.specs.Start.{is_listed}
-use Rattle.dnssec_zone.specs.Lists.{has_kept_key, listed_at_start}
 use Rattle.dnssec_keyset.specs.Step as keyset
 use Rattle.dnssec_zone.specs.Wait as waits
 use Rattle.dnssec_keyset.proofs.Accepted.{ends_early}
@@ -32,18 +33,18 @@ use Rattle.dnssec_run.specs.EarlyEnds.{IsUntouched, Undoes, UndoesStarts, touche
 use Rattle.dnssec_run.specs.Published.{World}
 use Rattle.dnssec_run.specs.Record.{IsRun, call_of, is_accepted, reply_of, world_at}
 use Rattle.dnssec_run.specs.WholeRolls.{IsAccepted}
-use Rattle.dnssec_run.proofs.Chain.Allowed.{can_start}
+use Rattle.dnssec_run.proofs.Chain.Allowed.{can_start, spreads}
 use Rattle.dnssec_run.proofs.Chain.Rolls.{same-same}
 use Rattle.dnssec_run.proofs.Chain.OneKey.{may_there}
 use Rattle.dnssec_run.proofs.Chain.Tale.{CanStart, early-end-parts, seen, start-parts}
 use Rattle.dnssec_run.proofs.EarlyEnds.Keys.{key-step, phase-before}
-use Rattle.dnssec_run.proofs.EarlyEnds.Lists.{is_listed-filter, lists-step}
+use Rattle.dnssec_run.proofs.EarlyEnds.Lists.{lists-step}
+use Rattle.dnssec_run.proofs.Chain.Lists.{is_listed-filter}
 use Rattle.dnssec_run.proofs.EarlyEnds.Roles.{all-tied}
 use Rattle.dnssec_run.proofs.EarlyEnds.Tables.{tied, undone_facts}
-use Rattle.dnssec_run.proofs.Laws.{stays-sound}
 use Rattle.dnssec_run.proofs.Premise.{same-rolls, start_of}
 use Rattle.dnssec_run.proofs.WholeRolls.Order.{world_of}
-use Rattle.dnssec_run.proofs.WholeRolls.Replies.{accepted_step, refused_step, step-made}
+use Rattle.dnssec_run.proofs.WholeRolls.Replies.{did, did-made, idle}
 use Rattle.dnssec_keyset.proofs.Laws.{no_cause}
 use Rattle.std.proofs.Math.Bool.{and-true}
 
@@ -100,11 +101,8 @@ module _ (name : List ℕ) (calls : List Call) (entries : List Entry)
 
       untouched-here : s < n → is_accepted e.reply ≡ true → Untouched (suc n)
           → touches (call_of c) q ≡ false
-      untouched-here after ok u = by (touches (call_of c) q) refl
-        where
-          by : (b : Bool) → touches (call_of c) q ≡ b → b ≡ false
-          by false t = refl
-          by true t = absurd (u n (call_of c) after (omega arith) t (
+      untouched-here after ok u = false_from_ne_true (touches (call_of c) q)
+          (λ t. u n (call_of c) after (omega arith) t (
             record { made = c; entry = e; made_is = ci; entry_is = ei; call_is = refl },
             ok,
           ))
@@ -120,12 +118,8 @@ module _ (name : List ℕ) (calls : List Call) (entries : List Entry)
     first = listed_at_start old.keys olds news
 
     started_so : (keyset.clearance old (keyset.StartRoll roll olds news now) ≡ waits.Clear)
-        × keyset.Changes old (keyset.StartRoll roll olds news now) (at (suc s)).set
-    started_so =
-        let ok = accepted_step (keyset.clearance old (keyset.StartRoll roll olds news now)) old
-        (at (suc s)).set (keyset.StartRoll roll olds news now) st.0.entry.reply st.1
-        (step-made name calls entries run s (keyset.StartRoll roll olds news now) st.0) in
-        (ok.0, ok.1)
+        × Changes old (keyset.StartRoll roll olds news now) (at (suc s)).set
+    started_so = did-made name calls entries run s (keyset.StartRoll roll olds news now) st.0 st.1
 
     -- no start of the roll is accepted before n
     abbrev NoStart : ℕ → Type 0
@@ -217,16 +211,14 @@ module _ (name : List ℕ) (calls : List Call) (entries : List Entry)
           by : (b : Bool) → is_accepted e.reply ≡ b
               → Standing (at (suc n)).set (Untouched s q (suc n))
           by false t =
-              let same = refused_step (keyset.clearance (at n).set (call_of c)) (at n).set
-              (at (suc n)).set (call_of c) e.reply t step in
+              let same = idle name calls entries run n c e ci ei t in
               subst (λ set. Standing set (Untouched s q (suc n))) (sym same)
               (standing-same (at n).set (Untouched s q n) (Untouched s q (suc n))
               (λ u. untouched-next s q n c e ci ei u (λ a. absurd (true≢false (sym a ∙ t))))
               (untouched-before s q n)
               (before (ap (λ (set : KeySetParts). phase_of set.rolls roll) (sym same) ∙ spreads)))
           by true t =
-              let ok = accepted_step (keyset.clearance (at n).set (call_of c)) (at n).set
-              (at (suc n)).set (call_of c) e.reply t step in
+              let ok = did name calls entries run n c e ci ei t in
               let was = phase-before roll (at n).set (at (suc n)).set spreads (call_of c) ok.1
               (λ others more later is. no_start others more later (
                 record { made = c; entry = e; made_is = ci; entry_is = ei; call_is = is },
@@ -266,16 +258,11 @@ module _ (name : List ℕ) (calls : List Call) (entries : List Entry)
           → Standing (at n).set (Untouched s q n)
       standing zero later within none spreads = absurd (omega arith)
       standing (suc n) later within none spreads = elim (cases_lt s n) [
-        | inl lt ↦ elim ((slice_get_cases entries n).1) [
-          | inl e ↦ elim ((slice_get_cases calls n).1) [
-            | inl c ↦ standing-next n c.0 e.0 (omega arith) lt c.2 e.2
-                (λ others more later. none n others more later lt (omega arith)) spreads
-                (standing n lt (omega arith)
-                (λ m others more later a b. none m others more later a (omega arith)))
-            | inr c ↦ absurd (omega (arith, c.0, run.count))
-          ]
-          | inr e ↦ absurd (omega (arith, e.0))
-        ]
+        | inl lt ↦ let x = made-at name calls entries run n within in
+            standing-next n x.0 x.1 (omega arith) lt x.2 x.3
+            (λ others more later. none n others more later lt (omega arith)) spreads
+            (standing n lt (omega arith)
+            (λ m others more later a b. none m others more later a (omega arith)))
         | inr ge ↦ let same : s ≡ n = omega arith in
             subst (λ n. Standing (at (suc n)).set (Untouched s q (suc n))) same standing-first
       ]
@@ -300,12 +287,8 @@ module _ (name : List ℕ) (calls : List Call) (entries : List Entry)
       was_new q = is_listed (listed_by here.lists roll).news q
 
       ended_so : (keyset.clearance here (keyset.AbortRoll roll) ≡ waits.Clear)
-          × keyset.Changes here (keyset.AbortRoll roll) new
-      ended_so =
-          let ok = accepted_step (keyset.clearance here (keyset.AbortRoll roll)) here new
-          (keyset.AbortRoll roll) end.0.entry.reply end.1
-          (step-made name calls entries run n (keyset.AbortRoll roll) end.0) in
-          (ok.0, ok.1)
+          × Changes here (keyset.AbortRoll roll) new
+      ended_so = did-made name calls entries run n (keyset.AbortRoll roll) end.0 end.1
 
       stands : (q : List ℕ) → Standing q here (IsUntouched calls entries s n q)
       stands q = standing q n later within none (ends_early _ (no_cause _ ended_so.0))

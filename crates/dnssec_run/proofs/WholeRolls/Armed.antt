@@ -1,121 +1,99 @@
 -- What the keys of a set say of the wait to come, by the moment it counts from: for `waits`.
+use Rattle.dnssec_keyset.proofs.Changes.{PutsKey}
+use Rattle.dnssec_run.proofs.Chain.KeyCalls.{Alike, alike-turned, was_key}
+use Rattle.dnssec_key.specs.RollTable.{Half, First, Second, column, after_report, after_wait}
+use Rattle.dnssec_run.proofs.Chain.Phases.{report_stamp, wait_stamps}
+use Rattle.dnssec_zone.proofs.Tests.{four, each_in_roll-at, ◌⇒◌, mp, and-both, alike, each_roll-at}
+use Rattle.dnssec_zone.proofs.Tests.{or_second}
 use Rattle.std.proofs.Common.{◌≡◌, ℕ, ◌≤◌, ◌⊎◌, inl, inr, Bool, true, false, not, ◌&&◌, refl, sym}
 use Rattle.std.proofs.Common.{◌∙◌, ◌||◌, ap, arith, List, Option, None, Some}
 use Rattle.std.specs.Prelude.{if◌then◌else◌}
 use Rattle.std.specs.Option.{option_map}
 use Rattle.std.specs.FinMap.{get}
-use Rattle.std.specs.Cmp.Lexicographic.{bytes_decides}
 use Rattle.std.specs.Str.{bytes_eq}
 use Rattle.std.proofs.lemmas.Bool.{true≢false, and_parts, not-true}
 use Rattle.std.proofs.lemmas.Option.{same_Some, none-some}
 use Rattle.dnssec_key.specs.declared.roll.RollType.{RollType}
 use Rattle.dnssec_key.specs.declared.roll.RollType.TheVariants.{ZskDoubleSignatureRoll}
 use Rattle.dnssec_key.specs.declared.kind.KeyType.{KeyType}
-use Rattle.dnssec_key.specs.declared.kind.KeyType.TheVariants.{Ksk, Zsk, Csk, Include}
 use Rattle.dnssec_key.specs.Key.{KeyParts}
 use Rattle.dnssec_zone.specs.Lists.{Lists}
-use Rattle.dnssec_keyset.specs.KeySet.{KeySetParts, PutsKey}
+use Rattle.dnssec_keyset.specs.KeySet.{KeySetParts}
 use Rattle.dnssec_zone.specs.Rolls.{same_roll}
-use Rattle.dnssec_key.specs.RollTable.{First, Second, column, after_report, after_wait}
-use Rattle.dnssec_zone.proofs.Flags.{Zone, may_list, waited1, tolerates, Early, Late, fits}
-use Rattle.dnssec_zone.proofs.Flags.{is_idle}
-use Rattle.dnssec_run.proofs.Chain.Tables.{written, Stamp, Visible, DsVisible, RrsigVisible, read}
-use Rattle.dnssec_run.proofs.Chain.Tables.{checked}
+use Rattle.dnssec_zone.proofs.Flags.{Zone, may_list, waited1, Early, Late, fits, is_idle}
+use Rattle.dnssec_run.proofs.Chain.Tables.{written, Stamp, Visible, read, checked, each_in_half-at}
 use Rattle.dnssec_run.proofs.Chain.Tale.{stamp_of}
-use Rattle.dnssec_run.proofs.Chain.Setters.{Harmless, harmless-alike, harmless-busy, others-idle}
-use Rattle.dnssec_zone.proofs.Tests.{each_key, each_key-at, ◌⇒◌, mp, and-both, each_in_half}
-use Rattle.dnssec_zone.proofs.Tests.{each_in_half-at, alike, each_roll-at, or_second}
 use Rattle.dnssec_run.proofs.Chain.Facts.{stays, timed, stays_facts, timer, other, stays_wait}
-use Rattle.dnssec_run.proofs.Chain.Phases.{wait_stamps}
 use Rattle.dnssec_run.proofs.WholeRolls.OrderedKeys.{back}
-use Rattle.dnssec_run.proofs.Chain.RollFacts.{timed_first}
+use Rattle.dnssec_zone.specs.Start.{together}
 
 -- ---- finite facts
 
-checked_table : RollType → Bool → KeyType → Bool
-checked_table r second k = checked r second k ⇒ (may_list r k && not (is_idle k))
+checked_table : RollType → Half → KeyType → Bool
+checked_table r half k = checked r half k ⇒ (may_list r k && not (is_idle k))
 
-checked_all : (a b : Bool) → each_in_half a b checked_table ≡ true
-unfolding checked_table column
-checked_all a b = refl
-
-pub checked_facts : (r : RollType) (second : Bool) (k : KeyType) → checked r second k ≡ true
+pub checked_facts : (r : RollType) (half : Half) (k : KeyType) → checked r half k ≡ true
     → (may_list r k ≡ true) × (is_idle k ≡ false)
 unfolding checked_table column
-checked_facts r second k h = let x =
-    and_parts _ _ (mp _ _ (each_in_half-at checked_table checked_all r second k) h) in
+checked_facts r half k h = let x =
+    and_parts _ _ (mp _ _ (each_in_half-at checked_table (λ a b. refl) r half k) h) in
     (x.0, not-true _ x.1)
 
--- the key that a Double-Signature ZSK roll waits on in both halves
-zsk_table : KeyType → Bool
-zsk_table k = stays ZskDoubleSignatureRoll false k
-    ⇒ (written RrsigVisible ZskDoubleSignatureRoll false k
-    && stays ZskDoubleSignatureRoll true (waited1 ZskDoubleSignatureRoll k))
+abbrev pub is_zds : RollType → Bool
+is_zds r = same_roll r ZskDoubleSignatureRoll
 
-zsk_all : (a b : Bool) → each_key a b zsk_table ≡ true
-unfolding zsk_table column
-zsk_all a b = refl
+-- a Double-Signature ZSK roll waits on the same key in both halves, and reads the stamps of its
+-- first report
+zds_table : RollType → KeyType → Bool
+zds_table r k = is_zds r ⇒ ((stays r First k ⇒ (written (read r Second) r First k
+    && stays r Second k && stays r Second (waited1 r k)))
+    && (stays r Second k ⇒ stays r First k)
+    && (checked r Second (waited1 r k) ⇒ checked r Second k)
+    && ((fits Zone (Late r) k && stays r Second k) ⇒ checked r Second k))
 
-zsk_facts : (k : KeyType) → stays ZskDoubleSignatureRoll false k ≡ true
-    → (written RrsigVisible ZskDoubleSignatureRoll false k ≡ true)
-    × (stays ZskDoubleSignatureRoll true (waited1 ZskDoubleSignatureRoll k) ≡ true)
-unfolding zsk_table column
-zsk_facts k h = and_parts _ _ (mp _ _ (each_key-at zsk_table zsk_all k) h)
+pub record Zds (r : RollType) (k : KeyType) : Type 0 where
+  pub goes : stays r First k ≡ true → (written (read r Second) r First k ≡ true)
+      × (stays r Second k ≡ true) × (stays r Second (waited1 r k) ≡ true)
+  pub halves : stays r Second k ≡ true → stays r First k ≡ true
+  pub waits : checked r Second (waited1 r k) ≡ true → checked r Second k ≡ true
+  pub reads : fits Zone (Late r) k ≡ true → stays r Second k ≡ true → checked r Second k ≡ true
 
-zsk_wait_table : KeyType → Bool
-zsk_wait_table k = checked ZskDoubleSignatureRoll true (waited1 ZskDoubleSignatureRoll k)
-    ⇒ checked ZskDoubleSignatureRoll true k
-
-zsk_wait_all : (a b : Bool) → each_key a b zsk_wait_table ≡ true
-unfolding zsk_wait_table column
-zsk_wait_all a b = refl
-
-zsk_wait : (k : KeyType) → checked ZskDoubleSignatureRoll true (waited1 ZskDoubleSignatureRoll k)
-    ≡ true → checked ZskDoubleSignatureRoll true k ≡ true
-unfolding zsk_wait_table column
-zsk_wait k h = mp _ _ (each_key-at zsk_wait_table zsk_wait_all k) h
-
-zsk_reads_table : KeyType → Bool
-zsk_reads_table k =
-    (fits Zone (Late ZskDoubleSignatureRoll) k && stays ZskDoubleSignatureRoll true k)
-    ⇒ checked ZskDoubleSignatureRoll true k
-
-zsk_reads_all : (a b : Bool) → each_key a b zsk_reads_table ≡ true
-unfolding zsk_reads_table column
-zsk_reads_all a b = refl
-
-pub zsk_reads : (k : KeyType) → fits Zone (Late ZskDoubleSignatureRoll) k ≡ true
-    → stays ZskDoubleSignatureRoll true k ≡ true → checked ZskDoubleSignatureRoll true k ≡ true
-unfolding zsk_reads_table column
-zsk_reads k f h = mp _ _ (each_key-at zsk_reads_table zsk_reads_all k) (and-both _ _ f h)
+pub zds_facts : (r : RollType) (k : KeyType) → is_zds r ≡ true → Zds r k
+unfolding zds_table column
+zds_facts r k zds =
+    let a = four _ _ _ _ (mp _ _ (each_in_roll-at zds_table (λ a b. refl) r k) zds) in
+    record {
+      goes = λ h. let x = and_parts _ _ (mp _ _ a.0 h) in let y = and_parts _ _ x.0 in
+          (y.0, y.1, x.1);
+      halves = mp _ _ a.1;
+      waits = mp _ _ a.2;
+      reads = λ f h. mp _ _ a.3 (and-both _ _ f h);
+    }
 
 -- the second report of a Double-Signature ZSK roll stamps nothing
-pub silent : (s : Stamp) (now : ℕ) (k : KeyParts)
-    → stamp_of s k ≡ stamp_of s (after_report ZskDoubleSignatureRoll Second now k)
+pub silent : (r : RollType) → is_zds r ≡ true → (s : Stamp) (now : ℕ) (k : KeyParts)
+    → stamp_of s k ≡ stamp_of s (after_report r Second now k)
 unfolding column
-silent Visible now k = refl
-silent DsVisible now k = refl
-silent RrsigVisible now k = refl
+silent ZskDoubleSignatureRoll zds Visible now k = refl
+silent ZskDoubleSignatureRoll zds _ now k = refl
+silent _ zds _ now k = absurd (true≢false (sym zds))
 
 -- ---- what a set says of a waiting roll
 
 -- a key that the roll goes on with
-abbrev pub Reads : RollType → Bool → KeySetParts → Type 0
-Reads r second set = (q : List ℕ) × (k : KeyParts) × (get set.keys q ≡ Some k)
-    × (stays r second k.keytype ≡ true)
+abbrev pub Reads : RollType → Half → KeySetParts → Type 0
+Reads r half set = (q : List ℕ) × (k : KeyParts) × (get set.keys q ≡ Some k)
+    × (stays r half k.keytype ≡ true)
 
 -- no key that the wait checks has a later stamp than m, and one that it goes on with has just m
-pub record Armed (r : RollType) (second : Bool) (m : ℕ) (set : KeySetParts) : Type 0 where
+pub record Armed (r : RollType) (half : Half) (m : ℕ) (set : KeySetParts) : Type 0 where
   pub bound : (q : List ℕ) (k : KeyParts) (x : ℕ) → get set.keys q ≡ Some k
-      → checked r second k.keytype ≡ true → stamp_of (read r second) k ≡ Some x → x ≤ m
+      → checked r half k.keytype ≡ true → stamp_of (read r half) k ≡ Some x → x ≤ m
   pub key : List ℕ
   pub parts : KeyParts
   pub there : get set.keys key ≡ Some parts
-  pub goes_on : stays r second parts.keytype ≡ true
-  pub has_it : stamp_of (read r second) parts ≡ Some m
-
-abbrev pub is_zds : RollType → Bool
-is_zds r = same_roll r ZskDoubleSignatureRoll
+  pub goes_on : stays r half parts.keytype ≡ true
+  pub has_it : stamp_of (read r half) parts ≡ Some m
 
 -- of two sets, each key of r that is in use in one is in the other as it was
 abbrev Was : (set : KeySetParts) → List ℕ → KeyParts → Type 0
@@ -128,28 +106,28 @@ pub record Beside (r : RollType) (old new : KeySetParts) : Type 0 where
   pub aft : (q : List ℕ) (k : KeyParts) → get old.keys q ≡ Some k → may_list r k.keytype ≡ true
       → is_idle k.keytype ≡ false → Was new q k
 
-pub reads-beside : (r : RollType) (second : Bool) (old new : KeySetParts) → Beside r old new
-    → Reads r second old → Reads r second new
-reads-beside r second old new b h =
-    let f = stays_facts r second h.1.keytype h.3 in
+pub reads-beside : (r : RollType) (half : Half) (old new : KeySetParts) → Beside r old new
+    → Reads r half old → Reads r half new
+reads-beside r half old new b h =
+    let f = stays_facts r half h.1.keytype h.3 in
     let k = b.aft h.0 h.1 h.2 f.touched f.busy in
-    (h.0, k.0, k.1, ap (stays r second) k.2 ∙ h.3)
+    (h.0, k.0, k.1, ap (stays r half) k.2 ∙ h.3)
 
-pub armed-beside : (r : RollType) (second : Bool) (m : ℕ) (old new : KeySetParts) → Beside r old new
-    → Armed r second m old → Armed r second m new
-armed-beside r second m old new b h =
-    let f = stays_facts r second h.parts.keytype h.goes_on in
+pub armed-beside : (r : RollType) (half : Half) (m : ℕ) (old new : KeySetParts) → Beside r old new
+    → Armed r half m old → Armed r half m new
+armed-beside r half m old new b h =
+    let f = stays_facts r half h.parts.keytype h.goes_on in
     let k = b.aft h.key h.parts h.there f.touched f.busy in
     record {
       bound = λ q j x e c s.
-          let d = checked_facts r second j.keytype c in
+          let d = checked_facts r half j.keytype c in
           let w = b.fore q j e d.0 d.1 in
-          h.bound q w.0 x w.1 (ap (checked r second) w.2 ∙ c) (w.3 (read r second) ∙ s);
+          h.bound q w.0 x w.1 (ap (checked r half) w.2 ∙ c) (w.3 (read r half) ∙ s);
       key = h.key;
       parts = k.0;
       there = k.1;
-      goes_on = ap (stays r second) k.2 ∙ h.goes_on;
-      has_it = k.3 (read r second) ∙ h.has_it;
+      goes_on = ap (stays r half) k.2 ∙ h.goes_on;
+      has_it = k.3 (read r half) ∙ h.has_it;
     }
 
 -- ---- calls beside the roll
@@ -160,71 +138,18 @@ beside-same r old new e = record {
   aft = λ q k f l i. (k, ap (λ (s : KeySetParts). get s.keys q) e ∙ f, refl, λ s. refl);
 }
 
--- a key is put in or taken out, and neither it nor the key before it is in use
-pub beside-puts : {kept : Lists} (r : RollType) (old new : KeySetParts) (p : List ℕ)
-    (o : Option KeyParts) → PutsKey old new p o kept
-    → ((j : KeyParts) → o ≡ Some j → is_idle j.keytype ≡ true)
-    → ((k : KeyParts) → get old.keys p ≡ Some k → is_idle k.keytype ≡ true) → Beside r old new
-beside-puts r old new p o m fresh gone =
-    record {
-      fore = λ q j e l i. ahead q j (bytes_eq p q) refl (sym (m.keys q) ∙ e) i;
-      aft = λ q k e l i. behind q k (bytes_eq p q) refl e i;
-    }
-  where
-    ahead : (q : List ℕ) (j : KeyParts) (b : Bool) → bytes_eq p q ≡ b
-        → (if bytes_eq p q then o else get old.keys q) ≡ Some j → is_idle j.keytype ≡ false
-        → Was old q j
-    ahead q j true t e i = absurd
-        (true≢false (sym (fresh j (sym (ap (λ b. if b then o else get old.keys q) t) ∙ e)) ∙ i))
-    ahead q j false t e i = (
-      j,
-      sym (ap (λ b. if b then o else get old.keys q) t)
-          ∙ e,
-      refl,
-      λ s. refl,
-    )
-
-    behind : (q : List ℕ) (k : KeyParts) (b : Bool) → bytes_eq p q ≡ b → get old.keys q ≡ Some k
-        → is_idle k.keytype ≡ false → Was new q k
-    behind q k true t e i = absurd
-        (true≢false (sym (gone k (ap (get old.keys) ((bytes_decides p q).0 t) ∙ e)) ∙ i))
-    behind q k false t e i = (
-      k,
-      m.keys q ∙ ap (λ b. if b then o else get old.keys q) t
-          ∙ e,
-      refl,
-      λ s. refl,
-    )
-
--- a call that changes flags and stamps only of other signers' keys
-pub beside-alike : (r : RollType) (old new : KeySetParts) (f : List ℕ → KeyParts → KeyParts)
-    → ((q : List ℕ) → get new.keys q ≡ option_map (f q) (get old.keys q))
-    → ((q : List ℕ) (k : KeyParts) → get old.keys q ≡ Some k → Harmless k (f q k))
-    → Beside r old new
-beside-alike r old new f keys alike = record {
-  fore = λ q j e l i.
-      let b = back (f q) (get old.keys q) j (sym (keys q) ∙ e) in
-      let a = alike q b.0 b.1 in
-      let busy : is_idle (f q b.0).keytype ≡ false = ap (λ (k : KeyParts). is_idle k.keytype) b.2
-      ∙ i in (
-        b.0,
-        b.1,
-        sym (harmless-busy b.0 (f q b.0) a busy) ∙ ap (λ (k : KeyParts). k.keytype) b.2,
-        λ s. sym (a.stamps s) ∙ ap (stamp_of s) b.2,
-      );
-  aft = λ q k e l i.
-      let a = alike q k e in
-      let busy = harmless-alike is_idle true others-idle k (f q k) a ∙ i in (
-        f q k,
-        keys q ∙ ap (option_map (f q)) e,
-        harmless-busy k (f q k) a busy,
-        a.stamps,
-      );
+-- each key is the same, but for what no wait reads, or not in use
+pub beside-keys : (r : RollType) (old new : KeySetParts)
+    → ((q : List ℕ) → Alike (get old.keys q) (get new.keys q)) → Beside r old new
+beside-keys r old new alike = record {
+  fore = λ q j e l. was_key (get old.keys q) (get new.keys q) (alike q) j e;
+  aft = λ q k e l. was_key (get new.keys q) (get old.keys q)
+      (alike-turned (get old.keys q) (get new.keys q) (alike q)) k e;
 }
 
 -- a call of a roll that may go on beside r
 pub beside-roll : (r p : RollType) (old new : KeySetParts) (f : List ℕ → KeyParts → KeyParts)
-    → tolerates p r ≡ true → ((q : List ℕ) → get new.keys q ≡ option_map (f q) (get old.keys q))
+    → together p r ≡ true → ((q : List ℕ) → get new.keys q ≡ option_map (f q) (get old.keys q))
     → ((q : List ℕ) (k : KeyParts) → get old.keys q ≡ Some k → may_list p k.keytype ≡ false
     → get new.keys q ≡ Some k)
     → ((q : List ℕ) (k : KeyParts) → may_list r (f q k).keytype ≡ may_list r k.keytype)
@@ -242,102 +167,62 @@ beside-roll r p old new f both_in keys leaves kinds = record {
 
 -- ---- calls of the roll
 
-stamp-written : (s : Stamp) (r : RollType) (now : ℕ) (k : KeyParts)
-    → written s r false k.keytype ≡ true → stamp_of s (after_report r First now k) ≡ Some now
-stamp-written Visible r now k e = ap (λ b. if b then Some now else k.timestamps.visible) e
-stamp-written DsVisible r now k e = ap (λ b. if b then Some now else k.timestamps.ds_visible) e
-stamp-written RrsigVisible r now k e =
-    ap (λ b. if b then Some now else k.timestamps.rrsig_visible) e
-
-stamp-written2 : (s : Stamp) (r : RollType) (now : ℕ) (k : KeyParts)
-    → written s r true k.keytype ≡ true → stamp_of s (after_report r Second now k) ≡ Some now
-stamp-written2 Visible r now k e = ap (λ b. if b then Some now else k.timestamps.visible) e
-stamp-written2 DsVisible r now k e = ap (λ b. if b then Some now else k.timestamps.ds_visible) e
-stamp-written2 RrsigVisible r now k e =
-    ap (λ b. if b then Some now else k.timestamps.rrsig_visible) e
-
 abbrev pub NoneLater : ℕ → KeySetParts → Type 0
 NoneLater t set = (q : List ℕ) (k : KeyParts) (s : Stamp) (x : ℕ) → get set.keys q ≡ Some k
     → stamp_of s k ≡ Some x → x ≤ t
 
-pub timed_second : (r : RollType) → is_zds r ≡ false → timed r true ≡ true
-timed_second r e = or_second _ _ (each_roll-at (λ r. is_zds r || timed r true) refl r) e
+pub timed_second : (r : RollType) → is_zds r ≡ false → timed r Second ≡ true
+timed_second r e = or_second _ _ (each_roll-at (λ r. is_zds r || timed r Second) refl r) e
 
 module _ (r : RollType) (now : ℕ) (old new : KeySetParts) where
-  -- its first report
-  pub armed-first : ((q : List ℕ)
-      → get new.keys q ≡ option_map (after_report r First now) (get old.keys q)) → NoneLater now new
-      → Reads r false old → Armed r false now new
-  armed-first keys late h = record {
-    bound = λ q k x e c s. late q k (read r false) x e s;
+  -- a report
+  pub armed-report : (half : Half) → timed r half ≡ true
+      → ((q : List ℕ) → get new.keys q ≡ option_map (after_report r half now) (get old.keys q))
+      → NoneLater now new → Reads r half old → Armed r half now new
+  armed-report half on keys late h = record {
+    bound = λ q k x e c s. late q k (read r half) x e s;
     key = h.0;
-    parts = after_report r First now h.1;
-    there = keys h.0 ∙ ap (option_map (after_report r First now)) h.2;
+    parts = after_report r half now h.1;
+    there = keys h.0 ∙ ap (option_map (after_report r half now)) h.2;
     goes_on = h.3;
-    has_it = stamp-written (read r false) r now h.1
-        ((stays_facts r false h.1.keytype h.3).write (timed_first r));
+    has_it = report_stamp (read r half) r half now h.1
+        ((stays_facts r half h.1.keytype h.3).write on);
   }
 
-  -- its second report
-  pub armed-second : is_zds r ≡ false
-      → ((q : List ℕ) → get new.keys q ≡ option_map (after_report r Second now) (get old.keys q))
-      → NoneLater now new → Reads r true old → Armed r true now new
-  armed-second other_roll keys late h = record {
-    bound = λ q k x e c s. late q k (read r true) x e s;
-    key = h.0;
-    parts = after_report r Second now h.1;
-    there = keys h.0 ∙ ap (option_map (after_report r Second now)) h.2;
-    goes_on = h.3;
-    has_it = stamp-written2 (read r true) r now h.1
-        ((stays_facts r true h.1.keytype h.3).write (timed_second r other_roll));
-  }
+  module _ (zds : is_zds r ≡ true) where
+    pub armed-both : ((q : List ℕ)
+        → get new.keys q ≡ option_map (after_report r First now) (get old.keys q))
+        → NoneLater now new → Reads r First old → Armed r Second now new
+    armed-both keys late h = let f = (zds_facts r h.1.keytype zds).goes h.3 in record {
+      bound = λ q k x e c s. late q k (read r Second) x e s;
+      key = h.0;
+      parts = after_report r First now h.1;
+      there = keys h.0 ∙ ap (option_map (after_report r First now)) h.2;
+      goes_on = f.1;
+      has_it = report_stamp (read r Second) r First now h.1 f.0;
+    }
 
--- a Double-Signature ZSK roll reads the stamps of its first report in both waits
-zsk_halves : (k : KeyType) → stays ZskDoubleSignatureRoll false k
-    ≡ stays ZskDoubleSignatureRoll true k
-zsk_halves (Ksk s) = refl
-zsk_halves (Zsk s) = refl
-zsk_halves (Csk s t) = refl
-zsk_halves (Include s) = refl
-
-module _ (now : ℕ) (old new : KeySetParts) where
-  pub armed-both : ((q : List ℕ)
-      → get new.keys q ≡ option_map (after_report ZskDoubleSignatureRoll First now)
-      (get old.keys q)) → NoneLater now new → Reads ZskDoubleSignatureRoll false old
-      → Armed ZskDoubleSignatureRoll true now new
-  armed-both keys late h = record {
-    bound = λ q k x e c s. late q k RrsigVisible x e s;
-    key = h.0;
-    parts = after_report ZskDoubleSignatureRoll First now h.1;
-    there = keys h.0 ∙ ap (option_map (after_report ZskDoubleSignatureRoll First now)) h.2;
-    goes_on = sym (zsk_halves h.1.keytype) ∙ h.3;
-    has_it = stamp-written RrsigVisible ZskDoubleSignatureRoll now h.1
-        (zsk_facts h.1.keytype h.3).0;
-  }
-
-  pub armed-between : (m : ℕ) → ((q : List ℕ)
-      → get new.keys q ≡ option_map (after_wait ZskDoubleSignatureRoll First now) (get old.keys q))
-      → Armed ZskDoubleSignatureRoll true m old → Armed ZskDoubleSignatureRoll true m new
-  armed-between m keys h = record {
-    bound = λ q j x e c s.
-        let b = back (after_wait ZskDoubleSignatureRoll First now) (get old.keys q) j (sym (keys q)
-        ∙ e) in
-        h.bound q b.0 x b.1 (zsk_wait b.0.keytype
-        (ap (λ (k : KeyParts). checked ZskDoubleSignatureRoll true k.keytype) b.2 ∙ c))
-        (wait_stamps ZskDoubleSignatureRoll false now b.0 RrsigVisible
-        ∙ ap (stamp_of RrsigVisible) b.2 ∙ s);
-    key = h.key;
-    parts = after_wait ZskDoubleSignatureRoll First now h.parts;
-    there = keys h.key ∙ ap (option_map (after_wait ZskDoubleSignatureRoll First now)) h.there;
-    goes_on = (zsk_facts h.parts.keytype (zsk_halves h.parts.keytype ∙ h.goes_on)).1;
-    has_it = sym (wait_stamps ZskDoubleSignatureRoll false now h.parts RrsigVisible) ∙ h.has_it;
-  }
+    pub armed-between : (m : ℕ) → ((q : List ℕ)
+        → get new.keys q ≡ option_map (after_wait r First now) (get old.keys q))
+        → Armed r Second m old → Armed r Second m new
+    armed-between m keys h = record {
+      bound = λ q j x e c s.
+          let b = back (after_wait r First now) (get old.keys q) j (sym (keys q) ∙ e) in
+          h.bound q b.0 x b.1 ((zds_facts r b.0.keytype zds).waits
+          (ap (λ (k : KeyParts). checked r Second k.keytype) b.2 ∙ c))
+          (wait_stamps r First now b.0 (read r Second) ∙ ap (stamp_of (read r Second)) b.2 ∙ s);
+      key = h.key;
+      parts = after_wait r First now h.parts;
+      there = keys h.key ∙ ap (option_map (after_wait r First now)) h.there;
+      goes_on = let f = zds_facts r h.parts.keytype zds in (f.goes (f.halves h.goes_on)).2;
+      has_it = sym (wait_stamps r First now h.parts (read r Second)) ∙ h.has_it;
+    }
 
 -- its first wait
 pub reads-waited : (r : RollType) (now : ℕ) (old new : KeySetParts)
     → ((q : List ℕ) → get new.keys q ≡ option_map (after_wait r First now) (get old.keys q))
     → ((q : List ℕ) (k : KeyParts) → get old.keys q ≡ Some k
-    → fits (timer r) (Early r) k.keytype ≡ true) → Reads r false old → Reads r true new
+    → fits (timer r) (Early r) k.keytype ≡ true) → Reads r First old → Reads r Second new
 reads-waited r now old new keys fit h = (
   h.0,
   after_wait r First now h.1,
@@ -346,9 +231,9 @@ reads-waited r now old new keys fit h = (
   stays_wait r h.1.keytype (fit h.0 h.1 h.2) h.3,
 )
 
-pub reads-armed : (r : RollType) (second : Bool) (m : ℕ) (set : KeySetParts) → Armed r second m set
-    → Reads r second set
-reads-armed r second m set h = (h.key, h.parts, h.there, h.goes_on)
+pub reads-armed : (r : RollType) (half : Half) (m : ℕ) (set : KeySetParts) → Armed r half m set
+    → Reads r half set
+reads-armed r half m set h = (h.key, h.parts, h.there, h.goes_on)
 
 -- ---- no stamp later than now
 
@@ -382,9 +267,7 @@ module _ (t : ℕ) (old new : KeySetParts) (late : NoneLater t old) where
       late q k s x (ap (λ (set : KeySetParts). get set.keys q) (sym e) ∙ f) h in omega arith
 
 -- a stamp that a report may write
-pub report-stamp : (r : RollType) (second : Bool) (now : ℕ) (k : KeyParts) (s : Stamp) (x : ℕ)
-    → (b : Bool) (was : Option ℕ) → (if b then Some now else was) ≡ Some x
+pub report-stamp : (now x : ℕ) (b : Bool) (was : Option ℕ) → (if b then Some now else was) ≡ Some x
     → (was ≡ Some x) ⊎ (x ≤ now)
-report-stamp r second now k s x true was e = let same : now ≡ x = same_Some now x e in
-    inr (omega arith)
-report-stamp r second now k s x false was e = inl e
+report-stamp now x true was e = let same : now ≡ x = same_Some now x e in inr (omega arith)
+report-stamp now x false was e = inl e

@@ -1,18 +1,18 @@
 -- A started roll goes on, and its listed keys have left or are at work: `goes_on`, `finishes`.
+use Rattle.std.proofs.lemmas.Bool.{cases_Bool, true≢false, cases_lt}
+use Rattle.dnssec_run.proofs.Laws.{made-at, stays-sound}
+use Rattle.dnssec_run.proofs.Asked.Changes.{added-same}
 use Rattle.std.proofs.Common.{◌≡◌, ℕ, zero, suc, ◌<◌, ◌≤◌, ◌⊎◌, inl, inr, Bool, true, false, refl}
 use Rattle.std.proofs.Common.{sym, ◌∙◌, ap, subst, arith, List, length, Option, None, Some}
 use Rattle.std.specs.Prelude.{slice_get, is_some, if◌then◌else◌}
 use Rattle.std.specs.Option.{option_map}
 use Rattle.std.specs.Str.{bytes_eq}
-use Rattle.std.specs.Cmp.Lexicographic.{bytes_decides}
 use Rattle.std.specs.FinMap.{get}
-use Rattle.std.proofs.lemmas.Bool.{true≢false, cases_lt}
-use Rattle.std.proofs.lemmas.Option.{slice_get_cases, slice_get_within}
+use Rattle.std.proofs.lemmas.Option.{slice_get_within}
 use Rattle.std.proofs.lemmas.Iterator.Adapters.{option_map_id}
 use Rattle.dnssec_key.specs.declared.roll.RollType.{RollType}
 use Rattle.dnssec_key.specs.declared.roll.RollState.{RollState}
 use Rattle.dnssec_key.specs.declared.roll.RollState.TheVariants.{Propagation1, Done}
-use Rattle.dnssec_base.specs.declared.error.Error.{Error}
 use Rattle.dnssec_key.specs.Key.{KeyParts}
 use Rattle.dnssec_keyset.specs.KeySet.{KeySetParts}
 use Rattle.dnssec_zone.specs.Rolls.{phase_of}
@@ -22,8 +22,8 @@ use Rattle.dnssec_keyset.specs.Step as keyset
 use Rattle.dnssec_zone.specs.Wait as waits
 use Rattle.dnssec_zone.specs.Refusals as refusals
 use Rattle.dnssec_keyset.proofs.Sides.{leaves-others}
-use Rattle.dnssec_run.specs.WholeRolls.{GoesOn, IsAccepted, HasLeft, IsAtWork}
-use Rattle.dnssec_run.specs.WholeRolls.{RollsFinish, propagation}
+use Rattle.dnssec_run.specs.WholeRolls.{GoesOn, IsAccepted, HasLeft, IsAtWork, RollsFinish}
+use Rattle.dnssec_run.specs.WholeRolls.{propagation}
 use Rattle.dnssec_run.specs.declared.call.Call.{Call}
 use Rattle.dnssec_run.specs.declared.record.Entry.{Entry}
 use Rattle.dnssec_run.specs.declared.record.Reply.{Reply}
@@ -31,7 +31,6 @@ use Rattle.dnssec_run.specs.declared.record.Reply.TheVariants as reply
 use Rattle.dnssec_run.specs.Published.{World}
 use Rattle.dnssec_run.specs.Record.{IsRun, call_of, reply_of, is_accepted, world_at, with_added}
 use Rattle.dnssec_run.specs.Record.{reference_added, added_by}
-use Rattle.dnssec_run.proofs.Laws.{stays-sound}
 use Rattle.dnssec_run.proofs.Premise.{DoesAt, SetsNothing, end-told, end_of, sets-nothing}
 use Rattle.dnssec_zone.proofs.Flags.{SideOf, Keys, Zone, affects}
 use Rattle.dnssec_run.proofs.Chain.Tale.{start-parts}
@@ -44,10 +43,10 @@ use Rattle.dnssec_run.proofs.WholeRolls.Keys.{Idle, in_order}
 use Rattle.dnssec_run.proofs.WholeRolls.Listed.{began, newly, oldly, over_facts}
 use Rattle.dnssec_run.proofs.WholeRolls.OrderedKeys.{back}
 use Rattle.dnssec_run.proofs.WholeRolls.Order.{world_of}
-use Rattle.dnssec_keyset.proofs.Accepted.{finishes, add_free}
+use Rattle.dnssec_keyset.proofs.Accepted.{finishes}
 use Rattle.dnssec_run.proofs.WholeRolls.Phases.{phase_fits, phase_is, put_there, roll_now}
 use Rattle.dnssec_run.proofs.WholeRolls.Positions.{in-order, nothing_set}
-use Rattle.dnssec_run.proofs.WholeRolls.Replies.{step-made, added-next, accepted_step, refused_step}
+use Rattle.dnssec_run.proofs.WholeRolls.Replies.{step-made, added-next, did, did-made, idle}
 use Rattle.dnssec_keyset.proofs.Laws.{no_cause}
 
 -- ---- the run
@@ -57,42 +56,27 @@ accepted_report : (o : Option RollState) (half : Half) → o ≡ Some (propagati
 accepted_report o First e = ap (refusals.report_refusal First) e
 accepted_report o Second e = ap (refusals.report_refusal Second) e
 
--- a call without a cause that takes no memory is accepted
-accepts : (v : waits.Clearance) (old new : KeySetParts) (c : keyset.Call) (r : Reply)
-    → v ≡ waits.Clear → (keyset.TakesMemory c → ⊥) → keyset.StepBy v old c (reply_of r) new
-    → is_accepted r ≡ true
-accepts v old new c r clear free step =
-    by r (subst (λ v. keyset.StepBy v old c (reply_of r) new) clear step)
-  where
-    refused : (c : keyset.Call) (cause : Error) → keyset.Refused cause ≡ keyset.accepted_reply c → ⊥
-    refused (keyset.AddKey r k) cause e = cc
-    refused (keyset.Set r s) cause e = cc
-    refused (keyset.DeleteKey r) cause e = cc
-    refused (keyset.StartRoll r o n t) cause e = cc
-    refused (keyset.Report r h ttl t) cause e = cc
-    refused (keyset.Wait r h t) cause e = cc
-    refused (keyset.RollDone r) cause e = cc
-    refused (keyset.AbortRoll r) cause e = cc
-
-    by : (r : Reply) → keyset.StepBy waits.Clear old c (reply_of r) new → is_accepted r ≡ true
-    by reply.Done s = refl
-    by (reply.Actions a) s = refl
-    by (reply.Refused cause) (inl s) = absurd (refused c cause s.0)
-    by (reply.Refused cause) (inr s) = absurd (free s.0)
+-- a clear call that takes no memory is accepted
+accepts : (old new : KeySetParts) (c : keyset.Call) (r : Reply) → keyset.clearance old c
+    ≡ waits.Clear → (keyset.TakesMemory c → ⊥) → keyset.Step old c (reply_of r) new → is_accepted r
+    ≡ true
+accepts old new c reply.Done clear free step = refl
+accepts old new c (reply.Actions actions) clear free step = refl
+accepts old new c (reply.Refused cause) clear free step =
+    absurd (free (subst (λ v. keyset.IsRefusedFor v c cause) clear step.0).0)
 
 pub goes-on : (name : List ℕ) (calls : List Call) (entries : List Entry) → IsRun name calls entries
     → GoesOn name calls entries
 goes-on name calls entries run = record {
   reports = λ n roll half ttl now report phase.
       let old = (world_at name calls entries n).set in
-      accepts (keyset.clearance old (keyset.Report roll half ttl now)) old
+      accepts old
       (world_at name calls entries (suc n)).set (keyset.Report roll half ttl now) report.entry.reply
       (ap waits.barred_by (accepted_report (phase_of old.rolls roll) half phase)) (λ t. t)
       (step-made name calls entries run n (keyset.Report roll half ttl now) report);
   ends = λ n roll end phase.
       let old = (world_at name calls entries n).set in
-      accepts (keyset.clearance old (keyset.RollDone roll)) old
-      (world_at name calls entries (suc n)).set (keyset.RollDone roll) end.entry.reply
+      accepts old (world_at name calls entries (suc n)).set (keyset.RollDone roll) end.entry.reply
       (ap (λ o. waits.barred_by (refusals.end_refusal o)) phase) (λ t. t)
       (step-made name calls entries run n (keyset.RollDone roll) end);
 }
@@ -105,19 +89,11 @@ module _ (name : List ℕ) (calls : List Call) (entries : List Entry) (run : IsR
   with_same : (n : ℕ) (c : keyset.Call) (f : List ℕ → ℕ) (q : List ℕ)
       → (with_added n (reference_added c) f q ≡ n)
       ⊎ ((with_added n (reference_added c) f q ≡ f q) × IsNoAdd c q)
-  with_same n (keyset.AddKey r k) f q = by (bytes_eq r q) refl
-    where
-      by : (b : Bool) → bytes_eq r q ≡ b → ((if bytes_eq r q then n else f q) ≡ n)
-          ⊎ (((if bytes_eq r q then n else f q) ≡ f q) × (bytes_eq r q ≡ false))
-      by true t = inl (ap (λ b. if b then n else f q) t)
-      by false t = inr (ap (λ b. if b then n else f q) t, t)
-  with_same n (keyset.Set a b) f q = inr (refl, tt)
-  with_same n (keyset.DeleteKey a) f q = inr (refl, tt)
-  with_same n (keyset.StartRoll a b c d) f q = inr (refl, tt)
-  with_same n (keyset.Report a b c d) f q = inr (refl, tt)
-  with_same n (keyset.Wait a b c) f q = inr (refl, tt)
-  with_same n (keyset.RollDone a) f q = inr (refl, tt)
-  with_same n (keyset.AbortRoll a) f q = inr (refl, tt)
+  with_same n (keyset.AddKey r k) f q = elim (cases_Bool (bytes_eq r q)) [
+    | inl t ↦ inl (ap (λ b. if b then n else f q) t)
+    | inr t ↦ inr (ap (λ b. if b then n else f q) t, t)
+  ]
+  with_same n _ f q = inr (refl, tt)
 
   by_added : (n : ℕ) (c : Call) (r : Reply) (f : List ℕ → ℕ) (q : List ℕ) → (added_by n c r f q ≡ n)
       ⊎ ((added_by n c r f q ≡ f q) × (is_accepted r ≡ true → IsNoAdd (call_of c) q))
@@ -130,21 +106,13 @@ module _ (name : List ℕ) (calls : List Call) (entries : List Entry) (run : IsR
   added-bound : (n : ℕ) → n ≤ length entries → (q : List ℕ) → (at n).added q ≤ n
   unfolding world_at
   added-bound zero le q = omega arith
-  added-bound (suc n) le q = elim ((slice_get_cases entries n).1) [
-    | inl e ↦ elim ((slice_get_cases calls n).1) [
-      | inl c ↦
-          let was = added-bound n (omega arith) q in
-          let is : (at (suc n)).added q ≡ added_by (suc n) c.0 e.0.reply (at n).added q =
-          ap (λ f. f q) (added-next name calls entries run n c.0 e.0 c.2 e.2) in
-          elim (by_added (suc n) c.0 e.0.reply (at n).added q) [
-            | inl x ↦ omega arith
-            | inr x ↦
-                let y = x.0 in omega arith
-          ]
-      | inr c ↦ absurd (omega (arith, c.0, run.count))
-    ]
-    | inr e ↦ absurd (omega (arith, e.0))
-  ]
+  added-bound (suc n) le q =
+      let x = made-at name calls entries run n le in
+      let was = added-bound n (omega arith) q in
+      let is : (at (suc n)).added q ≡ added_by (suc n) x.0 x.1.reply (at n).added q =
+      ap (λ f. f q) (added-next name calls entries run n x.0 x.1 x.2 x.3) in
+      elim (by_added (suc n) x.0 x.1.reply (at n).added q)
+      [ inl y ↦ omega arith | inr y ↦ let z = y.0 in omega arith ]
 
   module _ (s : ℕ) (roll : RollType) (olds news : List (List ℕ)) (now : ℕ) where
     -- what holds from the start on, until the roll ends
@@ -179,25 +147,6 @@ module _ (name : List ℕ) (calls : List Call) (entries : List Entry) (run : IsR
         is : (at (suc n)).added q ≡ added_by (suc n) c e.reply (at n).added q
         is = ap (λ f. f q) (added-next name calls entries run n c e ci ei)
 
-        no_add : (d : keyset.Call) → keyset.clearance (at n).set d ≡ waits.Clear
-            → with_added (suc n) (reference_added d) (at n).added q ≡ (at n).added q
-        no_add (keyset.AddKey r key) v = apart (bytes_eq r q) refl
-          where
-            apart : (b : Bool) → bytes_eq r q ≡ b
-                → (if bytes_eq r q then suc n else (at n).added q) ≡ (at n).added q
-            apart true t =
-                absurd (true≢false
-                (sym (ap is_some (ap (get (at n).set.keys) ((bytes_decides r q).0 t) ∙ there))
-                ∙ add_free _ _ _ _ (no_cause _ v)))
-            apart false t = ap (λ b. if b then suc n else (at n).added q) t
-        no_add (keyset.Set a b) v = refl
-        no_add (keyset.DeleteKey a) v = refl
-        no_add (keyset.StartRoll a b c d) v = refl
-        no_add (keyset.Report a b c d) v = refl
-        no_add (keyset.Wait a b c) v = refl
-        no_add (keyset.RollDone a) v = refl
-        no_add (keyset.AbortRoll a) v = refl
-
         by : (b : Bool) → is_accepted e.reply ≡ b → (at (suc n)).added q ≡ (at n).added q
         by false t = is
             ∙ ap (λ b. (if b then with_added (suc n) (reference_added (call_of c)) (at n).added
@@ -205,8 +154,8 @@ module _ (name : List ℕ) (calls : List Call) (entries : List Entry) (run : IsR
         by true t = is
             ∙ ap (λ b. (if b then with_added (suc n) (reference_added (call_of c)) (at n).added
             else (at n).added) q) t
-            ∙ no_add (call_of c) (accepted_step (keyset.clearance (at n).set (call_of c)) (at n).set
-            (at (suc n)).set (call_of c) e.reply t (run.each n c e ci ei).step).0
+            ∙ added-same (suc n) (call_of c) (at n).added (at n).set
+            (did name calls entries run n c e ci ei t).0 q k there
 
     lasting-next : (n : ℕ) (c : Call) (e : Entry) → n ≤ length entries → s < n
         → slice_get calls n ≡ Some c → slice_get entries n ≡ Some e
@@ -221,8 +170,7 @@ module _ (name : List ℕ) (calls : List Call) (entries : List Entry) (run : IsR
 
         by : (b : Bool) → is_accepted e.reply ≡ b → Lasting (suc n)
         by false t =
-            let same = refused_step (keyset.clearance (at n).set (call_of c)) (at n).set
-            (at (suc n)).set (call_of c) e.reply t step in
+            let same = idle name calls entries run n c e ci ei t in
             record {
               phase = h.phase;
               going = ap (λ (x : KeySetParts). roll_now x roll) same ∙ h.going;
@@ -237,8 +185,7 @@ module _ (name : List ℕ) (calls : List Call) (entries : List Entry) (run : IsR
               );
             }
         by true t =
-            let ok = accepted_step (keyset.clearance (at n).set (call_of c)) (at n).set
-            (at (suc n)).set (call_of c) e.reply t step in
+            let ok = did name calls entries run n c e ci ei t in
             let clean = nothing_set (at n).set c (plain n c ci) in
             let all = (stays-sound name calls entries run n within).rolls in
             let not_now : end_of (call_of c) ≡ Some roll → ⊥ = λ x. not_end (record {
@@ -270,11 +217,8 @@ module _ (name : List ℕ) (calls : List Call) (entries : List Entry) (run : IsR
     lasting-first st =
         let old = (at s).set in
         let new = (at (suc s)).set in
-        let step : keyset.Step old (keyset.StartRoll roll olds news now)
-        (reply_of st.0.entry.reply) new =
-        step-made name calls entries run s (keyset.StartRoll roll olds news now) st.0 in
-        let ok = accepted_step (keyset.clearance old (keyset.StartRoll roll olds news now)) old new
-        (keyset.StartRoll roll olds news now) st.0.entry.reply st.1 step in
+        let ok = did-made name calls entries run s
+        (keyset.StartRoll roll olds news now) st.0 st.1 in
         let can = can_start (world_of old) roll olds news (no_cause _ ok.0) in
         let may = λ (q : List ℕ) (k : KeyParts) (e : get old.keys q ≡ Some k).
         may_there roll _ olds news can q k e in
@@ -308,14 +252,9 @@ module _ (name : List ℕ) (calls : List Call) (entries : List Entry) (run : IsR
         → Lasting n
     lasting st zero later within none = absurd (omega arith)
     lasting st (suc n) later within none = elim (cases_lt s n) [
-      | inl lt ↦ elim ((slice_get_cases entries n).1) [
-        | inl e ↦ elim ((slice_get_cases calls n).1) [
-          | inl c ↦ lasting-next n c.0 e.0 (omega arith) lt c.2 e.2 (none n lt (omega arith))
-              (lasting st n lt (omega arith) (λ m a b. none m a (omega arith)))
-          | inr c ↦ absurd (omega (arith, c.0, run.count))
-        ]
-        | inr e ↦ absurd (omega (arith, e.0))
-      ]
+      | inl lt ↦ let x = made-at name calls entries run n within in
+          lasting-next n x.0 x.1 (omega arith) lt x.2 x.3 (none n lt (omega arith))
+          (lasting st n lt (omega arith) (λ m a b. none m a (omega arith)))
       | inr ge ↦ let same : s ≡ n = omega arith in
           subst (λ n. Lasting (suc n)) same (lasting-first st)
     ]
@@ -329,10 +268,7 @@ module _ (name : List ℕ) (calls : List Call) (entries : List Entry) (run : IsR
     finish st n later ends none =
         let old = (at n).set in
         let new = (at (suc n)).set in
-        let step : keyset.Step old (keyset.RollDone roll) (reply_of ends.0.entry.reply) new =
-        step-made name calls entries run n (keyset.RollDone roll) ends.0 in
-        let ok = accepted_step (keyset.clearance old (keyset.RollDone roll)) old new
-        (keyset.RollDone roll) ends.0.entry.reply ends.1 step in
+        let ok = did-made name calls entries run n (keyset.RollDone roll) ends.0 ends.1 in
         let done = finishes _ (no_cause _ ok.0) in
         let h = lasting st n later within none in
         let keys = λ (q : List ℕ). ok.1.keys q ∙ option_map_id (get old.keys q) in

@@ -1,59 +1,48 @@
 -- What an early end leaves of the keys, by what the start of its roll has listed: for all laws of
 -- whole rolls.
-use Rattle.std.proofs.Common.{◌≡◌, ℕ, Bool, true, false, not, ◌&&◌, ◌||◌, cond}
-use Rattle.std.proofs.Common.{List, [], ◌∷◌, Some, refl, sym, ◌∙◌, ap}
+use Rattle.dnssec_zone.proofs.Phases.{listed_by-without, listed_by-with_listed}
+use Rattle.dnssec_run.proofs.Chain.Lists.{is_listed-filter, is_listed-others}
+use Rattle.std.proofs.Common.{◌≡◌, ℕ, Bool, true, false, ◌&&◌, List, Some, refl, sym, ◌∙◌, ap}
 use Rattle.std.proofs.lemmas.Bool.{true≢false}
-use Rattle.std.specs.Prelude.{filter, is_some, if◌then◌else◌}
+use Rattle.std.specs.Prelude.{is_some, if◌then◌else◌}
 use Rattle.std.specs.Option.{option_map_or}
 use Rattle.std.specs.FinMap.{get}
 use Rattle.std.specs.Str.{bytes_eq}
-use Rattle.std.specs.Cmp.Lexicographic.{bytes_decides}
 use Rattle.dnssec_key.specs.declared.kind.KeyType.{KeyType}
 use Rattle.dnssec_key.specs.declared.roll.RollType.{RollType}
-use Rattle.dnssec_key.specs.declared.roll.RollType.TheVariants.{KskRoll, KskDoubleDsRoll}
-use Rattle.dnssec_key.specs.declared.roll.RollType.TheVariants.{ZskRoll, ZskDoubleSignatureRoll}
-use Rattle.dnssec_key.specs.declared.roll.RollType.TheVariants.{CskRoll, AlgorithmRoll}
 use Rattle.dnssec_key.specs.Key.{KeyParts, all_states}
-use Rattle.dnssec_key.specs.RollTable.{column}
-use Rattle.dnssec_key.specs.Setters.{Setting, Decoupled, Present, Signer, AtParent, Stale}
-use Rattle.dnssec_key.specs.Setters.{VisibleAt, DsVisibleAt, RrsigVisibleAt, is_flag_setting}
+use Rattle.dnssec_key.specs.RollTable.{column, First}
+use Rattle.dnssec_key.specs.Setters.{Setting, Decoupled, Present, is_flag_setting}
 use Rattle.dnssec_key.specs.State.{is_kept}
-use Rattle.dnssec_zone.specs.Lists.{Listed, Lists, listed_by, with_listed, without, others}
+use Rattle.dnssec_zone.specs.Lists.{Listed, Lists, listed_by, with_listed, without, has_kept_key}
+use Rattle.dnssec_zone.specs.Lists.{listed_at_start}
 use Rattle.dnssec_zone.specs.Keys.{Keys as KeysBy}
 use Rattle.dnssec_zone.specs.Start.{is_listed}
-use Rattle.dnssec_zone.specs.Lists.{has_kept_key, listed_at_start}
 use Rattle.dnssec_keyset.specs.Step.{lists_after_setting}
 use Rattle.dnssec_zone.proofs.Flags.{SideOf, Keys, Zone, affects, ended, has_role, is_idle}
 use Rattle.dnssec_zone.proofs.Flags.{may_start, started}
-use Rattle.dnssec_zone.proofs.Phases.{listed_by-with_listed}
 use Rattle.dnssec_zone.proofs.Tests.{both, both-at, each_roll, each_roll-at, ◌⇒◌, mp, and-both}
-use Rattle.dnssec_zone.proofs.Tests.{each_listed, each_listed-at, implies}
+use Rattle.dnssec_zone.proofs.Tests.{each_listed-at, implies}
 use Rattle.dnssec_run.proofs.Premise.{is_another_signers, is_plain_setting}
 use Rattle.dnssec_run.proofs.Chain.Rolls.{same-same}
 use Rattle.dnssec_run.proofs.Chain.Setters.{Harmless, harmless-alike, others-role}
-use Rattle.dnssec_run.proofs.Chain.Tables.{Visible, DsVisible, RrsigVisible}
-use Rattle.dnssec_run.proofs.WholeRolls.Keys.{Expiring, Idle, Phase, Spreading, blank_orderly}
-use Rattle.dnssec_run.proofs.WholeRolls.Keys.{each_dated, each_dated-at, in_order, orderly}
-use Rattle.dnssec_run.proofs.WholeRolls.Keys.{unseen_orderly}
+use Rattle.dnssec_run.proofs.Chain.Tables.{Visible, DsVisible, RrsigVisible, by_side}
+use Rattle.dnssec_run.proofs.WholeRolls.Keys.{Idle, Phase, Spreading, blank_orderly, each_dated}
+use Rattle.dnssec_run.proofs.WholeRolls.Keys.{each_dated-at, in_order, orderly, unseen_orderly}
 use Rattle.dnssec_run.proofs.WholeRolls.Phases.{phase_own}
 use Rattle.dnssec_run.proofs.Chain.EarlyEnds.{role-ended}
 use Rattle.dnssec_run.proofs.Chain.Gentles.{distinct}
-use Rattle.std.proofs.Math.Bool.{and-true, and-false}
 
 -- ---- flags
 
 idle_table : RollType → Bool → Bool → KeyType → Bool
 idle_table r o i k = is_idle k ⇒ is_idle (ended r o i k)
 
-idle_all : (a b : Bool) → each_listed a b idle_table ≡ true
-unfolding idle_table column
-idle_all a b = refl
-
 -- a key in no use stays so
 idle_ended : (r : RollType) (o i : Bool) (k : KeyType) → is_idle k ≡ true
     → is_idle (ended r o i k) ≡ true
-unfolding idle_table
-idle_ended r o i k = mp _ _ (each_listed-at idle_table idle_all r o i k)
+unfolding idle_table column
+idle_ended r o i k = mp _ _ (each_listed-at idle_table (λ a b. refl) r o i k)
 
 -- in order on the sides of a roll that may start
 abbrev may_begin : RollType → KeyType → Bool → Bool → Bool → Bool
@@ -64,51 +53,23 @@ undone_table : SideOf → RollType → Bool → Bool → Bool → Bool → Bool 
 undone_table sd r o i v d g k = (affects sd r && may_start r o i k && may_begin r k v d g)
     ⇒ orderly sd Idle (ended r (o && all_states is_kept k) i (started r o i k)) v d g
 
-undone_all : (sd : SideOf) (a b : Bool)
-    → each_roll (λ r. both (λ o. both (λ i. each_dated a b (undone_table sd r o i)))) ≡ true
-unfolding undone_table column
-undone_all Keys a b = refl
-undone_all Zone a b = refl
-
 -- an early end undoes the start: what was old already stays so
 pub undone_orderly : (sd : SideOf) (r : RollType) (o i : Bool) (k : KeyType) (v d g : Bool)
     → affects sd r ≡ true → may_start r o i k ≡ true
     → ((s : SideOf) → affects s r ≡ true → orderly s Idle k v d g ≡ true)
     → orderly sd Idle (ended r (o && all_states is_kept k) i (started r o i k)) v d g ≡ true
-unfolding undone_table
+unfolding undone_table column
 undone_orderly sd r o i k v d g own may fit =
     mp _ _ (each_dated-at (undone_table sd r o i) (λ a b.
     both-at (λ i. each_dated a b (undone_table sd r o i))
     (both-at (λ o. both (λ i. each_dated a b (undone_table sd r o i)))
     (each_roll-at (λ r. both (λ o. both (λ i. each_dated a b (undone_table sd r o i))))
-    (undone_all sd a b) r) o) i) v d g k)
+    (by_side (λ sd. each_roll (λ r. both (λ o. both
+    (λ i. each_dated a b (undone_table sd r o i)))) ≡ true) refl refl sd) r) o) i) v d g k)
     (and-both _ _ (and-both _ _ own may)
     (and-both _ _ (implies _ _ (fit Keys)) (implies _ _ (fit Zone))))
 
 -- ---- lists
-
--- a reference of those that pass
-listed_filter : (p : List ℕ → Bool) (q : List ℕ) (qs : List (List ℕ))
-    → is_listed (filter p qs) q ≡ (is_listed qs q && p q)
-listed_filter p q [] = refl
-listed_filter p q (x ∷ xs) = at (p x) refl (bytes_eq q x) refl (listed_filter p q xs)
-  where
-    at : (b : Bool) → p x ≡ b → (c : Bool) → bytes_eq q x ≡ c
-        → is_listed (filter p xs) q ≡ (is_listed xs q && p q)
-        → is_listed (cond (p x) (x ∷ filter p xs) (filter p xs)) q
-        ≡ ((bytes_eq q x || is_listed xs q) && p q)
-    at true t true u h = ap (λ b. is_listed (cond b (x ∷ filter p xs) (filter p xs)) q) t
-        ∙ ap (λ c. c || is_listed (filter p xs) q) u ∙ sym (ap p ((bytes_decides q x).0 u) ∙ t)
-        ∙ sym (ap (λ c. (c || is_listed xs q) && p q) u)
-    at true t false u h = ap (λ b. is_listed (cond b (x ∷ filter p xs) (filter p xs)) q) t
-        ∙ ap (λ c. c || is_listed (filter p xs) q) u ∙ h
-        ∙ sym (ap (λ c. (c || is_listed xs q) && p q) u)
-    at false t true u h = let fails : p q ≡ false = ap p ((bytes_decides q x).0 u) ∙ t in
-        ap (λ b. is_listed (cond b (x ∷ filter p xs) (filter p xs)) q) t ∙ h
-        ∙ ap (λ b. is_listed xs q && b) fails ∙ and-false (is_listed xs q) ∙ sym fails
-        ∙ sym (ap (λ c. (c || is_listed xs q) && p q) u)
-    at false t false u h = ap (λ b. is_listed (cond b (x ∷ filter p xs) (filter p xs)) q) t ∙ h
-        ∙ sym (ap (λ c. (c || is_listed xs q) && p q) u)
 
 -- the rolls of a side list the reference in b if they list it in a
 abbrev pub Alike : SideOf → List ℕ → Lists → Lists → Type 0
@@ -130,21 +91,12 @@ alike_put sd q a r l out x own =
 -- another reference
 pub alike_without : (sd : SideOf) (q r : List ℕ) (a : Lists) → bytes_eq r q ≡ false
     → Alike sd q a (without r a)
-alike_without sd q r a apart x own = by x
-  where
-    kept : (qs : List (List ℕ)) → is_listed (others r qs) q ≡ is_listed qs q
-    kept qs = listed_filter (λ q. not (bytes_eq r q)) q qs
-        ∙ ap (λ b. is_listed qs q && not b) apart ∙ and-true (is_listed qs q)
-
-    by : (x : RollType)
-        → (is_listed (listed_by (without r a) x).olds q ≡ is_listed (listed_by a x).olds q)
-        × (is_listed (listed_by (without r a) x).news q ≡ is_listed (listed_by a x).news q)
-    by KskRoll = (kept _, kept _)
-    by KskDoubleDsRoll = (kept _, kept _)
-    by ZskRoll = (kept _, kept _)
-    by ZskDoubleSignatureRoll = (kept _, kept _)
-    by CskRoll = (kept _, kept _)
-    by AlgorithmRoll = (kept _, kept _)
+alike_without sd q r a apart x own = (
+  ap (λ (l : Listed). is_listed l.olds q) (listed_by-without r a x)
+      ∙ is_listed-others r (listed_by a x).olds q apart,
+  ap (λ (l : Listed). is_listed l.news q) (listed_by-without r a x)
+      ∙ is_listed-others r (listed_by a x).news q apart,
+)
 
 pub alike_set : (sd : SideOf) (q r : List ℕ) (s : Setting) (a : Lists) → bytes_eq r q ≡ false
     → Alike sd q a (lists_after_setting s r a)
@@ -164,38 +116,30 @@ ended_key r l q k = record k {
 
 -- in a roll's first phase the key is in order after an early end
 abbrev pub can_end : SideOf → Phase → Lists → List ℕ → KeyParts → Bool
-can_end sd (Spreading false r) lists q k = in_order sd Idle (ended_key r (listed_by lists r) q k)
+can_end sd (Spreading First r) lists q k = in_order sd Idle (ended_key r (listed_by lists r) q k)
 can_end sd _ lists q k = true
 
 pub can_end-alike : (sd : SideOf) (ph : Phase) (q : List ℕ) (a b : Lists) (k : KeyParts)
     → phase_own sd ph ≡ true → Alike sd q a b → can_end sd ph b q k ≡ can_end sd ph a q k
-can_end-alike sd Idle q a b k own h = refl
-can_end-alike sd (Spreading true r) q a b k own h = refl
-can_end-alike sd (Spreading false r) q a b k own h = let x = h r own in
+can_end-alike sd (Spreading First r) q a b k own h = let x = h r own in
     λ i. in_order sd Idle (record k { keytype = ended r (x.0 i) (x.1 i) k.keytype })
-can_end-alike sd (Expiring second r) q a b k own h = refl
+can_end-alike sd _ q a b k own h = refl
 
 pub can_end-unseen : (sd : SideOf) (ph : Phase) (q : List ℕ) (a : Lists) (k : KeyParts)
     → has_role sd k.keytype ≡ false → can_end sd ph a q k ≡ true
-can_end-unseen sd Idle q a k e = refl
-can_end-unseen sd (Spreading true r) q a k e = refl
-can_end-unseen sd (Spreading false r) q a k e =
+can_end-unseen sd (Spreading First r) q a k e =
     unseen_orderly sd Idle _ _ _ _ (role-ended sd r _ _ k.keytype ∙ e)
-can_end-unseen sd (Expiring second r) q a k e = refl
+can_end-unseen sd _ q a k e = refl
 
 pub can_end-idle : (sd : SideOf) (ph : Phase) (q : List ℕ) (a : Lists) (k : KeyParts)
     → is_idle k.keytype ≡ true → can_end sd ph a q k ≡ true
-can_end-idle sd Idle q a k e = refl
-can_end-idle sd (Spreading true r) q a k e = refl
-can_end-idle sd (Spreading false r) q a k e =
+can_end-idle sd (Spreading First r) q a k e =
     blank_orderly sd Idle _ _ _ _ (idle_ended r _ _ k.keytype e)
-can_end-idle sd (Expiring second r) q a k e = refl
+can_end-idle sd _ q a k e = refl
 
 can_end-harmless : (sd : SideOf) (ph : Phase) (q : List ℕ) (a : Lists) (k j : KeyParts)
     → Harmless k j → can_end sd ph a q j ≡ can_end sd ph a q k
-can_end-harmless sd Idle q a k j h = refl
-can_end-harmless sd (Spreading true r) q a k j h = refl
-can_end-harmless sd (Spreading false r) q a k j h =
+can_end-harmless sd (Spreading First r) q a k j h =
     let o = is_listed (listed_by a r).olds q in
     let i = is_listed (listed_by a r).news q in
     harmless-alike (λ t. orderly sd Idle (ended r o i t) (is_some j.timestamps.visible)
@@ -204,19 +148,14 @@ can_end-harmless sd (Spreading false r) q a k j h =
     k j h
     ∙ (λ x. orderly sd Idle (ended r o i k.keytype) (is_some (h.stamps Visible x))
     (is_some (h.stamps DsVisible x)) (is_some (h.stamps RrsigVisible x)))
-can_end-harmless sd (Expiring second r) q a k j h = refl
+can_end-harmless sd _ q a k j h = refl
 
 -- a plain setter of a flag is of another signer's key
 flag_another : (s : Setting) (k : KeyParts) → is_plain_setting s (Some k) ≡ true
     → is_flag_setting s ≡ true → is_another_signers k.keytype ≡ true
 flag_another (Decoupled value) k e f = absurd (true≢false (sym f))
 flag_another (Present value now) k e f = e
-flag_another (Signer value) k e f = absurd (true≢false (sym e))
-flag_another (AtParent value) k e f = absurd (true≢false (sym e))
-flag_another Stale k e f = absurd (true≢false (sym e))
-flag_another (VisibleAt time) k e f = absurd (true≢false (sym e))
-flag_another (DsVisibleAt time) k e f = absurd (true≢false (sym e))
-flag_another (RrsigVisibleAt time) k e f = absurd (true≢false (sym e))
+flag_another _ k e f = absurd (true≢false (sym e))
 
 -- the key that a plain setter names
 pub can_end-set : (sd : SideOf) (ph : Phase) (q r : List ℕ) (s : Setting) (a : Lists)
@@ -241,7 +180,7 @@ listed_start lists new keys r olds news q k is at =
     let here : listed_by new r ≡ listed_at_start keys olds news = ap (λ l. listed_by l r) is
     ∙ listed_by-with_listed lists r (listed_at_start keys olds news) r
     ∙ ap (λ b. if b then listed_at_start keys olds news else listed_by lists r) (same-same r) in (
-      ap (λ l. is_listed l.olds q) here ∙ listed_filter (has_kept_key keys) q olds
+      ap (λ l. is_listed l.olds q) here ∙ is_listed-filter (has_kept_key keys) olds q
           ∙ ap (λ o. is_listed olds q
           && option_map_or (λ (k : KeyParts). all_states is_kept k.keytype) o false) at,
       ap (λ l. is_listed l.news q) here,

@@ -1,6 +1,7 @@
 -- No stamp is later than the time of the set, from one set to the next: for the clause `waits`.
-use Rattle.std.proofs.Common.{◌≡◌, ℕ, ◌≤◌, ◌⊎◌, inl, inr, Bool, true, false, refl, sym, ◌∙◌, ap}
-use Rattle.std.proofs.Common.{arith, None, Some}
+use Rattle.dnssec_keyset.proofs.Changes.{Changes}
+use Rattle.std.proofs.Common.{◌≡◌, ℕ, ◌≤◌, ◌⊎◌, inl, inr, Bool, true, refl, sym, ◌∙◌, ap, arith}
+use Rattle.std.proofs.Common.{None, Option, Some}
 use Rattle.std.specs.Prelude.{if◌then◌else◌}
 use Rattle.std.specs.Str.{bytes_eq}
 use Rattle.std.proofs.lemmas.Option.{same_Some, none-some}
@@ -13,7 +14,7 @@ use Rattle.dnssec_run.proofs.Chain.Phases.{start_stamps, wait_stamps}
 use Rattle.dnssec_run.proofs.Chain.Trust.{moment}
 use Rattle.dnssec_keyset.specs.KeySet.{KeySetParts}
 use Rattle.dnssec_zone.specs.Lists.{listed_by}
-use Rattle.dnssec_key.specs.RollTable.{Half, First, Second, after_start, after_report}
+use Rattle.dnssec_key.specs.RollTable.{Half, after_start, after_report}
 use Rattle.dnssec_keyset.specs.Step as keyset
 use Rattle.dnssec_run.specs.declared.call.Call.{Call}
 use Rattle.dnssec_run.specs.Record.{call_of}
@@ -25,39 +26,21 @@ use Rattle.dnssec_run.proofs.WholeRolls.Order.{is_calm}
 
 -- ---- one key set after another
 
--- a key that a call adds has no stamp
-abbrev Unstamped : keyset.Call → Type 0
-Unstamped (keyset.AddKey r k) = (k.timestamps.visible ≡ None) × (k.timestamps.ds_visible ≡ None)
-    × (k.timestamps.rrsig_visible ≡ None)
-Unstamped _ = Unit {0}
+-- the stamp of a key that a call adds, if any
+abbrev stamp_added : keyset.Call → Stamp → Option ℕ
+stamp_added (keyset.AddKey r k) s = stamp_of s k
+stamp_added _ s = None
 
-no_stamp_of : (k : KeyParts) → (k.timestamps.visible ≡ None) × (k.timestamps.ds_visible ≡ None)
-    × (k.timestamps.rrsig_visible ≡ None) → (s : Stamp) → stamp_of s k ≡ None
-no_stamp_of k h Visible = h.0
-no_stamp_of k h DsVisible = h.1
-no_stamp_of k h RrsigVisible = h.2
+-- there is none
+abbrev Unstamped : keyset.Call → Type 0
+Unstamped c = (s : Stamp) → stamp_added c s ≡ None
 
 pub unstamped : (c : Call) → Unstamped (call_of c)
-unstamped (call.AddKeyKsk a b c d e f) = (refl, refl, refl)
-unstamped (call.AddKeyZsk a b c d e f) = (refl, refl, refl)
-unstamped (call.AddKeyCsk a b c d e f) = (refl, refl, refl)
-unstamped (call.AddPublicKey a b c d e) = (refl, refl, refl)
-unstamped (call.SetDecoupled a b) = tt
-unstamped (call.SetPresent a b c) = tt
-unstamped (call.SetSigner a b) = tt
-unstamped (call.SetAtParent a b) = tt
-unstamped (call.SetStale a) = tt
-unstamped (call.SetVisible a b) = tt
-unstamped (call.SetDsVisible a b) = tt
-unstamped (call.SetRrsigVisible a b) = tt
-unstamped (call.DeleteKey a) = tt
-unstamped (call.StartRoll a b c d) = tt
-unstamped (call.Propagation1Complete a b c) = tt
-unstamped (call.CacheExpired1 a b) = tt
-unstamped (call.Propagation2Complete a b c) = tt
-unstamped (call.CacheExpired2 a b) = tt
-unstamped (call.RollDone a) = tt
-unstamped (call.AbortRoll a) = tt
+unstamped (call.AddKeyKsk a b c d e f) Visible = refl
+unstamped (call.AddKeyZsk a b c d e f) Visible = refl
+unstamped (call.AddKeyCsk a b c d e f) Visible = refl
+unstamped (call.AddPublicKey a b c d e) Visible = refl
+unstamped _ _ = refl
 
 start-late : (r : RollType) (now : ℕ) (o i : Bool) (k : KeyParts) (s : Stamp) (x : ℕ)
     → stamp_of s (after_start r now o i k) ≡ Some x → stamp_of s k ≡ Some x
@@ -66,16 +49,16 @@ start-late r now o i k s x e = start_stamps r now o i k s
 
 report-late : (r : RollType) (h : Half) (now : ℕ) (k : KeyParts) (s : Stamp) (x : ℕ)
     → stamp_of s (after_report r h now k) ≡ Some x → (stamp_of s k ≡ Some x) ⊎ (x ≤ now)
-report-late r h now k Visible x e = report-stamp r true now k Visible x _ _ e
-report-late r h now k DsVisible x e = report-stamp r true now k DsVisible x _ _ e
-report-late r h now k RrsigVisible x e = report-stamp r true now k RrsigVisible x _ _ e
+report-late r h now k Visible x e = report-stamp now x _ _ e
+report-late r h now k DsVisible x e = report-stamp now x _ _ e
+report-late r h now k RrsigVisible x e = report-stamp now x _ _ e
 
 module _ (t u : ℕ) (le : t ≤ u) (old new : KeySetParts) (late : NoneLater t old) where
   pub late-step : (c : keyset.Call) → is_calm old c ≡ true → Unstamped c
-      → ((now : ℕ) → moment c ≡ Some now → now ≤ u) → keyset.Changes old c new → NoneLater u new
+      → ((now : ℕ) → moment c ≡ Some now → now ≤ u) → Changes old c new → NoneLater u new
   late-step (keyset.AddKey r k) plain fresh at m =
       later-puts t old new late r (Some k) u le m (λ j e s. ap (stamp_of s) (sym (same_Some k j e))
-      ∙ no_stamp_of k fresh s)
+      ∙ fresh s)
   late-step (keyset.Set r setting) plain fresh at m =
       later-moved t old new late (λ q k. if bytes_eq r q then set_by setting k else k) u le m.keys
       (λ q k there s x e. inl (sym ((harmless old r setting plain q k there).stamps s) ∙ e))
@@ -91,12 +74,9 @@ module _ (t u : ℕ) (le : t ≤ u) (old new : KeySetParts) (late : NoneLater t 
         | inr most ↦ inr
             (let top = at now refl in omega arith)
       ])
-  late-step (keyset.Wait r First now) plain fresh at m =
+  late-step (keyset.Wait r half now) plain fresh at m =
       later-moved t old new late _ u le m.keys
-      (λ q k there s x e. inl (wait_stamps r false now k s ∙ e))
-  late-step (keyset.Wait r Second now) plain fresh at m =
-      later-moved t old new late _ u le m.keys
-      (λ q k there s x e. inl (wait_stamps r true now k s ∙ e))
+      (λ q k there s x e. inl (wait_stamps r half now k s ∙ e))
   late-step (keyset.RollDone r) plain fresh at m =
       later-moved t old new late (λ q k. k) u le m.keys (λ q k there s x e. inl e)
   late-step (keyset.AbortRoll r) plain fresh at m =

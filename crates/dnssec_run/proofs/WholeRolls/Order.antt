@@ -1,4 +1,6 @@
 -- Calls that set nothing leave the keys of a set in order: for all laws of whole rolls.
+use Rattle.dnssec_keyset.proofs.Changes.{PutsKey, MovesOn, Changes}
+use Rattle.dnssec_run.proofs.Chain.Kinds.{role_waited, role_start}
 use Rattle.std.proofs.Common.{◌≡◌, ℕ, inl, inr, Bool, true, false, not, refl, sym, ◌∙◌, ap, subst}
 use Rattle.std.proofs.Common.{List, Option, None, Some}
 use Rattle.std.specs.Prelude.{if◌then◌else◌}
@@ -11,11 +13,9 @@ use Rattle.dnssec_key.specs.declared.roll.RollType.{RollType}
 use Rattle.dnssec_key.specs.declared.roll.RollState.TheVariants.{Propagation1, CacheExpire1}
 use Rattle.dnssec_key.specs.declared.roll.RollState.TheVariants.{Propagation2, CacheExpire2, Done}
 use Rattle.dnssec_key.specs.Key.{KeyParts}
-use Rattle.dnssec_zone.specs.Lists.{Lists}
-use Rattle.dnssec_keyset.specs.KeySet.{KeySetParts, PutsKey, MovesOn, new_set}
+use Rattle.dnssec_zone.specs.Lists.{Lists, listed_by, with_listed}
+use Rattle.dnssec_keyset.specs.KeySet.{KeySetParts, new_set}
 use Rattle.dnssec_zone.specs.Rolls.{phase_of}
-use Rattle.dnssec_zone.specs.Lists.{listed_by, with_listed}
-use Rattle.dnssec_zone.specs.Rolls.{same_roll}
 use Rattle.dnssec_key.specs.RollTable.{First, Second, after_start, after_report, after_early_end}
 use Rattle.dnssec_key.specs.RollTable.{after_wait}
 use Rattle.dnssec_key.specs.Setters.{set_by}
@@ -27,28 +27,25 @@ use Rattle.dnssec_keyset.proofs.Sides.{leaves-others}
 use Rattle.dnssec_keyset.proofs.Laws.{moved, no_cause}
 use Rattle.dnssec_run.specs.Published.{World as RealWorld}
 use Rattle.dnssec_run.proofs.Premise.{is_plain_setting, sets_nothing}
-use Rattle.dnssec_zone.proofs.Flags.{SideOf, affects, has_role, may_start}
-use Rattle.dnssec_zone.proofs.Flags.{is_idle}
-use Rattle.dnssec_run.proofs.Chain.Tale.{seen, is_listed, CanStart, start-parts, early-end-parts}
+use Rattle.dnssec_zone.proofs.Flags.{SideOf, affects, has_role, may_start, is_idle}
+use Rattle.dnssec_run.proofs.Chain.Tale.{seen, CanStart, start-parts, early-end-parts}
 use Rattle.dnssec_run.proofs.Chain.Setters.{Harmless, harmless}
 use Rattle.dnssec_run.proofs.Chain.Rolls.{clash}
 use Rattle.dnssec_run.proofs.Chain.OneKey.{may_there}
-use Rattle.dnssec_run.proofs.Chain.Kinds.{role_start, role_waited1, role_waited2}
-use Rattle.dnssec_run.proofs.Chain.Allowed.{can_start, waits_in_phase}
+use Rattle.dnssec_run.proofs.Chain.Allowed.{can_start, waits_in_phase, spreads}
 use Rattle.dnssec_run.proofs.WholeRolls.Keys.{Idle, Spreading, blank_orderly, in_order}
-use Rattle.dnssec_keyset.proofs.Accepted.{ends_early, finishes, spreads_first, spreads_second}
+use Rattle.dnssec_keyset.proofs.Accepted.{ends_early, finishes}
 use Rattle.dnssec_run.proofs.WholeRolls.Ended.{Alike, alike_put, alike_same, alike_set}
 use Rattle.dnssec_run.proofs.WholeRolls.Ended.{alike_without, can_end, can_end-alike, can_end-idle}
 use Rattle.dnssec_run.proofs.WholeRolls.Ended.{can_end-set, ended_key, listed_start}
-use Rattle.dnssec_run.proofs.WholeRolls.Phases.{idle_is, others_none, phase_fits}
-use Rattle.dnssec_run.proofs.WholeRolls.Phases.{phase_is, put_aside, put_there}
-use Rattle.dnssec_run.proofs.WholeRolls.OrderedKeys.{Order, back, calm_side, harmless_key}
-use Rattle.dnssec_run.proofs.WholeRolls.OrderedKeys.{other_side, own_side, report_first}
-use Rattle.dnssec_run.proofs.WholeRolls.OrderedKeys.{report_second, start_key, undone_key}
-use Rattle.dnssec_run.proofs.WholeRolls.OrderedKeys.{wait_first, wait_second}
+use Rattle.dnssec_run.proofs.WholeRolls.Phases.{idle_is, others_none, phase_fits, phase_is}
+use Rattle.dnssec_run.proofs.WholeRolls.OrderedKeys.{Order, back, calm_side, fits_put, harmless_key}
+use Rattle.dnssec_run.proofs.WholeRolls.OrderedKeys.{report_key, other_side, own_side, start_key}
+use Rattle.dnssec_run.proofs.WholeRolls.OrderedKeys.{undone_key, wait_key}
 use Rattle.dnssec_run.proofs.Chain.EarlyEnds.{role-ended}
 use Rattle.dnssec_zone.proofs.Phases.{no_phases}
 use Rattle.std.proofs.lemmas.Bool.{cases_Bool}
+use Rattle.dnssec_zone.specs.Start.{is_listed}
 
 abbrev pub is_calm : KeySetParts → keyset.Call → Bool
 is_calm set (keyset.AddKey r k) = is_idle k.keytype
@@ -83,26 +80,27 @@ module _ (sd : SideOf) (old new : KeySetParts) where
       → CanStart r (seen (world_of old)) olds news
       → MovesOn old new r (Some Propagation1)
       (with_listed old.lists r (lists.listed_at_start old.keys olds news))
-      (λ q. after_start r now (is_listed q olds) (is_listed q news))
+      (λ q. after_start r now (is_listed olds q) (is_listed news q))
       → affects sd r ≡ true → ((s : SideOf) → Order s old) → Order sd new
   start_side r olds news now can m own h = record {
-    ph = Spreading false r;
+    ph = Spreading First r;
     own = own;
-    rolls = λ q e. at_roll q e (same_roll r q) refl;
+    rolls = fits_put sd old new (Spreading First r) r (Some Propagation1) m.rolls (λ q t. t)
+        (λ q e t. ap (phase_fits (Spreading First r) q) (alone sd own q e) ∙ ap not t);
     keys = λ q j e.
-        let b = back (after_start r now (is_listed q olds) (is_listed q news)) (get old.keys q) j
+        let b = back (after_start r now (is_listed olds q) (is_listed news q)) (get old.keys q) j
         (sym (m.keys q) ∙ e) in
-        ap (in_order sd (Spreading false r)) (sym b.2
-        ∙ start-parts r now (is_listed q olds) (is_listed q news) b.0)
-        ∙ start_key sd r now (is_listed q olds) (is_listed q news) b.0 own (may_key q b.0 b.1)
+        ap (in_order sd (Spreading First r)) (sym b.2
+        ∙ start-parts r now (is_listed olds q) (is_listed news q) b.0)
+        ∙ start_key sd r now (is_listed olds q) (is_listed news q) b.0 own (may_key q b.0 b.1)
         (idle sd own q b.0 b.1);
     early = λ q j e.
-        let b = back (after_start r now (is_listed q olds) (is_listed q news)) (get old.keys q) j
+        let b = back (after_start r now (is_listed olds q) (is_listed news q)) (get old.keys q) j
         (sym (m.keys q) ∙ e) in
         let kept = listed_start old.lists new.lists old.keys r olds news q b.0 m.lists b.1 in
         ap (λ k. in_order sd Idle (ended_key r (listed_by new.lists r) q k)) (sym b.2
-        ∙ start-parts r now (is_listed q olds) (is_listed q news) b.0)
-        ∙ undone_key sd r now (is_listed q olds) (is_listed q news) b.0 own (may_key q b.0 b.1)
+        ∙ start-parts r now (is_listed olds q) (is_listed news q) b.0)
+        ∙ undone_key sd r now (is_listed olds q) (is_listed news q) b.0 own (may_key q b.0 b.1)
         (λ s e. idle s e q b.0 b.1) _ _ kept.0 kept.1;
   }
     where
@@ -118,16 +116,8 @@ module _ (sd : SideOf) (old new : KeySetParts) where
           ap (λ ph. in_order s ph k) (sym rest) ∙ (h s).keys q k at
 
       may_key : (q : List ℕ) (k : KeyParts) → get old.keys q ≡ Some k
-          → may_start r (is_listed q olds) (is_listed q news) k.keytype ≡ true
+          → may_start r (is_listed olds q) (is_listed news q) k.keytype ≡ true
       may_key q k e = may_there r _ olds news can q k e
-
-      at_roll : (q : RollType) → affects sd q ≡ true → (b : Bool) → same_roll r q ≡ b
-          → phase_fits (Spreading false r) q (phase_of new.rolls q) ≡ true
-      at_roll q e true t = ap (phase_fits (Spreading false r) q)
-          (put_there old.rolls new.rolls r (Some Propagation1) q m.rolls t) ∙ t
-      at_roll q e false t = ap (phase_fits (Spreading false r) q)
-          (put_aside old.rolls new.rolls r (Some Propagation1) q m.rolls t ∙ alone sd own q e)
-          ∙ ap not t
 
   done_side : {kept : Lists} (r : RollType) → phase_of old.rolls r ≡ Some Done
       → MovesOn old new r None kept (λ q k. k)
@@ -135,7 +125,8 @@ module _ (sd : SideOf) (old new : KeySetParts) where
   done_side r was m own h = record {
     ph = Idle;
     own = refl;
-    rolls = λ q e. at_roll q e (same_roll r q) refl;
+    rolls = fits_put sd old new Idle r None m.rolls (λ q t. refl)
+        (λ q e t. ap (λ ph. phase_fits ph q (phase_of old.rolls q)) (sym there) ∙ h.rolls q e);
     keys = λ q j e. let b = back (λ k. k) (get old.keys q) j (sym (m.keys q) ∙ e) in
         ap (in_order sd Idle) (sym b.2) ∙ ap (λ ph. in_order sd ph b.0) (sym there)
         ∙ h.keys q b.0 b.1;
@@ -145,42 +136,30 @@ module _ (sd : SideOf) (old new : KeySetParts) where
       there : h.ph ≡ Idle
       there = phase_is h.ph r Done (ap (phase_fits h.ph r) (sym was) ∙ h.rolls r own)
 
-      at_roll : (q : RollType) → affects sd q ≡ true → (b : Bool) → same_roll r q ≡ b
-          → phase_fits Idle q (phase_of new.rolls q) ≡ true
-      at_roll q e true t = ap (phase_fits Idle q) (put_there old.rolls new.rolls r None q m.rolls t)
-      at_roll q e false t = ap (phase_fits Idle q)
-          (put_aside old.rolls new.rolls r None q m.rolls t)
-          ∙ ap (λ ph. phase_fits ph q (phase_of old.rolls q)) (sym there) ∙ h.rolls q e
-
   early_end_side : {kept : Lists} (r : RollType) → phase_of old.rolls r ≡ Some Propagation1
       → MovesOn old new r None kept
-      (λ q. after_early_end r (is_listed q (listed_by old.lists r).olds)
-      (is_listed q (listed_by old.lists r).news))
+      (λ q. after_early_end r (is_listed (listed_by old.lists r).olds q)
+      (is_listed (listed_by old.lists r).news q))
       → affects sd r ≡ true → Order sd old → Order sd new
   early_end_side r was m own h = record {
     ph = Idle;
     own = refl;
-    rolls = λ q e. at_roll q e (same_roll r q) refl;
+    rolls = fits_put sd old new Idle r None m.rolls (λ q t. refl)
+        (λ q e t. ap (phase_fits Idle q)
+        (others_none r Propagation1 q (phase_of old.rolls q) refl
+        (ap (λ ph. phase_fits ph q (phase_of old.rolls q)) (sym there) ∙ h.rolls q e) t));
     keys = λ q j e.
         let listed = listed_by old.lists r in
-        let b = back (after_early_end r (is_listed q listed.olds) (is_listed q listed.news))
+        let b = back (after_early_end r (is_listed listed.olds q) (is_listed listed.news q))
         (get old.keys q) j (sym (m.keys q) ∙ e) in
         ap (in_order sd Idle) (sym b.2
-        ∙ early-end-parts r (is_listed q listed.olds) (is_listed q listed.news) b.0)
+        ∙ early-end-parts r (is_listed listed.olds q) (is_listed listed.news q) b.0)
         ∙ ap (λ ph. can_end sd ph old.lists q b.0) (sym there) ∙ h.early q b.0 b.1;
     early = λ q j e. refl;
   }
     where
-      there : h.ph ≡ Spreading false r
+      there : h.ph ≡ Spreading First r
       there = phase_is h.ph r Propagation1 (ap (phase_fits h.ph r) (sym was) ∙ h.rolls r own)
-
-      at_roll : (q : RollType) → affects sd q ≡ true → (b : Bool) → same_roll r q ≡ b
-          → phase_fits Idle q (phase_of new.rolls q) ≡ true
-      at_roll q e true t = ap (phase_fits Idle q) (put_there old.rolls new.rolls r None q m.rolls t)
-      at_roll q e false t = ap (phase_fits Idle q)
-          (put_aside old.rolls new.rolls r None q m.rolls t
-          ∙ others_none r Propagation1 q (phase_of old.rolls q) refl
-          (ap (λ ph. phase_fits ph q (phase_of old.rolls q)) (sym there) ∙ h.rolls q e) t)
 
   role_started : (r : RollType) (now : ℕ) (o i : Bool) (k : KeyParts)
       → has_role sd (after_start r now o i k).keytype ≡ has_role sd k.keytype
@@ -193,7 +172,7 @@ module _ (sd : SideOf) (old new : KeySetParts) where
       ∙ role-ended sd r o i k.keytype
 
   changed_side : (c : keyset.Call) → is_calm old c ≡ true → LeavesOthers old c new
-      → keyset.clearance old c ≡ waits.Clear → keyset.Changes old c new
+      → keyset.clearance old c ≡ waits.Clear → Changes old c new
       → ((s : SideOf) → Order s old) → Order sd new
   changed_side (keyset.AddKey r k) plain leaves v m h =
       puts_side r (Some k) m (λ q t. alike_same sd q old.lists) (h sd)
@@ -231,15 +210,15 @@ module _ (sd : SideOf) (old new : KeySetParts) where
             (can_start (world_of old) r olds news (no_cause _ v))
             m own h
         | inr out ↦ other_side sd old new r (Some Propagation1)
-            (λ q. after_start r now (is_listed q olds) (is_listed q news)) out m
+            (λ q. after_start r now (is_listed olds q) (is_listed news q)) out m
             (λ q. alike_put sd q old.lists r _ out) (λ q k e l. leaves r q k refl e l)
-            (λ q k. role_started r now (is_listed q olds) (is_listed q news) k) (h sd)
+            (λ q k. role_started r now (is_listed olds q) (is_listed news q) k) (h sd)
       ]
   changed_side (keyset.Report r First ttl now) plain leaves v m h =
       elim (cases_Bool (affects sd r)) [
         | inl own ↦ own_side sd old new r Propagation1 (CacheExpire1 ttl)
-            (λ q. after_report r First now) own refl (spreads_first _ (no_cause _ v)) m
-            (λ q k. report_first sd r now k own) (λ q k. refl) (h sd)
+            (λ q. after_report r First now) own refl (spreads First _ (no_cause _ v)) m
+            (λ q k. report_key sd r First now k own) (λ q k. refl) (h sd)
         | inr out ↦ other_side sd old new r (Some (CacheExpire1 ttl))
             (λ q. after_report r First now)
             out m (λ q. alike_put sd q old.lists r _ out) (λ q k e l. leaves r q k refl e l)
@@ -248,34 +227,34 @@ module _ (sd : SideOf) (old new : KeySetParts) where
   changed_side (keyset.Report r Second ttl now) plain leaves v m h =
       elim (cases_Bool (affects sd r)) [
         | inl own ↦ own_side sd old new r Propagation2 (CacheExpire2 ttl)
-            (λ q. after_report r Second now) own refl (spreads_second _ (no_cause _ v)) m
-            (λ q k. report_second sd r now k own) (λ q k. refl) (h sd)
+            (λ q. after_report r Second now) own refl (spreads Second _ (no_cause _ v)) m
+            (λ q k. report_key sd r Second now k own) (λ q k. refl) (h sd)
         | inr out ↦ other_side sd old new r (Some (CacheExpire2 ttl))
             (λ q. after_report r Second now)
             out m (λ q. alike_same sd q old.lists) (λ q k e l. leaves r q k refl e l)
             (λ q k. refl) (h sd)
       ]
   changed_side (keyset.Wait r First now) plain leaves v m h = elim (cases_Bool (affects sd r)) [
-    | inl own ↦ let w = waits_in_phase r false now (world_of old) v in
+    | inl own ↦ let w = waits_in_phase r First now (world_of old) v in
         own_side sd old new r (CacheExpire1 w.0) Propagation2 (λ q. after_wait r First now) own refl
-        w.1 m (λ q k. wait_first sd r now k own) (λ q k. refl) (h sd)
+        w.1 m (λ q k. wait_key sd r First now k own) (λ q k. refl) (h sd)
     | inr out ↦ other_side sd old new r (Some Propagation2) (λ q. after_wait r First now) out m
         (λ q. alike_same sd q old.lists) (λ q k e l. leaves r q k refl e l)
-        (λ q k. role_waited1 sd r k.keytype) (h sd)
+        (λ q k. role_waited sd r First k.keytype) (h sd)
   ]
   changed_side (keyset.Wait r Second now) plain leaves v m h = elim (cases_Bool (affects sd r)) [
-    | inl own ↦ let w = waits_in_phase r true now (world_of old) v in
+    | inl own ↦ let w = waits_in_phase r Second now (world_of old) v in
         own_side sd old new r (CacheExpire2 w.0) Done (λ q. after_wait r Second now) own refl w.1 m
-        (λ q k. wait_second sd r now k own) (λ q k. refl) (h sd)
+        (λ q k. wait_key sd r Second now k own) (λ q k. refl) (h sd)
     | inr out ↦ other_side sd old new r (Some Done) (λ q. after_wait r Second now) out m
         (λ q. alike_same sd q old.lists) (λ q k e l. leaves r q k refl e l)
-        (λ q k. role_waited2 sd r k.keytype) (h sd)
+        (λ q k. role_waited sd r Second k.keytype) (h sd)
   ]
   changed_side (keyset.AbortRoll r) plain leaves v m h = elim (cases_Bool (affects sd r)) [
     | inl own ↦ early_end_side r (ends_early _ (no_cause _ v)) m own (h sd)
     | inr out ↦ other_side sd old new r None
-        (λ q. after_early_end r (is_listed q (listed_by old.lists r).olds)
-        (is_listed q (listed_by old.lists r).news)) out m
+        (λ q. after_early_end r (is_listed (listed_by old.lists r).olds q)
+        (is_listed (listed_by old.lists r).news q)) out m
         (λ q. alike_put sd q old.lists r _ out) (λ q k e l. leaves r q k refl e l)
         (λ q k. role_ended_early r _ _ k) (h sd)
   ]

@@ -1,5 +1,6 @@
 -- What an accepted call did, and that a refused one did nothing: for all laws of whole rolls.
-use Rattle.dnssec_keyset.proofs.Accepted.{accepted_changes, refused_same}
+use Rattle.dnssec_keyset.proofs.Changes.{Changes}
+use Rattle.dnssec_keyset.proofs.Accepted.{accepted_changes}
 use Rattle.std.proofs.Common.{◌≡◌, ℕ, suc, Bool, true, false, List, Some, refl, sym, subst}
 use Rattle.std.proofs.lemmas.Bool.{true≢false}
 use Rattle.dnssec_keyset.specs.KeySet.{KeySetParts}
@@ -18,20 +19,20 @@ use Rattle.dnssec_run.specs.declared.record.Mark.TheVariants.{Other}
 use Rattle.dnssec_run.proofs.Chain.Trust.{mark, plainly}
 
 -- a reply that accepts
-pub accepted_step : (v : waits.Clearance) (old new : KeySetParts) (c : keyset.Call) (r : Reply)
-    → is_accepted r ≡ true → keyset.StepBy v old c (reply_of r) new → (v ≡ waits.Clear)
-    × keyset.Changes old c new × (reply_of r ≡ keyset.accepted_reply c)
-accepted_step v old new c reply.Done a h = accepted_changes v old new c keyset.Done refl h
-accepted_step v old new c (reply.Actions x) a h =
-    accepted_changes v old new c (keyset.Actions x.items) refl h
-accepted_step v old new c (reply.Refused x) a h = absurd (true≢false (sym a))
+pub accepted_step : (old new : KeySetParts) (c : keyset.Call) (r : Reply) → is_accepted r ≡ true
+    → keyset.Step old c (reply_of r) new → (keyset.clearance old c ≡ waits.Clear)
+    × Changes old c new × (reply_of r ≡ keyset.accepted_reply c)
+accepted_step old new c reply.Done a h = accepted_changes old new c keyset.Done refl h
+accepted_step old new c (reply.Actions x) a h =
+    accepted_changes old new c (keyset.Actions x.items) refl h
+accepted_step old new c (reply.Refused x) a h = absurd (true≢false (sym a))
 
 -- a reply that refuses
-pub refused_step : (v : waits.Clearance) (old new : KeySetParts) (c : keyset.Call) (r : Reply)
-    → is_accepted r ≡ false → keyset.StepBy v old c (reply_of r) new → new ≡ old
-refused_step v old new c reply.Done a h = absurd (true≢false a)
-refused_step v old new c (reply.Actions x) a h = absurd (true≢false a)
-refused_step v old new c (reply.Refused x) a h = refused_same v old new c x h
+pub refused_step : (old new : KeySetParts) (c : keyset.Call) (r : Reply) → is_accepted r ≡ false
+    → keyset.Step old c (reply_of r) new → new ≡ old
+refused_step old new c reply.Done a h = absurd (true≢false a)
+refused_step old new c (reply.Actions x) a h = absurd (true≢false a)
+refused_step old new c (reply.Refused x) a h = h.1
 
 -- ---- positions
 
@@ -77,3 +78,32 @@ module _ (name : List ℕ) (calls : List Call) (entries : List Entry)
       ≡ added_by (suc n) c e.reply (world_at name calls entries n).added
   unfolding world_at
   added-next n c e ci ei = rw (ci, ei) refl
+
+  -- what a call did that was accepted, and that one that wasn't did nothing
+  module _ (n : ℕ) (c : Call) (e : Entry) (ci : slice_get calls n ≡ Some c)
+      (ei : slice_get entries n ≡ Some e) where
+    abbrev old : KeySetParts
+    old = (world_at name calls entries n).set
+
+    abbrev new : KeySetParts
+    new = (world_at name calls entries (suc n)).set
+
+    pub did : is_accepted e.reply ≡ true → (keyset.clearance old (call_of c) ≡ waits.Clear)
+        × Changes old (call_of c) new
+        × (reply_of e.reply ≡ keyset.accepted_reply (call_of c))
+    did ok = accepted_step old new (call_of c) e.reply ok
+        (run.each n c e ci ei).step
+
+    pub idle : is_accepted e.reply ≡ false → new ≡ old
+    idle t = refused_step old new (call_of c) e.reply t
+        (run.each n c e ci ei).step
+
+  -- the same of a call that is made
+  pub did-made : (n : ℕ) (call : keyset.Call) (made : IsMade calls entries n call)
+      → is_accepted made.entry.reply ≡ true
+      → (keyset.clearance (world_at name calls entries n).set call ≡ waits.Clear)
+      × Changes (world_at name calls entries n).set call
+      (world_at name calls entries (suc n)).set
+  did-made n call made ok = let x = accepted_step (world_at name calls entries n).set
+      (world_at name calls entries (suc n)).set call made.entry.reply ok (step-made n call made) in
+      (x.0, x.1)

@@ -1,4 +1,9 @@
 -- A wait in its phase lasts exactly until the TTL has passed since its report: for `waits`.
+use Rattle.dnssec_run.proofs.Laws.{made-at, stays-sound, kept-at}
+use Rattle.dnssec_run.proofs.WholeRolls.Replies.{did, idle, step-made, At, at_position, marked}
+use Rattle.dnssec_run.proofs.WholeRolls.Reports.{Tells, Arms, Data, data-beside, is_report}
+use Rattle.dnssec_run.proofs.Chain.Facts.{timer, stays_facts}
+use Rattle.dnssec_zone.proofs.Flags.{Late, Keys, Zone, fits}
 use Rattle.std.proofs.Common.{◌≡◌, ℕ, zero, suc, ◌+◌, ◌*◌, ◌≤◌, inl, inr, Bool, true, false, refl}
 use Rattle.std.proofs.Common.{sym, ◌∙◌, ap, subst, arith, List, length, Option, None, Some}
 use Rattle.std.specs.Prelude.{slice_get, unwrap_or, max}
@@ -6,16 +11,14 @@ use Rattle.std.specs.FinMap.{get-empty}
 use Rattle.std.specs.Ordering.{nat_cmp}
 use Rattle.std.specs.Cmp.Lexicographic.{slice_cmp}
 use Rattle.std.proofs.lemmas.Bool.{true≢false, cases_Bool}
-use Rattle.std.proofs.lemmas.Option.{none-some, slice_get_cases, slice_get_within}
+use Rattle.std.proofs.lemmas.Option.{none-some, slice_get_within}
 use Rattle.dnssec_key.specs.declared.roll.RollType.{RollType}
-use Rattle.dnssec_key.specs.declared.roll.RollType.TheVariants.{KskRoll, KskDoubleDsRoll}
-use Rattle.dnssec_key.specs.declared.roll.RollType.TheVariants.{ZskRoll, ZskDoubleSignatureRoll}
-use Rattle.dnssec_key.specs.declared.roll.RollType.TheVariants.{CskRoll, AlgorithmRoll}
+use Rattle.dnssec_key.specs.declared.roll.RollType.TheVariants.{ZskDoubleSignatureRoll}
 use Rattle.dnssec_key.specs.declared.roll.RollState.{RollState}
 use Rattle.dnssec_key.specs.declared.roll.RollState.TheVariants.{CacheExpire1, CacheExpire2}
 use Rattle.dnssec_run.proofs.Premise.{SetsNothing, sets-nothing}
-use Rattle.dnssec_run.specs.WholeRolls.{IsMade, NeverFalls, LastReport, counts_from}
-use Rattle.dnssec_run.specs.WholeRolls.{WaitsUntil, WaitsExactly}
+use Rattle.dnssec_run.specs.WholeRolls.{IsMade, NeverFalls, LastReport, counts_from, WaitsUntil}
+use Rattle.dnssec_run.specs.WholeRolls.{WaitsExactly}
 use Rattle.dnssec_run.proofs.Chain.Trust.{moment, plainly}
 use Rattle.dnssec_keyset.specs.KeySet.{KeySetParts}
 use Rattle.dnssec_zone.specs.Rolls.{phase_of}
@@ -23,6 +26,7 @@ use Rattle.dnssec_key.specs.RollTable.{Half, First, Second, cache_expire}
 use Rattle.dnssec_zone.specs.Wait.{ttl_in}
 use Rattle.dnssec_keyset.specs.Laws.{RollsTogether}
 use Rattle.dnssec_keyset.specs.Step as keyset
+use Rattle.dnssec_keyset.proofs.ByClearance.{StepBy, by-clearance}
 use Rattle.dnssec_zone.specs.Wait as waits
 use Rattle.dnssec_run.specs.declared.call.Call.{Call}
 use Rattle.dnssec_run.specs.declared.record.Entry.{Entry}
@@ -30,23 +34,15 @@ use Rattle.dnssec_run.specs.Safe.{position_at, time_at}
 use Rattle.dnssec_run.specs.Record as rec
 use Rattle.dnssec_keyset.proofs.Sides.{leaves-others}
 use Rattle.dnssec_keyset.proofs.Laws.{together-new, together-step}
-use Rattle.dnssec_run.proofs.Laws.{stays-sound, kept-at}
 use Rattle.dnssec_run.proofs.Chain.History.{time_grows, time_now, time_mono}
 use Rattle.dnssec_run.specs.Record.{IsRun, call_of, reply_of, world_at, call_moment}
-use Rattle.dnssec_zone.proofs.Flags.{Keys, Zone, fits}
-use Rattle.dnssec_run.proofs.Chain.Tables.{half, checked}
-use Rattle.dnssec_run.proofs.Chain.Tale.{waiting}
-use Rattle.dnssec_run.proofs.Chain.Facts.{stays_facts}
-use Rattle.dnssec_run.proofs.WholeRolls.Reports.{Arms, Data, data-beside, is_report, last-report}
+use Rattle.dnssec_run.proofs.Chain.Tables.{checked}
 use Rattle.dnssec_run.proofs.WholeRolls.Moments.{late-step, unstamped}
 use Rattle.dnssec_run.proofs.WholeRolls.Steps.{data-step, fits_at}
 use Rattle.dnssec_run.proofs.WholeRolls.Armed.{Armed, NoneLater, beside-same, is_zds, later-same}
-use Rattle.dnssec_run.proofs.WholeRolls.Armed.{timed_second, zsk_reads}
-use Rattle.dnssec_run.proofs.WholeRolls.Keys.{Expiring, stage_in}
-use Rattle.dnssec_run.proofs.WholeRolls.Phases.{at_phase, roll_now}
+use Rattle.dnssec_run.proofs.WholeRolls.Armed.{timed_second, zds_facts}
+use Rattle.dnssec_run.proofs.WholeRolls.Phases.{roll_now}
 use Rattle.dnssec_run.proofs.WholeRolls.Positions.{in-order, no_lack, nothing_set, read_there}
-use Rattle.dnssec_run.proofs.WholeRolls.Replies.{At, at_position, marked, accepted_step}
-use Rattle.dnssec_run.proofs.WholeRolls.Replies.{refused_step}
 use Rattle.dnssec_run.proofs.WholeRolls.Clearances.{answers}
 use Rattle.dnssec_run.proofs.Chain.RollFacts.{timed_first}
 use Rattle.dnssec_zone.proofs.Phases.{no_phases}
@@ -70,14 +66,8 @@ module _ (name : List ℕ) (calls : List Call) (entries : List Entry) (run : IsR
   time_before n c now ci mo zero le within = omega arith
   time_before n c now ci mo (suc k) le within =
       let before = time_before n c now ci mo k (omega arith) (omega arith) in
-      elim ((slice_get_cases entries k).1) [
-        | inl e ↦ elim ((slice_get_cases calls k).1) [
-          | inl d ↦ by d.0 (at_position name calls entries run k d.0 e.0 d.2 e.2) (call_moment d.0)
-              refl before
-          | inr d ↦ absurd (omega (arith, d.0, run.count))
-        ]
-        | inr e ↦ absurd (omega (arith, e.0))
-      ]
+      let x = made-at name calls entries run k within in
+      by x.0 (at_position name calls entries run k x.0 x.1 x.2 x.3) (call_moment x.0) refl before
     where
       by : {e : Entry} (d : Call) → At calls entries k d e → (o : Option ℕ) → call_moment d ≡ o
           → time_at entries k ≤ now
@@ -101,7 +91,7 @@ module _ (name : List ℕ) (calls : List Call) (entries : List Entry) (run : IsR
       omega arith
 
   same-clock : (n : ℕ) → set_at (suc n) ≡ set_at n
-      → ((r : RollType) (s : Bool) → is_report r s (position_at entries (suc n)).mark ≡ false)
+      → ((r : RollType) (s : Half) → is_report r s (position_at entries (suc n)).mark ≡ false)
       → Clock n → Clock (suc n)
   same-clock n same none h = record {
     late = later-same (time_at entries n) (set_at n) (set_at (suc n)) h.late
@@ -123,13 +113,10 @@ module _ (name : List ℕ) (calls : List Call) (entries : List Entry) (run : IsR
 
       by : (b : Bool) → rec.is_accepted e.reply ≡ b → Clock (suc n)
       by false t =
-          same-clock n (refused_step (keyset.clearance (set_at n) (call_of c)) (set_at n)
-          (set_at (suc n)) (call_of c) e.reply t step)
+          same-clock n (idle name calls entries run n c e ci ei t)
           (λ r s. ap (is_report r s) (a.mark_is ∙ marked c e.reply false t)) h
       by true t =
-          let ok = accepted_step (keyset.clearance (set_at n) (call_of c)) (set_at n)
-          (set_at (suc n))
-          (call_of c) e.reply t step in
+          let ok = did name calls entries run n c e ci ei t in
           let clean = nothing_set (set_at n) c (plain n c ci) in
           let mo : (position_at entries (suc n)).moment ≡ moment (call_of c) = a.when
           ∙ (plainly c).moment_is in
@@ -157,52 +144,41 @@ module _ (name : List ℕ) (calls : List Call) (entries : List Entry) (run : IsR
     late = λ q k s x e f. absurd (none-some k (sym (get-empty (slice_cmp nat_cmp) q) ∙ e));
     data_of = λ r p e. absurd (none-some p (sym (no_phases r) ∙ e));
   }
-  clocks (suc n) le = elim ((slice_get_cases entries n).1) [
-    | inl e ↦ elim ((slice_get_cases calls n).1) [
-      | inl c ↦ clock-next n c.0 e.0 (omega arith) c.2 e.2 (clocks n (omega arith))
-      | inr c ↦ absurd (omega (arith, c.0, run.count))
-    ]
-    | inr e ↦ absurd (omega (arith, e.0))
-  ]
+  clocks (suc n) le = let x = made-at name calls entries run n le in
+      clock-next n x.0 x.1 (omega arith) x.2 x.3 (clocks n (omega arith))
 
-  zds_checks : (n : ℕ) (r : RollType) → is_zds r ≡ true → (p : RollState)
-      → at_phase r p ≡ Expiring true r → roll_now (set_at n) r ≡ Some p
-      → (m : ℕ) (a : Armed r true m (set_at n)) → checked r true a.parts.keytype ≡ true
-  zds_checks n KskRoll z p i e m a = absurd (true≢false (sym z))
-  zds_checks n KskDoubleDsRoll z p i e m a = absurd (true≢false (sym z))
-  zds_checks n ZskRoll z p i e m a = absurd (true≢false (sym z))
-  zds_checks n ZskDoubleSignatureRoll z p i e m a = zsk_reads a.parts.keytype
-      (ap (λ ph. fits Zone (stage_in ph) a.parts.keytype) (sym i)
-      ∙ fits_at entries n (set_at n) (set_at n) (in-order name calls entries run plain Keys n)
-      (in-order name calls entries run plain Zone n) all ZskDoubleSignatureRoll p e a.key
-      a.parts a.there) a.goes_on
+  checks : (n : ℕ) (r : RollType) (half : Half) (ttl : ℕ)
+      → roll_now (set_at n) r ≡ Some (cache_expire half ttl)
+      → (m : ℕ) (a : Armed r half m (set_at n)) → checked r half a.parts.keytype ≡ true
+  checks n r First ttl e m a = (stays_facts r First a.parts.keytype a.goes_on).check (timed_first r)
+  checks n r Second ttl e m a = elim (cases_Bool (is_zds r)) [
+    | inl zds ↦ (zds_facts r a.parts.keytype zds).reads
+        (ap (λ sd. fits sd (Late r) a.parts.keytype) (sym (timer_zds r zds))
+        ∙ fits_at entries n (set_at n) (set_at n) (in-order name calls entries run plain Keys n)
+        (in-order name calls entries run plain Zone n) all r (CacheExpire2 ttl) e a.key a.parts
+        a.there) a.goes_on
+    | inr other ↦ (stays_facts r Second a.parts.keytype a.goes_on).check (timed_second r other)
+  ]
     where
+      timer_zds : (r : RollType) → is_zds r ≡ true → timer r ≡ Zone
+      timer_zds ZskDoubleSignatureRoll zds = refl
+      timer_zds _ zds = absurd (true≢false (sym zds))
+
       all : RollsTogether (set_at n).rolls
       all = kept-at (λ (s : KeySetParts). RollsTogether s.rolls) together-new
           (λ old new call reply before h. together-step old new call reply before h) name calls
           entries run n
-  zds_checks n CskRoll z p i e m a = absurd (true≢false (sym z))
-  zds_checks n AlgorithmRoll z p i e m a = absurd (true≢false (sym z))
 
-  checks : (n : ℕ) (r : RollType) (second : Bool) (ttl : ℕ)
-      → roll_now (set_at n) r ≡ Some (waiting second ttl)
-      → (m : ℕ) (a : Armed r second m (set_at n)) → checked r second a.parts.keytype ≡ true
-  checks n r false ttl e m a = (stays_facts r false a.parts.keytype a.goes_on).check (timed_first r)
-  checks n r true ttl e m a = elim (cases_Bool (is_zds r)) [
-    | inl z ↦ zds_checks n r z (CacheExpire2 ttl) refl e m a
-    | inr z ↦ (stays_facts r true a.parts.keytype a.goes_on).check (timed_second r z)
-  ]
-
-  whole : (n : ℕ) (r : RollType) (second : Bool) (ttl now : ℕ)
-      → roll_now (set_at n) r ≡ Some (waiting second ttl) → n ≤ length entries
-      → (a : Arms entries (set_at n) n r second) → (c : Call) → slice_get calls n ≡ Some c
+  whole : (n : ℕ) (r : RollType) (half : Half) (ttl now : ℕ)
+      → roll_now (set_at n) r ≡ Some (cache_expire half ttl) → n ≤ length entries
+      → (a : Arms entries (set_at n) n r half) → (c : Call) → slice_get calls n ≡ Some c
       → call_moment c ≡ Some now
-      → (new : KeySetParts) (h : Half) (reply : keyset.Reply) → half second ≡ h
-      → keyset.StepBy (waits.wait_in_phase r (half second) (Some ttl) now (set_at n).keys)
-      (set_at n) (keyset.Wait r h now) reply new
+      → (new : KeySetParts) (reply : keyset.Reply)
+      → StepBy (waits.wait_in_phase r half (Some ttl) now (set_at n).keys)
+      (set_at n) (keyset.Wait r half now) reply new
       → WaitsUntil (a.0.moment + ttl * 1_000_000_000) now reply
-      (keyset.accepted_reply (keyset.Wait r h now))
-  whole n r second ttl now e within a c ci mo new h reply which_half step =
+      (keyset.accepted_reply (keyset.Wait r half now))
+  whole n r half ttl now e within a c ci mo new reply step =
       let ks = in-order name calls entries run plain Keys n in
       let zs = in-order name calls entries run plain Zone n in
       let said : a.0.moment ≤ time_at entries a.0.at =
@@ -210,10 +186,10 @@ module _ (name : List ℕ) (calls : List Call) (entries : List Entry) (run : IsR
       let since : time_at entries a.0.at ≤ time_at entries n =
       time_mono entries a.0.at n a.0.within in
       let before : time_at entries n ≤ now = time_before n c now ci mo n (omega arith) within in
-      answers (set_at n) r second ttl now a.0.moment a.1 (omega arith)
-      (checks n r second ttl e a.0.moment a.1)
-      (λ q k at check. read_there (set_at n) ks zs r second ttl now e q k at check) new h reply
-      which_half (no_lack (set_at n) ks zs r second ttl now e) step
+      answers (set_at n) r half ttl now a.0.moment a.1 (omega arith)
+      (checks n r half ttl e a.0.moment a.1)
+      (λ q k at check. read_there (set_at n) ks zs r half ttl now e q k at check) new reply
+      (no_lack (set_at n) ks zs r half ttl now e) step
 
   -- what the record says of the wait, and what the wait is answered
   exactly : (n : ℕ) (r : RollType) (h : Half) (now ttl : ℕ)
@@ -223,66 +199,38 @@ module _ (name : List ℕ) (calls : List Call) (entries : List Entry) (run : IsR
       × (from : LastReport entries r (counts_from r h) n)
       × WaitsUntil (from.moment + told.ttl * 1_000_000_000) now (reply_of wait.entry.reply)
       (keyset.accepted_reply (keyset.Wait r h now))
-  unfolding Data last-report
-  exactly n r h now ttl wait phase = by h wait phase
+  unfolding Data
+  exactly n r h now ttl wait phase =
+      let d = told h phase in
+      let in_phase : StepBy (waits.wait_in_phase r h (Some ttl) now (set_at n).keys)
+      (set_at n)
+      (keyset.Wait r h now) (reply_of wait.entry.reply) (set_at (suc n)) =
+      subst (λ o. StepBy (waits.wait_in_phase r h o now (set_at n).keys) (set_at n)
+      (keyset.Wait r h now) (reply_of wait.entry.reply) (set_at (suc n)))
+      (ap (ttl_in h) phase ∙ ttl_of h)
+      (by-clearance (set_at n) (set_at (suc n)) (keyset.Wait r h now) (reply_of wait.entry.reply)
+      (step-made name calls entries run n (keyset.Wait r h now) wait)) in (
+        d.1.0,
+        d.1.1,
+        d.0.0,
+        subst (λ t. WaitsUntil (d.0.0.moment + t * 1_000_000_000) now (reply_of wait.entry.reply)
+            (keyset.accepted_reply (keyset.Wait r h now))) (sym d.1.1)
+            (whole n r h ttl now phase within d.0 wait.made wait.made_is
+            ((plainly wait.made).moment_is ∙ ap moment wait.call_is) (set_at (suc n))
+            (reply_of wait.entry.reply) in_phase),
+      )
     where
       within : n ≤ length entries
       within = let lt = slice_get_within entries n wait.entry wait.entry_is in omega arith
 
-      mo : (h : Half) → (wait : IsMade calls entries n (keyset.Wait r h now))
-          → call_moment wait.made ≡ Some now
-      mo h wait = (plainly wait.made).moment_is ∙ ap moment wait.call_is
+      told : (h : Half) → roll_now (set_at n) r ≡ Some (cache_expire h ttl)
+          → Arms entries (set_at n) n r h × Tells entries n r h ttl
+      told First phase = let d = (clocks n within).data_of r (CacheExpire1 ttl) phase in (d.0, d.1)
+      told Second phase = (clocks n within).data_of r (CacheExpire2 ttl) phase
 
-      step : (h : Half) → (wait : IsMade calls entries n (keyset.Wait r h now))
-          → keyset.Step (set_at n) (keyset.Wait r h now) (reply_of wait.entry.reply)
-          (set_at (suc n))
-      step h wait =
-          subst (λ k. keyset.Step (set_at n) k (reply_of wait.entry.reply) (set_at (suc n)))
-          wait.call_is (run.each n wait.made wait.entry wait.made_is wait.entry_is).step
-
-      by : (h : Half) → (wait : IsMade calls entries n (keyset.Wait r h now))
-          → roll_now (set_at n) r ≡ Some (cache_expire h ttl)
-          → (told : LastReport entries r h n) × (told.ttl ≡ ttl)
-          × (from : LastReport entries r (counts_from r h) n)
-          × WaitsUntil (from.moment + told.ttl * 1_000_000_000) now (reply_of wait.entry.reply)
-          (keyset.accepted_reply (keyset.Wait r h now))
-      by First wait phase =
-          let d = (clocks n within).data_of r (CacheExpire1 ttl) phase in
-          let in_phase : keyset.StepBy (waits.wait_in_phase r First (Some ttl) now (set_at n).keys)
-          (set_at n) (keyset.Wait r First now) (reply_of wait.entry.reply) (set_at (suc n)) =
-          subst (λ o. keyset.StepBy
-          (waits.wait_in_phase r First (ttl_in First o) now (set_at n).keys) (set_at n)
-          (keyset.Wait r First now) (reply_of wait.entry.reply) (set_at (suc n))) phase
-          (step First wait) in (
-            last-report entries r First n d.1.0,
-            d.1.1,
-            last-report entries r (counts_from r First) n d.0.0,
-            subst (λ t. WaitsUntil (d.0.0.moment + t * 1_000_000_000) now
-                (reply_of wait.entry.reply)
-                (keyset.accepted_reply (keyset.Wait r First now))) (sym d.1.1)
-                (whole n r false ttl now phase within d.0 wait.made wait.made_is (mo First wait)
-                (set_at (suc n)) First
-                (reply_of wait.entry.reply) refl in_phase),
-          )
-      by Second wait phase =
-          let d = (clocks n within).data_of r (CacheExpire2 ttl) phase in
-          let in_phase : keyset.StepBy
-          (waits.wait_in_phase r Second (Some ttl) now (set_at n).keys) (set_at n)
-          (keyset.Wait r Second now) (reply_of wait.entry.reply) (set_at (suc n)) =
-          subst (λ o. keyset.StepBy
-          (waits.wait_in_phase r Second (ttl_in Second o) now (set_at n).keys)
-          (set_at n) (keyset.Wait r Second now) (reply_of wait.entry.reply)
-          (set_at (suc n))) phase (step Second wait) in (
-            last-report entries r Second n d.1.0,
-            d.1.1,
-            last-report entries r (counts_from r Second) n d.0.0,
-            subst (λ t. WaitsUntil (d.0.0.moment + t * 1_000_000_000) now
-                (reply_of wait.entry.reply)
-                (keyset.accepted_reply (keyset.Wait r Second now))) (sym d.1.1)
-                (whole n r true ttl now phase within d.0 wait.made wait.made_is (mo Second wait)
-                (set_at (suc n)) Second
-                (reply_of wait.entry.reply) refl in_phase),
-          )
+      ttl_of : (h : Half) → ttl_in h (Some (cache_expire h ttl)) ≡ Some ttl
+      ttl_of First = refl
+      ttl_of Second = refl
 
 -- each wait in its phase lasts exactly as long as its report says
 pub waits-exactly : (name : List ℕ) (calls : List Call) (entries : List Entry)

@@ -1,6 +1,6 @@
 -- A walk over the map lends its entries.
-use Rattle.std.proofs.Common.{◌≡◌, ◌++◌, ◌∷◌, ◌∙◌, List, [], map, Some, sym, ap, subst}
-use Rattle.std.proofs.Common.{Bor, String, string_bytes}
+use Rattle.std.proofs.Common.{◌≡◌, ◌++◌, ◌∷◌, ◌∙◌, List, [], map, Some, sym, ap, subst, Bor, String}
+use Rattle.std.proofs.Common.{string_bytes}
 use Rattle.std.specs.HashMap as hash
 use Rattle.std.specs.List.{All}
 use Rattle.std.specs.Global.{Global}

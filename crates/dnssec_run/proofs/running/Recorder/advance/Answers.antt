@@ -5,25 +5,15 @@ use Rattle.std.specs.BTreeMap as tree
 use Rattle.dnssec_run.specs.declared.record.Published.{Published}
 use Rattle.dnssec_run.specs.Published.{IsPublished, World}
 use Rattle.dnssec_run.specs.Record.{IsEntry, world_at, world_after}
-use Rattle.dnssec_run.specs.Recorder.{Agrees, ChangesOnly, IsOutcome, TellsOutcome}
+use Rattle.dnssec_run.specs.Recorder.{Agrees, ChangesOnly, IsOutcome, Leaves, TellsOutcome}
 use Rattle.dnssec_run.proofs.Grow.{run_more, world_more}
 use Rattle.dnssec_run.proofs.Next.{changes-only, entry-of}
 use Rattle.dnssec_run.proofs.running.Recorder.advance.Goals as goal
 
--- the sets are renewed, or they are those of before
-renewed-or-kept : (new old : Published) (w v : World) (b changed : Bool)
-    → (b ≡ true → IsPublished new v) → (b ≡ false → changed ≡ false)
-    → (changed ≡ false → new ≡ old)
-    → (b ≡ false → (sets : Published) → IsPublished sets w → IsPublished sets v)
-    → IsPublished old w → IsPublished new v
-renewed-or-kept new old w v true changed read calm kept stays was = read refl
-renewed-or-kept new old w v false changed read calm kept stays was =
-    subst (λ sets. IsPublished sets v) (sym (kept (calm refl))) (stays refl old was)
-
 pub returns-clause-ok : goal.returns-clause-ok
 returns-clause-ok c name calls entries e tells same so =
     let x = c.args.call in
-    let o = c.in_ok-outcome.outcome in
+    let o = c.in_ok-made.made.0 in
     let tells : TellsOutcome e o =
     record { reply = tells.reply; mark = tells.mark; moment = tells.moment } in
     let here : c.in-Some.at ≡ suc (length calls) =
@@ -34,17 +24,17 @@ returns-clause-ok c name calls entries e tells same so =
     (λ i. world_after (here i) before x (sym tells.reply i)) in
     let agrees : Agrees c.advance.new.keyset (tree.get_by_text c.advance.new.added) after =
     subst (Agrees c.advance.new.keyset (tree.get_by_text c.advance.new.added)) reached
-    (c.in_ok-outcome.ensures.next before so.agrees) in
+    (c.in_ok-made.ensures.next before so.agrees) in
     let is : IsOutcome before after x o =
     subst (λ w. IsOutcome before w x o) reached
-    (c.in_ok-outcome.ensures.outcome before so.agrees) in
+    (c.in_ok-made.ensures.outcome before so.agrees) in
+    let leaves : Leaves c.in_ok-made.made.1 before after =
+    subst (Leaves c.in_ok-made.made.1 before) reached
+    (c.in_ok-made.ensures.leaves before so.agrees) in
     let shown : IsPublished c.renew.new.sets after =
-    renewed-or-kept c.renew.new.sets c.args.self.now.published before after o.may_publish
-    c.in_ok-outcome-2.field-0
-    (λ t. c.in_ok-outcome-2.ensures.read t before after so.published
+    c.in_ok-outcome.ensures.read before after so.published leaves
     (subst (λ r. ChangesOnly r before after) (sym c.reference_set-set_by_hand.ensures)
-    (changes-only (suc (length calls)) before x e.reply)) agrees)
-    c.in_ok-outcome-2.ensures.calm c.in_ok-outcome-2.ensures.kept is.kept so.published in
+    (changes-only (suc (length calls)) before x e.reply)) agrees in
     let ok : IsEntry before after x e =
     entry-of before after x o e c.renew.new.sets is tells same shown in
     let count : length (calls ++ x ∷ []) ≡ suc (length calls) =

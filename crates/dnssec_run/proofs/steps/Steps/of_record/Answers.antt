@@ -1,6 +1,6 @@
 -- Each entry is a step of one roll, or of none.
-use Rattle.std.proofs.Common.{◌≡◌, ℕ, suc, ◌+◌, ◌≤◌, sym, ◌∙◌, ap, refl, subst, arith}
-use Rattle.std.proofs.Common.{List, length, Option, None, Some}
+use Rattle.std.proofs.Common.{◌≡◌, ℕ, suc, ◌+◌, ◌≤◌, sym, ◌∙◌, ap, refl, subst, arith, List, length}
+use Rattle.std.proofs.Common.{Option, None, Some}
 use Rattle.std.specs.Prelude.{if◌then◌else◌, slice_get}
 use Rattle.std.proofs.lemmas.Option.{slice_get-get_or}
 use Rattle.dnssec_key.specs.declared.roll.RollType.{RollType}
