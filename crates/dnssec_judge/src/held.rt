@@ -1,23 +1,26 @@
 //! A set as a judge holds it.
-ghost use Rattle.std.specs.Prelude.{◌≡◌, [], map, IfOk, IfErr, nat_lt, true};
+ghost use Rattle.std.specs.Prelude.{◌≡◌, ◌∷◌, ◌++◌, [], map, IfOk, IfErr, OnOk, nat_lt, true};
 ghost use Rattle.dnssec_base.specs.declared.error.Error.TheVariants.{OutOfMemory};
 ghost use Rattle.dnssec_run.specs.Published.{id_of};
 ghost use Rattle.dnssec_judge.specs.Inner.Chained.{is_none};
 ghost use Rattle.dnssec_judge.specs.Inner.Window.{keys_hold, parts_of, set_of_held, zone_holds};
 
-use crate::shared::{
-    Found, SharedKey, Trust, are_same, share_all, share_keys, test_keys, test_zone,
-};
+use crate::list::KeyList;
+use crate::sharing::share_list;
+use crate::trust::{Found, Trust, test};
 use dnssec_keyset::Error;
 use dnssec_run::PublishedKey;
 use std::alloc::Global;
+
+/// Up to this many sets a window grows by one, since few rolls need more; then twofold.
+const ONE_BY_ONE: usize = 4;
 
 /// A set of keys, with its signers if it is a DNSKEY set. It is held once for all positions of a
 /// window that publish it.
 #[derive(Debug, Drop)]
 pub(crate) struct Held {
-    pub(crate) keys: Vec<SharedKey>,
-    pub(crate) signers: Vec<SharedKey>,
+    pub(crate) keys: KeyList,
+    pub(crate) signers: KeyList,
     /// Since this position caches may hold it without a break.
     pub(crate) since: usize,
     /// The last position at which it was published, but not at the one before.
@@ -28,34 +31,36 @@ pub(crate) struct Held {
 
 impl Held {
     /// No keys, as at position 0.
-    pub(crate) fn none(alloc: Global) -> Self
+    pub(crate) fn none() -> Self
         ensures set { set_of_held result ≡ ([], []) }
         ensures last { result.last ≡ 0 }
     {
         Held {
-            keys: Vec::new(alloc),
-            signers: Vec::new(alloc),
+            keys: KeyList::Empty,
+            signers: KeyList::Empty,
             since: 0,
             last: 0,
             sum: 0,
         }
     }
 
-    /// The set of a position, with its sum. Keys that it has in common with another set are shared.
+    /// The set of a position, with its sum. What it has in common with the set before it is shared.
     pub(crate) fn new(
         alloc: Global,
         at: usize,
         keys: &[PublishedKey],
         signers: &[PublishedKey],
         sum: usize,
-        before: &[SharedKey],
+        before: Option<&Held>,
     ) -> Result<Self, Error>
         ensures ok { IfOk result (λ h. (set_of_held h ≡ (map id_of keys.now, map id_of signers.now))
             × (h.since ≡ at) × (h.last ≡ at)) }
         ensures err { IfErr result (λ e. e ≡ OutOfMemory) }
     {
-        let keys = share_keys(alloc, keys, before)?;
-        let signers = share_keys(alloc, signers, &keys)?;
+        let none = Held::none();
+        let before = before.unwrap_or(&none);
+        let keys = share_list(alloc, keys, &before.keys, &before.keys)?;
+        let signers = share_list(alloc, signers, &before.signers, &keys)?;
         Ok(Held {
             keys,
             signers,
@@ -71,8 +76,8 @@ impl Held {
         ensures err { IfErr result (λ e. e ≡ OutOfMemory) }
     {
         Ok(Held {
-            keys: share_all(alloc, &self.keys)?,
-            signers: share_all(alloc, &self.signers)?,
+            keys: self.keys.try_clone(alloc)?,
+            signers: self.signers.try_clone(alloc)?,
             since: self.since,
             last: self.last,
             sum: self.sum,
@@ -87,7 +92,7 @@ impl Held {
         if self.sum != sum {
             return false;
         }
-        are_same(&self.keys, keys) && are_same(&self.signers, signers)
+        self.keys.is(keys) && self.signers.is(signers)
     }
 
     /// Whether it has no keys.
@@ -113,6 +118,7 @@ impl Held {
 
     /// Whether it is a DS set with no key, or one of its keys is in the DNSKEY set and signs it.
     /// The key of the test before is tried first.
+    #[inline(always)]
     pub(crate) fn trusts_keys_of<'a>(
         &'a self,
         dnskey: &Held,
@@ -126,15 +132,16 @@ impl Held {
                 by: before,
             };
         }
-        test_keys(&self.keys, &dnskey.keys, &dnskey.signers, before)
+        test(&self.keys, &dnskey.keys, Some(&dnskey.signers), before)
     }
 
     /// Whether one of its keys, as those of a DNSKEY set, signs the zone. The key of the test
     /// before is tried first.
+    #[inline(always)]
     pub(crate) fn trusts_signers<'a>(&self, zone: &'a Held, before: Option<Found<'a>>) -> Trust<'a>
         ensures { result.holds ≡ zone_holds (set_of_held self.now) (set_of_held zone.now) }
     {
-        test_zone(&self.keys, &zone.keys, before)
+        test(&zone.keys, &self.keys, None, before)
     }
 }
 
@@ -152,4 +159,18 @@ pub(crate) fn clone_sets(alloc: Global, sets: &[Held]) -> Result<Vec<Held>, Erro
         }
     }
     Ok(copies)
+}
+
+/// Adds a set to those of a window.
+pub(crate) fn add_set(sets: &mut Vec<Held>, held: Held) -> Result<(), Error>
+    ensures items { OnOk result (sets.new.items ≡ sets.old.items ++ held ∷ []) }
+    ensures err { IfErr result (λ e. e ≡ OutOfMemory) }
+{
+    if sets.len() < ONE_BY_ONE && sets.reserve_exact(1).is_err() {
+        return Err(Error::OutOfMemory);
+    }
+    match sets.push(held) {
+        Ok(()) => Ok(()),
+        Err(_) => Err(Error::OutOfMemory),
+    }
 }

@@ -1,29 +1,24 @@
-//! Keys that the sets of a judge share, and tests of lists of them.
-ghost use Rattle.std.specs.Prelude.{◌≡◌, ◌<◌, ◌≤◌, length, map, IfOk, IfErr, IfSome};
-ghost use Rattle.std.specs.Prelude.{true, false};
+//! Keys that the sets of a judge share.
+ghost use Rattle.std.specs.Prelude.{◌≡◌, map, true, IfOk, IfErr};
 ghost use Rattle.dnssec_base.specs.declared.error.Error.TheVariants.{OutOfMemory};
 ghost use Rattle.dnssec_run.specs.Published.{id_of};
-ghost use Rattle.dnssec_judge.specs.Inner.Chained.{IsInOrder, is_in, same_id, shared_id};
-ghost use Rattle.dnssec_judge.specs.Inner.Chained.{trusts_keys, trusts_zone};
+ghost use Rattle.dnssec_judge.specs.Inner.Chained.{same_id, shared_id};
 
 use dnssec_keyset::Error;
 use dnssec_run::PublishedKey;
 use std::alloc::Global;
 use std::sync::Arc;
 
-/// Lists of at most this many keys are read from front to end.
-const SHORT: usize = 8;
-
 /// A key of a record, which the sets that have it share. Those of a judge and of its copy share it
 /// too, and these may be in two threads.
 #[derive(Debug, Drop, PartialEq)]
 pub(crate) struct SharedKey {
-    key: Arc<PublishedKey>,
+    pub(crate) key: Arc<PublishedKey>,
 }
 
 impl SharedKey {
     /// A key of its own, with a copy of the reference.
-    fn new(alloc: Global, key: &PublishedKey) -> Result<Self, Error>
+    pub(crate) fn new(alloc: Global, key: &PublishedKey) -> Result<Self, Error>
         ensures ok { IfOk result (λ shared. shared_id shared ≡ id_of key.now) }
         ensures err { IfErr result (λ e. e ≡ OutOfMemory) }
     {
@@ -38,7 +33,7 @@ impl SharedKey {
     }
 
     /// The same key, for one set more.
-    fn share(&self) -> Result<Self, Error>
+    pub(crate) fn share(&self) -> Result<Self, Error>
         ensures ok { IfOk result (λ shared. shared_id shared ≡ shared_id self.now) }
         ensures err { IfErr result (λ e. e ≡ OutOfMemory) }
     {
@@ -49,7 +44,7 @@ impl SharedKey {
     }
 
     /// Whether it is this key.
-    fn is(&self, key: &PublishedKey) -> bool
+    pub(crate) fn is(&self, key: &PublishedKey) -> bool
         ensures { result ≡ same_id (shared_id self.now) (id_of key.now) }
     {
         *self.key == *key
@@ -151,295 +146,4 @@ pub(crate) fn are_same(shared: &[SharedKey], keys: &[PublishedKey]) -> bool
         rest = others;
     }
     rest.is_empty()
-}
-
-/// Whether a list has the key. It is first looked for at its place: the lists of a run are in
-/// order, but those of another record may not be.
-fn is_in(keys: &[SharedKey], key: &SharedKey) -> bool
-    ensures { result ≡ is_in (map shared_id keys.now) (shared_id key.now) }
-{
-    is_at_its_place(keys, key) || keys.contains(key)
-}
-
-/// Whether a search in a list that is in the order of its references finds the key. A short list is
-/// faster read from front to end.
-fn is_at_its_place(keys: &[SharedKey], key: &SharedKey) -> bool
-    ensures short { length keys.now ≤ 8 → result ≡ false }
-    ensures sorted { 8 < length keys.now → IsInOrder keys.now →
-        result ≡ is_in (map shared_id keys.now) (shared_id key.now) }
-    ensures found { result ≡ true → is_in (map shared_id keys.now) (shared_id key.now) ≡ true }
-{
-    if keys.len() <= SHORT {
-        return false;
-    }
-    match keys.binary_search_by(|other| other.key.reference.cmp(&key.key.reference)) {
-        Ok(place) => keys[place] == *key,
-        Err(_) => false,
-    }
-}
-
-/// Whether a search finds the key in a list: in a short one, or at its place. In a list that isn't
-/// in order a key may stand elsewhere.
-fn is_found(keys: &[SharedKey], key: &SharedKey) -> bool
-    ensures { result ≡ true → is_in (map shared_id keys.now) (shared_id key.now) ≡ true }
-{
-    if keys.len() <= SHORT {
-        is_in(keys, key)
-    } else {
-        is_at_its_place(keys, key)
-    }
-}
-
-/// A key by which two sets hold, and where it stands in them: in the DS set or among the zone
-/// signers, in the DNSKEY set, and among the signers of that. In the next set it stands near.
-#[derive(Clone, Copy)]
-pub(crate) struct Found<'a> {
-    key: &'a SharedKey,
-    first: usize,
-    dnskey: usize,
-    signers: usize,
-}
-
-impl<'a> Found<'a> {
-    /// A key of which no place is known.
-    fn new(key: &'a SharedKey) -> Self {
-        Found {
-            key,
-            first: 0,
-            dnskey: 0,
-            signers: 0,
-        }
-    }
-
-    /// The same key, if a search finds it in the DS set, in the DNSKEY set and among its signers.
-    fn in_keys(
-        self,
-        ds: &[SharedKey],
-        dnskey: &[SharedKey],
-        signers: &[SharedKey],
-    ) -> Option<Found<'a>>
-        ensures { IfSome result (λ found. trusts_keys (map shared_id ds.now)
-            (map shared_id dnskey.now) (map shared_id signers.now) ≡ true) }
-    {
-        let key = self.key;
-        let place = near(ds, key, self.first);
-        let dnskey_place = near(dnskey, key, self.dnskey);
-        let signers_place = near(signers, key, self.signers);
-        if !is_at(ds, key, place) {
-            return None;
-        }
-        if !is_at(dnskey, key, dnskey_place) {
-            return None;
-        }
-        if !is_at(signers, key, signers_place) {
-            return None;
-        }
-        Some(Found {
-            key,
-            first: place,
-            dnskey: dnskey_place,
-            signers: signers_place,
-        })
-    }
-
-    /// The same key, if a search finds it in the DNSKEY set and among the zone signers.
-    fn in_zone(self, dnskey: &[SharedKey], zone: &[SharedKey]) -> Option<Found<'a>>
-        ensures { IfSome result (λ found. trusts_zone (map shared_id dnskey.now)
-            (map shared_id zone.now) ≡ true) }
-    {
-        let key = self.key;
-        let place = near(zone, key, self.first);
-        let dnskey_place = near(dnskey, key, self.dnskey);
-        if !is_at(zone, key, place) {
-            return None;
-        }
-        if !is_at(dnskey, key, dnskey_place) {
-            return None;
-        }
-        Some(Found {
-            key,
-            first: place,
-            dnskey: dnskey_place,
-            signers: 0,
-        })
-    }
-}
-
-/// Whether the key stands at this place.
-fn is_at(keys: &[SharedKey], key: &SharedKey, place: usize) -> bool
-    ensures { result ≡ true → is_in (map shared_id keys.now) (shared_id key.now) ≡ true }
-{
-    match keys.get(place) {
-        Some(other) => *other == *key,
-        None => false,
-    }
-}
-
-/// Where the key should stand, if it stood at this place in another set.
-fn near(keys: &[SharedKey], key: &SharedKey, place: usize) -> usize {
-    if may_be_at(keys, key, place) {
-        return place;
-    }
-    let next = place.saturating_add(1);
-    if may_be_at(keys, key, next) {
-        return next;
-    }
-    let before = place.saturating_sub(1);
-    if may_be_at(keys, key, before) {
-        return before;
-    }
-    place_of(keys, key)
-}
-
-/// Whether the key at this place was added at the same position.
-fn may_be_at(keys: &[SharedKey], key: &SharedKey, place: usize) -> bool {
-    match keys.get(place) {
-        Some(other) => other.key.added == key.key.added,
-        None => false,
-    }
-}
-
-/// Where the key stands in a list that is in order, or else would.
-fn place_of(keys: &[SharedKey], key: &SharedKey) -> usize {
-    match keys.binary_search_by(|other| other.key.reference.cmp(&key.key.reference)) {
-        Ok(place) => place,
-        Err(place) => place,
-    }
-}
-
-/// What a test of two sets came to.
-#[derive(Clone, Copy)]
-pub(crate) struct Trust<'a> {
-    pub(crate) holds: bool,
-    /// The key that a search found, if it holds and a list is long. The next test tries it first.
-    pub(crate) by: Option<Found<'a>>,
-}
-
-/// A DS key that a search finds in the DNSKEY set and among its signers.
-fn find_trusted<'a>(
-    ds: &'a [SharedKey],
-    dnskey: &[SharedKey],
-    signers: &[SharedKey],
-) -> Option<&'a SharedKey>
-    ensures { IfSome result (λ key. trusts_keys (map shared_id ds.now) (map shared_id dnskey.now)
-        (map shared_id signers.now) ≡ true) }
-{
-    for key in ds {
-        if is_found(dnskey, key) && is_found(signers, key) {
-            return Some(key);
-        }
-    }
-    None
-}
-
-/// A zone signer that a search finds in the DNSKEY set.
-fn find_signer<'a>(dnskey: &[SharedKey], zone: &'a [SharedKey]) -> Option<&'a SharedKey>
-    ensures { IfSome result (λ key. trusts_zone (map shared_id dnskey.now)
-        (map shared_id zone.now) ≡ true) }
-{
-    for key in zone {
-        if is_found(dnskey, key) {
-            return Some(key);
-        }
-    }
-    None
-}
-
-/// The key for the next test, if a list is long. Short lists are as fast read anew.
-fn for_next<'a>(key: &'a SharedKey, one: &[SharedKey], other: &[SharedKey]) -> Option<Found<'a>> {
-    if one.len() <= SHORT && other.len() <= SHORT {
-        return None;
-    }
-    Some(Found::new(key))
-}
-
-/// Whether a DS key is in the DNSKEY set and signs it. The key of the test before is tried first:
-/// sets of neighbouring positions mostly hold by the same key. Lists are read to the end only if no
-/// search finds a key. The lists of a run are in order, so for a run this happens at most once.
-pub(crate) fn test_keys<'a>(
-    ds: &'a [SharedKey],
-    dnskey: &[SharedKey],
-    signers: &[SharedKey],
-    before: Option<Found<'a>>,
-) -> Trust<'a>
-    ensures { result.holds ≡ trusts_keys (map shared_id ds.now) (map shared_id dnskey.now)
-        (map shared_id signers.now) }
-{
-    if let Some(found) = before {
-        if let Some(again) = found.in_keys(ds, dnskey, signers) {
-            return Trust {
-                holds: true,
-                by: Some(again),
-            };
-        }
-    }
-    match find_trusted(ds, dnskey, signers) {
-        Some(key) => Trust {
-            holds: true,
-            by: for_next(key, ds, dnskey),
-        },
-        None => Trust {
-            holds: has_trusted(ds, dnskey, signers),
-            by: None,
-        },
-    }
-}
-
-/// Whether a key of the DNSKEY set signs the zone. The key of the test before is tried first.
-pub(crate) fn test_zone<'a>(
-    dnskey: &[SharedKey],
-    zone: &'a [SharedKey],
-    before: Option<Found<'a>>,
-) -> Trust<'a>
-    ensures { result.holds ≡ trusts_zone (map shared_id dnskey.now) (map shared_id zone.now) }
-{
-    if let Some(found) = before {
-        if let Some(again) = found.in_zone(dnskey, zone) {
-            return Trust {
-                holds: true,
-                by: Some(again),
-            };
-        }
-    }
-    match find_signer(dnskey, zone) {
-        Some(key) => Trust {
-            holds: true,
-            by: for_next(key, zone, dnskey),
-        },
-        None => Trust {
-            holds: has_signer(dnskey, zone),
-            by: None,
-        },
-    }
-}
-
-/// Whether a DS key is in the DNSKEY set and signs it, by reading all lists to the end.
-fn has_trusted(ds: &[SharedKey], dnskey: &[SharedKey], signers: &[SharedKey]) -> bool
-    ensures { result ≡ trusts_keys (map shared_id ds.now) (map shared_id dnskey.now)
-        (map shared_id signers.now) }
-{
-    ds.iter()
-        .any(|key| is_in(dnskey, key) && is_in(signers, key))
-}
-
-/// Whether a key of the DNSKEY set signs the zone, by reading both lists to the end.
-fn has_signer(dnskey: &[SharedKey], zone: &[SharedKey]) -> bool
-    ensures { result ≡ trusts_zone (map shared_id dnskey.now) (map shared_id zone.now) }
-{
-    zone.iter().any(|key| is_in(dnskey, key))
-}
-
-/// Whether a DS key is in the DNSKEY set and signs it.
-pub(crate) fn trusts_keys(ds: &[SharedKey], dnskey: &[SharedKey], signers: &[SharedKey]) -> bool
-    ensures { result ≡ trusts_keys (map shared_id ds.now) (map shared_id dnskey.now)
-        (map shared_id signers.now) }
-{
-    test_keys(ds, dnskey, signers, None).holds
-}
-
-/// Whether a key of the DNSKEY set signs the zone.
-pub(crate) fn trusts_zone(dnskey: &[SharedKey], zone: &[SharedKey]) -> bool
-    ensures { result ≡ trusts_zone (map shared_id dnskey.now) (map shared_id zone.now) }
-{
-    test_zone(dnskey, zone, None).holds
 }

@@ -4,8 +4,7 @@ use Rattle.std.proofs.Common.{[], ◌∷◌, length, map}
 use Rattle.std.specs.Prelude.{slice_get}
 use Rattle.dnssec_run.specs.declared.record.Entry.{Entry}
 use Rattle.dnssec_run.specs.Safe.{SetKind, position_at}
-use Rattle.dnssec_run.specs.Steps.{step_of}
-use Rattle.dnssec_run.specs.declared.steps.Steps.{Steps}
+use Rattle.dnssec_run.specs.Steps.{AreStepsOf}
 use Rattle.dnssec_judge.specs.declared.held.Held.{Held}
 use Rattle.dnssec_judge.specs.declared.judging.Judge.{Judge}
 use Rattle.dnssec_judge.specs.declared.window.Span.{Span}
@@ -112,9 +111,9 @@ pub copy-knows : (es : List Entry) (j k : Judge) → k.at ≡ j.at → k.time �
     → IsSame j.dnskey k.dnskey → IsSame j.zone k.zone → Knows es j → Knows es k
 copy-knows es j k at time steps tested found ds dnskey zone h = record {
   at = at ∙ h.at;
+  steps = subst (AreStepsOf es) (sym steps) h.steps;
   verdict = subst (IsVerdict es) (sym found) h.verdict;
   follows = λ none. (let f = h.follows (sym found ∙ none) in record {
-    steps = λ roll. ap (λ (s : Steps). step_of s roll) steps ∙ f.steps roll;
     time = time ∙ f.time;
     ds = watches-same j.ds k.ds ds es _ (length es) f.ds;
     dnskey = watches-same j.dnskey k.dnskey dnskey es _ (length es) f.dnskey;

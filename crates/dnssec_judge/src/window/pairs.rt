@@ -2,11 +2,40 @@
 ghost use Rattle.std.specs.Prelude.{◌≡◌, ◌&&◌};
 ghost use Rattle.std.specs.List.{list_all};
 ghost use Rattle.dnssec_judge.specs.Inner.Window.{begin_of, keys_hold, lasting, newly};
-ghost use Rattle.dnssec_judge.specs.Inner.Window.{set_of_held, zone_holds};
+ghost use Rattle.dnssec_judge.specs.Inner.Window.{pair_holds, set_of_held, zone_holds};
 ghost use Rattle.dnssec_judge.specs.Inner.Chained.{is_none};
 
 use super::Window;
 use crate::held::Held;
+use crate::trust::{Found, Trust};
+
+/// What a set of a window is to another set. Which two hold depends on it.
+#[derive(Clone, Copy)]
+pub(crate) enum Pair {
+    /// A DS set, which names a key that is in the DNSKEY set and signs it.
+    DsOfKeys,
+    /// A DNSKEY set, for a DS set.
+    KeysOfDs,
+    /// A DNSKEY set, for the keys that sign the zone.
+    KeysOfSigners,
+    /// The keys that sign the zone, one of them in the DNSKEY set.
+    SignersOfKeys,
+}
+
+impl Pair {
+    /// Whether the set of a window holds with the other one, which may be by the key of before.
+    #[inline(always)]
+    fn test<'a>(self, held: &'a Held, other: &'a Held, before: Option<Found<'a>>) -> Trust<'a>
+        ensures { result.holds ≡ pair_holds self (set_of_held other.now) (set_of_held held.now) }
+    {
+        match self {
+            Pair::DsOfKeys => held.trusts_keys_of(other, before),
+            Pair::KeysOfDs => other.trusts_keys_of(held, before),
+            Pair::KeysOfSigners => held.trusts_signers(other, before),
+            Pair::SignersOfKeys => other.trusts_signers(held, before),
+        }
+    }
+}
 
 impl Window {
     /// Whether no set of the window has a key.
@@ -28,7 +57,7 @@ impl Window {
     {
         let begin = self.begin();
         self.sets.iter().all(|ds| {
-            ds.has_left(begin) || ds.is_tested(tested) || dnskey.are_trusted_by(ds)
+            ds.has_left(begin) || ds.is_tested(tested) || dnskey.all_hold(Pair::KeysOfDs, ds)
         })
     }
 
@@ -44,7 +73,7 @@ impl Window {
         self.sets.iter().all(|dnskey| {
             dnskey.has_left(begin)
                 || dnskey.is_tested(tested)
-                || ds.trust_keys(dnskey) && zone.are_signers_for(dnskey)
+                || ds.all_hold(Pair::DsOfKeys, dnskey) && zone.all_hold(Pair::SignersOfKeys, dnskey)
         })
     }
 
@@ -57,77 +86,24 @@ impl Window {
     {
         let begin = self.begin();
         self.sets.iter().all(|zone| {
-            zone.has_left(begin) || zone.is_tested(tested) || dnskey.trust_zone(zone)
+            zone.has_left(begin)
+                || zone.is_tested(tested)
+                || dnskey.all_hold(Pair::KeysOfSigners, zone)
         })
     }
 
-    /// Whether each of these DNSKEY sets is trusted by the DS set.
-    fn are_trusted_by(&self, ds: &Held) -> bool
+    /// Whether each set of the window holds with the other set. It is first tested by the key by
+    /// which the one before it held.
+    #[inline(always)]
+    fn all_hold(&self, pair: Pair, other: &Held) -> bool
         ensures { result ≡ list_all (lasting (begin_of self.now.spans.items)
-            (λ q. keys_hold (set_of_held ds.now) q)) self.now.sets.items }
+            (pair_holds pair (set_of_held other.now))) self.now.sets.items }
     {
         let begin = self.begin();
         let mut by = None;
-        for dnskey in &self.sets {
-            if !dnskey.has_left(begin) {
-                let trust = ds.trusts_keys_of(dnskey, by);
-                if !trust.holds {
-                    return false;
-                }
-                by = trust.by;
-            }
-        }
-        true
-    }
-
-    /// Whether each of these DS sets trusts the DNSKEY set.
-    fn trust_keys(&self, dnskey: &Held) -> bool
-        ensures { result ≡ list_all (lasting (begin_of self.now.spans.items)
-            (λ p. keys_hold p (set_of_held dnskey.now))) self.now.sets.items }
-    {
-        let begin = self.begin();
-        let mut by = None;
-        for ds in &self.sets {
-            if !ds.has_left(begin) {
-                let trust = ds.trusts_keys_of(dnskey, by);
-                if !trust.holds {
-                    return false;
-                }
-                by = trust.by;
-            }
-        }
-        true
-    }
-
-    /// Whether each of these DNSKEY sets trusts the zone signers.
-    fn trust_zone(&self, zone: &Held) -> bool
-        ensures { result ≡ list_all (lasting (begin_of self.now.spans.items)
-            (λ q. zone_holds q (set_of_held zone.now))) self.now.sets.items }
-    {
-        let begin = self.begin();
-        let mut by = None;
-        for dnskey in &self.sets {
-            if !dnskey.has_left(begin) {
-                let trust = dnskey.trusts_signers(zone, by);
-                if !trust.holds {
-                    return false;
-                }
-                by = trust.by;
-            }
-        }
-        true
-    }
-
-    /// Whether the DNSKEY set trusts all of these zone signers.
-    fn are_signers_for(&self, dnskey: &Held) -> bool
-        ensures { result ≡ list_all (lasting (begin_of self.now.spans.items)
-            (λ z. zone_holds (set_of_held dnskey.now) z)) self.now.sets.items }
-    {
-        let begin = self.begin();
-        let mut by = None;
-        for zone in &self.sets {
-            if !zone.has_left(begin) {
-                let trust = dnskey.trusts_signers(zone, by);
+        for held in &self.sets {
+            if !held.has_left(begin) {
+                let trust = pair.test(held, other, by);
                 if !trust.holds {
                     return false;
                 }

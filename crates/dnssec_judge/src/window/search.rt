@@ -1,12 +1,14 @@
 //! The first sets without a chain, once a test has failed: the spans are searched in their order.
-ghost use Rattle.std.specs.Prelude.{◌≡◌, [], map, max};
-ghost use Rattle.dnssec_judge.specs.Inner.Chained.{is_none, shared_id, trusts_keys, trusts_zone};
-ghost use Rattle.dnssec_judge.specs.Inner.Window.{CachedSet, all_pass, first_ds, first_failing};
-ghost use Rattle.dnssec_judge.specs.Inner.Window.{first_keys, set_at_place, sets_have_chain};
+ghost use Rattle.std.specs.Prelude.{◌≡◌, max};
+ghost use Rattle.std.specs.Option.{option_copied};
+ghost use Rattle.dnssec_judge.specs.Inner.Chained.{trusts_keys};
+ghost use Rattle.dnssec_judge.specs.Inner.Window.{all_pass, first_ds, first_failing, first_keys};
+ghost use Rattle.dnssec_judge.specs.Inner.Window.{set_of_any, set_of_held, sets_have_chain};
 ghost use Rattle.dnssec_judge.specs.Inner.Window.{stretches_of, zone_holds};
 
 use super::{Span, Window};
-use crate::shared::{SharedKey, trusts_keys, trusts_zone};
+use crate::held::Held;
+use crate::trust::holds;
 use crate::verdict::Broken;
 
 impl Window {
@@ -17,7 +19,7 @@ impl Window {
     {
         let is_trusted = dnskey.trust_all(zone);
         for span in &self.spans {
-            let ds = self.keys_of(span);
+            let ds = self.held_at(span);
             if let Some(broken) = dnskey.find_for(zone, is_trusted, ds, self.start(span), at) {
                 return Some(broken);
             }
@@ -26,22 +28,42 @@ impl Window {
     }
 
     /// The first of these DNSKEY sets, with zone signers, that leaves the DS set without a chain.
-    /// There is no search if the DS set is empty, or if it trusts them all and they trust all zone
-    /// signers. So among many DS sets only the first broken one takes a search of both.
     fn find_for(
         &self,
         zone: &Window,
         is_trusted: bool,
-        ds: &[SharedKey],
+        ds: Option<&Held>,
         from: usize,
         at: usize,
     ) -> Option<Broken>
         requires { is_trusted ≡ all_pass (λ q. all_pass (λ z. zone_holds q z)
             (stretches_of zone.now)) (stretches_of self.now) }
-        ensures { (p : CachedSet) → map shared_id ds.now ≡ p.0 → result ≡ first_keys at from p
+        ensures { result ≡ first_keys at from (set_of_any (option_copied ds.entry))
             self.now.floor (stretches_of self.now) zone.now.floor (stretches_of zone.now) }
     {
-        if has_none(ds) {
+        match ds {
+            Some(ds) => self.find_with(zone, is_trusted, ds, from, at),
+            None => None,
+        }
+    }
+
+    /// The same for a DS set that there is. There is no search if it is empty, or if it trusts all
+    /// DNSKEY sets and they trust all zone signers. So among many DS sets only the first broken one
+    /// takes a search of both.
+    fn find_with(
+        &self,
+        zone: &Window,
+        is_trusted: bool,
+        ds: &Held,
+        from: usize,
+        at: usize,
+    ) -> Option<Broken>
+        requires { is_trusted ≡ all_pass (λ q. all_pass (λ z. zone_holds q z)
+            (stretches_of zone.now)) (stretches_of self.now) }
+        ensures { result ≡ first_keys at from (set_of_held ds.now)
+            self.now.floor (stretches_of self.now) zone.now.floor (stretches_of zone.now) }
+    {
+        if ds.has_no_keys() {
             return None;
         }
         if is_trusted && self.are_all_trusted(ds) {
@@ -56,7 +78,7 @@ impl Window {
             (stretches_of self.now) }
     {
         for span in &self.spans {
-            if !zone.are_all_signers(self.keys_of(span)) {
+            if !zone.are_all_signers(self.held_at(span)) {
                 return false;
             }
         }
@@ -64,12 +86,12 @@ impl Window {
     }
 
     /// Whether the DNSKEY set trusts all of these zone signers.
-    fn are_all_signers(&self, dnskey: &[SharedKey]) -> bool
-        ensures { result ≡ all_pass (λ z. trusts_zone (map shared_id dnskey.now) z.0)
+    fn are_all_signers(&self, dnskey: Option<&Held>) -> bool
+        ensures { result ≡ all_pass (λ z. zone_holds (set_of_any (option_copied dnskey.entry)) z)
             (stretches_of self.now) }
     {
         for span in &self.spans {
-            if !trusts_zone(dnskey, self.keys_of(span)) {
+            if !has_signer(dnskey, self.held_at(span)) {
                 return false;
             }
         }
@@ -77,12 +99,12 @@ impl Window {
     }
 
     /// Whether the DS set trusts each of these DNSKEY sets.
-    fn are_all_trusted(&self, ds: &[SharedKey]) -> bool
-        ensures { result ≡ all_pass (λ q. trusts_keys (map shared_id ds.now) q.0 q.1)
+    fn are_all_trusted(&self, ds: &Held) -> bool
+        ensures { result ≡ all_pass (λ q. trusts_keys (set_of_held ds.now).0 q.0 q.1)
             (stretches_of self.now) }
     {
         for span in &self.spans {
-            if !trusts_keys(ds, self.keys_of(span), self.signers_of(span)) {
+            if !has_trusted(ds, self.held_at(span)) {
                 return false;
             }
         }
@@ -90,13 +112,12 @@ impl Window {
     }
 
     /// The first of these DNSKEY sets, with zone signers, that leaves the DS set without a chain.
-    fn find_keys(&self, zone: &Window, ds: &[SharedKey], from: usize, at: usize) -> Option<Broken>
-        ensures { result ≡ first_keys at from (map shared_id ds.now, [])
+    fn find_keys(&self, zone: &Window, ds: &Held, from: usize, at: usize) -> Option<Broken>
+        ensures { result ≡ first_keys at from (set_of_held ds.now)
             self.now.floor (stretches_of self.now) zone.now.floor (stretches_of zone.now) }
     {
         for span in &self.spans {
-            let keys = self.keys_of(span);
-            if let Some(zone) = zone.find_zone(ds, keys, self.signers_of(span)) {
+            if let Some(zone) = zone.find_zone(ds, self.held_at(span)) {
                 return Some(Broken {
                     at,
                     ds: from,
@@ -109,32 +130,16 @@ impl Window {
     }
 
     /// The first zone signers that leave the other two sets without a chain.
-    fn find_zone(
-        &self,
-        ds: &[SharedKey],
-        dnskey: &[SharedKey],
-        signers: &[SharedKey],
-    ) -> Option<usize>
-        ensures { result ≡ first_failing (sets_have_chain (map shared_id ds.now, [])
-            (map shared_id dnskey.now, map shared_id signers.now)) self.now.floor
-            (stretches_of self.now) }
+    fn find_zone(&self, ds: &Held, dnskey: Option<&Held>) -> Option<usize>
+        ensures { result ≡ first_failing (sets_have_chain (set_of_held ds.now)
+            (set_of_any (option_copied dnskey.entry))) self.now.floor (stretches_of self.now) }
     {
         for span in &self.spans {
-            if !is_chained(ds, dnskey, signers, self.keys_of(span)) {
+            if !is_chained(ds, dnskey, self.held_at(span)) {
                 return Some(self.start(span));
             }
         }
         None
-    }
-
-    /// The signers of the set of a span.
-    fn signers_of(&self, span: &Span) -> &[SharedKey]
-        ensures { map shared_id result.now ≡ (set_at_place self.now.sets.items span.now.place).1 }
-    {
-        match self.sets.get(span.place) {
-            Some(held) => held.signers.as_slice(),
-            None => &[],
-        }
     }
 
     /// The first position of a span that isn't retired.
@@ -146,21 +151,41 @@ impl Window {
 }
 
 /// Whether the sets have a chain.
-fn is_chained(
-    ds: &[SharedKey],
-    dnskey: &[SharedKey],
-    signers: &[SharedKey],
-    zone: &[SharedKey],
-) -> bool
-    ensures { result ≡ sets_have_chain (map shared_id ds.now, [])
-        (map shared_id dnskey.now, map shared_id signers.now) (map shared_id zone.now, []) }
+fn is_chained(ds: &Held, dnskey: Option<&Held>, zone: Option<&Held>) -> bool
+    ensures { result ≡ sets_have_chain (set_of_held ds.now)
+        (set_of_any (option_copied dnskey.entry)) (set_of_any (option_copied zone.entry)) }
 {
-    ds.is_empty() || trusts_keys(ds, dnskey, signers) && trusts_zone(dnskey, zone)
+    ds.has_no_keys() || has_trusted(ds, dnskey) && has_signer(dnskey, zone)
 }
 
-/// Whether a set is empty.
-fn has_none(keys: &[SharedKey]) -> bool
-    ensures { result ≡ is_none (map shared_id keys.now) }
+/// Whether a key of the DS set is in the DNSKEY set and signs it.
+fn has_trusted(ds: &Held, dnskey: Option<&Held>) -> bool
+    ensures { result ≡ trusts_keys (set_of_held ds.now).0
+        (set_of_any (option_copied dnskey.entry)).0 (set_of_any (option_copied dnskey.entry)).1 }
 {
-    keys.is_empty()
+    match dnskey {
+        Some(dnskey) => holds(&ds.keys, &dnskey.keys, Some(&dnskey.signers)),
+        None => false,
+    }
+}
+
+/// Whether a key of the DNSKEY set signs the zone.
+fn has_signer(dnskey: Option<&Held>, zone: Option<&Held>) -> bool
+    ensures { result ≡ zone_holds (set_of_any (option_copied dnskey.entry))
+        (set_of_any (option_copied zone.entry)) }
+{
+    match dnskey {
+        Some(dnskey) => has_signer_in(dnskey, zone),
+        None => false,
+    }
+}
+
+/// The same for a DNSKEY set that there is.
+fn has_signer_in(dnskey: &Held, zone: Option<&Held>) -> bool
+    ensures { result ≡ zone_holds (set_of_held dnskey.now) (set_of_any (option_copied zone.entry)) }
+{
+    match zone {
+        Some(zone) => holds(&zone.keys, &dnskey.keys, None),
+        None => false,
+    }
 }
