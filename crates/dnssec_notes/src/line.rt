@@ -16,6 +16,7 @@ pub(crate) enum Word {
     Everywhere,
 }
 
+/// The word with this name.
 #[tactic(auto, unfolding(crate::specs::Lines::word_named))]
 fn word_named(name: &[u8]) -> Option<Word>
     ensures { result ≡ word_named name.now }
@@ -29,6 +30,7 @@ fn word_named(name: &[u8]) -> Option<Word>
     }
 }
 
+/// The kind of sets with this name.
 #[tactic(auto, unfolding(crate::specs::Lines::kind_named))]
 fn kind_named(name: &[u8]) -> Option<SetKind>
     ensures { result ≡ kind_named name.now }
@@ -92,6 +94,7 @@ fn read_news(word: Word, fields: Fields<'_>) -> Option<News>
     }
 }
 
+/// The fields after `published`.
 fn published(fields: Fields<'_>) -> Option<News>
     ensures { option_map news_says result ≡ news_after Word.Published fields.entry }
 {
@@ -106,6 +109,7 @@ fn published(fields: Fields<'_>) -> Option<News>
     })
 }
 
+/// The field after `everywhere`.
 fn everywhere(fields: Fields<'_>) -> Option<News>
     ensures { option_map news_says result ≡ news_after Word.Everywhere fields.entry }
 {
@@ -127,6 +131,7 @@ pub(crate) fn read_before(line: &[u8]) -> Option<Before>
     }
 }
 
+/// The fields after `before`.
 fn before(fields: Fields<'_>) -> Option<Before>
     ensures { option_map before_says result ≡ values_of before_forms fields.entry }
 {

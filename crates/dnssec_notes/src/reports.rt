@@ -1,12 +1,12 @@
 //! The reports that are due, as lines.
 ghost use Rattle.std.specs.Prelude.{◌≡◌, ◌++◌, ◌*◌, ℕ, IfOk, OnOk, codes, decimal, string_bytes};
 ghost use Rattle.std.specs.List.{flat_map};
-ghost use Rattle.dnssec_key.specs.Texts.{roll_name};
 ghost use Rattle.dnssec_run.specs.Steps.{step_of};
 ghost use Rattle.dnssec_notes.specs.Due.{due_line, due_text, line_for, report_of, report_word};
 ghost use Rattle.dnssec_notes.specs.Due.{ttl_line};
 
 use crate::line::kind_name;
+use dnssec_key::roll_name;
 use dnssec_keyset::{KeySet, RollType, UnixTime};
 use dnssec_network::{DueReport, Notes, Steps};
 use std::alloc::{AllocError, Global};
@@ -47,6 +47,7 @@ pub fn due_lines(
     Ok(text)
 }
 
+/// Writes a line for each roll that waits for a report.
 fn push_lines(
     text: &mut String,
     rolls: &[RollType],
@@ -67,6 +68,7 @@ fn push_lines(
     Ok(())
 }
 
+/// Writes the line of a report, if one is due or waited for.
 fn push_line(text: &mut String, report: &Option<DueReport>, seconds: u64) -> Result<(), AllocError>
     ensures { OnOk result (string_bytes text.new
         ≡ string_bytes text.old ++ due_line report.now seconds) }
@@ -77,6 +79,7 @@ fn push_line(text: &mut String, report: &Option<DueReport>, seconds: u64) -> Res
     }
 }
 
+/// Writes a report that is due, or what it still waits for.
 fn push_report(text: &mut String, report: &DueReport, seconds: u64) -> Result<(), AllocError>
     ensures { OnOk result (string_bytes text.new ≡ string_bytes text.old
         ++ ttl_line report.now.second report.now.roll report.now.ttl seconds) }
@@ -100,6 +103,7 @@ fn push_report(text: &mut String, report: &DueReport, seconds: u64) -> Result<()
     }
 }
 
+/// Writes the word of a report and its roll.
 fn push_call(text: &mut String, second: bool, roll: RollType) -> Result<(), AllocError>
     ensures { OnOk result (string_bytes text.new ≡ string_bytes text.old ++ report_of second roll) }
 {
@@ -108,27 +112,16 @@ fn push_call(text: &mut String, second: bool, roll: RollType) -> Result<(), Allo
     text.push_str(roll_name(roll))
 }
 
+/// Writes a number in decimal.
 fn push_number(text: &mut String, number: u64) -> Result<(), AllocError>
     ensures { OnOk result (string_bytes text.new ≡ string_bytes text.old ++ decimal number) }
 {
     write!(text, "{number}")
 }
 
+/// The word of a report.
 fn report_word(second: bool) -> &'static str
     ensures { result.now ≡ report_word second }
 {
     if second { "report2" } else { "report1" }
-}
-
-fn roll_name(roll: RollType) -> &'static str
-    ensures { result.now ≡ roll_name roll }
-{
-    match roll {
-        RollType::KskRoll => "ksk-roll",
-        RollType::KskDoubleDsRoll => "ksk-double-ds-roll",
-        RollType::ZskRoll => "zsk-roll",
-        RollType::ZskDoubleSignatureRoll => "zsk-double-signature-roll",
-        RollType::CskRoll => "csk-roll",
-        RollType::AlgorithmRoll => "algorithm-roll",
-    }
 }

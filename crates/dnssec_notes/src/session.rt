@@ -66,13 +66,12 @@ impl SessionNotes {
         }
     }
 
+    /// These notes, in a box.
     fn with(alloc: Global, notes: Notes) -> Result<Self, AllocError>
         ensures { IfOk result (λ kept. kept ≡ Some notes) }
     {
-        match Box::new(alloc, notes) {
-            Ok(notes) => Ok(SessionNotes { notes: Some(notes) }),
-            Err(_) => Err(AllocError),
-        }
+        let notes = Box::new(alloc, notes)?;
+        Ok(SessionNotes { notes: Some(notes) })
     }
 
     /// Takes the next line of the notes, after the calls that the session has made so far. The

@@ -9,9 +9,9 @@
 -- | `zone`, `zone_name`         | `zone_found`, `spelled_utf8`     | Zone               |
 -- | `Lines::next`               | `cut_at`, `no_cut`               | Cuts               |
 -- | `read_statements`           | `one_read`, `first_silent`       | Reading            |
--- | `calls_of`                  | `made_more`, `one_said`          | Reading            |
+-- | `recorded`                  | `one_recorded`, `all_recorded`   | Running            |
 -- | `read_script`               | `line_next`, `spell_each`        | Judging            |
--- | `answer`                    | `one_more`, `all_answered`       | Running            |
+-- | `answer`                    | `one_more`, `all_answered`       | Running, Taken     |
 -- | `run_script`, `well_formed` | `of_input`, `never_fault`        | Answering, Judging |
 -- | `run_script`, `begun`       | `begins`                         | Answering          |
 -- | `run_script`, `safe`        | `stays-safe`                     | Ending             |
@@ -23,9 +23,10 @@ pub mod Rolls
 pub mod Algorithms
 pub mod Texts
 pub mod Reading
+pub mod Taken
+pub mod Making
 pub mod Running
 pub mod Kept
-pub mod Counted
 pub mod Sessions
 pub mod Judging
 pub mod Answering

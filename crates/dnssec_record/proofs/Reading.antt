@@ -1,11 +1,11 @@
 -- The lines of a script, one after another: what is kept of each, its end, and its calls.
 use Rattle.std.proofs.Common.{◌≡◌, ◌≢◌, ℕ, ◌+◌, ◌<◌, ◌==◌, if◌then◌else◌, Bool, true, false, Option}
-use Rattle.std.proofs.Common.{Some, None, is_some, List, [], ◌∷◌, ◌++◌, Bor, map, length, take}
+use Rattle.std.proofs.Common.{Some, None, is_some, List, [], ◌∷◌, ◌++◌, Bor, map, length}
 use Rattle.std.proofs.Common.{zero, suc, get_or, refl, sym, ap, ◌∙◌, arith, append_assoc}
 use Rattle.std.proofs.Common.{append-nil}
 use Rattle.std.proofs.lemmas.Bool.Decides.{nat_tests}
 use Rattle.std.specs.Option.{option_map}
-use Rattle.std.proofs.lemmas.List.{map_more, map-append}
+use Rattle.std.proofs.lemmas.List.{map-append}
 use Rattle.dnssec_run.specs.declared.call.Call.{Call}
 use Rattle.dnssec_record.specs.Script.{Value, call_says, first_field, says, without_end}
 use Rattle.dnssec_record.specs.Inner.Statement.{statement_says}
@@ -150,19 +150,10 @@ line_none found (line ∷ lines) read is =
     apart : (x : List ℕ × List (List ℕ)) → None ≡ Some x → ⊥
     apart x e = cc
 
--- what the statements say, with one more, whose call was made
-pub one_said : (ss : List Statement) (s : Statement) (i : ℕ) (call : Call) → i < length ss
-    → s ≡ get_or ss i s → call_says call ≡ statement_says s
-    → map statement_says (take (i + 1) ss) ≡ map statement_says (take i ss) ++ call_says call ∷ []
-one_said ss s i call within is same =
-    map_more statement_says ss i s within
-    ∙ ap (λ v. map statement_says (take i ss) ++ v ∷ []) (sym (same ∙ ap statement_says is))
-
--- one call more
-pub made_more : (calls grown : List Call) (call : Call) (before now : List Statement)
-    → map call_says calls ≡ map statement_says before → grown ≡ calls ++ call ∷ []
-    → map statement_says now ≡ map statement_says before ++ call_says call ∷ []
-    → map call_says grown ≡ map statement_says now
-made_more calls grown call before now made grows one =
-    ap (map call_says) grows ∙ map-append call_says calls (call ∷ [])
-    ∙ ap (λ t. t ++ call_says call ∷ []) made ∙ sym one
+-- one more statement, whose call was made
+pub made_more : (calls : List Call) (call : Call) (ss : List Statement) (s : Statement)
+    → map call_says calls ≡ map statement_says ss → call_says call ≡ statement_says s
+    → map call_says (calls ++ call ∷ []) ≡ map statement_says (ss ++ s ∷ [])
+made_more calls call ss s made is =
+    map-append call_says calls (call ∷ []) ∙ ap (λ t. t ++ call_says call ∷ []) made
+    ∙ ap (λ v. map statement_says ss ++ v ∷ []) is ∙ sym (map-append statement_says ss (s ∷ []))

@@ -11,8 +11,10 @@ use Rattle.dnssec_run.specs.declared.record.Outcome.{Outcome}
 use Rattle.dnssec_run.specs.declared.record.Published.{Published}
 use Rattle.dnssec_run.specs.declared.record.PublishedKey.{PublishedKey}
 use Rattle.dnssec_run.specs.declared.running.Recorder.{Recorder}
+use Rattle.dnssec_keyset.specs.KeySet.{KeySetParts}
 use Rattle.dnssec_run.specs.Published.{id_of}
-use Rattle.dnssec_run.specs.Recorder.{HasSameKeys, Records, TellsOutcome}
+use Rattle.dnssec_run.specs.Record.{world_at}
+use Rattle.dnssec_run.specs.Recorder.{Records}
 use Rattle.dnssec_run.specs.Safe.{SetKind, Ds, Dnskey, ZoneSigners, position_at, position_of}
 use Rattle.dnssec_run.proofs.Grow.{at_end}
 use Rattle.dnssec_run.proofs.Recorded.{last-ds, last-dnskey, last-signers, last-zone}
@@ -21,13 +23,13 @@ use Rattle.dnssec_judge.specs.declared.verdict.Broken.{Broken}
 use Rattle.dnssec_judge.specs.Judge.{ComesNext, Knows}
 use Rattle.dnssec_judge.specs.Verdict.{IsVerdict}
 use Rattle.dnssec_judge.specs.Inner.Window.{GoesOnWith, set_at, set_in}
-use Rattle.dnssec_record.specs.Answer.{IsAnswerOf}
+use Rattle.dnssec_record.specs.Answer.{IsAnswerOf, IsRunOf}
 use Rattle.dnssec_record.specs.Output.{answers, chain_line, published_text, reply_text, set_line}
 use Rattle.dnssec_record.specs.Output.{set_text, sets_text}
 use Rattle.dnssec_record.proofs.Reading.{made_more}
 use Rattle.dnssec_record.specs.Inner.Reading.{IsOfStatements}
 use Rattle.dnssec_record.specs.Script.{call_says}
-use Rattle.dnssec_record.specs.Inner.Statement.{statement_says}
+use Rattle.dnssec_record.specs.Inner.Statement.{Makes, MakesEntry, statement_says}
 use Rattle.dnssec_record.specs.declared.statement.Statement.{Statement}
 
 -- the calls of the statements so far have these answers; what is kept of their entries is what the
@@ -130,25 +132,20 @@ next_comes name calls entries r s outcome e news b so mark moment sets may kept 
         ∙ last_held name calls entries r so kind
 
 -- one more call
-pub one_more : (name : List ℕ) (past now : List Statement) (text after : List ℕ)
-    (r s : Recorder) (j k : Judge) (call : Call) (outcome : Outcome) (news : Option Published)
-    → HasAnswered name past text r j
-    → map statement_says now ≡ map statement_says past ++ call_says call ∷ []
-    → ((name : List ℕ) (calls : List Call) (entries : List Entry) (e : Entry)
-    → TellsOutcome e outcome → HasSameKeys e.published s.published → Records name calls entries r
-    → Records name (calls ++ call ∷ []) (entries ++ e ∷ []) s)
-    → (outcome.may_publish ≡ false → s.published ≡ r.published)
-    → news ≡ (if outcome.may_publish then Some s.published else None)
+pub one_more : (name : List ℕ) (past : List Statement) (s : Statement) (text after : List ℕ)
+    (r q : Recorder) (j k : Judge) (outcome : Outcome) (news : Option Published)
+    → HasAnswered name past text r j → Makes (statement_says s) r q outcome
+    → news ≡ (if outcome.may_publish then Some q.published else None)
     → ((entries : List Entry) (e : Entry) → ComesNext entries e outcome.mark outcome.moment news
     → Knows entries j → Knows (entries ++ e ∷ []) k)
     → after ≡ text ++ reply_text outcome.reply ++ codes "\n"
-    → HasAnswered name now after s k
-one_more name past now text after r s j k call outcome news so one made kept handed judged wrote =
+    → HasAnswered name (past ++ s ∷ []) after q k
+one_more name past s text after r q j k outcome news so made handed judged wrote =
     let e : Entry = record {
       reply = outcome.reply;
       moment = outcome.moment;
       mark = outcome.mark;
-      published = s.published;
+      published = q.published;
     } in
     let line = λ (e : Entry). reply_text e.reply ++ codes "\n" in
     let more : answers so.entries ++ line e ≡ answers (so.entries ++ e ∷ []) =
@@ -157,17 +154,16 @@ one_more name past now text after r s j k call outcome news so one made kept han
     wrote ∙ append_assoc text (reply_text e.reply) (codes "\n")
     ∙ ap (λ t. t ++ line e) so.text_is in
     record {
-      calls = so.calls ++ call ∷ [];
-      are_calls = made_more so.calls _ call past now so.are_calls refl one;
+      calls = so.calls ++ made.call ∷ [];
+      are_calls = made_more so.calls made.call past s so.are_calls made.is_call;
       entries = so.entries ++ e ∷ [];
-      records = made name so.calls so.entries e
+      records = made.records name so.calls so.entries e
           (record { reply = refl; mark = refl; moment = refl })
           (record { ds = refl; dnskey = refl; dnskey_signers = refl; zone_signers = refl })
           so.records;
       knows = judged so.entries e
-          (next_comes name so.calls so.entries r s outcome e news outcome.may_publish so.records
-          refl
-          refl refl refl kept handed) so.knows;
+          (next_comes name so.calls so.entries r q outcome e news outcome.may_publish so.records
+          refl refl refl refl made.kept handed) so.knows;
       text_is = text_is ∙ more;
       sets_are = ap sets_text (last_of so.entries e);
     }
@@ -193,3 +189,45 @@ all_answered script name statements text sets whole r j verdict is so judged sho
       is_verdict = judged so.entries so.knows;
       is_output = wrote ∙ ap (λ t. t ++ chain_line verdict) front;
     }
+
+-- ---- a run whose entries are kept
+
+-- the calls of the statements so far have these entries
+pub record HasRecorded (name : List ℕ) (statements : List Statement) (entries : List Entry)
+    (r : Recorder) : Type 0 where
+  pub calls : List Call
+  pub are_calls : map call_says calls ≡ map statement_says statements
+  pub records : Records name calls entries r
+
+pub none_recorded : (name : List ℕ) (entries : List Entry) (r : Recorder) → entries ≡ []
+    → Records name [] [] r → HasRecorded name [] entries r
+none_recorded name entries r none records = record {
+  calls = [];
+  are_calls = refl;
+  records = subst (λ es. Records name [] es r) (sym none) records;
+}
+
+-- one more call
+pub one_recorded : (name : List ℕ) (past : List Statement) (s : Statement)
+    (entries grown : List Entry) (e : Entry) (r q : Recorder) → HasRecorded name past entries r
+    → MakesEntry (statement_says s) r q e → grown ≡ entries ++ e ∷ []
+    → HasRecorded name (past ++ s ∷ []) grown q
+one_recorded name past s entries grown e r q so made grows = record {
+  calls = so.calls ++ made.call ∷ [];
+  are_calls = made_more so.calls made.call past s so.are_calls made.is_call;
+  records = subst (λ es. Records name (so.calls ++ made.call ∷ []) es q) (sym grows)
+      (made.records name so.calls entries so.records);
+}
+
+-- all statements of a script
+pub all_recorded : (script name : List ℕ) (statements : List Statement) (entries : List Entry)
+    (r : Recorder) (set : KeySetParts) → IsOfStatements script name statements
+    → HasRecorded name statements entries r → set ≡ r.keyset → IsRunOf script set entries
+all_recorded script name statements entries r set is so same = record {
+  name = name;
+  calls = so.calls;
+  is_script = is so.calls so.are_calls;
+  is_run = so.records.run;
+  is_set = same ∙ so.records.agrees.same
+      ∙ ap (λ n. (world_at name so.calls entries n).set) (sym so.records.run.count);
+}

@@ -1,6 +1,6 @@
 -- A session whose calls are handed in one by one.
 use Rattle.std.proofs.Common.{◌≡◌, ℕ, List, [], ◌∷◌, ◌++◌, Option, None, Some, refl, sym, ◌∙◌}
-use Rattle.std.proofs.Common.{ap, Bool, true, false, length, map, subst, fold, suc, arith}
+use Rattle.std.proofs.Common.{ap, false, length, map, fold, arith}
 use Rattle.std.proofs.lemmas.List.Sums.{fold-append}
 use Rattle.std.specs.List.{flat_map}
 use Rattle.std.specs.Prelude.{codes, if◌then◌else◌, string_bytes}
@@ -16,10 +16,12 @@ use Rattle.dnssec_judge.specs.Judge.{ComesNext, Knows}
 use Rattle.dnssec_record.specs.Courses.{Listed, as_listed, ended_after, ended_by, listed_after}
 use Rattle.dnssec_record.specs.Courses.{listed_by, turn_after, turn_of, turns}
 use Rattle.dnssec_record.specs.Output.{published_text, reply_text, set_text, sets_text}
-use Rattle.dnssec_record.specs.Script.{AreLinesOf, AreScript, IsLineOf, IsZoneLine, call_says, says}
+use Rattle.dnssec_record.specs.Script.{AreLinesOf, AreScript, IsLineOf, IsZoneLine, Value}
+use Rattle.dnssec_record.specs.Script.{call_says, says}
+use Rattle.dnssec_record.specs.declared.words.Word.{Word}
 use Rattle.dnssec_record.specs.Inner.Reading.{IsOfStatements}
-use Rattle.dnssec_record.specs.Inner.Statement.{statement_says}
-use Rattle.dnssec_record.specs.Session.{Advances, GoesOn, Reaches, Resumes, Stands, StandsAfter}
+use Rattle.dnssec_record.specs.Inner.Statement.{TakesOn, statement_says}
+use Rattle.dnssec_record.specs.Session.{Advances, GoesOn, Resumes, Stands, StandsAfter}
 use Rattle.dnssec_record.specs.declared.courses.Turn.{Turn}
 use Rattle.dnssec_record.specs.declared.session.Session.{Session}
 use Rattle.dnssec_key.specs.declared.roll.RollType.{RollType}
@@ -53,15 +55,14 @@ folded_more f none calls entries call e same =
 
 -- before the first call
 pub begun : (name : List ℕ) (s : Session) → Records name [] [] s.recorder → Knows [] s.judge
-    → s.courses.listed.items ≡ [] → s.courses.ended.items ≡ [] → Reaches [] s.reached
+    → s.courses.listed.items ≡ [] → s.courses.ended.items ≡ []
     → StandsAfter name [] [] s
-begun name s records knows listed ended reached = record {
+begun name s records knows listed ended = record {
   records = records;
   knows = knows;
   shown = none_shown name s.recorder records;
   listed = ap (map as_listed) listed;
   ended = ended;
-  reached = reached;
 }
 
 -- after one more call
@@ -80,11 +81,9 @@ pub advances : (name : List ℕ) (calls : List Call) (entries : List Entry) (old
     → map as_listed new.courses.listed.items
     ≡ listed_after (map as_listed old.courses.listed.items) turn
     → new.courses.ended.items ≡ ended_after old.courses.ended.items turn
-    → ((entries : List Entry) (e : Entry) → e.mark ≡ outcome.mark → Reaches entries old.reached
-    → Reaches (entries ++ e ∷ []) new.reached)
     → Advances name calls entries call new outcome.reply
 advances name calls entries old new call outcome news so made kept handed judged turn is listed
-    ended reached =
+    ended =
     let e : Entry = record {
       reply = outcome.reply;
       moment = outcome.moment;
@@ -109,7 +108,6 @@ advances name calls entries old new call outcome news so made kept handed judged
         ended = ended ∙ ap (λ (rs : List RollType). ended_after rs turn) so.ended
             ∙ ap (ended_after (ended_by calls entries)) is
             ∙ sym (folded_more ended_after [] calls entries call e so.records.run.count);
-        reached = reached entries e refl so.reached;
       };
       is_reply = refl;
     }
@@ -161,15 +159,13 @@ pub copied : (name : List ℕ) (calls : List Call) (entries : List Entry) (s cop
     → Knows entries copy.judge → HasSameKeys copy.recorder.published s.recorder.published
     → map as_listed copy.courses.listed.items ≡ map as_listed s.courses.listed.items
     → copy.courses.ended.items ≡ s.courses.ended.items
-    → Reaches entries copy.reached
     → StandsAfter name calls entries copy
-copied name calls entries s copy so records knows same listed ended reached = record {
+copied name calls entries s copy so records knows same listed ended = record {
   records = records;
   knows = knows;
   shown = same_sets copy.recorder.published s.recorder.published same ∙ so.shown;
   listed = listed ∙ so.listed;
   ended = ended ∙ so.ended;
-  reached = reached;
 }
 
 -- ---- statements
@@ -187,17 +183,14 @@ none_made name s stands =
     record { calls = []; are_calls = refl; entries = []; stands = stands }
 
 -- one more statement
-pub one_made : (name : List ℕ) (past now : List Statement) (old new : Session) (call : Call)
-    (reply : Reply) → HasMade name past old
-    → map statement_says now ≡ map statement_says past ++ call_says call ∷ []
-    → ((name : List ℕ) (calls : List Call) (entries : List Entry)
-    → StandsAfter name calls entries old → Advances name calls entries call new reply)
-    → HasMade name now new
-one_made name past now old new call reply so one made =
-    let next = made name so.calls so.entries so.stands in
+pub one_made : (name : List ℕ) (past : List Statement) (s : Statement) (old new : Session)
+    (reply : Reply) → HasMade name past old → TakesOn (statement_says s) old new reply
+    → HasMade name (past ++ s ∷ []) new
+one_made name past s old new reply so made =
+    let next = made.advances name so.calls so.entries so.stands in
     record {
-      calls = so.calls ++ call ∷ [];
-      are_calls = made_more so.calls _ call past now so.are_calls refl one;
+      calls = so.calls ++ made.call ∷ [];
+      are_calls = made_more so.calls made.call past s so.are_calls made.is_call;
       entries = so.entries ++ next.entry ∷ [];
       stands = next.stands;
     }
@@ -245,20 +238,19 @@ opened line name s zone stands = record {
 
 -- a session after one more line
 pub goes_on : (lines : List (List ℕ)) (entries : List Entry) (line : List ℕ) (old new : Session)
-    (call : Call) (reply : Reply) (text : List ℕ)
-    → Stands lines entries old → IsLineOf line call
-    → ((name : List ℕ) (calls : List Call) (entries : List Entry)
-    → StandsAfter name calls entries old → Advances name calls entries call new reply)
+    (said : Word × List Value) (reply : Reply) (text : List ℕ)
+    → Stands lines entries old → Some said ≡ says line → TakesOn said old new reply
     → text ≡ reply_text reply ++ codes "\n"
     → GoesOn lines entries line new text
-goes_on lines entries line old new call reply text so is made wrote =
-    let next = made so.name so.calls entries so.stands in
+goes_on lines entries line old new said reply text so is made wrote =
+    let next = made.advances so.name so.calls entries so.stands in
     record {
       entry = next.entry;
       stands = record {
         name = so.name;
-        calls = so.calls ++ call ∷ [];
-        is_script = script_more lines so.name so.calls line call so.is_script is;
+        calls = so.calls ++ made.call ∷ [];
+        is_script = script_more lines so.name so.calls line made.call so.is_script
+            (sym is ∙ ap Some (sym made.is_call));
         stands = next.stands;
       };
       is_answer = wrote ∙ ap (λ (r : Reply). reply_text r ++ codes "\n") (sym next.is_reply);

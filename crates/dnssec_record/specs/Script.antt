@@ -7,10 +7,10 @@ use Rattle.std.specs.Prelude.{Option, Some, None, IsSome, option_and_then, strin
 use denote.Bor.{now}
 use Rattle.std.specs.Option.{option_map}
 use Rattle.std.specs.List.{slice_split, list_all}
+use Rattle.std.specs.Char.{is_ascii_digit, is_ascii_graphic}
 use Rattle.std.specs.Str.{bytes_eq}
 use Rattle.dnssec_base.specs.AlgorithmNames.{algorithm_named}
 use Rattle.dnssec_base.specs.NameText as names
-use Rattle.dnssec_key.specs.declared.roll.Half.TheVariants.{First, Second}
 use Rattle.dnssec_key.specs.declared.roll.RollType.{RollType}
 use Rattle.dnssec_key.specs.Key.{is_available}
 use Rattle.dnssec_key.specs.Texts.{roll_name}
@@ -19,11 +19,6 @@ use Rattle.dnssec_run.specs.declared.call.Call.{Call}
 use Rattle.dnssec_run.specs.declared.call.Call.TheVariants as call
 use Rattle.dnssec_record.specs.declared.words.Word.{Word}
 use Rattle.dnssec_record.specs.declared.words.Word.TheVariants as word
-use Rattle.dnssec_record.specs.declared.words.AddWord.TheVariants.{Ksk, Zsk, Csk}
-use Rattle.dnssec_record.specs.declared.words.FlagWord.TheVariants.{Decoupled, Signer, AtParent}
-use Rattle.dnssec_record.specs.declared.words.StampWord.TheVariants as stamp
-use Rattle.dnssec_record.specs.declared.words.KeyWord.TheVariants.{SetStale, Delete}
-use Rattle.dnssec_record.specs.declared.words.EndWord.TheVariants.{Done, Abort}
 
 -- ---- lines and fields
 
@@ -59,7 +54,7 @@ Form = List ℕ → Option Value
 
 -- a visible ASCII character, except the comma
 abbrev pub is_reference_byte : ℕ → Bool
-is_reference_byte b = nat_le 0x21 b && nat_le b 0x7E && not (b == 44)
+is_reference_byte b = is_ascii_graphic b && not (b == 44)
 
 -- such bytes, at least one, but not a single `-`
 unfoldable pub is_reference : List ℕ → Bool
@@ -97,10 +92,6 @@ roll_named name = find (λ r. bytes_eq (roll_name r) name) all_rolls
 unfoldable pub as_roll : Form
 as_roll text = option_map Roll (roll_named text)
 
--- a decimal digit
-abbrev pub is_digit : ℕ → Bool
-is_digit b = nat_le 48 b && nat_le b 57
-
 -- the number that digits write
 abbrev pub number_of : List ℕ → ℕ
 number_of digits = fold (λ n d. n * 10 + (d - 48)) 0 digits
@@ -108,7 +99,7 @@ number_of digits = fold (λ n d. n * 10 + (d - 48)) 0 digits
 -- 1 to 20 digits that write a number up to this
 unfoldable pub is_number : ℕ → List ℕ → Bool
 is_number most text =
-    nat_le 1 (length text) && nat_le (length text) 20 && list_all is_digit text
+    nat_le 1 (length text) && nat_le (length text) 20 && list_all is_ascii_digit text
     && nat_le (number_of text) most
 
 -- a number up to this
@@ -140,26 +131,26 @@ as_time text =
 -- the words and their names
 abbrev pub words : List (List ℕ × Word)
 words =
-    (codes "add-ksk", word.Add Ksk)
-    ∷ (codes "add-zsk", word.Add Zsk)
-    ∷ (codes "add-csk", word.Add Csk)
+    (codes "add-ksk", word.AddKsk)
+    ∷ (codes "add-zsk", word.AddZsk)
+    ∷ (codes "add-csk", word.AddCsk)
     ∷ (codes "add-public", word.AddPublic)
-    ∷ (codes "set-decoupled", word.SetFlag Decoupled)
+    ∷ (codes "set-decoupled", word.SetDecoupled)
     ∷ (codes "set-present", word.SetPresent)
-    ∷ (codes "set-signer", word.SetFlag Signer)
-    ∷ (codes "set-at-parent", word.SetFlag AtParent)
-    ∷ (codes "set-stale", word.OfKey SetStale)
-    ∷ (codes "set-visible", word.SetStamp stamp.Visible)
-    ∷ (codes "set-ds-visible", word.SetStamp stamp.DsVisible)
-    ∷ (codes "set-rrsig-visible", word.SetStamp stamp.RrsigVisible)
-    ∷ (codes "delete", word.OfKey Delete)
+    ∷ (codes "set-signer", word.SetSigner)
+    ∷ (codes "set-at-parent", word.SetAtParent)
+    ∷ (codes "set-stale", word.SetStale)
+    ∷ (codes "set-visible", word.SetVisible)
+    ∷ (codes "set-ds-visible", word.SetDsVisible)
+    ∷ (codes "set-rrsig-visible", word.SetRrsigVisible)
+    ∷ (codes "delete", word.Delete)
     ∷ (codes "start", word.Start)
-    ∷ (codes "report1", word.Report First)
-    ∷ (codes "wait1", word.Wait First)
-    ∷ (codes "report2", word.Report Second)
-    ∷ (codes "wait2", word.Wait Second)
-    ∷ (codes "done", word.End Done)
-    ∷ (codes "abort", word.End Abort)
+    ∷ (codes "report1", word.Report1)
+    ∷ (codes "wait1", word.Wait1)
+    ∷ (codes "report2", word.Report2)
+    ∷ (codes "wait2", word.Wait2)
+    ∷ (codes "done", word.Done)
+    ∷ (codes "abort", word.Abort)
     ∷ []
 
 -- a word, by its name
@@ -170,18 +161,64 @@ word_named name = option_map (λ row. row.1) (find (λ row. bytes_eq row.0 name)
 abbrev pub trait_forms : List Form
 trait_forms = as_algorithm ∷ as_tag ∷ as_time ∷ as_yes_no ∷ []
 
+-- the fields after a word: of an add
+abbrev pub signing_key_forms : List Form
+signing_key_forms = as_reference ∷ as_private ∷ trait_forms
+
+-- of an add of another signer's key
+abbrev pub public_key_forms : List Form
+public_key_forms = as_reference ∷ trait_forms
+
+-- of a setter of a flag, without a moment and with one
+abbrev pub flag_forms : List Form
+flag_forms = as_reference ∷ as_yes_no ∷ []
+
+abbrev pub timed_flag_forms : List Form
+timed_flag_forms = as_reference ∷ as_yes_no ∷ as_time ∷ []
+
+-- of a setter of a stamp
+abbrev pub stamp_forms : List Form
+stamp_forms = as_reference ∷ as_time ∷ []
+
+-- of a word with only a key
+abbrev pub key_forms : List Form
+key_forms = as_reference ∷ []
+
+-- of a start, a report, a wait, and the end of a roll
+abbrev pub start_forms : List Form
+start_forms = as_roll ∷ as_list ∷ as_list ∷ as_time ∷ []
+
+abbrev pub report_forms : List Form
+report_forms = as_roll ∷ as_ttl ∷ as_time ∷ []
+
+abbrev pub wait_forms : List Form
+wait_forms = as_roll ∷ as_time ∷ []
+
+abbrev pub roll_forms : List Form
+roll_forms = as_roll ∷ []
+
 -- what the fields after a word have to be
 abbrev pub forms_behind : Word → List Form
-forms_behind (word.Add _) = as_reference ∷ as_private ∷ trait_forms
-forms_behind word.AddPublic = as_reference ∷ trait_forms
-forms_behind (word.SetFlag _) = as_reference ∷ as_yes_no ∷ []
-forms_behind word.SetPresent = as_reference ∷ as_yes_no ∷ as_time ∷ []
-forms_behind (word.SetStamp _) = as_reference ∷ as_time ∷ []
-forms_behind (word.OfKey _) = as_reference ∷ []
-forms_behind word.Start = as_roll ∷ as_list ∷ as_list ∷ as_time ∷ []
-forms_behind (word.Report _) = as_roll ∷ as_ttl ∷ as_time ∷ []
-forms_behind (word.Wait _) = as_roll ∷ as_time ∷ []
-forms_behind (word.End _) = as_roll ∷ []
+forms_behind word.AddKsk = signing_key_forms
+forms_behind word.AddZsk = signing_key_forms
+forms_behind word.AddCsk = signing_key_forms
+forms_behind word.AddPublic = public_key_forms
+forms_behind word.SetDecoupled = flag_forms
+forms_behind word.SetPresent = timed_flag_forms
+forms_behind word.SetSigner = flag_forms
+forms_behind word.SetAtParent = flag_forms
+forms_behind word.SetStale = key_forms
+forms_behind word.SetVisible = stamp_forms
+forms_behind word.SetDsVisible = stamp_forms
+forms_behind word.SetRrsigVisible = stamp_forms
+forms_behind word.Delete = key_forms
+forms_behind word.Start = start_forms
+forms_behind word.Report1 = report_forms
+forms_behind word.Wait1 = wait_forms
+forms_behind word.Report2 = report_forms
+forms_behind word.Wait2 = wait_forms
+forms_behind word.Done = roll_forms
+forms_behind word.Abort = roll_forms
 
 -- the first field, and those after it
 abbrev pub first_field : List (List ℕ) → Option (List ℕ × List (List ℕ))
@@ -229,43 +266,43 @@ key_values pubref privref algorithm tag created available =
 -- a call in the words of a script
 abbrev pub call_says : Call → Word × List Value
 call_says (call.AddKeyKsk p q a t c y) = (
-  word.Add Ksk,
+  word.AddKsk,
   key_values (string_bytes p) (option_map string_bytes q) a t c (is_available y),
 )
 call_says (call.AddKeyZsk p q a t c y) = (
-  word.Add Zsk,
+  word.AddZsk,
   key_values (string_bytes p) (option_map string_bytes q) a t c (is_available y),
 )
 call_says (call.AddKeyCsk p q a t c y) = (
-  word.Add Csk,
+  word.AddCsk,
   key_values (string_bytes p) (option_map string_bytes q) a t c (is_available y),
 )
 call_says (call.AddPublicKey p a t c y) =
     (word.AddPublic, Reference (string_bytes p) ∷ trait_values a t c y)
-call_says (call.SetDecoupled p y) = (word.SetFlag Decoupled, Reference p.now ∷ Flag y ∷ [])
+call_says (call.SetDecoupled p y) = (word.SetDecoupled, Reference p.now ∷ Flag y ∷ [])
 call_says (call.SetPresent p y t) = (word.SetPresent, Reference p.now ∷ Flag y ∷ Moment t ∷ [])
-call_says (call.SetSigner p y) = (word.SetFlag Signer, Reference p.now ∷ Flag y ∷ [])
-call_says (call.SetAtParent p y) = (word.SetFlag AtParent, Reference p.now ∷ Flag y ∷ [])
-call_says (call.SetStale p) = (word.OfKey SetStale, Reference p.now ∷ [])
+call_says (call.SetSigner p y) = (word.SetSigner, Reference p.now ∷ Flag y ∷ [])
+call_says (call.SetAtParent p y) = (word.SetAtParent, Reference p.now ∷ Flag y ∷ [])
+call_says (call.SetStale p) = (word.SetStale, Reference p.now ∷ [])
 call_says (call.SetVisible p t) =
-    (word.SetStamp stamp.Visible, Reference p.now ∷ Moment t ∷ [])
+    (word.SetVisible, Reference p.now ∷ Moment t ∷ [])
 call_says (call.SetDsVisible p t) =
-    (word.SetStamp stamp.DsVisible, Reference p.now ∷ Moment t ∷ [])
+    (word.SetDsVisible, Reference p.now ∷ Moment t ∷ [])
 call_says (call.SetRrsigVisible p t) =
-    (word.SetStamp stamp.RrsigVisible, Reference p.now ∷ Moment t ∷ [])
-call_says (call.DeleteKey p) = (word.OfKey Delete, Reference p.now ∷ [])
+    (word.SetRrsigVisible, Reference p.now ∷ Moment t ∷ [])
+call_says (call.DeleteKey p) = (word.Delete, Reference p.now ∷ [])
 call_says (call.StartRoll r old new t) = (
   word.Start,
   Roll r ∷ References (map now old.now) ∷ References (map now new.now) ∷ Moment t ∷ [],
 )
 call_says (call.Propagation1Complete r ttl t) =
-    (word.Report First, Roll r ∷ Number ttl ∷ Moment t ∷ [])
-call_says (call.CacheExpired1 r t) = (word.Wait First, Roll r ∷ Moment t ∷ [])
+    (word.Report1, Roll r ∷ Number ttl ∷ Moment t ∷ [])
+call_says (call.CacheExpired1 r t) = (word.Wait1, Roll r ∷ Moment t ∷ [])
 call_says (call.Propagation2Complete r ttl t) =
-    (word.Report Second, Roll r ∷ Number ttl ∷ Moment t ∷ [])
-call_says (call.CacheExpired2 r t) = (word.Wait Second, Roll r ∷ Moment t ∷ [])
-call_says (call.RollDone r) = (word.End Done, Roll r ∷ [])
-call_says (call.AbortRoll r) = (word.End Abort, Roll r ∷ [])
+    (word.Report2, Roll r ∷ Number ttl ∷ Moment t ∷ [])
+call_says (call.CacheExpired2 r t) = (word.Wait2, Roll r ∷ Moment t ∷ [])
+call_says (call.RollDone r) = (word.Done, Roll r ∷ [])
+call_says (call.AbortRoll r) = (word.Abort, Roll r ∷ [])
 
 -- the line makes this call
 abbrev pub IsLineOf : List ℕ → Call → Type 0

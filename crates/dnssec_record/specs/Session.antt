@@ -1,13 +1,10 @@
 -- What a session knows of its calls so far, and what it says to the next.
-use Rattle.std.specs.Prelude.{◌≡◌, ℕ, suc, List, [], ◌∷◌, ◌++◌, length, map, codes, string_bytes}
-use Rattle.std.specs.Prelude.{Option, Some, None, option_and_then}
-use Rattle.dnssec_key.specs.declared.roll.RollType.{RollType}
+use Rattle.std.specs.Prelude.{◌≡◌, ℕ, List, [], ◌∷◌, ◌++◌, map, codes, string_bytes}
+use Rattle.std.specs.Prelude.{Option, None}
 use Rattle.dnssec_run.specs.declared.call.Call.{Call}
 use Rattle.dnssec_run.specs.declared.record.Entry.{Entry}
 use Rattle.dnssec_run.specs.declared.record.Reply.{Reply}
 use Rattle.dnssec_run.specs.Recorder.{Records}
-use Rattle.dnssec_run.specs.Safe.{base_below}
-use Rattle.dnssec_run.specs.Steps.{step_of}
 use Rattle.dnssec_judge.specs.declared.verdict.Broken.{Broken}
 use Rattle.dnssec_judge.specs.Judge.{Knows}
 use Rattle.dnssec_judge.specs.Verdict.{IsVerdict}
@@ -17,21 +14,9 @@ use Rattle.dnssec_record.specs.Script.{AreScript, IsZoneLine, lines_of, says}
 use Rattle.dnssec_record.specs.declared.fault.ScriptFault.{ScriptFault}
 use Rattle.dnssec_record.specs.declared.fault.ScriptFault.TheVariants.{Malformed, Device}
 use Rattle.dnssec_record.specs.declared.fault.ScriptFault.TheVariants.{OutOfMemory}
-use Rattle.dnssec_record.specs.declared.reached.Reached.{Reached}
 use Rattle.dnssec_record.specs.declared.session.Session.{Session}
 use Rattle.dnssec_record.specs.declared.session.Told.{Told}
 use Rattle.dnssec_record.specs.declared.session.Told.TheVariants as told
-
--- ---- how far a record has come
-
--- the last step of a roll
-abbrev pub step_in : Reached → RollType → Option ℕ
-step_in r roll = option_and_then (λ steps. step_of steps.value roll) r.steps
-
--- so many entries, and their last steps
-pub record Reaches (entries : List Entry) (r : Reached) : Type 0 where
-  pub calls : r.calls ≡ length entries
-  pub steps : (roll : RollType) → step_in r roll ≡ base_below entries roll (suc (length entries))
 
 -- ---- calls
 
@@ -44,7 +29,6 @@ pub record StandsAfter (name : List ℕ) (calls : List Call) (entries : List Ent
   pub shown : published_text s.recorder.published ≡ set_line entries
   pub listed : map as_listed s.courses.listed.items ≡ listed_by calls entries
   pub ended : s.courses.ended.items ≡ ended_by calls entries
-  pub reached : Reaches entries s.reached
 
 -- one more call of the same run got this reply, and the session stands after it
 pub record Advances (name : List ℕ) (calls : List Call) (entries : List Entry) (call : Call)

@@ -19,10 +19,10 @@ use std::alloc::{AllocError, Global};
 pub(crate) fn answer(
     alloc: Global,
     name: Name<Vec<u8>>,
-    statements: &[Statement<'_>],
+    statements: Vec<Statement<'_>>,
 ) -> Result<String, AllocError>
     ensures { IfOk result (λ text. (script : List ℕ) →
-        IsOfStatements script name statements.now → IsAnswerOf script (string_bytes text)) }
+        IsOfStatements script name statements.entry.items → IsAnswerOf script (string_bytes text)) }
 {
     let mut text = String::new(alloc);
     let mut recorder = Recorder::new(alloc, name);
@@ -30,8 +30,7 @@ pub(crate) fn answer(
         return Err(AllocError);
     };
     for statement in statements {
-        let call = statement.call(alloc)?;
-        let Ok(outcome) = recorder.advance(alloc, call) else {
+        let Ok(outcome) = statement.advance(alloc, &mut recorder) else {
             return Err(AllocError);
         };
         let news = recorder.news(&outcome);
@@ -46,6 +45,7 @@ pub(crate) fn answer(
     Ok(text)
 }
 
+/// Writes the line of an answer.
 pub(crate) fn push_answer(text: &mut String, reply: &Reply) -> Result<(), AllocError>
     ensures { OnOk result (string_bytes text.new
         ≡ string_bytes text.old ++ reply_text reply.now ++ codes "\n") }
@@ -54,6 +54,7 @@ pub(crate) fn push_answer(text: &mut String, reply: &Reply) -> Result<(), AllocE
     text.push_str("\n")
 }
 
+/// Writes what a call answered.
 fn push_reply(text: &mut String, reply: &Reply) -> Result<(), AllocError>
     ensures { OnOk result (string_bytes text.new ≡ string_bytes text.old ++ reply_text reply.now) }
 {
@@ -67,6 +68,7 @@ fn push_reply(text: &mut String, reply: &Reply) -> Result<(), AllocError>
     }
 }
 
+/// Writes actions, each after a space.
 fn push_actions(text: &mut String, actions: &[Action]) -> Result<(), AllocError>
     ensures { OnOk result (string_bytes text.new
         ≡ string_bytes text.old ++ actions_text actions.now) }
@@ -78,6 +80,7 @@ fn push_actions(text: &mut String, actions: &[Action]) -> Result<(), AllocError>
     Ok(())
 }
 
+/// The name of an action, as answers have it.
 fn action_name(action: Action) -> &'static str
     ensures { result.now ≡ action_name action }
 {
@@ -112,6 +115,7 @@ pub(crate) fn push_published(text: &mut String, published: &Published) -> Result
     text.push_str("\n")
 }
 
+/// Writes a set: its references, or `-` for none.
 fn push_set(text: &mut String, keys: &[PublishedKey]) -> Result<(), AllocError>
     ensures { OnOk result (string_bytes text.new ≡ string_bytes text.old ++ set_text keys.now) }
 {
@@ -124,6 +128,7 @@ fn push_set(text: &mut String, keys: &[PublishedKey]) -> Result<(), AllocError>
     }
 }
 
+/// Writes further references, each after a comma.
 fn push_further(text: &mut String, keys: &[PublishedKey]) -> Result<(), AllocError>
     ensures { OnOk result (string_bytes text.new
         ≡ string_bytes text.old ++ flat_map (λ k. codes "," ++ string_bytes k.reference) keys.now) }
@@ -149,6 +154,7 @@ pub(crate) fn push_chain_line(text: &mut String, verdict: Option<Broken>) -> Res
     }
 }
 
+/// Writes the positions of the first sets without a chain.
 fn push_broken(text: &mut String, broken: Broken) -> Result<(), AllocError>
     ensures { OnOk result (string_bytes text.new ≡ string_bytes text.old ++ broken_text broken) }
 {
@@ -162,6 +168,7 @@ fn push_broken(text: &mut String, broken: Broken) -> Result<(), AllocError>
     push_number(text, broken.zone)
 }
 
+/// Writes a number in decimal.
 fn push_number(text: &mut String, number: usize) -> Result<(), AllocError>
     ensures { OnOk result (string_bytes text.new ≡ string_bytes text.old ++ decimal number) }
 {

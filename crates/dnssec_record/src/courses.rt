@@ -4,6 +4,7 @@ ghost use Rattle.dnssec_record.specs.Courses.{as_listed, ended_after, is_another
 ghost use Rattle.dnssec_record.specs.Courses.{listed_after, listings, turn_after, turn_of};
 ghost use Rattle.dnssec_zone.specs.Start.{texts, together};
 
+use dnssec_key::{Side, side_of};
 use dnssec_keyset::RollType;
 use dnssec_run::{Call, Reply};
 use std::alloc::{AllocError, Global};
@@ -83,6 +84,7 @@ pub(crate) struct Courses {
 }
 
 impl Courses {
+    /// No roll was started yet.
     pub(crate) fn new(alloc: Global) -> Self
         ensures listed { result.listed.items ≡ [] }
         ensures ended { result.ended.items ≡ [] }
@@ -153,6 +155,7 @@ impl Courses {
             ≡ map as_listed self.old.listed.items ++ listings roll part (texts references.now)) }
         ensures ended { OnOk result (self.new.ended ≡ self.old.ended) }
     {
+        self.listed.reserve_exact(references.len())?;
         for reference in references {
             self.listed.push(Listed {
                 roll,
@@ -170,6 +173,7 @@ impl Courses {
         ensures ended { self.new.ended ≡ self.old.ended }
     {
         self.listed.retain(|key| key.roll != roll);
+        self.listed.shrink_to_fit();
     }
 
     /// Takes a key off the list, for every roll.
@@ -190,12 +194,14 @@ impl Courses {
         self.ended.retain(|ended| goes_beside(roll, *ended));
     }
 
+    /// The keys of rolls in progress.
     pub(crate) fn listed(&self) -> &[Listed]
         ensures { result.now ≡ self.now.listed.items }
     {
         &self.listed
     }
 
+    /// The rolls whose early end is to be shown.
     pub(crate) fn ended(&self) -> &[RollType]
         ensures { result.now ≡ self.now.ended.items }
     {
@@ -207,15 +213,8 @@ impl Courses {
 fn goes_beside(roll: RollType, other: RollType) -> bool
     ensures { result ≡ together roll other }
 {
-    match (roll, other) {
-        (
-            RollType::KskRoll | RollType::KskDoubleDsRoll,
-            RollType::ZskRoll | RollType::ZskDoubleSignatureRoll,
-        )
-        | (
-            RollType::ZskRoll | RollType::ZskDoubleSignatureRoll,
-            RollType::KskRoll | RollType::KskDoubleDsRoll,
-        ) => true,
-        _ => false,
-    }
+    matches!(
+        (side_of(roll), side_of(other)),
+        (Side::KskSide, Side::ZskSide) | (Side::ZskSide, Side::KskSide)
+    )
 }

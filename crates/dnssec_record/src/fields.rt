@@ -5,13 +5,14 @@ ghost use Rattle.std.specs.Prelude.{◌≡◌, ◌*◌, ◌≤◌, length, IsTru
 ghost use Rattle.std.specs.Prelude.{map, find, position, is_some, IfSome, ◌==◌, IfOk, Option, Some};
 ghost use Rattle.std.specs.Prelude.{None, slice_index};
 ghost use Rattle.std.specs.Option.{option_map};
+ghost use Rattle.std.specs.Char.{is_ascii_digit};
 ghost use Rattle.std.specs.Str.{bytes_eq};
 ghost use Rattle.dnssec_base.specs.AlgorithmNames.{algorithm_named};
 ghost use Rattle.dnssec_record.specs.Script.{Value, Reference, Private, References, Flag, Roll};
 ghost use Rattle.dnssec_record.specs.Script.{Number, Moment};
 ghost use Rattle.dnssec_record.specs.Script.{is_reference_byte, is_reference, as_reference};
 ghost use Rattle.dnssec_record.specs.Script.{as_private, as_list, as_yes_no, as_roll, as_number};
-ghost use Rattle.dnssec_record.specs.Script.{as_algorithm, as_tag, as_ttl, as_time, is_digit};
+ghost use Rattle.dnssec_record.specs.Script.{as_algorithm, as_tag, as_ttl, as_time};
 ghost use Rattle.dnssec_record.specs.Script.{is_number, number_of, roll_named};
 ghost use Rattle.dnssec_record.specs.Script.{value_at, values_of, first_field, fields_of, word_at};
 
@@ -32,6 +33,7 @@ fn roll_named(name: &[u8]) -> Option<RollType>
     }
 }
 
+/// Whether a text may be the reference of a key.
 #[tactic(auto, unfolding(crate::specs::Script::is_reference))]
 fn is_reference(text: &[u8]) -> bool
     ensures { result ≡ is_reference text.now }
@@ -39,18 +41,21 @@ fn is_reference(text: &[u8]) -> bool
     !text.is_empty() && text != b"-".as_slice() && are_reference_bytes(text)
 }
 
+/// Whether each byte may stand in a reference.
 fn are_reference_bytes(text: &[u8]) -> bool
     ensures { result ≡ list_all is_reference_byte text.now }
 {
     text.iter().all(|byte| is_reference_byte(*byte))
 }
 
+/// Whether the byte is a visible ASCII character, except the comma.
 fn is_reference_byte(byte: u8) -> bool
     ensures { result ≡ is_reference_byte byte }
 {
-    0x21 <= byte && byte <= 0x7E && !(byte == b',')
+    byte.is_ascii_graphic() && byte != b','
 }
 
+/// A flag, from `yes` or `no`.
 #[tactic(auto, unfolding(crate::specs::Script::as_yes_no))]
 fn yes_no(text: &[u8]) -> Option<bool>
     ensures { option_map Flag result ≡ as_yes_no text.now }
@@ -64,16 +69,11 @@ fn yes_no(text: &[u8]) -> Option<bool>
     }
 }
 
+/// Whether each byte is a digit.
 fn are_digits(text: &[u8]) -> bool
-    ensures { result ≡ list_all is_digit text.now }
+    ensures { result ≡ list_all is_ascii_digit text.now }
 {
-    text.iter().all(|byte| is_digit(*byte))
-}
-
-fn is_digit(byte: u8) -> bool
-    ensures { result ≡ is_digit byte }
-{
-    48 <= byte && byte <= 57
+    text.iter().all(|byte| byte.is_ascii_digit())
 }
 
 /// The number that digits write.
@@ -102,6 +102,7 @@ fn number(most: u64, text: &[u8]) -> Option<u64>
         .filter(|number| *number <= most)
 }
 
+/// A key's reference.
 #[tactic(auto, unfolding(crate::specs::Script::as_reference))]
 fn reference(text: &[u8]) -> Option<&str>
     ensures read { option_map (λ q. Reference q.now) result ≡ as_reference text.now }
@@ -115,6 +116,7 @@ fn reference(text: &[u8]) -> Option<&str>
     str::from_utf8(text).ok()
 }
 
+/// A private reference, or none from `-`.
 #[tactic(auto, unfolding(crate::specs::Script::as_private, crate::specs::Script::as_reference))]
 fn private(text: &[u8]) -> Option<Option<&str>>
     ensures { option_map (λ q. Private (option_map now q)) result ≡ as_private text.now }
@@ -124,13 +126,6 @@ fn private(text: &[u8]) -> Option<Option<&str>>
     } else {
         Some(Some(reference(text)?))
     }
-}
-
-#[tactic(auto, unfolding(crate::specs::Script::as_roll))]
-fn roll(text: &[u8]) -> Option<RollType>
-    ensures { option_map Roll result ≡ as_roll text.now }
-{
-    roll_named(text)
 }
 
 /// The algorithm with this name.
@@ -152,14 +147,6 @@ fn algorithm(text: &[u8]) -> Option<SecurityAlgorithm>
         Some(number) => Some(SecurityAlgorithm::from_int(number as u8)),
         None => algorithm_named(text),
     }
-}
-
-#[tactic(auto, unfolding(crate::specs::Script::as_time))]
-fn time(text: &[u8]) -> Option<UnixTime>
-    ensures { option_map Moment result ≡ as_time text.now }
-{
-    let seconds = number(u64::MAX, text)?;
-    Some(UnixTime::from(Duration::from_secs(seconds)))
 }
 
 /// The references of a list.
@@ -283,11 +270,12 @@ impl<'a> Fields<'a> {
     }
 
     /// The next field as a roll.
+    #[tactic(auto, unfolding(crate::specs::Script::as_roll))]
     pub(crate) fn roll(self) -> Option<(RollType, Fields<'a>)>
         ensures { option_map (λ x. (Roll x.0, x.1)) result ≡ value_at as_roll self.entry }
     {
         let (text, fields) = self.next()?;
-        Some((roll(text)?, fields))
+        Some((roll_named(text)?, fields))
     }
 
     /// The next field as an algorithm.
@@ -326,11 +314,13 @@ impl<'a> Fields<'a> {
     }
 
     /// The next field as a moment.
+    #[tactic(auto, unfolding(crate::specs::Script::as_time))]
     pub fn time(self) -> Option<(UnixTime, Fields<'a>)>
         ensures { option_map (λ x. (Moment x.0, x.1)) result ≡ value_at as_time self.entry }
     {
         let (text, fields) = self.next()?;
-        Some((time(text)?, fields))
+        let seconds = number(u64::MAX, text)?;
+        Some((UnixTime::from(Duration::from_secs(seconds)), fields))
     }
 
     /// The next field as a list of references.
@@ -352,6 +342,7 @@ impl<'a> Fields<'a> {
     }
 }
 
+/// Where the first field ends.
 fn first_space(text: &[u8]) -> Option<usize>
     ensures { result ≡ position (λ b. b == 32) text.now }
 {

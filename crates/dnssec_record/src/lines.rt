@@ -60,6 +60,7 @@ impl<'a> Lines<'a> {
     }
 }
 
+/// Where the first line ends.
 fn line_feed(text: &[u8]) -> Option<usize>
     ensures { result ≡ position (λ b. b == 10) text.now }
 {

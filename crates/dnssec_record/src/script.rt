@@ -5,7 +5,7 @@ ghost use Rattle.std.specs.Io.KnownBytes.{Appends, IsAtEnd, Keeps};
 ghost use Rattle.dnssec_record.specs.Answer.{IsAnswerOf, AnswerFault, EndsSafe, IsRunOf};
 ghost use Rattle.dnssec_record.specs.Answer.{IsSafeAnswer, TakesAnswer, TakesAtMost};
 ghost use Rattle.dnssec_record.specs.Device.{Counts};
-ghost use Rattle.dnssec_record.specs.Inner.Reading.{ReadFault, TakesFront};
+ghost use Rattle.dnssec_record.specs.Inner.Reading.{IsOfStatements, ReadFault, TakesFront};
 ghost use Rattle.dnssec_record.specs.Script.{IsFirstMalformed, IsScript};
 ghost use Rattle.dnssec_run.specs.declared.call.Call.{Call};
 ghost use Rattle.dnssec_record.specs.declared.fault.ScriptFault.TheVariants.{Device, OutOfMemory};
@@ -14,9 +14,10 @@ use crate::answers::answer;
 use crate::device::{DeviceFault, Sink, Source};
 use crate::fault::ScriptFault;
 use crate::lines::read_script;
-use crate::statement::calls_of;
-use dnssec_run::{Run, run};
-use std::alloc::Global;
+use crate::statement::Statement;
+use dnssec_base::Name;
+use dnssec_run::{Recorder, Run};
+use std::alloc::{AllocError, Global};
 
 /// How many bytes the input is asked for at once.
 const PIECE: usize = 4096;
@@ -122,7 +123,7 @@ fn answer_to(alloc: Global, script: &[u8]) -> Result<String, ScriptFault>
     ensures err { IfErr result (AnswerFault script.now) }
 {
     let (name, statements) = read_script(alloc, script)?;
-    let text = answer(alloc, name, &statements)?;
+    let text = answer(alloc, name, statements)?;
     Ok(text)
 }
 
@@ -146,11 +147,31 @@ pub fn record_script(alloc: Global, script: &[u8]) -> Result<Run, ScriptFault>
     ensures err { IfErr result (AnswerFault script.now) }
 {
     let (name, statements) = read_script(alloc, script)?;
-    let calls = calls_of(alloc, &statements)?;
-    let Ok(run) = run(alloc, name, calls) else {
-        return Err(ScriptFault::OutOfMemory);
-    };
-    Ok(run)
+    Ok(recorded(alloc, name, statements)?)
+}
+
+/// Makes the calls of the statements in turn on a new key set, and records each.
+fn recorded(
+    alloc: Global,
+    name: Name<Vec<u8>>,
+    statements: Vec<Statement<'_>>,
+) -> Result<Run, AllocError>
+    ensures { IfOk result (λ run. (script : List ℕ) →
+        IsOfStatements script name statements.entry.items →
+        IsRunOf script run.keyset run.entries.items) }
+{
+    let mut recorder = Recorder::new(alloc, name);
+    let mut entries = Vec::with_capacity(alloc, statements.len())?;
+    for statement in statements {
+        let Ok(entry) = statement.make(alloc, &mut recorder) else {
+            return Err(AllocError);
+        };
+        entries.push(entry)?;
+    }
+    Ok(Run {
+        keyset: recorder.into_keyset(),
+        entries,
+    })
 }
 
 /// Writes all of the bytes, or fails with some of them written.

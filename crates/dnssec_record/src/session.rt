@@ -4,6 +4,7 @@ ghost use Rattle.std.specs.Prelude.{string_bytes};
 ghost use Rattle.dnssec_judge.specs.Verdict.{IsVerdict};
 ghost use Rattle.dnssec_record.specs.Answer.{AnswerFault};
 ghost use Rattle.dnssec_record.specs.Inner.Reading.{IsOfStatements};
+ghost use Rattle.dnssec_record.specs.Inner.Statement.{TakesOn, statement_says};
 ghost use Rattle.dnssec_record.specs.Courses.{as_listed, ended_by, listed_by};
 ghost use Rattle.dnssec_record.specs.Session.{Advances, Closes, FaultOfZone, Stands, StandsAfter};
 ghost use Rattle.dnssec_record.specs.Session.{Resumes, Takes};
@@ -15,7 +16,6 @@ use crate::answers::{push_answer, push_chain_line, push_published};
 use crate::courses::{Courses, Listed, Turn};
 use crate::fault::ScriptFault;
 use crate::lines::{read_script, zone};
-use crate::reached::Reached;
 use crate::statement::{Statement, read_line};
 use dnssec_base::Name;
 use dnssec_judge::{Broken, Judge};
@@ -23,9 +23,9 @@ use dnssec_keyset::{KeySet, RollType};
 use dnssec_run::{Call, Published, Recorder, Reply, Steps};
 use std::alloc::{AllocError, Global};
 
-/// Up to this many keys a session is fitted to them, so that no call costs more for that than
+/// A session of at most this many keys is fitted to them. So no call costs more for that than
 /// another.
-const FEW: usize = 4;
+const FITTED_KEYS: usize = 4;
 
 /// What came of a line that was handed to a session.
 #[derive(Drop)]
@@ -57,7 +57,6 @@ pub struct Session {
     recorder: Recorder,
     judge: Judge,
     courses: Courses,
-    reached: Reached,
 }
 
 impl Session {
@@ -89,22 +88,21 @@ impl Session {
         ensures err { IfErr result (AnswerFault script.now) }
     {
         let (name, statements) = read_script(alloc, script)?;
-        Ok(Session::after(alloc, name, &statements)?)
+        Ok(Session::after(alloc, name, statements)?)
     }
 
     /// The session after the calls of these statements.
     fn after(
         alloc: Global,
         name: Name<Vec<u8>>,
-        statements: &[Statement<'_>],
+        statements: Vec<Statement<'_>>,
     ) -> Result<Self, AllocError>
         ensures { IfOk result (λ session. (script : List ℕ) →
-            IsOfStatements script name statements.now → Resumes script session) }
+            IsOfStatements script name statements.entry.items → Resumes script session) }
     {
         let mut session = Session::new(alloc, name)?;
         for statement in statements {
-            let call = statement.call(alloc)?;
-            let (next, _) = session.make(alloc, call)?;
+            let (next, _) = session.take(alloc, statement)?;
             session = next;
         }
         Ok(session)
@@ -123,7 +121,6 @@ impl Session {
                 recorder: Recorder::new(alloc, name),
                 judge,
                 courses: Courses::new(alloc),
-                reached: Reached::new(),
             }),
             Err(_) => Err(AllocError),
         }
@@ -146,12 +143,10 @@ impl Session {
             return Err(AllocError);
         };
         let courses = self.courses.try_clone(alloc)?;
-        let reached = self.reached.try_clone(alloc)?;
         Ok(Session {
             recorder,
             judge,
             courses,
-            reached,
         })
     }
 
@@ -167,11 +162,21 @@ impl Session {
         let Some(statement) = read_line(alloc, line)? else {
             return Ok(Told::Malformed(self));
         };
-        let call = statement.call(alloc)?;
-        let (session, reply) = self.make(alloc, call)?;
+        let (session, reply) = self.take(alloc, statement)?;
         let mut answer = String::new(alloc);
         push_answer(&mut answer, &reply)?;
         Ok(Told::Answered(session, answer))
+    }
+
+    /// Makes the call of a statement.
+    fn take(self, alloc: Global, statement: Statement<'_>) -> Result<(Session, Reply), AllocError>
+        ensures { IfOk result (λ made.
+            TakesOn (statement_says statement.entry) self made.0 made.1) }
+    {
+        match statement {
+            Statement::Call(call) => self.make(alloc, call),
+            Statement::Start(start) => self.make(alloc, start.call()),
+        }
     }
 
     /// Makes the call, and answers its reply and the session after it. A refused call counts in the
@@ -189,7 +194,6 @@ impl Session {
             mut recorder,
             judge,
             mut courses,
-            reached,
         } = self;
         let turn = Turn::of(&call);
         let Ok(outcome) = recorder.advance(alloc, call) else {
@@ -200,18 +204,16 @@ impl Session {
             return Err(AllocError);
         };
         courses.take(alloc, turn.after(&outcome.reply))?;
-        let reached = reached.after(alloc, outcome.mark)?;
         let session = Session {
             recorder,
             judge,
             courses,
-            reached,
         };
         Ok((session.fitted(alloc), outcome.reply))
     }
 
     /// The same session, which lets go of room to spare: a map takes its first room for nine keys,
-    /// and most zones at rest have two or three.
+    /// a roll leaves room, and most zones at rest have two keys or three.
     fn fitted(self, alloc: Global) -> Self
         ensures { (name : List ℕ) (calls : List Call) (entries : List Entry) →
             StandsAfter name calls entries self → StandsAfter name calls entries result }
@@ -219,21 +221,18 @@ impl Session {
         if !self.has_room_to_spare() {
             return self;
         }
-        match self.recorder.try_clone(alloc) {
-            Ok(recorder) => Session {
-                recorder,
-                judge: self.judge,
-                courses: self.courses,
-                reached: self.reached,
-            },
+        match self.try_clone(alloc) {
+            Ok(fitted) => fitted,
             Err(_) => self,
         }
     }
 
-    /// Whether it has few keys, and room for twice as many or more.
+    /// Whether it has few keys, and either room for twice as many, or room of rolls that have ended.
     fn has_room_to_spare(&self) -> bool {
-        let keys = self.recorder.keyset().keys();
-        keys.len() <= FEW && keys.len() < keys.capacity() / 2
+        let keys = self.keyset().keys();
+        let rolls = self.keyset().rollstates();
+        keys.len() <= FITTED_KEYS
+            && (keys.len() < keys.capacity() / 2 || rolls.is_empty() && rolls.capacity() > 0)
     }
 
     /// The last two lines of the answers to the lines so far: the sets that are published after the
@@ -292,7 +291,7 @@ impl Session {
         ensures { (name : List ℕ) (calls : List Call) (entries : List Entry) →
             StandsAfter name calls entries self.now → result ≡ length entries }
     {
-        self.reached.calls()
+        self.judge.taken()
     }
 
     /// The last step of each roll so far: what its next report counts from.
@@ -300,7 +299,7 @@ impl Session {
         ensures { (name : List ℕ) (calls : List Call) (entries : List Entry) →
             StandsAfter name calls entries self.now → AreStepsOf entries result }
     {
-        self.reached.steps()
+        self.judge.steps()
     }
 
     /// The verdict on the record so far: what `audit` answers of it.

@@ -1,90 +1,70 @@
-//! What a line of a script says, and the call that it makes.
-ghost use Rattle.std.specs.Prelude.{◌≡◌, List, [], ◌∷◌, map, IfOk, Option, Some};
+//! What a line of a script says: the call of its word, made from its fields.
+ghost use Rattle.std.specs.Prelude.{◌≡◌, IfOk, Some};
 ghost use Rattle.std.specs.Option.{option_map};
-ghost use Rattle.dnssec_record.specs.Script.{call_says, says, says_behind, values_of, trait_forms};
-ghost use Rattle.dnssec_record.specs.Script.{Moment, as_time};
-ghost use Rattle.dnssec_record.specs.Inner.Statement.{statement_says, traits_say};
+ghost use Rattle.dnssec_key.specs.Key.{is_available};
+ghost use Rattle.dnssec_record.specs.Script.{call_says, says, says_behind};
+ghost use Rattle.dnssec_record.specs.Inner.Statement.{Makes, MakesEntry, start_says};
+ghost use Rattle.dnssec_record.specs.Inner.Statement.{statement_says};
 
 use crate::fields::Fields;
-use crate::words::{
-    AddWord, EndWord, FlagWord, KeyTraits, KeyWord, StampWord, Word, public_add, report_call,
-    wait_call,
+use crate::forms::{
+    flag, key, public_key, report, roll, signing_key, stamp, time, timed_flag, wait,
 };
-use dnssec_key::Half;
-use dnssec_keyset::{RollType, UnixTime};
-use dnssec_run::Call;
+use crate::words::Word;
+use dnssec_keyset::{Available, Error, RollType, UnixTime};
+use dnssec_run::{Call, Entry, Outcome, Recorder};
 use std::alloc::{AllocError, Global};
 
-/// What a line says. Its texts are parts of the line.
+/// What a line says: its call. Only the call of a start is made later, since it borrows its lists.
 #[derive(Drop)]
 pub(crate) enum Statement<'a> {
-    /// With the public reference of the key, and the private one.
-    Add(AddWord, &'a str, Option<&'a str>, KeyTraits),
-    AddPublic(&'a str, KeyTraits),
-    SetFlag(FlagWord, &'a str, bool),
-    SetPresent(&'a str, bool, UnixTime),
-    SetStamp(StampWord, &'a str, UnixTime),
-    OfKey(KeyWord, &'a str),
-    Start {
-        rolltype: RollType,
-        old: Vec<&'a str>,
-        new: Vec<&'a str>,
-        now: UnixTime,
-    },
-    /// With the TTL, in seconds.
-    Report(Half, RollType, u32, UnixTime),
-    Wait(Half, RollType, UnixTime),
-    End(EndWord, RollType),
+    Call(Call<'a>),
+    Start(Start<'a>),
 }
 
-impl<'a> Statement<'a> {
-    /// The call that the line makes. An add copies its texts.
-    pub(crate) fn call<'s>(&'s self, alloc: Global) -> Result<Call<'s>, AllocError>
-        ensures { IfOk result (λ call. call_says call ≡ statement_says self.now) }
+/// A start of a roll. The references of its lists are parts of the line.
+#[derive(Drop)]
+pub(crate) struct Start<'a> {
+    rolltype: RollType,
+    old: Vec<&'a str>,
+    new: Vec<&'a str>,
+    moment: UnixTime,
+}
+
+impl<'a> Start<'a> {
+    /// The call that starts the roll.
+    pub(crate) fn call(&self) -> Call<'_>
+        ensures { call_says result ≡ start_says self.now }
     {
-        match self {
-            Statement::Add(word, pubref, privref, key) => word.call(alloc, pubref, *privref, key),
-            Statement::AddPublic(pubref, key) => public_add(alloc, pubref, key),
-            Statement::SetFlag(word, pubref, value) => Ok(word.call(pubref, *value)),
-            Statement::SetPresent(pubref, value, now) => Ok(Call::SetPresent {
-                pubref,
-                value: *value,
-                now: *now,
-            }),
-            Statement::SetStamp(word, pubref, time) => Ok(word.call(pubref, *time)),
-            Statement::OfKey(word, pubref) => Ok(word.call(pubref)),
-            Statement::Start {
-                rolltype,
-                old,
-                new,
-                now,
-            } => Ok(Call::StartRoll {
-                rolltype: *rolltype,
-                old,
-                new,
-                now: *now,
-            }),
-            Statement::Report(half, rolltype, ttl, now) => {
-                Ok(report_call(*half, *rolltype, *ttl, *now))
-            }
-            Statement::Wait(half, rolltype, now) => Ok(wait_call(*half, *rolltype, *now)),
-            Statement::End(word, rolltype) => Ok(word.call(*rolltype)),
+        Call::StartRoll {
+            rolltype: self.rolltype,
+            old: &self.old,
+            new: &self.new,
+            now: self.moment,
         }
     }
 }
 
-/// The calls that the statements make.
-pub(crate) fn calls_of<'a, 's: 'a>(
-    alloc: Global,
-    statements: &'a [Statement<'s>],
-) -> Result<Vec<Call<'a>>, AllocError>
-    ensures { IfOk result (λ calls. map call_says calls.items ≡ map statement_says statements.now) }
-{
-    let mut calls = Vec::new(alloc);
-    for statement in statements {
-        calls.push(statement.call(alloc)?)?;
+impl<'a> Statement<'a> {
+    /// Has a recorder make the call.
+    pub(crate) fn advance(self, alloc: Global, recorder: &mut Recorder) -> Result<Outcome, Error>
+        ensures { IfOk result (Makes (statement_says self.entry) recorder.old recorder.new) }
+    {
+        match self {
+            Statement::Call(call) => recorder.advance(alloc, call),
+            Statement::Start(start) => recorder.advance(alloc, start.call()),
+        }
     }
-    Ok(calls)
+
+    /// Has a recorder make the call, and answers its entry.
+    pub(crate) fn make(self, alloc: Global, recorder: &mut Recorder) -> Result<Entry, Error>
+        ensures { IfOk result (MakesEntry (statement_says self.entry) recorder.old recorder.new) }
+    {
+        match self {
+            Statement::Call(call) => recorder.make(alloc, call),
+            Statement::Start(start) => recorder.make(alloc, start.call()),
+        }
+    }
 }
 
 /// What a line says, if it has the form of a script's line.
@@ -101,7 +81,7 @@ pub(crate) fn read_line<'a>(
     }
 }
 
-/// What the fields after a word say.
+/// The call of a word, made from the fields after it.
 fn behind<'a>(
     alloc: Global,
     word: Word,
@@ -111,87 +91,137 @@ fn behind<'a>(
         option_map statement_says found ≡ says_behind word fields.entry) }
 {
     match word {
-        Word::Add(word) => Ok(add(word, fields)),
-        Word::AddPublic => Ok(add_public(fields)),
-        Word::SetFlag(word) => Ok(set_flag(word, fields)),
-        Word::SetPresent => Ok(set_present(fields)),
-        Word::SetStamp(word) => Ok(set_stamp(word, fields)),
-        Word::OfKey(word) => Ok(of_key(word, fields)),
-        Word::Start => start(alloc, fields),
-        Word::Report(half) => Ok(report(half, fields)),
-        Word::Wait(half) => Ok(wait(half, fields)),
-        Word::End(word) => Ok(end(word, fields)),
+        Word::AddKsk => match signing_key(alloc, fields)? {
+            Some((pubref, privref, traits)) => Ok(said(Call::AddKeyKsk {
+                pubref,
+                privref,
+                algorithm: traits.algorithm,
+                key_tag: traits.key_tag,
+                creation_ts: traits.creation_ts,
+                available: availability(traits.available),
+            })),
+            None => Ok(None),
+        },
+        Word::AddZsk => match signing_key(alloc, fields)? {
+            Some((pubref, privref, traits)) => Ok(said(Call::AddKeyZsk {
+                pubref,
+                privref,
+                algorithm: traits.algorithm,
+                key_tag: traits.key_tag,
+                creation_ts: traits.creation_ts,
+                available: availability(traits.available),
+            })),
+            None => Ok(None),
+        },
+        Word::AddCsk => match signing_key(alloc, fields)? {
+            Some((pubref, privref, traits)) => Ok(said(Call::AddKeyCsk {
+                pubref,
+                privref,
+                algorithm: traits.algorithm,
+                key_tag: traits.key_tag,
+                creation_ts: traits.creation_ts,
+                available: availability(traits.available),
+            })),
+            None => Ok(None),
+        },
+        Word::AddPublic => match public_key(alloc, fields)? {
+            Some((pubref, traits)) => Ok(said(Call::AddPublicKey {
+                pubref,
+                algorithm: traits.algorithm,
+                key_tag: traits.key_tag,
+                creation_ts: traits.creation_ts,
+                available: traits.available,
+            })),
+            None => Ok(None),
+        },
+        Word::SetDecoupled => match flag(fields) {
+            Some((pubref, value)) => Ok(said(Call::SetDecoupled { pubref, value })),
+            None => Ok(None),
+        },
+        Word::SetPresent => match timed_flag(fields) {
+            Some((pubref, value, now)) => Ok(said(Call::SetPresent { pubref, value, now })),
+            None => Ok(None),
+        },
+        Word::SetSigner => match flag(fields) {
+            Some((pubref, value)) => Ok(said(Call::SetSigner { pubref, value })),
+            None => Ok(None),
+        },
+        Word::SetAtParent => match flag(fields) {
+            Some((pubref, value)) => Ok(said(Call::SetAtParent { pubref, value })),
+            None => Ok(None),
+        },
+        Word::SetStale => match key(fields) {
+            Some(pubref) => Ok(said(Call::SetStale { pubref })),
+            None => Ok(None),
+        },
+        Word::SetVisible => match stamp(fields) {
+            Some((pubref, time)) => Ok(said(Call::SetVisible { pubref, time })),
+            None => Ok(None),
+        },
+        Word::SetDsVisible => match stamp(fields) {
+            Some((pubref, time)) => Ok(said(Call::SetDsVisible { pubref, time })),
+            None => Ok(None),
+        },
+        Word::SetRrsigVisible => match stamp(fields) {
+            Some((pubref, time)) => Ok(said(Call::SetRrsigVisible { pubref, time })),
+            None => Ok(None),
+        },
+        Word::Delete => match key(fields) {
+            Some(pubref) => Ok(said(Call::DeleteKey { pubref })),
+            None => Ok(None),
+        },
+        Word::Start => read_start(alloc, fields),
+        Word::Report1 => match report(fields) {
+            Some((rolltype, ttl, now)) => {
+                Ok(said(Call::Propagation1Complete { rolltype, ttl, now }))
+            }
+            None => Ok(None),
+        },
+        Word::Wait1 => match wait(fields) {
+            Some((rolltype, now)) => Ok(said(Call::CacheExpired1 { rolltype, now })),
+            None => Ok(None),
+        },
+        Word::Report2 => match report(fields) {
+            Some((rolltype, ttl, now)) => {
+                Ok(said(Call::Propagation2Complete { rolltype, ttl, now }))
+            }
+            None => Ok(None),
+        },
+        Word::Wait2 => match wait(fields) {
+            Some((rolltype, now)) => Ok(said(Call::CacheExpired2 { rolltype, now })),
+            None => Ok(None),
+        },
+        Word::Done => match roll(fields) {
+            Some(rolltype) => Ok(said(Call::RollDone { rolltype })),
+            None => Ok(None),
+        },
+        Word::Abort => match roll(fields) {
+            Some(rolltype) => Ok(said(Call::AbortRoll { rolltype })),
+            None => Ok(None),
+        },
     }
 }
 
-fn add<'a>(word: AddWord, fields: Fields<'a>) -> Option<Statement<'a>>
-    ensures { option_map statement_says result ≡ says_behind (Word.Add word) fields.entry }
+/// A line that makes this call.
+fn said<'a>(call: Call<'a>) -> Option<Statement<'a>>
+    ensures { option_map statement_says result ≡ Some (call_says call.entry) }
 {
-    let (pubref, fields) = fields.reference()?;
-    let (privref, fields) = fields.private()?;
-    let key = key_traits(fields)?;
-    Some(Statement::Add(word, pubref, privref, key))
+    Some(Statement::Call(call))
 }
 
-fn add_public<'a>(fields: Fields<'a>) -> Option<Statement<'a>>
-    ensures { option_map statement_says result ≡ says_behind Word.AddPublic fields.entry }
+/// Whether the key may come in, as an add takes it.
+fn availability(may_come_in: bool) -> Available
+    ensures { is_available result ≡ may_come_in }
 {
-    let (pubref, fields) = fields.reference()?;
-    let key = key_traits(fields)?;
-    Some(Statement::AddPublic(pubref, key))
+    if may_come_in {
+        Available::Available
+    } else {
+        Available::NotAvailable
+    }
 }
 
-fn key_traits(fields: Fields<'_>) -> Option<KeyTraits>
-    ensures { option_map traits_say result ≡ values_of trait_forms fields.entry }
-{
-    let (algorithm, fields) = fields.algorithm()?;
-    let (key_tag, fields) = fields.tag()?;
-    let (creation_ts, fields) = fields.time()?;
-    let (available, fields) = fields.yes_no()?;
-    fields.end()?;
-    Some(KeyTraits {
-        algorithm,
-        key_tag,
-        creation_ts,
-        available,
-    })
-}
-
-fn set_flag<'a>(word: FlagWord, fields: Fields<'a>) -> Option<Statement<'a>>
-    ensures { option_map statement_says result ≡ says_behind (Word.SetFlag word) fields.entry }
-{
-    let (pubref, fields) = fields.reference()?;
-    let (value, fields) = fields.yes_no()?;
-    fields.end()?;
-    Some(Statement::SetFlag(word, pubref, value))
-}
-
-fn set_present<'a>(fields: Fields<'a>) -> Option<Statement<'a>>
-    ensures { option_map statement_says result ≡ says_behind Word.SetPresent fields.entry }
-{
-    let (pubref, fields) = fields.reference()?;
-    let (value, fields) = fields.yes_no()?;
-    let now = time(fields)?;
-    Some(Statement::SetPresent(pubref, value, now))
-}
-
-fn set_stamp<'a>(word: StampWord, fields: Fields<'a>) -> Option<Statement<'a>>
-    ensures { option_map statement_says result ≡ says_behind (Word.SetStamp word) fields.entry }
-{
-    let (pubref, fields) = fields.reference()?;
-    let time = time(fields)?;
-    Some(Statement::SetStamp(word, pubref, time))
-}
-
-fn of_key<'a>(word: KeyWord, fields: Fields<'a>) -> Option<Statement<'a>>
-    ensures { option_map statement_says result ≡ says_behind (Word.OfKey word) fields.entry }
-{
-    let (pubref, fields) = fields.reference()?;
-    fields.end()?;
-    Some(Statement::OfKey(word, pubref))
-}
-
-fn start<'a>(alloc: Global, fields: Fields<'a>) -> Result<Option<Statement<'a>>, AllocError>
+/// The fields of a start.
+fn read_start<'a>(alloc: Global, fields: Fields<'a>) -> Result<Option<Statement<'a>>, AllocError>
     ensures { IfOk result (λ found.
         option_map statement_says found ≡ says_behind Word.Start fields.entry) }
 {
@@ -204,47 +234,13 @@ fn start<'a>(alloc: Global, fields: Fields<'a>) -> Result<Option<Statement<'a>>,
     let Some((new, fields)) = fields.list(alloc)? else {
         return Ok(None);
     };
-    let Some(now) = time(fields) else {
+    let Some(moment) = time(fields) else {
         return Ok(None);
     };
-    Ok(Some(Statement::Start {
+    Ok(Some(Statement::Start(Start {
         rolltype,
         old,
         new,
-        now,
-    }))
-}
-
-fn report<'a>(half: Half, fields: Fields<'a>) -> Option<Statement<'a>>
-    ensures { option_map statement_says result ≡ says_behind (Word.Report half) fields.entry }
-{
-    let (rolltype, fields) = fields.roll()?;
-    let (ttl, fields) = fields.ttl()?;
-    let now = time(fields)?;
-    Some(Statement::Report(half, rolltype, ttl, now))
-}
-
-fn wait<'a>(half: Half, fields: Fields<'a>) -> Option<Statement<'a>>
-    ensures { option_map statement_says result ≡ says_behind (Word.Wait half) fields.entry }
-{
-    let (rolltype, fields) = fields.roll()?;
-    let now = time(fields)?;
-    Some(Statement::Wait(half, rolltype, now))
-}
-
-fn end<'a>(word: EndWord, fields: Fields<'a>) -> Option<Statement<'a>>
-    ensures { option_map statement_says result ≡ says_behind (Word.End word) fields.entry }
-{
-    let (rolltype, fields) = fields.roll()?;
-    fields.end()?;
-    Some(Statement::End(word, rolltype))
-}
-
-/// The moment that is the last field.
-fn time(fields: Fields<'_>) -> Option<UnixTime>
-    ensures { option_map (λ t. Moment t ∷ []) result ≡ values_of (as_time ∷ []) fields.entry }
-{
-    let (time, fields) = fields.time()?;
-    fields.end()?;
-    Some(time)
+        moment,
+    })))
 }

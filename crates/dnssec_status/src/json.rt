@@ -24,6 +24,7 @@ pub(crate) fn push_text(out: &mut Vec<u8>, text: &[u8]) -> Result<(), AllocError
     push_bytes(out, b"\"")
 }
 
+/// Writes a byte of a text, escaped if JSON asks for that.
 fn push_escaped(out: &mut Vec<u8>, byte: u8) -> Result<(), AllocError>
     ensures { OnOk result (out.new.items ≡ out.old.items ++ escaped byte) }
 {
@@ -40,6 +41,7 @@ fn push_escaped(out: &mut Vec<u8>, byte: u8) -> Result<(), AllocError>
     push_bytes(out, &[byte])
 }
 
+/// The hexadecimal digit of a number.
 fn hex_digit(number: u8) -> u8
     requires { number < 16 }
     ensures { result ≡ hex_digit number }

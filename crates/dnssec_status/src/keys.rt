@@ -29,9 +29,7 @@ pub(crate) fn in_order(
     ensures { IfOk result (λ entries.
         map entry_of entries.items ≡ fin.entries (keys_in_map keys.now)) }
 {
-    let Ok(mut entries) = keys.iter().collect::<Vec<_>>(alloc) else {
-        return Err(AllocError);
-    };
+    let mut entries = keys.iter().collect::<Vec<_>>(alloc)?;
     entries.sort_unstable_by(|one, other| one.0.cmp(other.0));
     Ok(entries)
 }
@@ -58,6 +56,7 @@ pub(crate) fn push_keys(
     }
 }
 
+/// Writes further keys, each after a comma.
 #[tactic(auto, unfolding(crate::specs::Json::further_json))]
 fn push_further(
     alloc: Global,
@@ -90,6 +89,7 @@ fn push_key(
     push_end(alloc, out, listed, reference, key)
 }
 
+/// Writes what the key itself says.
 fn push_front(
     alloc: Global,
     out: &mut Vec<u8>,
@@ -162,6 +162,7 @@ fn rolls_of(
     Ok(rolls)
 }
 
+/// Notes the roll, if it lists this key in this part.
 fn note(
     rolls: &mut Vec<RollType>,
     key: &Listed,
@@ -177,6 +178,7 @@ fn note(
     Ok(())
 }
 
+/// Whether the two parts are one.
 fn same_part(part: Part, other: Part) -> bool
     ensures { result ≡ same_part part other }
 {
@@ -186,6 +188,7 @@ fn same_part(part: Part, other: Part) -> bool
     }
 }
 
+/// Writes what an add says of the key.
 #[tactic(auto, unfolding(crate::specs::Keys::traits_json))]
 fn push_traits(alloc: Global, out: &mut Vec<u8>, key: &Key) -> Result<(), AllocError>
     ensures { OnOk result (out.new.items ≡ out.old.items ++ traits_json key.now) }
@@ -200,6 +203,7 @@ fn push_traits(alloc: Global, out: &mut Vec<u8>, key: &Key) -> Result<(), AllocE
     push_flag(out, key.decoupled())
 }
 
+/// Writes the private reference, or null.
 #[tactic(auto, unfolding(crate::specs::Json::option_json))]
 fn push_private(out: &mut Vec<u8>, privref: Option<&str>) -> Result<(), AllocError>
     ensures { OnOk result (out.new.items ≡ out.old.items
@@ -211,6 +215,7 @@ fn push_private(out: &mut Vec<u8>, privref: Option<&str>) -> Result<(), AllocErr
     }
 }
 
+/// Writes when the key passed the stages of its life.
 #[tactic(auto, unfolding(crate::specs::Keys::stamps_json))]
 fn push_stamps(alloc: Global, out: &mut Vec<u8>, stamps: &KeyTimestamps) -> Result<(), AllocError>
     ensures { OnOk result (out.new.items ≡ out.old.items ++ stamps_json stamps.now) }
@@ -229,6 +234,7 @@ fn push_stamps(alloc: Global, out: &mut Vec<u8>, stamps: &KeyTimestamps) -> Resu
     push_stamp(alloc, out, stamps.withdrawn())
 }
 
+/// Writes a stamp in whole seconds, or null.
 #[tactic(auto, unfolding(crate::specs::Json::option_json))]
 fn push_stamp(alloc: Global, out: &mut Vec<u8>, stamp: Option<UnixTime>) -> Result<(), AllocError>
     ensures { OnOk result (out.new.items ≡ out.old.items ++ option_json seconds stamp) }
@@ -242,6 +248,7 @@ fn push_stamp(alloc: Global, out: &mut Vec<u8>, stamp: Option<UnixTime>) -> Resu
     }
 }
 
+/// Writes the kind of a key and its roles.
 #[tactic(auto, unfolding(crate::specs::Keys::kind_json))]
 fn push_kind(out: &mut Vec<u8>, keytype: KeyType) -> Result<(), AllocError>
     ensures { OnOk result (out.new.items ≡ out.old.items ++ kind_json keytype) }
@@ -254,6 +261,7 @@ fn push_kind(out: &mut Vec<u8>, keytype: KeyType) -> Result<(), AllocError>
     }
 }
 
+/// Writes the only role of a key.
 fn push_only(
     out: &mut Vec<u8>,
     before: &[u8],
@@ -268,6 +276,7 @@ fn push_only(
     push_bytes(out, b"]")
 }
 
+/// Writes the two roles of a CSK.
 fn push_csk(out: &mut Vec<u8>, ksk: KeyState, zsk: KeyState) -> Result<(), AllocError>
     ensures { OnOk result (out.new.items ≡ out.old.items ++ kind_json (KeyType.Csk ksk zsk)) }
 {
@@ -278,6 +287,7 @@ fn push_csk(out: &mut Vec<u8>, ksk: KeyState, zsk: KeyState) -> Result<(), Alloc
     push_bytes(out, b"]")
 }
 
+/// Writes the state of a role.
 #[tactic(auto, unfolding(crate::specs::Keys::role_json))]
 fn push_role(out: &mut Vec<u8>, role: &str, state: KeyState) -> Result<(), AllocError>
     ensures { OnOk result (out.new.items ≡ out.old.items ++ role_json role.now state) }
@@ -294,6 +304,7 @@ fn push_role(out: &mut Vec<u8>, role: &str, state: KeyState) -> Result<(), Alloc
     push_bytes(out, b"}")
 }
 
+/// One word for a role's state.
 #[tactic(auto, unfolding(crate::specs::Keys::state_word))]
 fn state_word(old: bool, signer: bool, present: bool) -> &'static str
     ensures { result.now ≡ state_word old signer present }
@@ -309,6 +320,7 @@ fn state_word(old: bool, signer: bool, present: bool) -> &'static str
     }
 }
 
+/// Writes the flags of a role's state.
 #[tactic(auto, unfolding(crate::specs::Keys::flags_json))]
 fn push_flags(out: &mut Vec<u8>, state: KeyState) -> Result<(), AllocError>
     ensures { OnOk result (out.new.items ≡ out.old.items ++ flags_json state) }

@@ -1,11 +1,11 @@
 //! The names of rolls and actions.
 ghost use Rattle.std.specs.Prelude.{◌≡◌, ◌++◌, OnOk};
-ghost use Rattle.dnssec_key.specs.Texts.{roll_name};
 ghost use Rattle.dnssec_record.specs.Output.{action_name};
 ghost use Rattle.dnssec_status.specs.Json.{array_json, further_json};
 ghost use Rattle.dnssec_status.specs.Names.{action_json, roll_json};
 
 use crate::json::push_bytes;
+use dnssec_key::roll_name;
 use dnssec_keyset::{Action, RollType};
 use std::alloc::AllocError;
 
@@ -17,19 +17,6 @@ pub(crate) fn push_roll_name(out: &mut Vec<u8>, roll: RollType) -> Result<(), Al
     push_bytes(out, b"\"")?;
     push_bytes(out, roll_name(roll).as_bytes())?;
     push_bytes(out, b"\"")
-}
-
-fn roll_name(roll: RollType) -> &'static str
-    ensures { result.now ≡ roll_name roll }
-{
-    match roll {
-        RollType::KskRoll => "ksk-roll",
-        RollType::KskDoubleDsRoll => "ksk-double-ds-roll",
-        RollType::ZskRoll => "zsk-roll",
-        RollType::ZskDoubleSignatureRoll => "zsk-double-signature-roll",
-        RollType::CskRoll => "csk-roll",
-        RollType::AlgorithmRoll => "algorithm-roll",
-    }
 }
 
 /// Writes an array of names of rolls.
@@ -48,6 +35,7 @@ pub(crate) fn push_roll_names(out: &mut Vec<u8>, rolls: &[RollType]) -> Result<(
     }
 }
 
+/// Writes further rolls, each after a comma.
 #[tactic(auto, unfolding(crate::specs::Json::further_json))]
 fn push_further_rolls(out: &mut Vec<u8>, rolls: &[RollType]) -> Result<(), AllocError>
     ensures { OnOk result (out.new.items ≡ out.old.items ++ further_json roll_json rolls.now) }
@@ -75,6 +63,7 @@ pub(crate) fn push_actions(out: &mut Vec<u8>, actions: &[Action]) -> Result<(), 
     }
 }
 
+/// Writes further actions, each after a comma.
 #[tactic(auto, unfolding(crate::specs::Json::further_json))]
 fn push_further_actions(out: &mut Vec<u8>, actions: &[Action]) -> Result<(), AllocError>
     ensures { OnOk result (out.new.items ≡ out.old.items
@@ -87,6 +76,7 @@ fn push_further_actions(out: &mut Vec<u8>, actions: &[Action]) -> Result<(), All
     Ok(())
 }
 
+/// Writes the name of an action.
 fn push_action(out: &mut Vec<u8>, action: Action) -> Result<(), AllocError>
     ensures { OnOk result (out.new.items ≡ out.old.items ++ action_json action) }
 {
@@ -95,6 +85,7 @@ fn push_action(out: &mut Vec<u8>, action: Action) -> Result<(), AllocError>
     push_bytes(out, b"\"")
 }
 
+/// The name of an action.
 fn action_name(action: Action) -> &'static str
     ensures { result.now ≡ action_name action }
 {

@@ -84,6 +84,7 @@ pub(crate) fn push_rolls(
     }
 }
 
+/// Writes further rolls, each after a comma.
 #[tactic(auto, unfolding(crate::specs::Json::further_json))]
 fn push_further(alloc: Global, out: &mut Vec<u8>, rolls: &[Going]) -> Result<(), AllocError>
     ensures { OnOk result (out.new.items ≡ out.old.items ++ further_json going_json rolls.now) }
@@ -95,6 +96,7 @@ fn push_further(alloc: Global, out: &mut Vec<u8>, rolls: &[Going]) -> Result<(),
     Ok(())
 }
 
+/// Writes a roll in progress, with what is due.
 #[tactic(auto, unfolding(crate::specs::Rolls::going_json))]
 fn push_roll(alloc: Global, out: &mut Vec<u8>, going: &Going) -> Result<(), AllocError>
     ensures { OnOk result (out.new.items ≡ out.old.items ++ going_json going.now) }
@@ -103,6 +105,7 @@ fn push_roll(alloc: Global, out: &mut Vec<u8>, going: &Going) -> Result<(), Allo
     push_parts(alloc, out, going.roll, going.phase, going.end, due)
 }
 
+/// Writes a roll in progress by its parts.
 fn push_parts(
     alloc: Global,
     out: &mut Vec<u8>,
@@ -125,6 +128,7 @@ fn push_parts(
     push_bytes(out, b"}")
 }
 
+/// Writes the phase of a roll, its TTL and the next call.
 fn push_phase(alloc: Global, out: &mut Vec<u8>, phase: RollState) -> Result<(), AllocError>
     ensures { OnOk result (out.new.items ≡ out.old.items ++ phase_json phase) }
 {
@@ -155,6 +159,7 @@ fn push_phase(alloc: Global, out: &mut Vec<u8>, phase: RollState) -> Result<(), 
     }
 }
 
+/// Writes a TTL between two pieces.
 fn push_ttl(
     alloc: Global,
     out: &mut Vec<u8>,
@@ -181,6 +186,7 @@ fn push_end(alloc: Global, out: &mut Vec<u8>, end: Option<WaitEnd>) -> Result<()
     }
 }
 
+/// Writes the end of a wait, or null if it is past all time.
 #[tactic(auto, unfolding(crate::specs::Rolls::end_json))]
 fn push_wait_end(alloc: Global, out: &mut Vec<u8>, end: &WaitEnd) -> Result<(), AllocError>
     ensures { OnOk result (out.new.items ≡ out.old.items ++ end_json (Some end.now)) }
@@ -191,6 +197,7 @@ fn push_wait_end(alloc: Global, out: &mut Vec<u8>, end: &WaitEnd) -> Result<(), 
     }
 }
 
+/// Writes the first whole second that is not before a moment.
 #[tactic(auto, unfolding(crate::specs::Rolls::next_second))]
 fn push_next_second(alloc: Global, out: &mut Vec<u8>, moment: &UnixTime) -> Result<(), AllocError>
     ensures { OnOk result (out.new.items ≡ out.old.items ++ next_second moment.now) }
@@ -228,6 +235,7 @@ fn has_parent_action(due: &[Action]) -> bool
     false
 }
 
+/// Whether the parent has to act.
 fn is_for_parent(action: Action) -> bool
     ensures { result ≡ is_for_parent action }
 {
@@ -250,6 +258,7 @@ pub(crate) fn push_ended(out: &mut Vec<u8>, rolls: &[RollType]) -> Result<(), Al
     }
 }
 
+/// Writes further early ends, each after a comma.
 #[tactic(auto, unfolding(crate::specs::Json::further_json))]
 fn push_further_ended(out: &mut Vec<u8>, rolls: &[RollType]) -> Result<(), AllocError>
     ensures { OnOk result (out.new.items ≡ out.old.items ++ further_json ended_json rolls.now) }
@@ -261,6 +270,7 @@ fn push_further_ended(out: &mut Vec<u8>, rolls: &[RollType]) -> Result<(), Alloc
     Ok(())
 }
 
+/// Writes a roll that was ended early, with what its end asked for.
 #[tactic(auto, unfolding(crate::specs::Rolls::ended_json))]
 fn push_end_of(out: &mut Vec<u8>, roll: RollType) -> Result<(), AllocError>
     ensures { OnOk result (out.new.items ≡ out.old.items ++ ended_json roll) }

@@ -23,6 +23,7 @@ pub(crate) fn push_sets(out: &mut Vec<u8>, sets: &Published) -> Result<(), Alloc
     push_bytes(out, b"}")
 }
 
+/// Writes a set, by its references.
 #[tactic(auto, unfolding(crate::specs::Json::array_json))]
 fn push_set(out: &mut Vec<u8>, keys: &[PublishedKey]) -> Result<(), AllocError>
     ensures { OnOk result (out.new.items ≡ out.old.items
@@ -39,6 +40,7 @@ fn push_set(out: &mut Vec<u8>, keys: &[PublishedKey]) -> Result<(), AllocError>
     }
 }
 
+/// Writes further references, each after a comma.
 #[tactic(auto, unfolding(crate::specs::Json::further_json))]
 fn push_further(out: &mut Vec<u8>, keys: &[PublishedKey]) -> Result<(), AllocError>
     ensures { OnOk result (out.new.items ≡ out.old.items
@@ -69,6 +71,7 @@ pub(crate) fn push_chain(
     }
 }
 
+/// Writes the positions of the first sets without a chain.
 #[tactic(auto, unfolding(crate::specs::Sets::chain_json))]
 fn push_broken(alloc: Global, out: &mut Vec<u8>, broken: &Broken) -> Result<(), AllocError>
     ensures { OnOk result (out.new.items ≡ out.old.items ++ chain_json (Some broken.now)) }

@@ -17,6 +17,7 @@ pub struct Handle {
 }
 
 impl Handle {
+    /// Whether it keeps a session.
     pub(crate) fn is_open(&self) -> bool
         requires { IsWhole self.now }
         ensures { result ≡ is_some (kept_by self.now) }

@@ -34,6 +34,7 @@ impl Place {
         Place { ptr: null_mut() }
     }
 
+    /// Keeps what is in a box.
     pub(crate) fn of_parts(parts: Parts<Kept, Global>) -> Place
         ensures { result.value ≡ Some parts.value }
     {
@@ -43,6 +44,7 @@ impl Place {
         }
     }
 
+    /// The box again, by its parts.
     pub(crate) fn into_parts(self, alloc: Global) -> Parts<Kept, Global>
         requires { IsSome self.value }
         ensures { Some result.value ≡ self.value }

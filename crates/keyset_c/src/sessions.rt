@@ -202,8 +202,5 @@ pub(crate) fn copy_of(alloc: Global, kept: &Kept) -> Result<Box<Kept>, AllocErro
         told: kept.told.clone()?,
         notes: kept.notes.try_clone(alloc)?,
     };
-    match Box::new(alloc, copy) {
-        Ok(copy) => Ok(copy),
-        Err(_) => Err(AllocError),
-    }
+    Ok(Box::new(alloc, copy)?)
 }

@@ -39,7 +39,7 @@ pub returns : goal.returns
 returns c =
     let m = c.args.keys.now in
     let sorted : List Lent = c.sort_unstable_by.new.self.items in
-    let ran = c.in-Ok.ensures.ran in
+    let ran = c.in_ok-entries.ensures.ran in
     let lent : List Lent → List (String Global × KeyParts) = map entry_lent in
     let walked = sym c.iter.ensures.rest
     ∙ rest_so_far entry_lent ran.0 c.iter.result ran.1.0 ran.1.1

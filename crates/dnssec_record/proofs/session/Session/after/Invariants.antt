@@ -1,8 +1,11 @@
 -- The session stands after the calls of the statements so far.
-use Rattle.std.proofs.Common.{take}
+use Rattle.std.specs.Vec.Iter.{into_iter_items, into_iter_len}
 use Rattle.dnssec_record.proofs.Sessions.{HasMade}
+use Rattle.dnssec_record.proofs.Taken.{HasTaken}
 use Rattle.dnssec_record.proofs.session.Session.after.Given as goal
 
 abbrev pub invariant-loop-statement : goal.invariant-loop-statement
 invariant-loop-statement l =
-    HasMade l.fn.name (take l.statement-index l.statements) l.session
+    HasTaken (into_iter_items l.initial.statement-iterator) l.yielded
+    (into_iter_items l.statement-iterator) (into_iter_len l.statement-iterator)
+    × HasMade l.fn.name l.yielded l.session

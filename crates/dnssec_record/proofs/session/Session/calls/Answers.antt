@@ -1,5 +1,4 @@
-use Rattle.std.proofs.Common.{◌∙◌}
 use Rattle.dnssec_record.proofs.session.Session.calls.Goals as goal
 
 pub returns : goal.returns
-returns c name calls entries stands = c.calls.ensures ∙ stands.reached.calls
+returns c name calls entries stands = c.taken.ensures entries stands.knows

@@ -4,4 +4,4 @@ use Rattle.dnssec_record.proofs.session.Session.new.Goals as goal
 pub returns-in-Ok : goal.returns-in-Ok
 returns-in-Ok c =
     begun _ _ c.new-in-Ok.ensures c.in-Ok.ensures.ok c.new-in-Ok-2.ensures.listed
-    c.new-in-Ok-2.ensures.ended c.new-in-Ok-3.ensures
+    c.new-in-Ok-2.ensures.ended

@@ -7,4 +7,3 @@ returns c name calls entries stands =
     (c.in-Ok.ensures.records name calls entries stands.records)
     ((c.in-Ok-try_clone.ensures.same entries).0 stands.knows) c.in-Ok.ensures.same.published
     c.in_ok-courses.ensures.listed c.in_ok-courses.ensures.ended
-    (c.in_ok-reached.ensures entries stands.reached)
