@@ -63,16 +63,37 @@ def adds(count):
     return FIRST + "".join(f"add-zsk A{i} - 13 {i + 2} 150 yes\n" for i in range(count))
 
 
-def crowded_rolls(pairs, keys=400, kind="public"):
-    """Rolls beside keys that are published, and that sign the zone if they are ZSKs."""
-    lines = rolls(pairs).splitlines(keepends=True)
-    first = FIRST.count("\n")
-    given = "" if kind == "public" else " -"
-    beside = [f"add-{kind} P{i}{given} 13 {i + 60002} 150 yes\n" for i in range(keys)]
-    beside += [f"set-present P{i} yes 150\n" for i in range(keys)]
-    if kind != "public":
-        beside += [f"set-signer P{i} yes\n" for i in range(keys)]
-    return "".join(lines[:first] + beside + lines[first:])
+def published(names):
+    """Keys of another signer are published one by one."""
+    adds = [f"add-public {name} 13 {i + 60002} 150 yes" for i, name in enumerate(names)]
+    return adds + [f"set-present {name} yes 150" for name in names]
+
+
+def add_zsks(names):
+    return [f"add-zsk {name} - 13 {i + 60002} 150 yes" for i, name in enumerate(names)]
+
+
+def put_in_use(names):
+    """ZSKs that setters bring into use one by one."""
+    shown = [f"set-present {name} yes 150" for name in names]
+    return add_zsks(names) + shown + [f"set-signer {name} yes" for name in names]
+
+
+def rolled_in(names):
+    """ZSKs that one roll brings into use, to its end. Its old key was brought in for that."""
+    return add_zsks(names) + [
+        "add-zsk Q - 13 60001 150 yes", "set-present Q yes 150", "set-signer Q yes",
+        f"start zsk-roll Q {','.join(names)} 150", "report1 zsk-roll 60 150",
+        "wait1 zsk-roll 210", "report2 zsk-roll 60 210", "wait2 zsk-roll 270", "done zsk-roll",
+        "delete Q",
+    ]
+
+
+def crowded_rolls(pairs, keys, come=published):
+    """Rolls beside keys that came into use in this way."""
+    lines, first = rolls(pairs).splitlines(), FIRST.count("\n")
+    beside = come([f"P{i}" for i in range(keys)])
+    return "\n".join(lines[:first] + beside + lines[first:]) + "\n"
 
 
 # What a script repeats, how often, and what makes it.
@@ -85,10 +106,11 @@ KINDS = [
     ("flag setters on 1,000 keys", 2048, lambda count: flags(count, 1000)),
     *(("keys, each set stale", count, stale) for count in (4, 64, 1024, 4096)),
     ("adds", 4096, adds),
-    ("pairs of rolls beside 400 public keys", 256, crowded_rolls),
+    ("pairs of rolls beside 400 public keys", 256, lambda count: crowded_rolls(count, 400)),
     *((f"pairs of rolls beside {keys:,} ZSKs in use", pairs,
-       lambda count, keys=keys: crowded_rolls(count, keys, "zsk"))
+       lambda count, keys=keys: crowded_rolls(count, keys, put_in_use))
       for keys, pairs in ((16, 1024), (256, 256), (4096, 64))),
+    ("the same, in use by one start", 64, lambda count: crowded_rolls(count, 4096, rolled_in)),
 ]
 
 

@@ -14,6 +14,7 @@ import argparse
 import math
 
 from programs import Bench
+from scripts import crowded_rolls, put_in_use, rolled_in
 from successive_rolls import FIRST
 
 RUNS = 3
@@ -178,22 +179,6 @@ def stale(count):
     return lines(keys, (f"set-stale A{i}" for i in range(count // 2)))
 
 
-def crowded_rolls(count):
-    """Rolls of a ZSK beside as many keys as lines."""
-    keys = [f"add-public P{i} 13 {i + 2} 150 yes" for i in range(count // 3)]
-    shown = [f"set-present P{i} yes 160" for i in range(count // 3)]
-    turns = []
-    for i in range(64):
-        old, new = ("Z0", "Z1") if i % 2 == 0 else ("Z1", "Z0")
-        t = 1000 * (i + 1)
-        turns += [f"add-zsk {new} - 13 {65000 + i % 2} {t} yes"] if i else [
-            f"add-zsk {new} - 13 65000 {t} yes"]
-        turns += [f"start zsk-roll {old} {new} {t}", f"report1 zsk-roll 60 {t}",
-                  f"wait1 zsk-roll {t + 60}", f"report2 zsk-roll 60 {t + 60}",
-                  f"wait2 zsk-roll {t + 120}", "done zsk-roll", f"delete {old}"]
-    return lines(keys, shown, turns)
-
-
 def folded(one, other):
     product = one * other
     return (product & (1 << 64) - 1) ^ product >> 64
@@ -227,7 +212,7 @@ def line_feeds(count):
 
 
 class Row:
-    """A script with this many lines, and the bounds of its time and its memory."""
+    """A script with so many lines or keys, and the bounds of its time and its memory."""
 
     def __init__(self, name, count, make, bound, long=False, status=0):
         self.name, self.count, self.make, self.bound = name, count, make, bound
@@ -251,7 +236,11 @@ ROWS = [
     Row("65,536 keys", 65534, adds, "lines"),
     Row("rolls from many keys to many", 65532, long_lists, "lines"),
     Row("set-stale of unpublished keys", 8192, stale, "lines"),
-    Row("64 rolls beside published keys", 12288, crowded_rolls, "lines²"),
+    Row("64 rolls beside published keys", 4096, lambda count: crowded_rolls(32, count), "lines²"),
+    Row("64 rolls beside ZSKs in use", 4096, lambda count: crowded_rolls(32, count, put_in_use),
+        "lines²"),
+    Row("the same, in use by one start", 4096, lambda count: crowded_rolls(32, count, rolled_in),
+        "keys"),
     Row("10,000 references of one hash", 10000, colliding, "lines²; lines"),
     Row("40,000 references of one hash", 40000, colliding, "lines²; lines", long=True),
     Row("100 MB of line feeds", 100_000_000, line_feeds, "bytes", status=1),
