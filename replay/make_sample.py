@@ -75,7 +75,7 @@ def examples():
 def main():
     parser = argparse.ArgumentParser()
     parser.add_argument("--original")
-    parser.add_argument("--count", type=int, default=261)
+    parser.add_argument("--count", type=int, default=265)
     given = parser.parse_args()
     chosen = choose(given.count)
     chosen.update((name, path.read_text().splitlines()) for name, path in examples().items())

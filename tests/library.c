@@ -11,8 +11,8 @@
    come here: -Wl,--wrap=malloc,--wrap=realloc,--wrap=free */
 
 #define _GNU_SOURCE
-#include "border.h"
 #include "reader.h"
+#include "stored.h"
 
 #include <keyset.h>
 
@@ -31,12 +31,6 @@ static const char *const PIECES[] = {
     "\n", " ", ",", "-", "\\", ".", "0", "9", "\r", "\t", "\x7F", "\x80", "\xFE", "\n\n", "  ",
     ",,", "-,", "000", "256", "65536", "4294967296", "18446744073709551616",
     "000000000000000000001", "yes", "ED448", "abort ", "zone ", "CSK-roll",
-};
-
-struct stored {
-    const char *name;
-    const char *script, *answer;
-    size_t script_length, answer_length;
 };
 
 /* A call in which the request of this number fails; with 0 none does. */
@@ -112,9 +106,8 @@ static size_t expect_beginnings(const struct stored *it, size_t step)
 /* The next of numbers that look random, and are the same in each run. */
 static size_t draw(size_t below)
 {
-    static uint64_t state = 1;
-    state = state * 6364136223846793005u + 1442695040888963407u;
-    return (size_t)(state >> 33) % below;
+    static unsigned short state[3] = {1};
+    return (size_t)nrand48(state) % below;
 }
 
 /* Flips a bit, puts a piece in or leaves some bytes out, in one to three places. */
@@ -205,35 +198,9 @@ static size_t fail_in_turn(const struct stored *it)
     }
 }
 
-static struct stored *stored;
-static size_t scripts;
-
 static size_t divisor(size_t a, size_t b)
 {
     return b == 0 ? a : divisor(b, a % b);
-}
-
-static void read_stored(const char *path)
-{
-    static char text[1 << 22];
-    FILE *file = fopen(path, "r");
-    expect(file != NULL, "the file of stored scripts", path);
-    text[fread(text, 1, sizeof text - 1, file)] = '\0';
-    fclose(file);
-    char *at = strstr(text, "\n== ");
-    while (at != NULL) {
-        char *name = at + strlen("\n== "), *next = strstr(name, "\n== ");
-        if (next != NULL)
-            *next = '\0';
-        char *script = strchr(name, '\n') + 1, *end = strstr(script, "-- answers\n");
-        expect(end != NULL, "a script with answers", path);
-        script[-1] = *end = '\0';
-        char *answer = end + strlen("-- answers\n");
-        stored = realloc(stored, (scripts + 1) * sizeof *stored);
-        expect(stored != NULL, "memory for the scripts", path);
-        stored[scripts++] = (struct stored){name, script, answer, strlen(script), strlen(answer)};
-        at = next;
-    }
 }
 
 /* The scripts in an order of the thread's own. Its stride and their number have no divisor in

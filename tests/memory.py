@@ -1,7 +1,8 @@
 #!/usr/bin/env python3
-"""Lets each request for memory fail in turn: those of calls of a key set, of its copies, of names,
-of a script's record and of a judge. It also checks that the audit by the definition makes none. (In
-`tests/library.c` the requests for a script's answers fail.)
+"""Lets each request for memory fail in turn: those of names, of a stored script's record, of copies
+of its keys and its key set, and of a judge. It also checks that the audit by the definition makes
+none. (In `tests/library.c` the requests for a script's answers fail, and in `tests/sessions.c`
+those of each call.)
 
 It runs the program `memory_of_calls`, which `rt ci` has made by then, once for each request of each
 of its works, with `tests/memory.c` in place of the C library's allocator.
@@ -19,20 +20,24 @@ from pathlib import Path
 from tools import CRATES, STRICT, TOP, Wrong, run
 
 PROGRAM = CRATES / "memory_of_calls" / "out" / "memory_of_calls"
+STORED = TOP / "replay" / "scripts.txt"
+
+# The scripts that the works begin with.
+SCRIPTS = ("rolls-beside-many-keys", "public-keys-published-one-by-one")
 
 # What the letters of the program's input stand for.
-RECORD, DEFINITION, WINDOW = "v", "d", "w"
+INPUT, RECORD, DEFINITION, WINDOW = "i", "v", "d", "w"
+NAMES = "n"
 WORKS = {
-    "n": "names",
-    "r": "rolls",
-    "k": "copies of keys",
-    "s": "copies of key sets",
+    NAMES: "names",
     RECORD: "a record",
+    "k": "copies of its keys",
+    "s": "a copy of its key set",
     DEFINITION: "its audit by the definition",
     WINDOW: "its audit by a judge",
 }
-# These works begin with a record, whose requests don't fail.
-AUDITS = {DEFINITION, WINDOW}
+# Each work begins with one whose requests don't fail: a record, or only its input.
+BEGINNINGS = {NAMES: INPUT, RECORD: INPUT}
 
 MADE = re.compile(r"requests: (?P<made>\d+)\n")
 
@@ -53,43 +58,43 @@ def build(folder):
     return allocator
 
 
-def outcome_of(allocator, letter, failing):
+def outcome_of(allocator, letter, script, failing):
     """The outcome of a work in which the request of this number fails, if there is one."""
     made = {**os.environ, "LD_PRELOAD": str(allocator), "FAILING_REQUEST": str(failing)}
-    ran = subprocess.run([PROGRAM], input=letter, capture_output=True, text=True, env=made)
+    ran = subprocess.run([PROGRAM], input=letter + script, capture_output=True, text=True, env=made)
     told = MADE.fullmatch(ran.stderr)
     if not told:
-        raise Wrong(f"{WORKS[letter]}: request {failing}: status {ran.returncode}\n{ran.stderr}")
+        raise Wrong(f"{letter}: request {failing}: status {ran.returncode}\n{ran.stderr}")
     return Outcome(ran.stdout, ran.returncode, int(told["made"]))
 
 
-def in_turn(allocator):
-    """Lets each request of each work fail. Gives for each work how many requests failed, and how
-    many of them made it refuse a call."""
-    recorded = with_ample(allocator, RECORD)
-    for letter, work in WORKS.items():
-        first = recorded if letter in AUDITS else 0
-        made = range(first + 1, with_ample(allocator, letter) + 1)
-        refused = 0
-        for failing in made:
-            outcome = outcome_of(allocator, letter, failing)
-            if outcome.made < failing:
-                raise Wrong(f"{work}: request {failing} was not made: {outcome}")
-            refused += is_refused(f"{work}: request {failing}", outcome)
-        yield work, len(made), refused
-        if letter == DEFINITION and made:
-            raise Wrong(f"{work} asks for memory")
-        if letter == WINDOW and refused < len(made):
-            raise Wrong(f"{work} has a verdict though a request was refused")
-        if letter != DEFINITION and refused == 0:
-            raise Wrong(f"{work}: no call was refused for lack of memory")
+def in_turn(allocator, letter, script):
+    """Lets each request of a work fail. Gives how many failed, and how many of them made it refuse
+    a call."""
+    work = WORKS[letter]
+    first = with_ample(allocator, BEGINNINGS.get(letter, RECORD), script)
+    made = range(first + 1, with_ample(allocator, letter, script) + 1)
+    refused = 0
+    for failing in made:
+        outcome = outcome_of(allocator, letter, script, failing)
+        if outcome.made < failing:
+            raise Wrong(f"{work}: request {failing} was not made: {outcome}")
+        refused += is_refused(f"{work}: request {failing}", outcome)
+    if letter == DEFINITION and made:
+        raise Wrong(f"{work} asks for memory")
+    if letter == WINDOW and refused < len(made):
+        raise Wrong(f"{work} has a verdict though a request was refused")
+    if letter != DEFINITION and refused == 0:
+        raise Wrong(f"{work}: no call was refused for lack of memory")
+    print(f"{work}: {len(made)} requests for memory failed in turn, {refused} of a call")
+    return len(made)
 
 
-def with_ample(allocator, letter):
+def with_ample(allocator, letter, script):
     """How many requests a work makes if none fails."""
-    outcome = outcome_of(allocator, letter, 0)
+    outcome = outcome_of(allocator, letter, script, 0)
     if outcome.status or outcome.written != "ample\n":
-        raise Wrong(f"{WORKS[letter]}: it doesn't go well with ample memory: {outcome}")
+        raise Wrong(f"{letter}: it doesn't go well with ample memory: {outcome}")
     return outcome.made
 
 
@@ -101,13 +106,21 @@ def is_refused(where, outcome):
     return outcome.written == "refused\n"
 
 
+def stored_script(name):
+    """The lines of a stored script."""
+    part = STORED.read_text().split(f"\n== {name}\n")[1]
+    return part.split("-- answers\n")[0]
+
+
 def main():
     began, total = time.monotonic(), 0
     try:
         with tempfile.TemporaryDirectory() as folder:
-            for work, made, refused in in_turn(build(folder)):
-                print(f"{work}: {made} requests for memory failed in turn, {refused} of a call")
-                total += made
+            allocator = build(folder)
+            total += in_turn(allocator, NAMES, "")
+            for name in SCRIPTS:
+                for letter in [*WORKS][1:]:
+                    total += in_turn(allocator, letter, stored_script(name))
     except Wrong as wrong:
         print(wrong)
         return 1

@@ -6,12 +6,13 @@
    same goes for a buffer of each length (only every STEP lengths, as a checker of memory makes it
    slow), between malformed lines that change nothing, and side by side in threads, each with its
    sessions in an order of its own. Copies of one session go to threads, too. Each request for
-   memory fails in turn: a session that it closes says so, and goes on from its lines. Each call
-   says that a closed handle is closed; such a handle may be opened again. The linker has malloc,
-   realloc and free of the library come here: -Wl,--wrap=malloc,--wrap=realloc,--wrap=free */
+   memory fails in turn: a session that it closes says so, and goes on from its lines; a call that
+   it refuses changes nothing, and is answered as stored when it is made again. Each call says that
+   a closed handle is closed; such a handle may be opened again. The linker has malloc, realloc and
+   free of the library come here: -Wl,--wrap=malloc,--wrap=realloc,--wrap=free */
 
 #define _GNU_SOURCE
-#include "border.h"
+#include "stored.h"
 
 #include <keyset.h>
 
@@ -35,35 +36,7 @@ static const char *const MALFORMED[] = {
 };
 #define MALFORMED_LINES (sizeof MALFORMED / sizeof *MALFORMED)
 
-struct stored {
-    const char *name;
-    const char *script, *answer;
-};
-
-static struct stored *stored;
-static size_t scripts, step = 1;
-
-static void read_stored(const char *path)
-{
-    static char text[1 << 22];
-    FILE *file = fopen(path, "r");
-    expect(file != NULL, "the file of stored scripts", path);
-    text[fread(text, 1, sizeof text - 1, file)] = '\0';
-    fclose(file);
-    char *at = strstr(text, "\n== ");
-    while (at != NULL) {
-        char *name = at + strlen("\n== "), *next = strstr(name, "\n== ");
-        if (next != NULL)
-            *next = '\0';
-        char *script = strchr(name, '\n') + 1, *end = strstr(script, "-- answers\n");
-        expect(end != NULL, "a script with answers", path);
-        script[-1] = *end = '\0';
-        stored = realloc(stored, (scripts + 1) * sizeof *stored);
-        expect(stored != NULL, "memory for the scripts", path);
-        stored[scripts++] = (struct stored){name, script, end + strlen("-- answers\n")};
-        at = next;
-    }
-}
+static size_t step = 1;
 
 /* ---- the calls of the library, with its requests counted */
 
@@ -310,16 +283,36 @@ static size_t play_alone(const struct stored *it)
 
 /* ---- requests for memory that fail */
 
+/* A new session after the lines before this one. */
+static struct keyset_session played_again(const struct play *play)
+{
+    struct play again;
+    expect(begin(&again, play->it), "opened anew", play->it->name);
+    while (again.line < play->line)
+        next(&again);
+    return again.session;
+}
+
 /* Opens the session that a call has closed again, with the lines before this one. */
 static void open_anew(struct play *play)
 {
     expect(requests.held == 0, "all is freed", play->it->name);
     expect_closed(&play->session);
-    struct play again;
-    expect(begin(&again, play->it), "opened anew", play->it->name);
-    while (again.line < play->line)
-        next(&again);
-    play->session = again.session;
+    play->session = played_again(play);
+}
+
+/* A call that is refused for lack of memory takes some, and has changed nothing. */
+static void expect_unchanged(struct play *play)
+{
+    const char *line = play->line;
+    bool asks = strncmp(play->wanted, "ok ", 3) == 0, adds = strncmp(line, "add-", 4) == 0;
+    expect(asks || adds || strncmp(line, "start ", 6) == 0, "a call that takes memory",
+           play->it->name);
+    struct keyset_session before = played_again(play);
+    char *wanted = answer_of(keyset_status, &before);
+    expect_told(keyset_status, &play->session, wanted, "after a refusal for lack of memory");
+    free(wanted);
+    close_session(&before);
 }
 
 /* Plays a script in which the request of this number fails, and says whether there was one. The
@@ -349,6 +342,7 @@ static bool play_failing(const struct stored *it, size_t failing, size_t *closed
             (*closed)++;
         } else if (told.length == strlen(REFUSED) && memcmp(out, REFUSED, told.length) == 0) {
             expect(fails_now, "refused for memory", it->name);
+            expect_unchanged(&play);
             was_refused = true;
         } else {
             expect(told.length == needed && memcmp(out, play.wanted, needed) == 0, "as stored",

@@ -2,9 +2,10 @@
 """Takes each roll through all its phases. Between any two of its calls it puts each setter on each
 key, a deletion, a call made again, an early end and a moment that goes back. After each of them it
 also ends the roll early, and starts it again. Each answer, the record, and the whole key set after
-each call have to be those of the tables (`replay/tables.py`), which share no text with the key set.
-Both audits have to give the same verdict on each record. The same goes for the stored scripts,
-whose answers are stored too, with the chain line.
+each call have to be those of the tables (`replay/tables.py`), which share no text with the key set;
+so have the texts of states, what is due of each roll, and when its wait is over. (The program tries
+each wait at its end, and a nanosecond before it.) Both audits have to give the same verdict on each
+record. The same goes for the stored scripts, whose answers are stored too, with the chain line.
 
 It asks the program `callers`, which `rt ci` has made by then.
 """
@@ -17,7 +18,7 @@ from pathlib import Path
 TOP = Path(__file__).resolve().parent.parent
 sys.path.insert(0, str(TOP / "replay"))
 
-from tables import KeySet  # noqa: E402
+from tables import ROLLS, KeySet  # noqa: E402
 
 PROGRAM = TOP / "crates" / "callers" / "out" / "callers"
 STORED = TOP / "replay" / "scripts.txt"
@@ -67,7 +68,28 @@ PHASES = {
     "wait2": "CacheExpire2({})",
     "done": "Done",
 }
+# Which actions are due in a phase, by their name in the tables.
+DUE = {"report1": "started", "report2": "halfway", "done": "ended"}
 FLAG_NAMES = ["old", "signer", "present", "at_parent"]
+# What an operator reads of a state: its flags, and the part that such a key plays in a roll.
+STATES = {
+    "": "(Future)",
+    "at_parent": "At Parent(Future)",
+    "present": "Present (Incoming)",
+    "present at_parent": "Present, At Parent (Incoming)",
+    "signer": "Signer",
+    "signer at_parent": "Signer, At Parent",
+    "signer present": "Signer, Present (Active)",
+    "signer present at_parent": "Signer, Present, At Parent (Active)",
+    "old": "Old (Stale)",
+    "old at_parent": "Old, At Parent (Stale)",
+    "old present": "Old, Present (Retired)",
+    "old present at_parent": "Old, Present, At Parent (Retired)",
+    "old signer": "Old, Signer",
+    "old signer at_parent": "Old, Signer, At Parent",
+    "old signer present": "Old, Signer, Present (Leaving)",
+    "old signer present at_parent": "Old, Signer, Present, At Parent (Leaving)",
+}
 SET_NAMES = ["ds", "dnskey", "dnskey_signers", "zone_signers"]
 # How these characters are printed in a text with quotes.
 ESCAPED = str.maketrans({'"': '\\"', "\\": "\\\\"})
@@ -165,6 +187,27 @@ def flags(state):
     return listed("true" if flag in state else "false" for flag in FLAG_NAMES)
 
 
+def text_of(state):
+    return STATES[" ".join(flag for flag in FLAG_NAMES if flag in state)]
+
+
+def wait_end(keyset, roll):
+    """The second from which on the wait of a roll is over, if it has one. A number that no moment
+    has stands for all of these."""
+    phase, ttl = keyset.phases.get(roll, (None, 0))
+    stamps = keyset.checked(phase, roll) if phase in ("wait1", "wait2") else [None]
+    if None in stamps:
+        return None
+    return min(max((stamp + ttl for stamp in stamps), default=0), 1 << 64) if ttl else 0
+
+
+def told_of_roll(keyset, roll):
+    phase, ttl = keyset.phases.get(roll, (None, 0))
+    named = PHASES[phase].format(ttl) if phase else None
+    due = ROLLS[roll][DUE[phase]].split() if phase in DUE else []
+    return f"{roll_name(roll)} {some(named)} {listed(due)} {some(wait_end(keyset, roll))} true"
+
+
 def told(keyset):
     """The whole key set, line by line, as the program prints it, in alphabetical order."""
     lines = [f"{len(keyset.keys)} keys, {len(keyset.phases)} rolls"]
@@ -177,8 +220,8 @@ def told(keyset):
             f"{name} {some(private)} {key.kind} {first} {some(*second or [None])}"
             f" {key.algorithm} {key.tag} {decoupled} {stamps}"
         )
-    for roll, (phase, ttl) in keyset.phases.items():
-        lines.append(f"{roll_name(roll)} {PHASES[phase].format(ttl)}")
+        lines += [f"{name}: {text_of(state)}" for state in key.states]
+    lines += [told_of_roll(keyset, roll) for roll in ROLLS]
     return sorted(lines)
 
 

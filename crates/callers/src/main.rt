@@ -6,8 +6,10 @@
 mod first_keys;
 mod names;
 mod noted;
+mod replies;
 mod runs;
 mod verdicts;
+mod wait_ends;
 mod whole_sets;
 
 use anyhow::Result;
@@ -34,5 +36,6 @@ fn main(rt: HostRuntime) -> Result<()> {
     println!(rt; "{}", verdicts::judge(rt.alloc(), TOO_SOON)?)?;
     println!(rt; "{}", runs::publish(rt.alloc())?)?;
     println!(rt; "{}", noted::first_report(rt.alloc())?)?;
+    println!(rt; "{:?}", replies::without_keys(rt.alloc())?)?;
     Ok(())
 }

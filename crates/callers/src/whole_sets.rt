@@ -1,17 +1,29 @@
 //! Writes what scripts are answered, what their records say, whether `audit` and `audit_window`
-//! agree on these, and the whole key set after each call, as its getters give it. `tests/sets.py`
-//! compares all that with the tables and with stored answers.
+//! agree on these, and the whole key set after each call: what the getters of a copy give, the
+//! texts of its states, and for each roll the actions that are due, when its wait is over, and
+//! whether waits are answered so. `tests/sets.py` compares all that with the tables and with stored
+//! answers.
 ghost use Rattle.std.specs.Prelude.{IfOk, string_bytes};
 ghost use Rattle.dnssec_record.specs.Answer.{IsAnswerOf};
 
+use crate::wait_ends::{is_end_true, over_from};
 use anyhow::Result;
-use dnssec_keyset::{Key, KeySet, KeyState, KeyType, UnixTime};
+use dnssec_keyset::{Key, KeySet, KeyState, KeyType, RollType, UnixTime};
 use dnssec_record::{Std, audit, audit_window, record_script, run_script};
 use std::alloc::Global;
 use std::time::Duration;
 
 /// The flags of a role: old, signer, present, at parent.
 type Flags = [bool; 4];
+
+const ROLLS: [RollType; 6] = [
+    RollType::KskRoll,
+    RollType::KskDoubleDsRoll,
+    RollType::ZskRoll,
+    RollType::ZskDoubleSignatureRoll,
+    RollType::CskRoll,
+    RollType::AlgorithmRoll,
+];
 
 /// An empty line stands between two scripts, and between two parts of what is written.
 pub fn tell(rt: &HostRuntime, scripts: &str) -> Result<()> {
@@ -50,17 +62,20 @@ fn tell_record(rt: &HostRuntime, script: &str) -> Result<()> {
 }
 
 fn tell_set_behind(rt: &HostRuntime, script: &str) -> Result<()> {
-    let set = record_script(rt.alloc(), script.as_bytes())?.keyset;
+    let run = record_script(rt.alloc(), script.as_bytes())?;
+    let set = run.keyset.try_clone()?;
     println!(rt;
         "{} keys, {} rolls",
         set.keys().len(),
         set.rollstates().len()
     )?;
     for (reference, key) in set.keys() {
-        tell_key(rt, reference.as_str(), key)?;
+        let copy = key.try_clone()?;
+        tell_key(rt, reference.as_str(), &copy)?;
+        tell_states(rt, reference.as_str(), copy.keytype())?;
     }
-    for (roll, phase) in set.rollstates() {
-        println!(rt; "{roll:?} {phase:?}")?;
+    for roll in ROLLS {
+        tell_roll(rt, &set, roll)?;
     }
     println!(rt)?;
     Ok(())
@@ -87,6 +102,34 @@ fn roles(keytype: KeyType) -> (&'static str, Flags, Option<Flags>) {
         KeyType::Csk(ksk, zsk) => ("csk", flags(ksk), Some(flags(zsk))),
         KeyType::Include(state) => ("include", flags(state), None),
     }
+}
+
+fn tell_states(rt: &HostRuntime, reference: &str, keytype: KeyType) -> Result<()> {
+    match keytype {
+        KeyType::Ksk(state) | KeyType::Zsk(state) | KeyType::Include(state) => {
+            tell_state(rt, reference, state)
+        }
+        KeyType::Csk(ksk, zsk) => {
+            tell_state(rt, reference, ksk)?;
+            tell_state(rt, reference, zsk)
+        }
+    }
+}
+
+fn tell_state(rt: &HostRuntime, reference: &str, state: KeyState) -> Result<()> {
+    println!(rt; "{reference}: {state}")?;
+    Ok(())
+}
+
+fn tell_roll(rt: &HostRuntime, set: &KeySet, roll: RollType) -> Result<()> {
+    println!(rt;
+        "{roll:?} {:?} {:?} {:?} {}",
+        set.rollstates().get(&roll),
+        set.actions(roll)?,
+        over_from(set, roll),
+        is_end_true(set, roll)
+    )?;
+    Ok(())
 }
 
 fn flags(state: KeyState) -> Flags {

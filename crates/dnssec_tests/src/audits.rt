@@ -227,7 +227,7 @@ fn is_safe_after(alloc: Global, calls: usize) -> bool {
 }
 
 #[test]
-fn the_least_unretired_positions_are_told(rt: HostRuntime) {
+fn verdicts_name_the_least_unretired_positions(rt: HostRuntime) {
     for (index, (parts, further, broken)) in UNRETIRED.iter().enumerate() {
         let answer = verdicts_on(rt.alloc(), parts, *further);
         assert_eq!(rt; answer, Ok([Some(*broken); 2]), "in row {index}");

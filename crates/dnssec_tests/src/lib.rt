@@ -1,7 +1,7 @@
-//! What no script shows: names that are read and printed, numbers, moments, texts, the ends of
-//! waits, devices that fail, malformed scripts and verdicts. The tests make public calls, in a
-//! crate of their own, so that no other crate is proved twice. The proofs say what each call does;
-//! the values here come from worked examples.
+//! What no script shows: names that are read and printed, numbers, moments, texts, devices that
+//! fail, malformed scripts and verdicts. The tests make public calls, in a crate of their own, so
+//! that no other crate is proved twice. The proofs say what each call does; the values here come
+//! from worked examples.
 #![tactic(auto)]
 
 #[cfg(test)]
@@ -23,10 +23,6 @@ mod numbers;
 #[cfg(test)]
 mod runs;
 #[cfg(test)]
-mod states;
-#[cfg(test)]
 mod texts;
 #[cfg(test)]
 mod values;
-#[cfg(test)]
-mod waits;

@@ -184,7 +184,7 @@ fn is_script_at(alloc: Global, script: &str, lengths: &[usize], end: usize) -> b
     }
 }
 
-/// The first malformed line is told, no line before it is run, and nothing is written.
+/// The answer names the first malformed line. No line before it is run, and nothing is written.
 #[test]
 fn malformed_lines(rt: HostRuntime) -> Result<(), Fail> {
     let mut rows = BYTES.len();

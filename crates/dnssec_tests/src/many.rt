@@ -1,6 +1,6 @@
 //! As many keys as there are key tags, by the key set's own calls. No contract says that memory is
 //! found, so a call that gives up on many keys is proved.
-use courses::new_set;
+use crate::values::new_set;
 use dnssec_base::SecurityAlgorithm;
 use dnssec_keyset::{Available, Error, KeySet, UnixTime};
 use std::alloc::Global;
@@ -33,7 +33,7 @@ fn add(alloc: Global, set: &mut KeySet, letter: char, tag: u16, turn: u16) -> Re
 #[test]
 fn each_tag_has_a_key(rt: HostRuntime) -> Result<(), Fail> {
     for turn in 0..KINDS {
-        let Some(mut set) = new_set(rt.alloc()) else {
+        let Some(mut set) = new_set(rt.alloc(), "example.com") else {
             panic!(rt; "no memory for a set");
         };
         for tag in 0..=u16::MAX {

@@ -79,12 +79,15 @@ fn elapsed(moment: Parts, now: Parts) -> Option<Duration> {
     }
 }
 
+/// A new set for the zone of this name.
+pub fn new_set(alloc: Global, name: &str) -> Option<KeySet> {
+    let name = Name::<Vec<u8>>::from_str(alloc, name).ok()?;
+    Some(KeySet::new(alloc, name))
+}
+
 /// What a new set prints of its zone.
 fn name_of_new_set(alloc: Global, name: &str) -> Option<String> {
-    match Name::<Vec<u8>>::from_str(alloc, name) {
-        Ok(name) => KeySet::new(alloc, name).name().to_string(alloc).ok(),
-        Err(_) => None,
-    }
+    new_set(alloc, name)?.name().to_string(alloc).ok()
 }
 
 #[test]

@@ -1,13 +1,10 @@
 //! What went otherwise.
-use courses::Mismatch;
 use std::fmt;
 
 #[derive(Clone, Copy, Debug)]
 pub(crate) enum Wrong {
     /// No calls have this letter.
     Letter,
-    /// A key set didn't follow its course.
-    Course(Mismatch),
     /// A name wasn't read, copied or printed as it should be.
     Name(&'static str),
     /// A key or a set wasn't copied as it should be.
@@ -22,7 +19,6 @@ impl fmt::Display for Wrong {
     fn fmt<W: fmt::Write>(&self, f: &mut fmt::Formatter<W>) -> fmt::Result {
         match self {
             Wrong::Letter => f.write_str("no calls have this letter"),
-            Wrong::Course(mismatch) => write!(f, "{mismatch}"),
             Wrong::Name(text) => write!(f, "the name {text}"),
             Wrong::Copy => f.write_str("a copy"),
             Wrong::Record => f.write_str("a record"),
