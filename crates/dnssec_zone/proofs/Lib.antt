@@ -5,14 +5,14 @@
 -- | `Keys`: the map that it shows    | ruleset `shown`, `get-walked`  | Shown, Walks             |
 -- | `Derived`: the tags              | `TagsAgree-added` and the like | Tags, Quantified         |
 -- | `Derived`: the counts            | `counts-added` and the like    | Counted, Walks           |
--- | `check_many_new`                 | `fault-found`, `fault-behind`  | Entries, Marks, TwoLists |
--- | `mark_old`, `mark_new` and back  | `mark_more`                    | Marks, TwoLists          |
--- | `may_go_over`                    | `same_algorithms`              | Algorithms               |
+-- | `check_many_new`                 | `fault-found`, `fault-behind`  | Entries, Marks           |
+-- | `mark_old`, `mark_new` and back  | `mark_more`                    | Marks                    |
+-- | `may_go_over`                    | `same_algorithms`              | Starts                   |
 -- | `check_suitability`              | `all_met-walked`               | Starts                   |
--- | `go_on_all`, `delete`            | `counts-waited` and the like   | Counted, Wants           |
+-- | `go_on_all`, `delete`            | `counts-waited` and the like   | Counted                  |
 -- | `Lists`: the entries             | `list-more`, `filtered`        | Listing                  |
 -- | the phases of rolls              | ruleset `phases`               | Phases                   |
--- | `over_from`                      | `walk-lacks`, `walk-over`      | Waits                    |
+-- | `over_from`                      | `walk-lacks`, `walk-over`      | Longest                  |
 -- | `Derived`: the reported wait     | `known-after`, `known-removed` | Reported                 |
 --
 -- `Tests` computes tables over all rolls and keys; `Flags` says by it what flags a key may have on
@@ -22,17 +22,12 @@ pub mod Walks
 pub mod Phases
 pub mod Quantified
 pub mod Tags
-pub mod ListedTags
 pub mod Listing
 pub mod Counted
-pub mod TwoLists
-pub mod Algorithms
 pub mod Starts
 pub mod Marks
 pub mod Entries
 pub mod Longest
-pub mod Waits
 pub mod Reported
 pub mod Tests
-pub mod Wants
 pub mod Flags

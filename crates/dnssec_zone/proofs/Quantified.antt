@@ -2,18 +2,20 @@
 -- no look-up finds one.
 use Rattle.std.proofs.Common.{◌≡◌, ℕ, Bool, true, false, cond, List, [], ◌∷◌, map, Some, refl, sym}
 use Rattle.std.proofs.Common.{ap, subst, ◌∙◌, inl, inr}
-use Rattle.std.specs.Prelude.{◌&&◌, ◌||◌, T}
+use Rattle.std.specs.Prelude.{◌&&◌, ◌||◌, ◌⊎◌, T}
 use Rattle.std.specs.List.{list_any}
 use Rattle.std.specs.declared.cmp.Ordering.{Ordering}
-use Rattle.std.specs.declared.cmp.Ordering.TheVariants.{Less, Equal, Greater}
+use Rattle.std.specs.declared.cmp.Ordering.TheVariants.{Less}
 use Rattle.std.specs.Ordering.{nat_cmp, is_eq, is_lt}
 use Rattle.std.specs.Cmp.Lexicographic.{slice_cmp, bytes_decides}
 use Rattle.std.specs.FinMap.{find, entries, get, get-entries, entries_sorted}
 use Rattle.std.specs.FinMap.Entries.{below_all, is_sorted}
+use Rattle.std.proofs.lemmas.Bool.{cases_Bool, false_from_ne_true, or_parts}
+use Rattle.std.proofs.lemmas.List.Recursion.{same_from_clauses}
 use Rattle.std.proofs.lemmas.Map.Text.{is_eq-slice_cmp}
 use Rattle.dnssec_key.specs.Key.{KeyParts}
 use Rattle.dnssec_zone.specs.Keys.{Keys, some_key, some_entry}
-use Rattle.std.proofs.lemmas.Bool.{cases_Bool, or_parts}
+use Rattle.dnssec_zone.proofs.Tests.{or_second}
 
 pub first : (a b : Bool) → T (a && b) → T a
 first true b h = tt
@@ -25,8 +27,7 @@ second false b h = absurd h
 
 pub not_both : (o : Ordering) → T (is_lt o) → is_eq o ≡ true → ⊥
 not_both Less h e = cc
-not_both Equal h e = h
-not_both Greater h e = h
+not_both o h e = h
 
 pub same_key : (q x : List ℕ) → is_eq (slice_cmp nat_cmp q x) ≡ true → q ≡ x
 same_key q x e = (bytes_decides q x).0 (sym (is_eq-slice_cmp q x) ∙ e)
@@ -36,21 +37,42 @@ itself q = is_eq-slice_cmp q q ∙ (bytes_decides q q).1 refl
 
 pub apart : (x q : List ℕ) → T (is_lt (slice_cmp nat_cmp x q)) →
     is_eq (slice_cmp nat_cmp q x) ≡ false
-apart x q h = elim (cases_Bool (is_eq (slice_cmp nat_cmp q x))) [
-  | inl e ↦ absurd (not_both (slice_cmp nat_cmp x x)
-      (subst (λ k. T (is_lt (slice_cmp nat_cmp x k))) (same_key q x e) h) (itself x))
-  | inr e ↦ e
-]
+apart x q h = false_from_ne_true _ (λ e. not_both (slice_cmp nat_cmp x x)
+    (subst (λ k. T (is_lt (slice_cmp nat_cmp x k))) (same_key q x e) h) (itself x))
+
+-- ---- a look-up in a list of entries
+
+-- finds the first entry, or one after it
+pub find-cases : (q : List ℕ) (k : KeyParts) (e : List ℕ × KeyParts) (es : List (List ℕ × KeyParts))
+    → find (slice_cmp nat_cmp) q (e ∷ es) ≡ Some k
+    → ((q ≡ e.0) × (e.1 ≡ k)) ⊎ (find (slice_cmp nat_cmp) q es ≡ Some k)
+find-cases q k e es f =
+    let it = λ (c : Bool). cond c (Some e.1) (find (slice_cmp nat_cmp) q es) in
+    elim (cases_Bool (is_eq (slice_cmp nat_cmp q e.0))) [
+      | inl h ↦ let one : Some e.1 ≡ Some k = sym (ap it h) ∙ f in inl (same_key q e.0 h, cc)
+      | inr h ↦ inr (sym (ap it h) ∙ f)
+    ]
 
 pub below_found : (x q : List ℕ) (v : KeyParts) (es : List (List ℕ × KeyParts)) →
     T (below_all (slice_cmp nat_cmp) x es) → find (slice_cmp nat_cmp) q es ≡ Some v →
     T (is_lt (slice_cmp nat_cmp x q))
 below_found x q v [] b f = cc
-below_found x q v (e ∷ es) b f = elim (cases_Bool (is_eq (slice_cmp nat_cmp q e.0))) [
-  | inl h ↦ subst (λ k. T (is_lt (slice_cmp nat_cmp x k))) (sym (same_key q e.0 h)) (first _ _ b)
-  | inr h ↦ below_found x q v es (second _ _ b)
-      (sym (ap (λ c. cond c (Some e.1) (find (slice_cmp nat_cmp) q es)) h) ∙ f)
+below_found x q v (e ∷ es) b f = elim (find-cases q v e es f) [
+  | inl h ↦ subst (λ k. T (is_lt (slice_cmp nat_cmp x k))) (sym h.0) (first _ _ b)
+  | inr h ↦ below_found x q v es (second _ _ b) h
 ]
+
+-- the first entry is found,
+pub here-found : (e : List ℕ × KeyParts) (es : List (List ℕ × KeyParts))
+    → find (slice_cmp nat_cmp) e.0 (e ∷ es) ≡ Some e.1
+here-found e es = ap (λ c. cond c (Some e.1) (find (slice_cmp nat_cmp) e.0 es)) (itself e.0)
+
+-- and one after it is found too
+pub later-found : (e : List ℕ × KeyParts) (es : List (List ℕ × KeyParts))
+    → T (is_sorted (slice_cmp nat_cmp) (e ∷ es)) → (q : List ℕ) (k : KeyParts)
+    → find (slice_cmp nat_cmp) q es ≡ Some k → find (slice_cmp nat_cmp) q (e ∷ es) ≡ Some k
+later-found e es s q k f = ap (λ c. cond c (Some e.1) (find (slice_cmp nat_cmp) q es))
+    (apart e.0 q (below_found e.0 q k es (first _ _ s) f)) ∙ f
 
 -- ---- a test that reads the reference too
 
@@ -60,37 +82,18 @@ module _ (p : List ℕ → KeyParts → Bool) where
       → (q : List ℕ) × (k : KeyParts) × (find (slice_cmp nat_cmp) q es ≡ Some k) × (p q k ≡ true)
   one_entry [] s h = cc
   one_entry (e ∷ es) s h = elim (cases_Bool (p e.0 e.1)) [
-    | inl passes ↦ (
-      e.0,
-      e.1,
-      ap (λ c. cond c (Some e.1) (find (slice_cmp nat_cmp) e.0 es))
-          (itself e.0),
-      passes,
-    )
-    | inr fails ↦
-        let rest = one_entry es (second _ _ s)
-        (sym (ap (λ b. b || list_any (λ (x : List ℕ × KeyParts). p x.0 x.1) es) fails) ∙ h) in (
-          rest.0,
-          rest.1,
-          ap (λ c. cond c (Some e.1) (find (slice_cmp nat_cmp) rest.0 es))
-              (apart e.0 rest.0 (below_found e.0 rest.0 rest.1 es (first _ _ s) rest.2))
-              ∙ rest.2,
-          rest.3,
-        )
+    | inl passes ↦ (e.0, e.1, here-found e es, passes)
+    | inr fails ↦ let rest = one_entry es (second _ _ s) (or_second _ _ h fails) in
+        (rest.0, rest.1, later-found e es s rest.0 rest.1 rest.2, rest.3)
   ]
 
   none_entry : (es : List (List ℕ × KeyParts)) (q : List ℕ) (k : KeyParts)
       → list_any (λ (e : List ℕ × KeyParts). p e.0 e.1) es ≡ false → find (slice_cmp nat_cmp) q es
       ≡ Some k → p q k ≡ false
   none_entry [] q k h f = cc
-  none_entry (e ∷ es) q k h f = elim (cases_Bool (is_eq (slice_cmp nat_cmp q e.0))) [
-    | inl tied ↦
-        let one : Some e.1 ≡ Some k = sym
-        (ap (λ c. cond c (Some e.1) (find (slice_cmp nat_cmp) q es)) tied) ∙ f in
-        let same : e.1 ≡ k = cc in
-        sym (λ i. p (sym (same_key q e.0 tied) i) (same i)) ∙ (or_parts _ _ h).0
-    | inr other ↦ none_entry es q k (or_parts _ _ h).1
-        (sym (ap (λ c. cond c (Some e.1) (find (slice_cmp nat_cmp) q es)) other) ∙ f)
+  none_entry (e ∷ es) q k h f = elim (find-cases q k e es f) [
+    | inl it ↦ (λ i. p (it.0 i) (sym it.1 i)) ∙ (or_parts _ _ h).0
+    | inr later ↦ none_entry es q k (or_parts _ _ h).1 later
   ]
 
   pub some_entry-found : (keys : Keys) → some_entry p keys ≡ true → (q : List ℕ) × (k : KeyParts)
@@ -104,19 +107,21 @@ module _ (p : List ℕ → KeyParts → Bool) where
 
 -- ---- a test of only the key doesn't read the reference
 
-any_key : (p : KeyParts → Bool) (es : List (List ℕ × KeyParts))
-    → list_any (λ (e : List ℕ × KeyParts). p e.1) es
-    ≡ list_any p (map (λ (e : List ℕ × KeyParts). e.1) es)
-any_key p [] = refl
-any_key p (e ∷ es) = ap (λ b. p e.1 || b) (any_key p es)
+pub list_any-map : {A B : Type 0} (p : B → Bool) (f : A → B) (xs : List A)
+    → list_any p (map f xs) ≡ list_any (λ x. p (f x)) xs
+list_any-map p f = same_from_clauses (λ xs. list_any p (map f xs)) (list_any (λ x. p (f x)))
+    (λ x b. p (f x) || b) refl (λ x xs. refl) (λ x xs. refl)
 
-module _ (p : KeyParts → Bool) where
+module _ (p : KeyParts → Bool) (keys : Keys) where
+  asked : some_key p keys ≡ some_entry (λ q. p) keys
+  asked = list_any-map p (λ (e : List ℕ × KeyParts). e.1) (entries keys)
+
   -- if some key passes, a look-up finds one
-  pub some_key-found : (keys : Keys) → some_key p keys ≡ true → (q : List ℕ) × (k : KeyParts)
+  pub some_key-found : some_key p keys ≡ true → (q : List ℕ) × (k : KeyParts)
       × (get keys q ≡ Some k) × (p k ≡ true)
-  some_key-found keys h = some_entry-found (λ q. p) keys (any_key p (entries keys) ∙ h)
+  some_key-found h = some_entry-found (λ q. p) keys (sym asked ∙ h)
 
   -- if no key passes, no look-up finds one that does
-  pub some_key-none : (keys : Keys) (q : List ℕ) (k : KeyParts) → some_key p keys ≡ false
+  pub some_key-none : (q : List ℕ) (k : KeyParts) → some_key p keys ≡ false
       → get keys q ≡ Some k → p k ≡ false
-  some_key-none keys q k h = some_entry-none (λ q. p) keys q k (any_key p (entries keys) ∙ h)
+  some_key-none q k h = some_entry-none (λ q. p) keys q k (sym asked ∙ h)

@@ -1,6 +1,6 @@
 -- The finite map that the keys show, read through the hash map that it holds.
-use Rattle.std.proofs.Common.{◌≡◌, ℕ, cond, List, [], ◌∷◌, map, Some, None, Bool, true, false, refl}
-use Rattle.std.proofs.Common.{sym, ap, ◌∙◌, string_bytes}
+use Rattle.std.proofs.Common.{◌≡◌, ℕ, cond, List, [], ◌∷◌, map, Some, None, refl, sym, ap, ◌∙◌}
+use Rattle.std.proofs.Common.{arith, string_bytes}
 use Rattle.std.specs.declared.string.String.{String}
 use Rattle.std.specs.Ordering.{nat_cmp}
 use Rattle.std.specs.Cmp.Lexicographic.{nat_list_cmp_total, slice_cmp, bytes_decides}
@@ -24,11 +24,8 @@ module _ {Y : Type 0} where
   pub find_by_bytes : (es : List (String Y × KeyParts)) (q : List ℕ) →
       find (slice_cmp nat_cmp) q (map (λ e. (string_bytes e.0, e.1)) es) ≡ lookup (is_text q) es
   find_by_bytes [] q = refl
-  find_by_bytes (e ∷ es) q =
-      ap (λ b. cond b (Some e.1)
-      (find (slice_cmp nat_cmp) q (map (λ e. (string_bytes e.0, e.1)) es)))
-      (is_eq-slice_cmp q (string_bytes e.0))
-      ∙ ap (cond (bytes_eq q (string_bytes e.0)) (Some e.1)) (find_by_bytes es q)
+  find_by_bytes (e ∷ es) q = λ i.
+      cond (is_eq-slice_cmp q (string_bytes e.0) i) (Some e.1) (find_by_bytes es q i)
 
   module _ {S : Type 0} where
     -- the finite map has at the bytes q what the hash map has there
@@ -59,24 +56,19 @@ get-walked step m n v e is q = get-keys_shown n q ∙ ap (lookup (is_text q)) is
 -- a change at a reference that no key has changes nothing
 pub get-absent : (f : KeyParts → KeyParts) (r : List ℕ) (v : Keys) → fin.get v r ≡ None
     → (q : List ℕ) → fin.get v q ≡ option_map (λ k. if bytes_eq r q then f k else k) (fin.get v q)
-get-absent f r v none q = at (bytes_eq r q) refl (fin.get v q) refl
-  where
-    at : (b : Bool) → bytes_eq r q ≡ b → (o : Option KeyParts) → fin.get v q ≡ o →
-        o ≡ option_map (λ k. if b then f k else k) o
-    at b e None is = refl
-    at false e (Some k) is = refl
-    at true e (Some k) is = let there : None ≡ Some k = sym none
-        ∙ ap (fin.get v) ((bytes_decides r q).0 e) ∙ is in cc
+get-absent f r v none q = grind (arith, bytes_decides)
+
+-- a change at a reference puts the changed key there
+pub put-changed : (f : KeyParts → KeyParts) (m n : Keys) (r : List ℕ) (k : KeyParts)
+    → fin.get m r ≡ Some k → ((q : List ℕ) → fin.get n q
+    ≡ option_map (λ k. if bytes_eq r q then f k else k) (fin.get m q))
+    → (q : List ℕ) → fin.get n q ≡ (if bytes_eq r q then Some (f k) else fin.get m q)
+put-changed f m n r k found is q = grind (arith, bytes_decides, is q)
 
 -- a key that is written back as it was changes nothing
 pub same-written : (v n : Keys) (r : List ℕ) (k : KeyParts) → fin.get v r ≡ Some k
     → ((q : List ℕ) → fin.get n q ≡ (if bytes_eq r q then Some k else fin.get v q)) → n ≡ v
-same-written v n r k found is = same_keys n v (λ q. is q ∙ at q (bytes_eq r q) refl)
-  where
-    at : (q : List ℕ) (b : Bool) → bytes_eq r q ≡ b →
-        (if b then Some k else fin.get v q) ≡ fin.get v q
-    at q true e = sym found ∙ ap (fin.get v) ((bytes_decides r q).0 e)
-    at q false e = refl
+same-written v n r k found is = same_keys n v (λ q. is q ∙ (grind (arith, bytes_decides)))
 
 -- what the keys show once a key was put in or taken out
 pub get-updated : {Y S : Type 0} (m n : HashMap (String Y) KeyParts S) (r : List ℕ)
@@ -95,7 +87,6 @@ pub entries_by_bytes-clones : {Y : Type 0} (es fs : List (String Y × KeyParts))
     → map {B = List ℕ × KeyParts} (λ (e : String Y × KeyParts). (string_bytes e.0, e.1)) fs
     ≡ map {B = List ℕ × KeyParts} (λ (e : String Y × KeyParts). (string_bytes e.0, e.1)) es
 entries_by_bytes-clones [] [] h = refl
-entries_by_bytes-clones [] (f ∷ fs) h = absurd h
-entries_by_bytes-clones (e ∷ es) [] h = absurd h
-entries_by_bytes-clones (e ∷ es) (f ∷ fs) h = λ i. (h.0.0 i, h.0.1 i) ∷ entries_by_bytes-clones es
-    fs h.1 i
+entries_by_bytes-clones (e ∷ es) (f ∷ fs) h =
+    λ i. (h.0.0 i, h.0.1 i) ∷ entries_by_bytes-clones es fs h.1 i
+entries_by_bytes-clones es fs h = absurd h

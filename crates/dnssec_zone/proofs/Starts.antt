@@ -1,6 +1,7 @@
--- What the check of a start cites.
-use Rattle.std.proofs.Common.{◌≡◌, ℕ, Bool, List, [], ◌∷◌, Some, None, Ok, refl, ap, sym}
-use Rattle.std.specs.Prelude.{Option, ◌&&◌, ◌||◌, if◌then◌else◌}
+-- What the check of a start cites: the keys to go on with, and the algorithms of its two lists.
+use Rattle.std.proofs.Common.{◌≡◌, ℕ, Bool, List, Some, None, Ok, ap, sym, ◌∙◌, arith, ◌+◌, ◌*◌}
+use Rattle.std.proofs.Common.{◌/◌, ◌%◌, ◌<◌, ◌^◌, true, false, [], ◌∷◌, length, get_or, refl}
+use Rattle.std.specs.Prelude.{Option, ◌&&◌, ◌||◌, if◌then◌else◌, nat_eq}
 use Rattle.std.specs.List.{list_all}
 use Rattle.std.specs.FinMap.{get}
 use Rattle.dnssec_base.specs.declared.error.Error.{Error}
@@ -11,8 +12,19 @@ use Rattle.dnssec_zone.specs.declared.side.Kinds.{Kinds}
 use Rattle.dnssec_zone.specs.Inner.Kinds.{AreOf, is_met_among}
 use Rattle.dnssec_zone.specs.Keys.{Keys}
 use Rattle.dnssec_zone.specs.Start.{is_met, some_kept, serves_as_kept, algorithm_fault}
-use Rattle.dnssec_zone.specs.Start.{algorithms_within, may_change_algorithms, Want}
+use Rattle.dnssec_zone.specs.Start.{algorithms_within, may_change_algorithms, wants, Want}
+use Rattle.dnssec_zone.specs.Start.{has_algorithm}
 use Rattle.dnssec_zone.specs.Refusals.{AnswersExactly}
+use Rattle.std.specs.Int.{bit_at}
+use Rattle.std.specs.Option.{option_map_or}
+use Rattle.std.specs.Str.{bytes_eq}
+use Rattle.std.specs.Cmp.Lexicographic.{bytes_decides}
+use Rattle.std.proofs.lemmas.Bool.Decides.{nat_tests}
+use Rattle.std.proofs.lemmas.List.{ext_get_or}
+use Rattle.std.proofs.lemmas.Nat.Bits.{bit_at-lt, same_from_bits_below}
+use Rattle.dnssec_key.specs.Inner.Bits.{is_set}
+use Rattle.dnssec_zone.proofs.Tests.{same_test}
+use Rattle.std.proofs.lemmas.Bool.{and_from, and_parts, eq-eqb, or_left, or_right}
 
 -- whether all that a start has to leave is there, by the kinds of the new keys and a walk over what
 -- the code asks for
@@ -20,15 +32,21 @@ pub all_met-walked : (keys : Keys) (olds news : List (List ℕ)) (kinds : Kinds)
     → AreOf (get keys) news kinds → (ws : List Want)
     → list_all (is_met keys olds news) ws
     ≡ list_all (λ w. is_met_among keys olds kinds w) ws
-all_met-walked keys olds news kinds of [] = refl
-all_met-walked keys olds news kinds of (w ∷ ws) =
-    (λ i. (sym (of w) i || some_kept (serves_as_kept w) keys olds)
-    && all_met-walked keys olds news kinds of ws i)
+all_met-walked keys olds news kinds of ws =
+    λ i. list_all (λ w. sym (of w) i || some_kept (serves_as_kept w) keys olds) ws
+
+-- so the walk's answer tells whether it is
+pub all_met-told : (roll : RollType) (keys : Keys) (olds news : List (List ℕ)) (kinds : Kinds)
+    → AreOf (get keys) news kinds → (ws : List Want) → ws ≡ wants roll → (met told : Bool)
+    → met ≡ list_all (λ w. is_met_among keys olds kinds w) ws → met ≡ told
+    → list_all (is_met keys olds news) (wants roll) ≡ told
+all_met-told roll keys olds news kinds of ws asked met told walked is =
+    ap (list_all (is_met keys olds news)) (sym asked)
+    ∙ all_met-walked keys olds news kinds of ws ∙ sym walked ∙ is
 
 -- an accepted answer has no cause
 pub passed : {T : Type 0} (o : Option Error) (x : T) → AnswersExactly o (Ok x) → o ≡ None
-passed None x h = refl
-passed (Some e) x h = cc
+passed o x h = grind arith
 
 -- the algorithms, by whether the roll may go over
 pub algorithms-told : (roll : RollType) (at : List ℕ → Option KeyParts)
@@ -37,3 +55,74 @@ pub algorithms-told : (roll : RollType) (at : List ℕ → Option KeyParts)
     → algorithm_fault roll at olds news ≡ (if may then None else Some AlgorithmSetsMismatch)
 algorithms-told roll at olds news may is =
     ap (λ b. if b then None else Some AlgorithmSetsMismatch) is
+
+-- ---- two lists have the same algorithms if each one's are among the other's
+
+module _ (at : List ℕ → Option KeyParts) where
+  found-step : (q : List ℕ) (qs others : List (List ℕ)) (a : ℕ)
+      → (algorithms_within at qs others ≡ true → has_algorithm at qs a ≡ true
+      → has_algorithm at others a ≡ true)
+      → algorithms_within at (q ∷ qs) others ≡ true → has_algorithm at (q ∷ qs) a ≡ true
+      → has_algorithm at others a ≡ true
+  found-step q qs others a rest within has = grind (arith, nat_tests)
+
+  -- what is within the others has an algorithm that the others have
+  found : (qs others : List (List ℕ)) (a : ℕ) → algorithms_within at qs others ≡ true
+      → has_algorithm at qs a ≡ true → has_algorithm at others a ≡ true
+  found [] others a within has = cc
+  found (q ∷ qs) others a within has =
+      found-step q qs others a (found qs others a) within has
+
+  within-step : (o : Option KeyParts) (qs others : List (List ℕ))
+      → ((a : ℕ) → (option_map_or (λ (k : KeyParts). nat_eq k.algorithm a) o false
+      || has_algorithm at qs a) ≡ true → has_algorithm at others a ≡ true)
+      → option_map_or (λ (k : KeyParts). has_algorithm at others k.algorithm) o true ≡ true
+  within-step None qs others h = refl
+  within-step (Some k) qs others h =
+      h k.algorithm (or_left _ _ (eq-eqb k.algorithm k.algorithm refl))
+
+  -- what has no algorithm but those of the others is within them
+  within_by : (qs others : List (List ℕ))
+      → ((a : ℕ) → has_algorithm at qs a ≡ true → has_algorithm at others a ≡ true)
+      → algorithms_within at qs others ≡ true
+  within_by [] others h = refl
+  within_by (q ∷ qs) others h = and_from _ _ (within-step (at q) qs others h)
+      (within_by qs others (λ a has. h a (or_right _ _ has)))
+
+-- sets with the same numbers have the same words
+same_words : (xs ys : List ℕ) → length xs ≡ length ys
+    → ((i : ℕ) → i < length xs → get_or xs i 0 < 2 ^ 64)
+    → ((i : ℕ) → i < length xs → get_or ys i 0 < 2 ^ 64)
+    → ((n : ℕ) → is_set xs n ≡ is_set ys n) → xs ≡ ys
+same_words xs ys long low_xs low_ys same = ext_get_or 0 xs ys long
+    (λ i h. same_from_bits_below 64 (get_or xs i 0) (get_or ys i 0) (low_xs i h) (low_ys i h)
+    (λ j b. bit i j b))
+  where
+    bit : (i j : ℕ) → j < 64 → bit_at (get_or xs i 0) j ≡ bit_at (get_or ys i 0) j
+    bit i j b =
+        let word : (64 * i + j) / 64 ≡ i = omega arith in
+        let place : (64 * i + j) % 64 ≡ j = omega arith in
+        let tests : nat_eq (bit_at (get_or xs i 0) j) 1 ≡ nat_eq (bit_at (get_or ys i 0) j) 1 =
+        sym (λ k. nat_eq (bit_at (get_or xs (word k) 0) (place k)) 1) ∙ same (64 * i + j)
+        ∙ (λ k. nat_eq (bit_at (get_or ys (word k) 0) (place k)) 1) in
+        let one = bit_at-lt (get_or xs i 0) j in
+        let two = bit_at-lt (get_or ys i 0) j in
+        grind (arith, nat_tests)
+
+pub same_algorithms : (at : List ℕ → Option KeyParts) (olds news : List (List ℕ)) (xs ys : List ℕ)
+    → length xs ≡ length ys
+    → ((i : ℕ) → i < length xs → get_or xs i 0 < 2 ^ 64)
+    → ((i : ℕ) → i < length xs → get_or ys i 0 < 2 ^ 64)
+    → ((a : ℕ) → is_set xs a ≡ has_algorithm at olds a)
+    → ((a : ℕ) → is_set ys a ≡ has_algorithm at news a)
+    → bytes_eq xs ys ≡ (algorithms_within at olds news && algorithms_within at news olds)
+same_algorithms at olds news xs ys long low_xs low_ys of_olds of_news = same_test _ _
+    (λ same.
+    let words : xs ≡ ys = (bytes_decides xs ys).0 same in
+    let one : (a : ℕ) → has_algorithm at olds a ≡ has_algorithm at news a =
+    λ a. sym (of_olds a) ∙ ap (λ ws. is_set ws a) words ∙ of_news a in
+    and_from _ _ (within_by at olds news (λ a has. sym (one a) ∙ has))
+    (within_by at news olds (λ a has. one a ∙ has)))
+    (λ both. (bytes_decides xs ys).1 (same_words xs ys long low_xs low_ys
+    (λ a. of_olds a ∙ same_test _ _ (found at olds news a (and_parts _ _ both).0)
+    (found at news olds a (and_parts _ _ both).1) ∙ sym (of_news a))))

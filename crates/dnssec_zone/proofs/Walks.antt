@@ -1,6 +1,6 @@
 -- The keys that a walk over the hash map meets are those of the finite map, in some order.
 use Rattle.std.proofs.Common.{◌≡◌, ℕ, Bool, false, cond, List, [], ◌∷◌, map, Some, None, refl, sym}
-use Rattle.std.proofs.Common.{ap, subst, ◌∙◌, string_bytes, length, arith}
+use Rattle.std.proofs.Common.{subst, ◌∙◌, string_bytes, length, arith}
 use Rattle.std.specs.declared.string.String.{String}
 use Rattle.std.specs.declared.cmp.Ordering.TheVariants.{Less, Equal, Greater}
 use Rattle.std.specs.Ordering.{nat_cmp, is_eq}
@@ -14,6 +14,7 @@ use Rattle.std.specs.FinMap as fin
 use Rattle.std.specs.FinMap.{FinMap, find, from_entries, entries, entries-insert, get-entries}
 use Rattle.std.specs.FinMap.{get-from_entries, len-entries, len-empty}
 use Rattle.std.specs.FinMap.Entries.{put, by_order}
+use Rattle.std.proofs.lemmas.List.Recursion.{same_from_clauses}
 use Rattle.std.proofs.lemmas.List.Sorted.{IsPermutation-refl, IsPermutation-trans}
 use Rattle.std.proofs.lemmas.List.Sorted.{IsPermutation-cons, IsPermutation-middle}
 use Rattle.std.proofs.lemmas.List.Sorted.{IsPermutation-map, list_any-IsPermutation}
@@ -23,9 +24,13 @@ use Rattle.dnssec_key.specs.Key.{KeyParts}
 use Rattle.dnssec_zone.specs.Keys.{keys_in_map, entries_by_bytes, some_key}
 use Rattle.dnssec_zone.proofs.Shown.{find_by_bytes}
 
+pub none_of_length : {A : Type 0} (es : List A) → length es ≡ 0 → es ≡ []
+none_of_length [] e = refl
+none_of_length (x ∷ es) e = absurd (omega arith)
+
 module _ {X : Type 0} where
   -- to put an entry at a key that is new adds it somewhere
-  put_permutes : (k : List ℕ) (v : X) (es : List (List ℕ × X)) → find (slice_cmp nat_cmp) k es
+  pub put_permutes : (k : List ℕ) (v : X) (es : List (List ℕ × X)) → find (slice_cmp nat_cmp) k es
       ≡ None → IsPermutation ((k, v) ∷ es) (put (slice_cmp nat_cmp) k v es)
   put_permutes k v [] none = IsPermutation-refl _
   put_permutes k v (e ∷ es) none =
@@ -40,18 +45,13 @@ module _ {X : Type 0} where
       ] none
 
   -- no key stands twice
-  unfoldable pub AreApart : List (List ℕ × X) → Type 0
+  abbrev pub AreApart : List (List ℕ × X) → Type 0
   AreApart [] = Unit {0}
   AreApart (e ∷ es) = (find (slice_cmp nat_cmp) e.0 es ≡ None) × AreApart es
-
-  pub none_of_length : (es : List (List ℕ × X)) → length es ≡ 0 → es ≡ []
-  none_of_length [] e = refl
-  none_of_length (x ∷ es) e = absurd (omega arith)
 
   -- the finite map of entries that are apart has just these
   pub entries_permute : (es : List (List ℕ × X)) → AreApart es
       → IsPermutation es (entries (from_entries {R = slice_cmp nat_cmp} es))
-  unfolding AreApart
   entries_permute [] apart = subst (IsPermutation [])
       (sym (none_of_length _ (sym (len-entries (fin.empty {X = X} {R = slice_cmp nat_cmp}))
       ∙ len-empty (slice_cmp nat_cmp) X))) (IsPermutation-refl [])
@@ -67,7 +67,7 @@ module _ {X : Type 0} where
 module _ {Y : Type 0} where
   pub apart_by_bytes : (es : List (String Y × KeyParts)) → IsDistinct string_eq (keys_of es)
       → AreApart (map (λ e. (string_bytes e.0, e.1)) es)
-  unfolding AreApart IsDistinct
+  unfolding IsDistinct
   apart_by_bytes [] distinct = tt
   apart_by_bytes (e ∷ es) distinct = (
     find_by_bytes es (string_bytes e.0)
@@ -86,8 +86,7 @@ module _ {Y : Type 0} where
       → map (λ (e : List ℕ × KeyParts). e.1)
       (map (λ (e : String Y × KeyParts). (string_bytes e.0, e.1)) es)
       ≡ map (λ (e : String Y × KeyParts). e.1) es
-  values_by_bytes [] = refl
-  values_by_bytes (e ∷ es) = ap (λ xs. e.1 ∷ xs) (values_by_bytes es)
+  values_by_bytes = same_from_clauses _ _ (λ e ks. e.1 ∷ ks) refl (λ e es. refl) (λ e es. refl)
 
   module _ {S : Type 0} where
     -- the values of the finite map, in another order

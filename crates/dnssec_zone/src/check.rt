@@ -66,7 +66,7 @@ fn is_listed(references: &[&str], reference: &str) -> bool
 }
 
 /// Whether a new entry is an old one too, or stands earlier among the new.
-#[tactic(auto, using(crate::proofs::TwoLists::lists))]
+#[tactic(auto, using(crate::proofs::Marks::lists))]
 fn is_taken(old: &[&str], earlier: &[&str], reference: &str) -> bool
     ensures { result ≡
         (is_listed (texts old.now) reference.now || is_listed (texts earlier.now) reference.now) }
@@ -189,7 +189,7 @@ impl Keys {
     }
 
     /// The same for short lists: each new entry is looked for in both.
-    #[tactic(auto, using(crate::proofs::TwoLists::lists))]
+    #[tactic(auto, using(crate::proofs::Marks::lists))]
     fn check_few_new(&self, roll: RollType, old: &[&str], new: &[&str]) -> Result<NewKeys, Error>
         ensures fault { AnswersExactly
             (new_fault roll (map.get self.now) (texts old.now) [] (texts new.now)) result }
@@ -208,7 +208,7 @@ impl Keys {
     /// The same for long lists: the tags of the keys that they name are put into a set.
     // Out of line, so that a start with short lists doesn't pay for the place of the set.
     #[inline(never)]
-    #[tactic(auto, using(crate::proofs::TwoLists::lists))]
+    #[tactic(auto, using(crate::proofs::Marks::lists))]
     fn check_many_new(&self, roll: RollType, old: &[&str], new: &[&str]) -> Result<NewKeys, Error>
         ensures fault { AnswersExactly
             (new_fault roll (map.get self.now) (texts old.now) [] (texts new.now)) result }
@@ -323,7 +323,7 @@ impl Keys {
     }
 
     /// Whether the key at a reference serves, and isn't one of these.
-    #[tactic(auto, using(crate::proofs::TwoLists::lists))]
+    #[tactic(auto, using(crate::proofs::Marks::lists))]
     fn serves_but_for(&self, want: Want, reference: &str, earlier: &[&str]) -> bool
         ensures { result ≡ option_map_or (λ k. serves_as_kept want k.keytype
             && not (is_listed (texts earlier.now) reference.now))

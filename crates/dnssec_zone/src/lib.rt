@@ -18,5 +18,5 @@ mod wait_end;
 pub use check::{NewKeys, may_go_over};
 pub use keys::Keys;
 pub use listed::Lists;
-pub use rolls::Rolls;
+pub use rolls::{Rolls, all_rolls};
 pub use side::Kinds;

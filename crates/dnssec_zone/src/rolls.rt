@@ -5,7 +5,8 @@ ghost use Rattle.std.specs.HashMap as hash;
 ghost use Rattle.dnssec_base.specs.declared.error.Error.TheVariants.{OutOfMemory};
 ghost use Rattle.dnssec_key.specs.declared.roll.RollType.{RollType as AnyRoll};
 ghost use Rattle.dnssec_key.specs.RollTable.{which, cache_expire};
-ghost use Rattle.dnssec_zone.specs.Rolls.{phase_of, with_phase, no_rolls, rolls_in_map};
+ghost use Rattle.dnssec_zone.specs.Rolls.{all_rolls, phase_of, with_phase, no_rolls};
+ghost use Rattle.dnssec_zone.specs.Rolls.{rolls_in_map};
 ghost use Rattle.dnssec_zone.specs.Start.{has_conflict, conflict};
 ghost use Rattle.dnssec_zone.specs.Refusals.{AnswersExactly, report_refusal, end_refusal};
 ghost use Rattle.dnssec_zone.specs.Refusals.{early_end_refusal};
@@ -17,15 +18,19 @@ use std::alloc::Global;
 use std::collections::HashMap;
 use std::marker::Model;
 
-/// The six rolls.
-const ALL_ROLLS: [RollType; 6] = [
-    RollType::KskRoll,
-    RollType::KskDoubleDsRoll,
-    RollType::ZskRoll,
-    RollType::ZskDoubleSignatureRoll,
-    RollType::CskRoll,
-    RollType::AlgorithmRoll,
-];
+/// The rolls, in the order of their kinds.
+pub fn all_rolls() -> &'static [RollType]
+    ensures { result.now ≡ all_rolls }
+{
+    &[
+        RollType::KskRoll,
+        RollType::KskDoubleDsRoll,
+        RollType::ZskRoll,
+        RollType::ZskDoubleSignatureRoll,
+        RollType::CskRoll,
+        RollType::AlgorithmRoll,
+    ]
+}
 
 /// The rolls in progress.
 #[derive(Drop)]
@@ -148,7 +153,8 @@ impl Rolls {
     fn has_conflict(&self, roll: RollType) -> bool
         ensures { result ≡ has_conflict roll self.now }
     {
-        ALL_ROLLS.iter().any(|other| self.phase_of(*other).is_some() && !go_together(roll, *other))
+        all_rolls().iter().any(|other| self.phase_of(*other).is_some()
+            && !go_together(roll, *other))
     }
 
     /// Refuses a roll that is in progress, or that doesn't go with one in progress.

@@ -1,91 +1,63 @@
 -- The counts that a key set keeps, as its keys change.
-use Rattle.std.proofs.Common.{◌≡◌, ℕ, suc, ◌+◌, ◌-◌, ◌≤◌, Bool, true, false, cond, List, []}
-use Rattle.std.proofs.Common.{◌∷◌, Some, None, refl, sym, ap, ◌∙◌, arith, map, length, filter}
-use Rattle.std.proofs.Common.{string_bytes}
+use Rattle.std.proofs.Common.{◌≡◌, ℕ, ◌+◌, ◌-◌, ◌≤◌, Bool, true, false, List, [], ◌∷◌, Some, None}
+use Rattle.std.proofs.Common.{refl, sym, ap, ◌∙◌, arith, map, length, filter, string_bytes, not}
+use Rattle.std.proofs.Common.{subst}
 use Rattle.std.specs.Prelude.{Option, if◌then◌else◌}
 use Rattle.std.specs.declared.string.String.{String}
 use Rattle.std.specs.String.{string_eq}
 use Rattle.std.specs.HashMap.{HashMap, IsUnique, values}
+use Rattle.std.proofs.lemmas.Bool.{cond_both}
+use Rattle.std.proofs.lemmas.List.{length-map}
 use Rattle.std.specs.FinMap as fin
 use Rattle.std.specs.FinMap.{get-from_entries, get}
 use Rattle.std.specs.List.{fold}
-use Rattle.std.specs.Option.{option_map}
 use Rattle.std.specs.Str.{bytes_eq}
-use Rattle.std.specs.Ordering.{nat_cmp}
-use Rattle.std.specs.Cmp.Lexicographic.{slice_cmp, nat_list_cmp_total}
+use Rattle.std.specs.Cmp.Lexicographic.{nat_list_cmp_total}
 use Rattle.dnssec_key.specs.declared.kind.KeyType.{KeyType}
-use Rattle.dnssec_key.specs.Key.{KeyParts}
-use Rattle.dnssec_key.specs.Setters.{Setting, Decoupled, Present, Signer, AtParent, Stale}
-use Rattle.dnssec_key.specs.Setters.{VisibleAt, DsVisibleAt, RrsigVisibleAt, set_by, at_each_state}
-use Rattle.dnssec_key.specs.Setters.{with_signer}
+use Rattle.dnssec_key.specs.Key.{KeyParts, all_states}
+use Rattle.dnssec_key.specs.Setters.{Setting, Signer, set_by, at_each_state, with_signer}
 use Rattle.dnssec_zone.specs.Keys.{Keys, keys_in_map, entries_by_bytes}
 use Rattle.dnssec_zone.specs.declared.counts.Counts.{Counts}
-use Rattle.dnssec_zone.specs.Start.{serves_as_kept, Want, PresentKsk, KskAtParent, PresentZsk}
-use Rattle.dnssec_zone.specs.Start.{PresentKskRole, PresentZskRole}
+use Rattle.dnssec_zone.specs.Start.{serves_as_kept, Want}
 use Rattle.dnssec_zone.specs.Inner.Counts.{bit, count, count_in, share, passes, CountsAgree}
 use Rattle.dnssec_zone.specs.Inner.Counts.{moves_counts, count_of, counts_by, no_counts, with_key}
-use Rattle.dnssec_zone.specs.Inner.Counts.{without_key}
-use Rattle.dnssec_zone.specs.Inner.Counts.{count_after}
+use Rattle.dnssec_zone.specs.Inner.Counts.{without_key, count_after}
 use Rattle.dnssec_zone.specs.declared.counts.Counting.TheVariants.{OneMore, OneLess}
 use Rattle.dnssec_zone.proofs.Shown.{same_keys}
-use Rattle.dnssec_zone.proofs.Tests.{both-at, each_key, each_key-at}
-use Rattle.dnssec_zone.proofs.Wants.{serves_alike, serves_alike-at}
-use Rattle.dnssec_zone.proofs.Walks.{AreApart, apart_by_bytes}
+use Rattle.dnssec_zone.proofs.Tests.{both-at, each_key, each_key-at, alike, alike-same}
+use Rattle.dnssec_zone.proofs.Tests.{each_in_half-at, mp, ◌⇒◌}
+use Rattle.dnssec_zone.proofs.Tests.{serves_alike, serves_alike-at, each_want, each_want-at}
+use Rattle.dnssec_zone.proofs.Walks.{apart_by_bytes}
 use Rattle.dnssec_zone.proofs.Counted.Lists.{count-at, count-changed, count-entries, count-shown}
-use Rattle.dnssec_zone.proofs.Counted.Lists.{same_itself}
-
--- ---- the counts that are kept
+use Rattle.dnssec_zone.proofs.Counted.Lists.{passed-more}
+use Rattle.dnssec_key.specs.declared.roll.RollType.{RollType}
+use Rattle.dnssec_key.specs.State.{is_stale}
+use Rattle.dnssec_key.specs.RollTable.{Half, half_of, column, after_wait}
+use Rattle.dnssec_key.specs.Sides.{wait_moves_kept}
 
 none_counted : (p : List ℕ → KeyParts → Bool) (m : Keys) → ((q : List ℕ) → get m q ≡ None) →
     count_in p m ≡ 0
-unfolding AreApart
-none_counted p m none = ap (count_in p) (same_keys m fin.empty (λ q. none q ∙ sym (get-empty q)))
-    ∙ count-entries p [] tt
-  where
-    get-empty : (q : List ℕ) → get (fin.empty {X = KeyParts} {R = slice_cmp nat_cmp}) q ≡ None
-    get-empty q = get-from_entries nat_list_cmp_total [] q
+none_counted p m none = ap (count_in p) (same_keys m fin.empty
+    (λ q. none q ∙ sym (get-from_entries nat_list_cmp_total [] q))) ∙ count-entries p [] tt
 
 at_most : (p : List ℕ → KeyParts → Bool) (es : List (List ℕ × KeyParts)) → count p es ≤ length es
 at_most p [] = omega arith
-at_most p (e ∷ es) = at (p e.0 e.1) (at_most p es)
+at_most p (e ∷ es) = omega (arith, at_most p es, low (p e.0 e.1))
   where
-    at : (b : Bool) → count p es ≤ length es → bit b + count p es ≤ suc (length es)
-    at true h = omega (arith, h)
-    at false h = omega (arith, h)
-
-module _ {Y : Type 0} where
-  length-by_bytes : (es : List (String Y × KeyParts)) → length (map {B = List ℕ × KeyParts}
-      (λ (e : String Y × KeyParts). (string_bytes e.0, e.1)) es) ≡ length es
-  length-by_bytes [] = refl
-  length-by_bytes (e ∷ es) = ap suc (length-by_bytes es)
-
-module _ {Y S : Type 0} where
-  -- no more keys pass than there are in the hash map
-  pub count-fits : (p : List ℕ → KeyParts → Bool) (m : HashMap (String Y) KeyParts S) →
-      IsUnique string_eq m → length m.entries ≤ 18446744073709551615 →
-      count_in p (keys_in_map m) ≤ 18446744073709551615
-  count-fits p m unique fits =
-      let all = count-entries p (entries_by_bytes m) (apart_by_bytes m.entries unique) in
-      let some = at_most p (entries_by_bytes m) in
-      omega (arith, fits, all, some, length-by_bytes m.entries)
+    low : (b : Bool) → bit b ≤ 1
+    low b = grind arith
 
 -- if the keys can be counted, one more key counts one more
 in-one : (serves : Bool) (n : ℕ) → n + bit serves ≤ 18446744073709551615
     → count_after serves OneMore n ≡ n + bit serves
-in-one true n fits = omega (arith, fits)
-in-one false n fits = omega arith
+in-one serves n fits = grind arith
 
 out-one : (serves : Bool) (n : ℕ) → count_after serves OneLess n ≡ n - bit serves
-out-one true n = refl
-out-one false n = omega arith
+out-one serves n = grind arith
 
 -- the count of a want among those that f gives
 count_of-by : (f : Want → ℕ) (w : Want) → count_of (counts_by f) w ≡ f w
-count_of-by f PresentKsk = refl
-count_of-by f KskAtParent = refl
-count_of-by f PresentZsk = refl
-count_of-by f PresentKskRole = refl
-count_of-by f PresentZskRole = refl
+count_of-by f w = grind arith
 
 with-of : (t : KeyType) (c : Counts) (w : Want)
     → count_of c w + bit (serves_as_kept w t) ≤ 18446744073709551615
@@ -100,90 +72,61 @@ without-of t c w = count_of-by (λ x. count_after (serves_as_kept x t) OneLess (
     ∙ out-one (serves_as_kept w t) (count_of c w)
 
 -- no more keys meet a want than can be counted
-pub Fits : Keys → Type 0
+abbrev pub Fits : Keys → Type 0
 Fits keys = (w : Want) → count_in (passes (serves_as_kept w)) keys ≤ 18446744073709551615
+
+module _ {Y S : Type 0} where
+  -- it is so for the keys of a hash map
+  pub fits-shown : (m : HashMap (String Y) KeyParts S) → IsUnique string_eq m
+      → length m.entries ≤ 18446744073709551615 → Fits (keys_in_map m)
+  fits-shown m unique fits w =
+      let p : List ℕ → KeyParts → Bool = passes (serves_as_kept w) in
+      let all = count-entries p (entries_by_bytes m) (apart_by_bytes m.entries unique) in
+      let some = at_most p (entries_by_bytes m) in
+      let as_many = length-map {B = List ℕ × KeyParts} m.entries
+      (λ (e : String Y × KeyParts). (string_bytes e.0, e.1)) in
+      omega (arith, fits, all, some, as_many)
 
 pub counts-none : (m : Keys) → ((q : List ℕ) → get m q ≡ None) → CountsAgree no_counts m
 counts-none m none w = count_of-by (λ w. 0) w
     ∙ sym (none_counted (passes (serves_as_kept w)) m none)
 
--- a key is new
-pub counts-added : (c : Counts) (m n : Keys) (r : List ℕ) (x : KeyParts) → get m r ≡ None
-    → ((q : List ℕ) → get n q ≡ (if bytes_eq r q then Some x else get m q)) → Fits n
-    → CountsAgree c m → CountsAgree (with_key x.keytype c) n
-unfolding Fits
-counts-added c m n r x absent is fits old w =
-    let p : List ℕ → KeyParts → Bool = passes (serves_as_kept w) in
-    let here : share p r (get n r) ≡ bit (serves_as_kept w x.keytype) =
-    ap (share p r) (is r ∙ ap (λ b. if b then Some x else get m r) (same_itself r)) in
-    let gone : share p r (get m r) ≡ 0 = ap (share p r) absent in
-    let change = count-changed p m n r (λ q h. is q
-    ∙ ap (λ b. if b then Some x else get m q) h) in
-    with-of x.keytype c w (omega (arith, here, gone, change, old w, fits w))
-    ∙ omega (arith, here, gone, change, old w)
+-- a key is put in, taken out or exchanged
+module _ (c : Counts) (m n : Keys) (r : List ℕ) (o : Option KeyParts)
+    (is : (q : List ℕ) → get n q ≡ (if bytes_eq r q then o else get m q))
+    (old : CountsAgree c m) where
+  abbrev adds : Want → Option KeyParts → ℕ
+  adds w = share (passes (serves_as_kept w)) r
 
--- the key at r changes, and serves as before
-counts-same : (c : Counts) (m n : Keys) (r : List ℕ)
-    → ((q : List ℕ) → bytes_eq r q ≡ false → get n q ≡ get m q)
-    → ((w : Want) → share (passes (serves_as_kept w)) r (get n r)
-    ≡ share (passes (serves_as_kept w)) r (get m r)) → CountsAgree c m → CountsAgree c n
-counts-same c m n r others alike old w =
-    let change = count-changed (passes (serves_as_kept w)) m n r others in
-    omega (arith, alike w, change, old w)
+  change : (w : Want) → count_in (passes (serves_as_kept w)) n + adds w (get m r)
+      ≡ count_of c w + adds w o
+  change w = omega (arith, old w, count-changed (passes (serves_as_kept w)) m n r o is)
 
--- a key that served for nothing is gone
-pub counts-removed : (c : Counts) (m n : Keys) (r : List ℕ) (x : KeyParts) → get m r ≡ Some x
-    → ((q : List ℕ) → get n q ≡ (if bytes_eq r q then None else get m q))
-    → ((w : Want) → serves_as_kept w x.keytype ≡ false)
-    → CountsAgree c m → CountsAgree c n
-counts-removed c m n r x found is serves = counts-same c m n r
-    (λ q h. is q ∙ ap (λ b. if b then None else get m q) h)
-    (λ w. ap (share (passes (serves_as_kept w)) r)
-    (is r ∙ ap (λ b. if b then None else get m r) (same_itself r))
-    ∙ sym (ap (share (passes (serves_as_kept w)) r) found ∙ ap bit (serves w)))
+  -- it serves as the one before did
+  pub counts-alike : ((w : Want) → share (passes (serves_as_kept w)) r (get m r)
+      ≡ share (passes (serves_as_kept w)) r o) → CountsAgree c n
+  counts-alike same w = omega (arith, change w, same w)
 
--- a key is another one
-pub counts-changed : (c : Counts) (m n : Keys) (r : List ℕ) (k l : KeyParts) → get m r ≡ Some k
-    → get n r ≡ Some l → ((q : List ℕ) → bytes_eq r q ≡ false → get n q ≡ get m q) → Fits n
-    → CountsAgree c m → CountsAgree (with_key l.keytype (without_key k.keytype c)) n
-unfolding Fits
-counts-changed c m n r k l before after others fits old w =
-    let p : List ℕ → KeyParts → Bool = passes (serves_as_kept w) in
-    let there : share p r (get m r) ≡ bit (serves_as_kept w k.keytype) = ap (share p r) before in
-    let here : share p r (get n r) ≡ bit (serves_as_kept w l.keytype) = ap (share p r) after in
-    let change = count-changed p m n r others in
-    let less = without-of k.keytype c w in
-    let most = count-at p m r in
-    with-of l.keytype (without_key k.keytype c) w
-    (omega (arith, there, here, change, old w, fits w, less, most))
-    ∙ omega (arith, there, here, change, old w, less, most)
+  -- it is new
+  pub counts-added : (x : KeyParts) → o ≡ Some x → get m r ≡ None → Fits n
+      → CountsAgree (with_key x.keytype c) n
+  counts-added x here absent fits w =
+      let more : adds w o ≡ bit (serves_as_kept w x.keytype) = ap (adds w) here in
+      let none : adds w (get m r) ≡ 0 = ap (adds w) absent in
+      with-of x.keytype c w (omega (arith, change w, more, none, fits w))
+      ∙ omega (arith, change w, more, none)
 
--- the key at a reference is changed
-module _ (f : KeyParts → KeyParts) (c : Counts) (m n : Keys) (r : List ℕ) (k : KeyParts)
-    (found : get m r ≡ Some k)
-    (is : (q : List ℕ) → get n q ≡ option_map (λ k. if bytes_eq r q then f k else k) (get m q))
-  where
-    changed : get n r ≡ Some (f k)
-    changed = is r ∙ ap (option_map (λ k. if bytes_eq r r then f k else k)) found
-        ∙ ap (λ b. Some (if b then f k else k)) (same_itself r)
-
-    others : (q : List ℕ) → bytes_eq r q ≡ false → get n q ≡ get m q
-    others q h = is q ∙ other (get m q)
-      where
-        other : (o : Option KeyParts) → option_map (λ k. if bytes_eq r q then f k else k) o ≡ o
-        other None = refl
-        other (Some k) = ap (λ b. Some (if b then f k else k)) h
-
-    pub counts-at : Fits n → CountsAgree c m
-        → CountsAgree (with_key (f k).keytype (without_key k.keytype c)) n
-    counts-at = counts-changed c m n r k (f k) found changed others
-
-    -- but it serves as before
-    pub counts-alike : ((w : Want) → serves_as_kept w (f k).keytype ≡ serves_as_kept w k.keytype)
-        → CountsAgree c m → CountsAgree c n
-    counts-alike serves = counts-same c m n r others
-        (λ w. ap (share (passes (serves_as_kept w)) r) changed ∙ ap bit (serves w)
-        ∙ sym (ap (share (passes (serves_as_kept w)) r) found))
+  -- it stands for another one
+  pub counts-exchanged : (k l : KeyParts) → get m r ≡ Some k → o ≡ Some l → Fits n
+      → CountsAgree (with_key l.keytype (without_key k.keytype c)) n
+  counts-exchanged k l there here fits w =
+      let more : adds w o ≡ bit (serves_as_kept w l.keytype) = ap (adds w) here in
+      let gone : adds w (get m r) ≡ bit (serves_as_kept w k.keytype) = ap (adds w) there in
+      let less = without-of k.keytype c w in
+      let most = count-at (passes (serves_as_kept w)) m r in
+      with-of l.keytype (without_key k.keytype c) w
+      (omega (arith, change w, more, gone, old w, fits w, less, most))
+      ∙ omega (arith, change w, more, gone, old w, less, most)
 
 -- a key serves, whether it signs or not
 signing : (value : Bool) (t : KeyType) (w : Want)
@@ -193,33 +136,24 @@ signing value t = serves_alike-at (at_each_state (with_signer value)) t
     (λ a b. both-at (λ value. each_key a b (serves_alike (at_each_state (with_signer value)))) refl
     value) t)
 
+-- so a setter that moves no count leaves each key to serve as before
+set-serves : (setting : Setting) → moves_counts setting ≡ false → (k : KeyParts) (w : Want)
+    → serves_as_kept w (set_by setting k).keytype ≡ serves_as_kept w k.keytype
+set-serves (Signer value) e k w = signing value k.keytype w
+set-serves setting e k w = cc
+
 -- a setter has changed the key at a reference
 pub counts-set : (setting : Setting) (c : Counts) (m n : Keys) (r : List ℕ) (k : KeyParts)
     → get m r ≡ Some k
-    → ((q : List ℕ) → get n q
-    ≡ option_map (λ k. if bytes_eq r q then set_by setting k else k) (get m q))
+    → ((q : List ℕ) → get n q ≡ (if bytes_eq r q then Some (set_by setting k) else get m q))
     → Fits n → CountsAgree c m
     → CountsAgree (if moves_counts setting
     then with_key (set_by setting k).keytype (without_key k.keytype c) else c) n
-counts-set (Present value now) c m n r k found is fits = counts-at _ c m n r k found is fits
-counts-set (Signer value) c m n r k found is fits =
-    counts-alike _ c m n r k found is (signing value k.keytype)
-counts-set (AtParent value) c m n r k found is fits = counts-at _ c m n r k found is fits
-counts-set Stale c m n r k found is fits = counts-at _ c m n r k found is fits
-counts-set (Decoupled value) c m n r k found is fits =
-    counts-alike _ c m n r k found is (λ w. refl)
-counts-set (VisibleAt time) c m n r k found is fits =
-    counts-alike _ c m n r k found is (λ w. refl)
-counts-set (DsVisibleAt time) c m n r k found is fits =
-    counts-alike _ c m n r k found is (λ w. refl)
-counts-set (RrsigVisibleAt time) c m n r k found is fits =
-    counts-alike _ c m n r k found is (λ w. refl)
-
-module _ {Y S : Type 0} where
-  pub fits-shown : (m : HashMap (String Y) KeyParts S) → IsUnique string_eq m →
-      length m.entries ≤ 18446744073709551615 → Fits (keys_in_map m)
-  unfolding Fits
-  fits-shown m unique fits w = count-fits (passes (serves_as_kept w)) m unique fits
+counts-set setting c m n r k found is fits old = cond_both (moves_counts setting) _ _
+    (λ counts. CountsAgree counts n)
+    (λ e. counts-exchanged c m n r _ is old k (set_by setting k) found refl fits)
+    (λ e. counts-alike c m n r _ is old (λ w. ap (share (passes (serves_as_kept w)) r) found
+    ∙ ap bit (sym (set-serves setting e k w))))
 
 -- a key serves in its state
 abbrev served : Want → KeyParts → Bool
@@ -235,20 +169,8 @@ module _ (step : KeyParts → KeyParts)
           (map (λ (e : String Y × KeyParts). (e.0, step e.1)) es)))
           ≡ length (filter (served w) (map (λ (e : String Y × KeyParts). e.1) es))
       as_many w [] = refl
-      as_many w (e ∷ es) = ap (λ b. length (cond b (step e.1 ∷ after) after)) (alike w e.1)
-          ∙ at (served w e.1) (as_many w es)
-        where
-          after : List KeyParts
-          after = filter (served w) (map (λ (e : String Y × KeyParts). e.1)
-              (map (λ (e : String Y × KeyParts). (e.0, step e.1)) es))
-
-          before : List KeyParts
-          before = filter (served w) (map (λ (e : String Y × KeyParts). e.1) es)
-
-          at : (b : Bool) → length after ≡ length before →
-              length (cond b (step e.1 ∷ after) after) ≡ length (cond b (e.1 ∷ before) before)
-          at true h = ap suc h
-          at false h = h
+      as_many w (e ∷ es) = passed-more (served w) (step e.1) _
+          ∙ (λ i. bit (alike w e.1 i) + as_many w es i) ∙ sym (passed-more (served w) e.1 _)
 
     module _ {Y S : Type 0} where
       -- a walk after which each key serves as before
@@ -267,16 +189,9 @@ folded : (w : Want) (ks : List KeyParts) (c : Counts) → count_of c w
     ≡ count_of c w + length (filter (λ (k : KeyParts). serves_as_kept w k.keytype) ks)
 folded w [] c fits = omega arith
 folded w (k ∷ ks) c fits =
-    let here = at (serves_as_kept w k.keytype) in
+    let here = passed-more (λ (k : KeyParts). serves_as_kept w k.keytype) k ks in
     let one = with-of k.keytype c w (omega (arith, here, fits)) in
     folded w ks (with_key k.keytype c) (omega (arith, one, here, fits)) ∙ omega (arith, one, here)
-  where
-    rest : List KeyParts
-    rest = filter (λ (k : KeyParts). serves_as_kept w k.keytype) ks
-
-    at : (b : Bool) → length (cond b (k ∷ rest) rest) ≡ bit b + length rest
-    at true = omega arith
-    at false = omega arith
 
 module _ {Y S : Type 0} where
   -- the counts by a walk
@@ -285,7 +200,49 @@ module _ {Y S : Type 0} where
       CountsAgree (fold (λ c k. with_key k.keytype c) no_counts (values m)) (keys_in_map m)
   counts-walked m unique fits w =
       let these = count-shown (serves_as_kept w) m unique in
-      let some = count-fits (passes (serves_as_kept w)) m unique fits in
+      let some = fits-shown m unique fits w in
       let zero = count_of-by (λ w. 0) w in
       folded w (values m) no_counts (omega (arith, zero, these, some))
       ∙ omega (arith, zero, these)
+
+-- ---- what moves no count: a wait that changes no flag that a count asks for, and a stale key
+
+-- a stale key serves for nothing
+pub stale-serves : (t : KeyType) → all_states is_stale t ≡ true → (w : Want)
+    → serves_as_kept w t ≡ false
+stale-serves t stale w = alike-same (serves_as_kept w t) false
+    (each_want-at (λ w. alike (serves_as_kept w t) false)
+    (mp (all_states is_stale t) (each_want (λ w. alike (serves_as_kept w t) false))
+    (each_key-at (λ t. all_states is_stale t
+    ⇒ each_want (λ w. alike (serves_as_kept w t) false)) (λ a b. refl) t) stale) w)
+
+-- a wait that moves no count: in each half of each roll
+abbrev keeps_counts : RollType → Half → KeyType → Bool
+keeps_counts roll half t =
+    not (wait_moves_kept roll half) ⇒ serves_alike (half_of roll half).moves t
+
+moves-alike : (roll : RollType) (half : Half) → wait_moves_kept roll half ≡ false
+    → (t : KeyType) → serves_alike (half_of roll half).moves t ≡ true
+unfolding column
+moves-alike roll half e t =
+    mp _ _ (each_in_half-at keeps_counts (λ a b. refl) roll half t) (ap not e)
+
+module _ {Y S : Type 0} where
+  -- the counts after a wait; they are counted again if the wait may change them
+  pub counts-waited : (roll : RollType) (half : Half) (now : ℕ) (before after : Counts)
+      (m n : HashMap (String Y) KeyParts S) → IsUnique string_eq m → IsUnique string_eq n
+      → n.entries ≡ map (λ (e : String Y × KeyParts). (e.0, after_wait roll half now e.1)) m.entries
+      → CountsAgree before (keys_in_map m)
+      → (wait_moves_kept roll half ≡ true → CountsAgree after (keys_in_map n))
+      → (wait_moves_kept roll half ≡ false → after ≡ before)
+      → CountsAgree after (keys_in_map n)
+  counts-waited roll half now before after m n one two is old moved kept =
+      at (wait_moves_kept roll half) refl
+    where
+      at : (b : Bool) → wait_moves_kept roll half ≡ b → CountsAgree after (keys_in_map n)
+      at true e = moved e
+      at false e = subst (λ c. CountsAgree c (keys_in_map n)) (sym (kept e))
+          (counts-kept (after_wait roll half now)
+          (λ w k. serves_alike-at (half_of roll half).moves k.keytype
+          (moves-alike roll half e k.keytype) w)
+          before m n one two is old)

@@ -5,54 +5,62 @@ use Rattle.std.specs.Prelude.{Option, ◌&&◌, ◌||◌, T, nat_lt, if◌then�
 use Rattle.std.specs.declared.string.String.{String}
 use Rattle.std.specs.String.{string_eq}
 use Rattle.std.specs.HashMap.{HashMap, IsUnique, values}
-use Rattle.std.specs.FinMap as fin
-use Rattle.std.specs.FinMap.{from_entries, get-from_entries, len-entries, len-empty, find, get}
-use Rattle.std.specs.FinMap.{insert, remove, entries, entries_sorted, entries-insert, get-entries}
-use Rattle.std.specs.FinMap.{get-insert, get-remove}
-use Rattle.std.specs.List.{list_any}
+use Rattle.std.specs.FinMap.{from_entries, find, get, insert, remove, entries, entries_sorted}
+use Rattle.std.specs.FinMap.{entries-insert, get-entries, get-insert, get-remove}
+use Rattle.std.specs.List.{list_any, sum_by}
+use Rattle.std.specs.List.Sorted.{IsPermutation}
 use Rattle.std.specs.Option.{option_map_or}
 use Rattle.std.specs.Str.{bytes_eq}
-use Rattle.std.specs.declared.cmp.Ordering.TheVariants.{Less, Equal, Greater}
-use Rattle.std.specs.Ordering.{nat_cmp, is_eq, eq_by_cmp}
+use Rattle.std.specs.Ordering.{nat_cmp, eq_by_cmp}
 use Rattle.std.specs.Cmp.Lexicographic.{slice_cmp, nat_list_cmp_total, bytes_decides}
 use Rattle.std.specs.Cmp.Lexicographic.{nat_list_eq_equiv}
-use Rattle.std.specs.FinMap.Entries.{put, by_order, is_sorted}
-use Rattle.std.proofs.lemmas.Map.Text.{is_eq-slice_cmp}
+use Rattle.std.specs.FinMap.Entries.{is_sorted}
+use Rattle.std.proofs.lemmas.Bool.{and_right}
 use Rattle.std.proofs.lemmas.Bool.Decides.{nat_tests}
+use Rattle.std.proofs.lemmas.List.Recursion.{is_sum_by}
+use Rattle.std.proofs.lemmas.List.Sorted.{sum_by-IsPermutation}
+use Rattle.std.proofs.lemmas.Map.Text.{is_eq-slice_cmp}
 use Rattle.dnssec_key.specs.declared.kind.KeyType.{KeyType}
 use Rattle.dnssec_key.specs.Key.{KeyParts}
 use Rattle.dnssec_zone.specs.Keys.{Keys, keys_in_map, entries_by_bytes}
 use Rattle.dnssec_zone.specs.Start.{is_listed, some_kept}
 use Rattle.dnssec_zone.specs.Inner.Counts.{bit, count, count_in, share, unlisted_passes}
 use Rattle.dnssec_zone.specs.Inner.Counts.{listed_passes, passes}
-use Rattle.dnssec_zone.proofs.Quantified.{first, second, itself, apart, below_found}
+use Rattle.dnssec_zone.proofs.Quantified.{here-found, later-found, second}
 use Rattle.dnssec_zone.proofs.Shown.{same_keys}
-use Rattle.dnssec_zone.proofs.Walks.{AreApart, apart_by_bytes, none_of_length}
-use Rattle.std.proofs.Math.Bool.{or-false}
+use Rattle.dnssec_zone.proofs.Tests.{some_or_none}
+use Rattle.dnssec_zone.proofs.Walks.{AreApart, apart_by_bytes, entries_permute, put_permutes}
 
 tied : (r q : List ℕ) → bytes_eq r q ≡ eq_by_cmp (slice_cmp nat_cmp) q r
 tied r q = nat_list_eq_equiv.symm r q ∙ sym (is_eq-slice_cmp q r)
 
 module _ (p : List ℕ → KeyParts → Bool) where
-  count-put : (r : List ℕ) (x : KeyParts) (es : List (List ℕ × KeyParts)) →
-      find (slice_cmp nat_cmp) r es ≡ None
-      → count p (put (slice_cmp nat_cmp) r x es) ≡ bit (p r x) + count p es
-  count-put r x [] none = refl
-  count-put r x (e ∷ es) none =
-      elim (slice_cmp nat_cmp r e.0) as
-      (λ o. cond (is_eq o) (Some e.1) (find (slice_cmp nat_cmp) r es) ≡ None
-      → count p
-      (by_order o ((r, x) ∷ e ∷ es) ((e.0, x) ∷ es) (e ∷ put (slice_cmp nat_cmp) r x es))
-      ≡ bit (p r x) + (bit (p e.0 e.1) + count p es)) [
-        | Less ↦ λ h. refl
-        | Equal ↦ λ h. cc
-        | Greater ↦ λ h. let rest = count-put r x es h in omega (arith, rest)
-      ] none
+  -- a count is a sum, whatever the order
+  count-permutation : (es fs : List (List ℕ × KeyParts)) → IsPermutation es fs
+      → count p fs ≡ count p es
+  count-permutation es fs h =
+      sums fs ∙ sum_by-IsPermutation (λ (e : List ℕ × KeyParts). bit (p e.0 e.1)) es fs h
+      ∙ sym (sums es)
+    where
+      sums : (es : List (List ℕ × KeyParts))
+          → count p es ≡ sum_by (λ (e : List ℕ × KeyParts). bit (p e.0 e.1)) es
+      sums = is_sum_by (count p) (λ (e : List ℕ × KeyParts). bit (p e.0 e.1)) refl (λ e es. refl)
 
   count-insert : (m : Keys) (r : List ℕ) (x : KeyParts) → get m r ≡ None →
       count_in p (insert m r x) ≡ bit (p r x) + count_in p m
   count-insert m r x none = ap (count p) (entries-insert nat_list_cmp_total m r x)
-      ∙ count-put r x (entries m) (sym (get-entries m r) ∙ none)
+      ∙ count-permutation ((r, x) ∷ entries m) _
+      (put_permutes r x (entries m) (sym (get-entries m r) ∙ none))
+
+  -- what is made of entries that are apart counts as they do
+  pub count-entries : (es : List (List ℕ × KeyParts)) → AreApart es →
+      count_in p (from_entries {R = slice_cmp nat_cmp} es) ≡ count p es
+  count-entries es apart = count-permutation es _ (entries_permute es apart)
+
+  pub count-none : ((q : List ℕ) (k : KeyParts) → p q k ≡ false)
+      → (es : List (List ℕ × KeyParts)) → count p es ≡ 0
+  count-none fails [] = refl
+  count-none fails (e ∷ es) = λ i. bit (fails e.0 e.1 i) + count-none fails es i
 
 -- a look-up after the key at r was taken out
 pub get-without : (m : Keys) (r q : List ℕ) → get (remove m r) q
@@ -68,51 +76,38 @@ get-with m r q x = get-insert nat_list_cmp_total m r x q ∙ ap (λ b. cond b (S
 pub same_itself : (r : List ℕ) → bytes_eq r r ≡ true
 same_itself r = (bytes_decides r r).1 refl
 
+-- without a key at r nothing is taken out, and one there can be put back
+without-none : (m : Keys) (r : List ℕ) → get m r ≡ None → remove m r ≡ m
+without-none m r none =
+    same_keys _ _ (λ q. get-without m r q ∙ (grind (arith, bytes_decides)))
+
+put-back : (m : Keys) (r : List ℕ) (x : KeyParts) → get m r ≡ Some x
+    → m ≡ insert (remove m r) r x
+put-back m r x found = same_keys _ _ (λ q. sym (get-with (remove m r) r q x
+    ∙ ap (λ o. if bytes_eq r q then Some x else o) (get-without m r q)
+    ∙ (grind (arith, bytes_decides))))
+
 module _ (p : List ℕ → KeyParts → Bool) where
   -- the count is the share of one key and the count of the rest
   pub count-at : (m : Keys) (r : List ℕ) → count_in p m ≡ share p r (get m r)
       + count_in p (remove m r)
-  count-at m r = at (get m r) refl
-    where
-      none_there : get (remove m r) r ≡ None
-      none_there = get-without m r r ∙ ap (λ b. if b then None else get m r) (same_itself r)
+  count-at m r = some_or_none
+      (λ o. count_in p m ≡ share p r o + count_in p (remove m r)) (get m r)
+      (λ e. omega (arith, ap (count_in p) (without-none m r e)))
+      (λ x e. ap (count_in p) (put-back m r x e)
+      ∙ count-insert p (remove m r) r x (get-without m r r
+      ∙ ap (λ b. if b then None else get m r) (same_itself r)))
 
-      at : (o : Option KeyParts) → get m r ≡ o → count_in p m ≡ share p r o
-          + count_in p (remove m r)
-      at None e = let same : count_in p m ≡ count_in p (remove m r) =
-          ap (count_in p)
-          (same_keys m (remove m r) (λ q. sym (get-without m r q ∙ by q (bytes_eq r q) refl))) in
-          omega (arith, same)
-        where
-          by : (q : List ℕ) (b : Bool) → bytes_eq r q ≡ b → (if b then None else get m q) ≡ get m q
-          by q true h = sym (ap (get m) (sym ((bytes_decides r q).0 h)) ∙ e)
-          by q false h = refl
-      at (Some x) e =
-          ap (count_in p)
-          (same_keys m (insert (remove m r) r x)
-          (λ q. sym (get-with (remove m r) r q x ∙ by q (bytes_eq r q) refl)))
-          ∙ count-insert p (remove m r) r x none_there
-        where
-          by : (q : List ℕ) (b : Bool) → bytes_eq r q ≡ b →
-              (if b then Some x else get (remove m r) q) ≡ get m q
-          by q true h = sym e ∙ ap (get m) ((bytes_decides r q).0 h)
-          by q false h = get-without m r q ∙ ap (λ b. if b then None else get m q) h
-
-  -- a change at one reference changes the count by that key
-  pub count-changed : (m n : Keys) (r : List ℕ) →
-      ((q : List ℕ) → bytes_eq r q ≡ false → get n q ≡ get m q)
-      → count_in p n + share p r (get m r) ≡ count_in p m + share p r (get n r)
-  count-changed m n r others =
-      let rest : remove n r ≡ remove m r =
-      same_keys _ _ (λ q. get-without n r q ∙ by q (bytes_eq r q) refl
-      ∙ sym (get-without m r q)) in
-      let same : count_in p (remove n r) ≡ count_in p (remove m r) = ap (count_in p) rest in
-      omega (arith, same, count-at m r, count-at n r)
-    where
-      by : (q : List ℕ) (b : Bool) → bytes_eq r q ≡ b → (if b then None else get n q)
-          ≡ (if b then None else get m q)
-      by q true h = refl
-      by q false h = others q h
+  -- a key that is put in, taken out or exchanged changes the count by what it adds
+  pub count-changed : (m n : Keys) (r : List ℕ) (o : Option KeyParts)
+      → ((q : List ℕ) → get n q ≡ (if bytes_eq r q then o else get m q))
+      → count_in p n + share p r (get m r) ≡ count_in p m + share p r o
+  count-changed m n r o is =
+      let here : get n r ≡ o = is r ∙ ap (λ b. if b then o else get m r) (same_itself r) in
+      let rest : remove n r ≡ remove m r = same_keys _ _ (λ q. get-without n r q
+      ∙ ap (λ x. if bytes_eq r q then None else x) (is q)
+      ∙ (grind arith) ∙ sym (get-without m r q)) in
+      omega (arith, ap (count_in p) rest, ap (share p r) here, count-at m r, count-at n r)
 
 -- tests that agree on the keys count alike
 module _ (p r : List ℕ → KeyParts → Bool) where
@@ -121,13 +116,9 @@ module _ (p r : List ℕ → KeyParts → Bool) where
       count p es ≡ count r es
   count-alike [] s h = refl
   count-alike (e ∷ es) s h =
-      let here : p e.0 e.1 ≡ r e.0 e.1 =
-      h e.0 e.1 (ap (λ c. cond c (Some e.1) (find (slice_cmp nat_cmp) e.0 es)) (itself e.0)) in
       let rest : count p es ≡ count r es =
-      count-alike es (second _ _ s)
-      (λ q k f. h q k (ap (λ c. cond c (Some e.1) (find (slice_cmp nat_cmp) q es))
-      (apart e.0 q (below_found e.0 q k es (first _ _ s) f)) ∙ f)) in
-      λ i. bit (here i) + rest i
+      count-alike es (second _ _ s) (λ q k f. h q k (later-found e es s q k f)) in
+      λ i. bit (h e.0 e.1 (here-found e es) i) + rest i
 
   pub count-same : (m : Keys) → ((q : List ℕ) (k : KeyParts) → get m q ≡ Some k → p q k ≡ r q k) →
       count_in p m ≡ count_in r m
@@ -155,63 +146,37 @@ module _ (p : KeyType → Bool) where
     where
       other : (q : List ℕ) (k : KeyParts) → get (remove m x) q ≡ Some k →
           listed_passes p more q k ≡ listed_passes p qs q k
-      other q k f = ap (λ b. p k.keytype && b) (grown q) ∙ at (bytes_eq x q) refl
-        where
-          at : (b : Bool) → bytes_eq x q ≡ b →
-              (p k.keytype && (is_listed qs q || b)) ≡ (p k.keytype && is_listed qs q)
-          at true h = let gone : None ≡ Some k = sym (get-without m x q
-              ∙ ap (λ b. if b then None else get m q) h) ∙ f in cc
-          at false h = ap (λ b. p k.keytype && b) (or-false (is_listed qs q))
-
-      one_key : (k b : Bool) → bit (k && (b || true)) ≡ bit (k && b) + bit (k && not b)
-      one_key true true = refl
-      one_key true false = refl
-      one_key false true = refl
-      one_key false false = refl
+      other q k f =
+          let there : (if bytes_eq x q then None else get m q) ≡ Some k =
+          sym (get-without m x q) ∙ f in
+          let same : (is_listed qs q || bytes_eq x q) ≡ is_listed qs q = grind arith in
+          ap (λ b. p k.keytype && b) (grown q ∙ same)
 
       one : (o : Option KeyParts) → share (listed_passes p more) x o
           ≡ share (listed_passes p qs) x o
           + bit (option_map_or (λ k. p k.keytype && not (is_listed qs x)) o false)
       one None = refl
       one (Some k) = ap (λ b. bit (p k.keytype && b))
-          (grown x ∙ ap (λ b. is_listed qs x || b) (same_itself x))
-          ∙ one_key (p k.keytype) (is_listed qs x)
+          (grown x ∙ ap (λ b. is_listed qs x || b) (same_itself x)) ∙ (grind arith)
 
   pub none_listed : (m : Keys) → count_in (listed_passes p []) m ≡ 0
-  none_listed m = at (entries m)
-    where
-      at : (es : List (List ℕ × KeyParts)) → count (listed_passes p []) es ≡ 0
-      at [] = refl
-      at (e ∷ es) = by (p e.1.keytype) (at es)
-        where
-          by : (b : Bool) → count (listed_passes p []) es ≡ 0 →
-              bit (b && false) + count (listed_passes p []) es ≡ 0
-          by true h = omega (arith, h)
-          by false h = omega (arith, h)
+  none_listed m = count-none (listed_passes p [])
+      (λ q k. and_right (p k.keytype) false refl) (entries m)
 
   counted_apart : (qs : List (List ℕ)) (es : List (List ℕ × KeyParts)) → count (passes p) es
       ≡ count (listed_passes p qs) es + count (unlisted_passes p qs) es
   counted_apart qs [] = refl
-  counted_apart qs (e ∷ es) = at (p e.1.keytype) (is_listed qs e.0) (counted_apart qs es)
-    where
-      at : (k b : Bool) → count (passes p) es
-          ≡ count (listed_passes p qs) es + count (unlisted_passes p qs) es
-          → bit k + count (passes p) es ≡ (bit (k && b) + count (listed_passes p qs) es)
-          + (bit (k && not b) + count (unlisted_passes p qs) es)
-      at true true h = omega (arith, h)
-      at true false h = omega (arith, h)
-      at false true h = omega (arith, h)
-      at false false h = omega (arith, h)
+  counted_apart qs (e ∷ es) =
+      let split : (k b : Bool) → bit k ≡ bit (k && b) + bit (k && not b) = λ k b. grind arith in
+      omega (arith, counted_apart qs es, split (p e.1.keytype) (is_listed qs e.0))
 
-some_counted : (t : List ℕ → KeyParts → Bool) (es : List (List ℕ × KeyParts)) →
+pub some_counted : (t : List ℕ → KeyParts → Bool) (es : List (List ℕ × KeyParts)) →
     list_any (λ (e : List ℕ × KeyParts). t e.0 e.1) es ≡ nat_lt 0 (count t es)
 some_counted t [] = refl
-some_counted t (e ∷ es) = at (t e.0 e.1) (some_counted t es)
+some_counted t (e ∷ es) = ap (λ b. t e.0 e.1 || b) (some_counted t es) ∙ step (t e.0 e.1) _
   where
-    at : (b : Bool) → list_any (λ (x : List ℕ × KeyParts). t x.0 x.1) es ≡ nat_lt 0 (count t es) →
-        (b || list_any (λ (x : List ℕ × KeyParts). t x.0 x.1) es) ≡ nat_lt 0 (bit b + count t es)
-    at true h = grind (arith, nat_tests)
-    at false h = h ∙ ap (λ n. nat_lt 0 n) (omega arith)
+    step : (b : Bool) (n : ℕ) → (b || nat_lt 0 n) ≡ nat_lt 0 (bit b + n)
+    step b n = grind (arith, nat_tests)
 
 less_more : (a b c : ℕ) → c ≡ a + b → nat_lt 0 b ≡ nat_lt a c
 less_more a b c e = grind (arith, nat_tests)
@@ -225,17 +190,10 @@ some_kept-counted p keys qs = some_counted (unlisted_passes p qs) (entries keys)
 
 -- ---- a walk over the hash map counts the same
 
-module _ (p : List ℕ → KeyParts → Bool) where
-  pub count-entries : (es : List (List ℕ × KeyParts)) → AreApart es →
-      count_in p (from_entries {R = slice_cmp nat_cmp} es) ≡ count p es
-  unfolding AreApart
-  count-entries [] apart =
-      ap (count p)
-      (none_of_length _ (sym (len-entries (fin.empty {X = KeyParts} {R = slice_cmp nat_cmp}))
-      ∙ len-empty (slice_cmp nat_cmp) KeyParts))
-  count-entries (e ∷ es) apart = count-insert p (from_entries {R = slice_cmp nat_cmp} es) e.0 e.1
-      (get-from_entries nat_list_cmp_total es e.0 ∙ apart.0)
-      ∙ ap (λ n. bit (p e.0 e.1) + n) (count-entries es apart.1)
+-- one key more of a list
+pub passed-more : (p : KeyParts → Bool) (k : KeyParts) (ks : List KeyParts)
+    → length (filter p (k ∷ ks)) ≡ bit (p k) + length (filter p ks)
+passed-more p k ks = grind arith
 
 module _ {Y : Type 0} (p : KeyType → Bool) where
   counted : (es : List (String Y × KeyParts)) →
@@ -243,22 +201,8 @@ module _ {Y : Type 0} (p : KeyType → Bool) where
       (map {B = List ℕ × KeyParts} (λ (e : String Y × KeyParts). (string_bytes e.0, e.1)) es)
       ≡ length (filter (λ (k : KeyParts). p k.keytype) (map (λ (e : String Y × KeyParts). e.1) es))
   counted [] = refl
-  counted (e ∷ es) = at (p e.1.keytype) (counted es)
-    where
-      at : (b : Bool) →
-          count (passes p)
-          (map {B = List ℕ × KeyParts} (λ (e : String Y × KeyParts). (string_bytes e.0, e.1)) es)
-          ≡ length (filter (λ (k : KeyParts). p k.keytype)
-          (map (λ (e : String Y × KeyParts). e.1) es))
-          → bit b + count (passes p)
-          (map {B = List ℕ × KeyParts} (λ (e : String Y × KeyParts). (string_bytes e.0, e.1))
-          es)
-          ≡ length (cond b
-          (e.1 ∷ filter (λ (k : KeyParts). p k.keytype)
-          (map (λ (e : String Y × KeyParts). e.1) es))
-          (filter (λ (k : KeyParts). p k.keytype) (map (λ (e : String Y × KeyParts). e.1) es)))
-      at true h = omega (arith, h)
-      at false h = omega (arith, h)
+  counted (e ∷ es) = (λ i. bit (p e.1.keytype) + counted es i)
+      ∙ sym (passed-more (λ (k : KeyParts). p k.keytype) e.1 _)
 
   pub count-shown : {S : Type 0} (m : HashMap (String Y) KeyParts S) → IsUnique string_eq m →
       length (filter (λ (k : KeyParts). p k.keytype) (values m))

@@ -1,40 +1,58 @@
 -- What a start lists, and what a report or an early end takes back.
-use Rattle.std.proofs.Common.{◌≡◌, ℕ, Bool, true, false, not, ◌&&◌, List, [], ◌∷◌, ◌++◌, map}
-use Rattle.std.proofs.Common.{Some, None, refl, sym, ap, subst, ◌∙◌, cond}
+use Rattle.std.proofs.Common.{◌≡◌, ℕ, Bool, true, false, not, ◌&&◌, List, [], ◌∷◌, ◌++◌, Some, None}
+use Rattle.std.proofs.Common.{refl, sym, ap, subst, ◌∙◌, cond, arith}
 use Rattle.std.specs.Prelude.{Option, filter, if◌then◌else◌}
-use Rattle.std.specs.Option.{option_map_or}
+use Rattle.std.specs.Option.{option_map_or, option_or}
 use Rattle.std.specs.FinMap.{get}
+use Rattle.std.proofs.lemmas.Bool.{and_left, and_parts, and_right, cond_both, false_from_ne_true}
+use Rattle.std.proofs.lemmas.Bool.{not-false}
 use Rattle.std.proofs.lemmas.List.{append-nil, map-append}
 use Rattle.std.proofs.lemmas.List.Elements.{filter-append}
 use Rattle.dnssec_key.specs.declared.roll.RollType.{RollType}
-use Rattle.dnssec_key.specs.State.{is_kept}
+use Rattle.dnssec_key.specs.State.{is_kept, is_fresh}
 use Rattle.dnssec_key.specs.Key.{KeyParts, all_states}
 use Rattle.dnssec_key.specs.RollTable.{Half, First, Second}
 use Rattle.dnssec_zone.specs.declared.listed.Entry.{Entry}
 use Rattle.dnssec_zone.specs.declared.listed.Part.{Part}
 use Rattle.dnssec_zone.specs.declared.listed.Part.TheVariants.{Old, New}
-use Rattle.dnssec_zone.specs.Inner.Entries.{is_of, is_of_roll, same_part, without_roll}
-use Rattle.dnssec_zone.specs.Inner.Entries.{entry_of, entries_of, entries_at_start}
-use Rattle.dnssec_zone.specs.Inner.Entries.{entries_after_report}
-use Rattle.dnssec_zone.specs.Inner.Entries.{reference_of, references_of, lists_of}
-use Rattle.dnssec_zone.specs.Inner.Entries.{AreThere}
+use Rattle.dnssec_zone.specs.Inner.Entries.{is_of, is_of_roll, same_part, without_roll, entry_of}
+use Rattle.dnssec_zone.specs.Inner.Entries.{entries_of, entries_at_start, entries_after_report}
+use Rattle.dnssec_zone.specs.Inner.Entries.{reference_of, references_of, lists_of, AreThere}
 use Rattle.dnssec_zone.specs.Keys.{Keys, TagsApart}
-use Rattle.dnssec_zone.specs.Lists.{Listed, with_listed, others}
-use Rattle.dnssec_zone.specs.Lists.{nothing_listed, has_kept_key, listed_at_start}
-use Rattle.dnssec_zone.specs.Lists.{lists_after_report}
+use Rattle.dnssec_zone.specs.Lists.{Listed, with_listed, others, nothing_listed, has_kept_key}
+use Rattle.dnssec_zone.specs.Lists.{listed_at_start, lists_after_report}
 use Rattle.dnssec_zone.specs.Rolls.{same_roll}
 use Rattle.dnssec_zone.proofs.Phases.{same_roll-is, same-itself}
-use Rattle.dnssec_zone.proofs.Listing.References.{reference_of-is, there-append}
+use Rattle.dnssec_zone.proofs.Listing.References.{names, reference_of-is, there-append}
 use Rattle.dnssec_zone.proofs.Listing.References.{there-filter}
 use Rattle.dnssec_base.specs.declared.error.Error.{Error}
 use Rattle.dnssec_base.specs.declared.error.Error.TheVariants.{WrongKeyType, WrongKeyState}
 use Rattle.dnssec_key.specs.declared.kind.KeyType.{KeyType}
-use Rattle.dnssec_key.specs.State.{is_fresh}
 use Rattle.dnssec_zone.specs.Start.{new_entry_fault, new_fault, lists_kind, side_of}
-use Rattle.dnssec_zone.proofs.Tests.{each_key, each_key-at, mp, ◌⇒◌}
-use Rattle.std.specs.Option.{option_or}
+use Rattle.dnssec_zone.proofs.Tests.{each_kind-at, mp, some_or_none, ◌⇒◌}
 
 -- ---- the entries of one roll
+
+module _ (p w : Entry → Bool) where
+  filter-step : (e : Entry) (es : List Entry) → (w e ≡ false → p e ≡ false)
+      → filter p (filter w es) ≡ filter p es → filter p (filter w (e ∷ es)) ≡ filter p (e ∷ es)
+  filter-step e es out rest = grind arith
+
+  -- a test that passes nothing of what is cut finds as much as before
+  filter-within : ((e : Entry) → w e ≡ false → p e ≡ false) → (es : List Entry)
+      → filter p (filter w es) ≡ filter p es
+  filter-within out [] = refl
+  filter-within out (e ∷ es) = filter-step e es (out e) (filter-within out es)
+
+  apart-step : (e : Entry) (es : List Entry) → (p e ≡ true → w e ≡ false)
+      → filter p (filter w es) ≡ [] → filter p (filter w (e ∷ es)) ≡ []
+  apart-step e es out rest = grind arith
+
+  -- and one that passes only what is cut finds nothing
+  filter-apart : ((e : Entry) → p e ≡ true → w e ≡ false) → (es : List Entry)
+      → filter p (filter w es) ≡ []
+  filter-apart out [] = refl
+  filter-apart out (e ∷ es) = apart-step e es (out e) (filter-apart out es)
 
 -- a test that refuses what a start lists finds none there
 none_of : (keys : Keys) (roll : RollType) (of : Part) (p : Entry → Bool)
@@ -45,44 +63,23 @@ none_of keys roll of p fails (q ∷ qs) =
     filter-append p (entry_of roll of (get keys q)) (entries_of keys roll of qs)
     ∙ (λ i. one (get keys q) i ++ none_of keys roll of p fails qs i)
   where
-    kept : (k : KeyParts) (b : Bool)
-        → filter p (cond b (record { roll = roll; part = of; key_tag = k.key_tag } ∷ []) []) ≡ []
-    kept k true = ap (λ b. cond b (record { roll = roll; part = of; key_tag = k.key_tag } ∷ [])
-        []) (fails k.key_tag)
-    kept k false = refl
-
     one : (o : Option KeyParts) → filter p (entry_of roll of o) ≡ []
     one None = refl
-    one (Some k) = kept k (all_states is_kept k.keytype)
+    one (Some k) = cond_both (all_states is_kept k.keytype) _ _ (λ es. filter p es ≡ [])
+        (λ t. ap (λ b. cond b (record { roll = roll; part = of; key_tag = k.key_tag } ∷ []) [])
+        (fails k.key_tag)) (λ t. refl)
 
 -- those of another roll are the same
 module _ (roll other : RollType) (apart : same_roll roll other ≡ false) where
   not_of : (part : Part) (e : Entry) → is_of_roll roll e ≡ true → is_of other part e ≡ false
-  not_of part e is =
-      at (same_roll other e.roll) refl
-    where
-      at : (b : Bool) → same_roll other e.roll ≡ b
-          → (same_roll other e.roll && same_part part e.part) ≡ false
-      at true t =
-          let tied : same_roll roll other ≡ true =
-          subst (λ r. same_roll roll r ≡ true) (sym (same_roll-is other e.roll t)) is in cc
-      at false t = ap (λ b. b && same_part part e.part) t
+  not_of part e is = and_left _ _ (false_from_ne_true (same_roll other e.roll) (λ t.
+      let tied : same_roll roll other ≡ true =
+      subst (λ r. same_roll roll r ≡ true) (sym (same_roll-is other e.roll t)) is in cc))
 
   without_other : (part : Part) (es : List Entry)
       → filter (is_of other part) (without_roll roll es) ≡ filter (is_of other part) es
-  without_other part [] = refl
-  without_other part (e ∷ es) =
-      at (is_of_roll roll e) refl (without_other part es)
-    where
-      at : (b : Bool) → is_of_roll roll e ≡ b
-          → filter (is_of other part) (without_roll roll es) ≡ filter (is_of other part) es
-          → filter (is_of other part) (cond (not b) (e ∷ without_roll roll es)
-          (without_roll roll es)) ≡ filter (is_of other part) (e ∷ es)
-      at true t rest = rest
-          ∙ ap (λ b. cond b (e ∷ filter (is_of other part) es) (filter (is_of other part) es))
-          (sym (not_of part e t))
-      at false t rest =
-          ap (λ es. cond (is_of other part e) (e ∷ es) es) rest
+  without_other part = filter-within (is_of other part) (λ e. not (is_of_roll roll e))
+      (λ e out. not_of part e (not-false (is_of_roll roll e) out))
 
   none_of_other : (keys : Keys) (of part : Part) (qs : List (List ℕ))
       → filter (is_of other part) (entries_of keys roll of qs) ≡ []
@@ -93,23 +90,14 @@ module _ (roll other : RollType) (apart : same_roll roll other ≡ false) where
 
 none_of_same : (roll : RollType) (part : Part) (es : List Entry)
     → filter (is_of roll part) (without_roll roll es) ≡ []
-none_of_same roll part [] = refl
-none_of_same roll part (e ∷ es) = at (is_of_roll roll e) refl (none_of_same roll part es)
-  where
-    at : (b : Bool) → is_of_roll roll e ≡ b
-        → filter (is_of roll part) (without_roll roll es) ≡ []
-        → filter (is_of roll part) (cond (not b) (e ∷ without_roll roll es)
-        (without_roll roll es)) ≡ []
-    at true t rest = rest
-    at false t rest = ap (λ b. cond (b && same_part part e.part)
-        (e ∷ filter (is_of roll part) (without_roll roll es))
-        (filter (is_of roll part) (without_roll roll es))) t ∙ rest
+none_of_same roll part = filter-apart (is_of roll part) (λ e. not (is_of_roll roll e))
+    (λ e of. ap not (and_parts (is_of_roll roll e) (same_part part e.part) of).0)
 
 -- what a start lists as one part isn't of the other
 none_of_part : (keys : Keys) (roll : RollType) (of part : Part) → same_part part of ≡ false
     → (qs : List (List ℕ)) → filter (is_of roll part) (entries_of keys roll of qs) ≡ []
 none_of_part keys roll of part differs = none_of keys roll of (is_of roll part)
-    (λ tag. ap (λ b. b && same_part part of) (same-itself roll) ∙ differs)
+    (λ tag. and_right (same_roll roll roll) (same_part part of) differs)
 
 module _ (keys : Keys) (differ : TagsApart keys) (roll : RollType) (part : Part)
     (itself : same_part part part ≡ true) where
@@ -119,48 +107,38 @@ module _ (keys : Keys) (differ : TagsApart keys) (roll : RollType) (part : Part)
       ≡ filter (has_kept_key keys) qs
   references_of-listed [] = refl
   references_of-listed (q ∷ qs) =
-      ap names (filter-append (is_of roll part) (entry_of roll part (get keys q))
+      ap (names keys) (filter-append (is_of roll part) (entry_of roll part (get keys q))
       (entries_of keys roll part qs))
       ∙ map-append (λ (e : Entry). reference_of keys e.key_tag) _ _
-      ∙ at (get keys q) refl (references_of-listed qs)
+      ∙ at (get keys q) refl
+      ∙ ap (λ rest. cond (has_kept_key keys q) (q ∷ rest) rest) (references_of-listed qs)
     where
-      names : List Entry → List (List ℕ)
-      names = map (λ (e : Entry). reference_of keys e.key_tag)
-
       rest : List (List ℕ)
-      rest = names (filter (is_of roll part) (entries_of keys roll part qs))
+      rest = names keys (filter (is_of roll part) (entries_of keys roll part qs))
 
-      own : (k : KeyParts) → get keys q ≡ Some k → rest ≡ filter (has_kept_key keys) qs
-          → (b : Bool) → names (filter (is_of roll part)
-          (cond b (record { roll = roll; part = part; key_tag = k.key_tag } ∷ []) [])) ++ rest
-          ≡ cond b (q ∷ filter (has_kept_key keys) qs) (filter (has_kept_key keys) qs)
-      own k is same true =
-          (λ i. names (cond (same-itself roll i && itself i)
-          (record { roll = roll; part = part; key_tag = k.key_tag } ∷ []) []) ++ rest)
-          ∙ (λ i. reference_of-is keys differ q k is i ∷ same i)
-      own k is same false = same
-
-      at : (o : Option KeyParts) → get keys q ≡ o → rest ≡ filter (has_kept_key keys) qs
-          → names (filter (is_of roll part) (entry_of roll part o)) ++ rest
+      at : (o : Option KeyParts) → get keys q ≡ o
+          → names keys (filter (is_of roll part) (entry_of roll part o)) ++ rest
           ≡ cond (option_map_or (λ (k : KeyParts). all_states is_kept k.keytype) o false)
-          (q ∷ filter (has_kept_key keys) qs) (filter (has_kept_key keys) qs)
-      at None is same = same
-      at (Some k) is same = own k is same (all_states is_kept k.keytype)
+          (q ∷ rest) rest
+      at None is = refl
+      at (Some k) is = own (all_states is_kept k.keytype)
+        where
+          own : (b : Bool) → names keys (filter (is_of roll part)
+              (cond b (record { roll = roll; part = part; key_tag = k.key_tag } ∷ []) []))
+              ++ rest ≡ cond b (q ∷ rest) rest
+          own true = (λ i. names keys (cond (same-itself roll i && itself i)
+              (record { roll = roll; part = part; key_tag = k.key_tag } ∷ []) []) ++ rest)
+              ∙ (λ i. reference_of-is keys differ q k is i ∷ rest)
+          own false = refl
 
 there-listed : (keys : Keys) (roll : RollType) (part : Part) (qs : List (List ℕ))
     → AreThere keys (entries_of keys roll part qs)
 there-listed keys roll part [] = tt
 there-listed keys roll part (q ∷ qs) = there-append keys (entry_of roll part (get keys q))
-    (entries_of keys roll part qs) (at (get keys q) refl) (there-listed keys roll part qs)
-  where
-    kept : (k : KeyParts) → get keys q ≡ Some k → (b : Bool)
-        → AreThere keys (cond b (record { roll = roll; part = part; key_tag = k.key_tag } ∷ []) [])
-    kept k is true = ((q, k, is, refl), tt)
-    kept k is false = tt
-
-    at : (o : Option KeyParts) → get keys q ≡ o → AreThere keys (entry_of roll part o)
-    at None is = tt
-    at (Some k) is = kept k is (all_states is_kept k.keytype)
+    (entries_of keys roll part qs) (some_or_none (λ o. AreThere keys (entry_of roll part o))
+    (get keys q) (λ e. tt) (λ k is. cond_both (all_states is_kept k.keytype)
+    (record { roll = roll; part = part; key_tag = k.key_tag } ∷ []) [] (AreThere keys)
+    (λ t. ((q, k, is, refl), tt)) (λ t. tt))) (there-listed keys roll part qs)
 
 -- ---- a start, and what takes it back
 
@@ -171,27 +149,20 @@ module _ (keys : Keys) (roll : RollType) where
       → ((other : RollType) → same_roll roll other ≡ false → (part : Part)
       → filter (is_of other part) fs ≡ filter (is_of other part) es)
       → lists_of keys fs ≡ with_listed (lists_of keys es) roll listed
-  lists_of-put es fs listed olds news others = λ i other. at other (same_roll roll other) refl i
-    where
-      at : (other : RollType) (b : Bool) → same_roll roll other ≡ b
-          → lists_of keys fs other ≡ with_listed (lists_of keys es) roll listed other
-      at other true t =
-          ap (lists_of keys fs) (sym (same_roll-is roll other t))
-          ∙ (λ i. record { olds = olds i; news = news i })
-          ∙ ap (λ (b : Bool). if b then listed else lists_of keys es other) (sym t)
-      at other false t =
-          (λ i. record {
-            olds = map (λ (e : Entry). reference_of keys e.key_tag) (others other t Old i);
-            news = map (λ (e : Entry). reference_of keys e.key_tag) (others other t New i);
-          })
-          ∙ ap (λ (b : Bool). if b then listed else lists_of keys es other) (sym t)
+  lists_of-put es fs listed olds news others = λ i other. cond_both (same_roll roll other) listed
+      (lists_of keys es other) (λ l. lists_of keys fs other ≡ l)
+      (λ t. ap (lists_of keys fs) (sym (same_roll-is roll other t))
+      ∙ (λ i. record { olds = olds i; news = news i }))
+      (λ t. λ i. record {
+        olds = names keys (others other t Old i);
+        news = names keys (others other t New i);
+      }) i
 
   -- nothing is kept for the roll any more
   pub lists_of-taken_out : (es : List Entry) → lists_of keys (without_roll roll es)
       ≡ with_listed (lists_of keys es) roll nothing_listed
   lists_of-taken_out es = lists_of-put es (without_roll roll es) nothing_listed
-      (ap (map (λ (e : Entry). reference_of keys e.key_tag)) (none_of_same roll Old es))
-      (ap (map (λ (e : Entry). reference_of keys e.key_tag)) (none_of_same roll New es))
+      (ap (names keys) (none_of_same roll Old es)) (ap (names keys) (none_of_same roll New es))
       (λ other t part. without_other roll other t part es)
 
   -- what a report leaves
@@ -216,11 +187,11 @@ module _ (keys : Keys) (roll : RollType) where
         → (es : List Entry) → lists_of keys (entries_at_start keys roll olds news es)
         ≡ with_listed (lists_of keys es) roll (listed_at_start keys olds news)
     lists_of-started differ fresh es = lists_of-put es _ (listed_at_start keys olds news)
-        (ap names (filter-start (is_of roll Old) es
+        (ap (names keys) (filter-start (is_of roll Old) es
         ∙ (λ i. (none_of_same roll Old es i ++ filter (is_of roll Old)
         (entries_of keys roll Old olds)) ++ none_of_part keys roll New Old refl news i)
         ∙ append-nil _) ∙ references_of-listed keys differ roll Old refl olds)
-        (ap names (filter-start (is_of roll New) es
+        (ap (names keys) (filter-start (is_of roll New) es
         ∙ (λ i. (none_of_same roll New es i ++ none_of_part keys roll Old New refl olds i)
         ++ filter (is_of roll New) (entries_of keys roll New news)))
         ∙ references_of-listed keys differ roll New refl news ∙ fresh)
@@ -229,9 +200,6 @@ module _ (keys : Keys) (roll : RollType) where
         ++ none_of_other roll other t keys Old part olds i)
         ++ none_of_other roll other t keys New part news i)
         ∙ append-nil _ ∙ append-nil _)
-      where
-        names : List Entry → List (List ℕ)
-        names = map (λ (e : Entry). reference_of keys e.key_tag)
 
     pub there-started : (es : List Entry) → AreThere keys es
         → AreThere keys (entries_at_start keys roll olds news es)
@@ -242,16 +210,7 @@ module _ (keys : Keys) (roll : RollType) where
 -- ---- the new keys of a start are not old
 
 fresh-kept : (t : KeyType) → all_states is_fresh t ≡ true → all_states is_kept t ≡ true
-fresh-kept t = mp (all_states is_fresh t) (all_states is_kept t) (each_key-at passes tested t)
-  where
-    passes : KeyType → Bool
-    passes t = all_states is_fresh t ⇒ all_states is_kept t
-
-    tested : (a b : Bool) → each_key a b passes ≡ true
-    tested true true = refl
-    tested true false = refl
-    tested false true = refl
-    tested false false = refl
+fresh-kept t = mp _ _ (each_kind-at (λ t. all_states is_fresh t ⇒ all_states is_kept t) refl t)
 
 -- if there is no cause among two, neither applies
 pub none_of_both : (a b : Option Error) → option_or a b ≡ None → (a ≡ None) × (b ≡ None)
@@ -262,15 +221,13 @@ module _ (roll : RollType) (keys : Keys) (olds : List (List ℕ)) where
   accepted-kept : (o : Option KeyParts) (taken : Bool) → new_entry_fault roll o taken ≡ None
       → option_map_or (λ (k : KeyParts). all_states is_kept k.keytype) o false ≡ true
   accepted-kept None taken h = cc
-  accepted-kept (Some k) taken h =
-      at (lists_kind (side_of roll) k.keytype) (all_states is_fresh k.keytype) refl h
+  accepted-kept (Some k) taken h = fresh-kept k.keytype
+      (fresh (lists_kind (side_of roll) k.keytype) (all_states is_fresh k.keytype) h)
     where
-      at : (a b : Bool) → all_states is_fresh k.keytype ≡ b
+      fresh : (a b : Bool)
           → (if a then (if b && not taken then None else Some WrongKeyState)
-          else Some WrongKeyType) ≡ None → all_states is_kept k.keytype ≡ true
-      at true true is h = fresh-kept k.keytype is
-      at true false is h = cc
-      at false b is h = cc
+          else Some WrongKeyType) ≡ None → b ≡ true
+      fresh a b h = grind arith
 
   pub news-kept : (earlier news : List (List ℕ))
       → new_fault roll (get keys) olds earlier news ≡ None

@@ -4,7 +4,7 @@ use Rattle.std.specs.List.{fold}
 use Rattle.std.specs.HashMap.{values}
 use Rattle.dnssec_key.specs.RollTable.{which}
 use Rattle.dnssec_zone.specs.Inner.Over.{over_with}
-use Rattle.dnssec_zone.proofs.Waits.{walk-lacks, walk-lost, walk-over}
+use Rattle.dnssec_zone.proofs.Longest.{walk-lacks, walk-lost, walk-over}
 use Rattle.dnssec_zone.proofs.wait_end.over_from.Goals as goal
 
 pub returns-clause-over : goal.returns-clause-over

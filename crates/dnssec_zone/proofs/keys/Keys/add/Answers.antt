@@ -1,5 +1,5 @@
 -- The new key's tag comes into the index with it, and it is counted.
-use Rattle.std.proofs.Common.{◌≡◌, false, None, Some, string_bytes, rules, ap, ◌∙◌}
+use Rattle.std.proofs.Common.{◌≡◌, false, None, Some, string_bytes, rules, refl, ap, ◌∙◌}
 use Rattle.std.specs.FinMap.{get}
 use Rattle.dnssec_key.specs.Inner.TagIndex.{has}
 use Rattle.dnssec_zone.specs.Keys.{keys_in_map, has_tag}
@@ -18,12 +18,12 @@ invariant_of-self-2 c =
     let free : has_tag x.key_tag (keys_in_map i.map) ≡ false =
     ap (has_tag x.key_tag) c.self.view_is ∙ search rules in
     let is = get-updated i.map c.put_new.new.map r (Some x) c.in_ok-put_new.ensures.ok in (
-      TagsAgree-added (has c.index_many.new.self.tags) (has c.add.new.self.tags)
-          (keys_in_map i.map) n r x absent free is (λ t. search rules)
+      TagsAgree-added (keys_in_map i.map) n r x absent is free (has c.index_many.new.self.tags)
+          (has c.add.new.self.tags) (λ t. search rules)
           (c.index_many.ensures.agree c.self.invariant.0),
       rw (c.add.ensures.counts, c.keytype-keytype.ensures, c.index_many.ensures.counts)
-          (counts-added i.derived.counts (keys_in_map i.map) n r x
-          absent is (fits-shown c.put_new.new.map c.references_differ.ensures.unique
-          c.references_differ.ensures.fits) c.self.invariant.1),
+          (counts-added i.derived.counts (keys_in_map i.map) n r (Some x) is c.self.invariant.1 x
+          refl absent (fits-shown c.put_new.new.map c.references_differ.ensures.unique
+          c.references_differ.ensures.fits)),
       rw c.add.ensures.reported tt,
     )

@@ -1,7 +1,7 @@
 -- The tag of a key comes into the set with it.
 use Rattle.std.proofs.Common.{◌≡◌, None, Some, rules}
 use Rattle.std.specs.FinMap.{get}
-use Rattle.dnssec_zone.proofs.ListedTags.{listed-none, listed-put}
+use Rattle.dnssec_zone.proofs.Entries.{listed-none, listed-put}
 use Rattle.dnssec_zone.proofs.keys.Keys.add_tag.Goals as goal
 
 pub returns-in_default-clause-listed : goal.returns-in_default-clause-listed

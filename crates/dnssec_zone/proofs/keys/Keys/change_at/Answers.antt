@@ -1,5 +1,5 @@
 -- If no key has the reference, nothing is changed; else one key is, and is counted anew.
-use Rattle.std.proofs.Common.{◌≡◌, ℕ, List, None, Some, rules, sym, ap, subst, ◌∙◌}
+use Rattle.std.proofs.Common.{◌≡◌, ℕ, List, None, Some, rules, refl, sym, ap, subst, ◌∙◌}
 use Rattle.std.specs.Prelude.{if◌then◌else◌}
 use Rattle.dnssec_key.specs.Inner.TagIndex.{has}
 use Rattle.std.specs.Str.{bytes_eq}
@@ -9,9 +9,9 @@ use Rattle.dnssec_key.specs.Key.{KeyParts}
 use Rattle.dnssec_zone.specs.Inner.Change.{makes}
 use Rattle.dnssec_zone.specs.Inner.Counts.{CountsAgree, with_key, without_key}
 use Rattle.dnssec_zone.specs.Keys.{keys_in_map}
-use Rattle.dnssec_zone.proofs.Counted.Kept.{counts-at, fits-shown}
-use Rattle.dnssec_zone.proofs.Shown.{shown, get-absent}
-use Rattle.dnssec_zone.proofs.Tags.{TagsAgree-mapped, kept_at, kept_made}
+use Rattle.dnssec_zone.proofs.Counted.Kept.{counts-exchanged, fits-shown}
+use Rattle.dnssec_zone.proofs.Shown.{shown, get-absent, put-changed}
+use Rattle.dnssec_zone.proofs.Tags.{tags-changed, kept_made}
 use Rattle.dnssec_zone.proofs.keys.Keys.change_at.Goals as goal
 
 pub returns-in_default : goal.returns-in_default
@@ -33,14 +33,14 @@ invariant_of-self-2 c =
     let is : (q : List ℕ) → map.get (keys_in_map n) q
     ≡ option_map (λ k. if bytes_eq r q then f k else k) (map.get (keys_in_map i.map) q) =
     λ q. search (rules, shown) in (
-      rw c.change.ensures.tags (TagsAgree-mapped (has i.derived.tags) (keys_in_map i.map)
-          (keys_in_map n) (λ q k. if bytes_eq r q then f k else k)
-          (λ q k. kept_at f (kept_made c.args.change) _ k) is c.self.invariant.0),
+      rw c.change.ensures.tags (tags-changed (keys_in_map i.map) (keys_in_map n) r f
+          (kept_made c.args.change) is (has i.derived.tags) c.self.invariant.0),
       subst (λ counts. CountsAgree counts (keys_in_map n)) (sym (c.change.ensures.counts
           ∙ ap (λ (x : KeyParts). with_key x.keytype (without_key k.keytype i.derived.counts))
           c.change.ensures.key))
-          (counts-at f i.derived.counts (keys_in_map i.map) (keys_in_map n) r k found is
-          (fits-shown n c.references_differ.ensures.unique c.references_differ.ensures.fits)
-          c.self.invariant.1),
+          (counts-exchanged i.derived.counts (keys_in_map i.map) (keys_in_map n) r (Some (f k))
+          (put-changed f (keys_in_map i.map) (keys_in_map n) r k found is) c.self.invariant.1 k
+          (f k) found refl
+          (fits-shown n c.references_differ.ensures.unique c.references_differ.ensures.fits)),
       rw c.change.ensures.reported tt,
     )

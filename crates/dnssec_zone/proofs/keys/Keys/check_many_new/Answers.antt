@@ -5,7 +5,7 @@ use Rattle.dnssec_zone.specs.Start.{texts, is_listed}
 use Rattle.dnssec_zone.proofs.Entries.{fault-found, fault-behind, listed-behind}
 use Rattle.std.proofs.Math.Bool.{or-false}
 use Rattle.dnssec_zone.proofs.Marks.{listed_more, referred}
-use Rattle.dnssec_zone.proofs.ListedTags.{listed-nothing, listed-same}
+use Rattle.dnssec_zone.proofs.Entries.{listed-nothing, listed-same}
 use Rattle.dnssec_key.proofs.BitWords.{zeros}
 use Rattle.dnssec_zone.proofs.keys.Keys.check_many_new.Goals as goal
 
@@ -39,18 +39,15 @@ returns-in-Some-clause-fault c =
     let l = c.loop-reference in
     fault-found c.args.roll c.args.self.now (texts c.args.old.now) c.args.new.now l.taken
     l.reference-index _ c.loop-reference-test.true l.invariant.2 _ l.invariant.0 _
-    c.in-Some.fault (sym c.in-Some.is) c.new_entry_fault.ensures
+    c.new_entry_fault.ensures _ c.in-Some.fault c.in-Some.is
 
 pub loop-reference-preserved : goal.loop-reference-preserved
 loop-reference-preserved c =
     let l = c.loop-reference in (
       fault-behind c.args.roll c.args.self.now (texts c.args.old.now) c.args.new.now l.taken
-          l.reference-index _ c.loop-reference-test.true l.invariant.2 _ l.invariant.0
-          c.in_default.is c.new_entry_fault.ensures,
+          l.reference-index _ c.loop-reference-test.true l.invariant.2 _ l.invariant.0 _
+          c.new_entry_fault.ensures c.in_default.is,
       search rules,
       listed-behind c.args.self.now (texts c.args.old.now) c.args.new.now _ l.reference-index _
           c.loop-reference-test.true (c.add_tag-in-loop-reference.ensures.listed _ l.invariant.2),
     )
-
-pub returns-clause-kinds : goal.returns-clause-kinds
-returns-clause-kinds c = search

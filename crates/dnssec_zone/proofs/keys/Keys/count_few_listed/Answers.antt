@@ -1,9 +1,9 @@
 -- Each turn counts one more of the listed keys, if it serves and stood nowhere before.
-use Rattle.std.proofs.Common.{◌≡◌, ◌+◌, arith, sym, ap, ◌∙◌}
+use Rattle.std.proofs.Common.{◌≡◌, ◌+◌, arith, sym, ap}
 use Rattle.dnssec_zone.specs.Inner.Counts.{bit}
 use Rattle.dnssec_zone.specs.Start.{serves_as_kept}
 use Rattle.dnssec_zone.proofs.Counted.Lists.{none_listed}
-use Rattle.dnssec_zone.proofs.Entries.{counted-more, low, no_more}
+use Rattle.dnssec_zone.proofs.Entries.{counted-more, low}
 use Rattle.dnssec_zone.proofs.keys.Keys.count_few_listed.Goals as goal
 use Rattle.dnssec_zone.proofs.keys.Keys.count_few_listed.Goals.{then-serves_but_for}
 use Rattle.dnssec_zone.proofs.keys.Keys.count_few_listed.Goals.{else-serves_but_for}
@@ -17,10 +17,8 @@ loop-i-preserved c =
     let l = c.loop-i in
     let more : c.if-serves_but_for.count ≡ l.count + bit c.serves_but_for.result =
     elim c.if-serves_but_for.branch [
-      | then-serves_but_for w ↦ w.count-is
-          ∙ ap (λ b. l.count + bit b) (sym w.if-serves_but_for.true)
-      | else-serves_but_for w ↦ w.count-is ∙ sym (no_more l.count)
-          ∙ ap (λ b. l.count + bit b) (sym w.if-serves_but_for.false)
+      | then-serves_but_for w ↦ omega (arith, w.count-is, ap bit w.if-serves_but_for.true)
+      | else-serves_but_for w ↦ omega (arith, w.count-is, ap bit w.if-serves_but_for.false)
     ] in (
       low l.count c.if-serves_but_for.count l.i c.serves_but_for.result l.invariant.0 more,
       counted-more (serves_as_kept c.args.want) c.args.self.now c.args.old.now l.i _

@@ -1,11 +1,10 @@
 -- Each turn counts one more of the listed keys, if it serves and stood nowhere before.
-use Rattle.std.proofs.Common.{◌≡◌, ◌+◌, refl, rules, arith, sym, ap, ◌∙◌, replicate}
+use Rattle.std.proofs.Common.{◌≡◌, ◌+◌, refl, rules, arith, sym, ap, replicate}
 use Rattle.dnssec_zone.specs.Inner.Counts.{bit}
 use Rattle.dnssec_zone.specs.Start.{serves_as_kept}
 use Rattle.dnssec_zone.proofs.Counted.Lists.{none_listed}
-use Rattle.dnssec_zone.proofs.Entries.{counted-behind, low, no_more}
+use Rattle.dnssec_zone.proofs.Entries.{counted-behind, low, listed-nothing, listed-same}
 use Rattle.dnssec_zone.proofs.Marks.{listed_more, referred}
-use Rattle.dnssec_zone.proofs.ListedTags.{listed-nothing, listed-same}
 use Rattle.dnssec_key.proofs.BitWords.{zeros}
 use Rattle.dnssec_zone.proofs.keys.Keys.count_many_listed.Goals as goal
 use Rattle.dnssec_zone.proofs.keys.Keys.count_many_listed.Goals.{then-serves_first}
@@ -25,9 +24,8 @@ loop-reference-preserved c =
     let p = serves_as_kept c.args.want in
     let more : c.if-serves_first.count ≡ l.count + bit c.serves_first.result =
     elim c.if-serves_first.branch [
-      | then-serves_first w ↦ w.count-is ∙ ap (λ b. l.count + bit b) (sym w.if-serves_first.true)
-      | else-serves_first w ↦ w.count-is ∙ sym (no_more l.count)
-          ∙ ap (λ b. l.count + bit b) (sym w.if-serves_first.false)
+      | then-serves_first w ↦ omega (arith, w.count-is, ap bit w.if-serves_first.true)
+      | else-serves_first w ↦ omega (arith, w.count-is, ap bit w.if-serves_first.false)
     ] in (
       low l.count c.if-serves_first.count l.reference-index c.serves_first.result l.invariant.0
           more,

@@ -1,14 +1,15 @@
 -- The key's tag leaves the index with it; a stale key was in no count, and in no wait.
-use Rattle.std.proofs.Common.{◌≡◌, true, None, Some, rules}
+use Rattle.std.proofs.Common.{◌≡◌, true, None, Some, rules, ap, ◌∙◌}
 use Rattle.std.specs.FinMap.{get}
 use Rattle.dnssec_key.specs.Inner.TagIndex.{has}
 use Rattle.std.proofs.lemmas.Map.Text.{hash_map_updates_text}
 use Rattle.dnssec_key.specs.State.{is_stale}
 use Rattle.dnssec_key.specs.Key.{all_states}
+use Rattle.dnssec_zone.specs.Inner.Counts.{bit, passes, share}
 use Rattle.dnssec_zone.specs.Keys.{keys_in_map}
+use Rattle.dnssec_zone.specs.Start.{serves_as_kept}
 use Rattle.dnssec_zone.proofs.Reported.{known-removed}
-use Rattle.dnssec_zone.proofs.Counted.Kept.{counts-removed}
-use Rattle.dnssec_zone.proofs.Counted.Waits.{stale-serves}
+use Rattle.dnssec_zone.proofs.Counted.Kept.{counts-alike, stale-serves}
 use Rattle.dnssec_zone.proofs.Shown.{shown, get-updated}
 use Rattle.dnssec_zone.proofs.Tags.{TagsAgree-removed}
 use Rattle.dnssec_zone.proofs.keys.Keys.delete.Goals as goal
@@ -23,12 +24,13 @@ invariant_of-self c =
     let found : get (keys_in_map i.map) r ≡ Some x = search (rules, shown) in
     let is = get-updated i.map c.remove.new.self r None
     (hash_map_updates_text r i.map c.remove.new.self _ c.remove.ensures.updates) in (
-      TagsAgree-removed (has i.derived.tags) (has c.delete.new.self.tags)
-          (keys_in_map i.map) n r x found is
+      TagsAgree-removed (keys_in_map i.map) n r is x found (has i.derived.tags)
+          (has c.delete.new.self.tags)
           (λ t. rw (← c.key_tag-key_tag.ensures) (c.delete.ensures.tags t))
           c.self.invariant.0,
-      rw c.delete.ensures.counts (counts-removed i.derived.counts (keys_in_map i.map) n r x found is
-          (stale-serves x.keytype stale) c.self.invariant.1),
+      rw c.delete.ensures.counts (counts-alike i.derived.counts (keys_in_map i.map) n r None is
+          c.self.invariant.1 (λ w. ap (share (passes (serves_as_kept w)) r) found
+          ∙ ap bit (stale-serves x.keytype stale w))),
       rw c.delete.ensures.reported
           (known-removed (keys_in_map i.map) n r x found is stale i.derived.reported
           c.self.invariant.2),

@@ -3,10 +3,9 @@ use Rattle.std.proofs.Common.{refl, rules}
 use Rattle.dnssec_key.specs.Inner.TagIndex.{has}
 use Rattle.std.proofs.lemmas.Map.Made.{map_same_pairs}
 use Rattle.dnssec_key.specs.RollTable.{which, after_wait}
-use Rattle.dnssec_zone.specs.Keys.{keys_in_map}
-use Rattle.dnssec_zone.proofs.Counted.Waits.{counts-waited}
+use Rattle.dnssec_zone.proofs.Counted.Kept.{counts-waited}
 use Rattle.dnssec_zone.proofs.Shown.{get-walked}
-use Rattle.dnssec_zone.proofs.Tags.{TagsAgree-mapped}
+use Rattle.dnssec_zone.proofs.Tags.{tags-walked}
 use Rattle.dnssec_zone.proofs.keys.Keys.go_on_all.Goals as goal
 
 pub returns : goal.returns
@@ -21,8 +20,7 @@ invariant_of-self c =
     let n = c.retain.new.self in
     let step = after_wait c.args.roll (which c.args.half) c.args.now in
     let e = map_same_pairs _ step _ (λ k v b w f t. search rules) _ _ c.retain.ensures.filtered in (
-      rw c.go_on.ensures.tags (TagsAgree-mapped (has i.derived.tags) (keys_in_map i.map)
-          (keys_in_map n) (λ q. step) (λ q k. refl) (get-walked step i.map n _ refl e)
+      rw c.go_on.ensures.tags (tags-walked step (λ k. refl) i.map n e (has i.derived.tags)
           c.self.invariant.0),
       counts-waited c.args.roll (which c.args.half) c.args.now i.derived.counts _
           i.map n c.retain.ensures.was_unique c.retain.ensures.unique e c.self.invariant.1

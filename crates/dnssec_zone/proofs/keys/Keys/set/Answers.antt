@@ -13,8 +13,8 @@ use Rattle.dnssec_zone.specs.Inner.Derived.{IsDerived}
 use Rattle.dnssec_zone.specs.Keys.{keys_in_map}
 use Rattle.dnssec_zone.proofs.Counted.Kept.{counts-set, fits-shown}
 use Rattle.dnssec_zone.proofs.Reported.{known-after}
-use Rattle.dnssec_zone.proofs.Shown.{same-written, shown}
-use Rattle.dnssec_zone.proofs.Tags.{TagsAgree-mapped, kept_at, kept_set}
+use Rattle.dnssec_zone.proofs.Shown.{put-changed, same-written, shown}
+use Rattle.dnssec_zone.proofs.Tags.{tags-changed, kept_set}
 use Rattle.dnssec_zone.proofs.keys.Keys.set.Goals as goal
 
 pub invariant_of-self-then-not-suits : goal.invariant_of-self-then-not-suits
@@ -47,19 +47,19 @@ invariant_of-self-2 c =
     let found : map.get (keys_in_map i.map) r ≡ Some k = search (rules, shown) in
     let is : (q : List ℕ) → map.get (keys_in_map n) q
     ≡ option_map (λ k. if bytes_eq r q then f k else k) (map.get (keys_in_map i.map) q) =
-    λ q. search (rules, shown) in (
-      rw c.set.ensures.tags (TagsAgree-mapped (has i.derived.tags) (keys_in_map i.map)
-          (keys_in_map n) (λ q k. if bytes_eq r q then f k else k)
-          (λ q k. kept_at f (kept_set setting) _ k) is c.self.invariant.0),
+    λ q. search (rules, shown) in
+    let put = put-changed f (keys_in_map i.map) (keys_in_map n) r k found is in (
+      rw c.set.ensures.tags (tags-changed (keys_in_map i.map) (keys_in_map n) r f
+          (kept_set setting) is (has i.derived.tags) c.self.invariant.0),
       subst (λ counts. CountsAgree counts (keys_in_map n)) (sym (c.set.ensures.counts
           ∙ ap (λ (x : KeyParts). if moves_counts setting
           then with_key x.keytype (without_key k.keytype i.derived.counts)
           else i.derived.counts) c.set.ensures.key))
-          (counts-set setting i.derived.counts (keys_in_map i.map) (keys_in_map n) r k found is
+          (counts-set setting i.derived.counts (keys_in_map i.map) (keys_in_map n) r k found put
           (fits-shown n c.references_differ.ensures.unique c.references_differ.ensures.fits)
           c.self.invariant.1),
       subst (λ reported. IsKnown reported (keys_in_map n)) (sym (c.set.ensures.reported
           ∙ ap (known_after i.derived.reported k) c.set.ensures.key))
-          (known-after f (keys_in_map i.map) (keys_in_map n) r k found is i.derived.reported
-          c.self.invariant.2),
+          (known-after (keys_in_map i.map) (keys_in_map n) r k (f k) found put
+          i.derived.reported c.self.invariant.2),
     )

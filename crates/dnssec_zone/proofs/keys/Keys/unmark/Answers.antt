@@ -1,13 +1,12 @@
 -- The walk undoes the start on each key that is listed; all are counted again.
-use Rattle.std.proofs.Common.{refl, rules}
+use Rattle.std.proofs.Common.{rules}
 use Rattle.dnssec_key.specs.Inner.TagIndex.{has}
 use Rattle.std.proofs.lemmas.Map.Made.{map_same_pairs}
 use Rattle.dnssec_key.specs.Key.{KeyParts}
 use Rattle.dnssec_key.specs.RollTable.{after_early_end}
 use Rattle.dnssec_key.specs.Inner.Bits.{is_set}
-use Rattle.dnssec_zone.specs.Keys.{keys_in_map}
 use Rattle.dnssec_zone.proofs.Shown.{get-walked}
-use Rattle.dnssec_zone.proofs.Tags.{TagsAgree-mapped, kept_unmarked}
+use Rattle.dnssec_zone.proofs.Tags.{tags-walked, kept_unmarked}
 use Rattle.dnssec_zone.proofs.keys.Keys.unmark.Goals as goal
 
 pub returns : goal.returns
@@ -24,9 +23,8 @@ invariant_of-self c =
     let step : KeyParts → KeyParts = λ k. after_early_end c.args.roll
     (is_set c.args.olds.now k.key_tag) (is_set c.args.news.now k.key_tag) k in
     let e = map_same_pairs _ step _ (λ k v b w f t. search rules) _ _ c.retain.ensures.filtered in (
-      rw c.recount.ensures.tags (TagsAgree-mapped (has i.derived.tags) (keys_in_map i.map)
-          (keys_in_map n) (λ q. step) (λ q k. kept_unmarked c.args.roll _ _ k)
-          (get-walked step i.map n _ refl e) c.self.invariant.0),
+      rw c.recount.ensures.tags (tags-walked step (λ k. kept_unmarked c.args.roll _ _ k) i.map n e
+          (has i.derived.tags) c.self.invariant.0),
       c.recount.ensures.counts,
       rw c.recount.ensures.reported tt,
     )

@@ -12,7 +12,3 @@ returns-then-is_empty c =
     let none : c.args.self.now ≡ no_rolls = sym c.self.view_is
     ∙ shown-none c.self.inside.phases (c.is_empty.ensures.0 c.if-is_empty.true) in
     rw none (search rules)
-
-pub returns : goal.returns
-unfolding conflict
-returns c = search rules
