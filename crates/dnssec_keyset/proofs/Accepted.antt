@@ -1,14 +1,12 @@
 -- What an accepted or a refused call found and left: for the chain of trust and the laws of runs.
 use Rattle.dnssec_keyset.proofs.After.{changed}
 use Rattle.dnssec_keyset.proofs.Changes.{Changes}
-use Rattle.std.proofs.Common.{◌≡◌, Bool, true, false, refl, sym, ◌∙◌, ap, Option, None}
-use Rattle.std.proofs.Common.{Some}
+use Rattle.std.proofs.Common.{◌≡◌, Bool, true, false, refl, sym, Option, None, Some, arith}
 use Rattle.std.specs.Prelude.{if◌then◌else◌, is_some}
 use Rattle.std.proofs.lemmas.Bool.{true≢false}
 use Rattle.std.proofs.lemmas.Option.{none-some}
 use Rattle.dnssec_key.specs.declared.roll.RollState.{RollState}
-use Rattle.dnssec_key.specs.declared.roll.RollState.TheVariants.{Propagation1, CacheExpire1}
-use Rattle.dnssec_key.specs.declared.roll.RollState.TheVariants.{Propagation2, CacheExpire2, Done}
+use Rattle.dnssec_key.specs.declared.roll.RollState.TheVariants.{Propagation1, Propagation2, Done}
 use Rattle.dnssec_base.specs.declared.error.Error.{Error}
 use Rattle.dnssec_keyset.specs.KeySet.{KeySetParts}
 use Rattle.dnssec_key.specs.RollTable.{First, Second}
@@ -27,68 +25,44 @@ is_refused _ = false
 pub accepted_changes : (old new : KeySetParts) (c : keyset.Call) (r : keyset.Reply) → is_refused r
     ≡ false → keyset.Step old c r new → (keyset.clearance old c ≡ waits.Clear) × Changes old c new
     × (r ≡ keyset.accepted_reply c)
-accepted_changes old new c keyset.Done a h = (h.0, changed old new c h.2, h.1)
-accepted_changes old new c (keyset.Actions xs) a h = (h.0, changed old new c h.2, h.1)
 accepted_changes old new c (keyset.Refused cause) a h = absurd (true≢false a)
+accepted_changes old new c _ a h = (h.0, changed old new c h.2, h.1)
 
 pub no_some : {A : Type 0} (o : Option A) → is_some o ≡ false → o ≡ None
-no_some None e = refl
-no_some (Some x) e = absurd (true≢false e)
+no_some o e = grind arith
 
 -- of a chain of causes that gives none, none stands
 pub no_error : (b : Bool) (e : Error) (o : Option Error) → (if b then Some e else o) ≡ None
     → (b ≡ false) × (o ≡ None)
-no_error true e o h = absurd (none-some e (sym h))
-no_error false e o h = (refl, h)
+no_error b e o h = (grind arith, grind arith)
+
+-- what is needed for no cause is there
+pub needed : (b : Bool) (e : Error) (o : Option Error) → (if b then o else Some e) ≡ None
+    → b ≡ true
+needed b e o h = grind arith
 
 -- a key that may be deleted is there, and stale
 pub gone_key : (o : Option KeyParts) → deletion_refusal o ≡ None → (k : KeyParts) × (o ≡ Some k)
     × (is_stale k.keytype ≡ true)
 gone_key None e = absurd (none-some _ (sym e))
-gone_key (Some k) e = by (is_stale k.keytype) refl
-  where
-    by : (b : Bool) → is_stale k.keytype ≡ b → (j : KeyParts) × (Some k ≡ Some j)
-        × (is_stale j.keytype ≡ true)
-    by true t = (k, refl, t)
-    by false t =
-        absurd (none-some _ (sym (sym (ap (λ b. if b then None else Some Error.KeyNotOld) t) ∙ e)))
+gone_key (Some k) e = (k, refl, needed (is_stale k.keytype) Error.KeyNotOld None e)
 
 -- the phases in which a report and the end of a roll are accepted
 pub spreads_first : (o : Option RollState) → refusals.report_refusal First o ≡ None
     → o ≡ Some Propagation1
-spreads_first None e = absurd (none-some _ (sym e))
-spreads_first (Some Propagation1) e = refl
-spreads_first (Some (CacheExpire1 ttl)) e = absurd (none-some _ (sym e))
-spreads_first (Some Propagation2) e = absurd (none-some _ (sym e))
-spreads_first (Some (CacheExpire2 ttl)) e = absurd (none-some _ (sym e))
-spreads_first (Some Done) e = absurd (none-some _ (sym e))
+spreads_first o e = grind arith
 
 pub spreads_second : (o : Option RollState) → refusals.report_refusal Second o ≡ None
     → o ≡ Some Propagation2
-spreads_second None e = absurd (none-some _ (sym e))
-spreads_second (Some Propagation1) e = absurd (none-some _ (sym e))
-spreads_second (Some (CacheExpire1 ttl)) e = absurd (none-some _ (sym e))
-spreads_second (Some Propagation2) e = refl
-spreads_second (Some (CacheExpire2 ttl)) e = absurd (none-some _ (sym e))
-spreads_second (Some Done) e = absurd (none-some _ (sym e))
+spreads_second o e = grind arith
 
 pub finishes : (o : Option RollState) → refusals.end_refusal o ≡ None → o ≡ Some Done
-finishes None e = absurd (none-some _ (sym e))
-finishes (Some Propagation1) e = absurd (none-some _ (sym e))
-finishes (Some (CacheExpire1 ttl)) e = absurd (none-some _ (sym e))
-finishes (Some Propagation2) e = absurd (none-some _ (sym e))
-finishes (Some (CacheExpire2 ttl)) e = absurd (none-some _ (sym e))
-finishes (Some Done) e = refl
+finishes o e = grind arith
 
 -- the phase in which an early end is accepted
 pub ends_early : (o : Option RollState) → refusals.early_end_refusal o ≡ None
     → o ≡ Some Propagation1
-ends_early None e = absurd (none-some _ (sym e))
-ends_early (Some Propagation1) e = refl
-ends_early (Some (CacheExpire1 ttl)) e = absurd (none-some _ (sym e))
-ends_early (Some Propagation2) e = absurd (none-some _ (sym e))
-ends_early (Some (CacheExpire2 ttl)) e = absurd (none-some _ (sym e))
-ends_early (Some Done) e = absurd (none-some _ (sym e))
+ends_early o e = grind arith
 
 -- an add is accepted only at a reference that no key has
 pub add_free : (a b : Bool) (x y : Error)

@@ -1,42 +1,42 @@
 -- From what a call found and changed to the allowed step.
-use Rattle.std.proofs.Common.{◌≡◌, ℕ, List, Some, None, Ok, Err, inl, inr, refl, ap}
-use Rattle.std.specs.Prelude.{Option, Result, OnOk, OnErr}
+use Rattle.std.proofs.Common.{arith, ◌≡◌, ℕ, Bool, List, Some, None, Ok, Err, inl, inr, refl, ap}
+use Rattle.std.proofs.Common.{sym, ◌∙◌}
+use Rattle.std.specs.Prelude.{Option, Result, OnOk, OnErr, if◌then◌else◌}
+use Rattle.std.specs.FinMap.{get}
+use Rattle.std.specs.Option.{option_map}
+use Rattle.std.specs.Str.{bytes_eq}
 use Rattle.dnssec_base.specs.declared.error.Error.{Error}
 use Rattle.dnssec_keyset.specs.KeySet.{KeySetParts}
-use Rattle.dnssec_keyset.specs.Step.{Call, AddKey, Set, DeleteKey, StartRoll, Report, Wait}
-use Rattle.dnssec_keyset.specs.Step.{RollDone, AbortRoll, Reply, Done, Actions, Refused}
-use Rattle.dnssec_keyset.specs.Step.{AnswersWait, accepted_reply, clearance, IsRefusedFor, Step}
-use Rattle.dnssec_keyset.specs.Step.{reply_done}
+use Rattle.dnssec_keyset.specs.Step.{Call, AddKey, Set, Reply, Done, Refused, AnswersWait}
+use Rattle.dnssec_keyset.specs.Step.{accepted_reply, clearance, IsRefusedFor, Step, reply_done}
 use Rattle.dnssec_keyset.proofs.After.{changes-after}
 use Rattle.dnssec_keyset.proofs.Changes.{Changes}
 use Rattle.dnssec_zone.specs.Wait.{Clearance, Barred, Early, Clear, barred_by}
 use Rattle.dnssec_key.specs.Key.{KeyParts}
+use Rattle.dnssec_key.specs.Setters.{Setting, is_flag_setting, set_by}
+use Rattle.dnssec_zone.specs.Keys.{Keys}
+use Rattle.dnssec_zone.specs.Lists.{Lists, without}
 use Rattle.dnssec_zone.specs.Refusals.{Answers, AnswersExactly, add_refusal}
 use Rattle.dnssec_zone.proofs.Starts.{passed}
 
 -- no accepted call answers a cause
-pub not-refused : (call : Call) (cause : Error) → Refused cause ≡ accepted_reply call → ⊥
-not-refused (AddKey r key) cause e = cc
-not-refused (Set r setting) cause e = cc
-not-refused (DeleteKey r) cause e = cc
-not-refused (StartRoll roll olds news now) cause e = cc
-not-refused (Report roll half ttl now) cause e = cc
-not-refused (Wait roll half now) cause e = cc
-not-refused (RollDone roll) cause e = cc
-not-refused (AbortRoll roll) cause e = cc
+not-refused : (call : Call) (cause : Error) → Refused cause ≡ accepted_reply call → ⊥
+not-refused call cause e = grind arith
 
 -- a clear call that made its change, and answers so, is an allowed step
 pub accepted-step : (s new : KeySetParts) (call : Call) (reply : Reply) → clearance s call ≡ Clear
     → reply ≡ accepted_reply call → Changes s call new → Step s call reply new
-accepted-step s new call Done clear is changes = (clear, is, changes-after s new call changes)
-accepted-step s new call (Actions actions) clear is changes =
-    (clear, is, changes-after s new call changes)
 accepted-step s new call (Refused cause) clear is changes = absurd (not-refused call cause is)
+accepted-step s new call _ clear is changes = (clear, is, changes-after s new call changes)
 
 -- a check that passed bars nothing
 pub cleared : {T : Type 0} (o : Option Error) (x : T) → AnswersExactly o (Ok x)
     → barred_by o ≡ Clear
 cleared o x h = ap barred_by (passed o x h)
+
+-- an add that came in has no cause against it
+pub came_in : {T : Type 0} (o : Option Error) (x : T) → Answers o (Ok x) → o ≡ None
+came_in o x h = grind arith
 
 -- a wait that passed is over
 pub over : {T : Type 0} (v : Clearance) (x : T) → AnswersWait v (Ok x) → v ≡ Clear
@@ -45,21 +45,38 @@ over (Early left) x h = let e = h.1 in cc
 over Clear x h = refl
 
 -- an add answers what the keys answer
-module _ (old new : KeySetParts) (reference : List ℕ) (key : KeyParts) where
-  pub add-step : (r : Result (Unit {0}) Error)
-      → Answers (add_refusal old.keys reference key.key_tag) r
-      → OnOk r (Changes old (AddKey reference key) new) → OnErr r (new ≡ old)
-      → Step old (AddKey reference key) (reply_done r) new
-  add-step (Ok u) told changes same =
-      (clear _ told, refl, changes-after old new (AddKey reference key) changes)
-    where
-      clear : (o : Option Error) → Answers o (Ok u) → barred_by o ≡ Clear
-      clear None h = refl
-      clear (Some cause) h = cc
-  add-step (Err e) told changes same = (refused _ told, same)
-    where
-      refused : (o : Option Error) → Answers {T = Unit {0}} o (Err e)
-          → IsRefusedFor (barred_by o) (AddKey reference key) e
-      refused None (inl h) = cc
-      refused None (inr h) = (tt, cc)
-      refused (Some cause) h = cc
+pub add-step : (old : KeySetParts) (keys : Keys) (lists : Lists) (reference : List ℕ)
+    (key : KeyParts) (r : Result (Unit {0}) Error) → lists ≡ old.lists
+    → Answers (add_refusal old.keys reference key.key_tag) r
+    → OnOk r ((q : List ℕ) → get keys q
+    ≡ (if bytes_eq reference q then Some key else get old.keys q))
+    → OnErr r (keys ≡ old.keys)
+    → Step old (AddKey reference key) (reply_done r) (record old { keys = keys; lists = lists })
+add-step old keys lists reference key (Ok u) kept told put same =
+    accepted-step old _ (AddKey reference key) Done (ap barred_by (came_in _ u told)) refl
+    (record { name = refl; rolls = refl; lists = kept; keys = put })
+add-step old keys lists reference key (Err e) kept told put same =
+    (refused _ told, λ i. record old { keys = same i; lists = kept i })
+  where
+    refused : (o : Option Error) → Answers {T = Unit {0}} o (Err e)
+        → IsRefusedFor (barred_by o) (AddKey reference key) e
+    refused None (inl h) = cc
+    refused None (inr h) = (tt, cc)
+    refused (Some cause) h = cc
+
+-- a key is changed by hand; if a flag was set, it is no longer listed
+pub set-step : (old : KeySetParts) (keys : Keys) (lists : Lists) (reference : List ℕ)
+    (setting : Setting) (flag : Bool) → is_flag_setting setting ≡ flag
+    → clearance old (Set reference setting) ≡ Clear
+    → ((q : List ℕ) → get keys q
+    ≡ option_map (λ k. if bytes_eq reference q then set_by setting k else k) (get old.keys q))
+    → lists ≡ (if flag then without reference old.lists else old.lists)
+    → Step old (Set reference setting) Done (record old { keys = keys; lists = lists })
+set-step old keys lists reference setting flag is clear changed kept =
+    accepted-step old _ (Set reference setting) Done clear refl (record {
+      name = refl;
+      rolls = refl;
+      lists = kept
+          ∙ ap (λ b. if b then without reference old.lists else old.lists) (sym is);
+      keys = changed;
+    })

@@ -4,8 +4,6 @@
 -- |------------|----------------------------|----------------|-----------------------------|
 -- | `exchange` | `NeighboursMayBeExchanged` | `Law.exchange` | all, in the order below     |
 pub mod Kinds
-pub mod Calls
 pub mod Seen
-pub mod Checks
 pub mod Told
 pub mod Law

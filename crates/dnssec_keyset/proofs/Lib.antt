@@ -2,10 +2,10 @@
 --
 -- | Function or law                | Lemma                          | Files                |
 -- |--------------------------------|--------------------------------|----------------------|
--- | `check_start`                  | `algorithms-told`, `told-last` | StartReplies, Starts |
+-- | `check_start`                  | `told-start`                   | StartReplies         |
 -- | `check_wait`                   | `told-early`, `told-over`      | WaitReplies          |
 -- | `StaysSound`                   | `apart-step`, `together-step`  | Laws                 |
--- | `KeepsSidesApart`              | `leaves-others`                | Sides, Laws          |
+-- | `KeepsSidesApart`              | `leaves-others`                | Sides, Moves         |
 -- | `NeighboursMayBeExchanged`     | `Law.exchange`                 | Exchange             |
 -- | the set after an accepted call | `step-after`                   | After                |
 -- | the calls' one clause          | `accepted-step`                | Allowed, Changes     |
@@ -18,6 +18,7 @@ pub mod Changes
 pub mod After
 pub mod Allowed
 pub mod ByClearance
+pub mod Moves
 pub mod Laws
 pub mod Sides
 pub mod Exchange

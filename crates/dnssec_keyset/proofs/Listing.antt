@@ -1,14 +1,12 @@
 -- What starts have listed, after each call: the entries that are kept agree with the keys, and mean
 -- the lists of the step.
-use Rattle.std.proofs.Common.{◌≡◌, ℕ, Bool, true, false, not, List, [], Some, None, Ok, Err, refl}
-use Rattle.std.proofs.Common.{sym}
-use Rattle.std.proofs.Common.{ap, subst, ◌∙◌}
-use Rattle.std.specs.Prelude.{Option, Result, OnOk, OnErr, if◌then◌else◌, is_some}
+use Rattle.std.proofs.Common.{arith, ◌≡◌, ℕ, not, List, [], Some, None, Ok, Err, refl, sym, ap}
+use Rattle.std.proofs.Common.{subst, ◌∙◌}
+use Rattle.std.specs.Prelude.{Option, Result, OnOk, OnErr, if◌then◌else◌}
 use Rattle.std.specs.Option.{option_map}
 use Rattle.std.specs.Str.{bytes_eq}
 use Rattle.std.specs.FinMap.{get}
 use Rattle.dnssec_base.specs.declared.error.Error.{Error}
-use Rattle.dnssec_base.specs.declared.error.Error.TheVariants.{DuplicateKeyTag, KeyExists}
 use Rattle.dnssec_key.specs.declared.roll.RollType.{RollType}
 use Rattle.dnssec_key.specs.Key.{KeyParts}
 use Rattle.dnssec_key.specs.RollTable.{Half, First, Second, after_start, after_report, after_wait}
@@ -19,24 +17,42 @@ use Rattle.dnssec_zone.specs.declared.listed.Part.TheVariants.{Old, New}
 use Rattle.dnssec_zone.specs.Inner.Entries.{EntriesAgree, lists_of, without_tag, without_roll}
 use Rattle.dnssec_zone.specs.Inner.Entries.{entries_at_start, entries_after_report, has_entry}
 use Rattle.dnssec_zone.specs.Inner.Entries.{is_of_roll}
-use Rattle.dnssec_zone.specs.Keys.{Keys, has_tag}
+use Rattle.dnssec_zone.specs.Keys.{Keys}
 use Rattle.dnssec_zone.specs.Lists.{Lists, listed_by, without, with_listed, listed_at_start}
 use Rattle.dnssec_zone.specs.Lists.{nothing_listed, lists_after_report}
 use Rattle.dnssec_zone.specs.Refusals.{Answers, add_refusal}
 use Rattle.dnssec_zone.specs.Start.{is_listed}
 use Rattle.dnssec_zone.proofs.Listing.References.{means-mapped, means-added, means-removed}
-use Rattle.dnssec_zone.proofs.Listing.References.{forgotten}
-use Rattle.dnssec_zone.proofs.Listing.References.{has_entry-is, there-filter, listed_by-of}
+use Rattle.dnssec_zone.proofs.Listing.References.{forgotten, has_entry-is, there-filter}
 use Rattle.dnssec_zone.proofs.Listing.Starts.{lists_of-started, there-started, news-kept}
 use Rattle.dnssec_zone.proofs.Listing.Starts.{lists_of-reported, lists_of-taken_out}
-use Rattle.dnssec_zone.proofs.Listing.Starts.{none_of_both}
 use Rattle.dnssec_zone.proofs.Tags.{kept_at, kept_set, kept_unmarked}
 use Rattle.dnssec_keyset.specs.KeySet.{KeySetParts}
 use Rattle.dnssec_keyset.specs.Step.{start_refusal}
+use Rattle.dnssec_keyset.proofs.Allowed.{came_in}
+use Rattle.dnssec_keyset.proofs.Laws.{no_add}
+use Rattle.dnssec_keyset.proofs.Moves.{kept_started}
+use Rattle.dnssec_keyset.proofs.Sides.{starts-clear}
 
 -- the entries agree with the keys, and mean these lists
 abbrev pub Listing : Keys → List Entry → Lists → Type 0
 Listing keys es lists = EntriesAgree keys es × (lists_of keys es ≡ lists)
+
+-- what is listed for a roll is taken out
+taken_out : (roll : RollType) (keys : Keys) (es : List Entry) → EntriesAgree keys es
+    → EntriesAgree keys (without_roll roll es)
+taken_out roll keys es agree = record {
+  apart = agree.apart;
+  there = there-filter keys (λ e. not (is_of_roll roll e)) es agree.there;
+}
+
+-- a key is changed by hand, and isn't forgotten
+pub set-kept : (old new : Keys) (r : List ℕ) (setting : Setting) → ((q : List ℕ) → get new q
+    ≡ option_map (λ k. if bytes_eq r q then set_by setting k else k) (get old q))
+    → (es : List Entry) → EntriesAgree old es → Listing new es (lists_of old es)
+set-kept old new r setting is =
+    means-mapped (λ q k. if bytes_eq r q then set_by setting k else k)
+    (λ q k. kept_at (set_by setting) (kept_set setting) (bytes_eq r q) k) old new is
 
 module _ (old new : Keys) (es : List Entry) (agree : EntriesAgree old es) where
   -- a key comes in, or none does
@@ -46,20 +62,9 @@ module _ (old new : Keys) (es : List Entry) (agree : EntriesAgree old es) where
       → OnErr o (new ≡ old) → Listing new es (lists_of old es)
   added r x (Err e) reply ok err =
       subst (λ keys. Listing keys es (lists_of old es)) (sym err) (agree, refl)
-  added r x (Ok u) reply ok err = at (has_tag x.key_tag old) refl (get old r) refl reply
-    where
-      at : (b : Bool) → has_tag x.key_tag old ≡ b → (o : Option KeyParts) → get old r ≡ o
-          → Answers (add_refusal old r x.key_tag) (Ok u) → Listing new es (lists_of old es)
-      at true t o f answers =
-          let refused : Answers (Some DuplicateKeyTag) (Ok u) =
-          subst (λ b. Answers (if b then Some DuplicateKeyTag
-          else (if is_some (get old r) then Some KeyExists else None)) (Ok u)) t answers in cc
-      at false t (Some k) f answers =
-          let refused : Answers (Some KeyExists) (Ok u) =
-          subst (λ o. Answers (if is_some o then Some KeyExists else None) (Ok u)) f
-          (subst (λ b. Answers (if b then Some DuplicateKeyTag
-          else (if is_some (get old r) then Some KeyExists else None)) (Ok u)) t answers) in cc
-      at false t None f answers = means-added old new r x f t ok es agree
+  added r x (Ok u) reply ok err =
+      let free = no_add old r x.key_tag (came_in _ u reply) in
+      means-added old new r x free.1 free.0 ok es agree
 
   -- a key that has the tag
   module _ (r : List ℕ) (tag : ℕ)
@@ -80,9 +85,7 @@ module _ (old new : Keys) (es : List Entry) (agree : EntriesAgree old es) where
     set-forgotten setting is =
         subst (λ t. Listing new (without_tag t es) (without r (lists_of old es))) found.2
         (let kept = forgotten old es agree r found.0 found.1 in
-        let means = means-mapped (λ q k. if bytes_eq r q then set_by setting k else k)
-        (λ q k. kept_at (set_by setting) (kept_set setting) (bytes_eq r q) k) old new is
-        (without_tag found.0.key_tag es) kept.0 in
+        let means = set-kept old new r setting is (without_tag found.0.key_tag es) kept.0 in
         (means.0, means.1 ∙ kept.1))
 
     -- it goes, and is forgotten
@@ -91,13 +94,6 @@ module _ (old new : Keys) (es : List Entry) (agree : EntriesAgree old es) where
     removed is =
         subst (λ t. Listing new (without_tag t es) (without r (lists_of old es))) found.2
         (means-removed old es agree r found.0 found.1 new is)
-
-  -- it is changed by hand, and isn't forgotten
-  pub set-kept : (r : List ℕ) (setting : Setting) → ((q : List ℕ) → get new q
-      ≡ option_map (λ k. if bytes_eq r q then set_by setting k else k) (get old q))
-      → Listing new es (lists_of old es)
-  set-kept r setting is = means-mapped (λ q k. if bytes_eq r q then set_by setting k else k)
-      (λ q k. kept_at (set_by setting) (kept_set setting) (bytes_eq r q) k) old new is es agree
 
   -- all keys go on
   pub waited : (roll : RollType) (half : Half) (now : ℕ)
@@ -120,10 +116,7 @@ module _ (old new : Keys) (es : List Entry) (agree : EntriesAgree old es) where
     where
       kept : (half : Half) → EntriesAgree new es
           → EntriesAgree new (entries_after_report roll half es)
-      kept First agree = record {
-        apart = agree.apart;
-        there = there-filter new (λ e. not (is_of_roll roll e)) es agree.there;
-      }
+      kept First agree = taken_out roll new es agree
       kept Second agree = agree
 
   -- a start is undone
@@ -136,10 +129,7 @@ module _ (old new : Keys) (es : List Entry) (agree : EntriesAgree old es) where
         let means = means-mapped (λ q k. after_early_end roll (has_entry roll Old k.key_tag es)
         (has_entry roll New k.key_tag es) k) (λ q k. kept_unmarked roll _ _ k) old new is es
         agree in (
-          record {
-            apart = means.0.apart;
-            there = there-filter new (λ e. not (is_of_roll roll e)) es means.0.there;
-          },
+          taken_out roll new es means.0,
           lists_of-taken_out new roll es
               ∙ ap (λ lists. with_listed lists roll nothing_listed) means.1,
         )
@@ -156,11 +146,9 @@ module _ (old new : Keys) (es : List Entry) (agree : EntriesAgree old es) where
             (is_listed (listed_by (lists_of old es) roll).olds q)
             (is_listed (listed_by (lists_of old es) roll).news q)) o
         at None f = refl
-        at (Some k) f = ap Some ((λ i. after_early_end roll
+        at (Some k) f = ap Some (λ i. after_early_end roll
             (has_entry-is old agree.apart q k f roll Old es agree.there i)
             (has_entry-is old agree.apart q k f roll New es agree.there i) k)
-            ∙ ap (λ l. after_early_end roll (is_listed l.olds q) (is_listed l.news q) k)
-            (sym (listed_by-of old es roll)))
 
 -- the keys are marked by a start
 module _ (set : KeySetParts) (new : Keys) (es : List Entry) (agree : EntriesAgree set.keys es)
@@ -176,29 +164,21 @@ module _ (set : KeySetParts) (new : Keys) (es : List Entry) (agree : EntriesAgre
           option_map (λ k. if is_listed news q then new_at_start roll now k else k)
           (option_map (λ k. if is_listed olds q then old_at_start k else k) o)
           ≡ option_map (after_start roll now (is_listed olds q) (is_listed news q)) o
-      at None = refl
-      at (Some k) = refl
-
-  kept_started : (as_old as_new : Bool) (k : KeyParts)
-      → (after_start roll now as_old as_new k).key_tag ≡ k.key_tag
-  kept_started true true k = refl
-  kept_started true false k = refl
-  kept_started false true k = refl
-  kept_started false false k = refl
+      at o = grind arith
 
   pub started : start_refusal roll set olds news ≡ None
       → Listing new (entries_at_start set.keys roll olds news es)
       (with_listed (lists_of set.keys es) roll (listed_at_start set.keys olds news))
   started none =
-      let third = (none_of_both _ _ (none_of_both _ _ (none_of_both _ _ none).1).1).0 in
+      let third = (starts-clear roll set olds news none).1 in
       let kept : EntriesAgree set.keys (entries_at_start set.keys roll olds news es) = record {
         apart = agree.apart;
         there = there-started set.keys roll olds news es agree.there;
       } in
       let means = means-mapped
       (λ q. after_start roll now (is_listed olds q) (is_listed news q))
-      (λ q k. kept_started (is_listed olds q) (is_listed news q) k) set.keys new started-keys
-      (entries_at_start set.keys roll olds news es) kept in (
+      (λ q k. kept_started roll now (is_listed olds q) (is_listed news q) k) set.keys new
+      started-keys (entries_at_start set.keys roll olds news es) kept in (
         means.0,
         means.1 ∙ lists_of-started set.keys roll olds news agree.apart
             (news-kept roll set.keys olds [] news third) es,

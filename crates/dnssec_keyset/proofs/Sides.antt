@@ -1,33 +1,31 @@
 -- A call on a roll leaves keys alone whose kind the roll doesn't change.
-use Rattle.std.proofs.Common.{◌≡◌, ℕ, Bool, true, false, List, [], ◌∷◌, ◌++◌, Some, None, refl, inl}
-use Rattle.std.proofs.Common.{inr, sym, ap, ◌∙◌}
+use Rattle.std.proofs.Common.{arith, ◌≡◌, ℕ, Bool, true, false, List, [], ◌∷◌, ◌++◌, Some, None}
+use Rattle.std.proofs.Common.{refl, inl, inr, sym, ap, ◌∙◌}
 use Rattle.std.specs.Prelude.{Option, ◌⊎◌, ◌||◌, ◌&&◌, not, if◌then◌else◌}
-use Rattle.std.proofs.lemmas.Bool.{and_parts, cases_Bool, not-true}
-use Rattle.std.proofs.lemmas.Option.{same_Some}
+use Rattle.std.proofs.lemmas.Bool.{and_parts, cases_Bool, false_from_ne_true, not-true, true≢false}
 use Rattle.std.specs.Option.{option_map}
 use Rattle.std.specs.Str.{bytes_eq}
 use Rattle.std.specs.Cmp.Lexicographic.{bytes_decides}
 use Rattle.std.specs.FinMap.{get}
 use Rattle.dnssec_key.specs.declared.kind.KeyType.{KeyType}
 use Rattle.dnssec_key.specs.declared.roll.RollType.{RollType}
-use Rattle.dnssec_base.specs.declared.error.Error.TheVariants.{WrongKeyType, WrongKeyState}
-use Rattle.dnssec_key.specs.Key.{KeyParts, all_states}
+use Rattle.dnssec_key.specs.Key.{KeyParts}
 use Rattle.dnssec_base.specs.Stamps.{Stamps}
-use Rattle.dnssec_key.specs.State.{is_fresh}
 use Rattle.dnssec_keyset.specs.KeySet.{KeySetParts}
 use Rattle.dnssec_key.specs.RollTable.{Half, First, Second, Writes, column, half_of, stamps_after}
 use Rattle.dnssec_key.specs.RollTable.{after_start, after_report, after_wait, after_early_end}
-use Rattle.dnssec_zone.specs.Start.{algorithm_fault, conflict, is_listed, lists_kind}
-use Rattle.dnssec_zone.specs.Start.{new_entry_fault, new_fault, old_entry_fault, old_fault, side_of}
-use Rattle.dnssec_zone.specs.Start.{suitability_fault}
-use Rattle.dnssec_keyset.specs.Step.{start_refusal, Call, AddKey, Set, DeleteKey, StartRoll, Report}
-use Rattle.dnssec_keyset.specs.Step.{Wait, RollDone, AbortRoll, Reply, Step, clearance}
-use Rattle.dnssec_keyset.proofs.Changes.{Changes}
+use Rattle.dnssec_key.specs.RollTable.{old_at_early_end, new_at_early_end}
+use Rattle.dnssec_zone.specs.Start.{is_listed, lists_kind, new_entry_fault, new_fault}
+use Rattle.dnssec_zone.specs.Start.{old_entry_fault, old_fault, side_of}
+use Rattle.dnssec_keyset.specs.Step.{start_refusal, Call, Reply, Step, clearance}
 use Rattle.dnssec_zone.specs.Wait.{Clear}
-use Rattle.dnssec_keyset.specs.Laws.{LeavesOthers, roll_of}
+use Rattle.dnssec_keyset.specs.Laws.{LeavesOthers}
+use Rattle.dnssec_keyset.proofs.Accepted.{needed}
 use Rattle.dnssec_keyset.proofs.Laws.{moved, no_cause, no_first, no_rest}
-use Rattle.dnssec_zone.proofs.Tests.{each_in_roll, each_in_roll-at, four, or_second, same_kind}
-use Rattle.dnssec_zone.proofs.Tests.{same_kind-is}
+use Rattle.dnssec_keyset.proofs.Moves.{IsOn, Starts, Reports, Waits, Ends, EndsEarly, is-on}
+use Rattle.dnssec_keyset.proofs.Moves.{key_after, moves-on}
+use Rattle.dnssec_zone.proofs.Tests.{both, each_in_roll, each_in_roll-at, four, or_second}
+use Rattle.dnssec_zone.proofs.Tests.{same_kind, same_kind-is}
 
 -- ---- the table at the keys that a roll doesn't change
 
@@ -52,95 +50,81 @@ bare-is w k now t e =
       withdrawn = if not-true (w.withdrawn k) y.1 i then Some now else t.withdrawn;
     }
 
+-- this half of the roll doesn't change the key, and its wait doesn't check it
 half_table : Half → RollType → KeyType → Bool
-half_table half r k = lists_kind (side_of r) k
-    || (bare (half_of r half).report k && bare (half_of r half).writes k
-    && same_kind ((half_of r half).moves k) k && not ((half_of r half).checks k))
+half_table half r k = bare (half_of r half).report k && bare (half_of r half).writes k
+    && same_kind ((half_of r half).moves k) k && not ((half_of r half).checks k)
 
-half_all : (half : Half) (a b : Bool) → each_in_roll a b (half_table half) ≡ true
-unfolding half_table bare column
-half_all First true true = refl
-half_all First true false = refl
-half_all First false true = refl
-half_all First false false = refl
-half_all Second true true = refl
-half_all Second true false = refl
-half_all Second false true = refl
-half_all Second false false = refl
+-- nor does an early end change it
+others_table : RollType → KeyType → Bool
+others_table r k = lists_kind (side_of r) k || (half_table First r k && half_table Second r k
+    && same_kind ((column r).returns k) k && same_kind ((column r).goes k) k)
 
-record HalfOthers (roll : RollType) (half : Half) (t : KeyType) : Type 0 where
-  report : bare (half_of roll half).report t ≡ true
-  writes : bare (half_of roll half).writes t ≡ true
-  moves : (half_of roll half).moves t ≡ t
-  checks : (half_of roll half).checks t ≡ false
+-- computed for each value of `available`
+others_all : both (λ a. both (λ b. each_in_roll a b others_table)) ≡ true
+unfolding others_table half_table bare column
+others_all = refl
+
+both-at : (p : Bool → Bool) → both p ≡ true → (b : Bool) → p b ≡ true
+both-at p e b = grind (arith, and_parts)
+
+others : (roll : RollType) (t : KeyType) → lists_kind (side_of roll) t ≡ false
+    → (half_table First roll t ≡ true) × (half_table Second roll t ≡ true)
+    × (same_kind ((column roll).returns t) t ≡ true) × (same_kind ((column roll).goes t) t ≡ true)
+unfolding others_table
+others roll t = λ e. four _ _ _ _ (or_second _ _ (each_in_roll-at others_table
+    (λ a. both-at (λ b. each_in_roll a b others_table)
+    (both-at (λ a. both (λ b. each_in_roll a b others_table)) others_all a)) roll t) e)
 
 half-others : (roll : RollType) (half : Half) (t : KeyType) → lists_kind (side_of roll) t ≡ false
-    → HalfOthers roll half t
+    → (bare (half_of roll half).report t ≡ true) × (bare (half_of roll half).writes t ≡ true)
+    × (same_kind ((half_of roll half).moves t) t ≡ true)
+    × (not ((half_of roll half).checks t) ≡ true)
 unfolding half_table
-half-others roll half t e =
-    let x = four _ _ _ _
-    (or_second _ _ (each_in_roll-at (half_table half) (half_all half) roll t) e) in
-    record {
-      report = x.0;
-      writes = x.1;
-      moves = same_kind-is _ _ x.2;
-      checks = not-true _ x.3;
-    }
+half-others roll half t e = four _ _ _ _ (at half)
+  where
+    at : (half : Half) → half_table half roll t ≡ true
+    at First = (others roll t e).0
+    at Second = (others roll t e).1
 
 pub moves-others : (roll : RollType) (half : Half) (t : KeyType)
     → lists_kind (side_of roll) t ≡ false → (half_of roll half).moves t ≡ t
-moves-others roll half t e = (half-others roll half t e).moves
+moves-others roll half t e = same_kind-is _ _ (half-others roll half t e).2
 
 pub checks-others : (roll : RollType) (half : Half) (t : KeyType)
     → lists_kind (side_of roll) t ≡ false → (half_of roll half).checks t ≡ false
-checks-others roll half t e = (half-others roll half t e).checks
+checks-others roll half t e = not-true _ (half-others roll half t e).3
 
 pub after_report-others : (roll : RollType) (half : Half) (now : ℕ) (k : KeyParts)
     → lists_kind (side_of roll) k.keytype ≡ false → after_report roll half now k ≡ k
 after_report-others roll half now k e =
     let same : stamps_after (half_of roll half).report k.keytype now k.timestamps ≡ k.timestamps =
-    bare-is _ k.keytype now k.timestamps (half-others roll half k.keytype e).report in
+    bare-is _ k.keytype now k.timestamps (half-others roll half k.keytype e).0 in
     λ i. record k { timestamps = same i }
 
 pub after_wait-others : (roll : RollType) (half : Half) (now : ℕ) (k : KeyParts)
     → lists_kind (side_of roll) k.keytype ≡ false → after_wait roll half now k ≡ k
 after_wait-others roll half now k e =
     let same : stamps_after (half_of roll half).writes k.keytype now k.timestamps ≡ k.timestamps =
-    bare-is _ k.keytype now k.timestamps (half-others roll half k.keytype e).writes in
+    bare-is _ k.keytype now k.timestamps (half-others roll half k.keytype e).1 in
     λ i. record k {
       keytype = moves-others roll half k.keytype e i;
       timestamps = same i;
     }
 
-back_table : RollType → KeyType → Bool
-back_table r k = lists_kind (side_of r) k
-    || (same_kind ((column r).returns k) k && same_kind ((column r).goes k) k)
-
-back_all : (a b : Bool) → each_in_roll a b back_table ≡ true
-unfolding back_table column
-back_all true true = refl
-back_all true false = refl
-back_all false true = refl
-back_all false false = refl
-
-back-others : (roll : RollType) (t : KeyType) → lists_kind (side_of roll) t ≡ false
-    → ((column roll).returns t ≡ t) × ((column roll).goes t ≡ t)
-unfolding back_table
-back-others roll t e =
-    let x = and_parts _ _ (or_second _ _ (each_in_roll-at back_table back_all roll t) e) in
-    (same_kind-is _ _ x.0, same_kind-is _ _ x.1)
-
 pub after_early_end-others : (roll : RollType) (was_old was_new : Bool) (k : KeyParts)
     → lists_kind (side_of roll) k.keytype ≡ false → after_early_end roll was_old was_new k ≡ k
-after_early_end-others roll true true k e = λ i. record k {
-  keytype = (ap (column roll).goes (back-others roll k.keytype e).0
-      ∙ (back-others roll k.keytype e).1) i;
-}
-after_early_end-others roll true false k e =
-    λ i. record k { keytype = (back-others roll k.keytype e).0 i }
-after_early_end-others roll false true k e =
-    λ i. record k { keytype = (back-others roll k.keytype e).1 i }
-after_early_end-others roll false false k e = refl
+after_early_end-others roll was_old was_new k e =
+    let t = k.keytype in
+    let x = others roll t e in
+    let returns : (column roll).returns t ≡ t = same_kind-is _ t x.2 in
+    let goes : (column roll).goes t ≡ t = same_kind-is _ t x.3 in
+    ap (λ y. if was_new then new_at_early_end roll y else y)
+    (at was_old (old_at_early_end roll) (λ i. record k { keytype = returns i }))
+    ∙ at was_new (new_at_early_end roll) (λ i. record k { keytype = goes i })
+  where
+    at : (b : Bool) (f : KeyParts → KeyParts) → f k ≡ k → (if b then f k else k) ≡ k
+    at b f same = grind (arith, same)
 
 -- ---- a start lists none of them
 
@@ -148,7 +132,7 @@ listed_cases : (q x : List ℕ) (xs : List (List ℕ)) → is_listed (x ∷ xs) 
     ⊎ (is_listed xs q ≡ true)
 listed_cases q x xs e = elim (cases_Bool (bytes_eq q x)) [
   | inl same ↦ inl ((bytes_decides q x).0 same)
-  | inr other ↦ inr (sym (ap (λ b. b || is_listed xs q) other) ∙ e)
+  | inr other ↦ inr (or_second _ _ e other)
 ]
 
 module _ (roll : RollType) (at : List ℕ → Option KeyParts) where
@@ -167,8 +151,7 @@ module _ (roll : RollType) (at : List ℕ → Option KeyParts) where
   new-listed olds earlier (x ∷ xs) q none e = elim (listed_cases q x xs e) [
     | inl same ↦ (
       is_listed olds x || is_listed earlier x,
-      ap
-          (λ r. new_entry_fault roll (at r) (is_listed olds x || is_listed earlier x)) same
+      ap (λ r. new_entry_fault roll (at r) (is_listed olds x || is_listed earlier x)) same
           ∙ no_first _ _ none,
     )
     | inr later ↦ new-listed olds (earlier ++ x ∷ []) xs q (no_rest _ _ none) later
@@ -177,98 +160,62 @@ module _ (roll : RollType) (at : List ℕ → Option KeyParts) where
 pub old-kind : (roll : RollType) (o : Option KeyParts) (k : KeyParts) → o ≡ Some k
     → lists_kind (side_of roll) k.keytype ≡ false → old_entry_fault roll o ≡ None → ⊥
 old-kind roll o k is other none =
-    let wrong : Some WrongKeyType ≡ None =
-    sym (ap (λ (b : Bool). if b then None else Some WrongKeyType) other)
-    ∙ sym (ap (old_entry_fault roll) is) ∙ none in cc
+    true≢false (sym (needed (lists_kind (side_of roll) k.keytype) _ _
+    (sym (ap (old_entry_fault roll) is) ∙ none)) ∙ other)
 
 new-kind : (roll : RollType) (o : Option KeyParts) (k : KeyParts) (taken : Bool) → o ≡ Some k
     → lists_kind (side_of roll) k.keytype ≡ false → new_entry_fault roll o taken ≡ None → ⊥
 new-kind roll o k taken is other none =
-    let wrong : Some WrongKeyType ≡ None =
-    sym (ap (λ (b : Bool). if b then
-    (if all_states is_fresh k.keytype && not taken then None else Some WrongKeyState) else Some
-    WrongKeyType) other)
-    ∙ sym (ap (λ x. new_entry_fault roll x taken) is) ∙ none in cc
+    true≢false (sym (needed (lists_kind (side_of roll) k.keytype) _ _
+    (sym (ap (λ x. new_entry_fault roll x taken) is) ∙ none)) ∙ other)
 
--- what an accepted start lists
-pub record StartsClear (roll : RollType) (set : KeySetParts) (olds news : List (List ℕ)) : Type 0
-  where
-    pub conflict_is : conflict roll set.rolls ≡ None
-    pub olds_are : old_fault roll (get set.keys) olds ≡ None
-    pub news_are : new_fault roll (get set.keys) olds [] news ≡ None
-    pub algorithms_are : algorithm_fault roll (get set.keys) olds news ≡ None
-    pub suitable : suitability_fault roll set.keys olds news ≡ None
-
+-- an accepted start has no fault in its lists
 pub starts-clear : (roll : RollType) (set : KeySetParts) (olds news : List (List ℕ))
-    → start_refusal roll set olds news ≡ None → StartsClear roll set olds news
+    → start_refusal roll set olds news ≡ None → (old_fault roll (get set.keys) olds ≡ None)
+    × (new_fault roll (get set.keys) olds [] news ≡ None)
 starts-clear roll set olds news e =
-    let rest1 = no_rest _ _ e in
-    let rest2 = no_rest _ _ rest1 in
-    let rest3 = no_rest _ _ rest2 in
-    let rest4 = no_rest _ _ rest3 in
-    record {
-      conflict_is = no_first _ _ e;
-      olds_are = no_first _ _ rest1;
-      news_are =
-          no_first _ _ rest2;
-      algorithms_are = no_first _ _ rest3;
-      suitable = no_first _ _ rest4;
-    }
+    let rest = no_rest _ _ e in
+    (no_first _ _ rest, no_first _ _ (no_rest _ _ rest))
 
 module _ (roll : RollType) (set : KeySetParts) (olds news : List (List ℕ))
-    (clear : StartsClear roll set olds news) (q : List ℕ) (k : KeyParts)
+    (clear : start_refusal roll set olds news ≡ None) (q : List ℕ) (k : KeyParts)
     (is : get set.keys q ≡ Some k) (other : lists_kind (side_of roll) k.keytype ≡ false) where
-  pub not_old : is_listed olds q ≡ false
-  not_old = elim (cases_Bool (is_listed olds q)) [
-    | inl h ↦ absurd (old-kind roll (get set.keys q) k is other
-        (old-listed roll (get set.keys) olds q clear.olds_are h))
-    | inr h ↦ h
-  ]
+  not_old : is_listed olds q ≡ false
+  not_old = false_from_ne_true _ (λ h. old-kind roll (get set.keys q) k is other
+      (old-listed roll (get set.keys) olds q (starts-clear roll set olds news clear).0 h))
 
-  pub not_new : is_listed news q ≡ false
-  not_new = elim (cases_Bool (is_listed news q)) [
-    | inl h ↦ let fault = new-listed roll (get set.keys) olds [] news q clear.news_are h in
-        absurd (new-kind roll (get set.keys q) k fault.0 is other fault.1)
-    | inr h ↦ h
-  ]
+  not_new : is_listed news q ≡ false
+  not_new = false_from_ne_true _ (λ h.
+      let fault = new-listed roll (get set.keys) olds [] news q
+      (starts-clear roll set olds news clear).1 h in
+      new-kind roll (get set.keys q) k fault.0 is other fault.1)
 
-  pub after_start-others : (now : ℕ) → after_start roll now (is_listed olds q) (is_listed news q) k
-      ≡ k
+  after_start-others : (now : ℕ) → after_start roll now (is_listed olds q) (is_listed news q) k ≡ k
   after_start-others now = (λ i. after_start roll now (not_old i) (not_new i) k)
 
 -- ---- the law
 
-leaves : (old new : KeySetParts) (call : Call) (roll : RollType) (q : List ℕ) (k : KeyParts)
-    → roll_of call ≡ Some roll → clearance old call ≡ Clear → Changes old call new
-    → get old.keys q ≡ Some k → lists_kind (side_of roll) k.keytype ≡ false → get new.keys q
-    ≡ Some k
-leaves old new (AddKey r key) roll q k on clear h is other = cc
-leaves old new (Set r setting) roll q k on clear h is other = cc
-leaves old new (DeleteKey r) roll q k on clear h is other = cc
-leaves old new (StartRoll r olds news now) roll q k on clear h is other =
-    let same : r ≡ roll = same_Some _ _ on in
-    let kind : lists_kind (side_of r) k.keytype ≡ false =
-    ap (λ x. lists_kind (side_of x) k.keytype) same ∙ other in
-    h.keys q ∙ ap (option_map _) is ∙ ap Some
-    (after_start-others r old olds news (starts-clear r old olds news (no_cause _ clear)) q k is
-    kind now)
-leaves old new (Report r half ttl now) roll q k on clear h is other =
-    let same : r ≡ roll = same_Some _ _ on in
-    h.keys q ∙ ap (option_map _) is ∙ ap Some
-    (after_report-others r half now k (ap (λ x. lists_kind (side_of x) k.keytype) same ∙ other))
-leaves old new (Wait r half now) roll q k on clear h is other =
-    let same : r ≡ roll = same_Some _ _ on in
-    h.keys q ∙ ap (option_map _) is ∙ ap Some
-    (after_wait-others r half now k (ap (λ x. lists_kind (side_of x) k.keytype) same ∙ other))
-leaves old new (RollDone r) roll q k on clear h is other = h.keys q ∙ ap (option_map _) is
-leaves old new (AbortRoll r) roll q k on clear h is other =
-    let kind : lists_kind (side_of r) k.keytype ≡ false =
-    ap (λ x. lists_kind (side_of x) k.keytype) (same_Some _ _ on) ∙ other in
-    h.keys q ∙ ap (option_map _) is ∙ ap Some (after_early_end-others r _ _ k kind)
+-- a key of another kind stays as it was
+pub stays-after : (set : KeySetParts) (call : Call) (roll : RollType) (q : List ℕ) (k : KeyParts)
+    → IsOn roll call → clearance set call ≡ Clear → get set.keys q ≡ Some k
+    → lists_kind (side_of roll) k.keytype ≡ false → key_after set.lists call q k ≡ k
+unfolding key_after
+stays-after set call roll q k (Starts olds news now) clear is other =
+    after_start-others roll set olds news (no_cause _ clear) q k is other now
+stays-after set call roll q k (Reports half ttl now) clear is other =
+    after_report-others roll half now k other
+stays-after set call roll q k (Waits half now) clear is other =
+    after_wait-others roll half now k other
+stays-after set call roll q k Ends clear is other = refl
+stays-after set call roll q k EndsEarly clear is other =
+    after_early_end-others roll _ _ k other
 
 pub leaves-others : (old new : KeySetParts) (call : Call) (reply : Reply) → Step old call reply new
     → LeavesOthers old call new
 leaves-others old new call reply step roll q k on is other = elim (moved old new call reply step) [
   | inl same ↦ ap (λ (s : KeySetParts). get s.keys q) same ∙ is
-  | inr change ↦ leaves old new call roll q k on change.0 change.1 is other
+  | inr change ↦
+      let at = is-on call roll on in
+      (moves-on old new call roll at change.1).keys q ∙ ap (option_map _) is
+      ∙ ap Some (stays-after old call roll q k at change.0 is other)
 ]

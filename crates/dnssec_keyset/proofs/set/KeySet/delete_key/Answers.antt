@@ -18,10 +18,7 @@ returns c =
     c.self.invariant c.args.pubref.now c.in_ok-key_tag.key_tag c.in_ok-key_tag.ensures.tag
     c.in_ok-key_tag.ensures.ok in
     rw (← c.self.view_is) (accepted-step (the_view c.self.inside) _
-    (DeleteKey c.args.pubref.now) _
-    (cleared _ _ c.in_ok-key_tag.ensures.reply)
-    refl
-    (record {
+    (DeleteKey c.args.pubref.now) _ (cleared _ _ c.in_ok-key_tag.ensures.reply) refl (record {
       name = refl;
       rolls = refl;
       lists = rw (c.forget.ensures) kept.1;

@@ -16,12 +16,10 @@ returns c = accepted-step c.args.self.now _
     (Wait c.args.rolltype (which c.args.half) c.args.now.now) _
     (over (wait_clearance c.args.rolltype (which c.args.half) c.args.now.now c.args.self.now) _
     c.in_ok-check_wait.ensures.reply)
-    (ap Actions (c.in_ok-actions.ensures.list
-    ∙ ap (actions_of c.args.rolltype) c.behind.ensures))
+    (ap Actions (c.in_ok-actions.ensures.list ∙ ap (actions_of c.args.rolltype) c.behind.ensures))
     (rw (← c.behind-2.ensures, ← c.self.view_is) record {
       name = refl;
-      rolls =
-          c.move_to.ensures;
+      rolls = c.move_to.ensures;
       lists = (waited c.self.inside.keys c.go_on_all.new.self
           c.self.inside.lists.entries.items c.self.invariant c.args.rolltype (which c.args.half)
           c.args.now.now c.go_on_all.ensures).1;

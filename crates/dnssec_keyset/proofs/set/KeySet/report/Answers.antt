@@ -15,12 +15,9 @@ invariant_of-self-2 c = rw (c.report.ensures) (reported c.self.inside.keys c.rep
 pub returns : goal.returns
 returns c = rw (← c.self.view_is) (accepted-step (the_view c.self.inside) _
     (Report c.args.rolltype (which c.args.half) c.args.ttl c.args.now.now) _
-    (cleared _ _ c.in_ok-take_report.ensures.reply)
-    (ap Actions c.new.ensures.items)
-    (record {
+    (cleared _ _ c.in_ok-take_report.ensures.reply) (ap Actions c.new.ensures.items) (record {
       name = refl;
-      rolls =
-          c.in_ok-take_report.ensures.ok;
+      rolls = c.in_ok-take_report.ensures.ok;
       lists = rw (c.report.ensures) (reported c.self.inside.keys c.report_all.new.self
           c.self.inside.lists.entries.items c.self.invariant c.args.rolltype (which c.args.half)
           c.args.now.now c.report_all.ensures).1;

@@ -8,10 +8,8 @@ use Rattle.dnssec_keyset.proofs.set.KeySet.roll_done.Goals as goal
 
 pub returns : goal.returns
 returns c = rw (← c.self.view_is) (accepted-step (the_view c.self.inside) _
-    (RollDone c.args.rolltype) _
-    (cleared _ _ c.in_ok-check_end.ensures)
-    (ap Actions c.new.ensures.items)
-    (record {
+    (RollDone c.args.rolltype) _ (cleared _ _ c.in_ok-check_end.ensures)
+    (ap Actions c.new.ensures.items) (record {
       name = refl;
       rolls = c.take_out.ensures;
       lists = refl;
