@@ -2,7 +2,7 @@
 --
 -- | Clause    | Law              | Lemma              | Files                                     |
 -- |-----------|------------------|--------------------|-------------------------------------------|
--- | `changes` | `ChangesAsAsked` | `changes-as-asked` | Actions, Changes; and `same-shown` of  |
+-- | `changes` | `ChangesAsAsked` | `changes-as-asked` | Actions, Changes; and `same-shown` of     |
 -- |           |                  |                    | `Positions`, beside this folder           |
 -- | `retires` | `RetiresAsAsked` | `retires-as-asked` | Actions, Reports                          |
 --

@@ -18,6 +18,7 @@ pub mod Shown
 pub mod Rolls
 pub mod History
 pub mod Places
+pub mod Same
 pub mod Returns
 pub mod Lists
 pub mod Invariant
@@ -31,7 +32,7 @@ pub mod Keeping
 pub mod Life
 pub mod BothSides
 pub mod FirstCalls
-pub mod FirstWaits
+pub mod Waits
 pub mod SideBySide
 pub mod Allowed
 pub mod Algorithms

@@ -1,14 +1,11 @@
 -- What an early end undoes: a clause of `run`, on every list of calls.
 --
--- | Clause   | Law            | Lemma           | Files                               |
--- |----------|----------------|-----------------|-------------------------------------|
--- | `undoes` | `UndoesStarts` | `undoes-starts` | Tables, Roles, Lists, Keys, Undoing |
+-- | Clause   | Law            | Lemma           | Files         |
+-- |----------|----------------|-----------------|---------------|
+-- | `undoes` | `UndoesStarts` | `undoes-starts` | Keys, Undoing |
 --
--- `Tables` has what a start and an early end do to the flags of one key; `Roles` says that both
--- roles of a CSK are old together at every position; `Lists` and `Keys` follow what a start listed,
--- and the keys that it listed, over one call; `Undoing` over a run.
-pub mod Tables
-pub mod Roles
-pub mod Lists
+-- `Keys` has what a start and an early end do to the flags of one key, says that both roles of a
+-- CSK are old together at every position, and follows what a start listed over one call; `Undoing`
+-- follows it over a run.
 pub mod Keys
 pub mod Undoing

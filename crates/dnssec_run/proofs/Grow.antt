@@ -36,8 +36,7 @@ module _ (name : List ℕ) where
   world_more cs es c e same =
       λ i. world_behind (suc (length cs))
       (world_front cs (c ∷ []) es (e ∷ []) (length cs) (omega arith) (omega arith) i)
-      (at_end cs c i)
-      ((subst (λ n. slice_get (es ++ e ∷ []) n ≡ Some e) same (at_end es e)) i)
+      (at_end cs c i) ((subst (λ n. slice_get (es ++ e ∷ []) n ≡ Some e) same (at_end es e)) i)
 
   pub run_none : IsRun name [] []
   run_none = record {

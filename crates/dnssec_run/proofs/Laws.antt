@@ -6,7 +6,6 @@ use Rattle.std.specs.Prelude.{Option, slice_get}
 use Rattle.dnssec_keyset.specs.KeySet.{KeySetParts, new_set}
 use Rattle.dnssec_zone.specs.Keys.{TagsApart}
 use Rattle.dnssec_keyset.specs.Laws.{RollsTogether}
-use Rattle.dnssec_keyset.specs.Step as keyset
 use Rattle.dnssec_keyset.proofs.Laws.{apart-new, apart-step, together-new, together-step}
 use Rattle.dnssec_run.specs.declared.call.Call.{Call}
 use Rattle.dnssec_run.specs.declared.record.Entry.{Entry}
@@ -35,20 +34,11 @@ kept-by name calls entries P start step (suc n) = at (slice_get calls n) (slice_
         (λ i. world_behind (suc n) (world_at name calls entries n) (ci i) (ei i))
         (step n c e ci ei before)
 
-module _ (P : KeySetParts → Type 0) (start : (name : List ℕ) → P (new_set name))
-    (step : (old new : KeySetParts) (call : keyset.Call) (reply : keyset.Reply) → P old
-    → keyset.Step old call reply new → P new)
-    (name : List ℕ) (calls : List Call) (entries : List Entry) (run : IsRun name calls entries)
-  where
-    pub kept-at : (n : ℕ) → P (world_at name calls entries n).set
-    kept-at = kept-by name calls entries P (start name) (λ n c e ci ei before.
-        step _ _ (call_of c) (reply_of e.reply) before (run.each n c e ci ei).step)
-
 -- the call after a position, with its entry
-pub made-at : (name : List ℕ) (calls : List Call) (entries : List Entry) → IsRun name calls entries
+pub made-at : {name : List ℕ} {calls : List Call} {entries : List Entry} → IsRun name calls entries
     → (n : ℕ) → suc n ≤ length entries → (c : Call) × (e : Entry) × (slice_get calls n ≡ Some c)
     × (slice_get entries n ≡ Some e)
-made-at name calls entries run n within = elim ((slice_get_cases entries n).1) [
+made-at {name} {calls} {entries} run n within = elim ((slice_get_cases entries n).1) [
   | inl e ↦ elim ((slice_get_cases calls n).1) [
     | inl c ↦ (c.0, e.0, c.2, e.2)
     | inr c ↦ absurd (omega (arith, c.0, run.count))
@@ -57,27 +47,27 @@ made-at name calls entries run n within = elim ((slice_get_cases entries n).1) [
 ]
 
 -- tags stay apart and rolls together
-pub stays-sound : (name : List ℕ) (calls : List Call) (entries : List Entry)
+pub stays-sound : {name : List ℕ} {calls : List Call} {entries : List Entry}
     → IsRun name calls entries → StaysSound name calls entries
-stays-sound name calls entries run n within = record {
-  tags = kept-at (λ (s : KeySetParts). TagsApart s.keys) apart-new
-      (λ old new call reply before h. apart-step old new call reply before h) name calls entries run
-      n;
-  rolls = kept-at (λ (s : KeySetParts). RollsTogether s.rolls) together-new
-      (λ old new call reply before h. together-step old new call reply before h) name calls entries
-      run n;
+stays-sound {name} {calls} {entries} run n within = record {
+  tags = kept-by name calls entries (λ (s : KeySetParts). TagsApart s.keys) (apart-new name)
+      (λ n c e ci ei before. apart-step _ _ (call_of c) (reply_of e.reply) before
+      (run.each n c e ci ei).step) n;
+  rolls = kept-by name calls entries (λ (s : KeySetParts). RollsTogether s.rolls)
+      (together-new name) (λ n c e ci ei before. together-step _ _ (call_of c)
+      (reply_of e.reply) before (run.each n c e ci ei).step) n;
 }
 
 -- sides stay apart
-pub sides-apart : (name : List ℕ) (calls : List Call) (entries : List Entry)
+pub sides-apart : {name : List ℕ} {calls : List Call} {entries : List Entry}
     → IsRun name calls entries → KeepsSidesApart name calls entries
-sides-apart name calls entries run n call entry at_call at_entry =
+sides-apart run n call entry at_call at_entry =
     leaves-others _ _ (call_of call) (reply_of entry.reply)
     (run.each n call entry at_call at_entry).step
 
 -- neighbours may be exchanged
-pub neighbours-exchange : (name : List ℕ) (calls : List Call) (entries : List Entry)
+pub neighbours-exchange : {name : List ℕ} {calls : List Call} {entries : List Entry}
     → IsRun name calls entries → NeighboursMayBeExchanged name calls entries
-neighbours-exchange name calls entries run n first second e f at_first at_e at_second at_f apart =
+neighbours-exchange run n first second e f at_first at_e at_second at_f apart =
     exchange _ _ _ (call_of first) (call_of second) (reply_of e.reply) (reply_of f.reply) apart
     (run.each n first e at_first at_e).step (run.each (suc n) second f at_second at_f).step

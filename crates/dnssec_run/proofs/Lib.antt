@@ -10,17 +10,19 @@
 -- | `Recorder::new`           | `agrees-new`, `published-new` | Next                         |
 -- | `Recorder::advance`, `ok` | `entry-of`, `world_more`      | Next, Grow                   |
 -- | `advance`, both           | `agrees-accepted`             | Next; the key set's After    |
--- | `read_sets`, `ok`         | `reads-all`                   | Renewed, Positions           |
+-- | `read_sets`, `ok`         | `reads-all`                   | Positions                    |
 -- | `advance`, `leaves`       | `leaves`                      | Asked                        |
 -- | `renew_key`, `read`       | `published-then`              | OneKey                       |
 -- | `starts_suffice`          | `starts-suffice`              | Starts                       |
 -- | `whole_runs_stay_safe`    | `chain-holds`, `each-holds`   | Chain                        |
 -- | the premise of plain lists| `plain-by-sets`               | Premise                      |
+-- | all laws of runs          | `came`, `goes`, `by-phase`    | Effects                      |
 -- | for callers of `Recorder` | `last-ds` and the like        | Recorded                     |
 pub mod Positions
 pub mod OneKey
 pub mod Next
 pub mod Grow
+pub mod Effects
 pub mod Laws
 pub mod Chain
 pub mod WholeRolls
@@ -29,4 +31,3 @@ pub mod EarlyEnds
 pub mod Premise
 pub mod Starts
 pub mod Recorded
-pub mod Renewed

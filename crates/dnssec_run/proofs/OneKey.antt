@@ -36,6 +36,21 @@ reference k = string_bytes k.reference
 abbrev pub ids : List PublishedKey → List Id
 ids keys = map id_of keys
 
+-- ---- orders and look-ups
+
+turned_eq : (o : Ordering) → is_eq (ordering_reverse o) ≡ is_eq o
+turned_eq o = grind arith
+
+some-too : (b : Bool) (n : ℕ) (o : Option ℕ) → is_some o ≡ true → is_some (cond b (Some n) o) ≡ true
+some-too b n o h = grind arith
+
+stays-there : (n : ℕ) (was : Option ℕ) → is_some was ≡ true → position_after (Some n) was ≡ was
+stays-there n was h = grind arith
+
+taken_at : (b : Bool) (was : Option ℕ) → cond (not b) was None
+    ≡ cond b (position_after None was) was
+taken_at b was = grind arith
+
 lower : (o : Ordering) → T (is_lt o) → o ≡ Less
 lower Less h = refl
 lower Equal h = absurd h
@@ -83,8 +98,7 @@ module _ (r : List ℕ) where
   abbrev pub IsGap : List PublishedKey → ℕ → Type 0
   IsGap keys i = IsPartitionPoint (λ y. stands y ≡ Less) (λ y. stands y ≡ Greater) keys i
 
-  later : (x : PublishedKey) (xs : List PublishedKey) (i : ℕ) → IsGap (x ∷ xs) (suc i)
-      → IsGap xs i
+  later : (x : PublishedKey) (xs : List PublishedKey) (i : ℕ) → IsGap (x ∷ xs) (suc i) → IsGap xs i
   later x xs i gap = (
     λ j d low lt. gap.0 (suc j) d (omega arith) (omega arith),
     λ j d low lt. gap.1 (suc j) d (omega arith) (omega arith),
@@ -142,8 +156,7 @@ module _ (r : List ℕ) where
   below_here x [] i fits h here = absurd (omega arith)
   below_here x (y ∷ ys) zero fits h here =
       subst (λ q. T (is_lt (order x q))) (is_r (reference y) (here y)) (first _ _ h)
-  below_here x (y ∷ ys) (suc i) fits h here =
-      below_here x ys i (omega arith) (second _ _ h) here
+  below_here x (y ∷ ys) (suc i) fits h here = below_here x ys i (omega arith) (second _ _ h) here
 
   removed : (keys : List PublishedKey) (i : ℕ) → i < length keys → IsHere keys i
       → IsAscending (ids keys) → ids (remove keys i) ≡ others (ids keys)
@@ -156,8 +169,7 @@ module _ (r : List ℕ) where
   removed (x ∷ xs) (suc i) fits here h =
       ap (λ (l : List Id). id_of x ∷ l) (removed xs i (omega arith) here (second _ _ h))
       ∙ sym (ap (λ o. cond (not (is_eq o)) (id_of x ∷ others (ids xs)) (others (ids xs)))
-      (turned (reference x) Less
-      (lower (order (reference x) r)
+      (turned (reference x) Less (lower (order (reference x) r)
       (below_here (reference x) xs i (omega arith) (first _ _ h) here))))
 
   present : (keys : List PublishedKey) (i : ℕ) → i < length keys → IsHere keys i
@@ -167,12 +179,7 @@ module _ (r : List ℕ) where
       ap (λ o. is_some (cond (is_eq o) (Some x.added) (position_in (ids xs) r)))
       (turned (reference x) Equal (here x))
   present (x ∷ xs) (suc i) fits here =
-      at (is_eq (order r (reference x))) (present xs i (omega arith) here)
-    where
-      at : (b : Bool) → is_some (position_in (ids xs) r) ≡ true
-          → is_some (cond b (Some x.added) (position_in (ids xs) r)) ≡ true
-      at true h = refl
-      at false h = h
+      some-too (is_eq (order r (reference x))) x.added _ (present xs i (omega arith) here)
 
   -- ---- the set then
 
@@ -181,24 +188,17 @@ module _ (r : List ℕ) where
   tests q = is_eq-slice_cmp r q
 
   turned_test : (q : List ℕ) → eq_by_cmp order q r ≡ bytes_eq r q
-  turned_test q = ap is_eq (nat_list_cmp_total.antisymm q r) ∙ at (order r q) ∙ tests q
-    where
-      at : (o : Ordering) → is_eq (ordering_reverse o) ≡ is_eq o
-      at Less = refl
-      at _ = refl
+  turned_test q = ap is_eq (nat_list_cmp_total.antisymm q r) ∙ turned_eq (order r q) ∙ tests q
 
   -- at r the set has this, elsewhere what it had
-  at_reference : (at : Option ℕ) (old : List Id) (q : List ℕ) (new : Option ℕ)
-      → new ≡ cond (bytes_eq r q) at (position_in old q)
-      → position_after at (position_in old r) ≡ at
-      → new ≡ cond (bytes_eq r q) (position_after at (position_in old q)) (position_in old q)
-  at_reference at old q new is same = is ∙ by (bytes_eq r q) refl
-    where
-      by : (b : Bool) → bytes_eq r q ≡ b → cond b at (position_in old q)
-          ≡ cond b (position_after at (position_in old q)) (position_in old q)
-      by true e = sym (ap (λ x. position_after at (position_in old x))
-          (sym ((bytes_decides r q).0 e)) ∙ same)
-      by false e = refl
+  at_reference : (at : Option ℕ) (old : List ℕ → Option ℕ) (q : List ℕ) (new : Option ℕ)
+      → new ≡ cond (bytes_eq r q) at (old q) → position_after at (old r) ≡ at
+      → new ≡ cond (bytes_eq r q) (position_after at (old q)) (old q)
+  at_reference at old q new is same = grind (arith, bytes_decides)
+
+  same-at : (at : Option ℕ) (old : List ℕ → Option ℕ) → position_after at (old r) ≡ old r
+      → (q : List ℕ) → old q ≡ cond (bytes_eq r q) (position_after at (old q)) (old q)
+  same-at at old same q = grind (arith, bytes_decides)
 
   pub puts-key : (old new : List PublishedKey) (i n : ℕ) (k : PublishedKey) → i ≤ length old
       → new ≡ insert old i k → id_of k ≡ (r, n)
@@ -211,9 +211,8 @@ module _ (r : List ℕ) where
       record {
         ascending = subst IsAscending (sym put_in)
             (is_sorted-put order nat_list_cmp_total r n (ids old) up);
-        found = λ q. at_reference (Some n) (ids old) q (position_in (ids new) q)
-            (ap (λ l. position_in l q) put_in
-            ∙ find-put order nat_list_cmp_total q r n (ids old)
+        found = λ q. at_reference (Some n) (position_in (ids old)) q (position_in (ids new) q)
+            (ap (λ l. position_in l q) put_in ∙ find-put order nat_list_cmp_total q r n (ids old)
             ∙ ap (λ b. cond b (Some n) (position_in (ids old) q)) (turned_test q))
             (ap (position_after (Some n)) (absent old i gap));
       }
@@ -224,70 +223,37 @@ module _ (r : List ℕ) where
       let gone : ids new ≡ others (ids old) = ap ids is ∙ removed old i fits here up in
       record {
         ascending = subst IsAscending (sym gone) (is_sorted-where_key order other (ids old) up);
-        found = λ q. ap (λ l. position_in l q) gone
-            ∙ find-where_key order other q (λ x e. ap other
+        found = λ q. ap (λ l. position_in l q) gone ∙ find-where_key order other q (λ x e. ap other
             (sym (slice_cmp-IsAntisymmetric nat_cmp-IsAntisymmetric q x e))) (ids old)
             ∙ ap (λ b. cond (not b) (position_in (ids old) q) None) (tests q)
-            ∙ at (bytes_eq r q) (position_in (ids old) q);
+            ∙ taken_at (bytes_eq r q) (position_in (ids old) q);
       }
-    where
-      at : (b : Bool) (was : Option ℕ) → cond (not b) was None
-          ≡ cond b (position_after None was) was
-      at true was = refl
-      at false was = refl
-
-  same-at : (at : Option ℕ) (old : List Id) → position_after at (position_in old r)
-      ≡ position_in old r → (q : List ℕ) → position_in old q
-      ≡ cond (bytes_eq r q) (position_after at (position_in old q)) (position_in old q)
-  same-at at old same q = by (bytes_eq r q) refl
-    where
-      by : (b : Bool) → bytes_eq r q ≡ b → position_in old q
-          ≡ cond b (position_after at (position_in old q)) (position_in old q)
-      by true e = sym (subst (λ x. position_after at (position_in old x) ≡ position_in old x)
-          ((bytes_decides r q).0 e) same)
-      by false e = refl
 
   pub leaves-key : (keys : List PublishedKey) (i n : ℕ) → i < length keys → IsHere keys i
       → IsAscending (ids keys) → SetsPlace r (Some n) (ids keys) (ids keys)
   leaves-key keys i n fits here up = record {
     ascending = up;
-    found = same-at (Some n) (ids keys) (by (position_in (ids keys) r) (present keys i fits here));
+    found = same-at (Some n) (position_in (ids keys)) (stays-there n _ (present keys i fits here));
   }
-    where
-      by : (was : Option ℕ) → is_some was ≡ true → position_after (Some n) was ≡ was
-      by None h = cc
-      by (Some m) h = refl
 
   pub leaves-gap : (keys : List PublishedKey) (i : ℕ)
       → (IsNonDecreasingBy (λ y. ordering_index (stands y)) keys → IsGap keys i)
       → IsAscending (ids keys) → SetsPlace r None (ids keys) (ids keys)
   leaves-gap keys i split up = record {
     ascending = up;
-    found = same-at None (ids keys) (sym (absent keys i (split (rising keys up))));
+    found = same-at None (position_in (ids keys)) (sym (absent keys i (split (rising keys up))));
   }
 
 -- ---- the set that is published
 
--- a key that is shown has the position of its add, before the call and after it
-kept_place : (passes : KeyType → Bool) (o was : Option KeyParts) (n : ℕ)
-    → position_after (position_shown passes o (option_map (λ (k : KeyParts). n) o))
-    (position_shown passes was (Some n)) ≡ position_shown passes o (Some n)
-kept_place passes None was n = refl
-kept_place passes (Some k) was n = by (passes k.keytype)
-  where
-    there : (was : Option KeyParts) → position_after (Some n) (position_shown passes was (Some n))
-        ≡ Some n
-    there None = refl
-    there (Some k) = at (passes k.keytype)
-      where
-        at : (b : Bool) → position_after (Some n) (cond b (Some n) None) ≡ Some n
-        at true = refl
-        at false = refl
-
-    by : (b : Bool) → position_after (cond b (Some n) None) (position_shown passes was (Some n))
-        ≡ cond b (Some n) None
-    by true = there was
-    by false = refl
+-- at r the set has what is shown there, elsewhere what it had
+published-at : (passes : KeyType → Bool) (r q : List ℕ) (here : List ℕ → Option ℕ)
+    (before : Option ℕ) (o was : Option KeyParts) (n : ℕ)
+    → before ≡ position_shown passes was (Some n)
+    → here q ≡ position_shown passes o (option_map (λ (k : KeyParts). n) o)
+    → (bytes_eq r q ≡ false → o ≡ was)
+    → cond (bytes_eq r q) (position_after (here r) before) before ≡ position_shown passes o (Some n)
+published-at passes r q here before o was n was_so now others = grind (arith, bytes_decides)
 
 pub published-then : (passes : KeyType → Bool) (v w : World) (r : List ℕ) (set : KeySetParts)
     (at : List ℕ → Option ℕ) (old new : List Id) → old ≡ keys_where passes v
@@ -295,7 +261,9 @@ pub published-then : (passes : KeyType → Bool) (v w : World) (r : List ℕ) (s
     → (IsAscending old → SetsPlace r (position_shown passes (get set.keys r) (at r)) old new)
     → new ≡ keys_where passes w
 published-then passes v w r set at old new was only agrees sets =
-    shown-by passes w new then.ascending (λ q. then.found q ∙ by q (bytes_eq r q) refl)
+    shown-by passes w new then.ascending (λ q. then.found q ∙ published-at passes r q
+    (λ q. position_shown passes (get set.keys q) (at q)) (position_in old q) (get w.set.keys q)
+    (get v.set.keys q) (w.added q) (before q) (here q) (only.others q))
   where
     then : SetsPlace r (position_shown passes (get set.keys r) (at r)) old new
     then = sets (subst IsAscending (sym was) (shown-ascending passes v))
@@ -311,21 +279,3 @@ published-then passes v w r set at old new was only agrees sets =
     here q = ap (position_shown passes (get set.keys q)) (agrees.positions q)
         ∙ ap (λ (s : KeySetParts). position_shown passes (get s.keys q)
         (option_map (λ (k : KeyParts). w.added q) (get w.set.keys q))) agrees.same
-
-    by : (q : List ℕ) (b : Bool) → bytes_eq r q ≡ b
-        → cond (bytes_eq r q) (position_after (position_shown passes (get set.keys r) (at r))
-        (position_in old q)) (position_in old q)
-        ≡ position_shown passes (get w.set.keys q) (Some (w.added q))
-    by q true e =
-        ap (λ b. cond b (position_after (position_shown passes (get set.keys r) (at r))
-        (position_in old q)) (position_in old q)) e
-        ∙ ap (λ x. position_after (position_shown passes (get set.keys x) (at x))
-        (position_in old q)) ((bytes_decides r q).0 e)
-        ∙ ap (λ p. position_after p (position_in old q)) (here q)
-        ∙ ap (position_after (position_shown passes (get w.set.keys q)
-        (option_map (λ (k : KeyParts). w.added q) (get w.set.keys q)))) (before q)
-        ∙ kept_place passes (get w.set.keys q) (get v.set.keys q) (w.added q)
-    by q false e =
-        ap (λ b. cond b (position_after (position_shown passes (get set.keys r) (at r))
-        (position_in old q)) (position_in old q)) e
-        ∙ before q ∙ ap (λ o. position_shown passes o (Some (w.added q))) (sym (only.others q e))

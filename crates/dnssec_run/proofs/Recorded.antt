@@ -7,7 +7,8 @@ use Rattle.dnssec_run.specs.Published.{IsPublished, id_of}
 use Rattle.dnssec_run.specs.Record.{world_at}
 use Rattle.dnssec_run.specs.Recorder.{Records}
 use Rattle.dnssec_run.specs.Safe.{position_at}
-use Rattle.dnssec_run.proofs.Asked.Changes.{shows-at}
+use Rattle.dnssec_run.specs.declared.sets.Shown.TheVariants as lists
+use Rattle.dnssec_run.proofs.Asked.Changes.{list-is}
 
 module _ (name : List ℕ) (calls : List Call) (entries : List Entry) (r : Recorder)
     (so : Records name calls entries r) where
@@ -16,19 +17,18 @@ module _ (name : List ℕ) (calls : List Call) (entries : List Entry) (r : Recor
       so.published
 
   pub last-ds : (position_at entries (length entries)).ds ≡ map id_of r.published.ds.items
-  last-ds = (shows-at name calls entries so.run (length entries) (omega arith)).ds ∙ sym here.ds
+  last-ds = list-is so.run lists.Ds (length entries) (omega arith) ∙ sym here.ds
 
   pub last-dnskey : (position_at entries (length entries)).dnskey
       ≡ map id_of r.published.dnskey.items
-  last-dnskey = (shows-at name calls entries so.run (length entries) (omega arith)).dnskey
-      ∙ sym here.dnskey
+  last-dnskey = list-is so.run lists.Dnskey (length entries) (omega arith) ∙ sym here.dnskey
 
   pub last-signers : (position_at entries (length entries)).signers
       ≡ map id_of r.published.dnskey_signers.items
-  last-signers = (shows-at name calls entries so.run (length entries) (omega arith)).signers
+  last-signers = list-is so.run lists.DnskeySigners (length entries) (omega arith)
       ∙ sym here.dnskey_signers
 
   pub last-zone : (position_at entries (length entries)).zone
       ≡ map id_of r.published.zone_signers.items
-  last-zone = (shows-at name calls entries so.run (length entries) (omega arith)).zone
+  last-zone = list-is so.run lists.ZoneSigners (length entries) (omega arith)
       ∙ sym here.zone_signers

@@ -2,32 +2,22 @@
 --
 -- | Clause     | Law                  | Lemma             | Files                               |
 -- |------------|----------------------|-------------------|-------------------------------------|
--- | `stamps`   | `NeverMissesStamp`   | `never-misses`    | Keys, Phases, Ended, OrderedKeys,   |
--- |            |                      |                   | Order, Positions                    |
+-- | `stamps`   | `NeverMissesStamp`   | `never-misses`    | Keys, OrderedKeys, Order            |
 -- | `settled`  | `SettlesBetweenRolls`| `settles-between` | the same                            |
--- | `waits`    | `WaitsExactly`       | `waits-exactly`   | these; Armed, Clearances, Reports,  |
--- |            |                      |                   | Moments, Steps, Waits               |
+-- | `waits`    | `WaitsExactly`       | `waits-exactly`   | these; Armed, Reports, Waits        |
 -- | `goes_on`  | `GoesOn`             | `goes-on`         | Completion                          |
--- | `finishes` | `RollsFinish`        | `rolls-finish`    | the first six; Listed, Going,       |
--- |            |                      |                   | Completion                          |
+-- | `finishes` | `RollsFinish`        | `rolls-finish`    | the first three; Going, Completion  |
 --
 -- `Keys` has what the flags and stamps of one key may be in each phase, as one test and its tables;
--- `Ended` what they are after an early end, by what the start has listed; `Order` says both of a
--- whole key set, side by side; from there each law takes what it needs.
--- `Replies` says what an accepted call did.
+-- `OrderedKeys` also what they are after an early end, by what the start has listed; `Order` says
+-- both of a whole key set, side by side; from there each law takes what it needs.
+-- `Replies` says what an accepted call did, and which rolls are in progress beside one another.
 pub mod Replies
 pub mod Keys
-pub mod Phases
-pub mod Ended
 pub mod OrderedKeys
 pub mod Order
-pub mod Positions
 pub mod Armed
-pub mod Clearances
 pub mod Reports
-pub mod Moments
-pub mod Steps
 pub mod Waits
-pub mod Listed
 pub mod Going
 pub mod Completion

@@ -129,9 +129,9 @@ WaitsExactly name calls entries = SetsOnlyOthersPresent calls entries → NeverF
     (n : ℕ) (roll : RollType) (half : Half) (now ttl : ℕ)
     (wait : IsMade calls entries n (keyset.Wait roll half now)) →
     phase_of (world_at name calls entries n).set.rolls roll ≡ Some (cache_expire half ttl) →
-    (told : LastReport entries roll half n) × (told.ttl ≡ ttl) ×
+    (last : LastReport entries roll half n) × (last.ttl ≡ ttl) ×
     (from : LastReport entries roll (counts_from roll half) n) ×
-    WaitsUntil (from.moment + told.ttl * 1_000_000_000) now (reply_of wait.entry.reply)
+    WaitsUntil (from.moment + last.ttl * 1_000_000_000) now (reply_of wait.entry.reply)
     (keyset.accepted_reply (keyset.Wait roll half now))
 
 -- ---- whole rolls

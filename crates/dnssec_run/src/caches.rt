@@ -17,9 +17,10 @@ pub enum SetKind {
     ZoneSigners,
 }
 
-/// Whether a report of the roll retires sets of this kind, as the actions due ask for it: once the report's TTL is over, it
-/// retires those from before the roll's last start or first wait (RFC 6781, section 4.1; RFC 7583,
-/// section 3). The second report of a roll retires other kinds than the first.
+/// Whether a report of the roll retires sets of this kind: those that the actions due ask to
+/// report. Once the report's TTL is over, it retires those from before the roll's last start or
+/// first wait (RFC 6781, section 4.1; RFC 7583, section 3). The second report of a roll retires
+/// other kinds than the first.
 ///
 /// ```rust
 /// // After the DS report of a KSK roll and its TTL no cache holds the DS set of before the wait.
@@ -35,7 +36,7 @@ pub fn retires(roll: RollType, second: bool, kind: SetKind) -> bool
     }
 }
 
-/// Whether one of these actions asks to report the sets of this kind.
+/// Whether some action asks to report the sets of this kind.
 fn ask_to_report(actions: &[Action], kind: SetKind) -> bool
     ensures { result ≡ list_any (asks_to_report (kind_of kind)) actions.now }
 {

@@ -73,6 +73,8 @@ fn clone_added(alloc: Global, call: &Call<'_>) -> Result<Option<String>, Error>
 
 /// Makes the call that stands at a position, and notes its key if it adds or deletes one. Says what
 /// the call came to, and which sets it may have changed.
+// Inline, so that no call moves its outcome.
+#[inline(always)]
 fn advance(
     alloc: Global,
     keyset: &mut KeySet,
@@ -134,7 +136,7 @@ fn forget(order: &mut WalkOrder, call: &Call<'_>) {
 /// let mut recorder = Recorder::new(alloc, name);
 /// for call in calls {
 ///     let outcome = recorder.advance(alloc, call)?;
-///     judge = judge.take_next(alloc, outcome.mark, outcome.moment, recorder.news(&outcome))?;
+///     judge.note(alloc, outcome.mark, outcome.moment, recorder.news(&outcome))?;
 /// }
 /// ```
 #[derive(Drop)]

@@ -17,12 +17,8 @@ use dnssec_keyset::RollType;
 /// ```
 #[derive(Clone, Copy, Debug)]
 pub struct Steps {
-    ksk: Option<usize>,
-    ksk_double_ds: Option<usize>,
-    zsk: Option<usize>,
-    zsk_double_signature: Option<usize>,
-    csk: Option<usize>,
-    algorithm: Option<usize>,
+    /// One for each roll, in their order in `RollType`.
+    by_roll: [Option<usize>; 6],
 }
 
 impl Steps {
@@ -30,14 +26,7 @@ impl Steps {
     pub fn new() -> Self
         ensures { (roll : RollType) → step_of result roll ≡ None }
     {
-        Steps {
-            ksk: None,
-            ksk_double_ds: None,
-            zsk: None,
-            zsk_double_signature: None,
-            csk: None,
-            algorithm: None,
-        }
+        Steps { by_roll: [None; 6] }
     }
 
     /// The last steps of a record.
@@ -55,14 +44,7 @@ impl Steps {
     pub fn of(self, roll: RollType) -> Option<usize>
         ensures { result ≡ step_of self roll }
     {
-        match roll {
-            RollType::KskRoll => self.ksk,
-            RollType::KskDoubleDsRoll => self.ksk_double_ds,
-            RollType::ZskRoll => self.zsk,
-            RollType::ZskDoubleSignatureRoll => self.zsk_double_signature,
-            RollType::CskRoll => self.csk,
-            RollType::AlgorithmRoll => self.algorithm,
-        }
+        self.by_roll[roll as usize]
     }
 
     /// The last steps after a call with this mark at the position.
@@ -80,14 +62,7 @@ impl Steps {
         ensures { (other : RollType) → step_of result other
             ≡ (if same_roll other roll then Some at else step_of self other) }
     {
-        match roll {
-            RollType::KskRoll => self.ksk = Some(at),
-            RollType::KskDoubleDsRoll => self.ksk_double_ds = Some(at),
-            RollType::ZskRoll => self.zsk = Some(at),
-            RollType::ZskDoubleSignatureRoll => self.zsk_double_signature = Some(at),
-            RollType::CskRoll => self.csk = Some(at),
-            RollType::AlgorithmRoll => self.algorithm = Some(at),
-        }
+        self.by_roll[roll as usize] = Some(at);
         self
     }
 }

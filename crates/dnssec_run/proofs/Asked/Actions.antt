@@ -1,23 +1,33 @@
 -- What each column asks for, and what it changes, as finite facts: for `changes` and `retires`.
-use Rattle.std.proofs.Common.{[], ◌≡◌, zero, suc, Bool, true, false, ◌&&◌, ◌||◌, List, ◌∷◌, refl}
-use Rattle.std.proofs.Common.{sym, ◌∙◌, ap, arith}
+-- Look-ups that show the same in the sets of a kind, and settings that a kind doesn't show.
+use Rattle.std.proofs.Common.{◌≡◌, Bool, true, false, ◌&&◌, ◌||◌, List, refl, ap, arith, get_or}
+use Rattle.std.proofs.Common.{subst, not, sym, Option, None, Some}
 use Rattle.std.specs.List.{Contains, list_any}
-use Rattle.std.proofs.lemmas.Bool.{true≢false, and_parts, or_right}
+use Rattle.std.proofs.lemmas.List.Folds.{Any-from_list_any, list_any-from_Any}
 use Rattle.dnssec_key.specs.declared.roll.Action.{Action}
-use Rattle.dnssec_key.specs.declared.roll.Action.TheVariants as action
 use Rattle.dnssec_key.specs.declared.roll.RollType.{RollType}
 use Rattle.dnssec_key.specs.declared.kind.KeyType.{KeyType}
 use Rattle.dnssec_key.specs.RollTable.{column, half_of, behind, actions_of, Half}
-use Rattle.dnssec_run.specs.Asked.{update_of, report_of, updates, asks_to_report}
+use Rattle.dnssec_run.specs.Asked.{update_of, report_of, updates, asks_to_report, flag_shown}
+use Rattle.dnssec_run.specs.Asked.{sets_flag, sets_shown}
 use Rattle.dnssec_run.specs.WholeRolls.{propagation, is_second}
-use Rattle.dnssec_run.specs.Published.{in_ds, in_dnskey, signs_dnskey, signs_zone}
+use Rattle.dnssec_run.specs.declared.sets.Shown.{Shown}
+use Rattle.dnssec_run.specs.declared.sets.Shown.TheVariants as lists
+use Rattle.dnssec_run.specs.Recorder.{shows}
 use Rattle.dnssec_run.specs.Safe.{SetKind, Ds, Dnskey, ZoneSigners, retires}
 use Rattle.dnssec_zone.proofs.Flags.{started, ended}
-use Rattle.dnssec_zone.proofs.Tests.{both, both-at, each_key, each_key-at, each_roll-at, ◌⇒◌, mp}
-use Rattle.dnssec_zone.proofs.Tests.{alike, alike-same, and-both}
+use Rattle.dnssec_zone.proofs.Tests.{each_in_roll, each_in_roll-at, each_key, each_key-at}
+use Rattle.dnssec_zone.proofs.Tests.{each_listed, each_listed-at, each_roll, each_roll-at, ◌⇒◌, mp}
+use Rattle.dnssec_zone.proofs.Tests.{alike, alike-same}
 use Rattle.dnssec_key.specs.State.{is_stale, is_future}
-use Rattle.dnssec_key.specs.Key.{all_states}
+use Rattle.dnssec_key.specs.Key.{all_states, KeyParts}
 use Rattle.dnssec_run.proofs.Chain.Tables.{each_half, each_half-at}
+use Rattle.std.proofs.lemmas.Bool.{true≢false}
+use Rattle.std.specs.Prelude.{if◌then◌else◌}
+use Rattle.std.specs.Option.{option_map, option_map_or}
+use Rattle.dnssec_key.specs.Setters.{Setting, Decoupled, Present, Signer, AtParent, Stale}
+use Rattle.dnssec_key.specs.Setters.{is_flag_setting, set_by}
+use Rattle.dnssec_keyset.specs.Step as keyset
 
 -- ---- an action in a list
 
@@ -25,41 +35,23 @@ use Rattle.dnssec_run.proofs.Chain.Tables.{each_half, each_half-at}
 module _ (p : Action → Bool) (x : Action) (one : (a : Action) → p a ≡ true → a ≡ x)
     (passes : p x ≡ true) where
   pub found : (list : List Action) → list_any p list ≡ true → Contains list x
-  found [] e = absurd (true≢false (sym e))
-  found (a ∷ list) e = by (found list) (p a) refl
-    where
-      by : (list_any p list ≡ true → Contains list x) → (b : Bool) → p a ≡ b
-          → Contains (a ∷ list) x
-      by rest true t = (0, omega arith, one a t)
-      by rest false t = let c = rest (sym (ap (λ b. b || list_any p list) t) ∙ e) in
-          (suc c.0, omega (arith, c.1), c.2)
+  found list e = let m = Any-from_list_any p list e in
+      (m.0, m.2, subst (λ y. get_or list m.0 y ≡ y) (one m.1 m.4) m.3)
 
   pub finds : (list : List Action) → Contains list x → list_any p list ≡ true
-  finds [] c = absurd (omega (arith, c.1))
-  finds (a ∷ list) (zero, lt, e) = ap (λ b. b || list_any p list) (ap p e ∙ passes)
-  finds (a ∷ list) (suc i, lt, e) =
-      or_right (p a) (list_any p list) (finds list (i, omega (arith, lt), e))
+  finds list c = list_any-from_Any p list (c.0, x, c.1, c.2, passes)
 
 updates-one : (kind : SetKind) (a : Action) → updates kind a ≡ true → a ≡ update_of kind
-updates-one Ds action.UpdateDsRrset e = refl
-updates-one Dnskey action.UpdateDnskeyRrset e = refl
-updates-one ZoneSigners action.UpdateRrsig e = refl
-updates-one _ _ e = absurd (true≢false (sym e))
+updates-one kind a e = grind arith
 
-reports-one : (kind : SetKind) (a : Action) → asks_to_report kind a ≡ true
-    → a ≡ report_of kind
-reports-one Ds action.ReportDsPropagated e = refl
-reports-one Dnskey action.ReportDnskeyPropagated e = refl
-reports-one ZoneSigners action.ReportRrsigPropagated e = refl
-reports-one _ _ e = absurd (true≢false (sym e))
+reports-one : (kind : SetKind) (a : Action) → asks_to_report kind a ≡ true → a ≡ report_of kind
+reports-one kind a e = grind arith
 
 reports-itself : (kind : SetKind) → asks_to_report kind (report_of kind) ≡ true
-reports-itself Ds = refl
-reports-itself _ = refl
+reports-itself kind = grind arith
 
 updates-itself : (kind : SetKind) → updates kind (update_of kind) ≡ true
-updates-itself Ds = refl
-updates-itself _ = refl
+updates-itself kind = grind arith
 
 pub asks_update : (kind : SetKind) (list : List Action) → list_any (updates kind) list ≡ true
     → Contains list (update_of kind)
@@ -77,20 +69,30 @@ report_asked kind =
 
 -- ---- tests of all kinds of sets
 
-abbrev each_kind : (SetKind → Bool) → Bool
+abbrev pub each_kind : (SetKind → Bool) → Bool
 each_kind p = p Ds && p Dnskey && p ZoneSigners
 
-each_kind-at : (p : SetKind → Bool) → each_kind p ≡ true → (kind : SetKind) → p kind ≡ true
-each_kind-at p e Ds =
-    (and_parts (p Ds) (p Dnskey) (and_parts (p Ds && p Dnskey) (p ZoneSigners) e).0).0
-each_kind-at p e Dnskey =
-    (and_parts (p Ds) (p Dnskey) (and_parts (p Ds && p Dnskey) (p ZoneSigners) e).0).1
-each_kind-at p e ZoneSigners = (and_parts (p Ds && p Dnskey) (p ZoneSigners) e).1
+pub each_kind-at : (p : SetKind → Bool) → each_kind p ≡ true → (kind : SetKind) → p kind ≡ true
+each_kind-at p e kind = grind arith
+
+-- the lists that show a kind: DNSKEY sets and their signers are one
+abbrev pub has_list : SetKind → Shown → Bool
+has_list Ds lists.Ds = true
+has_list Dnskey lists.Dnskey = true
+has_list Dnskey lists.DnskeySigners = true
+has_list ZoneSigners lists.ZoneSigners = true
+has_list _ _ = false
+
+abbrev each_list : (Shown → Bool) → Bool
+each_list p = p lists.Ds && p lists.Dnskey && p lists.DnskeySigners && p lists.ZoneSigners
+
+each_list-at : (p : Shown → Bool) → each_list p ≡ true → (s : Shown) → p s ≡ true
+each_list-at p e s = grind arith
 
 -- ---- a report retires what its phase asks to report
 
-retires_table : RollType → Half → SetKind → Bool
-retires_table r half kind =
+retires_table : SetKind → Half → RollType → Bool
+retires_table kind half r =
     alike (list_any (asks_to_report kind) (actions_of r (propagation half)))
     (retires r (is_second half) kind)
 
@@ -98,74 +100,63 @@ pub retires-asked : (r : RollType) (half : Half) (kind : SetKind)
     → list_any (asks_to_report kind) (actions_of r (propagation half))
     ≡ retires r (is_second half) kind
 unfolding retires_table column
-retires-asked r half kind = alike-same _ _
-    (each_kind-at (retires_table r half)
-    (each_half-at (λ half. each_kind (retires_table r half))
-    (each_roll-at (λ r. each_half (λ half. each_kind (retires_table r half))) refl r) half)
-    kind)
+retires-asked r half kind = alike-same _ _ (each_roll-at (retires_table kind half)
+    (each_half-at (λ half. each_roll (retires_table kind half))
+    (each_kind-at (λ kind. each_half (λ half. each_roll (retires_table kind half))) refl kind)
+    half) r)
 
 -- ---- what a start and a wait change is what they ask for
 
-itself : (b : Bool) → alike b b ≡ true
-itself true = refl
-itself false = refl
-
--- the sets of a kind have both keys, or neither
+-- the lists of a kind have both keys, or neither
 abbrev pub same_in : SetKind → KeyType → KeyType → Bool
-same_in Ds j k = alike (in_ds j) (in_ds k)
-same_in Dnskey j k = alike (in_dnskey j) (in_dnskey k) && alike (signs_dnskey j) (signs_dnskey k)
-same_in ZoneSigners j k = alike (signs_zone j) (signs_zone k)
+same_in kind j k = each_list (λ s. has_list kind s ⇒ alike (shows s j) (shows s k))
 
--- the sets of a kind don't have the key
+pub same-in : (kind : SetKind) (j k : KeyType) → same_in kind j k ≡ true → (s : Shown)
+    → has_list kind s ≡ true → shows s j ≡ shows s k
+same-in kind j k e s has = alike-same _ _
+    (mp _ _ (each_list-at (λ s. has_list kind s ⇒ alike (shows s j) (shows s k)) e s) has)
+
+-- they don't have the key
 abbrev pub none_in : SetKind → KeyType → Bool
-none_in Ds k = alike (in_ds k) false
-none_in Dnskey k = alike (in_dnskey k) false && alike (signs_dnskey k) false
-none_in ZoneSigners k = alike (signs_zone k) false
+none_in kind k = each_list (λ s. has_list kind s ⇒ alike (shows s k) false)
 
-start_table : RollType → Bool → Bool → SetKind → KeyType → Bool
-start_table r o i kind k =
+pub none-in : (kind : SetKind) (k : KeyType) → none_in kind k ≡ true → (s : Shown)
+    → has_list kind s ≡ true → shows s k ≡ false
+none-in kind k e s has = alike-same _ _
+    (mp _ _ (each_list-at (λ s. has_list kind s ⇒ alike (shows s k) false) e s) has)
+
+start_table : SetKind → RollType → Bool → Bool → KeyType → Bool
+start_table kind r o i k =
     list_any (updates kind) (column r).asks || same_in kind (started r o i k) k
 
 pub start-asks : (r : RollType) (o i : Bool) (kind : SetKind) (k : KeyType)
     → (list_any (updates kind) (column r).asks || same_in kind (started r o i k) k) ≡ true
 unfolding start_table column
-start-asks r o i kind = each_key-at (start_table r o i kind) (λ a b.
-    each_kind-at (λ kind. each_key a b (start_table r o i kind))
-    (both-at (λ i. each_kind (λ kind. each_key a b (start_table r o i kind)))
-    (both-at (λ o. both (λ i. each_kind (λ kind. each_key a b (start_table r o i kind))))
-    (each_roll-at
-    (λ r. both (λ o. both (λ i. each_kind (λ kind. each_key a b (start_table r o i kind)))))
-    refl r) o) i) kind)
+start-asks r o i kind k = each_listed-at (start_table kind)
+    (λ a b. each_kind-at (λ kind. each_listed a b (start_table kind)) refl kind) r o i k
 
-early_end_table : RollType → Bool → Bool → SetKind → KeyType → Bool
-early_end_table r o i kind k =
+early_end_table : SetKind → RollType → Bool → Bool → KeyType → Bool
+early_end_table kind r o i k =
     list_any (updates kind) (column r).asks_early || same_in kind (ended r o i k) k
 
 pub early-end-asks : (r : RollType) (o i : Bool) (kind : SetKind) (k : KeyType)
     → (list_any (updates kind) (column r).asks_early || same_in kind (ended r o i k) k) ≡ true
 unfolding early_end_table column
-early-end-asks r o i kind = each_key-at (early_end_table r o i kind) (λ a b.
-    each_kind-at (λ kind. each_key a b (early_end_table r o i kind))
-    (both-at (λ i. each_kind (λ kind. each_key a b (early_end_table r o i kind)))
-    (both-at (λ o. both (λ i. each_kind (λ kind. each_key a b (early_end_table r o i kind))))
-    (each_roll-at
-    (λ r. both (λ o. both (λ i. each_kind (λ kind. each_key a b (early_end_table r o i kind)))))
-    refl r) o) i) kind)
+early-end-asks r o i kind k = each_listed-at (early_end_table kind)
+    (λ a b. each_kind-at (λ kind. each_listed a b (early_end_table kind)) refl kind) r o i k
 
-wait_table : RollType → Half → SetKind → KeyType → Bool
-wait_table r half kind k = list_any (updates kind) (actions_of r (behind half))
+wait_table : SetKind → Half → RollType → KeyType → Bool
+wait_table kind half r k = list_any (updates kind) (actions_of r (behind half))
     || same_in kind ((half_of r half).moves k) k
 
 pub wait-asks : (r : RollType) (half : Half) (kind : SetKind) (k : KeyType)
     → (list_any (updates kind) (actions_of r (behind half))
     || same_in kind ((half_of r half).moves k) k) ≡ true
 unfolding wait_table column
-wait-asks r half kind = each_key-at (wait_table r half kind) (λ a b.
-    each_kind-at (λ kind. each_key a b (wait_table r half kind))
-    (each_half-at (λ half. each_kind (λ kind. each_key a b (wait_table r half kind)))
-    (each_roll-at
-    (λ r. each_half (λ half. each_kind (λ kind. each_key a b (wait_table r half kind))))
-    refl r) half) kind)
+wait-asks r half kind k = each_in_roll-at (wait_table kind half) (λ a b.
+    each_half-at (λ half. each_in_roll a b (wait_table kind half))
+    (each_kind-at (λ kind. each_half (λ half. each_in_roll a b (wait_table kind half))) refl kind)
+    half) r k
 
 -- ---- new keys and stale keys are in no set
 
@@ -173,8 +164,7 @@ idle_table : SetKind → KeyType → Bool
 idle_table kind k = (all_states is_future k || all_states is_stale k) ⇒ none_in kind k
 
 pub idle-unseen : (kind : SetKind) (k : KeyType)
-    → (all_states is_future k || all_states is_stale k) ≡ true
-    → none_in kind k ≡ true
+    → (all_states is_future k || all_states is_stale k) ≡ true → none_in kind k ≡ true
 unfolding idle_table column
 idle-unseen kind k e =
     mp _ _ (each_key-at (idle_table kind)
@@ -182,6 +172,60 @@ idle-unseen kind k e =
 
 -- a key is in the same sets as itself
 pub same-itself : (kind : SetKind) (k : KeyType) → same_in kind k k ≡ true
-same-itself Ds k = itself (in_ds k)
-same-itself Dnskey k = and-both _ _ (itself (in_dnskey k)) (itself (signs_dnskey k))
-same-itself ZoneSigners k = itself (signs_zone k)
+same-itself kind = each_key-at (λ k. same_in kind k k)
+    (λ a b. each_kind-at (λ kind. each_key a b (λ k. same_in kind k k)) refl kind)
+
+-- ---- look-ups that show the same
+
+abbrev pub passes : (KeyType → Bool) → Option KeyParts → Bool
+passes p o = option_map_or (λ (k : KeyParts). p k.keytype) o false
+
+-- in the sets of a kind there are both keys, or neither
+abbrev pub Agree : SetKind → Option KeyParts → Option KeyParts → Type 0
+Agree kind o u = (s : Shown) → has_list kind s ≡ true → passes (shows s) o ≡ passes (shows s) u
+
+pub agree-gone : (kind : SetKind) (k : KeyParts) → none_in kind k.keytype ≡ true
+    → Agree kind None (Some k)
+agree-gone kind k e s has = sym (none-in kind k.keytype e s has)
+
+pub agree-new : (kind : SetKind) (k : KeyParts) → none_in kind k.keytype ≡ true
+    → Agree kind (Some k) None
+agree-new kind k e = none-in kind k.keytype e
+
+pub agree-mapped : (kind : SetKind) (f : KeyParts → KeyParts) (o : Option KeyParts)
+    → ((k : KeyParts) → same_in kind (f k).keytype k.keytype ≡ true) → Agree kind (option_map f o) o
+agree-mapped kind f None e s has = refl
+agree-mapped kind f (Some k) e s has = same-in kind (f k).keytype k.keytype (e k) s has
+
+-- ---- one call
+
+-- a setter of a flag that the kind doesn't show
+set_table : Setting → SetKind → KeyParts → KeyType → Bool
+set_table s kind k t = not (flag_shown s kind)
+    ⇒ same_in kind (set_by s (record k { keytype = t })).keytype t
+
+set_all : (s : Setting) (k : KeyParts) (a b : Bool)
+    → each_kind (λ kind. each_key a b (set_table s kind k)) ≡ true
+unfolding set_table
+set_all (Decoupled value) k a b = refl
+set_all _ k a b = refl
+
+pub set-stays : (kind : SetKind) (s : Setting) → flag_shown s kind ≡ false → (b : Bool)
+    (k : KeyParts) → same_in kind (if b then set_by s k else k).keytype k.keytype ≡ true
+unfolding set_table
+set-stays kind s e false k = same-itself kind k.keytype
+set-stays kind s e true k = mp _ _ (each_key-at (set_table s kind k)
+    (λ a b. each_kind-at (λ kind. each_key a b (set_table s kind k)) (set_all s k a b) kind)
+    k.keytype) (ap not e)
+
+-- a call that sets no flag sets none that is shown
+pub no-flag : (kind : SetKind) (c : keyset.Call) → sets_flag c ≡ false → sets_shown kind c ≡ false
+no-flag kind (keyset.Set r s) calm = by s calm
+  where
+    by : (s : Setting) → is_flag_setting s ≡ false → flag_shown s kind ≡ false
+    by (Present value now) e = absurd (true≢false e)
+    by (Signer value) e = absurd (true≢false e)
+    by (AtParent value) e = absurd (true≢false e)
+    by Stale e = absurd (true≢false e)
+    by _ e = refl
+no-flag kind _ calm = refl

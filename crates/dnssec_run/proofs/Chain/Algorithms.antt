@@ -21,31 +21,24 @@ use Rattle.dnssec_run.specs.declared.record.Reply.{Reply}
 use Rattle.dnssec_run.specs.declared.record.Reply.TheVariants as reply
 use Rattle.dnssec_run.specs.Record as rec
 use Rattle.dnssec_run.specs.ByAlgorithm.{added_algorithm, algorithm_at}
-use Rattle.dnssec_run.proofs.Chain.Tale.{Tale, Key, world_at}
+use Rattle.dnssec_run.proofs.Chain.Tale.{Tale, Key, world_at, start-parts, early-end-parts}
+use Rattle.dnssec_run.proofs.Chain.OneKey.{from_mapped}
 use Rattle.dnssec_run.proofs.Chain.Places.{place_at, real}
 use Rattle.dnssec_zone.specs.Start.{is_listed}
 
 -- ---- no call changes the algorithm of a key
 
-after-setter : (s : Setting) (k : Key) → (set_by s k).algorithm ≡ k.algorithm
-after-setter (Decoupled value) k = refl
-after-setter _ k = refl
-
 set-at : (b : Bool) (s : Setting) (k : Key) → (if b then set_by s k else k).algorithm ≡ k.algorithm
-set-at true s k = after-setter s k
-set-at false s k = refl
+set-at true (Decoupled value) k = refl
+set-at _ _ k = refl
 
 after-start : (r : RollType) (now : ℕ) (o i : Bool) (k : Key)
     → (after_start r now o i k).algorithm ≡ k.algorithm
-after-start r now true true k = refl
-after-start r now false true k = refl
-after-start r now _ _ k = refl
+after-start r now o i k = ap (λ (k : Key). k.algorithm) (start-parts r now o i k)
 
 after-end : (r : RollType) (o i : Bool) (k : Key)
     → (after_early_end r o i k).algorithm ≡ k.algorithm
-after-end r true true k = refl
-after-end r false true k = refl
-after-end r _ _ k = refl
+after-end r o i k = ap (λ (k : Key). k.algorithm) (early-end-parts r o i k)
 
 -- ---- one call
 
@@ -59,20 +52,15 @@ module _ (calls : List Call) (old new : KeySetParts) (was now : List ℕ → ℕ
   moved : (f : List ℕ → Key → Key) → ((q : List ℕ) (k : Key) → (f q k).algorithm ≡ k.algorithm)
       → ((q : List ℕ) → get new.keys q ≡ option_map (f q) (get old.keys q))
       → ((q : List ℕ) → now q ≡ was q) → Given calls (get new.keys) now
-  moved f same keys added q k e = by (get old.keys q) refl (sym (keys q) ∙ e)
-    where
-      by : (o : Option Key) → get old.keys q ≡ o → option_map (f q) (get old.keys q) ≡ Some k
-          → algorithm_at calls (now q) ≡ k.algorithm
-      by None at f' = absurd (none-some k (sym (ap (option_map (f q)) at) ∙ f'))
-      by (Some j) at f' = ap (algorithm_at calls) (added q) ∙ given q j at ∙ sym (same q j)
-          ∙ ap (λ (k : Key). k.algorithm) (same_Some _ _ (sym (ap (option_map (f q)) at) ∙ f'))
+  moved f same keys added q k e =
+      let j = from_mapped (f q) (get old.keys q) k (sym (keys q) ∙ e) in
+      ap (algorithm_at calls) (added q) ∙ given q j.0 j.1 ∙ sym (same q j.0)
+      ∙ ap (λ (k : Key). k.algorithm) j.2
 
-  accepted : (c : keyset.Call) → Changes old c new
-      → algorithm_at calls (suc n) ≡ added_algorithm c
+  accepted : (c : keyset.Call) → Changes old c new → algorithm_at calls (suc n) ≡ added_algorithm c
       → ((q : List ℕ) → now q ≡ rec.with_added (suc n) (rec.reference_added c) was q)
       → Given calls (get new.keys) now
-  accepted (keyset.AddKey r j) h here added q k e =
-      by (bytes_eq r q) (sym (h.keys q) ∙ e) (added q)
+  accepted (keyset.AddKey r j) h here added q k e = by (bytes_eq r q) (sym (h.keys q) ∙ e) (added q)
     where
       by : (b : Bool) → (if b then Some j else get old.keys q) ≡ Some k
           → now q ≡ (if b then suc n else was q) → algorithm_at calls (now q) ≡ k.algorithm
@@ -105,9 +93,8 @@ module _ (calls : List Call) (old new : KeySetParts) (was now : List ℕ → ℕ
 
   by_reply : (c : keyset.Call) (r : Reply) → keyset.Step old c (rec.reply_of r) new
       → algorithm_at calls (suc n) ≡ added_algorithm c
-      → ((q : List ℕ) → now q ≡ (if rec.is_accepted r then
-      rec.with_added (suc n) (rec.reference_added c) was else was) q)
-      → Given calls (get new.keys) now
+      → ((q : List ℕ) → now q ≡ (if rec.is_accepted r then rec.with_added (suc n)
+      (rec.reference_added c) was else was) q) → Given calls (get new.keys) now
   by_reply c (reply.Refused cause) step here added q k e =
       let same = step.1 in
       ap (algorithm_at calls) (added q)
@@ -122,8 +109,7 @@ module _ (calls : List Call) (old new : KeySetParts) (was now : List ℕ → ℕ
 pub has-algorithm : (tale : Tale) (n : ℕ) → n ≤ length tale.es
     → Given tale.calls (world_at tale n).key (world_at tale n).added
 unfolding rec.world_at
-has-algorithm tale zero le q k e =
-    absurd (none-some k (sym (get-empty (slice_cmp nat_cmp) q) ∙ e))
+has-algorithm tale zero le q k e = absurd (none-some k (sym (get-empty (slice_cmp nat_cmp) q) ∙ e))
 has-algorithm tale (suc n) le q k e =
     let p = place_at tale n le in
     by_reply tale.calls (real tale n).set (real tale (suc n)).set (world_at tale n).added

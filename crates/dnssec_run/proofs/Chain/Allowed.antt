@@ -1,9 +1,10 @@
 -- What an accepted call says of the keys before it.
+use Rattle.dnssec_zone.specs.Start.{lists_kind, side_of}
 use Rattle.dnssec_keyset.proofs.Accepted.{spreads_first, spreads_second}
 use Rattle.dnssec_zone.specs.Refusals.{report_refusal}
-use Rattle.std.proofs.Common.{[], ◌≡◌, ℕ, ◌-◌, ◌*◌, ◌≤◌, ◌⊎◌, inl, inr, Bool, true, false, not}
-use Rattle.std.proofs.Common.{◌&&◌, ◌||◌, refl, sym, ◌∙◌, ap, arith, List, ◌∷◌, ◌++◌, Option, None}
-use Rattle.std.proofs.Common.{Some, subst}
+use Rattle.std.proofs.Common.{[], ◌≡◌, ℕ, ◌-◌, ◌*◌, ◌≤◌, ◌⊎◌, inl, inr, Bool, true, false, not, sym}
+use Rattle.std.proofs.Common.{◌&&◌, ◌||◌, refl, ◌∙◌, ap, arith, List, ◌∷◌, ◌++◌, Option, None, Some}
+use Rattle.std.proofs.Common.{subst}
 use Rattle.std.specs.Prelude.{if◌then◌else◌, is_some, is_none, nat_eq}
 use Rattle.std.specs.List.{list_all, list_any}
 use Rattle.std.specs.Option.{option_map_or}
@@ -13,9 +14,6 @@ use Rattle.std.specs.FinMap.{get}
 use Rattle.std.proofs.lemmas.Bool.{true≢false, and_parts, not-true, or_parts, or_right, cases_Bool}
 use Rattle.std.proofs.lemmas.Option.{none-some}
 use Rattle.dnssec_key.specs.declared.roll.RollType.{RollType}
-use Rattle.dnssec_key.specs.declared.roll.RollType.TheVariants.{KskRoll, KskDoubleDsRoll, ZskRoll}
-use Rattle.dnssec_key.specs.declared.roll.RollType.TheVariants.{ZskDoubleSignatureRoll, CskRoll}
-use Rattle.dnssec_key.specs.declared.roll.RollType.TheVariants.{AlgorithmRoll}
 use Rattle.dnssec_key.specs.declared.roll.RollState.{RollState}
 use Rattle.dnssec_key.specs.declared.roll.RollState.TheVariants.{CacheExpire1, CacheExpire2}
 use Rattle.dnssec_key.specs.declared.kind.KeyType.{KeyType}
@@ -24,20 +22,19 @@ use Rattle.dnssec_key.specs.State.{is_fresh, is_future}
 use Rattle.dnssec_key.specs.Key.{KeyParts, all_states}
 use Rattle.dnssec_zone.specs.Rolls.{Rolls, phase_of}
 use Rattle.dnssec_zone.specs.Keys.{some_key}
-use Rattle.dnssec_zone.specs.Start.{is_listed as listed, conflict, has_conflict, together}
-use Rattle.dnssec_zone.specs.Start.{old_entry_fault, old_fault, new_entry_fault, new_fault}
-use Rattle.dnssec_zone.specs.Start.{some_listed, some_kept, is_met, wants, algorithm_fault}
-use Rattle.dnssec_zone.specs.Start.{suitability_fault, algorithms_within, has_algorithm}
-use Rattle.dnssec_zone.specs.Start.{may_change_algorithms, Want}
+use Rattle.dnssec_zone.specs.Start.{is_listed as listed, conflict, has_conflict, together, is_met}
+use Rattle.dnssec_zone.specs.Start.{old_entry_fault, old_fault, new_entry_fault, new_fault, wants}
+use Rattle.dnssec_zone.specs.Start.{some_listed, some_kept, algorithm_fault, suitability_fault}
+use Rattle.dnssec_zone.specs.Start.{algorithms_within, has_algorithm, may_change_algorithms}
 use Rattle.dnssec_keyset.specs.Step.{start_refusal, first_of_causes, wait_clearance}
 use Rattle.std.proofs.lemmas.Bool.Decides.{nat_tests}
-use Rattle.dnssec_zone.specs.Wait.{Barred, Clear, early_by, wait_in_phase, lacks_stamp}
-use Rattle.dnssec_zone.specs.Wait.{longest_left, time_left, ttl_in, left_since, stamp_read}
+use Rattle.dnssec_zone.specs.Wait.{Barred, Clear, early_by, wait_in_phase, lacks_stamp, time_left}
+use Rattle.dnssec_zone.specs.Wait.{longest_left, ttl_in, left_since, stamp_read}
 use Rattle.dnssec_zone.proofs.Quantified.{some_key-none, some_entry-found}
 use Rattle.dnssec_zone.proofs.Longest.{longest-bound, clear-left}
 use Rattle.dnssec_run.specs.Published.{World as RealWorld}
-use Rattle.dnssec_zone.proofs.Flags.{SideOf, Keys, Zone, affects, may_list}
-use Rattle.dnssec_run.proofs.Chain.Tables.{reads-stamp, want_on}
+use Rattle.dnssec_zone.proofs.Flags.{SideOf, affects}
+use Rattle.dnssec_run.proofs.Chain.Tables.{met, reads-stamp}
 use Rattle.dnssec_run.proofs.Chain.Tale.{seen, IsOver, HasSuitable, CanStart}
 use Rattle.dnssec_zone.proofs.Tests.{each_key, each_key-at, ◌⇒◌, mp, or_second}
 use Rattle.dnssec_keyset.proofs.Laws.{no_first, no_rest, no_roll, no_conflict}
@@ -91,12 +88,12 @@ module _ (r : RollType) (rolls : Rolls) where
 
 -- a fresh key that the roll may list, not taken
 abbrev IsFree : RollType → Option KeyParts → Bool → Type 0
-IsFree r o taken = (k : KeyParts) × (o ≡ Some k) × (may_list r k.keytype ≡ true)
+IsFree r o taken = (k : KeyParts) × (o ≡ Some k) × (lists_kind (side_of r) k.keytype ≡ true)
     × (all_states is_fresh k.keytype ≡ true) × (taken ≡ false)
 
 module _ (r : RollType) (at : List ℕ → Option KeyParts) where
   old_kind : (o : Option KeyParts) → old_entry_fault r o ≡ None → (k : KeyParts) × (o ≡ Some k)
-      × (may_list r k.keytype ≡ true)
+      × (lists_kind (side_of r) k.keytype ≡ true)
   old_kind None e = absurd (none-some _ (sym e))
   old_kind (Some k) e = (k, refl, no_want _ Error.WrongKeyType e)
 
@@ -104,13 +101,13 @@ module _ (r : RollType) (at : List ℕ → Option KeyParts) where
       → IsFree r o taken
   new_kind None taken e = absurd (none-some _ (sym e))
   new_kind (Some k) taken e =
-      let x = no_else (may_list r k.keytype) _ Error.WrongKeyType e in
+      let x = no_else (lists_kind (side_of r) k.keytype) _ Error.WrongKeyType e in
       let y = and_parts (all_states is_fresh k.keytype) (not taken)
       (no_want _ Error.WrongKeyState x.1) in
       (k, refl, x.0, y.0, not-true taken y.1)
 
   old_all : (olds : List (List ℕ)) → old_fault r at olds ≡ None → (q : List ℕ) → listed olds q
-      ≡ true → (k : KeyParts) × (at q ≡ Some k) × (may_list r k.keytype ≡ true)
+      ≡ true → (k : KeyParts) × (at q ≡ Some k) × (lists_kind (side_of r) k.keytype ≡ true)
   old_all olds e q l = old_kind (at q) (old-listed r at olds q e l)
 
   new_all : (olds earlier news : List (List ℕ)) → new_fault r at olds earlier news ≡ None
@@ -212,22 +209,11 @@ same_algorithm r at olds news e free q k at_q l =
     same_number : (m n : ℕ) → nat_eq m n ≡ true → m ≡ n
     same_number m n e = grind (arith, nat_tests)
 
--- what a roll wants, it wants on each of its sides
-met : (p : Want → Bool) (r : RollType) → list_all p (wants r) ≡ true → (sd : SideOf)
-    → affects sd r ≡ true → p (want_on sd r) ≡ true
-met p ZskRoll e Keys own = absurd (true≢false (sym own))
-met p ZskDoubleSignatureRoll e Keys own = absurd (true≢false (sym own))
-met p KskRoll e Zone own = absurd (true≢false (sym own))
-met p KskDoubleDsRoll e Zone own = absurd (true≢false (sym own))
-met p CskRoll e Zone own = (and_parts _ _ (and_parts _ _ e).1).0
-met p AlgorithmRoll e Zone own = (and_parts _ _ (and_parts _ _ e).1).0
-met p _ e _ own = (and_parts _ _ e).0
-
 suitable_of : (w : RealWorld) (r : RollType) (olds news : List (List ℕ))
     → list_all (is_met w.set.keys olds news) (wants r) ≡ true → (sd : SideOf) → affects sd r ≡ true
     → HasSuitable sd r (seen w) olds news
 suitable_of w r olds news e sd own =
-    serving_key w olds news _ _ (met (is_met w.set.keys olds news) r e sd own)
+    serving_key w olds news _ _ (met (is_met w.set.keys olds news) r e sd)
 
 pub can_start : (w : RealWorld) (r : RollType) (olds news : List (List ℕ))
     → start_refusal r w.set olds news ≡ None → CanStart r (seen w) olds news
@@ -260,8 +246,7 @@ over_key None ttl now a b = absurd (true≢false a)
 over_key (Some m) ttl now a b = (m, refl, omega (arith, b))
 
 over : (r : RollType) (half : Half) (ttl now : ℕ) (w : RealWorld)
-    → wait_in_phase r half (Some ttl) now w.set.keys ≡ Clear
-    → IsOver r half (seen w) ttl now
+    → wait_in_phase r half (Some ttl) now w.set.keys ≡ Clear → IsOver r half (seen w) ttl now
 over r half ttl now w f q k at check =
     let h = clear_wait (some_key (lacks_stamp r half) w.set.keys)
     (longest_left r half ttl now w.set.keys) f in
@@ -281,9 +266,8 @@ pub waits_in_phase : (r : RollType) (half : Half) (now : ℕ) (w : RealWorld)
 waits_in_phase r half now w e = by half (phase_of w.set.rolls r) refl e
   where
     by : (half : Half) (o : Option RollState) → phase_of w.set.rolls r ≡ o
-        → wait_in_phase r half (ttl_in half o) now w.set.keys ≡ Clear
-        → (ttl : ℕ) × (phase_of w.set.rolls r ≡ Some (cache_expire half ttl))
-        × IsOver r half (seen w) ttl now
+        → wait_in_phase r half (ttl_in half o) now w.set.keys ≡ Clear → (ttl : ℕ)
+        × (phase_of w.set.rolls r ≡ Some (cache_expire half ttl)) × IsOver r half (seen w) ttl now
     by First (Some (CacheExpire1 ttl)) p f = (ttl, p, over r First ttl now w f)
     by Second (Some (CacheExpire2 ttl)) p f = (ttl, p, over r Second ttl now w f)
     by _ _ p f = absurd (cc)

@@ -1,181 +1,141 @@
 -- More facts of the tables: the waits, the keys that a call leaves alone, the keys that a wait
 -- reads.
-use Rattle.dnssec_zone.proofs.Tests.{each_key, four, each_key-at, ◌⇒◌, mp, and-both, each_in_roll}
-use Rattle.dnssec_zone.proofs.Tests.{each_in_roll-at, each_listed-at, each_roll, each_roll-at}
-use Rattle.dnssec_zone.proofs.Tests.{or_second}
-use Rattle.dnssec_zone.proofs.Flags.{SideOf, affects, fits, has_role, is_idle, may_list, may_start}
-use Rattle.dnssec_zone.proofs.Flags.{started, waited1, waited2, Keys, Zone, Quiet, Early, Late}
+use Rattle.dnssec_zone.proofs.Tests.{each_roll-at, each_in_roll}
+use Rattle.dnssec_zone.proofs.Flags.{SideOf, affects, flags_fit, has_role, is_idle, may_start}
+use Rattle.dnssec_zone.proofs.Flags.{started, Keys, Zone, Quiet, Early, Late}
 use Rattle.dnssec_zone.proofs.Flags.{wait1-fits, wait2-fits}
-use Rattle.std.proofs.Common.{◌≡◌, Bool, true, false, not, ◌&&◌, ◌||◌, refl, sym, ◌∙◌, ap}
-use Rattle.std.proofs.lemmas.Bool.{and_parts, true≢false, not-true}
+use Rattle.std.specs.Prelude.{if◌then◌else◌}
+use Rattle.std.proofs.Common.{◌≡◌, Bool, true, false, not, ◌&&◌, ◌||◌, refl, ap}
+use Rattle.std.proofs.lemmas.Bool.{and_parts}
 use Rattle.dnssec_key.specs.declared.roll.RollType.{RollType}
-use Rattle.dnssec_key.specs.declared.roll.RollType.TheVariants.{KskRoll, KskDoubleDsRoll, ZskRoll}
-use Rattle.dnssec_key.specs.declared.roll.RollType.TheVariants.{ZskDoubleSignatureRoll, CskRoll}
-use Rattle.dnssec_key.specs.declared.roll.RollType.TheVariants.{AlgorithmRoll}
+use Rattle.dnssec_key.specs.declared.roll.RollType.TheVariants.{ZskRoll, ZskDoubleSignatureRoll}
+use Rattle.dnssec_key.specs.declared.roll.RollType.TheVariants.{CskRoll}
 use Rattle.dnssec_key.specs.declared.kind.KeyType.{KeyType}
-use Rattle.dnssec_key.specs.declared.kind.KeyType.TheVariants.{Ksk, Zsk, Csk}
-use Rattle.dnssec_run.specs.Safe.{SetKind, Ds}
 use Rattle.dnssec_key.specs.RollTable.{column, First, Second, Half, half_of}
-use Rattle.dnssec_run.proofs.Chain.Tables.{written, Stamp, Visible, read, checked, want_on}
-use Rattle.dnssec_run.proofs.Chain.Tables.{each_in_half, each_in_half-at, by_side, each_side-at}
-use Rattle.dnssec_run.proofs.Chain.Flags.{switches, test_of, first_test, second_test, in_use}
-use Rattle.dnssec_run.proofs.Chain.Flags.{remains, live}
-use Rattle.dnssec_keyset.proofs.Sides.{moves-others}
-use Rattle.dnssec_zone.specs.Start.{together, serves_as_new, serves_as_kept}
-use Rattle.dnssec_key.specs.State.{kept_present, kept_at_parent, kept_signing, is_future}
-use Rattle.dnssec_key.specs.Key.{all_states}
+use Rattle.dnssec_run.proofs.Chain.Tables.{written, Stamp, read, checked, want_on, Claim, holds}
+use Rattle.dnssec_run.proofs.Chain.Tables.{fails, ◌gives◌, ◌also◌, test, of_key, of_roll, of_half}
+use Rattle.dnssec_run.proofs.Chain.Tables.{of_roll_key, of_listed, of_side_key, on_both, on_side}
+use Rattle.dnssec_run.proofs.Chain.Tables.{at_stamp, at_stamps}
+use Rattle.dnssec_run.proofs.Chain.Flags.{SideSet, Shared, switches, is_in, first_set, in_use, live}
+use Rattle.dnssec_run.proofs.Chain.Flags.{second_set, remains, on_set, on_sets, used_in}
+use Rattle.dnssec_zone.specs.Start.{together, serves_as_new, serves_as_kept, lists_kind, side_of}
 
 -- the first wait
-wait1_table : SideOf → RollType → KeyType → Bool
-wait1_table sd r k = (affects sd r && fits sd (Early r) k) ⇒
-    ((first_test sd r (waited1 r k) ⇒ first_test sd r k)
-    && ((switches sd r && first_test sd r k) ⇒ first_test sd r (waited1 r k))
-    && (switches sd r || (second_test sd r (waited1 r k) ⇒ second_test sd r k))
-    && ((switches sd r && second_test sd r k) ⇒ first_test sd r k)
-    && (remains sd r k ⇒ live sd (waited1 r k)))
+wait1_claim : SideOf → RollType → KeyType → Claim
+wait1_claim sd r k =
+    let j = (half_of r First).moves k in
+    affects sd r gives flags_fit sd (Early r) k gives
+    ((is_in sd (first_set r) j gives holds (is_in sd (first_set r) k))
+    also (switches sd r gives is_in sd (first_set r) k gives holds (is_in sd (first_set r) j))
+    also (not (switches sd r) gives is_in sd (second_set r) j gives
+    holds (is_in sd (second_set r) k))
+    also (switches sd r gives is_in sd (second_set r) k gives holds (is_in sd (first_set r) k))
+    also (remains sd r k gives holds (live sd j)))
 
 pub record Waited1 (sd : SideOf) (r : RollType) (k : KeyType) : Type 0 where
-  pub fit : fits sd (Late r) (waited1 r k) ≡ true
-  pub first : first_test sd r (waited1 r k) ≡ true → first_test sd r k ≡ true
-  pub keep : switches sd r ≡ true → first_test sd r k ≡ true → first_test sd r (waited1 r k) ≡ true
-  pub second : switches sd r ≡ false → second_test sd r (waited1 r k) ≡ true → second_test sd r k
+  pub fit : flags_fit sd (Late r) ((half_of r First).moves k) ≡ true
+  pub first : is_in sd (first_set r) ((half_of r First).moves k) ≡ true
+      → is_in sd (first_set r) k ≡ true
+  pub keep : switches sd r ≡ true → is_in sd (first_set r) k ≡ true
+      → is_in sd (first_set r) ((half_of r First).moves k) ≡ true
+  pub second : not (switches sd r) ≡ true → is_in sd (second_set r) ((half_of r First).moves k)
       ≡ true
-  pub inner : switches sd r ≡ true → second_test sd r k ≡ true → first_test sd r k ≡ true
-  pub some : remains sd r k ≡ true → live sd (waited1 r k) ≡ true
+      → is_in sd (second_set r) k ≡ true
+  pub inner : switches sd r ≡ true → is_in sd (second_set r) k ≡ true
+      → is_in sd (first_set r) k ≡ true
+  pub some : remains sd r k ≡ true → live sd ((half_of r First).moves k) ≡ true
 
 pub wait1_facts : (sd : SideOf) (r : RollType) (k : KeyType) → affects sd r ≡ true
-    → fits sd (Early r) k ≡ true → Waited1 sd r k
-unfolding wait1_table column
+    → flags_fit sd (Early r) k ≡ true → Waited1 sd r k
+unfolding wait1_claim column
 wait1_facts sd r k own fit =
-    let e = mp _ _ (each_side-at wait1_table (λ a b. refl) (λ a b. refl) sd r k)
-    (and-both _ _ own fit) in
-    let x = and_parts _ _ e in
-    let a = four _ _ _ _ x.0 in
-    record {
-      fit = wait1-fits sd r k own fit;
-      first = mp _ _ a.0;
-      keep =
-          λ w h. mp _ _ a.1 (and-both _ _ w h);
-      second = λ w. mp _ _ (or_second _ _ a.2 w);
-      inner =
-          λ w h. mp _ _ a.3 (and-both _ _ w h);
-      some = mp _ _ x.1;
-    }
+    let x = of_side_key wait1_claim (λ a b. refl) sd r k own fit in
+    assumption (wait1-fits sd r k own fit, x)
+
+less_claim : SideOf → KeyType → KeyType → SideSet → Claim
+less_claim sd j k set = is_in sd set j gives holds (is_in sd set k)
 
 -- the second wait
-wait2_table : SideOf → RollType → KeyType → Bool
-wait2_table sd r k = (affects sd r && fits sd (Late r) k) ⇒
-    ((first_test sd r (waited2 r k) ⇒ first_test sd r k)
-    && (second_test sd r (waited2 r k) ⇒ second_test sd r k)
-    && (live sd k ⇒ in_use sd (waited2 r k)))
+wait2_claim : SideOf → RollType → KeyType → Claim
+wait2_claim sd r k =
+    let j = (half_of r Second).moves k in
+    affects sd r gives flags_fit sd (Late r) k gives
+    (on_sets (less_claim sd j k) also (live sd k gives holds (in_use sd j)))
 
 pub record Waited2 (sd : SideOf) (r : RollType) (k : KeyType) : Type 0 where
-  pub fit : fits sd Quiet (waited2 r k) ≡ true
-  pub first : first_test sd r (waited2 r k) ≡ true → first_test sd r k ≡ true
-  pub second : second_test sd r (waited2 r k) ≡ true → second_test sd r k ≡ true
-  pub used : live sd k ≡ true → in_use sd (waited2 r k) ≡ true
+  pub fit : flags_fit sd Quiet ((half_of r Second).moves k) ≡ true
+  pub less : (set : SideSet) → is_in sd set ((half_of r Second).moves k) ≡ true → is_in sd set k
+      ≡ true
+  pub used : live sd k ≡ true → in_use sd ((half_of r Second).moves k) ≡ true
 
 pub wait2_facts : (sd : SideOf) (r : RollType) (k : KeyType) → affects sd r ≡ true
-    → fits sd (Late r) k ≡ true → Waited2 sd r k
-unfolding wait2_table column
+    → flags_fit sd (Late r) k ≡ true → Waited2 sd r k
+unfolding wait2_claim less_claim column
 wait2_facts sd r k own fit =
-    let x = and_parts _ _ (mp _ _ (each_side-at wait2_table (λ a b. refl) (λ a b. refl) sd r k)
-    (and-both _ _ own fit)) in
-    let y = and_parts _ _ x.0 in
+    let x = of_side_key wait2_claim (λ a b. refl) sd r k own fit in
     record {
       fit = wait2-fits sd r k own fit;
-      first = mp _ _ y.0;
-      second = mp _ _ y.1;
-      used =
-          mp _ _ x.1;
+      less = on_set (less_claim sd ((half_of r Second).moves k) k) x.0;
+      used = x.1;
     }
 
--- ---- a key that a roll may not list is left alone by its calls
+-- ---- keys that a roll may not list
 
-pub untouched_start : (r : RollType) (o i : Bool) (k : KeyType) → may_start r o i k ≡ true
-    → may_list r k ≡ false → started r o i k ≡ k
-untouched_start r false false k may e = refl
-untouched_start r true i k may e = absurd (true≢false (sym (and_parts (may_list r k) _ may).0 ∙ e))
-untouched_start r false true k may e =
-    absurd (true≢false (sym (and_parts (may_list r k) (all_states is_future k)
-    (and_parts (may_list r k && all_states is_future k) _ may).0).0 ∙ e))
-
-pub untouched_wait : (r : RollType) (half : Half) (k : KeyType) → may_list r k ≡ false
-    → (half_of r half).moves k ≡ k
-untouched_wait = moves-others
-
-written_table : Stamp → RollType → Half → KeyType → Bool
-written_table s r half k = written s r half k ⇒ may_list r k
-
-written_all : (s : Stamp) (a b : Bool) → each_in_half a b (written_table s) ≡ true
-unfolding written_table column
-written_all Visible a b = refl
-written_all _ a b = refl
-
+-- a report writes no stamps of them
 pub written-touches : (s : Stamp) (r : RollType) (half : Half) (k : KeyType)
-    → written s r half k ≡ true → may_list r k ≡ true
-unfolding written_table column
-written-touches s r half k = mp _ _
-    (each_in_half-at (written_table s) (written_all s) r half k)
+    → written s r half k ≡ true → lists_kind (side_of r) k ≡ true
+unfolding column
+written-touches s r half k = at_stamp (λ s. written s r half k gives holds (lists_kind
+    (side_of r) k))
+    (of_half (λ r half k. at_stamps (λ s. written s r half k gives holds (lists_kind
+    (side_of r) k)))
+    (λ a b. refl) r half k) s
 
--- which keys a call of another roll leaves alone
-apart_table : SideOf → RollType → KeyType → Bool
-apart_table sd r k = (not (affects sd r) && has_role sd k) ⇒ not (may_list r k)
-
+-- a roll that isn't of the side lists no key that has its role
 pub apart : (sd : SideOf) (r : RollType) (k : KeyType) → affects sd r ≡ false → has_role sd k ≡ true
-    → may_list r k ≡ false
-unfolding apart_table column
-apart sd r k other role = not-true _
-    (mp _ _ (each_side-at apart_table (λ a b. refl) (λ a b. refl) sd r k)
-    (and-both _ _ (ap not other) role))
+    → lists_kind (side_of r) k ≡ false
+apart sd r k out = of_side_key (λ sd r k. not (affects sd r) gives has_role sd k gives
+    fails (lists_kind (side_of r) k)) (λ a b. refl) sd r k (ap not out)
 
-other_table : RollType → RollType → KeyType → Bool
-other_table r q k = (together r q && may_list q k) ⇒ not (may_list r k)
+other_claim : RollType → RollType → KeyType → Claim
+other_claim r q k = together r q gives lists_kind (side_of q) k gives fails (lists_kind
+    (side_of r) k)
 
-pub other : (r q : RollType) (k : KeyType) → together r q ≡ true → may_list q k ≡ true
-    → may_list r k ≡ false
-unfolding other_table column
-other r q k both_in role = not-true _
-    (mp _ _ (each_in_roll-at (other_table r)
-    (λ a b. each_roll-at (λ r. each_in_roll a b (other_table r)) refl r) q k)
-    (and-both _ _ both_in role))
+-- rolls that go together list no key in common
+pub other : (r q : RollType) (k : KeyType) → together r q ≡ true → lists_kind (side_of q) k ≡ true
+    → lists_kind (side_of r) k ≡ false
+unfolding other_claim
+other r = of_roll_key (other_claim r)
+    (λ a b. each_roll-at (λ r. each_in_roll a b (λ q k. test (other_claim r q k))) refl r)
 
 -- ---- what matters to a side
 
+-- a side sees keys that have its role and aren't idle
+abbrev pub sees : SideOf → KeyType → Bool
+sees sd k = has_role sd k && not (is_idle k)
+
+-- only keys that it sees pass
 abbrev pub Seen : SideOf → (KeyType → Bool) → Type 0
-Seen sd p = (k : KeyType) → p k ≡ true → (has_role sd k ≡ true) × (is_idle k ≡ false)
+Seen sd p = (k : KeyType) → p k ≡ true → sees sd k ≡ true
 
-seen_table : SideOf → (KeyType → Bool) → KeyType → Bool
-seen_table sd p k = p k ⇒ (has_role sd k && not (is_idle k))
+seen_claim : SideOf → KeyType → SideSet → Claim
+seen_claim sd k set = is_in sd set k gives holds (sees sd k)
 
-seen_by : (sd : SideOf) (p : KeyType → Bool)
-    → ((a b : Bool) → each_key a b (seen_table sd p) ≡ true) → Seen sd p
-unfolding seen_table column
-seen_by sd p e k h = let x = and_parts _ _ (mp _ _ (each_key-at (seen_table sd p) e k) h) in
-    (x.0, not-true _ x.1)
-
-pub test-seen : (sd : SideOf) (kind : SetKind) → Seen sd (test_of sd kind)
-unfolding seen_table column
-test-seen Keys Ds = seen_by Keys (test_of Keys Ds) (λ a b. refl)
-test-seen Zone Ds = seen_by Zone (test_of Zone Ds) (λ a b. refl)
-test-seen sd kind = seen_by sd (test_of sd kind) (λ a b. refl)
+pub test-seen : (sd : SideOf) (set : SideSet) → Seen sd (is_in sd set)
+unfolding seen_claim
+test-seen sd set k = on_set (seen_claim sd k)
+    (on_side (λ sd. on_sets (seen_claim sd k))
+    (of_key (λ k. on_both (λ sd. on_sets (seen_claim sd k))) (λ a b. refl) k) sd) set
 
 pub use-seen : (sd : SideOf) → Seen sd (in_use sd)
-unfolding seen_table column
-use-seen Keys = seen_by Keys (in_use Keys) (λ a b. refl)
-use-seen Zone = seen_by Zone (in_use Zone) (λ a b. refl)
+use-seen sd k e = test-seen sd Shared k (used_in sd Shared k e)
 
 pub live-seen : (sd : SideOf) → Seen sd (live sd)
-unfolding seen_table column
-live-seen Keys = seen_by Keys (live Keys) (λ a b. refl)
-live-seen Zone = seen_by Zone (live Zone) (λ a b. refl)
+live-seen sd k e = use-seen sd k (and_parts _ _ e).0
 
 pub remains-seen : (sd : SideOf) (r : RollType) → Seen sd (remains sd r)
-unfolding seen_table column
-remains-seen sd r = seen_by sd (remains sd r)
-    (λ a b. each_roll-at (λ r. each_key a b (seen_table sd (remains sd r)))
-    (by_side (λ sd. each_roll (λ r. each_key a b (seen_table sd (remains sd r)))
-    ≡ true) refl refl sd) r)
+remains-seen sd r k e = test-seen sd (first_set r) k
+    (and_parts (is_in sd (first_set r) k) _ (and_parts (has_role sd k) _ e).1).0
 
 -- ---- the witness of a phase: a key that the coming wait reads, with the stamp of its report
 
@@ -183,41 +143,10 @@ abbrev pub timed : RollType → Half → Bool
 timed ZskDoubleSignatureRoll Second = false
 timed _ _ = true
 
-abbrev pub stays : RollType → Half → KeyType → Bool
-stays KskRoll First (Ksk s) = kept_present s
-stays KskRoll Second (Ksk s) = kept_at_parent s
-stays KskDoubleDsRoll First (Ksk s) = kept_at_parent s
-stays KskDoubleDsRoll Second (Ksk s) = kept_present s
-stays ZskRoll First (Zsk s) = kept_present s
-stays ZskRoll Second (Zsk s) = kept_signing s
-stays ZskDoubleSignatureRoll _ (Zsk s) = kept_present s
-stays CskRoll First (Zsk s) = kept_present s
-stays CskRoll First (Csk s t) = kept_present s
-stays CskRoll Second (Zsk s) = kept_signing s
-stays CskRoll Second (Csk s t) = kept_signing t
-stays AlgorithmRoll First (Ksk s) = kept_present s
-stays AlgorithmRoll First (Csk s t) = kept_present s
-stays AlgorithmRoll Second (Ksk s) = kept_present s && kept_signing s
-stays AlgorithmRoll Second (Csk s t) = kept_present s && kept_signing s
-stays _ _ _ = false
-
-stays_table : RollType → Half → KeyType → Bool
-stays_table r half k = stays r half k ⇒
-    (may_list r k && not (is_idle k) && (timed r half ⇒ checked r half k)
-    && (timed r half ⇒ written (read r half) r half k))
-
-pub record Stays (r : RollType) (half : Half) (k : KeyType) : Type 0 where
-  pub touched : may_list r k ≡ true
-  pub busy : is_idle k ≡ false
-  pub check : timed r half ≡ true → checked r half k ≡ true
-  pub write : timed r half ≡ true → written (read r half) r half k ≡ true
-
-pub stays_facts : (r : RollType) (half : Half) (k : KeyType) → stays r half k ≡ true
-    → Stays r half k
-unfolding stays_table column
-stays_facts r half k h = let a =
-    four _ _ _ _ (mp _ _ (each_in_half-at stays_table (λ a b. refl) r half k) h) in
-    record { touched = a.0; busy = not-true _ a.1; check = mp _ _ a.2; write = mp _ _ a.3 }
+-- the half whose report writes the stamps that the wait reads
+abbrev pub stamped_in : RollType → Half → Half
+stamped_in ZskDoubleSignatureRoll half = First
+stamped_in _ half = half
 
 -- the side whose suitable key the waits of a roll read
 abbrev pub timer : RollType → SideOf
@@ -227,30 +156,43 @@ timer CskRoll = Zone
 timer _ = Keys
 
 pub timer-affects : (r : RollType) → affects (timer r) r ≡ true
-timer-affects r = each_roll-at (λ r. affects (timer r) r) refl r
+timer-affects = of_roll (λ r. holds (affects (timer r) r)) refl
 
-stays_start_table : RollType → Bool → Bool → KeyType → Bool
-stays_start_table r o i k = (may_start r o i k && fits (timer r) Quiet k
-    && ((i && serves_as_new (want_on (timer r) r) k)
-    || (not o && serves_as_kept (want_on (timer r) r) k))) ⇒ stays r First
-    (started r o i k)
+-- a key of that side that the wait checks, and to which the report gives the stamp that it reads
+abbrev pub stays : RollType → Half → KeyType → Bool
+stays r half k = has_role (timer r) k && (checked r (stamped_in r half) k
+    && written (read r (stamped_in r half)) r (stamped_in r half) k)
+
+stays_claim : RollType → Half → KeyType → Claim
+stays_claim r half k = stays r half k gives
+    (holds (lists_kind (side_of r) k) also fails (is_idle k)
+    also (timed r half gives holds (checked r half k))
+    also (timed r half gives holds (written (read r half) r half k)))
+
+pub record Stays (r : RollType) (half : Half) (k : KeyType) : Type 0 where
+  pub touched : lists_kind (side_of r) k ≡ true
+  pub busy : is_idle k ≡ false
+  pub check : timed r half ≡ true → checked r half k ≡ true
+  pub write : timed r half ≡ true → written (read r half) r half k ≡ true
+
+pub stays_facts : (r : RollType) (half : Half) (k : KeyType) → stays r half k ≡ true
+    → Stays r half k
+unfolding stays_claim column
+stays_facts r half k h = let x = of_half stays_claim (λ a b. refl) r half k h in assumption x
 
 pub stays_start : (r : RollType) (o i : Bool) (k : KeyType) → may_start r o i k ≡ true
-    → fits (timer r) Quiet k ≡ true →
+    → flags_fit (timer r) Quiet k ≡ true
+    → ((i && serves_as_new (want_on (timer r) r) k) || (not o && serves_as_kept (want_on (timer r)
+    r) k)) ≡ true → stays r First (started r o i k) ≡ true
+unfolding column
+stays_start = of_listed (λ r o i k. may_start r o i k gives flags_fit (timer r) Quiet k gives
     ((i && serves_as_new (want_on (timer r) r) k)
-    || (not o && serves_as_kept (want_on (timer r) r) k)) ≡ true
-    → stays r First (started r o i k) ≡ true
-unfolding stays_start_table column
-stays_start r o i k may fit some =
-    mp _ _ (each_listed-at stays_start_table (λ a b. refl) r o i k)
-    (and-both _ _ (and-both _ _ may fit) some)
+    || (not o && serves_as_kept (want_on (timer r) r) k)) gives
+    holds (stays r First (started r o i k))) (λ a b. refl)
 
-stays_wait_table : RollType → KeyType → Bool
-stays_wait_table r k = (fits (timer r) (Early r) k && stays r First k) ⇒ stays r Second
-    (waited1 r k)
-
-pub stays_wait : (r : RollType) (k : KeyType) → fits (timer r) (Early r) k ≡ true → stays r First k
-    ≡ true → stays r Second (waited1 r k) ≡ true
-unfolding stays_wait_table column
-stays_wait r k fit some = mp _ _ (each_in_roll-at stays_wait_table (λ a b. refl) r k)
-    (and-both _ _ fit some)
+pub stays_wait : (r : RollType) (k : KeyType) → flags_fit (timer r) (Early r) k ≡ true
+    → stays r First k
+    ≡ true → stays r Second ((half_of r First).moves k) ≡ true
+unfolding column
+stays_wait = of_roll_key (λ r k. flags_fit (timer r) (Early r) k gives stays r First k gives
+    holds (stays r Second ((half_of r First).moves k))) (λ a b. refl)

@@ -2,60 +2,58 @@
 -- algorithm, if it keeps the sets whole.
 use Rattle.std.proofs.lemmas.Bool.{cases_Bool, true≢false, and_parts}
 use Rattle.std.proofs.Common.{◌≡◌, ℕ, suc, ◌≤◌, ◌⊎◌, inl, inr, Bool, true, false, ◌&&◌, refl, sym}
-use Rattle.std.proofs.Common.{◌∙◌, ap, subst, arith, List, length, Option, None, Some}
+use Rattle.std.proofs.Common.{◌∙◌, ap, arith, List, length, Some, not}
 use Rattle.std.specs.Prelude.{nat_eq}
 use Rattle.std.specs.Option.{option_map}
 use Rattle.std.proofs.lemmas.Bool.Decides.{nat_tests}
 use Rattle.dnssec_key.specs.declared.roll.RollType.{RollType}
 use Rattle.dnssec_key.specs.declared.roll.RollType.TheVariants.{AlgorithmRoll}
-use Rattle.dnssec_key.specs.declared.roll.RollState.TheVariants.{Propagation1}
 use Rattle.dnssec_key.specs.declared.kind.KeyType.{KeyType}
 use Rattle.dnssec_zone.specs.Keys.{some_key}
-use Rattle.dnssec_zone.specs.Start.{may_change_algorithms, serves_as_new, serves_as_kept, is_listed}
+use Rattle.dnssec_zone.specs.Start.{may_change_algorithms, is_listed}
 use Rattle.dnssec_zone.proofs.Quantified.{some_key-found, some_key-none}
 use Rattle.dnssec_zone.proofs.Tests.{and-both, or_second}
-use Rattle.dnssec_zone.proofs.Flags.{SideOf, Keys, Zone, affects, Quiet, Early, fits, started}
+use Rattle.dnssec_zone.proofs.Flags.{SideOf, Keys, Zone, affects, Quiet, Early, flags_fit}
 use Rattle.dnssec_run.specs.ByAlgorithm.{KeepsWhole, HasKeyOf, keeps_ksk, keeps_zsk, algorithm_at}
 use Rattle.dnssec_run.specs.ByAlgorithm.{algorithm_of}
 use Rattle.dnssec_run.specs.Plain.{needs_algorithm_roll}
 use Rattle.dnssec_run.specs.Published.{Id}
-use Rattle.dnssec_run.proofs.Premise.{DoesAt, start_of, start-told}
-use Rattle.dnssec_run.proofs.Chain.Tale.{Tale, Key, found, if_some, world_at, start_key, CanStart}
+use Rattle.dnssec_run.proofs.Premise.{DoesAt, start_of, start-made}
+use Rattle.dnssec_keyset.proofs.Laws.{same-is}
+use Rattle.dnssec_zone.specs.Rolls.{same_roll}
+use Rattle.dnssec_run.proofs.Chain.Tables.{holds, ◌gives◌, of_roll}
+use Rattle.dnssec_run.proofs.Chain.Tale.{key_at, Tale, Key, if_some, world_at, start_key}
 use Rattle.dnssec_run.proofs.Chain.Flags.{in_use, remains, start_facts}
-use Rattle.dnssec_run.proofs.Chain.Keeping.{at_start, before_first, engaged, of_key, zone-remains}
-use Rattle.dnssec_run.proofs.Chain.Places.{all_ok, found_key, found_now, real, some_key as a_key}
+use Rattle.dnssec_run.proofs.Chain.Keeping.{AtStart, at_start, before_first, engaged, zone-remains}
+use Rattle.dnssec_run.proofs.Chain.Keeping.{rest-engaged}
+use Rattle.dnssec_run.proofs.Chain.Places.{Fits, found_key, found_now, real, some_key as a_key}
 use Rattle.dnssec_run.proofs.Chain.Places.{some_of}
 use Rattle.dnssec_run.proofs.Chain.Invariant.{Alive, Has, HasNo, Left}
-use Rattle.dnssec_run.proofs.Chain.OneKey.{Mapped, may_there, of_found, stands, suits}
+use Rattle.dnssec_run.proofs.Chain.OneKey.{Starts, kind_then, may_found, of_found, stands, suits}
+use Rattle.dnssec_run.proofs.Chain.OneKey.{was-found}
 use Rattle.dnssec_run.proofs.Chain.RollFacts.{first_or}
 use Rattle.dnssec_run.proofs.Chain.Life.{Fades, Goes, Law}
 use Rattle.dnssec_run.proofs.Chain.Algorithms.{has-algorithm}
-use Rattle.dnssec_run.proofs.Chain.Tables.{want_on}
 
 -- ---- all keys
 
-module _ (tale : Tale) (whole : tale.whole ≡ true) (n : ℕ) (r : RollType) (now : ℕ)
-    (old new : List (List ℕ)) (m : Mapped tale n (start_key r now old new) r (Some Propagation1))
-    (can : CanStart r (world_at tale n) old new)
+module _ (tale : Tale) (whole : tale.whole ≡ true) (n : ℕ) (r : RollType) (s : Starts tale n r)
     (flags : (sd : SideOf) → affects sd r ≡ true → (id : Id)
-    → all_ok (fits sd Quiet) (found (world_at tale n) id) ≡ true) where
+    → Fits tale (flags_fit sd Quiet) n id) where
   -- the suitable key stays
   suitable-left : (sd : SideOf) → affects sd r ≡ true → Left tale sd (Early r) (suc n)
   suitable-left sd own =
-      let s = can.suitable sd own in
-      let id : Id = (s.0, (world_at tale n).added s.0) in
-      let at_key : found (world_at tale n) id ≡ Some s.1 = found_now (world_at tale n) s.0 ∙ s.2
-      in
-      let fit_key : fits sd Quiet s.1.keytype ≡ true =
-      subst (λ o. all_ok (fits sd Quiet) o ≡ true) at_key (flags sd own id) in (
+      let k = s.can.suitable sd own in
+      let id : Id = (k.0, (world_at tale n).added k.0) in
+      let at_key : key_at tale n id ≡ Some k.1 = found_now (world_at tale n) k.0 ∙ k.2
+      in (
         id,
-        ap (if_some (remains sd r)) (m.founds id
-            ∙ ap (option_map (start_key r now old new s.0)) at_key)
-            ∙ (start_facts sd r (is_listed old s.0) (is_listed new s.0) s.1.keytype own
-            (may_there r (world_at tale n) old new can s.0 s.1 s.2) fit_key).some
-            (suits (is_listed old s.0) (is_listed new s.0)
-            (serves_as_new (want_on sd r) s.1.keytype)
-            (serves_as_kept (want_on sd r) s.1.keytype) s.3),
+        ap (if_some (remains sd r)) (s.mapped.founds id
+            ∙ ap (option_map (start_key r s.now s.old s.new k.0)) at_key)
+            ∙ (start_facts sd r (is_listed s.old k.0) (is_listed s.new k.0) k.1.keytype own
+            (may_found s id k.1 at_key)
+            (of_found (flags_fit sd Quiet) _ k.1 at_key (flags sd own id))).some
+            (suits _ _ _ _ k.3),
         tale.all whole id,
       )
 
@@ -74,8 +72,7 @@ module _ (tale : Tale) (whole : tale.whole ≡ true) (n : ℕ) (r : RollType) (n
   }
 
 pub whole-law : (tale : Tale) → tale.whole ≡ true → Law tale
-whole-law tale whole n here r now old new m can starts flags =
-    whole_goes tale whole n r now old new m can flags starts
+whole-law tale whole n here r s starts flags = whole_goes tale whole n r s flags starts
 
 -- ---- the keys of one algorithm
 
@@ -94,8 +91,8 @@ pub number_same : (m n : ℕ) → m ≡ n → nat_eq m n ≡ true
 number_same m n e = grind (arith, nat_tests)
 
 changes_first : (r : RollType) → may_change_algorithms r ≡ true → r ≡ AlgorithmRoll
-changes_first AlgorithmRoll e = refl
-changes_first _ e = absurd (true≢false (sym e))
+changes_first r e = same-is r AlgorithmRoll
+    (of_roll (λ r. may_change_algorithms r gives holds (same_roll r AlgorithmRoll)) refl r e)
 
 module _ (all : Tale) (a : ℕ) where
   abbrev tale : Tale
@@ -105,7 +102,7 @@ module _ (all : Tale) (a : ℕ) where
   of_has : (p : KeyType → Bool) (n : ℕ) → n ≤ length all.es → Has tale p n
       → HasKeyOf p a (real all n)
   of_has p n le h =
-      let k = a_key p (found (world_at tale n) h.0) h.1 in
+      let k = a_key p (key_at tale n h.0) h.1 in
       let at = found_key (world_at tale n) h.0 k.0 k.1 in (
         h.0.0,
         k.0,
@@ -142,24 +139,31 @@ module _ (all : Tale) (a : ℕ) where
       ]
 
   module _ (keeps : KeepsWhole all.name all.calls all.es) (n : ℕ) (here : suc n ≤ length all.es)
-      (r : RollType) (now : ℕ) (old new : List (List ℕ))
-      (m : Mapped tale n (start_key r now old new) r (Some Propagation1))
-      (can : CanStart r (world_at tale n) old new) (starts : DoesAt start_of all.calls all.es n r)
+      (r : RollType) (s : Starts tale n r) (starts : DoesAt start_of all.calls all.es n r)
       (flags : (sd : SideOf) → affects sd r ≡ true → (id : Id)
-      → all_ok (fits sd Quiet) (found (world_at tale n) id) ≡ true) where
+      → Fits tale (flags_fit sd Quiet) n id) where
     new_flags : (sd : SideOf) → affects sd r ≡ true → (id : Id)
-        → all_ok (fits sd (Early r)) (found (world_at tale (suc n)) id) ≡ true
-    new_flags sd own id = stands m id (fits sd (Early r))
-        (λ k e. (start_facts sd r (is_listed old id.0) (is_listed new id.0) k.keytype own
-        (may_there r (world_at tale n) old new can id.0 k (found_key (world_at tale n) id k e).0)
-        (of_found (fits sd Quiet) _ k e (flags sd own id))).fit)
+        → Fits tale (flags_fit sd (Early r)) (suc n) id
+    new_flags sd own id = stands s.mapped id (flags_fit sd (Early r))
+        (λ k e. (start_facts sd r (is_listed s.old id.0) (is_listed s.new id.0) k.keytype own
+        (may_found s id k e) (of_found (flags_fit sd Quiet) _ k e (flags sd own id))).fit)
+
+    -- a key then, and what the tables say of it
+    then : (id : Id) (k : Key) → key_at tale n id ≡ Some k
+        → key_at tale (suc n) id ≡ Some (start_key r s.now s.old s.new id.0 k)
+    then id k e = s.mapped.founds id ∙ ap (option_map (start_key r s.now s.old s.new id.0)) e
+
+    facts : (id : Id) (k : Key) → key_at tale n id ≡ Some k
+        → AtStart r (is_listed s.old id.0) (is_listed s.new id.0) k.keytype
+    facts id k e =
+        at_start r (is_listed s.old id.0) (is_listed s.new id.0) k.keytype (may_found s id k e)
 
     keys_left : affects Keys r ≡ true → Has tale keeps_ksk (suc n)
         → Left tale Keys (Early r) (suc n)
     keys_left own h = (
       h.0,
-      some_of (fits Keys (Early r)) keeps_ksk (remains Keys r)
-          (λ k f. (before_first r k own f).keeps) (found (world_at tale (suc n)) h.0)
+      some_of (flags_fit Keys (Early r)) keeps_ksk (remains Keys r)
+          (λ k f. (before_first r k own f).keeps) (key_at tale (suc n) h.0)
           (new_flags Keys own h.0) h.1,
       h.2,
     )
@@ -168,10 +172,10 @@ module _ (all : Tale) (a : ℕ) where
         → Left tale Zone (Early r) (suc n)
     zone_left own h =
         let z = has_of keeps_zsk (suc n) here (keeps.both n a r
-        (start-told all.calls all.es n r starts) (of_has keeps_ksk (suc n) here h)) in (
+        (start-made all.calls all.es n r starts) (of_has keeps_ksk (suc n) here h)) in (
           z.0,
-          some_of (fits Zone (Early r)) keeps_zsk (remains Zone r)
-              (λ k f. zone-remains r k own f) (found (world_at tale (suc n)) z.0)
+          some_of (flags_fit Zone (Early r)) keeps_zsk (remains Zone r)
+              (λ k f. zone-remains r k own f) (key_at tale (suc n) z.0)
               (new_flags Zone own z.0) z.1,
           z.2,
         )
@@ -180,66 +184,54 @@ module _ (all : Tale) (a : ℕ) where
     none_remains : affects Keys r ≡ true → HasNo tale keeps_ksk (suc n)
         → HasNo tale (remains Keys r) (suc n)
     none_remains own lacks id o e = lacks id o
-        (some_of (fits Keys (Early r)) (remains Keys r) keeps_ksk
-        (λ k f. (before_first r k own f).kept) (found (world_at tale (suc n)) id)
+        (some_of (flags_fit Keys (Early r)) (remains Keys r) keeps_ksk
+        (λ k f. (before_first r k own f).kept) (key_at tale (suc n) id)
         (new_flags Keys own id) e)
 
     -- a key in a set on the side of keys was in one, or stays
     away : affects Keys r ≡ true → HasNo tale engaged n → HasNo tale keeps_ksk (suc n)
         → HasNo tale engaged (suc n)
-    away own lacks none id o e = by (found (world_at tale n) id) refl
-      where
-        by : (was : Option Key) → found (world_at tale n) id ≡ was → ⊥
-        by None f = true≢false (sym e ∙ ap (if_some engaged)
-            (m.founds id ∙ ap (option_map (start_key r now old new id.0)) f))
-        by (Some k) f =
-            let then = m.founds id ∙ ap (option_map (start_key r now old new id.0)) f in
-            let key = (found_key (world_at tale n) id k f).0 in
-            let s = at_start r (is_listed old id.0) (is_listed new id.0) k.keytype
-            (may_there r (world_at tale n) old new can id.0 k key) in
-            elim (cases_Bool (engaged k.keytype)) [
-              | inl t ↦ lacks id o (ap (if_some engaged) f ∙ t)
-              | inr t ↦ none id o (ap (if_some keeps_ksk) then ∙ s.engages own
-                  (sym (ap (all_ok (fits Keys Quiet)) f) ∙ flags Keys own id)
-                  (sym (ap (if_some engaged) then) ∙ e) t)
-            ]
+    away own lacks none id o e =
+        let j = a_key engaged (key_at tale (suc n) id) e in
+        let k = was-found s.mapped id j.0 j.1 in
+        elim (cases_Bool (engaged k.0.keytype)) [
+          | inl t ↦ lacks id o (ap (if_some engaged) k.1 ∙ t)
+          | inr t ↦ none id o (ap (if_some keeps_ksk) (then id k.0 k.1)
+              ∙ or_second _ _ ((facts id k.0 k.1).engages own
+              (of_found (flags_fit Keys Quiet) _ k.0 k.1 (flags Keys own id))
+              (ap (λ (j : Key). engaged j.keytype) k.2 ∙ j.2)) t)
+        ]
 
     -- where all KSK roles get old, a new key takes over on the side of the zone
     takes_over : affects Keys r ≡ true → may_change_algorithms r ≡ false → Alive tale Keys n
         → HasNo tale keeps_ksk (suc n) → (affects Zone r ≡ true) × Left tale Zone (Early r) (suc n)
     takes_over own free alive none =
-        let k = a_key (in_use Keys) (found (world_at tale n) alive.0) alive.1 in
+        let k = a_key (in_use Keys) (key_at tale n alive.0) alive.1 in
         let key = found_key (world_at tale n) alive.0 k.0 k.1 in
         let same : k.0.algorithm ≡ a =
         sym (has-algorithm all n (omega (arith, here)) alive.0.0 k.0 key.0)
         ∙ ap (algorithm_at all.calls) key.1 ∙ same_number _ a alive.2 in
-        elim (cases_Bool (is_listed old alive.0.0)) [
-          | inl l ↦ let x = can.algorithms free alive.0.0 k.0 key.0 l in
+        elim (cases_Bool (is_listed s.old alive.0.0)) [
+          | inl l ↦ let x = s.can.algorithms free alive.0.0 k.0 key.0 l in
               new_key x.0 x.1 x.2 x.3 (x.4 ∙ same)
           | inr l ↦ absurd (none alive.0 alive.2
-              (ap (if_some keeps_ksk) (m.founds alive.0
-              ∙ ap (option_map (start_key r now old new alive.0.0)) k.1)
-              ∙ (at_start r (is_listed old alive.0.0) (is_listed new alive.0.0) k.0.keytype
-              (may_there r (world_at tale n) old new can alive.0.0 k.0 key.0)).keeps own
-              (sym (ap (all_ok (fits Keys Quiet)) k.1) ∙ flags Keys own alive.0) k.2 l))
+              (ap (if_some keeps_ksk) (then alive.0 k.0 k.1) ∙ (facts alive.0 k.0 k.1).keeps own
+              (of_found (flags_fit Keys Quiet) _ k.0 k.1 (flags Keys own alive.0)) k.2 (ap not l)))
         ]
       where
         new_key : (x : List ℕ) (j : Key) → (world_at tale n).key x ≡ Some j
-            → is_listed new x ≡ true → j.algorithm ≡ a
+            → is_listed s.new x ≡ true → j.algorithm ≡ a
             → (affects Zone r ≡ true) × Left tale Zone (Early r) (suc n)
         new_key x j at l same =
             let id : Id = (x, (world_at tale n).added x) in
             let o = family_id n (omega (arith, here)) x j at same in
-            let then = m.founds id ∙ ap (option_map (start_key r now old new x))
-            (found_now (world_at tale n) x ∙ at) in
-            let either = (at_start r (is_listed old x) (is_listed new x) j.keytype
-            (may_there r (world_at tale n) old new can x j at)).new free l in
-            elim (cases_Bool (affects Keys r && remains Keys r
-            (started r (is_listed old x) (is_listed new x) j.keytype))) [
+            let at_key = found_now (world_at tale n) x ∙ at in
+            elim (cases_Bool (affects Keys r && remains Keys r (kind_then s x j.keytype))) [
               | inl t ↦ absurd (none_remains own none id o
-                  (ap (if_some (remains Keys r)) then ∙ (and_parts _ _ t).1))
-              | inr t ↦ let z = and_parts _ _ (or_second _ _ either t) in
-                  (z.0, (id, ap (if_some (remains Zone r)) then ∙ z.1, o))
+                  (ap (if_some (remains Keys r)) (then id j at_key) ∙ (and_parts _ _ t).1))
+              | inr t ↦ let z = and_parts _ _
+                  (or_second _ _ ((facts id j at_key).new (ap not free) l) t) in
+                  (z.0, (id, ap (if_some (remains Zone r)) (then id j at_key) ∙ z.1, o))
             ]
 
     fades : affects Keys r ≡ true → Alive tale Keys n → HasNo tale keeps_ksk (suc n) → (b : Bool)
@@ -256,11 +248,11 @@ module _ (all : Tale) (a : ℕ) where
         (first, keys_left own h, zone_left (ap (affects Zone) first) h)
     comes own lacks h false t =
         let before = has_of keeps_ksk n (omega (arith, here)) (keeps.none_new n a r
-        (start-told all.calls all.es n r starts)
+        (start-made all.calls all.es n r starts)
         (λ first. true≢false (sym (ap may_change_algorithms first) ∙ t))
         (of_has keeps_ksk (suc n) here h)) in
-        absurd (lacks before.0 before.2 (some_of (fits Keys Quiet) keeps_ksk engaged
-        (λ k f. (of_key k).rest_engaged f) (found (world_at tale n) before.0)
+        absurd (lacks before.0 before.2 (some_of (flags_fit Keys Quiet) keeps_ksk engaged
+        rest-engaged (key_at tale n before.0)
         (flags Keys own before.0) before.1))
 
     algorithm_goes : Goes tale n r
@@ -278,5 +270,5 @@ module _ (all : Tale) (a : ℕ) where
 
 pub algorithm-law : (tale : Tale) (a : ℕ) → KeepsWhole tale.name tale.calls tale.es
     → Law (of_algorithm tale a)
-algorithm-law tale a keeps n here r now old new m can starts flags =
-    algorithm_goes tale a keeps n here r now old new m can starts flags
+algorithm-law tale a keeps n here r s starts flags =
+    algorithm_goes tale a keeps n here r s starts flags

@@ -1,20 +1,19 @@
 -- The finite facts of the tables on both sides of the chain, computed over all kinds and flags.
-use Rattle.dnssec_zone.proofs.Tests.{four, ◌⇒◌, mp, and-both}
-use Rattle.dnssec_zone.proofs.Flags.{SideOf, affects, fits, has_role, may_start, started, Keys}
+use Rattle.dnssec_zone.proofs.Flags.{SideOf, affects, flags_fit, has_role, may_start, started, Keys}
 use Rattle.dnssec_zone.proofs.Flags.{Zone, Quiet, Early, start-fits}
 use Rattle.std.proofs.Common.{◌≡◌, Bool, true, false, not, ◌&&◌, ◌||◌, refl}
 use Rattle.std.proofs.lemmas.Bool.{and_parts}
 use Rattle.dnssec_key.specs.declared.roll.RollType.{RollType}
-use Rattle.dnssec_key.specs.declared.roll.RollType.TheVariants.{KskDoubleDsRoll}
+use Rattle.dnssec_key.specs.declared.roll.RollType.TheVariants.{KskDoubleDsRoll, AlgorithmRoll}
 use Rattle.dnssec_key.specs.declared.roll.RollType.TheVariants.{ZskDoubleSignatureRoll}
-use Rattle.dnssec_key.specs.declared.roll.RollType.TheVariants.{AlgorithmRoll}
 use Rattle.dnssec_key.specs.declared.kind.KeyType.{KeyType}
 use Rattle.dnssec_key.specs.declared.kind.KeyType.TheVariants.{Ksk, Zsk, Csk}
 use Rattle.dnssec_run.specs.Safe.{SetKind, Ds, Dnskey, ZoneSigners}
 use Rattle.dnssec_key.specs.RollTable.{column}
 use Rattle.dnssec_run.specs.Published.{in_ds, in_dnskey, signs_dnskey as signs_keys, signs_zone}
 use Rattle.dnssec_zone.specs.Start.{serves_as_new, serves_as_kept}
-use Rattle.dnssec_run.proofs.Chain.Tables.{want_on, side_listed-at}
+use Rattle.dnssec_run.proofs.Chain.Tables.{Claim, holds, ◌gives◌, ◌also◌, of_side_listed, want_on}
+use Rattle.dnssec_run.proofs.Chain.Tables.{Says}
 
 -- at its first wait the roll changes its second set; else it only leaves the old keys out
 abbrev pub switches : SideOf → RollType → Bool
@@ -22,54 +21,59 @@ switches Zone ZskDoubleSignatureRoll = false
 switches Zone AlgorithmRoll = false
 switches _ _ = true
 
--- the two sets of a side: membership in the DNSKEY set (on the key side: signing it too), and in
--- the other set
-abbrev pub in_keys : SideOf → KeyType → Bool
-in_keys Keys k = in_dnskey k && signs_keys k
-in_keys Zone (Zsk s) = s.present
-in_keys Zone (Csk s t) = s.present
-in_keys Zone _ = false
+-- the two sets of a side: the DNSKEY set, which both sides share, and its own: the DS set, or the
+-- keys that sign the zone
+pub data SideSet : Type 0 where
+  Shared : SideSet
+  Own : SideSet
 
-abbrev pub in_other : SideOf → KeyType → Bool
-in_other Keys k = in_ds k
-in_other Zone k = signs_zone k
+abbrev pub by_set : (P : SideSet → Type 0) → P Shared → P Own → (set : SideSet) → P set
+by_set P shared own Shared = shared
+by_set P shared own Own = own
 
--- the kinds of the sets of a roll on a side: the first grows at its start, the second changes at
--- its first wait; on the side of keys the DS sets are the first in a Double-DS roll
-abbrev pub ds_first : RollType → Bool
-ds_first KskDoubleDsRoll = true
-ds_first _ = false
+-- a claim of each of them
+abbrev pub on_sets : (SideSet → Claim) → Claim
+on_sets c = c Shared also c Own
 
-abbrev pub first_by : SideOf → Bool → SetKind
-first_by Keys true = Ds
-first_by _ _ = Dnskey
+pub on_set : (c : SideSet → Claim) → Says (on_sets c) → (set : SideSet) → Says (c set)
+on_set c h = by_set (λ set. Says (c set)) h.0 h.1
 
-abbrev pub second_by : SideOf → Bool → SetKind
-second_by Keys true = Dnskey
-second_by Keys false = Ds
-second_by Zone _ = ZoneSigners
+-- which set of the zone it is
+abbrev pub kind_on : SideOf → SideSet → SetKind
+kind_on sd Shared = Dnskey
+kind_on Keys Own = Ds
+kind_on Zone Own = ZoneSigners
 
-abbrev pub first_kind : SideOf → RollType → SetKind
-first_kind sd r = first_by sd (ds_first r)
+-- a key is in it; on the side of keys it signs the DNSKEY set too
+abbrev pub is_in : SideOf → SideSet → KeyType → Bool
+is_in Keys Shared k = in_dnskey k && signs_keys k
+is_in Zone Shared k = has_role Zone k && in_dnskey k
+is_in Keys Own k = in_ds k
+is_in Zone Own k = signs_zone k
 
-abbrev pub second_kind : SideOf → RollType → SetKind
-second_kind sd r = second_by sd (ds_first r)
+-- The first set of a roll grows at its start, the second changes at its first wait. Only in a
+-- Double-DS roll the DS set is the first.
+abbrev pub first_set : RollType → SideSet
+first_set KskDoubleDsRoll = Own
+first_set _ = Shared
 
--- membership by kind, as a side sees it
-abbrev pub test_of : SideOf → SetKind → KeyType → Bool
-test_of sd Dnskey = in_keys sd
-test_of Keys Ds = in_other Keys
-test_of Zone ZoneSigners = in_other Zone
-test_of _ _ = λ k. false
+abbrev pub second_set : RollType → SideSet
+second_set KskDoubleDsRoll = Shared
+second_set _ = Own
 
-abbrev pub first_test : SideOf → RollType → KeyType → Bool
-first_test sd r = test_of sd (first_kind sd r)
-
-abbrev pub second_test : SideOf → RollType → KeyType → Bool
-second_test sd r = test_of sd (second_kind sd r)
+-- so what holds of both holds of each
+pub both_sets : (r : RollType) (P : SideSet → Type 0) → P (first_set r) → P (second_set r)
+    → (set : SideSet) → P set
+both_sets KskDoubleDsRoll P a b = by_set P b a
+both_sets _ P a b = by_set P a b
 
 abbrev pub in_use : SideOf → KeyType → Bool
-in_use sd k = in_keys sd k && in_other sd k
+in_use sd k = is_in sd Shared k && is_in sd Own k
+
+pub used_in : (sd : SideOf) (set : SideSet) (k : KeyType) → in_use sd k ≡ true
+    → is_in sd set k ≡ true
+used_in sd set k e = let p = and_parts (is_in sd Shared k) (is_in sd Own k) e in
+    by_set (λ set. is_in sd set k ≡ true) p.0 p.1 set
 
 abbrev pub is_old : SideOf → KeyType → Bool
 is_old Keys (Ksk s) = s.old
@@ -80,48 +84,36 @@ is_old _ _ = false
 
 -- a key of the first set that isn't old: it is in use from the first wait on
 abbrev pub remains : SideOf → RollType → KeyType → Bool
-remains sd r k = has_role sd k && (first_test sd r k && not (is_old sd k))
+remains sd r k = has_role sd k && (is_in sd (first_set r) k && not (is_old sd k))
 
 -- in use and not on its way out
 abbrev pub live : SideOf → KeyType → Bool
 live sd k = in_use sd k && not (is_old sd k)
 
 -- a start
-start_table : SideOf → RollType → Bool → Bool → KeyType → Bool
-start_table sd r o i k = (affects sd r && (may_start r o i k && fits sd Quiet k)) ⇒
-    ((second_test sd r k ⇒ first_test sd r k)
-    && (in_use sd k ⇒ in_use sd (started r o i k))
-    && ((switches sd r && second_test sd r (started r o i k)) ⇒
-    (second_test sd r k && first_test sd r (started r o i k)))
-    && (((i && serves_as_new (want_on sd r) k) || (not o && serves_as_kept (want_on sd r) k))
-    ⇒ remains sd r
-    (started r o i k)))
-
-start_holds : (sd : SideOf) (r : RollType) (o i : Bool) (k : KeyType) → start_table sd r o i k
-    ≡ true
-unfolding start_table column
-start_holds sd r o i = side_listed-at start_table (λ a b. refl) (λ a b. refl) sd r o i
+start_claim : SideOf → RollType → Bool → Bool → KeyType → Claim
+start_claim sd r o i k =
+    let j = started r o i k in
+    affects sd r gives may_start r o i k gives flags_fit sd Quiet k gives
+    ((is_in sd (second_set r) k gives holds (is_in sd (first_set r) k))
+    also (in_use sd k gives holds (in_use sd j))
+    also (switches sd r gives is_in sd (second_set r) j gives
+    (holds (is_in sd (second_set r) k) also holds (is_in sd (first_set r) j)))
+    also (((i && serves_as_new (want_on sd r) k) || (not o && serves_as_kept (want_on sd r) k))
+    gives holds (remains sd r j)))
 
 pub record Started (sd : SideOf) (r : RollType) (o i : Bool) (k : KeyType) : Type 0 where
-  pub fit : fits sd (Early r) (started r o i k) ≡ true
-  pub inner : second_test sd r k ≡ true → first_test sd r k ≡ true
+  pub fit : flags_fit sd (Early r) (started r o i k) ≡ true
+  pub inner : is_in sd (second_set r) k ≡ true → is_in sd (first_set r) k ≡ true
   pub used : in_use sd k ≡ true → in_use sd (started r o i k) ≡ true
-  pub second : switches sd r ≡ true → second_test sd r (started r o i k) ≡ true
-      → (second_test sd r k ≡ true) × (first_test sd r (started r o i k) ≡ true)
-  pub some : ((i && serves_as_new (want_on sd r) k)
-      || (not o && serves_as_kept (want_on sd r) k)) ≡ true
-      → remains sd r (started r o i k) ≡ true
+  pub second : switches sd r ≡ true → is_in sd (second_set r) (started r o i k) ≡ true
+      → (is_in sd (second_set r) k ≡ true) × (is_in sd (first_set r) (started r o i k) ≡ true)
+  pub some : ((i && serves_as_new (want_on sd r) k) || (not o && serves_as_kept (want_on sd r) k))
+      ≡ true → remains sd r (started r o i k) ≡ true
 
 pub start_facts : (sd : SideOf) (r : RollType) (o i : Bool) (k : KeyType) → affects sd r ≡ true
-    → may_start r o i k ≡ true → fits sd Quiet k ≡ true → Started sd r o i k
-unfolding start_table column
+    → may_start r o i k ≡ true → flags_fit sd Quiet k ≡ true → Started sd r o i k
+unfolding start_claim column
 start_facts sd r o i k own may fit =
-    let e = mp _ _ (start_holds sd r o i k) (and-both _ _ own (and-both _ _ may fit)) in
-    let a = four _ _ _ _ e in
-    record {
-      fit = start-fits sd r o i k own may fit;
-      inner = mp _ _ a.0;
-      used = mp _ _ a.1;
-      second = λ w h. and_parts _ _ (mp _ _ a.2 (and-both _ _ w h));
-      some = mp _ _ a.3;
-    }
+    let x = of_side_listed start_claim (λ a b. refl) sd r o i k own may fit in
+    assumption (start-fits sd r o i k own may fit, x)

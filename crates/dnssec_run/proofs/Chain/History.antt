@@ -1,20 +1,20 @@
 -- Positions of a record: time, retirement, bases; and the side of the key chain.
-use Rattle.std.proofs.Common.{[], ◌≡◌, ℕ, zero, suc, ◌≤◌, ◌⊎◌, inl, inr, refl, sym, Bool, true}
-use Rattle.std.proofs.Common.{false, ◌&&◌, subst, arith, List, ◌∷◌, Some, ◌<◌}
+use Rattle.std.proofs.Common.{[], ◌≡◌, ℕ, zero, suc, ◌≤◌, ◌⊎◌, inl, inr, refl, sym, Bool, true, ◌∷◌}
+use Rattle.std.proofs.Common.{false, subst, arith, List, Some, ◌<◌}
 use Rattle.std.specs.Prelude.{if◌then◌else◌}
 use Rattle.std.proofs.lemmas.Option.{none-some, same_Some}
 use Rattle.std.specs.List.{Contains}
-use Rattle.std.proofs.lemmas.Bool.{and_parts, cases_lt}
+use Rattle.std.proofs.lemmas.Bool.{cases_lt}
 use Rattle.dnssec_key.specs.declared.roll.RollType.{RollType}
 use Rattle.dnssec_zone.proofs.Flags.{SideOf, Keys, Zone, affects}
-use Rattle.dnssec_zone.proofs.Tests.{each_roll, each_roll-at, mp, ◌⇒◌}
 use Rattle.dnssec_run.specs.declared.record.Entry.{Entry}
 use Rattle.dnssec_run.specs.Published.{Id}
-use Rattle.dnssec_run.specs.Safe.{SetKind, Ds, Dnskey, ZoneSigners, position_at, base_below}
-use Rattle.dnssec_run.specs.Safe.{time_at, IsGone, is_step, retires}
+use Rattle.dnssec_run.specs.Safe.{SetKind, position_at, base_below, time_at, IsGone, is_step}
+use Rattle.dnssec_run.specs.Safe.{retires}
 use Rattle.dnssec_run.proofs.Chain.Tale.{Tale}
-use Rattle.dnssec_run.proofs.Chain.Flags.{first_kind, second_kind, switches}
-use Rattle.dnssec_run.proofs.Chain.Tables.{by_side}
+use Rattle.dnssec_run.proofs.Chain.Flags.{SideSet, Shared, Own, kind_on, first_set, second_set}
+use Rattle.dnssec_run.proofs.Chain.Flags.{switches}
+use Rattle.dnssec_run.proofs.Chain.Tables.{holds, ◌gives◌, of_side_roll}
 
 pub time_grows : (es : List Entry) (n : ℕ) → time_at es n ≤ time_at es (suc n)
 unfolding time_at
@@ -85,36 +85,24 @@ never-gone-now es kind n h =
 abbrev pub Without : Tale → ℕ → Type 0
 Without tale q = (id : Id) → tale.of id ≡ true → Contains (position_at tale.es q).ds id → ⊥
 
--- what a position offers to a key: it holds the key, or as a DS set none of the family
-abbrev pub Serving : Tale → SideOf → SetKind → ℕ → Id → Type 0
-Serving tale Keys Ds q k = Without tale q ⊎ Contains (position_at tale.es q).ds k
-Serving tale Keys Dnskey q k = Contains (position_at tale.es q).dnskey k
+-- what the set of a position offers to a key: it holds the key, or as a DS set none of the family
+abbrev pub Serving : Tale → SideOf → SideSet → ℕ → Id → Type 0
+Serving tale Keys Shared q k = Contains (position_at tale.es q).dnskey k
     × Contains (position_at tale.es q).signers k
-Serving tale Keys ZoneSigners q k = Unit {0}
-Serving tale Zone Ds q k = Unit {0}
-Serving tale Zone Dnskey q k = Contains (position_at tale.es q).dnskey k
-Serving tale Zone ZoneSigners q k = Contains (position_at tale.es q).zone k
-
--- if the second set changes at the first wait, the second report retires it; else the first does
-retires_table : SideOf → RollType → Bool
-retires_table sd r = affects sd r
-    ⇒ (retires r false (first_kind sd r) && retires r (switches sd r) (second_kind sd r))
-
-both_retire : (sd : SideOf) (r : RollType) → affects sd r ≡ true
-    → (retires r false (first_kind sd r) ≡ true)
-    × (retires r (switches sd r) (second_kind sd r) ≡ true)
-unfolding retires_table
-both_retire sd r own = and_parts _ _
-    (mp _ _ (each_roll-at (retires_table sd) (by_side
-    (λ sd. each_roll (retires_table sd) ≡ true) refl refl sd) r) own)
+Serving tale Keys Own q k = Without tale q ⊎ Contains (position_at tale.es q).ds k
+Serving tale Zone Shared q k = Contains (position_at tale.es q).dnskey k
+Serving tale Zone Own q k = Contains (position_at tale.es q).zone k
 
 pub first-retires : (sd : SideOf) (r : RollType) → affects sd r ≡ true
-    → retires r false (first_kind sd r) ≡ true
-first-retires sd r own = (both_retire sd r own).0
+    → retires r false (kind_on sd (first_set r)) ≡ true
+first-retires = of_side_roll
+    (λ sd r. affects sd r gives holds (retires r false (kind_on sd (first_set r)))) refl
 
+-- if the second set changes at the first wait, the second report retires it; else the first does
 pub second-retires : (sd : SideOf) (r : RollType) → affects sd r ≡ true
-    → retires r (switches sd r) (second_kind sd r) ≡ true
-second-retires sd r own = (both_retire sd r own).1
+    → retires r (switches sd r) (kind_on sd (second_set r)) ≡ true
+second-retires = of_side_roll
+    (λ sd r. affects sd r gives holds (retires r (switches sd r) (kind_on sd (second_set r)))) refl
 
 pub nothing_in : {A : Type 0} (xs : List A) → ((x : A) → Contains xs x → ⊥) → xs ≡ []
 nothing_in [] h = refl

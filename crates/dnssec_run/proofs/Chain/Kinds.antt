@@ -3,13 +3,13 @@ use Rattle.std.proofs.Common.{◌≡◌, ℕ, Bool, true, false, ◌||◌, refl,
 use Rattle.std.specs.Prelude.{nat_eq}
 use Rattle.dnssec_key.specs.declared.roll.RollType.{RollType}
 use Rattle.dnssec_key.specs.declared.kind.KeyType.{KeyType}
-use Rattle.dnssec_key.specs.declared.kind.KeyType.TheVariants.{Ksk}
+use Rattle.dnssec_run.proofs.Chain.Tables.{Claim, same, of_key, on_both, on_side}
 use Rattle.dnssec_key.specs.RollTable.{at_roles, turns_old, Half, half_of}
-use Rattle.dnssec_zone.specs.Start.{side_of}
+use Rattle.dnssec_zone.specs.Start.{side_of, lists_kind}
 use Rattle.dnssec_keyset.proofs.Exchange.Kinds.{kind_number, lists-number, lists_by, number-comes}
 use Rattle.dnssec_keyset.proofs.Exchange.Kinds.{number-at_roles, number-goes, number-moves}
 use Rattle.dnssec_keyset.proofs.Exchange.Kinds.{number-returns}
-use Rattle.dnssec_zone.proofs.Flags.{SideOf, Keys, Zone, may_list, started, ended, has_role}
+use Rattle.dnssec_zone.proofs.Flags.{SideOf, Keys, Zone, started, ended, has_role}
 
 pub number_started : (r : RollType) (o i : Bool) (k : KeyType)
     → kind_number (started r o i k) ≡ kind_number k
@@ -29,16 +29,17 @@ number_ended r false false k = refl
 -- ---- which rolls list it
 
 pub same_list : (q : RollType) (j k : KeyType) → kind_number j ≡ kind_number k
-    → may_list q j ≡ may_list q k
+    → lists_kind (side_of q) j ≡ lists_kind (side_of q) k
 same_list q j k e = lists-number (side_of q) j ∙ ap (lists_by (side_of q)) e
     ∙ sym (lists-number (side_of q) k)
 
-pub list_start : (q r : RollType) (o i : Bool) (k : KeyType) → may_list q (started r o i k)
-    ≡ may_list q k
+pub list_start : (q r : RollType) (o i : Bool) (k : KeyType)
+    → lists_kind (side_of q) (started r o i k)
+    ≡ lists_kind (side_of q) k
 list_start q r o i k = same_list q _ k (number_started r o i k)
 
 pub list_waited : (q r : RollType) (half : Half) (k : KeyType)
-    → may_list q ((half_of r half).moves k) ≡ may_list q k
+    → lists_kind (side_of q) ((half_of r half).moves k) ≡ lists_kind (side_of q) k
 list_waited q r half k = same_list q _ k (number-moves r half k)
 
 -- ---- its roles
@@ -47,11 +48,12 @@ role_by : SideOf → ℕ → Bool
 role_by Keys n = nat_eq n 0 || nat_eq n 2
 role_by Zone n = nat_eq n 1 || nat_eq n 2
 
+role_claim : KeyType → SideOf → Claim
+role_claim k sd = same (has_role sd k) (role_by sd (kind_number k))
+
 role-number : (sd : SideOf) (k : KeyType) → has_role sd k ≡ role_by sd (kind_number k)
-unfolding role_by kind_number
-role-number Keys (Ksk s) = refl
-role-number Zone (Ksk s) = refl
-role-number _ _ = refl
+unfolding role_claim role_by kind_number
+role-number sd k = on_side (role_claim k) (of_key (λ k. on_both (role_claim k)) (λ a b. refl) k) sd
 
 pub same_role : (sd : SideOf) (j k : KeyType) → kind_number j ≡ kind_number k
     → has_role sd j ≡ has_role sd k

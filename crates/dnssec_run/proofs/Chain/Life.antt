@@ -1,28 +1,28 @@
 -- How a family of keys fares: it stays on both sides, leaves, or isn't there. Calls that leave both
 -- sides alone keep that.
 use Rattle.std.proofs.Common.{◌≡◌, ℕ, suc, ◌<◌, ◌≤◌, ◌⊎◌, inl, inr, true, false, ◌∙◌, subst, arith}
-use Rattle.std.proofs.Common.{length, List, Some}
+use Rattle.std.proofs.Common.{length}
 use Rattle.std.proofs.lemmas.Bool.{cases_lt, or_right}
 use Rattle.dnssec_key.specs.declared.roll.RollType.{RollType}
 use Rattle.dnssec_key.specs.declared.roll.RollType.TheVariants.{AlgorithmRoll}
 use Rattle.dnssec_key.specs.declared.kind.KeyType.{KeyType}
 use Rattle.dnssec_run.specs.ByAlgorithm.{keeps_ksk}
 use Rattle.dnssec_run.specs.Published.{Id, in_ds}
-use Rattle.dnssec_run.specs.Safe.{Ds}
 use Rattle.dnssec_run.proofs.Premise.{DoesAt, first_wait_of, start_of}
-use Rattle.dnssec_zone.proofs.Flags.{SideOf, Keys, Zone, affects, Stage, Quiet, Early, Late, fits}
-use Rattle.dnssec_run.proofs.Chain.Tale.{Tale, found, world_at, start_key, CanStart}
-use Rattle.dnssec_run.proofs.Chain.OneKey.{Mapped}
-use Rattle.dnssec_key.specs.declared.roll.RollState.TheVariants.{Propagation1}
+use Rattle.dnssec_zone.proofs.Flags.{SideOf, Keys, Zone, affects, Stage, Quiet, Early, Late}
+use Rattle.dnssec_zone.proofs.Flags.{flags_fit}
+use Rattle.dnssec_run.proofs.Chain.Tale.{key_at, Tale}
+use Rattle.dnssec_run.proofs.Chain.OneKey.{Starts}
 use Rattle.dnssec_run.proofs.Chain.Side.{upto}
-use Rattle.dnssec_run.proofs.Chain.Flags.{in_use, live, remains}
+use Rattle.dnssec_run.proofs.Chain.Flags.{Own, in_use, live, remains}
 use Rattle.dnssec_run.proofs.Chain.Facts.{test-seen, use-seen, live-seen, remains-seen}
-use Rattle.dnssec_run.proofs.Chain.Keeping.{engaged, engaged-seen, of_key, before_first}
+use Rattle.dnssec_run.proofs.Chain.Keeping.{engaged, engaged-seen, rest-keeps, live-keeps}
+use Rattle.dnssec_run.proofs.Chain.Keeping.{before_first}
 use Rattle.dnssec_run.proofs.Chain.History.{Without, base_same}
-use Rattle.dnssec_run.proofs.Chain.Places.{all_ok, NoDs, LessDs, ds_shown, without-next, some_of}
+use Rattle.dnssec_run.proofs.Chain.Places.{Fits, NoDs, LessDs, shown_at, without-next, some_of}
 use Rattle.dnssec_run.proofs.Chain.Places.{some_weaker}
 use Rattle.dnssec_run.proofs.Chain.Invariant.{At, Alive, Based, Gentle, Has, HasNo, Lasts, Left}
-use Rattle.dnssec_run.proofs.Chain.Invariant.{has-gentle, has_no-gentle, lasts-gentle}
+use Rattle.dnssec_run.proofs.Chain.Invariant.{has-gentle, has_no-gentle, lasts-gentle, was-gentle}
 
 -- ---- first waits of algorithm rolls
 
@@ -84,20 +84,21 @@ pub lasts-keeps : (tale : Tale) (st : Stage) (n : ℕ) → At tale Keys st n →
     → Has tale keeps_ksk n
 lasts-keeps tale Quiet n h a = (
   a.0.0,
-  some_of (fits Keys Quiet) (in_use Keys) keeps_ksk (λ k f. (of_key k).rest_keeps f)
-      (found (world_at tale n) a.0.0) (h.flags a.0.0) a.0.1,
+  some_of (flags_fit Keys Quiet) (in_use Keys) keeps_ksk rest-keeps
+      (key_at tale n a.0.0) (h.flags a.0.0) a.0.1,
   a.0.2,
 )
 lasts-keeps tale (Early r) n h a = (
   a.1.0,
-  some_of (fits Keys (Early r)) (remains Keys r) keeps_ksk (λ k f. (before_first r k h.own f).kept)
-      (found (world_at tale n) a.1.0) (h.flags a.1.0) a.1.1,
+  some_of (flags_fit Keys (Early r)) (remains Keys r) keeps_ksk (λ k f.
+      (before_first r k h.own f).kept)
+      (key_at tale n a.1.0) (h.flags a.1.0) a.1.1,
   a.1.2,
 )
 lasts-keeps tale (Late r) n h a = (
   a.1.0,
-  some_weaker (live Keys) keeps_ksk (λ k e. (of_key k).live_keeps e)
-      (found (world_at tale n) a.1.0) a.1.1,
+  some_weaker (live Keys) keeps_ksk live-keeps
+      (key_at tale n a.1.0) a.1.1,
   a.1.2,
 )
 
@@ -105,8 +106,8 @@ lasts-keeps tale (Late r) n h a = (
 pub without-engaged : (tale : Tale) (n : ℕ) → suc n ≤ length tale.es → HasNo tale engaged (suc n)
     → Without tale (suc n)
 without-engaged tale n here none id o c = none id o
-    (some_weaker in_ds engaged (λ k e. in_either k e) (found (world_at tale (suc n)) id)
-    (ds_shown tale n here id c))
+    (some_weaker in_ds engaged (λ k e. in_either k e) (key_at tale (suc n) id)
+    (((shown_at tale (suc n) here).ds id).0 c))
   where
     in_either : (k : KeyType) → in_ds k ≡ true → engaged k ≡ true
     in_either k e = or_right _ _ e
@@ -132,18 +133,16 @@ pub record Goes (tale : Tale) (n : ℕ) (r : RollType) : Type 0 where
 
 -- so each accepted start does
 abbrev pub Law : Tale → Type 0
-Law tale = (n : ℕ) → suc n ≤ length tale.es → (r : RollType) (now : ℕ) (old new : List (List ℕ))
-    → Mapped tale n (start_key r now old new) r (Some Propagation1)
-    → CanStart r (world_at tale n) old new → DoesAt start_of tale.calls tale.es n r
-    → ((sd : SideOf) → affects sd r ≡ true → (id : Id)
-    → all_ok (fits sd Quiet) (found (world_at tale n) id) ≡ true) → Goes tale n r
+Law tale = (n : ℕ) → suc n ≤ length tale.es → (r : RollType) → Starts tale n r
+    → DoesAt start_of tale.calls tale.es n r → ((sd : SideOf) → affects sd r ≡ true → (id : Id)
+    → Fits tale (flags_fit sd Quiet) n id) → Goes tale n r
 
 -- ---- calls that leave both sides alone
 
 module _ (tale : Tale) (n : ℕ) (here : suc n ≤ length tale.es) (ks zs : Stage)
     (gk : Gentle tale Keys ks n) (gz : Gentle tale Zone zs n) (none : PassesAt tale n → ⊥) where
   less_ds : LessDs tale n
-  less_ds = gk.fore (λ k. in_ds k) (test-seen Keys Ds)
+  less_ds = was-gentle tale n here Keys ks in_ds (test-seen Keys Own) gk
 
   early_on : (r : RollType) → LeavesEarly tale r ks zs n → LeavesEarly tale r ks zs (suc n)
   early_on r h = (

@@ -1,11 +1,12 @@
 -- What is kept of starts: how each call changes the lists, and which calls leave a side's keys in
 -- them as they were.
 use Rattle.std.proofs.lemmas.Bool.{false_from_ne_true}
-use Rattle.std.proofs.Math.Bool.{and-true, and-false}
+use Rattle.std.proofs.Math.Bool.{and-true, and_comm}
+use Rattle.std.proofs.lemmas.Map.Views.{any-filter_same}
 use Rattle.dnssec_zone.specs.Lists.{lists_after_report, nothing_listed, Listed, Lists, listed_by}
 use Rattle.dnssec_zone.specs.Lists.{with_listed, without, others}
-use Rattle.std.proofs.Common.{[], ◌∷◌, ◌≡◌, ℕ, suc, Bool, true, false, not, ◌&&◌, ◌||◌, refl, sym}
-use Rattle.std.proofs.Common.{◌∙◌, ap, List, Option, Some}
+use Rattle.std.proofs.Common.{◌≡◌, ℕ, suc, Bool, true, false, not, ◌&&◌, refl, sym, ◌∙◌, ap, List}
+use Rattle.std.proofs.Common.{Option, Some}
 use Rattle.std.specs.Prelude.{filter, if◌then◌else◌}
 use Rattle.std.specs.Str.{bytes_eq}
 use Rattle.std.specs.Cmp.Lexicographic.{bytes_decides}
@@ -14,9 +15,8 @@ use Rattle.dnssec_key.specs.declared.roll.RollState.{RollState}
 use Rattle.dnssec_key.specs.declared.roll.RollState.TheVariants.{Propagation1}
 use Rattle.dnssec_zone.specs.Rolls.{same_roll}
 use Rattle.dnssec_zone.proofs.Flags.{SideOf, affects, has_role}
-use Rattle.dnssec_zone.proofs.Phases.{listed_by-with_listed, listed_by-without}
 use Rattle.dnssec_run.specs.Published.{Id}
-use Rattle.dnssec_run.proofs.Chain.Tale.{Tale, Key, found, world_at, put_roll}
+use Rattle.dnssec_run.proofs.Chain.Tale.{key_at, Tale, Key, world_at, put_roll}
 use Rattle.dnssec_run.proofs.Chain.Rolls.{same-same, put-same, put-other}
 use Rattle.dnssec_run.proofs.Chain.Places.{real}
 use Rattle.dnssec_run.proofs.Chain.Returns.{KeepsLists, listed_at}
@@ -29,22 +29,9 @@ use Rattle.dnssec_zone.specs.Start.{is_listed}
 -- a list cut by a test of references
 pub is_listed-filter : (p : List ℕ → Bool) (qs : List (List ℕ)) (q : List ℕ)
     → is_listed (filter p qs) q ≡ (is_listed qs q && p q)
-is_listed-filter p [] q = refl
-is_listed-filter p (x ∷ xs) q = by (p x) refl (bytes_eq q x) refl (is_listed-filter p xs q)
-  where
-    by : (b : Bool) → p x ≡ b → (c : Bool) → bytes_eq q x ≡ c
-        → is_listed (filter p xs) q ≡ (is_listed xs q && p q)
-        → is_listed (if b then x ∷ filter p xs else filter p xs) q
-        ≡ ((bytes_eq q x || is_listed xs q) && p q)
-    by true t true u rest = (λ i. u i || is_listed (filter p xs) q)
-        ∙ sym (ap p ((bytes_decides q x).0 u) ∙ t) ∙ (λ i. (sym u i || is_listed xs q) && p q)
-    by true t false u rest = (λ i. u i || is_listed (filter p xs) q) ∙ rest
-        ∙ (λ i. (sym u i || is_listed xs q) && p q)
-    by false t true u rest =
-        let no : p q ≡ false = ap p ((bytes_decides q x).0 u) ∙ t in
-        rest ∙ ap (λ b. is_listed xs q && b) no ∙ and-false (is_listed xs q) ∙ sym no
-        ∙ (λ i. (sym u i || is_listed xs q) && p q)
-    by false t false u rest = rest ∙ (λ i. (sym u i || is_listed xs q) && p q)
+is_listed-filter p qs q =
+    any-filter_same (bytes_eq q) p (p q) (λ x t. ap p (sym ((bytes_decides q x).0 t))) qs
+    ∙ and_comm (p q) (is_listed qs q)
 
 -- the list without a reference lists the others as before
 pub is_listed-others : (x : List ℕ) (qs : List (List ℕ)) (q : List ℕ) → bytes_eq x q ≡ false
@@ -57,14 +44,12 @@ is_listed-others x qs q e = is_listed-filter (λ y. not (bytes_eq x y)) qs q
 -- those of one roll are put in place
 pub listed-same : (l : Lists) (r : RollType) (listed : Listed)
     → listed_by (with_listed l r listed) r ≡ listed
-listed-same l r listed = listed_by-with_listed l r listed r
-    ∙ ap (λ b. if b then listed else listed_by l r) (same-same r)
+listed-same l r listed = ap (λ b. if b then listed else listed_by l r) (same-same r)
 
 -- and those of other rolls stay
 pub listed-other : (l : Lists) (r : RollType) (listed : Listed) (q : RollType)
     → same_roll r q ≡ false → listed_by (with_listed l r listed) q ≡ listed_by l q
-listed-other l r listed q e = listed_by-with_listed l r listed q
-    ∙ ap (λ b. if b then listed else listed_by l q) e
+listed-other l r listed q e = ap (λ b. if b then listed else listed_by l q) e
 
 pub listed-reported : (half : Half) (l : Lists) (r q : RollType) → same_roll r q ≡ false
     → listed_by (lists_after_report r half l) q ≡ listed_by l q
@@ -90,9 +75,8 @@ module _ (tale : Tale) (n : ℕ) where
   pub keeps-without : (x : List ℕ)
       → ((q : RollType) → (world_at tale (suc n)).roll q ≡ (world_at tale n).roll q)
       → (real tale (suc n)).set.lists ≡ without x (real tale n).set.lists → (sd : SideOf)
-      → ((id : Id) (k : Key) → found (world_at tale (suc n)) id ≡ Some k → bytes_eq x id.0 ≡ true
-      → has_role sd k.keytype ≡ true → ⊥)
-      → KeepsLists tale sd n
+      → ((id : Id) (k : Key) → key_at tale (suc n) id ≡ Some k → bytes_eq x id.0 ≡ true
+      → has_role sd k.keytype ≡ true → ⊥) → KeepsLists tale sd n
   keeps-without x rolls lists sd gone = record {
     phase = λ r own e. sym (rolls r) ∙ e;
     same = λ r own e id k f role. by r id (bytes_eq x id.0) refl (λ t. gone id k f t role);
@@ -106,33 +90,36 @@ module _ (tale : Tale) (n : ℕ) where
       by r id true t none = absurd (none t)
       by r id false t none = (
         ap (λ l. is_listed (listed_by l r).olds id.0) lists
-            ∙ ap (λ (l : Listed). is_listed l.olds id.0)
-            (listed_by-without x (real tale n).set.lists r)
             ∙ is_listed-others x (listed_at tale r n).olds id.0 t,
         ap (λ l. is_listed (listed_by l r).news id.0) lists
-            ∙ ap (λ (l : Listed). is_listed l.news id.0)
-            (listed_by-without x (real tale n).set.lists r)
             ∙ is_listed-others x (listed_at tale r n).news id.0 t,
       )
 
-  -- a roll moves on from its first phase, or ends, and the lists of others stay
-  pub keeps-on : (r : RollType) (o : Option RollState) → (o ≡ Some Propagation1 → ⊥)
+  -- the lists of one roll change, which isn't in its first phase or not of the side
+  keeps_by : (r : RollType) (o : Option RollState)
       → ((q : RollType) → (world_at tale (suc n)).roll q ≡ put_roll (world_at tale n).roll r o q)
       → ((q : RollType) → same_roll r q ≡ false → listed_at tale q (suc n) ≡ listed_at tale q n)
-      → (sd : SideOf) → KeepsLists tale sd n
-  keeps-on r o moved rolls lists sd = record {
-    phase = λ q own e. sym (put-other (world_at tale n).roll r o q (apart q e)) ∙ sym (rolls q) ∙ e;
-    same = λ q own e id k f role. let same = lists q (apart q e) in (
+      → (sd : SideOf) → ((q : RollType) → affects sd q ≡ true
+      → (world_at tale (suc n)).roll q ≡ Some Propagation1 → same_roll r q ≡ false)
+      → KeepsLists tale sd n
+  keeps_by r o rolls lists sd apart = record {
+    phase = λ q own e. sym (put-other (world_at tale n).roll r o q (apart q own e))
+        ∙ sym (rolls q) ∙ e;
+    same = λ q own e id k f role. let same = lists q (apart q own e) in (
       ap (λ (l : Listed). is_listed l.olds id.0) same,
       ap (λ (l : Listed). is_listed l.news id.0) same,
     );
   }
-    where
-      apart : (q : RollType) → (world_at tale (suc n)).roll q ≡ Some Propagation1 → same_roll r q
-          ≡ false
-      apart q e = false_from_ne_true (same_roll r q)
-          (λ t. moved (sym (put-same (world_at tale n).roll r o) ∙ sym (rolls r)
-          ∙ ap (world_at tale (suc n)).roll (same-is r q t) ∙ e))
+
+  -- a roll moves on from its first phase, or ends
+  pub keeps-on : (r : RollType) (o : Option RollState) → (o ≡ Some Propagation1 → ⊥)
+      → ((q : RollType) → (world_at tale (suc n)).roll q ≡ put_roll (world_at tale n).roll r o q)
+      → ((q : RollType) → same_roll r q ≡ false → listed_at tale q (suc n) ≡ listed_at tale q n)
+      → (sd : SideOf) → KeepsLists tale sd n
+  keeps-on r o moved rolls lists sd = keeps_by r o rolls lists sd (λ q own e.
+      false_from_ne_true (same_roll r q)
+      (λ t. moved (sym (put-same (world_at tale n).roll r o) ∙ sym (rolls r)
+      ∙ ap (world_at tale (suc n)).roll (same-is r q t) ∙ e)))
 
   -- a start of a roll of the other side
   pub keeps-start : (r : RollType) (o : Option RollState)
@@ -140,11 +127,4 @@ module _ (tale : Tale) (n : ℕ) where
       → ((q : RollType) → same_roll r q ≡ false → listed_at tale q (suc n) ≡ listed_at tale q n)
       → (sd : SideOf) → ((q : RollType) → affects sd q ≡ true → same_roll r q ≡ false)
       → KeepsLists tale sd n
-  keeps-start r o rolls lists sd apart = record {
-    phase = λ q own e. sym (put-other (world_at tale n).roll r o q (apart q own)) ∙ sym (rolls q)
-        ∙ e;
-    same = λ q own e id k f role. let same = lists q (apart q own) in (
-      ap (λ (l : Listed). is_listed l.olds id.0) same,
-      ap (λ (l : Listed). is_listed l.news id.0) same,
-    );
-  }
+  keeps-start r o rolls lists sd apart = keeps_by r o rolls lists sd (λ q own e. apart q own)

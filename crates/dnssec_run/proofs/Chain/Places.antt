@@ -1,9 +1,9 @@
 -- A place of a run: the call, its entry, and the worlds before and after; a side of the chain over
 -- the record.
 use Rattle.dnssec_run.proofs.Laws.{made-at}
-use Rattle.dnssec_run.proofs.Chain.Flags.{ds_first, first_by, second_by, test_of, in_keys}
+use Rattle.dnssec_run.proofs.Chain.Flags.{SideSet, Shared, Own, kind_on, is_in}
 use Rattle.std.proofs.Common.{◌≡◌, ◌↔◌, ℕ, zero, suc, ◌<◌, ◌≤◌, inr, Bool, true, false, refl, sym}
-use Rattle.std.proofs.Common.{◌∙◌, ap, subst, arith, List, length, Option, None, Some}
+use Rattle.std.proofs.Common.{◌∙◌, ap, subst, arith, List, [], length, Option, None, Some}
 use Rattle.std.specs.Prelude.{slice_get, if◌then◌else◌, ◌==◌}
 use Rattle.std.specs.Option.{option_map}
 use Rattle.std.specs.List.{Contains}
@@ -13,27 +13,36 @@ use Rattle.std.specs.Cmp.Lexicographic.{slice_cmp}
 use Rattle.std.proofs.lemmas.Option.{same_Some, none-some}
 use Rattle.std.proofs.lemmas.Bool.{true≢false, and_parts, eqb-true, eq-eqb}
 use Rattle.dnssec_key.specs.declared.kind.KeyType.{KeyType}
-use Rattle.dnssec_key.specs.declared.kind.KeyType.TheVariants.{Ksk, Zsk, Csk, Include}
 use Rattle.dnssec_run.specs.declared.call.Call.{Call}
 use Rattle.dnssec_run.specs.declared.record.Entry.{Entry}
 use Rattle.dnssec_run.specs.Published.{Id, World as RealWorld, keys_where, in_ds, in_dnskey}
 use Rattle.dnssec_run.specs.Published.{signs_dnskey as signs_keys, signs_zone}
 use Rattle.dnssec_run.specs.Record as rec
-use Rattle.dnssec_run.specs.Safe.{SetKind, Ds, Dnskey, ZoneSigners, position_of, position_at}
-use Rattle.dnssec_run.specs.Safe.{IsGone}
+use Rattle.dnssec_run.specs.Safe.{Ds, Position, position_of, position_at, IsGone}
 use Rattle.dnssec_key.specs.declared.roll.RollType.{RollType}
 use Rattle.dnssec_keyset.specs.Step as keyset
 use Rattle.dnssec_run.proofs.Premise.{sets_nothing, DoesAt}
-use Rattle.dnssec_zone.proofs.Flags.{SideOf, Keys, Zone}
-use Rattle.dnssec_run.proofs.Chain.Tale.{Tale, World, Key, seen, found, if_some, world_at}
+use Rattle.dnssec_zone.proofs.Flags.{SideOf, Keys, Zone, has_role}
+use Rattle.dnssec_run.proofs.Chain.Tale.{Passes, key_at, Tale, World, Key, seen, found, if_some}
+use Rattle.dnssec_run.proofs.Chain.Tale.{world_at}
 use Rattle.dnssec_run.proofs.Chain.Shown.{shown-found}
 use Rattle.dnssec_run.proofs.Chain.History.{Serving, Without, retired_stays, never-gone-now}
+use Rattle.dnssec_run.proofs.Chain.History.{not_in_empty}
 use Rattle.dnssec_run.proofs.Chain.Side.{Side, upto}
 
 -- a test that a missing key passes
 abbrev pub all_ok : (KeyType → Bool) → Option Key → Bool
 all_ok p None = true
 all_ok p (Some k) = p k.keytype
+
+-- what is there passes
+abbrev pub Fits : Tale → (KeyType → Bool) → ℕ → Id → Type 0
+Fits tale p n id = all_ok p (key_at tale n id) ≡ true
+
+pub each-ok : (p : KeyType → Bool) (o : Option Key)
+    → ((k : Key) → o ≡ Some k → p k.keytype ≡ true) → all_ok p o ≡ true
+each-ok p None h = refl
+each-ok p (Some k) h = h k refl
 
 pub some_key : (p : KeyType → Bool) (o : Option Key) → if_some p o ≡ true → (k : Key) × (o ≡ Some k)
     × (p k.keytype ≡ true)
@@ -57,7 +66,7 @@ pub found_map : (b : Bool) (f : Key → Key) (o : Option Key) → (if b then opt
 found_map true f o = refl
 found_map false f o = refl
 
--- a list that is position_of shows exactly the keys that pass
+-- a list that shows exactly the keys that pass
 abbrev pub Shows : List Id → RealWorld → (KeyType → Bool) → Type 0
 Shows ids w p = (id : Id) → Contains ids id ↔ (if_some p (found (seen w) id) ≡ true)
 
@@ -65,6 +74,13 @@ shows_by : (p : KeyType → Bool) (w : RealWorld) (ids : List Id) → ids ≡ ke
     → Shows ids w p
 shows_by p w ids e id = let h = shown-found p w id in
     (λ c. h.0 (subst (λ l. Contains l id) e c), λ f. subst (λ l. Contains l id) (sym e) (h.1 f))
+
+-- a position shows what is published of a world
+pub record IsShown (p : Position) (w : RealWorld) : Type 0 where
+  pub ds : Shows p.ds w in_ds
+  pub dnskey : Shows p.dnskey w in_dnskey
+  pub signers : Shows p.signers w signs_keys
+  pub zone : Shows p.zone w signs_zone
 
 abbrev pub real : Tale → ℕ → RealWorld
 real tale n = rec.world_at tale.name tale.calls tale.es n
@@ -79,41 +95,56 @@ pub record Place (tale : Tale) (i : ℕ) : Type 0 where
   pub position_is : position_at tale.es (suc i) ≡ position_of entry
   pub added_is : (world_at tale (suc i)).added
       ≡ rec.added_by (suc i) call entry.reply (world_at tale i).added
-  pub ds : Shows (position_of entry).ds (real tale (suc i)) in_ds
-  pub dnskey : Shows (position_of entry).dnskey (real tale (suc i)) in_dnskey
-  pub signers : Shows (position_of entry).signers (real tale (suc i)) signs_keys
-  pub zone : Shows (position_of entry).zone (real tale (suc i)) signs_zone
 
 pub place_at : (tale : Tale) (i : ℕ) → i < length tale.es → Place tale i
 unfolding position_at rec.world_at
 place_at tale i lt =
-    let x = made-at tale.name tale.calls tale.es tale.run i (omega arith) in
-    let ok = tale.run.each i x.0 x.1 x.2 x.3 in
+    let x = made-at tale.run i (omega arith) in
     record {
       call = x.0;
       entry = x.1;
       call_is = x.2;
       entry_is = x.3;
-      ok = ok;
+      ok = tale.run.each i x.0 x.1 x.2 x.3;
       plain = tale.plain.setters i x.0 x.2;
       position_is = rw x.3 refl;
       added_is = rw (x.2, x.3) refl;
-      ds = shows_by in_ds (real tale (suc i)) _ ok.published.ds;
-      dnskey = shows_by in_dnskey (real tale (suc i)) _ ok.published.dnskey;
-      signers = shows_by signs_keys (real tale (suc i)) _ ok.published.dnskey_signers;
-      zone = shows_by signs_zone (real tale (suc i)) _ ok.published.zone_signers;
     }
 
-pub empty_found : (p : KeyType → Bool) (b : Bool) → if_some p (if b then None else None) ≡ true → ⊥
-empty_found p true e = true≢false (sym e)
-empty_found p false e = true≢false (sym e)
+-- at the start there is no key
+pub nothing_there : (b : Bool) (o : Option Key) → o ≡ None → (if b then o else None) ≡ None
+nothing_there true o e = e
+nothing_there false o e = refl
 
-pub none_at_start : (tale : Tale) (p : KeyType → Bool) (id : Id)
-    → if_some p (found (world_at tale zero) id) ≡ true → ⊥
+pub none_at_start : (tale : Tale) (id : Id) → key_at tale zero id ≡ None
 unfolding rec.world_at
-none_at_start tale p id e = empty_found p (0 == id.1)
-    (sym (ap (λ o. if_some p (if 0 == id.1 then o else None)) (get-empty (slice_cmp nat_cmp) id.0))
-    ∙ e)
+none_at_start tale id = nothing_there (0 == id.1) _ (get-empty (slice_cmp nat_cmp) id.0)
+
+nothing_shown : (tale : Tale) (p : KeyType → Bool) → Shows [] (real tale zero) p
+nothing_shown tale p id = (
+  λ c. absurd (not_in_empty id c),
+  λ e. absurd (true≢false (sym e ∙ ap (if_some p) (none_at_start tale id))),
+)
+
+pub shown_at : (tale : Tale) (n : ℕ) → n ≤ length tale.es
+    → IsShown (position_at tale.es n) (real tale n)
+unfolding position_at
+shown_at tale zero le = record {
+  ds = nothing_shown tale in_ds;
+  dnskey = nothing_shown tale in_dnskey;
+  signers = nothing_shown tale signs_keys;
+  zone = nothing_shown tale signs_zone;
+}
+shown_at tale (suc i) le =
+    let p = place_at tale i (omega arith) in
+    let w = real tale (suc i) in
+    let shown : IsShown (position_of p.entry) w = record {
+      ds = shows_by in_ds w _ p.ok.published.ds;
+      dnskey = shows_by in_dnskey w _ p.ok.published.dnskey;
+      signers = shows_by signs_keys w _ p.ok.published.dnskey_signers;
+      zone = shows_by signs_zone w _ p.ok.published.zone_signers;
+    } in
+    subst (λ q. IsShown q w) (sym p.position_is) shown
 
 pub some_weaker : (p q : KeyType → Bool) → ((k : KeyType) → p k ≡ true → q k ≡ true)
     → (o : Option Key) → if_some p o ≡ true → if_some q o ≡ true
@@ -126,52 +157,22 @@ pub some_of : (f p q : KeyType → Bool) → ((k : KeyType) → f k ≡ true →
 some_of f p q h None e g = absurd (true≢false (sym g))
 some_of f p q h (Some k) e g = h k.keytype e g
 
-zone_key : (k : KeyType) → in_keys Zone k ≡ true → in_dnskey k ≡ true
-zone_key (Ksk s) e = absurd (true≢false (sym e))
-zone_key (Zsk s) e = e
-zone_key (Csk s t) e = e
-zone_key (Include s) e = absurd (true≢false (sym e))
-
-pub shows_ds : (tale : Tale) (n : ℕ) → n ≤ length tale.es → (id : Id)
-    → if_some in_ds (found (world_at tale n) id) ≡ true → Contains (position_at tale.es n).ds id
-shows_ds tale zero le id e = absurd (none_at_start tale in_ds id e)
-shows_ds tale (suc i) le id e = let p = place_at tale i (omega arith) in
-    subst (λ q. Contains q.ds id) (sym p.position_is) ((p.ds id).1 e)
-
-pub ds_shown : (tale : Tale) (i : ℕ) → i < length tale.es → (id : Id)
-    → Contains (position_at tale.es (suc i)).ds id
-    → if_some in_ds (found (world_at tale (suc i)) id) ≡ true
-ds_shown tale i lt id e = let p = place_at tale i lt in
-    (p.ds id).0 (subst (λ q. Contains q.ds id) p.position_is e)
-
-pub shows : (tale : Tale) (sd : SideOf) (kind : SetKind) (n : ℕ) → n ≤ length tale.es → (id : Id)
-    → if_some (test_of sd kind) (found (world_at tale n) id) ≡ true → Serving tale sd kind n id
-shows tale Keys Ds n le id e = inr (shows_ds tale n le id e)
-shows tale Keys Dnskey zero le id e = absurd (none_at_start tale (test_of Keys Dnskey) id e)
-shows tale Keys Dnskey (suc i) le id e =
-    let p = place_at tale i (omega arith) in (
-      subst (λ q. Contains q.dnskey id) (sym p.position_is)
-          ((p.dnskey id).1 (some_weaker (in_keys Keys) in_dnskey
-          (λ k h. (and_parts (in_dnskey k) (signs_keys k) h).0) (found (world_at tale (suc i)) id)
-          e)),
-      subst (λ q. Contains q.signers id) (sym p.position_is)
-          ((p.signers id).1 (some_weaker (in_keys Keys) signs_keys
-          (λ k h. (and_parts (in_dnskey k) (signs_keys k) h).1) (found (world_at tale (suc i)) id)
-          e)),
+pub shows : (tale : Tale) (sd : SideOf) (set : SideSet) (n : ℕ) → n ≤ length tale.es → (id : Id)
+    → Passes tale (is_in sd set) n id → Serving tale sd set n id
+shows tale Keys Own n le id e = inr (((shown_at tale n le).ds id).1 e)
+shows tale Zone Own n le id e = ((shown_at tale n le).zone id).1 e
+shows tale Zone Shared n le id e = ((shown_at tale n le).dnskey id).1
+    (some_weaker (is_in Zone Shared) in_dnskey (λ k h. (and_parts (has_role Zone k) _ h).1)
+    (key_at tale n id) e)
+shows tale Keys Shared n le id e =
+    let p = shown_at tale n le in
+    let parts = λ (k : KeyType) (h : is_in Keys Shared k ≡ true).
+    and_parts (in_dnskey k) (signs_keys k) h in (
+      (p.dnskey id).1 (some_weaker (is_in Keys Shared) in_dnskey (λ k h. (parts k h).0)
+          (key_at tale n id) e),
+      (p.signers id).1 (some_weaker (is_in Keys Shared) signs_keys (λ k h. (parts k h).1)
+          (key_at tale n id) e),
     )
-shows tale Keys ZoneSigners n le id e = tt
-shows tale Zone Ds n le id e = tt
-shows tale Zone Dnskey zero le id e = absurd (none_at_start tale (test_of Zone Dnskey) id e)
-shows tale Zone Dnskey (suc i) le id e =
-    let p = place_at tale i (omega arith) in
-    subst (λ q. Contains q.dnskey id) (sym p.position_is)
-    ((p.dnskey id).1 (some_weaker (in_keys Zone) in_dnskey zone_key
-    (found (world_at tale (suc i)) id) e))
-shows tale Zone ZoneSigners zero le id e =
-    absurd (none_at_start tale (test_of Zone ZoneSigners) id e)
-shows tale Zone ZoneSigners (suc i) le id e =
-    let p = place_at tale i (omega arith) in
-    subst (λ q. Contains q.zone id) (sym p.position_is) ((p.zone id).1 e)
 
 -- no DS set that caches may hold has a key of the family
 abbrev pub NoDs : Tale → ℕ → Type 0
@@ -185,13 +186,13 @@ no_ds-bare tale n here none h = upto (λ q. (IsGone tale.es Ds q (suc n) → ⊥
 
 -- what is in the DS set now was there before
 abbrev pub LessDs : Tale → ℕ → Type 0
-LessDs tale n = (id : Id) → if_some in_ds (found (world_at tale (suc n)) id) ≡ true
-    → if_some in_ds (found (world_at tale n) id) ≡ true
+LessDs tale n = (id : Id) → Passes tale in_ds (suc n) id → Passes tale in_ds n id
 
 pub without-next : (tale : Tale) (n : ℕ) → suc n ≤ length tale.es → LessDs tale n
     → Without tale n → Without tale (suc n)
 without-next tale n here less h id o c =
-    h id o (shows_ds tale n (omega arith) id (less id (ds_shown tale n here id c)))
+    h id o (((shown_at tale n (omega arith)).ds id).1
+    (less id (((shown_at tale (suc n) here).ds id).0 c)))
 
 pub no_ds-now : (tale : Tale) (n : ℕ) → NoDs tale n → Without tale n
 no_ds-now tale n h = h n (omega arith) (never-gone-now tale.es Ds n)
@@ -201,28 +202,19 @@ pub no_ds-next : (tale : Tale) (n : ℕ) → suc n ≤ length tale.es → LessDs
 no_ds-next tale n here less h =
     no_ds-bare tale n here (without-next tale n here less (no_ds-now tale n h)) h
 
--- a side of the chain, by whether its DS sets are the first
-abbrev pub side_by : Tale → SideOf → Bool → Side
-side_by tale sd b = record {
+-- a side of the chain
+abbrev pub side : Tale → SideOf → Side
+side tale sd = record {
   Id = Id;
   Of = λ id. tale.of id ≡ true;
   last = length tale.es;
   D = NoDs tale;
-  RX = IsGone tale.es (first_by sd b);
-  RY = IsGone tale.es (second_by sd b);
-  X = Serving tale sd (first_by sd b);
-  Y = Serving tale sd (second_by sd b);
-  x = λ n id. if_some (test_of sd (first_by sd b)) (found (world_at tale n) id) ≡ true;
-  y = λ n id. if_some (test_of sd (second_by sd b)) (found (world_at tale n) id) ≡ true;
-  keepX = retired_stays tale.es (first_by sd b);
-  keepY = retired_stays tale.es (second_by sd b);
-  showX = shows tale sd (first_by sd b);
-  showY = shows tale sd (second_by sd b);
+  gone = λ set. IsGone tale.es (kind_on sd set);
+  serves = Serving tale sd;
+  has = λ set n id. Passes tale (is_in sd set) n id;
+  keep = λ set. retired_stays tale.es (kind_on sd set);
+  show = shows tale sd;
 }
-
--- a roll's side of the chain
-abbrev pub side : Tale → SideOf → RollType → Side
-side tale sd r = side_by tale sd (ds_first r)
 
 -- what an accepted call does for a roll is done by the call of its place
 pub same_call : (does : keyset.Call → Option RollType) (tale : Tale) (n : ℕ) (p : Place tale n)

@@ -1,32 +1,36 @@
 -- Rolls, their states, and the stages of a side.
-use Rattle.std.proofs.Common.{◌≡◌, Bool, true, false, not, Option, None, Some, refl, sym, ◌∙◌, ap}
-use Rattle.std.proofs.Common.{◌&&◌}
+use Rattle.std.proofs.Common.{◌≡◌, Bool, true, false, Option, None, Some, refl, sym, ◌∙◌, ap}
 use Rattle.std.specs.Prelude.{if◌then◌else◌}
-use Rattle.std.proofs.lemmas.Bool.{true≢false, not-true}
+use Rattle.std.proofs.lemmas.Bool.{true≢false}
 use Rattle.dnssec_key.specs.declared.roll.RollType.{RollType}
 use Rattle.dnssec_key.specs.declared.roll.RollState.{RollState}
-use Rattle.dnssec_key.specs.declared.roll.RollState.TheVariants.{Propagation1, CacheExpire1}
-use Rattle.dnssec_key.specs.declared.roll.RollState.TheVariants.{Propagation2, CacheExpire2, Done}
+use Rattle.dnssec_key.specs.declared.roll.RollState.TheVariants.{Propagation1, CacheExpire1, Done}
+use Rattle.dnssec_key.specs.declared.roll.RollState.TheVariants.{Propagation2, CacheExpire2}
 use Rattle.dnssec_zone.specs.Rolls.{same_roll}
 use Rattle.dnssec_run.proofs.Chain.Tale.{put_roll}
 use Rattle.dnssec_zone.proofs.Flags.{SideOf, affects, Stage, Quiet, Early, Late}
-use Rattle.dnssec_zone.proofs.Tests.{each_roll, each_roll-at, alike, alike-same, mp, and-both, ◌⇒◌}
-use Rattle.dnssec_keyset.proofs.Laws.{same-is}
 use Rattle.dnssec_zone.specs.Start.{together}
-use Rattle.dnssec_run.proofs.Chain.Tables.{by_side}
+use Rattle.dnssec_run.proofs.Chain.Tables.{holds, fails, same, ◌gives◌, on_both, on_side, of_roll}
+use Rattle.dnssec_run.proofs.Chain.Tables.{of_rolls}
 
-abbrev pub stage_fits : Stage → RollType → Option RollState → Bool
-stage_fits Quiet _ None = true
-stage_fits Quiet _ (Some Done) = true
-stage_fits Quiet _ (Some _) = false
-stage_fits (Early r) q None = not (same_roll r q)
-stage_fits (Early r) q (Some Propagation1) = same_roll r q
-stage_fits (Early r) q (Some (CacheExpire1 _)) = same_roll r q
-stage_fits (Early r) q (Some _) = false
-stage_fits (Late r) q None = not (same_roll r q)
-stage_fits (Late r) q (Some Propagation2) = same_roll r q
-stage_fits (Late r) q (Some (CacheExpire2 _)) = same_roll r q
-stage_fits (Late r) q (Some _) = false
+-- the stage of a side with a roll of its own in this phase
+abbrev pub stage_in : RollType → RollState → Stage
+stage_in r Propagation1 = Early r
+stage_in r (CacheExpire1 _) = Early r
+stage_in r Propagation2 = Late r
+stage_in r (CacheExpire2 _) = Late r
+stage_in r Done = Quiet
+
+-- the stage is one of the roll
+abbrev pub is_of : Stage → RollType → Bool
+is_of Quiet r = false
+is_of (Early q) r = same_roll q r
+is_of (Late q) r = same_roll q r
+
+-- the stage of a side agrees with the state of a roll of its own
+abbrev pub StageFits : Stage → RollType → Option RollState → Type 0
+StageFits st r None = is_of st r ≡ false
+StageFits st r (Some phase) = st ≡ stage_in r phase
 
 abbrev pub stage_own : SideOf → Stage → Bool
 stage_own sd Quiet = true
@@ -34,75 +38,40 @@ stage_own sd (Early r) = affects sd r
 stage_own sd (Late r) = affects sd r
 
 pub same-same : (r : RollType) → same_roll r r ≡ true
-same-same r = each_roll-at (λ r. same_roll r r) refl r
-
-same-table : RollType → RollType → Bool
-same-table r q = alike (same_roll r q) (same_roll q r)
-
-same-all : each_roll (λ r. each_roll (same-table r)) ≡ true
-unfolding same-table
-same-all = refl
+same-same = of_roll (λ r. holds (same_roll r r)) refl
 
 pub same-sym : (r q : RollType) → same_roll r q ≡ same_roll q r
-unfolding same-table
-same-sym r q = alike-same _ _ (each_roll-at (same-table r)
-    (each_roll-at (λ r. each_roll (same-table r)) same-all r) q)
-
-clash_table : SideOf → RollType → RollType → Bool
-clash_table sd r q = (affects sd r && affects sd q) ⇒ not (together r q)
+same-sym = of_rolls (λ r q. same (same_roll r q) (same_roll q r)) refl
 
 -- two rolls of a side never run together
 pub clash : (sd : SideOf) (r q : RollType) → affects sd r ≡ true → affects sd q ≡ true
     → together r q ≡ false
-unfolding clash_table
-clash sd r q e f = not-true _ (mp _ _ (each_roll-at (clash_table sd r)
-    (each_roll-at (λ r. each_roll (clash_table sd r))
-    (by_side (λ sd. each_roll (λ r. each_roll (clash_table sd r)) ≡ true) refl refl sd) r) q)
-    (and-both _ _ e f))
+clash sd r q = on_side (λ sd. affects sd r gives affects sd q gives fails (together r q))
+    (of_rolls (λ r q. on_both (λ sd. affects sd r gives affects sd q gives fails (together r q)))
+    refl r q) sd
 
-pub stage_early : (st : Stage) (r : RollType) (p : RollState) → stage_fits (Early r) r (Some p)
-    ≡ true → stage_fits st r (Some p) ≡ true → st ≡ Early r
-stage_early (Early q) r Propagation1 k e = ap Early (same-is q r e)
-stage_early (Early q) r (CacheExpire1 t) k e = ap Early (same-is q r e)
-stage_early Quiet r Propagation1 k e = cc
-stage_early (Late q) r Propagation1 k e = cc
-stage_early _ r _ k e = cc
-
-pub stage_late : (st : Stage) (r : RollType) (p : RollState) → stage_fits (Late r) r (Some p) ≡ true
-    → stage_fits st r (Some p) ≡ true → st ≡ Late r
-stage_late (Late q) r Propagation2 k e = ap Late (same-is q r e)
-stage_late (Late q) r (CacheExpire2 t) k e = ap Late (same-is q r e)
-stage_late Quiet r Propagation2 k e = cc
-stage_late (Early q) r Propagation2 k e = cc
-stage_late _ r _ k e = cc
-
+-- a side on which no roll of its own is in progress is at rest
 pub stage_quiet : (sd : SideOf) (st : Stage) → stage_own sd st ≡ true
-    → ((q : RollType) → affects sd q ≡ true → stage_fits st q None ≡ true) → st ≡ Quiet
+    → ((q : RollType) → affects sd q ≡ true → is_of st q ≡ false) → st ≡ Quiet
 stage_quiet sd Quiet own h = refl
-stage_quiet sd (Early r) own h = absurd (true≢false (sym (h r own) ∙ ap not (same-same r)))
-stage_quiet sd (Late r) own h = absurd (true≢false (sym (h r own) ∙ ap not (same-same r)))
+stage_quiet sd (Early r) own h = absurd (true≢false (sym (same-same r) ∙ h r own))
+stage_quiet sd (Late r) own h = absurd (true≢false (sym (same-same r) ∙ h r own))
 
-pub others_early : (r q : RollType) (o : Option RollState) → stage_fits (Early r) q o ≡ true
-    → same_roll r q ≡ false → o ≡ None
-others_early r q None e d = refl
-others_early r q (Some Propagation1) e d = cc
-others_early r q _ e d = cc
-
-pub others_late : (r q : RollType) (o : Option RollState) → stage_fits (Late r) q o ≡ true
-    → same_roll r q ≡ false → o ≡ None
-others_late r q None e d = refl
-others_late r q (Some Propagation1) e d = cc
-others_late r q _ e d = cc
+-- while a roll of the side is in progress, its other rolls aren't
+pub others_none : (st : Stage) (r q : RollType) (o : Option RollState) → is_of st r ≡ true
+    → same_roll r q ≡ false → StageFits st q o → o ≡ None
+others_none st r q None own d e = refl
+others_none st r q (Some Done) own d e = absurd (true≢false (sym own ∙ ap (λ s. is_of s r) e))
+others_none st r q (Some _) own d e =
+    absurd (true≢false (sym own ∙ ap (λ s. is_of s r) e ∙ same-sym q r ∙ d))
 
 -- a stage after one roll's state is put
 pub put-fits : (st : Stage) (f : RollType → Option RollState) (r : RollType) (o : Option RollState)
-    (q : RollType)
-    → (same_roll r q ≡ true → stage_fits st q o ≡ true)
-    → (same_roll r q ≡ false → stage_fits st q (f q) ≡ true)
-    → stage_fits st q (put_roll f r o q) ≡ true
+    (q : RollType) → (same_roll r q ≡ true → StageFits st q o)
+    → (same_roll r q ≡ false → StageFits st q (f q)) → StageFits st q (put_roll f r o q)
 put-fits st f r o q here there = by (same_roll r q) refl
   where
-    by : (b : Bool) → same_roll r q ≡ b → stage_fits st q (if b then o else f q) ≡ true
+    by : (b : Bool) → same_roll r q ≡ b → StageFits st q (if b then o else f q)
     by true e = here e
     by false e = there e
 

@@ -1,13 +1,14 @@
 -- What a setter of a plain list leaves as it was: all but another signer's key.
-use Rattle.dnssec_zone.proofs.Flags.{Keys, Zone, SideOf, has_role, is_idle, may_list}
+use Rattle.dnssec_zone.specs.Start.{lists_kind, side_of}
+use Rattle.dnssec_zone.proofs.Flags.{SideOf, has_role, is_idle}
 use Rattle.std.proofs.Common.{◌≡◌, ℕ, ◌⊎◌, inl, inr, Bool, true, false, refl, sym, ◌∙◌, ap, List}
-use Rattle.std.proofs.Common.{Option, None, Some, not}
+use Rattle.std.proofs.Common.{Option, None, Some}
 use Rattle.std.specs.Prelude.{if◌then◌else◌}
 use Rattle.std.specs.Str.{bytes_eq}
 use Rattle.std.specs.Cmp.Lexicographic.{bytes_decides}
 use Rattle.std.specs.FinMap.{get}
 use Rattle.std.specs.Option.{option_map}
-use Rattle.std.proofs.lemmas.Bool.{true≢false, not-true}
+use Rattle.std.proofs.lemmas.Bool.{true≢false}
 use Rattle.std.proofs.lemmas.Option.{same_Some}
 use Rattle.dnssec_key.specs.declared.roll.RollType.{RollType}
 use Rattle.dnssec_key.specs.declared.kind.KeyType.{KeyType}
@@ -16,26 +17,25 @@ use Rattle.dnssec_key.specs.Key.{KeyParts}
 use Rattle.dnssec_key.specs.Setters.{Setting, Decoupled, Present, set_by, at_each_state}
 use Rattle.dnssec_key.specs.Setters.{with_present}
 use Rattle.dnssec_keyset.specs.KeySet.{KeySetParts}
-use Rattle.dnssec_zone.proofs.Tests.{each_in_roll-at, each_key-at, mp, ◌⇒◌}
 use Rattle.dnssec_run.proofs.Premise.{is_another_signers, is_plain_setting}
-use Rattle.dnssec_run.proofs.Chain.Tables.{Stamp, Visible}
+use Rattle.dnssec_run.proofs.Chain.Tables.{Stamp, Visible, holds, fails, ◌gives◌, of_key, on_both}
+use Rattle.dnssec_run.proofs.Chain.Tables.{on_side, of_roll_key}
 use Rattle.dnssec_run.proofs.Chain.Tale.{stamp_of}
 
 -- ---- another signer's key
 
-pub others-role : (sd : SideOf) (k : KeyType) → is_another_signers k ≡ true
-    → has_role sd k ≡ false
-others-role Keys (Include s) e = refl
-others-role Zone (Include s) e = refl
-others-role _ _ e = cc
+pub others-role : (sd : SideOf) (k : KeyType) → is_another_signers k ≡ true → has_role sd k ≡ false
+others-role sd k = on_side (λ sd. is_another_signers k gives fails (has_role sd k))
+    (of_key (λ k. on_both (λ sd. is_another_signers k gives fails (has_role sd k))) (λ a b. refl) k)
+    sd
 
 pub others-idle : (k : KeyType) → is_another_signers k ≡ true → is_idle k ≡ true
-others-idle k = mp _ _ (each_key-at (λ k. is_another_signers k ⇒ is_idle k) (λ a b. refl) k)
+others-idle = of_key (λ k. is_another_signers k gives holds (is_idle k)) (λ a b. refl)
 
 pub others-unlisted : (r : RollType) (k : KeyType) → is_another_signers k ≡ true
-    → may_list r k ≡ false
-others-unlisted r k e = not-true _ (mp _ _
-    (each_in_roll-at (λ r k. is_another_signers k ⇒ not (may_list r k)) (λ a b. refl) r k) e)
+    → lists_kind (side_of r) k ≡ false
+others-unlisted = of_roll_key (λ r k. is_another_signers k gives fails (lists_kind
+    (side_of r) k)) (λ a b. refl)
 
 -- ---- a key before and after a setter
 

@@ -1,6 +1,6 @@
 -- A published list has exactly the keys that pass its test.
-use Rattle.std.proofs.Common.{[], ◌≡◌, ℕ, zero, suc, ◌↔◌, Bool, true, false, cond, List, ◌∷◌}
-use Rattle.std.proofs.Common.{Option, None, Some, refl, sym, ap, subst, ◌∙◌, arith}
+use Rattle.std.proofs.Common.{[], ◌≡◌, ℕ, zero, suc, ◌↔◌, Bool, true, false, cond, List, ◌∷◌, None}
+use Rattle.std.proofs.Common.{Option, Some, refl, sym, ap, subst, ◌∙◌, arith}
 use Rattle.std.specs.Prelude.{if◌then◌else◌, ◌==◌, T}
 use Rattle.std.specs.List.{Contains}
 use Rattle.std.specs.Ordering.{nat_cmp, is_eq}

@@ -1,18 +1,19 @@
 -- The tables of the key set, for the proof of the chain: by halves of a roll and by sides.
-use Rattle.dnssec_zone.proofs.Tests.{each_in_roll, each_in_roll-at, each_listed, each_listed-at}
-use Rattle.dnssec_zone.proofs.Tests.{each_key, each_key-at, each_roll, each_roll-at}
+use Rattle.dnssec_zone.proofs.Tests.{each_in_roll, each_in_roll-at, each_listed, each_listed-at, mp}
+use Rattle.dnssec_zone.proofs.Tests.{each_key, each_key-at, each_roll, each_roll-at, ◌⇒◌, alike}
+use Rattle.dnssec_zone.proofs.Tests.{alike-same}
 use Rattle.dnssec_zone.proofs.Flags.{SideOf, Keys, Zone}
-use Rattle.std.proofs.Common.{◌≡◌, ◌&&◌, Bool, true, ℕ, Option, refl}
-use Rattle.std.proofs.lemmas.Bool.{and_parts}
+use Rattle.std.proofs.Common.{◌≡◌, ◌&&◌, Bool, true, false, not, ℕ, List, [], ◌∷◌, Option, refl}
+use Rattle.std.proofs.lemmas.Bool.{and_parts, not-true}
 use Rattle.dnssec_key.specs.declared.roll.RollType.{RollType}
-use Rattle.dnssec_key.specs.declared.roll.RollType.TheVariants.{KskRoll, KskDoubleDsRoll, ZskRoll}
-use Rattle.dnssec_key.specs.declared.roll.RollType.TheVariants.{ZskDoubleSignatureRoll, CskRoll}
-use Rattle.dnssec_key.specs.declared.roll.RollType.TheVariants.{AlgorithmRoll}
+use Rattle.dnssec_key.specs.declared.roll.RollType.TheVariants.{KskRoll}
 use Rattle.dnssec_key.specs.declared.kind.KeyType.{KeyType}
 use Rattle.dnssec_base.specs.Stamps.{Stamps, stamp_named}
+use Rattle.dnssec_base.specs.declared.stamps.Stamp.{Stamp as StampOfCode}
+use Rattle.dnssec_base.specs.declared.stamps.Stamp.TheVariants as code
 use Rattle.dnssec_key.specs.RollTable.{Half, First, Second, half_of, column, Writes}
-use Rattle.dnssec_zone.specs.Start.{Want, PresentKsk, KskAtParent, PresentZsk, PresentKskRole}
-use Rattle.dnssec_zone.specs.Start.{PresentZskRole}
+use Rattle.dnssec_zone.specs.Start.{Want, PresentKskRole, PresentZskRole, wants}
+use Rattle.std.specs.List.{list_all}
 
 -- ---- both halves of a roll
 
@@ -32,6 +33,68 @@ pub each_in_half-at : (p : RollType → Half → KeyType → Bool)
 each_in_half-at p e r half = each_key-at (p r half) (λ a b.
     each_half-at (λ half. each_key a b (p r half))
     (each_roll-at (λ r. each_half (λ half. each_key a b (p r half))) (e a b) r) half)
+
+-- ---- claims, which are computed over all flags, kinds and rolls
+
+-- what a test says: it passes, it fails, two pass alike, it gives something, two things hold
+pub data Claim : Type 0 where
+  holds : Bool → Claim
+  fails : Bool → Claim
+  same : Bool → Bool → Claim
+  ◌gives◌ : Bool → Claim → Claim
+  ◌also◌ : Claim → Claim → Claim
+
+infixr 10 ◌gives◌
+infixr 5 ◌also◌
+abbrev pub test : Claim → Bool
+test (holds b) = b
+test (fails b) = not b
+test (same a b) = alike a b
+test (b gives c) = b ⇒ test c
+test (c also d) = test c && test d
+
+abbrev pub Says : Claim → Type 0
+Says (holds b) = b ≡ true
+Says (fails b) = b ≡ false
+Says (same a b) = a ≡ b
+Says (b gives c) = b ≡ true → Says c
+Says (c also d) = Says c × Says d
+
+says : (c : Claim) → test c ≡ true → Says c
+says (holds b) e = e
+says (fails b) e = not-true b e
+says (same a b) e = alike-same a b e
+says (b gives c) e = λ h. says c (mp b (test c) e h)
+says (c also d) e = let p = and_parts (test c) (test d) e in (says c p.0, says d p.1)
+
+-- of each key; of each roll; of each roll and key; of what a start may list; of each half
+pub of_key : (c : KeyType → Claim) → ((a b : Bool) → each_key a b (λ k. test (c k)) ≡ true)
+    → (k : KeyType) → Says (c k)
+of_key c e k = says (c k) (each_key-at (λ k. test (c k)) e k)
+
+pub of_roll : (c : RollType → Claim) → each_roll (λ r. test (c r)) ≡ true → (r : RollType)
+    → Says (c r)
+of_roll c e r = says (c r) (each_roll-at (λ r. test (c r)) e r)
+
+pub of_rolls : (c : RollType → RollType → Claim)
+    → each_roll (λ r. each_roll (λ q. test (c r q))) ≡ true → (r q : RollType) → Says (c r q)
+of_rolls c e r = of_roll (c r) (each_roll-at (λ r. each_roll (λ q. test (c r q))) e r)
+
+pub of_roll_key : (c : RollType → KeyType → Claim)
+    → ((a b : Bool) → each_in_roll a b (λ r k. test (c r k)) ≡ true) → (r : RollType) (k : KeyType)
+    → Says (c r k)
+of_roll_key c e r k = says (c r k) (each_in_roll-at (λ r k. test (c r k)) e r k)
+
+pub of_listed : (c : RollType → Bool → Bool → KeyType → Claim)
+    → ((a b : Bool) → each_listed a b (λ r o i k. test (c r o i k)) ≡ true)
+    → (r : RollType) (o i : Bool) (k : KeyType) → Says (c r o i k)
+of_listed c e r o i k = says (c r o i k) (each_listed-at (λ r o i k. test (c r o i k)) e r o i k)
+
+pub of_half : (c : RollType → Half → KeyType → Claim)
+    → ((a b : Bool) → each_in_half a b (λ r half k. test (c r half k)) ≡ true)
+    → (r : RollType) (half : Half) (k : KeyType) → Says (c r half k)
+of_half c e r half k =
+    says (c r half k) (each_in_half-at (λ r half k. test (c r half k)) e r half k)
 
 -- ---- the stamps that a wait reads
 
@@ -53,14 +116,15 @@ writes RrsigVisible w k = w.rrsig_visible k
 abbrev pub written : Stamp → RollType → Half → KeyType → Bool
 written s r half k = writes s (half_of r half).report k
 
+-- the one that the code means; no wait reads another
+abbrev pub of_code : StampOfCode → Stamp
+of_code code.DsVisible = DsVisible
+of_code code.RrsigVisible = RrsigVisible
+of_code _ = Visible
+
+-- the one that a wait reads
 abbrev pub read : RollType → Half → Stamp
-read KskRoll Second = DsVisible
-read KskDoubleDsRoll First = DsVisible
-read ZskRoll Second = RrsigVisible
-read ZskDoubleSignatureRoll Second = RrsigVisible
-read CskRoll Second = RrsigVisible
-read AlgorithmRoll Second = DsVisible
-read _ _ = Visible
+read r half = of_code (half_of r half).reads
 
 pub reads-stamp : (r : RollType) (half : Half) (t : Stamps)
     → stamp_named (half_of r half).reads t ≡ stamp_in (read r half) t
@@ -73,37 +137,80 @@ reads-stamp r half t = by half r
     by Second KskRoll = refl
     by _ _ = refl
 
+-- a claim of each of them
+abbrev pub at_stamps : (Stamp → Claim) → Claim
+at_stamps c = c Visible also c DsVisible also c RrsigVisible
+
+pub at_stamp : (c : Stamp → Claim) → Says (at_stamps c) → (s : Stamp) → Says (c s)
+at_stamp c h Visible = h.0
+at_stamp c h DsVisible = h.1.0
+at_stamp c h RrsigVisible = h.1.1
+
 abbrev pub checked : RollType → Half → KeyType → Bool
 checked r half k = (half_of r half).checks k
 
 -- ---- sides
 
+-- a claim on both sides
+abbrev pub on_both : (SideOf → Claim) → Claim
+on_both c = c Keys also c Zone
+
+pub on_side : (c : SideOf → Claim) → Says (on_both c) → (sd : SideOf) → Says (c sd)
+on_side c h Keys = h.0
+on_side c h Zone = h.1
+
 pub by_side : (P : SideOf → Type 0) → P Keys → P Zone → (sd : SideOf) → P sd
 by_side P keys zone Keys = keys
 by_side P keys zone Zone = zone
 
--- a test of all rolls and keys on both sides, and one of all that a start may list
-pub each_side-at : (p : SideOf → RollType → KeyType → Bool)
-    → ((a b : Bool) → each_in_roll a b (p Keys) ≡ true)
-    → ((a b : Bool) → each_in_roll a b (p Zone) ≡ true) → (sd : SideOf) (r : RollType)
-    (k : KeyType) → p sd r k ≡ true
-each_side-at p keys zone = by_side
-    (λ sd. (r : RollType) (k : KeyType) → p sd r k ≡ true)
-    (each_in_roll-at (p Keys) keys) (each_in_roll-at (p Zone) zone)
+pub of_side_roll : (c : SideOf → RollType → Claim)
+    → each_roll (λ r. test (on_both (λ sd. c sd r))) ≡ true → (sd : SideOf) (r : RollType)
+    → Says (c sd r)
+of_side_roll c e sd r = on_side (λ sd. c sd r) (of_roll (λ r. on_both (λ sd. c sd r)) e r) sd
 
-pub side_listed-at : (p : SideOf → RollType → Bool → Bool → KeyType → Bool)
-    → ((a b : Bool) → each_listed a b (p Keys) ≡ true)
-    → ((a b : Bool) → each_listed a b (p Zone) ≡ true) → (sd : SideOf) (r : RollType)
-    (o i : Bool) (k : KeyType) → p sd r o i k ≡ true
-side_listed-at p keys zone = by_side
-    (λ sd. (r : RollType) (o i : Bool) (k : KeyType) → p sd r o i k ≡ true)
-    (each_listed-at (p Keys) keys) (each_listed-at (p Zone) zone)
+pub of_side_key : (c : SideOf → RollType → KeyType → Claim)
+    → ((a b : Bool) → each_in_roll a b (λ r k. test (on_both (λ sd. c sd r k))) ≡ true)
+    → (sd : SideOf) (r : RollType) (k : KeyType) → Says (c sd r k)
+of_side_key c e sd r k = on_side (λ sd. c sd r k)
+    (of_roll_key (λ r k. on_both (λ sd. c sd r k)) e r k) sd
 
--- what a start of the roll has to leave on a side
+pub of_side_listed : (c : SideOf → RollType → Bool → Bool → KeyType → Claim)
+    → ((a b : Bool) → each_listed a b (λ r o i k. test (on_both (λ sd. c sd r o i k))) ≡ true)
+    → (sd : SideOf) (r : RollType) (o i : Bool) (k : KeyType) → Says (c sd r o i k)
+of_side_listed c e sd r o i k = on_side (λ sd. c sd r o i k)
+    (of_listed (λ r o i k. on_both (λ sd. c sd r o i k)) e r o i k) sd
+
+-- what a start of the roll has to leave on a side: of two wants, the first is on the side of keys
+abbrev some_want : List Want → Bool
+some_want [] = false
+some_want (w ∷ ws) = true
+
+abbrev first_want : List Want → Want
+first_want [] = PresentKskRole
+first_want (w ∷ ws) = w
+
+abbrev last_want : List Want → Want
+last_want [] = PresentZskRole
+last_want (w ∷ []) = w
+last_want (v ∷ w ∷ ws) = last_want (w ∷ ws)
+
 abbrev pub want_on : SideOf → RollType → Want
-want_on Keys KskRoll = PresentKsk
-want_on Keys KskDoubleDsRoll = KskAtParent
-want_on Keys _ = PresentKskRole
-want_on Zone ZskRoll = PresentZsk
-want_on Zone ZskDoubleSignatureRoll = PresentZsk
-want_on Zone _ = PresentZskRole
+want_on Keys r = first_want (wants r)
+want_on Zone r = last_want (wants r)
+
+first_met : (p : Want → Bool) (ws : List Want) → some_want ws ≡ true → list_all p ws ≡ true
+    → p (first_want ws) ≡ true
+first_met p [] some e = cc
+first_met p (w ∷ ws) some e = (and_parts _ _ e).0
+
+last_met : (p : Want → Bool) (ws : List Want) → some_want ws ≡ true → list_all p ws ≡ true
+    → p (last_want ws) ≡ true
+last_met p [] some e = cc
+last_met p (w ∷ []) some e = (and_parts _ _ e).0
+last_met p (v ∷ w ∷ ws) some e = last_met p (w ∷ ws) refl (and_parts _ _ e).1
+
+-- what a roll wants, it wants on each side
+pub met : (p : Want → Bool) (r : RollType) → list_all p (wants r) ≡ true → (sd : SideOf)
+    → p (want_on sd r) ≡ true
+met p r e Keys = first_met p (wants r) (each_roll-at (λ r. some_want (wants r)) refl r) e
+met p r e Zone = last_met p (wants r) (each_roll-at (λ r. some_want (wants r)) refl r) e

@@ -4,8 +4,6 @@ use Rattle.std.proofs.Common.{◌≡◌, ℕ, ◌-◌, ◌≤◌, ◌⊎◌, Boo
 use Rattle.std.proofs.Common.{refl}
 use Rattle.std.specs.Prelude.{if◌then◌else◌, ◌==◌, ◌*◌}
 use Rattle.std.specs.FinMap.{get}
-use Rattle.std.specs.Option.{option_map}
-use Rattle.std.specs.Str.{bytes_eq}
 use Rattle.dnssec_key.specs.declared.roll.RollType.{RollType}
 use Rattle.dnssec_key.specs.declared.roll.RollState.{RollState}
 use Rattle.dnssec_key.specs.declared.kind.KeyType.{KeyType}
@@ -13,13 +11,13 @@ use Rattle.dnssec_key.specs.Key.{KeyParts, all_states}
 use Rattle.dnssec_zone.specs.Rolls.{phase_of, same_roll}
 use Rattle.dnssec_key.specs.RollTable.{after_start, after_early_end, column, stamps_after, Half}
 use Rattle.dnssec_zone.specs.Start.{is_listed, may_change_algorithms, together, serves_as_new}
-use Rattle.dnssec_zone.specs.Start.{serves_as_kept}
+use Rattle.dnssec_zone.specs.Start.{serves_as_kept, lists_kind, side_of}
 use Rattle.dnssec_run.specs.declared.call.Call.{Call}
 use Rattle.dnssec_run.specs.declared.record.Entry.{Entry}
 use Rattle.dnssec_run.specs.Published.{Id, World as RealWorld}
 use Rattle.dnssec_run.specs.Record as rec
 use Rattle.dnssec_run.proofs.Premise.{IsPlainBySets}
-use Rattle.dnssec_zone.proofs.Flags.{started, ended, aged, may_list, SideOf, affects}
+use Rattle.dnssec_zone.proofs.Flags.{started, ended, listed_old, SideOf, affects}
 use Rattle.dnssec_run.proofs.Chain.Tables.{Stamp, stamp_in, read, checked, want_on}
 use Rattle.dnssec_key.specs.State.{is_future}
 
@@ -55,12 +53,17 @@ world_at tale n = seen (rec.world_at tale.name tale.calls tale.es n)
 abbrev pub found : World → Id → Option Key
 found w id = if w.added id.0 == id.1 then w.key id.0 else None
 
+-- the key of a record at a position, if it is there
+abbrev pub key_at : Tale → ℕ → Id → Option Key
+key_at tale n id = found (world_at tale n) id
+
 abbrev pub if_some : (KeyType → Bool) → Option Key → Bool
 if_some p None = false
 if_some p (Some k) = p k.keytype
 
-abbrev pub put : {A : Type 0} → (List ℕ → A) → List ℕ → A → List ℕ → A
-put f r a q = if bytes_eq r q then a else f q
+-- it is there, and passes
+abbrev pub Passes : Tale → (KeyType → Bool) → ℕ → Id → Type 0
+Passes tale p n id = if_some p (key_at tale n id) ≡ true
 
 abbrev pub put_roll : (RollType → Option RollState) → RollType → Option RollState → RollType
     → Option RollState
@@ -70,7 +73,7 @@ put_roll f r a q = if same_roll r q then a else f q
 abbrev pub started_key : RollType → ℕ → Bool → Bool → Key → Key
 started_key r now o i k = record k {
   keytype = started r o i k.keytype;
-  timestamps = if i then stamps_after (column r).writes (aged o k.keytype) now k.timestamps
+  timestamps = if i then stamps_after (column r).writes (listed_old o k.keytype) now k.timestamps
       else k.timestamps;
 }
 
@@ -89,9 +92,6 @@ early-end-parts r _ _ k = refl
 abbrev pub start_key : RollType → ℕ → List (List ℕ) → List (List ℕ) → List ℕ → Key → Key
 start_key r now old new q k = started_key r now (is_listed old q) (is_listed new q) k
 
-abbrev pub rolled : World → (List ℕ → Key → Key) → RollType → Option RollState → World
-rolled w f r o = record w { key = λ q. option_map (f q) (w.key q); roll = put_roll w.roll r o }
-
 abbrev pub IsOver : RollType → Half → World → ℕ → ℕ → Type 0
 IsOver r half w ttl now = (q : List ℕ) (k : Key) → w.key q ≡ Some k → checked r half k.keytype
     ≡ true →
@@ -105,9 +105,9 @@ HasSuitable sd r w old new = (q : List ℕ) × (k : Key) × (w.key q ≡ Some k)
 pub record CanStart (r : RollType) (w : World) (old new : List (List ℕ)) : Type 0 where
   pub alone : (q : RollType) → together r q ≡ false → w.roll q ≡ None
   pub old_is : (q : List ℕ) → is_listed old q ≡ true → (k : Key) × (w.key q ≡ Some k)
-      × (may_list r k.keytype ≡ true)
+      × (lists_kind (side_of r) k.keytype ≡ true)
   pub new_is : (q : List ℕ) → is_listed new q ≡ true → (k : Key) × (w.key q ≡ Some k)
-      × (may_list r k.keytype ≡ true) × (all_states is_future k.keytype ≡ true)
+      × (lists_kind (side_of r) k.keytype ≡ true) × (all_states is_future k.keytype ≡ true)
       × (is_listed old q ≡ false)
   pub algorithms : may_change_algorithms r ≡ false → (q : List ℕ) (k : Key) → w.key q ≡ Some k
       → is_listed old q ≡ true → (x : List ℕ) × (j : Key) × (w.key x ≡ Some j)

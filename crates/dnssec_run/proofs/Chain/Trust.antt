@@ -7,24 +7,23 @@ use Rattle.dnssec_keyset.proofs.Accepted.{accepted_changes, no_some, no_error, g
 use Rattle.dnssec_keyset.proofs.Accepted.{ends_early}
 use Rattle.std.proofs.Common.{◌≡◌, ℕ, zero, suc, ◌≤◌, inl, inr, Bool, true, false, refl, sym, ◌∙◌}
 use Rattle.std.proofs.Common.{ap, subst, arith, List, length, Option, None, Some}
-use Rattle.std.specs.Prelude.{if◌then◌else◌, ◌==◌}
+use Rattle.std.specs.Prelude.{if◌then◌else◌}
 use Rattle.std.specs.Option.{option_map}
 use Rattle.std.specs.Str.{bytes_eq}
-use Rattle.std.specs.FinMap.{get, get-empty}
-use Rattle.std.specs.Ordering.{nat_cmp}
-use Rattle.std.specs.Cmp.Lexicographic.{slice_cmp, bytes_decides}
+use Rattle.std.specs.FinMap.{get}
+use Rattle.std.specs.Cmp.Lexicographic.{bytes_decides}
 use Rattle.std.proofs.lemmas.Bool.{true≢false}
 use Rattle.std.proofs.lemmas.Option.{same_Some, none-some}
 use Rattle.dnssec_key.specs.declared.roll.RollType.{RollType}
 use Rattle.dnssec_key.specs.declared.roll.RollType.TheVariants.{AlgorithmRoll}
 use Rattle.dnssec_key.specs.declared.roll.RollState.{RollState}
-use Rattle.dnssec_key.specs.declared.roll.RollState.TheVariants.{Propagation1, Propagation2, Done}
+use Rattle.dnssec_key.specs.declared.roll.RollState.TheVariants.{Propagation1}
 use Rattle.dnssec_key.specs.declared.kind.KeyType.{KeyType}
 use Rattle.dnssec_zone.specs.Lists.{Listed, listed_by, nothing_listed, Lists}
 use Rattle.dnssec_keyset.specs.KeySet.{KeySetParts}
 use Rattle.dnssec_zone.specs.Rolls.{phase_of}
-use Rattle.dnssec_zone.proofs.Phases.{phase_of-with_phase, no_phases}
-use Rattle.dnssec_key.specs.RollTable.{First, Second, after_wait, after_report, cache_expire, Half}
+use Rattle.dnssec_key.specs.RollTable.{First, Second, after_wait, after_report, behind, Half}
+use Rattle.dnssec_key.specs.RollTable.{cache_expire}
 use Rattle.dnssec_key.specs.Setters.{Setting, Decoupled, Present, set_by}
 use Rattle.dnssec_keyset.specs.Step as keyset
 use Rattle.dnssec_zone.specs.Wait as waits
@@ -43,23 +42,27 @@ use Rattle.dnssec_run.specs.ByAlgorithm.{IsSafeByEach, KeepsWhole, StaysSafeByEa
 use Rattle.std.specs.List.{Contains}
 use Rattle.dnssec_run.proofs.Premise.{DoesAt, start_of, first_wait_of, is_plain_setting}
 use Rattle.dnssec_run.proofs.Premise.{plain-by-sets, sets_nothing}
-use Rattle.dnssec_zone.proofs.Flags.{SideOf, Keys, Zone, Quiet, fits, stale-idle, blank-idle}
-use Rattle.dnssec_run.proofs.Chain.Tale.{Tale, World, Key, world_at, rolled, start_key}
+use Rattle.dnssec_zone.proofs.Flags.{SideOf, Keys, Zone, Quiet, flags_fit, stale-idle, blank-idle}
+use Rattle.dnssec_run.proofs.Chain.Tale.{Passes, Tale, Key, world_at, start_key, if_some}
 use Rattle.dnssec_run.proofs.Chain.Tale.{early-end-parts, start-parts}
 use Rattle.dnssec_run.proofs.Chain.Setters.{harmless, others-role, present_others}
-use Rattle.dnssec_run.proofs.Chain.Rolls.{stage_fits}
+use Rattle.dnssec_run.proofs.Chain.Flags.{is_in}
+use Rattle.dnssec_run.specs.Published.{Id}
 use Rattle.dnssec_run.proofs.Chain.Returns.{KeepsLists, early_end_key}
-use Rattle.dnssec_run.proofs.Chain.OneKey.{Mapped}
+use Rattle.dnssec_run.proofs.Chain.OneKey.{Mapped, Waits, wait_mark, start-leaves, may_there}
+use Rattle.dnssec_keyset.proofs.Sides.{after_report-others, after_wait-others}
+use Rattle.dnssec_keyset.proofs.Sides.{after_early_end-others}
+use Rattle.dnssec_run.proofs.Chain.Kinds.{number_started, number_ended}
+use Rattle.dnssec_keyset.proofs.Exchange.Kinds.{kind_number, number-moves}
 use Rattle.dnssec_run.proofs.Chain.Places.{place_at, real, all_ok, same_call, none_at_start}
 use Rattle.dnssec_run.proofs.Chain.Places.{found_key}
 use Rattle.dnssec_run.proofs.Chain.Invariant.{At}
 use Rattle.dnssec_run.proofs.Chain.Gentles.{distinct}
 use Rattle.dnssec_run.proofs.Chain.KeyCalls.{kept_same, kept_added, kept_deleted, kept_changed}
-use Rattle.dnssec_run.proofs.Chain.KeyCalls.{with_key, without_key, with_keys}
 use Rattle.dnssec_run.proofs.Chain.BothSides.{Inv, mapped, calm, report, done}
 use Rattle.dnssec_run.proofs.Chain.FirstCalls.{start}
-use Rattle.dnssec_run.proofs.Chain.FirstWaits.{wait1}
-use Rattle.dnssec_run.proofs.Chain.SideBySide.{wait2, end_early, family-safe}
+use Rattle.dnssec_run.proofs.Chain.Waits.{wait1, wait2}
+use Rattle.dnssec_run.proofs.Chain.SideBySide.{end_early, family-safe}
 use Rattle.dnssec_run.proofs.Chain.Keeping.{engaged}
 use Rattle.dnssec_run.proofs.Chain.History.{nothing_in, not_in_empty}
 use Rattle.dnssec_run.proofs.Chain.Life.{Law, PassesAt}
@@ -68,7 +71,7 @@ use Rattle.dnssec_run.proofs.Chain.Family.{same_number}
 use Rattle.dnssec_run.proofs.Chain.Allowed.{can_start, waits_in_phase, spreads}
 use Rattle.dnssec_keyset.proofs.Laws.{no_cause}
 use Rattle.dnssec_run.specs.WholeRolls.{is_second}
-use Rattle.dnssec_zone.specs.Start.{is_listed}
+use Rattle.dnssec_zone.specs.Start.{is_listed, lists_kind, side_of}
 use Rattle.dnssec_key.specs.State.{is_future}
 use Rattle.dnssec_key.specs.Key.{all_states}
 
@@ -101,19 +104,6 @@ plainly (call.Propagation1Complete a b c) =
     record { mark_is = refl; moment_is = refl; blank = refl }
 plainly _ = record { mark_is = refl; moment_is = refl; blank = refl }
 
--- ---- worlds
-
-map_by : (f g : Key → Key) → ((k : Key) → f k ≡ g k) → (o : Option Key) → option_map f o
-    ≡ option_map g o
-map_by f g same None = refl
-map_by f g same (Some k) = ap Some (same k)
-
--- a world is what its parts are
-worlds : (w v : World) → ((q : List ℕ) → w.key q ≡ v.key q) → ((q : List ℕ) → w.added q ≡ v.added q)
-    → ((q : RollType) → w.roll q ≡ v.roll q) → w ≡ v
-worlds w v keys added rolls = λ i.
-    record { key = λ q. keys q i; added = λ q. added q i; roll = λ q. rolls q i }
-
 -- ---- one call
 
 module _ (tale : Tale) (law : Law tale) (n : ℕ) (here : suc n ≤ length tale.es) where
@@ -126,11 +116,13 @@ module _ (tale : Tale) (law : Law tale) (n : ℕ) (here : suc n ≤ length tale.
   moved : (f g : List ℕ → Key → Key) (r : RollType) (o : Option RollState) {kept : Lists}
       → MovesOn before after r o kept f → ((q : List ℕ) (k : Key) → f q k ≡ g q k)
       → ((q : List ℕ) → (world_at tale (suc n)).added q ≡ (world_at tale n).added q)
-      → Mapped tale n g r o
-  moved f g r o h same added = mapped tale n g r o
-      (worlds (world_at tale (suc n)) (rolled (world_at tale n) g r o)
-      (λ q. h.keys q ∙ map_by (f q) (g q) (same q) (get before.keys q)) added
-      (λ q. ap (λ rolls. phase_of rolls q) h.rolls ∙ phase_of-with_phase before.rolls r o q))
+      → ((q : List ℕ) (k : Key) → kind_number (g q k).keytype ≡ kind_number k.keytype)
+      → ((q : List ℕ) (k : Key) → (world_at tale n).key q ≡ Some k
+      → lists_kind (side_of r) k.keytype ≡ false → g q k ≡ k) → Mapped tale n g r o
+  moved f g r o h same added kinds leaves = mapped tale n g r o
+      (λ q. h.keys q ∙ (λ i. option_map (λ k. same q k i) (get before.keys q))) added
+      (λ q. ap (λ rolls. phase_of rolls q) h.rolls)
+      kinds leaves
 
   expires : (half : Half) (ttl : ℕ) → Some (cache_expire half ttl) ≡ Some Propagation1 → ⊥
   expires First ttl e = cc
@@ -159,6 +151,30 @@ module _ (tale : Tale) (law : Law tale) (n : ℕ) (here : suc n ≤ length tale.
           ∙ (found_key (world_at tale (suc n)) id j f).0))))
       by _ plain h = absurd (true≢false (sym plain))
 
+  -- an accepted wait
+  waits_on : (half : Half) (r : RollType) (now : ℕ)
+      → keyset.clearance before (keyset.Wait r half now) ≡ waits.Clear
+      → Changes before (keyset.Wait r half now) after
+      → ((q : List ℕ) → (world_at tale (suc n)).added q ≡ (world_at tale n).added q)
+      → (position_at tale.es (suc n)).mark ≡ wait_mark half r
+      → (position_at tale.es (suc n)).moment ≡ Some now
+      → (Some (behind half) ≡ Some Propagation1 → ⊥) → Waits tale n half r
+  waits_on half r now v h added m t moved_on =
+      let w = waits_in_phase r half now (real tale n) v in
+      let on = moved _ (λ q. after_wait r half now) r (Some (behind half)) h (λ q k. refl) added
+      (λ q k. number-moves r half k.keytype) (λ q k e. after_wait-others r half now k) in
+      record {
+        ttl = w.0;
+        now = now;
+        mapped = on;
+        phase = w.1;
+        over = w.2;
+        mark = m;
+        moment = t;
+        lists = keeps-on tale n r (Some (behind half)) moved_on on.rolls
+            (λ q d. ap (λ l. listed_by l q) h.lists);
+      }
+
   accepted : (c : keyset.Call) → keyset.clearance before c ≡ waits.Clear
       → Changes before c after → sets_nothing before c ≡ true → adds_blank c ≡ true
       → ((q : List ℕ) → (world_at tale (suc n)).added q
@@ -170,97 +186,92 @@ module _ (tale : Tale) (law : Law tale) (n : ℕ) (here : suc n ≤ length tale.
       → Inv tale n → Inv tale (suc n)
   accepted (keyset.AddKey r k) v h plain blank added m t only some inv =
       let rolls = λ (q : RollType). ap (λ rolls. phase_of rolls q) h.rolls in
-      calm tale n here (with_key (world_at tale n) r (suc n) k)
-      (worlds (world_at tale (suc n)) (with_key (world_at tale n) r (suc n) k) h.keys added rolls)
-      (kept_added (world_at tale n) r (suc n) k
+      calm tale n here (kept_added (world_at tale n) (world_at tale (suc n)) rolls r (suc n) k
       (no_some _ (no_error _ _ _ (no_error _ _ _ (no_cause _ v)).1).0)
-      (blank-idle k.keytype blank)) m
+      (blank-idle k.keytype blank) h.keys added) m
       (λ s. none-some AlgorithmRoll (only s)) (keeps-same tale n rolls h.lists) inv
   accepted (keyset.Set r s) v h plain blank added m t only some inv =
-      calm tale n here (with_keys (world_at tale n) (λ q k. if bytes_eq r q then set_by s k else k))
-      (worlds (world_at tale (suc n))
-      (with_keys (world_at tale n) (λ q k. if bytes_eq r q then set_by s k else k)) h.keys added
-      (λ q. ap (λ rolls. phase_of rolls q) h.rolls))
-      (kept_changed (world_at tale n) (λ q k. if bytes_eq r q then set_by s k else k)
-      (harmless before r s plain)) m
+      calm tale n here (kept_changed (world_at tale n) (world_at tale (suc n))
+      (λ q. ap (λ rolls. phase_of rolls q) h.rolls) (λ q k. if bytes_eq r q then set_by s k else k)
+      (harmless before r s plain) h.keys added) m
       (λ s. none-some AlgorithmRoll (only s)) (set_lists r s plain h) inv
   accepted (keyset.DeleteKey r) v h plain blank added m t only some inv =
       let k = gone_key (get before.keys r) (no_cause _ v) in
-      calm tale n here (without_key (world_at tale n) r)
-      (worlds (world_at tale (suc n)) (without_key (world_at tale n) r) h.keys added
-      (λ q. ap (λ rolls. phase_of rolls q) h.rolls))
-      (kept_deleted (world_at tale n) r k.0 k.1 (stale-idle k.0.keytype k.2)) m
+      let rolls = λ (q : RollType). ap (λ rolls. phase_of rolls q) h.rolls in
+      calm tale n here (kept_deleted (world_at tale n) (world_at tale (suc n)) rolls r k.0 k.1
+      (stale-idle k.0.keytype k.2) h.keys added) m
       (λ s. none-some AlgorithmRoll (only s))
-      (λ sd. keeps-without tale n r (λ q. ap (λ rolls. phase_of rolls q) h.rolls) h.lists sd
-      (λ id j f t role. none-some j (sym
+      (λ sd. keeps-without tale n r rolls h.lists sd (λ id j f t role. none-some j (sym
       (h.keys id.0 ∙ ap (λ b. if b then None else get before.keys id.0) t)
       ∙ (found_key (world_at tale (suc n)) id j f).0))) inv
   accepted (keyset.StartRoll r old new now) v h plain blank added m t only some inv =
+      let can = can_start (real tale n) r old new (no_cause _ v) in
       let on = moved _ (start_key r now old new) r (Some Propagation1) h
-      (λ q. start-parts r now (is_listed old q) (is_listed new q)) added in
-      start tale n here r now old new on (can_start (real tale n) r old new (no_cause _ v)) m
-      (λ q. ap (λ l. is_listed (listed_by l r).olds q) h.lists
-      ∙ ap (λ (l : Listed). is_listed l.olds q)
-      (listed-same before.lists r (lists.listed_at_start before.keys old new))
-      ∙ is_listed-filter (lists.has_kept_key before.keys) old q)
-      (λ q. ap (λ l. is_listed (listed_by l r).news q) h.lists
-      ∙ ap (λ (l : Listed). is_listed l.news q)
-      (listed-same before.lists r (lists.listed_at_start before.keys old new)))
-      (λ sd out. keeps-start tale n r (Some Propagation1) on.rolls
-      (λ q d. ap (λ l. listed_by l q) h.lists
-      ∙ listed-other before.lists r (lists.listed_at_start before.keys old new) q d) sd
-      (λ q own. distinct sd r q out own))
-      law (some r refl) (λ s. none-some AlgorithmRoll (only s)) inv
+      (λ q. start-parts r now (is_listed old q) (is_listed new q)) added
+      (λ q k. number_started r (is_listed old q) (is_listed new q) k.keytype)
+      (λ q k e. start-leaves r now (is_listed old q) (is_listed new q) k
+      (may_there r (world_at tale n) old new can q k e)) in
+      let listed = listed-same before.lists r (lists.listed_at_start before.keys old new) in
+      start tale n here r (record {
+        now = now;
+        old = old;
+        new = new;
+        mapped = on;
+        can = can;
+        mark = m;
+        olds = λ q. ap (λ l. is_listed (listed_by l r).olds q) h.lists
+            ∙ ap (λ (l : Listed). is_listed l.olds q) listed
+            ∙ is_listed-filter (lists.has_kept_key before.keys) old q;
+        news = λ q. ap (λ l. is_listed (listed_by l r).news q) h.lists
+            ∙ ap (λ (l : Listed). is_listed l.news q) listed;
+        lists = λ sd out. keeps-start tale n r (Some Propagation1) on.rolls
+            (λ q d. ap (λ l. listed_by l q) h.lists
+            ∙ listed-other before.lists r (lists.listed_at_start before.keys old new) q d) sd
+            (λ q own. distinct sd r q out own);
+      }) law (some r refl) (λ s. none-some AlgorithmRoll (only s)) inv
   accepted (keyset.Report r half ttl now) v h plain blank added m t only some inv =
       let on = moved _ (λ q. after_report r half now) r (Some (cache_expire half ttl)) h
-      (λ q k. refl) added in
+      (λ q k. refl) added (λ q k. refl) (λ q k e. after_report-others r half now k) in
       report tale n here r half ttl now on
       (spreads half _ (no_cause _ v)) m t (λ s. none-some AlgorithmRoll (only s))
       (keeps-on tale n r (Some (cache_expire half ttl)) (expires half ttl) on.rolls
       (λ q d. ap (λ l. listed_by l q) h.lists ∙ listed-reported half before.lists r q d)) inv
   accepted (keyset.Wait r First now) v h plain blank added m t only some inv =
-      let w = waits_in_phase r First now (real tale n) v in
-      let on = moved _ (λ q. after_wait r First now) r (Some Propagation2) h (λ q k. refl) added in
-      wait1 tale n here r w.0 now on w.1 w.2 m t
-      (keeps-on tale n r (Some Propagation2) (λ e. cc) on.rolls
-      (λ q d. ap (λ l. listed_by l q) h.lists)) (λ s. same_Some r AlgorithmRoll (only s)) inv
+      wait1 tale n here r (waits_on First r now v h added m t (λ e. cc)) inv
+      (λ s. same_Some r AlgorithmRoll (only s))
   accepted (keyset.Wait r Second now) v h plain blank added m t only some inv =
-      let w = waits_in_phase r Second now (real tale n) v in
-      let on = moved _ (λ q. after_wait r Second now) r (Some Done) h (λ q k. refl) added in
-      wait2 tale n here r w.0 now on w.1 w.2 m t
-      (keeps-on tale n r (Some Done) (λ e. cc) on.rolls (λ q d. ap (λ l. listed_by l q) h.lists))
-      (λ s. none-some AlgorithmRoll (only s)) inv
+      wait2 tale n here r (waits_on Second r now v h added m t (λ e. cc)) inv
+      (λ s. none-some AlgorithmRoll (only s))
   accepted (keyset.AbortRoll r) v h plain blank added m t only some inv =
-      let on = moved _ (early_end_key tale r n) r None h (λ q. early-end-parts r _ _) added in
+      let on = moved _ (early_end_key tale r n) r None h (λ q. early-end-parts r _ _) added
+      (λ q k. number_ended r _ _ k.keytype)
+      (λ q k e l. sym (early-end-parts r _ _ k) ∙ after_early_end-others r _ _ k l) in
       end_early tale n here r on (ends_early _ (no_cause _ v)) m
       (keeps-on tale n r None (λ e. none-some Propagation1 e) on.rolls
       (λ q d. ap (λ l. listed_by l q) h.lists ∙ listed-other before.lists r nothing_listed q d))
       (λ s. none-some AlgorithmRoll (only s)) inv
   accepted (keyset.RollDone r) v h plain blank added m t only some inv =
-      let on = moved _ (λ q k. k) r None h (λ q k. refl) added in
+      let on = moved _ (λ q k. k) r None h (λ q k. refl) added (λ q k. refl)
+      (λ q k e l. refl) in
       done tale n here r on (finishes _ (no_cause _ v)) m (λ s. none-some AlgorithmRoll (only s))
       (keeps-on tale n r None (λ e. none-some Propagation1 e) on.rolls
       (λ q d. ap (λ l. listed_by l q) h.lists)) inv
 
   by_reply : (c : keyset.Call) (r : Reply) → keyset.Step before c (rec.reply_of r) after
       → sets_nothing before c ≡ true → adds_blank c ≡ true
-      → ((q : List ℕ) → (world_at tale (suc n)).added q
-      ≡ (if rec.is_accepted r then rec.with_added (suc n) (rec.reference_added c)
-      (world_at tale n).added else (world_at tale n).added) q)
+      → ((q : List ℕ) → (world_at tale (suc n)).added q ≡ (if rec.is_accepted r then rec.with_added
+      (suc n) (rec.reference_added c) (world_at tale n).added else (world_at tale n).added) q)
       → (position_at tale.es (suc n)).mark ≡ (if rec.is_accepted r then mark c else Other)
       → (position_at tale.es (suc n)).moment ≡ moment c
       → (PassesAt tale n → (rec.is_accepted r ≡ true) × (first_wait_of c ≡ Some AlgorithmRoll))
-      → ((q : RollType) → rec.is_accepted r ≡ true → start_of c ≡ Some q
-      → DoesAt start_of tale.calls tale.es n q)
-      → Inv tale n → Inv tale (suc n)
+      → ((q : RollType) → rec.is_accepted r ≡ true → start_of c ≡ Some q → DoesAt start_of
+      tale.calls tale.es n q) → Inv tale n → Inv tale (suc n)
   by_reply c (reply.Refused cause) step plain blank added m t only some inv =
       let same = step.1 in
-      calm tale n here (world_at tale n)
-      (worlds (world_at tale (suc n)) (world_at tale n) (λ q. ap (λ s. get s.keys q) same) added
-      (λ q. ap (λ s. phase_of s.rolls q) same))
-      (kept_same (world_at tale n)) m (λ s. true≢false (sym (only s).0))
-      (keeps-same tale n (λ q. ap (λ s. phase_of s.rolls q) same)
-      (ap (λ (s : KeySetParts). s.lists) same)) inv
+      let rolls = λ (q : RollType). ap (λ (s : KeySetParts). phase_of s.rolls q) same in
+      calm tale n here (kept_same (world_at tale n) (world_at tale (suc n)) rolls
+      (λ q. ap (λ s. get s.keys q) same) added) m (λ s. true≢false (sym (only s).0))
+      (keeps-same tale n rolls (ap (λ (s : KeySetParts). s.lists) same)) inv
   by_reply c reply.Done step plain blank added m t only some inv =
       let h = accepted_changes before after c keyset.Done refl step in
       accepted c h.0 h.1 plain blank added m t (λ s. (only s).1) (λ q. some q refl) inv
@@ -294,18 +305,16 @@ module _ (tale : Tale) (law : Law tale) (n : ℕ) (here : suc n ≤ length tale.
 
 -- ---- the whole run
 
-none_there : (b : Bool) (o : Option Key) (p : KeyType → Bool) → o ≡ None
-    → all_ok p (if b then o else None) ≡ true
-none_there true o p e = ap (all_ok p) e
-none_there false o p e = refl
+nothing : (tale : Tale) (p : KeyType → Bool) (id : Id) → Passes tale p zero id → ⊥
+nothing tale p id e = true≢false (sym e ∙ ap (if_some p) (none_at_start tale id))
 
 first_at : (tale : Tale) (sd : SideOf) → At tale sd Quiet zero
 unfolding rec.world_at
 first_at tale sd = record {
   own = refl;
-  rolls = λ q e. ap (stage_fits Quiet q) (no_phases q);
-  flags = λ id. none_there (0 == id.1) _ (fits sd Quiet) (get-empty (slice_cmp nat_cmp) id.0);
-  holds = λ kind q le un id e. absurd (none_at_start tale _ id e);
+  rolls = λ q e. refl;
+  flags = λ id. ap (all_ok (flags_fit sd Quiet)) (none_at_start tale id);
+  holds = λ set q le un id e. absurd (nothing tale (is_in sd set) id e);
   back = tt;
 }
 
@@ -316,14 +325,14 @@ first tale = record {
   zs = Quiet;
   keys = first_at tale Keys;
   zone = first_at tale Zone;
-  pairs = λ r q o p e f d. absurd (none-some o (sym (no_phases r) ∙ e));
-  phases = λ r p e. absurd (none-some p (sym (no_phases r) ∙ e));
+  pairs = λ r q o p e f d. absurd (none-some o e);
+  phases = λ r p e. absurd (none-some p e);
   life = inr (inr (
     (λ q le un id o c. not_in_empty id
         (let e : q ≡ zero = omega arith in
         subst (λ q. Contains (position_at tale.es q).ds id) e c)),
     (λ w m lt s. omega (arith, lt)),
-    inl (λ id o e. none_at_start tale engaged id e),
+    inl (λ id o e. nothing tale engaged id e),
   ));
 }
 
@@ -340,7 +349,7 @@ module _ (name : List ℕ) (calls : List Call) (entries : List Entry)
     calls = calls;
     es = entries;
     run = run;
-    plain = plain-by-sets name calls entries run plain;
+    plain = plain-by-sets run plain;
     of = λ id. true;
     whole = true;
     all = λ w id. refl;

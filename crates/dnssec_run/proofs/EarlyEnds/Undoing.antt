@@ -4,8 +4,7 @@ use Rattle.std.proofs.lemmas.Bool.{false_from_ne_true, true≢false, and_parts, 
 use Rattle.std.proofs.lemmas.Bool.{not-true, or_left, or_right}
 use Rattle.dnssec_run.proofs.Laws.{made-at, stays-sound}
 use Rattle.std.proofs.Common.{◌≡◌, ℕ, zero, suc, ◌<◌, ◌≤◌, inl, inr, Bool, true, false, not, ◌&&◌}
-use Rattle.std.proofs.Common.{◌||◌, refl, sym, ◌∙◌, ap, subst, arith, List, length, Option, None}
-use Rattle.std.proofs.Common.{Some}
+use Rattle.std.proofs.Common.{◌||◌, refl, sym, ◌∙◌, ap, subst, arith, List, length, Option, Some}
 use Rattle.std.specs.Prelude.{slice_get, if◌then◌else◌}
 use Rattle.std.specs.Option.{option_map, option_map_or}
 use Rattle.std.specs.FinMap.{get}
@@ -19,54 +18,42 @@ use Rattle.dnssec_key.specs.RollTable.{after_early_end, after_start}
 use Rattle.dnssec_keyset.specs.KeySet.{KeySetParts}
 use Rattle.dnssec_zone.specs.Lists.{Listed, listed_by, has_kept_key, listed_at_start}
 use Rattle.dnssec_zone.specs.Rolls.{phase_of}
-use Rattle.dnssec_zone.specs.Start.{is_listed}
+use Rattle.dnssec_zone.specs.Start.{is_listed, lists_kind, side_of}
 use Rattle.dnssec_keyset.specs.Step as keyset
 use Rattle.dnssec_zone.specs.Wait as waits
 use Rattle.dnssec_keyset.proofs.Accepted.{ends_early}
-use Rattle.dnssec_zone.proofs.Flags.{ended, may_list, may_start, started}
-use Rattle.dnssec_zone.proofs.Phases.{listed_by-with_listed}
-use Rattle.dnssec_keyset.proofs.Sides.{leaves-others}
+use Rattle.dnssec_zone.proofs.Flags.{ended, may_start, started}
 use Rattle.dnssec_zone.proofs.Tests.{and-both}
 use Rattle.dnssec_run.specs.declared.call.Call.{Call}
 use Rattle.dnssec_run.specs.declared.record.Entry.{Entry}
 use Rattle.dnssec_run.specs.EarlyEnds.{IsUntouched, Undoes, UndoesStarts, touches}
 use Rattle.dnssec_run.specs.Published.{World}
-use Rattle.dnssec_run.specs.Record.{IsRun, call_of, is_accepted, reply_of, world_at}
+use Rattle.dnssec_run.specs.Record.{IsRun, call_of, is_accepted, world_at}
 use Rattle.dnssec_run.specs.WholeRolls.{IsAccepted}
 use Rattle.dnssec_run.proofs.Chain.Allowed.{can_start, spreads}
 use Rattle.dnssec_run.proofs.Chain.Rolls.{same-same}
 use Rattle.dnssec_run.proofs.Chain.OneKey.{may_there}
 use Rattle.dnssec_run.proofs.Chain.Tale.{CanStart, early-end-parts, seen, start-parts}
-use Rattle.dnssec_run.proofs.EarlyEnds.Keys.{key-step, phase-before}
-use Rattle.dnssec_run.proofs.EarlyEnds.Lists.{lists-step}
+use Rattle.dnssec_run.proofs.EarlyEnds.Keys.{key-step, phase-before, lists-step, all-tied, tied}
+use Rattle.dnssec_run.proofs.EarlyEnds.Keys.{undone_facts}
 use Rattle.dnssec_run.proofs.Chain.Lists.{is_listed-filter}
-use Rattle.dnssec_run.proofs.EarlyEnds.Roles.{all-tied}
-use Rattle.dnssec_run.proofs.EarlyEnds.Tables.{tied, undone_facts}
 use Rattle.dnssec_run.proofs.Premise.{same-rolls, start_of}
-use Rattle.dnssec_run.proofs.WholeRolls.Order.{world_of}
-use Rattle.dnssec_run.proofs.WholeRolls.Replies.{did, did-made, idle}
+use Rattle.dnssec_run.proofs.WholeRolls.Replies.{outcome, world_of, did-made}
 use Rattle.dnssec_keyset.proofs.Laws.{no_cause}
 use Rattle.std.proofs.Math.Bool.{and-true}
 
-one_listed : (a b : Bool) → (a ≡ true → ⊥) → (b ≡ true → ⊥) → (a ≡ false) × (b ≡ false)
-one_listed true b p r = absurd (p refl)
-one_listed false true p r = absurd (r refl)
-one_listed false false p r = (refl, refl)
-
 unmapped : (o : Option KeyParts) (f : KeyParts → KeyParts) → ((k : KeyParts) → f k ≡ k)
     → option_map f o ≡ o
-unmapped None f same = refl
-unmapped (Some k) f same = ap Some (same k)
+unmapped o f same = grind arith
 
 -- the set has a key with these flags there
 abbrev HasKind : KeySetParts → List ℕ → KeyType → Type 0
 HasKind set q t = (j : KeyParts) × (get set.keys q ≡ Some j) × (j.keytype ≡ t)
 
-onto : (set : KeySetParts) (q : List ℕ) (t u : KeyType) → HasKind set q t → t ≡ u
-    → HasKind set q u
+onto : (set : KeySetParts) (q : List ℕ) (t u : KeyType) → HasKind set q t → t ≡ u → HasKind set q u
 onto set q t u h e = (h.0, h.1, h.2 ∙ e)
 
-module _ (name : List ℕ) (calls : List Call) (entries : List Entry)
+module _ {name : List ℕ} {calls : List Call} {entries : List Entry}
     (run : IsRun name calls entries) where
   abbrev at : ℕ → World
   at n = world_at name calls entries n
@@ -119,7 +106,7 @@ module _ (name : List ℕ) (calls : List Call) (entries : List Entry)
 
     started_so : (keyset.clearance old (keyset.StartRoll roll olds news now) ≡ waits.Clear)
         × Changes old (keyset.StartRoll roll olds news now) (at (suc s)).set
-    started_so = did-made name calls entries run s (keyset.StartRoll roll olds news now) st.0 st.1
+    started_so = did-made run s (keyset.StartRoll roll olds news now) st.0 st.1
 
     -- no start of the roll is accepted before n
     abbrev NoStart : ℕ → Type 0
@@ -150,8 +137,7 @@ module _ (name : List ℕ) (calls : List Call) (entries : List Entry)
 
           may : (k : KeyParts) → get old.keys q ≡ Some k
               → (may_start roll is_old is_new k.keytype && tied k.keytype) ≡ true
-          may k e = and-both _ _ (may_there roll _ olds news can q k e)
-              (all-tied name calls entries run s q k e)
+          may k e = and-both _ _ (may_there roll _ olds news can q k e) (all-tied run s q k e)
 
       -- ---- from the start on
 
@@ -163,8 +149,7 @@ module _ (name : List ℕ) (calls : List Call) (entries : List Entry)
         news_are : U → is_listed (listed_by set.lists roll).news q ≡ is_new
         key : (k : KeyParts) → get old.keys q ≡ Some k
             → (may_start roll is_old is_new k.keytype && tied k.keytype) ≡ true
-            → (is_old || is_new) ≡ true → U
-            → HasKind set q (started roll is_old is_new k.keytype)
+            → (is_old || is_new) ≡ true → U → HasKind set q (started roll is_old is_new k.keytype)
 
       standing-same : (set : KeySetParts) (U V : Type 0) → (U → V) → (V → U) → Standing set U
           → Standing set V
@@ -180,7 +165,7 @@ module _ (name : List ℕ) (calls : List Call) (entries : List Entry)
       standing-first =
           let m = started_so.1 in
           let lists : listed_by (at (suc s)).set.lists roll ≡ first =
-          ap (λ l. listed_by l roll) m.lists ∙ listed_by-with_listed old.lists roll first roll
+          ap (λ l. listed_by l roll) m.lists
           ∙ ap (λ b. if b then first else listed_by old.lists roll) (same-same roll) in
           record {
             of_olds = λ t i c after below. absurd (omega arith);
@@ -203,62 +188,54 @@ module _ (name : List ℕ) (calls : List Call) (entries : List Entry)
           → Standing (at n).set (Untouched s q n))
           → Standing (at (suc n)).set (Untouched s q (suc n))
       standing-next n c e within later ci ei no_start spreads before =
-          by (is_accepted e.reply) refl
-        where
-          step : keyset.Step (at n).set (call_of c) (reply_of e.reply) (at (suc n)).set
-          step = (run.each n c e ci ei).step
-
-          by : (b : Bool) → is_accepted e.reply ≡ b
-              → Standing (at (suc n)).set (Untouched s q (suc n))
-          by false t =
-              let same = idle name calls entries run n c e ci ei t in
-              subst (λ set. Standing set (Untouched s q (suc n))) (sym same)
-              (standing-same (at n).set (Untouched s q n) (Untouched s q (suc n))
-              (λ u. untouched-next s q n c e ci ei u (λ a. absurd (true≢false (sym a ∙ t))))
-              (untouched-before s q n)
-              (before (ap (λ (set : KeySetParts). phase_of set.rolls roll) (sym same) ∙ spreads)))
-          by true t =
-              let ok = did name calls entries run n c e ci ei t in
-              let was = phase-before roll (at n).set (at (suc n)).set spreads (call_of c) ok.1
-              (λ others more later is. no_start others more later (
-                record { made = c; entry = e; made_is = ci; entry_is = ei; call_is = is },
-                t,
-              )) in
-              let h = before was.0 in
-              let f = lists-step roll (at n).set (at (suc n)).set (call_of c) ok.1 was.1 q in
-              let next = λ (u : Untouched s q n) (none : touches (call_of c) q ≡ false).
-              untouched-next s q n c e ci ei u (λ a. none) in
-              let here = λ (u : Untouched s q (suc n)).
-              untouched-here s q n c e ci ei later t u in
-              record {
-                of_olds = λ l. let x = and_parts _ _ (sym f.olds ∙ l) in
-                    next (h.of_olds x.0) (not-true _ x.1);
-                of_news = λ l. let x = and_parts _ _ (sym f.news ∙ l) in
-                    next (h.of_news x.0) (not-true _ x.1);
-                olds_are = λ u. f.olds
-                    ∙ ap (λ b. is_listed (listed_by (at n).set.lists roll).olds q && not b) (here u)
-                    ∙ and-true _ ∙ h.olds_are (untouched-before s q n u);
-                news_are = λ u. f.news
-                    ∙ ap (λ b. is_listed (listed_by (at n).set.lists roll).news q && not b) (here u)
-                    ∙ and-true _ ∙ h.news_are (untouched-before s q n u);
-                key = λ k there may l u.
-                    let x = h.key k there may l (untouched-before s q n u) in
-                    let own : may_list roll x.0.keytype ≡ true = ap (may_list roll) x.2
-                    ∙ (undone_facts roll is_old is_new k.keytype may).1 l in
-                    let y = key-step roll (at n).set (at (suc n)).set
-                    (stays-sound name calls entries run n within).rolls was.0 q x.0 x.1 own
-                    (call_of c) ok.0 ok.1
-                    (leaves-others (at n).set (at (suc n)).set (call_of c) (reply_of e.reply) step)
-                    was.1 (here u) in
-                    onto (at (suc n)).set q x.0.keytype _ y x.2;
-              }
+          elim (outcome run n c e ci ei) [
+            | inl y ↦ subst (λ set. Standing set (Untouched s q (suc n))) (sym y.1)
+                (standing-same (at n).set (Untouched s q n) (Untouched s q (suc n))
+                (λ u. untouched-next s q n c e ci ei u (λ a. absurd (true≢false (sym a ∙ y.0))))
+                (untouched-before s q n)
+                (before (ap (λ (set : KeySetParts). phase_of set.rolls roll) (sym y.1) ∙ spreads)))
+            | inr d ↦
+                let old = (at n).set in
+                let new = (at (suc n)).set in
+                let was = phase-before roll old new spreads (call_of c) d.2
+                (λ others more later is. no_start others more later (
+                  record { made = c; entry = e; made_is = ci; entry_is = ei; call_is = is },
+                  d.0,
+                )) in
+                let h = before was.0 in
+                let f = lists-step roll old new (call_of c) d.2 was.1 q in
+                let next = λ (u : Untouched s q n) (none : touches (call_of c) q ≡ false).
+                untouched-next s q n c e ci ei u (λ a. none) in
+                let here = λ (u : Untouched s q (suc n)).
+                untouched-here s q n c e ci ei later d.0 u in
+                record {
+                  of_olds = λ l. let x = and_parts _ _ (sym f.olds ∙ l) in
+                      next (h.of_olds x.0) (not-true _ x.1);
+                  of_news = λ l. let x = and_parts _ _ (sym f.news ∙ l) in
+                      next (h.of_news x.0) (not-true _ x.1);
+                  olds_are = λ u. f.olds
+                      ∙ ap (λ b. is_listed (listed_by old.lists roll).olds q && not b) (here u)
+                      ∙ and-true _ ∙ h.olds_are (untouched-before s q n u);
+                  news_are = λ u. f.news
+                      ∙ ap (λ b. is_listed (listed_by old.lists roll).news q && not b) (here u)
+                      ∙ and-true _ ∙ h.news_are (untouched-before s q n u);
+                  key = λ k there may l u.
+                      let x = h.key k there may l (untouched-before s q n u) in
+                      let own : lists_kind (side_of roll) x.0.keytype
+                      ≡ true = ap (lists_kind (side_of roll)) x.2
+                      ∙ (undone_facts roll is_old is_new k.keytype may).1 l in
+                      let y = key-step roll old new (stays-sound run n within).rolls was.0 q x.0
+                      x.1 own (call_of c) d.1 d.2 d.3 was.1 (here u) in
+                      onto new q x.0.keytype _ y x.2;
+                }
+          ]
 
       standing : (n : ℕ) → s < n → n ≤ length entries → NoStart n
           → phase_of (at n).set.rolls roll ≡ Some Propagation1
           → Standing (at n).set (Untouched s q n)
       standing zero later within none spreads = absurd (omega arith)
       standing (suc n) later within none spreads = elim (cases_lt s n) [
-        | inl lt ↦ let x = made-at name calls entries run n within in
+        | inl lt ↦ let x = made-at run n within in
             standing-next n x.0 x.1 (omega arith) lt x.2 x.3
             (λ others more later. none n others more later lt (omega arith)) spreads
             (standing n lt (omega arith)
@@ -288,7 +265,7 @@ module _ (name : List ℕ) (calls : List Call) (entries : List Entry)
 
       ended_so : (keyset.clearance here (keyset.AbortRoll roll) ≡ waits.Clear)
           × Changes here (keyset.AbortRoll roll) new
-      ended_so = did-made name calls entries run n (keyset.AbortRoll roll) end.0 end.1
+      ended_so = did-made run n (keyset.AbortRoll roll) end.0 end.1
 
       stands : (q : List ℕ) → Standing q here (IsUntouched calls entries s n q)
       stands q = standing q n later within none (ends_early _ (no_cause _ ended_so.0))
@@ -316,18 +293,17 @@ module _ (name : List ℕ) (calls : List Call) (entries : List Entry)
                   ∙ (undone_facts roll (is_listed olds q) (is_listed news q) x.0.keytype x.2).0,
             );
         others = λ q out.
-            let no = one_listed (was_old q) (was_new q)
-            (λ t. let u = (stands q).of_olds t in
+            let no_old = false_from_ne_true (was_old q) (λ t. let u = (stands q).of_olds t in
             out (
               or_left _ _ (and_parts (is_listed olds q) (has_kept_key old.keys q)
                   (sym (is_listed-filter (has_kept_key old.keys) olds q)
                   ∙ sym ((stands q).olds_are u) ∙ t)).0,
               u,
-            ))
-            (λ t. let u = (stands q).of_news t in
+            )) in
+            let no_new = false_from_ne_true (was_new q) (λ t. let u = (stands q).of_news t in
             out (or_right (is_listed olds q) _ (sym ((stands q).news_are u) ∙ t), u)) in
             ended_so.1.keys q
-            ∙ unmapped (get here.keys q) _ (λ k i. after_early_end roll (no.0 i) (no.1 i) k);
+            ∙ unmapped (get here.keys q) _ (λ k i. after_early_end roll (no_old i) (no_new i) k);
         alone = λ q k j there is.
             let made : j ≡ record k {
               keytype = ended roll (was_old q) (was_new q) k.keytype;
@@ -339,10 +315,10 @@ module _ (name : List ℕ) (calls : List Call) (entries : List Entry)
         rolls = ended_so.1.rolls;
       }
 
-pub undoes-starts : (name : List ℕ) (calls : List Call) (entries : List Entry)
+pub undoes-starts : {name : List ℕ} {calls : List Call} {entries : List Entry}
     → IsRun name calls entries → UndoesStarts name calls entries
-undoes-starts name calls entries run s n roll olds news now later st end none =
-    undoes-start name calls entries run s roll olds news now st n later end
+undoes-starts run s n roll olds news now later st end none =
+    undoes-start run s roll olds news now st n later end
     (λ m others more later after before a. none m after before (record {
       call = a.0.made;
       entry = a.0.entry;

@@ -1,39 +1,51 @@
--- What the keys of a set say of the wait to come, by the moment it counts from: for `waits`.
-use Rattle.dnssec_keyset.proofs.Changes.{PutsKey}
+-- What the keys of a set say of the wait to come, by the moment it counts from; and that no stamp
+-- is later than the time of the set: for `waits`.
+use Rattle.dnssec_key.specs.RollTable.{half_of}
+use Rattle.dnssec_keyset.proofs.Changes.{Changes}
+use Rattle.dnssec_keyset.specs.Laws.{LeavesOthers, roll_of}
+use Rattle.dnssec_keyset.specs.Step as keyset
+use Rattle.dnssec_zone.proofs.Tags.{mapped}
 use Rattle.dnssec_run.proofs.Chain.KeyCalls.{Alike, alike-turned, was_key}
 use Rattle.dnssec_key.specs.RollTable.{Half, First, Second, column, after_report, after_wait}
-use Rattle.dnssec_run.proofs.Chain.Phases.{report_stamp, wait_stamps}
+use Rattle.dnssec_run.proofs.Chain.Phases.{report_stamp, wait_stamps, start_stamps}
 use Rattle.dnssec_zone.proofs.Tests.{four, each_in_roll-at, ◌⇒◌, mp, and-both, alike, each_roll-at}
 use Rattle.dnssec_zone.proofs.Tests.{or_second}
 use Rattle.std.proofs.Common.{◌≡◌, ℕ, ◌≤◌, ◌⊎◌, inl, inr, Bool, true, false, not, ◌&&◌, refl, sym}
 use Rattle.std.proofs.Common.{◌∙◌, ◌||◌, ap, arith, List, Option, None, Some}
 use Rattle.std.specs.Prelude.{if◌then◌else◌}
-use Rattle.std.specs.Option.{option_map}
+use Rattle.std.specs.Option.{option_map, option_map_or}
 use Rattle.std.specs.FinMap.{get}
-use Rattle.std.specs.Str.{bytes_eq}
 use Rattle.std.proofs.lemmas.Bool.{true≢false, and_parts, not-true}
 use Rattle.std.proofs.lemmas.Option.{same_Some, none-some}
 use Rattle.dnssec_key.specs.declared.roll.RollType.{RollType}
 use Rattle.dnssec_key.specs.declared.roll.RollType.TheVariants.{ZskDoubleSignatureRoll}
 use Rattle.dnssec_key.specs.declared.kind.KeyType.{KeyType}
 use Rattle.dnssec_key.specs.Key.{KeyParts}
-use Rattle.dnssec_zone.specs.Lists.{Lists}
+use Rattle.dnssec_zone.specs.Lists.{listed_by}
 use Rattle.dnssec_keyset.specs.KeySet.{KeySetParts}
 use Rattle.dnssec_zone.specs.Rolls.{same_roll}
-use Rattle.dnssec_zone.proofs.Flags.{Zone, may_list, waited1, Early, Late, fits, is_idle}
+use Rattle.dnssec_zone.proofs.Flags.{Zone, Early, Late, flags_fit, is_idle}
 use Rattle.dnssec_run.proofs.Chain.Tables.{written, Stamp, Visible, read, checked, each_in_half-at}
-use Rattle.dnssec_run.proofs.Chain.Tale.{stamp_of}
+use Rattle.dnssec_run.proofs.Chain.Tables.{DsVisible, RrsigVisible}
+use Rattle.dnssec_run.proofs.Chain.Tale.{stamp_of, early-end-parts, start-parts}
 use Rattle.dnssec_run.proofs.Chain.Facts.{stays, timed, stays_facts, timer, other, stays_wait}
-use Rattle.dnssec_run.proofs.WholeRolls.OrderedKeys.{back}
-use Rattle.dnssec_zone.specs.Start.{together}
+use Rattle.dnssec_run.proofs.Chain.Kinds.{same_list}
+use Rattle.dnssec_run.proofs.Effects.{adds-none, came, same-number, key_added, moved_key}
+use Rattle.dnssec_zone.specs.Start.{together, is_listed, lists_kind, side_of}
+use Rattle.dnssec_run.specs.declared.call.Call.{Call}
+use Rattle.dnssec_run.specs.declared.call.Call.TheVariants as call
+use Rattle.dnssec_run.specs.Record.{call_of}
+use Rattle.dnssec_run.proofs.Chain.Setters.{harmless}
+use Rattle.dnssec_run.proofs.Chain.Trust.{moment}
+use Rattle.dnssec_run.proofs.WholeRolls.Order.{is_calm}
 
 -- ---- finite facts
 
 checked_table : RollType → Half → KeyType → Bool
-checked_table r half k = checked r half k ⇒ (may_list r k && not (is_idle k))
+checked_table r half k = checked r half k ⇒ (lists_kind (side_of r) k && not (is_idle k))
 
 pub checked_facts : (r : RollType) (half : Half) (k : KeyType) → checked r half k ≡ true
-    → (may_list r k ≡ true) × (is_idle k ≡ false)
+    → (lists_kind (side_of r) k ≡ true) × (is_idle k ≡ false)
 unfolding checked_table column
 checked_facts r half k h = let x =
     and_parts _ _ (mp _ _ (each_in_half-at checked_table (λ a b. refl) r half k) h) in
@@ -46,17 +58,17 @@ is_zds r = same_roll r ZskDoubleSignatureRoll
 -- first report
 zds_table : RollType → KeyType → Bool
 zds_table r k = is_zds r ⇒ ((stays r First k ⇒ (written (read r Second) r First k
-    && stays r Second k && stays r Second (waited1 r k)))
-    && (stays r Second k ⇒ stays r First k)
-    && (checked r Second (waited1 r k) ⇒ checked r Second k)
-    && ((fits Zone (Late r) k && stays r Second k) ⇒ checked r Second k))
+    && stays r Second k && stays r Second ((half_of r First).moves k))) && (stays r Second k
+    ⇒ stays r First k)
+    && (checked r Second ((half_of r First).moves k) ⇒ checked r Second k)
+    && ((flags_fit Zone (Late r) k && stays r Second k) ⇒ checked r Second k))
 
 pub record Zds (r : RollType) (k : KeyType) : Type 0 where
   pub goes : stays r First k ≡ true → (written (read r Second) r First k ≡ true)
-      × (stays r Second k ≡ true) × (stays r Second (waited1 r k) ≡ true)
+      × (stays r Second k ≡ true) × (stays r Second ((half_of r First).moves k) ≡ true)
   pub halves : stays r Second k ≡ true → stays r First k ≡ true
-  pub waits : checked r Second (waited1 r k) ≡ true → checked r Second k ≡ true
-  pub reads : fits Zone (Late r) k ≡ true → stays r Second k ≡ true → checked r Second k ≡ true
+  pub waits : checked r Second ((half_of r First).moves k) ≡ true → checked r Second k ≡ true
+  pub reads : flags_fit Zone (Late r) k ≡ true → stays r Second k ≡ true → checked r Second k ≡ true
 
 pub zds_facts : (r : RollType) (k : KeyType) → is_zds r ≡ true → Zds r k
 unfolding zds_table column
@@ -101,9 +113,11 @@ Was set q j = (k : KeyParts) × (get set.keys q ≡ Some k) × (k.keytype ≡ j.
     × ((s : Stamp) → stamp_of s k ≡ stamp_of s j)
 
 pub record Beside (r : RollType) (old new : KeySetParts) : Type 0 where
-  pub fore : (q : List ℕ) (j : KeyParts) → get new.keys q ≡ Some j → may_list r j.keytype ≡ true
+  pub fore : (q : List ℕ) (j : KeyParts) → get new.keys q ≡ Some j
+      → lists_kind (side_of r) j.keytype ≡ true
       → is_idle j.keytype ≡ false → Was old q j
-  pub aft : (q : List ℕ) (k : KeyParts) → get old.keys q ≡ Some k → may_list r k.keytype ≡ true
+  pub aft : (q : List ℕ) (k : KeyParts) → get old.keys q ≡ Some k
+      → lists_kind (side_of r) k.keytype ≡ true
       → is_idle k.keytype ≡ false → Was new q k
 
 pub reads-beside : (r : RollType) (half : Half) (old new : KeySetParts) → Beside r old new
@@ -138,7 +152,7 @@ beside-same r old new e = record {
   aft = λ q k f l i. (k, ap (λ (s : KeySetParts). get s.keys q) e ∙ f, refl, λ s. refl);
 }
 
--- each key is the same, but for what no wait reads, or not in use
+-- each key is the same, except in what no wait reads, or not in use
 pub beside-keys : (r : RollType) (old new : KeySetParts)
     → ((q : List ℕ) → Alike (get old.keys q) (get new.keys q)) → Beside r old new
 beside-keys r old new alike = record {
@@ -147,22 +161,22 @@ beside-keys r old new alike = record {
       (alike-turned (get old.keys q) (get new.keys q) (alike q)) k e;
 }
 
--- a call of a roll that may go on beside r
-pub beside-roll : (r p : RollType) (old new : KeySetParts) (f : List ℕ → KeyParts → KeyParts)
-    → together p r ≡ true → ((q : List ℕ) → get new.keys q ≡ option_map (f q) (get old.keys q))
-    → ((q : List ℕ) (k : KeyParts) → get old.keys q ≡ Some k → may_list p k.keytype ≡ false
-    → get new.keys q ≡ Some k)
-    → ((q : List ℕ) (k : KeyParts) → may_list r (f q k).keytype ≡ may_list r k.keytype)
+-- a call on a roll that goes with r
+pub beside-roll : (r : RollType) (old new : KeySetParts) (c : keyset.Call) (p : RollType)
+    → roll_of c ≡ Some p → together p r ≡ true → Changes old c new → LeavesOthers old c new
     → Beside r old new
-beside-roll r p old new f both_in keys leaves kinds = record {
-  fore = λ q j e l i.
-      let b = back (f q) (get old.keys q) j (sym (keys q) ∙ e) in
-      let lists : may_list r b.0.keytype ≡ true = sym (kinds q b.0)
-      ∙ ap (λ (k : KeyParts). may_list r k.keytype) b.2 ∙ l in
-      let same : b.0 ≡ j = same_Some b.0 j
-      (sym (leaves q b.0 b.1 (other p r b.0.keytype both_in lists)) ∙ e) in
-      (b.0, b.1, ap (λ (k : KeyParts). k.keytype) same, λ s. ap (stamp_of s) same);
-  aft = λ q k e l i. (k, leaves q k e (other p r k.keytype both_in l), refl, λ s. refl);
+beside-roll r old new c p on goes m leaves = record {
+  fore = λ q j e l i. elim (came old new c m q j e) [
+    | inl a ↦ absurd (adds-none c p j on a.1)
+    | inr b ↦
+        let lists : lists_kind (side_of r) b.0.keytype ≡ true =
+        sym (same_list r _ b.0.keytype (same-number old c q b.0))
+        ∙ ap (λ (k : KeyParts). lists_kind (side_of r) k.keytype) b.2 ∙ l in
+        let same : b.0 ≡ j = same_Some b.0 j
+        (sym (leaves p q b.0 on b.1 (other p r b.0.keytype goes lists)) ∙ e) in
+        (b.0, b.1, ap (λ (k : KeyParts). k.keytype) same, λ s. ap (stamp_of s) same)
+  ];
+  aft = λ q k e l i. (k, leaves p q k on e (other p r k.keytype goes l), refl, λ s. refl);
 }
 
 -- ---- calls of the roll
@@ -207,7 +221,7 @@ module _ (r : RollType) (now : ℕ) (old new : KeySetParts) where
         → Armed r Second m old → Armed r Second m new
     armed-between m keys h = record {
       bound = λ q j x e c s.
-          let b = back (after_wait r First now) (get old.keys q) j (sym (keys q) ∙ e) in
+          let b = mapped _ _ j (sym (keys q) ∙ e) in
           h.bound q b.0 x b.1 ((zds_facts r b.0.keytype zds).waits
           (ap (λ (k : KeyParts). checked r Second k.keytype) b.2 ∙ c))
           (wait_stamps r First now b.0 (read r Second) ∙ ap (stamp_of (read r Second)) b.2 ∙ s);
@@ -222,7 +236,7 @@ module _ (r : RollType) (now : ℕ) (old new : KeySetParts) where
 pub reads-waited : (r : RollType) (now : ℕ) (old new : KeySetParts)
     → ((q : List ℕ) → get new.keys q ≡ option_map (after_wait r First now) (get old.keys q))
     → ((q : List ℕ) (k : KeyParts) → get old.keys q ≡ Some k
-    → fits (timer r) (Early r) k.keytype ≡ true) → Reads r First old → Reads r Second new
+    → flags_fit (timer r) (Early r) k.keytype ≡ true) → Reads r First old → Reads r Second new
 reads-waited r now old new keys fit h = (
   h.0,
   after_wait r First now h.1,
@@ -235,39 +249,72 @@ pub reads-armed : (r : RollType) (half : Half) (m : ℕ) (set : KeySetParts) →
     → Reads r half set
 reads-armed r half m set h = (h.key, h.parts, h.there, h.goes_on)
 
--- ---- no stamp later than now
-
-module _ (t : ℕ) (old new : KeySetParts) (late : NoneLater t old) where
-  pub later-moved : (f : List ℕ → KeyParts → KeyParts) (u : ℕ) → t ≤ u
-      → ((q : List ℕ) → get new.keys q ≡ option_map (f q) (get old.keys q))
-      → ((q : List ℕ) (k : KeyParts) → get old.keys q ≡ Some k → (s : Stamp) (x : ℕ)
-      → stamp_of s (f q k) ≡ Some x → (stamp_of s k ≡ Some x) ⊎ (x ≤ u)) → NoneLater u new
-  later-moved f u le keys stamps q j s x e h =
-      let b = back (f q) (get old.keys q) j (sym (keys q) ∙ e) in
-      elim (stamps q b.0 b.1 s x (ap (stamp_of s) b.2 ∙ h)) [
-        | inl was ↦ let before : x ≤ t = late q b.0 s x b.1 was in omega arith
-        | inr at_most ↦ at_most
-      ]
-
-  pub later-puts : {kept : Lists} (p : List ℕ) (o : Option KeyParts) (u : ℕ) → t ≤ u
-      → PutsKey old new p o kept
-      → ((j : KeyParts) → o ≡ Some j → (s : Stamp) → stamp_of s j ≡ None) → NoneLater u new
-  later-puts p o u le m fresh q j s x e h = by (bytes_eq p q) refl (sym (m.keys q) ∙ e)
-    where
-      by : (b : Bool) → bytes_eq p q ≡ b → (if bytes_eq p q then o else get old.keys q) ≡ Some j
-          → x ≤ u
-      by true w f =
-          absurd (none-some x
-          (sym (fresh j (sym (ap (λ b. if b then o else get old.keys q) w) ∙ f) s) ∙ h))
-      by false w f = let before : x ≤ t =
-          late q j s x (sym (ap (λ b. if b then o else get old.keys q) w) ∙ f) h in omega arith
-
-  pub later-same : (u : ℕ) → t ≤ u → new ≡ old → NoneLater u new
-  later-same u le e q k s x f h = let before : x ≤ t =
-      late q k s x (ap (λ (set : KeySetParts). get set.keys q) (sym e) ∙ f) h in omega arith
-
 -- a stamp that a report may write
 pub report-stamp : (now x : ℕ) (b : Bool) (was : Option ℕ) → (if b then Some now else was) ≡ Some x
     → (was ≡ Some x) ⊎ (x ≤ now)
 report-stamp now x true was e = let same : now ≡ x = same_Some now x e in inr (omega arith)
 report-stamp now x false was e = inl e
+
+-- ---- one key set after another
+
+-- the stamp of a key that a call adds, if any
+abbrev stamp_added : keyset.Call → Stamp → Option ℕ
+stamp_added c s = option_map_or (stamp_of s) (key_added c) None
+
+-- there is none
+abbrev Unstamped : keyset.Call → Type 0
+Unstamped c = (s : Stamp) → stamp_added c s ≡ None
+
+pub unstamped : (c : Call) → Unstamped (call_of c)
+unstamped (call.AddKeyKsk a b c d e f) Visible = refl
+unstamped (call.AddKeyZsk a b c d e f) Visible = refl
+unstamped (call.AddKeyCsk a b c d e f) Visible = refl
+unstamped (call.AddPublicKey a b c d e) Visible = refl
+unstamped _ _ = refl
+
+report-late : (r : RollType) (h : Half) (now : ℕ) (k : KeyParts) (s : Stamp) (x : ℕ)
+    → stamp_of s (after_report r h now k) ≡ Some x → (stamp_of s k ≡ Some x) ⊎ (x ≤ now)
+report-late r h now k Visible x e = report-stamp now x _ _ e
+report-late r h now k DsVisible x e = report-stamp now x _ _ e
+report-late r h now k RrsigVisible x e = report-stamp now x _ _ e
+
+module _ (t u : ℕ) (le : t ≤ u) (old new : KeySetParts) (late : NoneLater t old) where
+  -- a key that stays has the stamps that it had, and those of this report
+  late-moved : (c : keyset.Call) → is_calm old c ≡ true
+      → ((now : ℕ) → moment c ≡ Some now → now ≤ u) → (q : List ℕ) (k : KeyParts)
+      → get old.keys q ≡ Some k → (s : Stamp) (x : ℕ)
+      → stamp_of s (moved_key old c q k) ≡ Some x → (stamp_of s k ≡ Some x) ⊎ (x ≤ u)
+  late-moved (keyset.Set r setting) plain at q k there s x e =
+      inl (sym ((harmless old r setting plain q k there).stamps s) ∙ e)
+  late-moved (keyset.StartRoll r olds news now) plain at q k there s x e =
+      let o = is_listed olds q in
+      let i = is_listed news q in
+      inl (start_stamps r now o i k s ∙ ap (stamp_of s) (sym (start-parts r now o i k)) ∙ e)
+  late-moved (keyset.Report r h ttl now) plain at q k there s x e =
+      elim (report-late r h now k s x e) [
+        | inl was ↦ inl was
+        | inr most ↦ inr (let top = at now refl in omega arith)
+      ]
+  late-moved (keyset.Wait r half now) plain at q k there s x e =
+      inl (wait_stamps r half now k s ∙ e)
+  late-moved (keyset.AbortRoll r) plain at q k there s x e =
+      let l = listed_by old.lists r in
+      inl (ap (stamp_of s)
+      (sym (early-end-parts r (is_listed l.olds q) (is_listed l.news q) k)) ∙ e)
+  late-moved _ plain at q k there s x e = inl e
+
+  pub late-step : (c : keyset.Call) → is_calm old c ≡ true → Unstamped c
+      → ((now : ℕ) → moment c ≡ Some now → now ≤ u) → Changes old c new → NoneLater u new
+  late-step c plain fresh at m q j s x there e = elim (came old new c m q j there) [
+    | inl a ↦ absurd (none-some x
+        (sym (ap (λ o. option_map_or (stamp_of s) o None) (sym a.1) ∙ fresh s) ∙ e))
+    | inr b ↦ elim (late-moved c plain at q b.0 b.1 s x (ap (stamp_of s) b.2 ∙ e)) [
+      | inl was ↦ let before : x ≤ t = late q b.0 s x b.1 was in omega arith
+      | inr most ↦ most
+    ]
+  ]
+
+  pub late-same : new ≡ old → NoneLater u new
+  late-same same q k s x there e =
+      let before : x ≤ t = late q k s x (ap (λ (set : KeySetParts). get set.keys q) (sym same)
+      ∙ there) e in omega arith

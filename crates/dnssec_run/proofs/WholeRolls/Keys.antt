@@ -1,13 +1,16 @@
--- What flags and stamps a key may have in each phase, by the tables: for all laws of whole rolls.
+-- What flags and stamps a key may have in each phase, by the tables; the phase of a side and those
+-- of its rolls, before and after a call: for all laws of whole rolls.
 use Rattle.dnssec_key.specs.declared.roll.RollState.TheVariants.{Propagation2, CacheExpire2, Done}
 use Rattle.dnssec_key.specs.declared.roll.RollState.TheVariants.{Propagation1, CacheExpire1}
 use Rattle.dnssec_key.specs.declared.roll.RollState.{RollState}
-use Rattle.dnssec_key.specs.RollTable.{half_of, behind, column, Half, First, Second}
-use Rattle.std.proofs.lemmas.Bool.{and_parts}
-use Rattle.std.specs.Prelude.{is_some}
-use Rattle.std.proofs.Common.{sym, ◌∙◌, ◌≡◌, Bool, true, false, not, ◌&&◌, ◌||◌, refl, ap}
+use Rattle.dnssec_key.specs.RollTable.{half_of, behind, column, Half, First, Second, cache_expire}
+use Rattle.std.proofs.lemmas.Bool.{and_parts, true≢false}
+use Rattle.std.specs.Prelude.{is_some, if◌then◌else◌}
+use Rattle.std.proofs.Common.{sym, ◌∙◌, ◌≡◌, Bool, true, false, not, ◌&&◌, ◌||◌, refl, ap, ℕ}
+use Rattle.std.proofs.Common.{Option, None, Some, arith}
 use Rattle.dnssec_zone.proofs.Flags.{start-fits, idle-fits, unseen-fits, SideOf, Keys, Zone}
-use Rattle.dnssec_zone.proofs.Flags.{affects, started, Stage, Quiet, Early, Late, fits, may_start}
+use Rattle.dnssec_zone.proofs.Flags.{affects, started, Stage, Quiet, Early, Late, flags_fit}
+use Rattle.dnssec_zone.proofs.Flags.{may_start}
 use Rattle.dnssec_zone.proofs.Flags.{has_role, is_idle}
 use Rattle.dnssec_key.specs.declared.roll.RollType.{RollType}
 use Rattle.dnssec_key.specs.declared.roll.RollType.TheVariants.{KskDoubleDsRoll}
@@ -17,11 +20,15 @@ use Rattle.dnssec_key.specs.declared.kind.KeyType.{KeyType}
 use Rattle.dnssec_key.specs.declared.kind.KeyType.TheVariants.{Ksk, Zsk, Csk}
 use Rattle.dnssec_key.specs.State.{Flags, kept_present, kept_at_parent, old_present}
 use Rattle.dnssec_key.specs.Key.{KeyParts}
-use Rattle.dnssec_run.specs.WholeRolls.{each_role, is_settled_ksk, is_settled_zsk}
+use Rattle.dnssec_run.specs.WholeRolls.{each_role, is_settled_ksk, is_settled_zsk, propagation}
 use Rattle.dnssec_run.proofs.Chain.Tables.{written, Stamp, Visible, DsVisible, RrsigVisible, read}
 use Rattle.dnssec_run.proofs.Chain.Tables.{checked, each_half, each_half-at, by_side}
 use Rattle.dnssec_zone.proofs.Tests.{both, both-at, each_key, each_key-at, ◌⇒◌, mp, and-both}
-use Rattle.dnssec_zone.proofs.Tests.{each_roll, each_roll-at, implies}
+use Rattle.dnssec_zone.proofs.Tests.{each_listed, each_listed-at, each_roll, each_roll-at, implies}
+use Rattle.dnssec_keyset.specs.KeySet.{KeySetParts}
+use Rattle.dnssec_zone.specs.Rolls.{Rolls, phase_of, with_phase, same_roll}
+use Rattle.dnssec_run.proofs.Chain.Rolls.{same-same}
+use Rattle.dnssec_keyset.proofs.Laws.{same-is}
 
 -- how far a side is in its roll, if any
 pub data Phase : Type 0 where
@@ -106,7 +113,7 @@ dated sd ph k v d g = has_role sd k ⇒ (ready sd ph k v d g && besides sd ph k 
 
 -- a key is in order on a side
 abbrev pub orderly : SideOf → Phase → KeyType → Bool → Bool → Bool → Bool
-orderly sd ph k v d g = fits sd (stage_in ph) k && dated sd ph k v d g
+orderly sd ph k v d g = flags_fit sd (stage_in ph) k && dated sd ph k v d g
 
 -- the key is in order, by its flags and by which stamps are there
 abbrev pub in_order : SideOf → Phase → KeyParts → Bool
@@ -114,25 +121,31 @@ in_order sd ph k = orderly sd ph k.keytype (is_some k.timestamps.visible)
     (is_some k.timestamps.ds_visible) (is_some k.timestamps.rrsig_visible)
 
 pub fits_of : (sd : SideOf) (ph : Phase) (k : KeyType) (v d g : Bool)
-    → orderly sd ph k v d g ≡ true → fits sd (stage_in ph) k ≡ true
-fits_of sd ph k v d g e = (and_parts (fits sd (stage_in ph) k) (dated sd ph k v d g) e).0
+    → orderly sd ph k v d g ≡ true → flags_fit sd (stage_in ph) k ≡ true
+fits_of sd ph k v d g e = (and_parts (flags_fit sd (stage_in ph) k) (dated sd ph k v d g) e).0
 
 -- ---- tests of all keys with all stamps
 
+abbrev pub each_stamps : (Bool → Bool → Bool → Bool) → Bool
+each_stamps p = both (λ v. both (λ d. both (λ g. p v d g)))
+
+pub each_stamps-at : (p : Bool → Bool → Bool → Bool) → each_stamps p ≡ true → (v d g : Bool)
+    → p v d g ≡ true
+each_stamps-at p e v d g = both-at (p v d) (both-at (λ d. both (p v d))
+    (both-at (λ v. both (λ d. both (p v d))) e v) d) g
+
 abbrev pub each_dated : Bool → Bool → (Bool → Bool → Bool → KeyType → Bool) → Bool
-each_dated a b p = both (λ v. both (λ d. both (λ g. each_key a b (p v d g))))
+each_dated a b p = each_stamps (λ v d g. each_key a b (p v d g))
 
 pub each_dated-at : (p : Bool → Bool → Bool → KeyType → Bool)
     → ((a b : Bool) → each_dated a b p ≡ true) → (v d g : Bool) (k : KeyType) → p v d g k ≡ true
-each_dated-at p e v d g = each_key-at (p v d g) (λ a b.
-    both-at (λ g. each_key a b (p v d g))
-    (both-at (λ d. both (λ g. each_key a b (p v d g)))
-    (both-at (λ v. both (λ d. both (λ g. each_key a b (p v d g)))) (e a b) v) d) g)
+each_dated-at p e v d g = each_key-at (p v d g)
+    (λ a b. each_stamps-at (λ v d g. each_key a b (p v d g)) (e a b) v d g)
 
 -- ---- a start
 
-start_table : SideOf → RollType → Bool → Bool → Bool → Bool → Bool → KeyType → Bool
-start_table sd r o i v d g k = (affects sd r && may_start r o i k && orderly sd Idle k v d g)
+start_table : SideOf → Bool → Bool → Bool → RollType → Bool → Bool → KeyType → Bool
+start_table sd v d g r o i k = (affects sd r && may_start r o i k && orderly sd Idle k v d g)
     ⇒ dated sd (Spreading First r) (started r o i k) v d g
 
 pub start_orderly : (sd : SideOf) (r : RollType) (o i : Bool) (k : KeyType) (v d g : Bool)
@@ -141,18 +154,14 @@ pub start_orderly : (sd : SideOf) (r : RollType) (o i : Bool) (k : KeyType) (v d
 unfolding start_table column
 start_orderly sd r o i k v d g own may fit = and-both _ _
     (start-fits sd r o i k own may (fits_of sd Idle k v d g fit))
-    (mp _ _ (each_dated-at (start_table sd r o i) (λ a b.
-    both-at (λ i. each_dated a b (start_table sd r o i))
-    (both-at (λ o. both (λ i. each_dated a b (start_table sd r o i)))
-    (each_roll-at (λ r. both (λ o. both (λ i. each_dated a b (start_table sd r o i))))
-    (by_side (λ sd. each_roll (λ r. both (λ o. both
-    (λ i. each_dated a b (start_table sd r o i)))) ≡ true) refl refl sd) r) o) i) v d g k)
-    (and-both _ _ (and-both _ _ own may) fit))
+    (mp _ _ (each_listed-at (start_table sd v d g) (λ a b.
+    each_stamps-at (λ v d g. each_listed a b (start_table sd v d g))
+    (by_side (λ sd. each_stamps (λ v d g. each_listed a b (start_table sd v d g)) ≡ true) refl refl
+    sd) v d g) r o i k) (and-both _ _ (and-both _ _ own may) fit))
 
 -- ---- the reports
 
-same-stage : (half : Half) (r : RollType)
-    → stage_in (Spreading half r) ≡ stage_in (Expiring half r)
+same-stage : (half : Half) (r : RollType) → stage_in (Spreading half r) ≡ stage_in (Expiring half r)
 same-stage First r = refl
 same-stage Second r = refl
 
@@ -167,14 +176,13 @@ pub report_orderly : (sd : SideOf) (r : RollType) (half : Half) (k : KeyType) (v
     (written DsVisible r half k || d) (written RrsigVisible r half k || g) ≡ true
 unfolding report_table column
 report_orderly sd r half k v d g own fit = and-both _ _
-    (ap (λ st. fits sd st k) (sym (same-stage half r))
+    (ap (λ st. flags_fit sd st k) (sym (same-stage half r))
     ∙ fits_of sd (Spreading half r) k v d g fit)
     (mp _ _ (each_dated-at (report_table sd r half) (λ a b.
     each_half-at (λ half. each_dated a b (report_table sd r half))
     (each_roll-at (λ r. each_half (λ half. each_dated a b (report_table sd r half)))
     (by_side (λ sd. each_roll (λ r. each_half (λ half. each_dated a b (report_table sd r half)))
-    ≡ true) refl refl sd) r) half) v d g k)
-    (and-both _ _ own fit))
+    ≡ true) refl refl sd) r) half) v d g k) (and-both _ _ own fit))
 
 -- ---- the waits
 
@@ -190,8 +198,7 @@ wait_orderly sd r half k v d g own fit = mp _ _ (each_dated-at (wait_table sd r 
     each_half-at (λ half. each_dated a b (wait_table sd r half))
     (each_roll-at (λ r. each_half (λ half. each_dated a b (wait_table sd r half)))
     (by_side (λ sd. each_roll (λ r. each_half (λ half. each_dated a b (wait_table sd r half)))
-    ≡ true) refl refl sd) r) half) v d g k)
-    (and-both _ _ own fit)
+    ≡ true) refl refl sd) r) half) v d g k) (and-both _ _ own fit)
 
 -- ---- keys in no use
 
@@ -244,5 +251,86 @@ stamp_there r half k v d g check x y =
     mp _ _ (each_dated-at (stamp_table r half) (λ a b.
     each_half-at (λ half. each_dated a b (stamp_table r half))
     (each_roll-at (λ r. each_half (λ half. each_dated a b (stamp_table r half))) refl r)
-    half) v d g k)
-    (and-both _ _ (and-both _ _ check (implies _ _ x)) (implies _ _ y))
+    half) v d g k) (and-both _ _ (and-both _ _ check (implies _ _ x)) (implies _ _ y))
+
+abbrev pub phase_fits : Phase → RollType → Option RollState → Bool
+phase_fits Idle _ None = true
+phase_fits Idle _ (Some Done) = true
+phase_fits Idle _ (Some _) = false
+phase_fits (Spreading _ r) q None = not (same_roll r q)
+phase_fits (Spreading First r) q (Some Propagation1) = same_roll r q
+phase_fits (Spreading Second r) q (Some Propagation2) = same_roll r q
+phase_fits (Spreading _ r) q (Some _) = false
+phase_fits (Expiring _ r) q None = not (same_roll r q)
+phase_fits (Expiring First r) q (Some (CacheExpire1 _)) = same_roll r q
+phase_fits (Expiring Second r) q (Some (CacheExpire2 _)) = same_roll r q
+phase_fits (Expiring _ r) q (Some _) = false
+
+abbrev pub phase_own : SideOf → Phase → Bool
+phase_own sd Idle = true
+phase_own sd (Spreading _ r) = affects sd r
+phase_own sd (Expiring _ r) = affects sd r
+
+-- ---- phases of a side and states of a roll
+
+abbrev pub is_live : RollState → Bool
+is_live Done = false
+is_live _ = true
+
+pub spreading-at : (r : RollType) (half : Half) → at_phase r (propagation half) ≡ Spreading half r
+spreading-at r half = grind arith
+
+pub expiring-at : (r : RollType) (half : Half) (ttl : ℕ)
+    → at_phase r (cache_expire half ttl) ≡ Expiring half r
+expiring-at r half ttl = grind arith
+
+pub live-spread : (half : Half) → is_live (propagation half) ≡ true
+live-spread half = grind arith
+
+pub live-expiry : (half : Half) (ttl : ℕ) → is_live (cache_expire half ttl) ≡ true
+live-expiry half ttl = grind arith
+
+pub phase_is : (ph : Phase) (r : RollType) (p : RollState) → phase_fits ph r (Some p) ≡ true
+    → ph ≡ at_phase r p
+phase_is Idle r Done e = refl
+phase_is (Spreading First q) r Propagation1 e = ap (Spreading First) (same-is q r e)
+phase_is (Expiring First q) r (CacheExpire1 t) e = ap (Expiring First) (same-is q r e)
+phase_is (Spreading Second q) r Propagation2 e = ap (Spreading Second) (same-is q r e)
+phase_is (Expiring Second q) r (CacheExpire2 t) e = ap (Expiring Second) (same-is q r e)
+phase_is _ r _ e = absurd (true≢false (sym e))
+
+pub idle_is : (sd : SideOf) (ph : Phase) → phase_own sd ph ≡ true
+    → ((q : RollType) → affects sd q ≡ true → phase_fits ph q None ≡ true) → ph ≡ Idle
+idle_is sd Idle own h = refl
+idle_is sd (Spreading b r) own h = absurd (true≢false (sym (h r own) ∙ ap not (same-same r)))
+idle_is sd (Expiring b r) own h = absurd (true≢false (sym (h r own) ∙ ap not (same-same r)))
+
+pub others_none : (r : RollType) (p : RollState) (q : RollType) (o : Option RollState)
+    → is_live p ≡ true → phase_fits (at_phase r p) q o ≡ true → same_roll r q ≡ false → o ≡ None
+others_none r p q o live e d = grind arith
+
+pub none_fits : (r : RollType) (p : RollState) (q : RollType) → same_roll r q ≡ false
+    → phase_fits (at_phase r p) q None ≡ true
+none_fits r p q d = grind arith
+
+pub here_fits : (r : RollType) (p : RollState) → phase_fits (at_phase r p) r (Some p) ≡ true
+here_fits r p = grind (arith, same-same)
+
+pub own_at : (sd : SideOf) (r : RollType) (p : RollState) → affects sd r ≡ true
+    → phase_own sd (at_phase r p) ≡ true
+own_at sd r p e = grind arith
+
+-- the phase of one roll after it was put
+pub put_there : (old new : Rolls) (r : RollType) (o : Option RollState) (q : RollType)
+    → new ≡ with_phase old r o → same_roll r q ≡ true → phase_of new q ≡ o
+put_there old new r o q e t = ap (λ x. phase_of x q) e
+    ∙ ap (λ b. if b then o else phase_of old q) t
+
+pub put_aside : (old new : Rolls) (r : RollType) (o : Option RollState) (q : RollType)
+    → new ≡ with_phase old r o → same_roll r q ≡ false → phase_of new q ≡ phase_of old q
+put_aside old new r o q e t = ap (λ x. phase_of x q) e
+    ∙ ap (λ b. if b then o else phase_of old q) t
+
+-- a call that leaves a roll's phase
+abbrev pub roll_now : KeySetParts → RollType → Option RollState
+roll_now set r = phase_of set.rolls r

@@ -1,5 +1,5 @@
 -- A report retires what its phase asks to report.
-use Rattle.std.proofs.Common.{◌≡◌, ap, sym, ◌∙◌}
+use Rattle.std.proofs.Common.{ap, sym, ◌∙◌}
 use Rattle.std.specs.List.{list_any}
 use Rattle.dnssec_key.specs.RollTable.{First, Second}
 use Rattle.dnssec_run.specs.Asked.{asks_to_report}

@@ -52,8 +52,7 @@ returns-in-Ok-clause-ok c up =
     let here = c.in-Err-Some in
     at-position q _ _ _ _ here.is-1 (puts-key q c.args.keys.now.items _ here.place here.added
     c.in_ok-key-in-Err-Some.key (gap_within _ _ _ here.place c.deref.ensures.value here.is-0
-    sought.ensures.bound)
-    c.in-Ok.ensures.items c.in_ok-key-in-Err-Some.ensures.ok
+    sought.ensures.bound) c.in-Ok.ensures.items c.in_ok-key-in-Err-Some.ensures.ok
     (gap_here _ _ _ here.place c.deref.ensures.value q (sought.ensures.position (stands q)
     (always_returns_same _ _ _ (λ a r f k. (search rules, search rules)))) here.is-0) up)
 

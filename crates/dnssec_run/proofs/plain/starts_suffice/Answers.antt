@@ -3,5 +3,4 @@ use Rattle.dnssec_run.proofs.Starts.{starts-suffice}
 use Rattle.dnssec_run.proofs.plain.starts_suffice.Goals as goal
 
 pub returns : goal.returns
-returns c = λ name calls entries run plain.
-    starts-suffice name calls entries run plain.no_early_end plain
+returns c = λ name calls entries run plain. starts-suffice run plain.no_early_end plain

@@ -3,11 +3,11 @@ use Rattle.std.proofs.Common.{◌≡◌, List, ℕ, refl, sym, ap, subst, ◌∙
 use Rattle.std.specs.Option.{option_map}
 use Rattle.std.specs.BTreeMap as tree
 use Rattle.dnssec_keyset.proofs.After.{step-after}
-use Rattle.dnssec_keyset.specs.Step as keyset
 use Rattle.dnssec_run.specs.Record.{call_of, reply_of, world_after, mark_after, reference_added}
 use Rattle.dnssec_run.specs.Recorder.{Agrees, positions_after}
 use Rattle.dnssec_run.proofs.Asked.Changes.{leaves}
 use Rattle.dnssec_run.proofs.Next.{agrees-accepted, agrees-refused, mark-accepted, mark-refused}
+use Rattle.dnssec_keyset.specs.Step as keyset
 use Rattle.dnssec_run.proofs.running.advance.Goals as goal
 use Rattle.dnssec_run.proofs.running.advance.Goals.{then-is_accepted+in_ok-note, else-is_accepted}
 
@@ -57,14 +57,9 @@ pub returns-clause-leaves : goal.returns-clause-leaves
 returns-clause-leaves c w agrees =
     let a = c.args in
     let r = c.make-reply.result in
-    let then : Agrees c.make-reply.new.set (tree.get_by_text c.if-is_accepted.added)
-    (world_after a.at w a.call r) = returns-clause-next c w agrees in
-    let step = subst (λ s. keyset.Step s (call_of a.call) (reply_of r)
-    (world_after a.at w a.call r).set) agrees.same
-    (subst (keyset.Step a.keyset.now (call_of a.call) (reply_of r)) then.same
-    c.make-reply.ensures) in
     let by = c.after-touched.ensures in
-    leaves a.at w (world_after a.at w a.call r) a.call r step refl c.after-touched.result
+    leaves a.at w (world_after a.at w a.call r) a.call r (returns-clause-outcome c w agrees).step
+    refl c.after-touched.result
     (λ no t. let calm = by.ds no t in (sym c.sets_shown.ensures ∙ calm.0, calm.1))
     (λ no t. let calm = by.dnskey no t in (sym c.sets_shown-2.ensures ∙ calm.0, calm.1))
     (λ no t. let calm = by.zone_signers no t in (sym c.sets_shown-3.ensures ∙ calm.0, calm.1))

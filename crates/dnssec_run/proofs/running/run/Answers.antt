@@ -8,7 +8,7 @@ use Rattle.dnssec_run.proofs.Chain.Trust.{chain-holds, each-holds}
 use Rattle.dnssec_run.proofs.Asked.Changes.{changes-as-asked}
 use Rattle.dnssec_run.proofs.Asked.Reports.{retires-as-asked}
 use Rattle.dnssec_run.proofs.EarlyEnds.Undoing.{undoes-starts}
-use Rattle.dnssec_run.proofs.WholeRolls.Positions.{never-misses, settles-between}
+use Rattle.dnssec_run.proofs.WholeRolls.Order.{never-misses, settles-between}
 use Rattle.dnssec_run.proofs.WholeRolls.Waits.{waits-exactly}
 use Rattle.dnssec_run.proofs.WholeRolls.Completion.{goes-on, rolls-finish}
 use Rattle.dnssec_run.proofs.Laws.{stays-sound, sides-apart, neighbours-exchange}
@@ -59,53 +59,40 @@ returns-clause-run c =
     subst (λ l. IsRun c.args.name l at.entries.items) all at.invariant.records.run
 
 pub returns-clause-sound : goal.returns-clause-sound
-returns-clause-sound c = stays-sound c.args.name c.args.calls.items c.loop-call.entries.items
-    (returns-clause-run c)
+returns-clause-sound c = stays-sound (returns-clause-run c)
 
 pub returns-clause-sides : goal.returns-clause-sides
-returns-clause-sides c = sides-apart c.args.name c.args.calls.items c.loop-call.entries.items
-    (returns-clause-run c)
+returns-clause-sides c = sides-apart (returns-clause-run c)
 
 pub returns-clause-exchange : goal.returns-clause-exchange
-returns-clause-exchange c = neighbours-exchange c.args.name c.args.calls.items
-    c.loop-call.entries.items (returns-clause-run c)
+returns-clause-exchange c = neighbours-exchange (returns-clause-run c)
 
 pub returns-clause-chain : goal.returns-clause-chain
-returns-clause-chain c = chain-holds c.args.name c.args.calls.items c.loop-call.entries.items
-    (returns-clause-run c)
+returns-clause-chain c = chain-holds _ _ _ (returns-clause-run c)
 
 pub returns-clause-each_chain : goal.returns-clause-each_chain
-returns-clause-each_chain c = each-holds c.args.name c.args.calls.items c.loop-call.entries.items
-    (returns-clause-run c)
+returns-clause-each_chain c = each-holds _ _ _ (returns-clause-run c)
 
 pub returns-clause-stamps : goal.returns-clause-stamps
-returns-clause-stamps c =
-    never-misses c.args.name c.args.calls.items c.loop-call.entries.items (returns-clause-run c)
+returns-clause-stamps c = never-misses (returns-clause-run c)
 
 pub returns-clause-settled : goal.returns-clause-settled
-returns-clause-settled c =
-    settles-between c.args.name c.args.calls.items c.loop-call.entries.items (returns-clause-run c)
+returns-clause-settled c = settles-between (returns-clause-run c)
 
 pub returns-clause-waits : goal.returns-clause-waits
-returns-clause-waits c =
-    waits-exactly c.args.name c.args.calls.items c.loop-call.entries.items (returns-clause-run c)
+returns-clause-waits c = waits-exactly (returns-clause-run c)
 
 pub returns-clause-goes_on : goal.returns-clause-goes_on
-returns-clause-goes_on c =
-    goes-on c.args.name c.args.calls.items c.loop-call.entries.items (returns-clause-run c)
+returns-clause-goes_on c = goes-on (returns-clause-run c)
 
 pub returns-clause-finishes : goal.returns-clause-finishes
-returns-clause-finishes c =
-    rolls-finish c.args.name c.args.calls.items c.loop-call.entries.items (returns-clause-run c)
+returns-clause-finishes c = rolls-finish (returns-clause-run c)
 
 pub returns-clause-undoes : goal.returns-clause-undoes
-returns-clause-undoes c =
-    undoes-starts c.args.name c.args.calls.items c.loop-call.entries.items (returns-clause-run c)
+returns-clause-undoes c = undoes-starts (returns-clause-run c)
 
 pub returns-clause-changes : goal.returns-clause-changes
-returns-clause-changes c =
-    changes-as-asked c.args.name c.args.calls.items c.loop-call.entries.items (returns-clause-run c)
+returns-clause-changes c = changes-as-asked (returns-clause-run c)
 
 pub returns-clause-retires : goal.returns-clause-retires
-returns-clause-retires c =
-    retires-as-asked c.args.name c.args.calls.items c.loop-call.entries.items (returns-clause-run c)
+returns-clause-retires c = retires-as-asked (returns-clause-run c)

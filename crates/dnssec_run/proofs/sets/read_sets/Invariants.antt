@@ -1,7 +1,7 @@
 -- The keys read so far, and those that the rest of the walk will find, are all that there are.
 use Rattle.std.specs.HashMap as hash
 use Rattle.dnssec_run.specs.Published.{in_ds, in_dnskey, signs_dnskey, signs_zone}
-use Rattle.dnssec_run.proofs.Renewed.{Reads}
+use Rattle.dnssec_run.proofs.Positions.{Reads}
 use Rattle.dnssec_run.proofs.sets.read_sets.Given as goal
 
 abbrev pub invariant-loop-reference : goal.invariant-loop-reference

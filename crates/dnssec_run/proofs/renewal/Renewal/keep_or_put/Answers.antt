@@ -1,7 +1,7 @@
 -- The next key of before stays.
 use Rattle.std.proofs.Common.{◌≡◌, arith, length, rules, vec_len}
 use Rattle.std.proofs.lemmas.Option.{slice_get_within}
-use Rattle.dnssec_run.proofs.Renewed.{keeps-next}
+use Rattle.dnssec_run.proofs.Positions.{keeps-next}
 use Rattle.dnssec_run.proofs.renewal.Renewal.keep_or_put.Goals as goal
 
 pub returns-then-is_next-clause-ok : goal.returns-then-is_next-clause-ok

@@ -3,7 +3,7 @@ use Rattle.std.proofs.Common.{◌≡◌, ◌+◌, ◌++◌, ◌∷◌, ◌∙◌
 use Rattle.std.proofs.Common.{string_bytes, take, vec_len}
 use Rattle.dnssec_run.specs.declared.record.PublishedKey.{PublishedKey}
 use Rattle.dnssec_run.specs.Published.{Id, id_of}
-use Rattle.dnssec_run.proofs.Renewed.{puts-next}
+use Rattle.dnssec_run.proofs.Positions.{puts-next}
 use Rattle.dnssec_run.proofs.renewal.Renewal.put.Goals as goal
 
 pub returns-clause-ok : goal.returns-clause-ok
@@ -14,5 +14,4 @@ returns-clause-ok c =
     let long : vec_len keys ≡ length keys.items = search rules in
     ap (λ (l : List PublishedKey). map id_of (take (at + 1) l)) c.in-Ok.ensures.items
     ∙ puts-next keys.items at c.in_ok-key.key id (omega (arith, long, c.count_change.ensures.fits))
-    c.in_ok-key.ensures.ok
-    ∙ ap (λ (ids : List Id). ids ++ id ∷ []) c.count_change.ensures.same
+    c.in_ok-key.ensures.ok ∙ ap (λ (ids : List Id). ids ++ id ∷ []) c.count_change.ensures.same

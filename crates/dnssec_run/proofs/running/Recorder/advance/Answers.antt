@@ -1,8 +1,7 @@
 -- A call that is made adds one call and its entry to the record.
 use Rattle.std.proofs.Common.{◌≡◌, suc, [], ◌∷◌, ◌++◌, length, refl, sym, ap, subst, ◌∙◌, arith}
-use Rattle.std.proofs.Common.{length-append, Bool, true, false}
+use Rattle.std.proofs.Common.{length-append}
 use Rattle.std.specs.BTreeMap as tree
-use Rattle.dnssec_run.specs.declared.record.Published.{Published}
 use Rattle.dnssec_run.specs.Published.{IsPublished, World}
 use Rattle.dnssec_run.specs.Record.{IsEntry, world_at, world_after}
 use Rattle.dnssec_run.specs.Recorder.{Agrees, ChangesOnly, IsOutcome, Leaves, TellsOutcome}
@@ -26,8 +25,7 @@ returns-clause-ok c name calls entries e tells same so =
     subst (Agrees c.advance.new.keyset (tree.get_by_text c.advance.new.added)) reached
     (c.in_ok-made.ensures.next before so.agrees) in
     let is : IsOutcome before after x o =
-    subst (λ w. IsOutcome before w x o) reached
-    (c.in_ok-made.ensures.outcome before so.agrees) in
+    subst (λ w. IsOutcome before w x o) reached (c.in_ok-made.ensures.outcome before so.agrees) in
     let leaves : Leaves c.in_ok-made.made.1 before after =
     subst (Leaves c.in_ok-made.made.1 before) reached
     (c.in_ok-made.ensures.leaves before so.agrees) in

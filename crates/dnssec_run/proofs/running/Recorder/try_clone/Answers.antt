@@ -1,6 +1,6 @@
 -- A copy has equal parts, so it stands where the recorder does.
 use Rattle.std.proofs.Common.{refl, ◌∙◌}
-use Rattle.dnssec_run.proofs.Next.{positions-cloned}
+use Rattle.dnssec_run.proofs.Next.{positions-cloned, published-same}
 use Rattle.dnssec_run.proofs.running.Recorder.try_clone.Goals as goal
 
 pub returns-clause-same : goal.returns-clause-same
@@ -21,10 +21,5 @@ returns-clause-records c name calls entries so =
         same = is.keyset ∙ so.agrees.same;
         positions = λ q. is.added q ∙ so.agrees.positions q;
       };
-      published = record {
-        ds = is.published.ds ∙ so.published.ds;
-        dnskey = is.published.dnskey ∙ so.published.dnskey;
-        dnskey_signers = is.published.dnskey_signers ∙ so.published.dnskey_signers;
-        zone_signers = is.published.zone_signers ∙ so.published.zone_signers;
-      };
+      published = published-same _ _ _ is.published so.published;
     }

@@ -31,8 +31,7 @@ loop-index-preserved c roll =
     let es = c.args.entries.now in
     let i = c.loop-index.index in
     let e = c.index-entries-index.result in
-    c.after-steps.ensures roll
-    ∙ more es roll i (i + 1) e (step_of c.loop-index.steps roll)
+    c.after-steps.ensures roll ∙ more es roll i (i + 1) e (step_of c.loop-index.steps roll)
     (slice_get-get_or es i e c.loop-index-test.true ∙ ap Some (sym c.index-entries-index.is))
     (c.loop-index.invariant roll) (omega arith)
 
