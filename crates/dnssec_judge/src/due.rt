@@ -2,7 +2,8 @@
 ghost use Rattle.std.specs.Prelude.{◌≡◌, ◌+◌, ◌*◌, ℕ, nat_lt, not};
 ghost use Rattle.dnssec_run.specs.Safe.{kind_of};
 ghost use Rattle.dnssec_run.specs.Steps.{step_of};
-ghost use Rattle.dnssec_judge.specs.Inner.Window.{over, over_any, over_by};
+ghost use Rattle.dnssec_judge.specs.Inner.Floor.{over_by};
+ghost use Rattle.dnssec_judge.specs.Inner.Window.{over, over_any};
 
 use crate::safety::is_over;
 use dnssec_keyset::UnixTime;
@@ -18,6 +19,8 @@ pub(crate) struct Due {
 
 impl Due {
     /// The report of a call, if it speaks of the kind.
+    // Inline, so that no call copies the steps.
+    #[inline(always)]
     pub(crate) fn of(
         mark: Mark,
         moment: Option<UnixTime>,

@@ -1,20 +1,20 @@
 -- A copy of a judge knows what the judge knows.
-use Rattle.std.proofs.Common.{◌≡◌, ℕ, zero, suc, refl, sym, ◌∙◌, ap, arith, List, Some, subst}
-use Rattle.std.proofs.Common.{[], ◌∷◌, length, map}
+use Rattle.std.proofs.Common.{◌≡◌, ℕ, zero, suc, refl, sym, ◌∙◌, ap, arith, List, Some, subst, []}
+use Rattle.std.proofs.Common.{◌∷◌, length, map}
 use Rattle.std.specs.Prelude.{slice_get}
 use Rattle.dnssec_run.specs.declared.record.Entry.{Entry}
 use Rattle.dnssec_run.specs.Safe.{SetKind, position_at}
 use Rattle.dnssec_run.specs.Steps.{AreStepsOf}
-use Rattle.dnssec_judge.specs.declared.held.Held.{Held}
+use Rattle.dnssec_sets.specs.declared.held.Held.{Held}
+use Rattle.dnssec_sets.specs.Sets.{parts_of}
 use Rattle.dnssec_judge.specs.declared.judging.Judge.{Judge}
 use Rattle.dnssec_judge.specs.declared.window.Span.{Span}
 use Rattle.dnssec_judge.specs.declared.window.Window.{Window}
 use Rattle.dnssec_judge.specs.Judge.{Knows}
 use Rattle.dnssec_judge.specs.Verdict.{IsVerdict}
 use Rattle.dnssec_judge.specs.Inner.Window.{AreKept, Begins, GoesOnAbove, IsSame, Keeps, StillRests}
-use Rattle.dnssec_judge.specs.Inner.Window.{Tested}
-use Rattle.dnssec_judge.specs.Inner.Window.{Tiles, Watches, begin_of, floor_with, parts_of}
-use Rattle.dnssec_judge.specs.Inner.Window.{set_at, set_at_place, stretches, stretches_of}
+use Rattle.dnssec_judge.specs.Inner.Window.{Tested, Tiles, Watches, begin_of, floor_with, set_at}
+use Rattle.dnssec_judge.specs.Inner.Window.{set_at_place, stretches, stretches_of}
 use Rattle.dnssec_judge.proofs.OneByOne.Pairs.{tested-on}
 
 -- a set of the copy stands at the same place of the other
@@ -83,11 +83,13 @@ module _ (a b : Window) (s : IsSame a b) where
 
   rests-same : (n : ℕ) → StillRests n a b
   rests-same n tested i h le r =
-      let g = get-same a.sets.items b.sets.items s.sets i h r.there in (
+      let g = get-same a.sets.items b.sets.items s.sets i h r.live.there in (
         g.0,
         record {
-          there = g.1;
-          live = omega (arith, r.live, ap begin_of s.spans, ap (λ t. t.2) g.2);
+          live = record {
+            there = g.1;
+            lasts = omega (arith, r.live.lasts, ap begin_of s.spans, ap (λ t. t.2) g.2);
+          };
           since = omega (arith, r.since, ap (λ t. t.1) g.2);
         },
         ap (λ t. t.0) g.2,

@@ -1,13 +1,12 @@
 //! Any two sets of the windows are tested once: each new set with all sets of the other kinds.
 ghost use Rattle.std.specs.Prelude.{◌≡◌, ◌&&◌};
 ghost use Rattle.std.specs.List.{list_all};
-ghost use Rattle.dnssec_judge.specs.Inner.Window.{begin_of, keys_hold, lasting, newly};
-ghost use Rattle.dnssec_judge.specs.Inner.Window.{pair_holds, set_of_held, zone_holds};
-ghost use Rattle.dnssec_judge.specs.Inner.Chained.{is_none};
+ghost use Rattle.dnssec_sets.specs.Sets.{keys_hold, set_of_held, zone_holds};
+ghost use Rattle.dnssec_sets.specs.Chained.{is_none};
+ghost use Rattle.dnssec_judge.specs.Inner.Window.{begin_of, lasting, newly, pair_holds};
 
 use super::Window;
-use crate::held::Held;
-use crate::trust::{Found, Trust};
+use dnssec_sets::{Found, Held, Trust};
 
 /// What a set of a window is to another set. Which two hold depends on it.
 #[derive(Clone, Copy)]

@@ -1,15 +1,14 @@
 //! The first sets without a chain, once a test has failed: the spans are searched in their order.
 ghost use Rattle.std.specs.Prelude.{◌≡◌, max};
 ghost use Rattle.std.specs.Option.{option_copied};
-ghost use Rattle.dnssec_judge.specs.Inner.Chained.{trusts_keys};
+ghost use Rattle.dnssec_sets.specs.Sets.{keys_hold, set_of_any, set_of_held, sets_have_chain};
+ghost use Rattle.dnssec_sets.specs.Sets.{zone_holds};
 ghost use Rattle.dnssec_judge.specs.Inner.Window.{all_pass, first_ds, first_failing, first_keys};
-ghost use Rattle.dnssec_judge.specs.Inner.Window.{set_of_any, set_of_held, sets_have_chain};
-ghost use Rattle.dnssec_judge.specs.Inner.Window.{stretches_of, zone_holds};
+ghost use Rattle.dnssec_judge.specs.Inner.Window.{stretches_of};
 
 use super::{Span, Window};
-use crate::held::Held;
-use crate::trust::holds;
 use crate::verdict::Broken;
+use dnssec_sets::Held;
 
 impl Window {
     /// The first of these DS sets, with a DNSKEY set and zone signers, that has no chain.
@@ -100,7 +99,7 @@ impl Window {
 
     /// Whether the DS set trusts each of these DNSKEY sets.
     fn are_all_trusted(&self, ds: &Held) -> bool
-        ensures { result ≡ all_pass (λ q. trusts_keys (set_of_held ds.now).0 q.0 q.1)
+        ensures { result ≡ all_pass (λ q. keys_hold (set_of_held ds.now) q)
             (stretches_of self.now) }
     {
         for span in &self.spans {
@@ -158,14 +157,13 @@ fn is_chained(ds: &Held, dnskey: Option<&Held>, zone: Option<&Held>) -> bool
     ds.has_no_keys() || has_trusted(ds, dnskey) && has_signer(dnskey, zone)
 }
 
-/// Whether a key of the DS set is in the DNSKEY set and signs it.
+/// Whether the DS set has no key, or one of its keys is in the DNSKEY set and signs it.
 fn has_trusted(ds: &Held, dnskey: Option<&Held>) -> bool
-    ensures { result ≡ trusts_keys (set_of_held ds.now).0
-        (set_of_any (option_copied dnskey.entry)).0 (set_of_any (option_copied dnskey.entry)).1 }
+    ensures { result ≡ keys_hold (set_of_held ds.now) (set_of_any (option_copied dnskey.entry)) }
 {
     match dnskey {
-        Some(dnskey) => holds(&ds.keys, &dnskey.keys, Some(&dnskey.signers)),
-        None => false,
+        Some(dnskey) => ds.trusts_keys_of(dnskey, None).holds,
+        None => ds.has_no_keys(),
     }
 }
 
@@ -174,18 +172,11 @@ fn has_signer(dnskey: Option<&Held>, zone: Option<&Held>) -> bool
     ensures { result ≡ zone_holds (set_of_any (option_copied dnskey.entry))
         (set_of_any (option_copied zone.entry)) }
 {
+    let Some(zone) = zone else {
+        return false;
+    };
     match dnskey {
-        Some(dnskey) => has_signer_in(dnskey, zone),
-        None => false,
-    }
-}
-
-/// The same for a DNSKEY set that there is.
-fn has_signer_in(dnskey: &Held, zone: Option<&Held>) -> bool
-    ensures { result ≡ zone_holds (set_of_held dnskey.now) (set_of_any (option_copied zone.entry)) }
-{
-    match zone {
-        Some(zone) => holds(&zone.keys, &dnskey.keys, None),
+        Some(dnskey) => dnskey.trusts_signers(zone, None).holds,
         None => false,
     }
 }

@@ -1,6 +1,7 @@
 -- A DS set that trusts all, or none.
 use Rattle.std.proofs.Common.{sym, ◌∙◌}
-use Rattle.dnssec_judge.specs.Inner.Window.{set_of_held, stretches_of}
+use Rattle.dnssec_sets.specs.Sets.{set_of_held}
+use Rattle.dnssec_judge.specs.Inner.Window.{stretches_of}
 use Rattle.dnssec_judge.proofs.OneByOne.Pairs.{no-keys, trusted-keys}
 use Rattle.dnssec_judge.proofs.window.Window.find_with.Goals as goal
 

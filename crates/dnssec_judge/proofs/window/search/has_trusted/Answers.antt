@@ -1,16 +1,19 @@
 -- No DNSKEY set has no key.
 use Rattle.std.proofs.Common.{ap, refl, sym, ◌∙◌, Bor, [], Option}
+use Rattle.std.proofs.lemmas.List.Folds.{list_any_none}
+use Rattle.std.proofs.Math.Bool.{or-false}
 use Rattle.std.specs.Option.{option_copied}
-use Rattle.std.specs.Prelude.{◌&&◌}
-use Rattle.dnssec_judge.specs.declared.held.Held.{Held}
-use Rattle.dnssec_judge.specs.Inner.Chained.{ids_in, is_in, trusts_keys}
-use Rattle.dnssec_judge.specs.Inner.Window.{set_of_any}
-use Rattle.dnssec_judge.proofs.OneByOne.Pieces.{none-pass}
+use Rattle.std.specs.Prelude.{◌||◌, ◌&&◌}
+use Rattle.dnssec_sets.specs.Chained.{is_in, is_none}
+use Rattle.dnssec_sets.specs.Sets.{keys_hold, set_of_any, set_of_held}
+use Rattle.dnssec_sets.specs.declared.held.Held.{Held}
 use Rattle.dnssec_judge.proofs.window.search.has_trusted.Goals as goal
 
 pub returns-in-None : goal.returns-in-None
 returns-in-None c =
-    let ds = ids_in c.args.ds.now.keys in
-    sym (ap (λ (dnskey : Option (Bor Held)). trusts_keys ds (set_of_any (option_copied dnskey)).0
-    (set_of_any (option_copied dnskey)).1) c.in-None.is
-    ∙ none-pass (λ k. is_in [] k && is_in [] k) ds (λ k. refl))
+    let ds = set_of_held c.args.ds.now in
+    c.has_no_keys.ensures ∙ sym (ap (λ (dnskey : Option (Bor Held)).
+    keys_hold ds (set_of_any (option_copied dnskey))) c.in-None.is
+    ∙ ap (λ b. is_none ds.0 || b)
+    (list_any_none (λ k. is_in [] k && is_in [] k) ds.0 (λ k d lt. refl))
+    ∙ or-false (is_none ds.0))

@@ -1,0 +1,179 @@
+//! A set as a judge holds it.
+ghost use Rattle.std.specs.Prelude.{◌≡◌, ◌∷◌, ◌++◌, [], map, IfOk, IfErr, OnOk, nat_lt, true};
+ghost use Rattle.dnssec_base.specs.declared.error.Error.TheVariants.{OutOfMemory};
+ghost use Rattle.dnssec_run.specs.Published.{id_of};
+ghost use Rattle.dnssec_sets.specs.Chained.{is_none};
+ghost use Rattle.dnssec_sets.specs.Sets.{keys_hold, parts_of, set_of_held, zone_holds};
+
+use crate::list::KeyList;
+use crate::shared::with_room;
+use crate::sharing::share_list;
+use crate::trust::{Found, Trust, test};
+use dnssec_keyset::Error;
+use dnssec_run::PublishedKey;
+use std::alloc::Global;
+
+/// Up to this many sets a window grows by one, since few rolls need more; then twofold.
+const ONE_BY_ONE: usize = 4;
+
+/// A set of keys, with its signers if it is a DNSKEY set. It is held once for all positions of a
+/// window that publish it.
+#[derive(Debug, Drop)]
+pub struct Held {
+    keys: KeyList,
+    signers: KeyList,
+    /// Since this position caches may hold it without a break.
+    pub since: usize,
+    /// The last position at which it was published, but not at the one before.
+    pub last: usize,
+    /// Sets with other sums are other sets.
+    sum: usize,
+}
+
+impl Held {
+    /// No keys, as at position 0.
+    pub fn none() -> Self
+        ensures set { set_of_held result ≡ ([], []) }
+        ensures last { result.last ≡ 0 }
+    {
+        Held {
+            keys: KeyList::Empty,
+            signers: KeyList::Empty,
+            since: 0,
+            last: 0,
+            sum: 0,
+        }
+    }
+
+    /// The set of a position, with its sum. What it has in common with the set before it is shared.
+    pub fn new(
+        alloc: Global,
+        at: usize,
+        keys: &[PublishedKey],
+        signers: &[PublishedKey],
+        sum: usize,
+        before: Option<&Held>,
+    ) -> Result<Self, Error>
+        ensures ok { IfOk result (λ h. (set_of_held h ≡ (map id_of keys.now, map id_of signers.now))
+            × (h.since ≡ at) × (h.last ≡ at)) }
+        ensures err { IfErr result (λ e. e ≡ OutOfMemory) }
+    {
+        let none = Held::none();
+        let before = before.unwrap_or(&none);
+        let keys = share_list(alloc, keys, &before.keys, &before.keys)?;
+        let signers = share_list(alloc, signers, &before.signers, &keys)?;
+        Ok(Held {
+            keys,
+            signers,
+            since: at,
+            last: at,
+            sum,
+        })
+    }
+
+    /// The same set, which shares its keys.
+    fn try_clone(&self, alloc: Global) -> Result<Self, Error>
+        ensures ok { IfOk result (λ h. parts_of h ≡ parts_of self.now) }
+        ensures err { IfErr result (λ e. e ≡ OutOfMemory) }
+    {
+        Ok(Held {
+            keys: self.keys.try_clone(alloc)?,
+            signers: self.signers.try_clone(alloc)?,
+            since: self.since,
+            last: self.last,
+            sum: self.sum,
+        })
+    }
+
+    /// Whether it is this set, which has this sum.
+    pub fn is(&self, keys: &[PublishedKey], signers: &[PublishedKey], sum: usize) -> bool
+        ensures { result ≡ true →
+            set_of_held self.now ≡ (map id_of keys.now, map id_of signers.now) }
+    {
+        if self.sum != sum {
+            return false;
+        }
+        self.keys.is(keys) && self.signers.is(signers)
+    }
+
+    /// It is published at this position too, after others.
+    #[inline(always)]
+    pub fn show_at(&mut self, at: usize)
+        ensures { parts_of self.new ≡ (set_of_held self.old, self.old.since, at) }
+    {
+        self.last = at;
+    }
+
+    /// Whether it has no keys.
+    pub fn has_no_keys(&self) -> bool
+        ensures { result ≡ is_none (set_of_held self.now).0 }
+    {
+        self.keys.is_empty()
+    }
+
+    /// Whether it has left a window that begins at the position.
+    pub fn has_left(&self, begin: usize) -> bool
+        ensures { result ≡ nat_lt self.now.last begin }
+    {
+        self.last < begin
+    }
+
+    /// Whether every set that was tested before this position was tested with it.
+    pub fn is_tested(&self, tested: usize) -> bool
+        ensures { result ≡ nat_lt self.now.since tested }
+    {
+        self.since < tested
+    }
+
+    /// Whether it is a DS set with no key, or one of its keys is in the DNSKEY set and signs it.
+    /// The key of the test before is tried first.
+    #[inline(always)]
+    pub fn trusts_keys_of<'a>(&'a self, dnskey: &Held, before: Option<Found<'a>>) -> Trust<'a>
+        ensures { result.holds ≡ keys_hold (set_of_held self.now) (set_of_held dnskey.now) }
+    {
+        if self.has_no_keys() {
+            return Trust {
+                holds: true,
+                by: before,
+            };
+        }
+        test(&self.keys, &dnskey.keys, Some(&dnskey.signers), before)
+    }
+
+    /// Whether one of its keys, as those of a DNSKEY set, signs the zone. The key of the test
+    /// before is tried first.
+    #[inline(always)]
+    pub fn trusts_signers<'a>(&self, zone: &'a Held, before: Option<Found<'a>>) -> Trust<'a>
+        ensures { result.holds ≡ zone_holds (set_of_held self.now) (set_of_held zone.now) }
+    {
+        test(&zone.keys, &self.keys, None, before)
+    }
+}
+
+/// The same sets, which share their keys.
+pub fn clone_sets(alloc: Global, sets: &[Held]) -> Result<Vec<Held>, Error>
+    ensures ok { IfOk result (λ copies. map parts_of copies.items ≡ map parts_of sets.now) }
+    ensures err { IfErr result (λ e. e ≡ OutOfMemory) }
+{
+    let mut copies = with_room(alloc, sets.len())?;
+    for held in sets {
+        if copies.push(held.try_clone(alloc)?).is_err() {
+            return Err(Error::OutOfMemory);
+        }
+    }
+    Ok(copies)
+}
+
+/// Adds a set to those of a window.
+pub fn add_set(sets: &mut Vec<Held>, held: Held) -> Result<(), Error>
+    ensures items { OnOk result (sets.new.items ≡ sets.old.items ++ held ∷ []) }
+    ensures err { IfErr result (λ e. e ≡ OutOfMemory) }
+{
+    if sets.len() < ONE_BY_ONE && sets.reserve_exact(1).is_err() {
+        return Err(Error::OutOfMemory);
+    }
+    match sets.push(held) {
+        Ok(()) => Ok(()),
+        Err(_) => Err(Error::OutOfMemory),
+    }
+}

@@ -1,0 +1,186 @@
+//! How the list of a set is made beside the list of the set before it: most of its keys are there.
+ghost use Rattle.std.specs.Prelude.{◌≡◌, ◌≤◌, ◌<◌, ◌++◌, length, map, flat_map, IfOk, IfErr};
+ghost use Rattle.dnssec_base.specs.declared.error.Error.TheVariants.{OutOfMemory};
+ghost use Rattle.dnssec_run.specs.Published.{id_of};
+ghost use Rattle.dnssec_sets.specs.Chained.{ids_in, ids_of_piece, shared_id};
+
+use crate::list::{KeyList, Piece, Place};
+use crate::shared::{SharedKey, are_same, share_keys, with_room};
+use dnssec_keyset::Error;
+use dnssec_run::PublishedKey;
+use std::alloc::Global;
+
+/// A list of more keys than this is in pieces, and no piece has more.
+const MOST: usize = 64;
+
+/// How many keys each piece gets if they are too many for one.
+const CUT: usize = 40;
+
+/// The list of these keys. It shares pieces with the list before it, and keys with a list that has
+/// them. All should be in the order of their references; else less is shared.
+pub(crate) fn share_list(
+    alloc: Global,
+    keys: &[PublishedKey],
+    before: &KeyList,
+    source: &KeyList,
+) -> Result<KeyList, Error>
+    ensures ok { IfOk result (λ list. ids_in list ≡ map id_of keys.now) }
+    ensures err { IfErr result (λ e. e ≡ OutOfMemory) }
+{
+    match before {
+        KeyList::Pieces(before) => {
+            let pieces = share_groups(alloc, keys, before.as_slice(), source)?;
+            KeyList::of_pieces(alloc, pieces)
+        }
+        KeyList::Empty | KeyList::Whole(_) if keys.len() <= MOST => {
+            KeyList::whole(alloc, share_from(alloc, keys, source)?)
+        }
+        KeyList::Empty | KeyList::Whole(_) => {
+            let pieces = push_pieces(alloc, Vec::new(alloc), keys, source)?;
+            KeyList::of_pieces(alloc, pieces)
+        }
+    }
+}
+
+/// The pieces of these keys, which shares those that didn't change. The keys of a changed piece are
+/// those up to the first key of the next one.
+fn share_groups(
+    alloc: Global,
+    keys: &[PublishedKey],
+    before: &[Piece],
+    source: &KeyList,
+) -> Result<Vec<Piece>, Error>
+    ensures ok { IfOk result (λ pieces. flat_map ids_of_piece pieces.items ≡ map id_of keys.now) }
+    ensures err { IfErr result (λ e. e ≡ OutOfMemory) }
+{
+    let mut pieces = with_room(alloc, before.len())?;
+    let mut rest = keys;
+    for (index, piece) in before.iter().enumerate() {
+        let count = count_below(rest, piece.keys().len(), before.get(index + 1));
+        let (group, others) = rest.split_at(count);
+        pieces = push_group(alloc, pieces, group, piece, source)?;
+        rest = others;
+    }
+    push_pieces(alloc, pieces, rest, source)
+}
+
+/// How many of the keys come before the next piece: likely so many.
+fn count_below(keys: &[PublishedKey], likely: usize, next: Option<&Piece>) -> usize
+    ensures { result ≤ length keys.now }
+{
+    let Some(next) = next else {
+        return keys.len();
+    };
+    let Some(first) = next.keys().first() else {
+        return 0;
+    };
+    match keys.get(likely) {
+        Some(key) if key.added == first.key.added => likely,
+        _ => keys.partition_point(|key| key.reference < first.key.reference),
+    }
+}
+
+/// Adds these keys: by the piece before, if it has them, or else by new ones.
+fn push_group(
+    alloc: Global,
+    pieces: Vec<Piece>,
+    keys: &[PublishedKey],
+    piece: &Piece,
+    source: &KeyList,
+) -> Result<Vec<Piece>, Error>
+    ensures ok { IfOk result (λ next. flat_map ids_of_piece next.items
+        ≡ flat_map ids_of_piece pieces.items ++ map id_of keys.now) }
+    ensures err { IfErr result (λ e. e ≡ OutOfMemory) }
+{
+    if !are_same(piece.keys(), keys) {
+        return push_pieces(alloc, pieces, keys, source);
+    }
+    add_piece(pieces, piece.share()?)
+}
+
+/// Adds these keys by new pieces.
+fn push_pieces(
+    alloc: Global,
+    mut pieces: Vec<Piece>,
+    keys: &[PublishedKey],
+    source: &KeyList,
+) -> Result<Vec<Piece>, Error>
+    ensures ok { IfOk result (λ next. flat_map ids_of_piece next.items
+        ≡ flat_map ids_of_piece pieces.items ++ map id_of keys.now) }
+    ensures err { IfErr result (λ e. e ≡ OutOfMemory) }
+{
+    let size = size_of(keys.len());
+    let mut rest = keys;
+    while let Some((group, others)) = rest.split_at_checked(size) {
+        pieces = add_piece(pieces, new_piece(alloc, group, source)?)?;
+        rest = others;
+    }
+    if rest.is_empty() {
+        return Ok(pieces);
+    }
+    add_piece(pieces, new_piece(alloc, rest, source)?)
+}
+
+/// How many keys a piece gets.
+fn size_of(count: usize) -> usize
+    ensures { 0 < result }
+{
+    if count <= MOST { MOST } else { CUT }
+}
+
+/// Adds a piece.
+fn add_piece(mut pieces: Vec<Piece>, piece: Piece) -> Result<Vec<Piece>, Error>
+    ensures ok { IfOk result (λ next. flat_map ids_of_piece next.items
+        ≡ flat_map ids_of_piece pieces.items ++ ids_of_piece piece) }
+    ensures err { IfErr result (λ e. e ≡ OutOfMemory) }
+{
+    match pieces.push(piece) {
+        Ok(()) => Ok(pieces),
+        Err(_) => Err(Error::OutOfMemory),
+    }
+}
+
+/// A new piece of these keys.
+fn new_piece(alloc: Global, keys: &[PublishedKey], source: &KeyList) -> Result<Piece, Error>
+    ensures ok { IfOk result (λ piece. ids_of_piece piece ≡ map id_of keys.now) }
+    ensures err { IfErr result (λ e. e ≡ OutOfMemory) }
+{
+    Piece::new(alloc, share_from(alloc, keys, source)?)
+}
+
+/// These keys, each shared with that of the list if it has it.
+fn share_from(
+    alloc: Global,
+    keys: &[PublishedKey],
+    source: &KeyList,
+) -> Result<Vec<SharedKey>, Error>
+    ensures ok { IfOk result (λ shared. map shared_id shared.items ≡ map id_of keys.now) }
+    ensures err { IfErr result (λ e. e ≡ OutOfMemory) }
+{
+    match source {
+        KeyList::Empty => share_keys(alloc, keys, &[]),
+        KeyList::Whole(source) => share_keys(alloc, keys, source.as_slice()),
+        KeyList::Pieces(_) => share_found(alloc, keys, source),
+    }
+}
+
+/// These keys, each shared with that of a long list if a search finds it.
+fn share_found(
+    alloc: Global,
+    keys: &[PublishedKey],
+    source: &KeyList,
+) -> Result<Vec<SharedKey>, Error>
+    ensures ok { IfOk result (λ shared. map shared_id shared.items ≡ map id_of keys.now) }
+    ensures err { IfErr result (λ e. e ≡ OutOfMemory) }
+{
+    let mut shared = with_room(alloc, keys.len())?;
+    let mut place = Place::FIRST;
+    for key in keys {
+        place = source.near(key, place);
+        if shared.push(source.share_at(alloc, key, place)?).is_err() {
+            return Err(Error::OutOfMemory);
+        }
+        place = place.next();
+    }
+    Ok(shared)
+}
