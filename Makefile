@@ -6,8 +6,8 @@ DESTDIR ?=
 RUNS ?= 1000000
 
 PROGRAM = crates/keyset/out/keyset
-PARTS = dnssec_base dnssec_key dnssec_zone dnssec_keyset dnssec_run dnssec_judge dnssec_record \
-	keyset
+PARTS = dnssec_base dnssec_key dnssec_zone dnssec_keyset dnssec_run dnssec_sets dnssec_judge \
+	dnssec_script dnssec_record keyset
 SOURCES = crates.txt \
 	$(wildcard $(foreach part,$(PARTS),$(addprefix crates/$(part)/,src specs proofs)))
 

@@ -10,9 +10,9 @@ use Rattle.std.proofs.lemmas.List.{take_all}
 use Rattle.dnssec_network.specs.declared.fact.Before.{Before}
 use Rattle.dnssec_network.specs.declared.fact.Fact.{Fact}
 use Rattle.dnssec_network.specs.Notes.{NotesParts, refusal}
-use Rattle.dnssec_record.proofs.Judging.{some_line}
-use Rattle.dnssec_record.proofs.Texts.{shown_at, text_at, within_shown}
-use Rattle.dnssec_record.specs.Script.{Value, lines_of}
+use Rattle.dnssec_script.proofs.Judging.{some_line}
+use Rattle.dnssec_script.proofs.Texts.{shown_at, text_at, within_shown}
+use Rattle.dnssec_script.specs.Script.{Value, lines_of}
 use Rattle.dnssec_notes.specs.Lines.{as_before, as_fact, before_says, fact_says}
 use Rattle.dnssec_notes.specs.Reading.{AreFacts, AreNotes, AreTaken, HasLine, IsFactsFault}
 use Rattle.dnssec_notes.specs.Reading.{IsFaultOf, IsLineFault, IsNotesFault}

@@ -15,7 +15,7 @@ use Rattle.dnssec_network.specs.declared.fact.Before.{Before}
 use Rattle.dnssec_network.specs.declared.fact.Fact.{Fact}
 use Rattle.dnssec_network.specs.Notes.{NotesParts}
 use Rattle.dnssec_network.specs.Reports.{due_report}
-use Rattle.dnssec_record.specs.Script.{AreScript, lines_of}
+use Rattle.dnssec_script.specs.Script.{AreScript, lines_of}
 use Rattle.dnssec_record.specs.Session.{Stands}
 use Rattle.dnssec_record.specs.declared.session.Session.{Session}
 use Rattle.dnssec_notes.specs.Lines.{kind_name}

@@ -10,8 +10,8 @@ use Rattle.dnssec_network.specs.declared.fact.Fact.{Fact}
 use Rattle.dnssec_network.specs.declared.fact.News.{News}
 use Rattle.dnssec_network.specs.declared.fact.News.TheVariants as news
 use Rattle.dnssec_network.specs.Notes.{refusal}
-use Rattle.dnssec_record.specs.Script.{Form, Value, Number, Moment, as_number, as_time, as_ttl}
-use Rattle.dnssec_record.specs.Script.{fields_of, first_field, values_of}
+use Rattle.dnssec_script.specs.Script.{Form, Value, Number, Moment, as_number, as_time, as_ttl}
+use Rattle.dnssec_script.specs.Script.{fields_of, first_field, values_of}
 use Rattle.dnssec_notes.specs.declared.line.Word.{Word}
 use Rattle.dnssec_notes.specs.declared.line.Word.TheVariants.{Published, Everywhere}
 

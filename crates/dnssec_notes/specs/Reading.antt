@@ -4,7 +4,7 @@ use Rattle.std.specs.Prelude.{Option, None, Some, slice_index_or}
 use Rattle.dnssec_network.specs.declared.fact.Before.{Before}
 use Rattle.dnssec_network.specs.declared.fact.Fact.{Fact}
 use Rattle.dnssec_network.specs.Notes.{NotesParts, refusal}
-use Rattle.dnssec_record.specs.Script.{lines_of}
+use Rattle.dnssec_script.specs.Script.{lines_of}
 use Rattle.dnssec_notes.specs.Lines.{as_before, as_fact, before_says, fact_says}
 use Rattle.dnssec_notes.specs.declared.fault.LineFault.{LineFault}
 use Rattle.dnssec_notes.specs.declared.fault.LineFault.TheVariants as why

@@ -1,7 +1,7 @@
 //! What a line of notes says.
 ghost use Rattle.std.specs.Prelude.{◌≡◌, List};
 ghost use Rattle.std.specs.Option.{option_map};
-ghost use Rattle.dnssec_record.specs.Script.{values_of};
+ghost use Rattle.dnssec_script.specs.Script.{values_of};
 ghost use Rattle.dnssec_notes.specs.Lines.{as_before, as_fact, before_forms, before_says};
 ghost use Rattle.dnssec_notes.specs.Lines.{fact_says, kind_at, kind_name, kind_named, news_after};
 ghost use Rattle.dnssec_notes.specs.Lines.{news_says, word_at, word_named};

@@ -1,7 +1,7 @@
 //! Notes as a text.
 ghost use Rattle.std.specs.Prelude.{◌≡◌, ℕ, List, IfOk, IfErr, OnOk, map};
 ghost use denote.Bor.{now};
-ghost use Rattle.dnssec_record.specs.Script.{lines_of};
+ghost use Rattle.dnssec_script.specs.Script.{lines_of};
 ghost use Rattle.dnssec_notes.specs.Reading.{AreFacts, AreNotes, HasLine, IsFactFault};
 ghost use Rattle.dnssec_notes.specs.Reading.{IsFactsFault, IsLineFault, IsNotesFault};
 

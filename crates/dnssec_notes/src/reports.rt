@@ -9,6 +9,7 @@ use crate::line::kind_name;
 use dnssec_key::roll_name;
 use dnssec_keyset::{KeySet, RollType, UnixTime};
 use dnssec_network::{DueReport, Notes, Steps};
+use dnssec_zone::all_rolls;
 use std::alloc::{AllocError, Global};
 use std::time::Duration;
 
@@ -34,16 +35,8 @@ pub fn due_lines(
     ensures { IfOk result (λ text. string_bytes text ≡ due_text keyset.now.rolls (step_of steps)
         notes.now.before notes.now.facts seconds) }
 {
-    let rolls = [
-        RollType::KskRoll,
-        RollType::KskDoubleDsRoll,
-        RollType::ZskRoll,
-        RollType::ZskDoubleSignatureRoll,
-        RollType::CskRoll,
-        RollType::AlgorithmRoll,
-    ];
     let mut text = String::new(alloc);
-    push_lines(&mut text, &rolls, keyset, steps, notes, seconds)?;
+    push_lines(&mut text, all_rolls(), keyset, steps, notes, seconds)?;
     Ok(text)
 }
 

@@ -1,13 +1,13 @@
 -- What is known of the input carries over to the answer to it.
 use Rattle.std.proofs.Common.{◌≡◌, ◌≢◌, ℕ, List, Option, Some, None, IfSome, sym, ◌∙◌, subst}
 use Rattle.dnssec_record.specs.Answer.{IsAnswerOf, AnswerFault, TakesBeginning}
-use Rattle.dnssec_record.specs.Inner.Reading.{TakesFront}
-use Rattle.dnssec_record.specs.Script.{IsScript, lines_of}
+use Rattle.dnssec_record.specs.Inner.Devices.{TakesFront}
+use Rattle.dnssec_script.specs.Script.{IsScript, lines_of}
 use Rattle.dnssec_run.specs.declared.call.Call.{Call}
 use Rattle.dnssec_record.specs.declared.fault.ScriptFault.{ScriptFault}
 use Rattle.dnssec_record.specs.declared.fault.ScriptFault.TheVariants.{Malformed, Device}
 use Rattle.dnssec_record.specs.declared.fault.ScriptFault.TheVariants.{OutOfMemory}
-use Rattle.dnssec_record.proofs.Judging.{never_malformed}
+use Rattle.dnssec_script.proofs.Judging.{never_malformed}
 
 -- what holds of the bytes that were read holds of those that the input had left
 pub of_input : (left : Option (List ℕ)) (P : List ℕ → Type 0) (shown read : List ℕ)

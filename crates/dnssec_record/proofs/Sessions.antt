@@ -2,10 +2,7 @@
 use Rattle.std.proofs.Common.{◌≡◌, ℕ, List, [], ◌∷◌, ◌++◌, Option, None, Some, refl, sym, ◌∙◌}
 use Rattle.std.proofs.Common.{ap, false, length, map, fold, arith}
 use Rattle.std.proofs.lemmas.List.Sums.{fold-append}
-use Rattle.std.specs.List.{flat_map}
-use Rattle.std.specs.Prelude.{codes, if◌then◌else◌, string_bytes}
-use Rattle.dnssec_run.specs.Published.{Id, id_of}
-use Rattle.dnssec_run.specs.declared.record.PublishedKey.{PublishedKey}
+use Rattle.std.specs.Prelude.{codes, if◌then◌else◌, IfOk, Result, Ok, Err}
 use Rattle.dnssec_run.specs.declared.call.Call.{Call}
 use Rattle.dnssec_run.specs.declared.record.Entry.{Entry}
 use Rattle.dnssec_run.specs.declared.record.Outcome.{Outcome}
@@ -15,19 +12,19 @@ use Rattle.dnssec_run.specs.Recorder.{HasSameKeys, Records, TellsOutcome}
 use Rattle.dnssec_judge.specs.Judge.{ComesNext, Knows}
 use Rattle.dnssec_record.specs.Courses.{Listed, as_listed, ended_after, ended_by, listed_after}
 use Rattle.dnssec_record.specs.Courses.{listed_by, turn_after, turn_of, turns}
-use Rattle.dnssec_record.specs.Output.{published_text, reply_text, set_text, sets_text}
-use Rattle.dnssec_record.specs.Script.{AreLinesOf, AreScript, IsLineOf, IsZoneLine, Value}
-use Rattle.dnssec_record.specs.Script.{call_says, says}
-use Rattle.dnssec_record.specs.declared.words.Word.{Word}
-use Rattle.dnssec_record.specs.Inner.Reading.{IsOfStatements}
-use Rattle.dnssec_record.specs.Inner.Statement.{TakesOn, statement_says}
+use Rattle.dnssec_record.specs.Output.{reply_text}
+use Rattle.dnssec_script.specs.Script.{AreLinesOf, AreScript, IsLineOf, IsZoneLine}
+use Rattle.dnssec_script.specs.Script.{call_says, says}
+use Rattle.dnssec_script.specs.Inner.Reading.{IsOfStatements}
+use Rattle.dnssec_record.specs.Inner.Statement.{TakesOn}
+use Rattle.dnssec_script.specs.Inner.Statement.{statement_says}
 use Rattle.dnssec_record.specs.Session.{Advances, GoesOn, Resumes, Stands, StandsAfter}
 use Rattle.dnssec_record.specs.declared.courses.Turn.{Turn}
 use Rattle.dnssec_record.specs.declared.session.Session.{Session}
 use Rattle.dnssec_key.specs.declared.roll.RollType.{RollType}
-use Rattle.dnssec_record.specs.declared.statement.Statement.{Statement}
-use Rattle.dnssec_record.proofs.Reading.{made_more}
-use Rattle.dnssec_record.proofs.Running.{last_of, next_comes, none_shown}
+use Rattle.dnssec_script.specs.declared.statement.Statement.{Statement}
+use Rattle.dnssec_record.proofs.Running.{AreMade, Follows, entry_of, none_follows, none_made}
+use Rattle.dnssec_record.proofs.Running.{one_follows, one_made, same_sets}
 
 -- ---- turns
 
@@ -57,13 +54,15 @@ folded_more f none calls entries call e same =
 pub begun : (name : List ℕ) (s : Session) → Records name [] [] s.recorder → Knows [] s.judge
     → s.courses.listed.items ≡ [] → s.courses.ended.items ≡ []
     → StandsAfter name [] [] s
-begun name s records knows listed ended = record {
-  records = records;
-  knows = knows;
-  shown = none_shown name s.recorder records;
-  listed = ap (map as_listed) listed;
-  ended = ended;
-}
+begun name s records knows listed ended =
+    let so = none_follows name s.recorder s.judge records knows in
+    record {
+      records = records;
+      knows = knows;
+      shown = so.shown;
+      listed = ap (map as_listed) listed;
+      ended = ended;
+    }
 
 -- after one more call
 pub advances : (name : List ℕ) (calls : List Call) (entries : List Entry) (old new : Session)
@@ -84,24 +83,17 @@ pub advances : (name : List ℕ) (calls : List Call) (entries : List Entry) (old
     → Advances name calls entries call new outcome.reply
 advances name calls entries old new call outcome news so made kept handed judged turn is listed
     ended =
-    let e : Entry = record {
-      reply = outcome.reply;
-      moment = outcome.moment;
-      mark = outcome.mark;
-      published = new.recorder.published;
-    } in
+    let e = entry_of outcome new.recorder.published in
+    let was : Follows name calls entries old.recorder old.judge =
+    record { records = so.records; knows = so.knows; shown = so.shown } in
+    let follows = one_follows name calls entries call old.recorder new.recorder old.judge new.judge
+    outcome news was made kept handed judged in
     record {
       entry = e;
       stands = record {
-        records = made name calls entries e
-            (record { reply = refl; mark = refl; moment = refl })
-            (record { ds = refl; dnskey = refl; dnskey_signers = refl; zone_signers = refl })
-            so.records;
-        knows = judged entries e
-            (next_comes name calls entries old.recorder new.recorder outcome e news
-            outcome.may_publish so.records refl refl refl refl kept handed)
-            so.knows;
-        shown = ap sets_text (last_of entries e);
+        records = follows.records;
+        knows = follows.knows;
+        shown = follows.shown;
         listed = listed ∙ ap (λ (ls : List Listed). listed_after ls turn) so.listed
             ∙ ap (listed_after (listed_by calls entries)) is
             ∙ sym (folded_more listed_after [] calls entries call e so.records.run.count);
@@ -126,33 +118,6 @@ fits name calls entries call next other reply same so = record {
 
 -- ---- copies
 
--- the text of a set says no more than its keys
-abbrev ids_text : List Id → List ℕ
-ids_text [] = codes "-"
-ids_text (id ∷ ids) = id.0 ++ flat_map (λ (i : Id). codes "," ++ i.0) ids
-
-further_of_ids : (keys : List PublishedKey)
-    → flat_map (λ (k : PublishedKey). codes "," ++ string_bytes k.reference) keys
-    ≡ flat_map (λ (i : Id). codes "," ++ i.0) (map id_of keys)
-further_of_ids [] = refl
-further_of_ids (k ∷ ks) = ap (λ t. codes "," ++ string_bytes k.reference ++ t) (further_of_ids ks)
-
-of_ids : (keys : List PublishedKey) → set_text keys ≡ ids_text (map id_of keys)
-of_ids [] = refl
-of_ids (k ∷ ks) = ap (λ t. string_bytes k.reference ++ t) (further_of_ids ks)
-
-same_set : (ks ls : List PublishedKey) → map id_of ks ≡ map id_of ls → set_text ks ≡ set_text ls
-same_set ks ls same = of_ids ks ∙ ap ids_text same ∙ sym (of_ids ls)
-
-same_sets : (p q : Published) → HasSameKeys p q → published_text p ≡ published_text q
-same_sets p q same =
-    let a = same_set p.ds.items q.ds.items same.ds in
-    let b = same_set p.dnskey.items q.dnskey.items same.dnskey in
-    let c = same_set p.dnskey_signers.items q.dnskey_signers.items same.dnskey_signers in
-    let d = same_set p.zone_signers.items q.zone_signers.items same.zone_signers in
-    λ i. codes "ds=" ++ a i ++ codes " dnskey=" ++ b i ++ codes " signers=" ++ c i
-    ++ codes " zone=" ++ d i ++ codes "\n"
-
 -- a copy stands after the same calls
 pub copied : (name : List ℕ) (calls : List Call) (entries : List Entry) (s copy : Session)
     → StandsAfter name calls entries s → Records name calls entries copy.recorder
@@ -171,40 +136,44 @@ copied name calls entries s copy so records knows same listed ended = record {
 -- ---- statements
 
 -- the session stands after whatever calls the statements make
-pub record HasMade (name : List ℕ) (statements : List Statement) (s : Session) : Type 0 where
-  pub calls : List Call
-  pub are_calls : map call_says calls ≡ map statement_says statements
-  pub entries : List Entry
-  pub stands : StandsAfter name calls entries s
+abbrev pub HasMade : List ℕ → List Statement → Session → Type 0
+HasMade name statements s =
+    AreMade statements (λ calls entries. StandsAfter name calls entries s)
+
+-- the call of one statement
+pub takes_on : {E : Type 0} (r : Result (Session × Reply) E) (call : Call)
+    (statement : Statement) (s : Session) → call_says call ≡ statement_says statement
+    → IfOk r (λ (m : Session × Reply). (name : List ℕ) (calls : List Call)
+    (entries : List Entry) → StandsAfter name calls entries s
+    → Advances name calls entries call m.0 m.1)
+    → IfOk r (λ (m : Session × Reply). TakesOn statement s m.0 m.1)
+takes_on (Ok m) call statement s is made = record { call = call; is_call = is; advances = made }
+takes_on (Err e) call statement s is made = tt
 
 -- no statement
-pub none_made : (name : List ℕ) (s : Session) → StandsAfter name [] [] s → HasMade name [] s
-none_made name s stands =
-    record { calls = []; are_calls = refl; entries = []; stands = stands }
+pub none_taken_on : (name : List ℕ) (s : Session) → StandsAfter name [] [] s → HasMade name [] s
+none_taken_on name s = none_made (λ calls entries. StandsAfter name calls entries s) []
 
 -- one more statement
-pub one_made : (name : List ℕ) (past : List Statement) (s : Statement) (old new : Session)
-    (reply : Reply) → HasMade name past old → TakesOn (statement_says s) old new reply
+pub one_taken_on : (name : List ℕ) (past : List Statement) (s : Statement) (old new : Session)
+    (reply : Reply) → HasMade name past old → TakesOn s old new reply
     → HasMade name (past ++ s ∷ []) new
-one_made name past s old new reply so made =
-    let next = made.advances name so.calls so.entries so.stands in
-    record {
-      calls = so.calls ++ made.call ∷ [];
-      are_calls = made_more so.calls made.call past s so.are_calls made.is_call;
-      entries = so.entries ++ next.entry ∷ [];
-      stands = next.stands;
-    }
+one_taken_on name past s old new reply m made =
+    let next = made.advances name m.calls m.entries m.so in
+    one_made (λ calls entries. StandsAfter name calls entries old)
+    (λ calls entries. StandsAfter name calls entries new) past s made.call m made.is_call
+    (m.entries ++ next.entry ∷ []) next.stands
 
 -- all statements of a script
-pub all_made : (script name : List ℕ) (statements : List Statement) (s : Session)
+pub all_taken_on : (script name : List ℕ) (statements : List Statement) (s : Session)
     → IsOfStatements script name statements → HasMade name statements s → Resumes script s
-all_made script name statements s is so = record {
-  entries = so.entries;
+all_taken_on script name statements s is m = record {
+  entries = m.entries;
   stands = record {
     name = name;
-    calls = so.calls;
-    is_script = is so.calls so.are_calls;
-    stands = so.stands;
+    calls = m.calls;
+    is_script = is m.calls m.are_calls;
+    stands = m.so;
   };
 }
 
@@ -238,11 +207,11 @@ opened line name s zone stands = record {
 
 -- a session after one more line
 pub goes_on : (lines : List (List ℕ)) (entries : List Entry) (line : List ℕ) (old new : Session)
-    (said : Word × List Value) (reply : Reply) (text : List ℕ)
-    → Stands lines entries old → Some said ≡ says line → TakesOn said old new reply
+    (statement : Statement) (reply : Reply) (text : List ℕ) → Stands lines entries old
+    → Some (statement_says statement) ≡ says line → TakesOn statement old new reply
     → text ≡ reply_text reply ++ codes "\n"
     → GoesOn lines entries line new text
-goes_on lines entries line old new said reply text so is made wrote =
+goes_on lines entries line old new statement reply text so is made wrote =
     let next = made.advances so.name so.calls entries so.stands in
     record {
       entry = next.entry;

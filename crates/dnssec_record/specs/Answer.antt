@@ -9,7 +9,7 @@ use Rattle.dnssec_run.specs.Record.{IsRun, world_at}
 use Rattle.dnssec_judge.specs.declared.verdict.Broken.{Broken}
 use Rattle.dnssec_judge.specs.Verdict.{IsVerdict}
 use Rattle.dnssec_record.specs.Output.{output}
-use Rattle.dnssec_record.specs.Script.{IsScript, IsFirstMalformed}
+use Rattle.dnssec_script.specs.Script.{IsScript, IsFirstMalformed}
 use Rattle.dnssec_record.specs.declared.fault.ScriptFault.{ScriptFault}
 use Rattle.dnssec_record.specs.declared.fault.ScriptFault.TheVariants.{Malformed, Device}
 use Rattle.dnssec_record.specs.declared.fault.ScriptFault.TheVariants.{OutOfMemory}

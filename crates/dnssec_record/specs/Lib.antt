@@ -4,6 +4,5 @@ pub mod Device
 pub mod Fault
 pub mod Inner
 pub mod Output
-pub mod Script
 pub mod Session
 pub mod Std

@@ -10,7 +10,7 @@ use Rattle.dnssec_judge.specs.Judge.{Knows}
 use Rattle.dnssec_judge.specs.Verdict.{IsVerdict}
 use Rattle.dnssec_record.specs.Courses.{as_listed, ended_by, listed_by}
 use Rattle.dnssec_record.specs.Output.{chain_line, published_text, reply_text, set_line}
-use Rattle.dnssec_record.specs.Script.{AreScript, IsZoneLine, lines_of, says}
+use Rattle.dnssec_script.specs.Script.{AreScript, IsZoneLine, lines_of, says}
 use Rattle.dnssec_record.specs.declared.fault.ScriptFault.{ScriptFault}
 use Rattle.dnssec_record.specs.declared.fault.ScriptFault.TheVariants.{Malformed, Device}
 use Rattle.dnssec_record.specs.declared.fault.ScriptFault.TheVariants.{OutOfMemory}

@@ -4,13 +4,13 @@ ghost use Rattle.std.specs.List.{flat_map};
 ghost use Rattle.dnssec_record.specs.Answer.{IsAnswerOf};
 ghost use Rattle.dnssec_record.specs.Output.{action_name, actions_text, broken_text, chain_line};
 ghost use Rattle.dnssec_record.specs.Output.{published_text, reply_text, set_text};
-ghost use Rattle.dnssec_record.specs.Inner.Reading.{IsOfStatements};
+ghost use Rattle.dnssec_script.specs.Inner.Reading.{IsOfStatements};
 
-use crate::statement::Statement;
 use dnssec_base::Name;
 use dnssec_judge::{Broken, Judge};
 use dnssec_keyset::Action;
 use dnssec_run::{Published, PublishedKey, Recorder, Reply};
+use dnssec_script::Statement;
 use std::alloc::{AllocError, Global};
 
 /// Makes the calls of the statements in turn on a new key set for the zone of this name. Says what
@@ -34,10 +34,9 @@ pub(crate) fn answer(
             return Err(AllocError);
         };
         let news = recorder.news(&outcome);
-        let Ok(next) = judge.take_next(alloc, outcome.mark, outcome.moment, news) else {
+        let Ok(()) = judge.note(alloc, outcome.mark, outcome.moment, news) else {
             return Err(AllocError);
         };
-        judge = next;
         push_answer(&mut text, &outcome.reply)?;
     }
     push_published(&mut text, recorder.published())?;
@@ -81,7 +80,7 @@ fn push_actions(text: &mut String, actions: &[Action]) -> Result<(), AllocError>
 }
 
 /// The name of an action, as answers have it.
-fn action_name(action: Action) -> &'static str
+pub fn action_name(action: Action) -> &'static str
     ensures { result.now ≡ action_name action }
 {
     match action {

@@ -6,14 +6,10 @@ mod answers;
 mod courses;
 mod device;
 mod fault;
-mod fields;
-mod forms;
-mod lines;
 mod script;
 mod session;
-mod statement;
-mod words;
 
+pub use answers::action_name;
 pub use courses::{Listed, Part};
 pub use device::{DeviceFault, Sink, Source, Std};
 pub use dnssec_judge::{
@@ -23,8 +19,7 @@ pub use dnssec_run::{
     Call, Entry, Mark, Outcome, Published, PublishedKey, Recorder, Reply, Run, each_chain_is_one,
     run, starts_suffice, whole_runs_stay_safe,
 };
+pub use dnssec_script::{Fields, all_lines};
 pub use fault::ScriptFault;
-pub use fields::Fields;
-pub use lines::all_lines;
 pub use script::{record_script, run_script};
 pub use session::{Session, Told};

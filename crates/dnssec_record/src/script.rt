@@ -1,22 +1,22 @@
 //! Scripts: calls in a text, and the answers to them.
-ghost use Rattle.std.specs.Prelude.{◌≡◌, ◌≢◌, ◌⊎◌, ◌↔◌, ℕ, ◌<◌, List, Some, IfOk, IfErr, IfSome};
+ghost use Rattle.std.specs.Prelude.{◌≡◌, ◌≢◌, ◌⊎◌, ◌↔◌, ℕ, ◌<◌, List, IfOk, IfErr, IfSome};
 ghost use Rattle.std.specs.Prelude.{OnOk, OnErr, Err, string_bytes};
 ghost use Rattle.std.specs.Io.KnownBytes.{Appends, IsAtEnd, Keeps};
 ghost use Rattle.dnssec_record.specs.Answer.{IsAnswerOf, AnswerFault, EndsSafe, IsRunOf};
 ghost use Rattle.dnssec_record.specs.Answer.{IsSafeAnswer, TakesAnswer, TakesAtMost};
 ghost use Rattle.dnssec_record.specs.Device.{Counts};
-ghost use Rattle.dnssec_record.specs.Inner.Reading.{IsOfStatements, ReadFault, TakesFront};
-ghost use Rattle.dnssec_record.specs.Script.{IsFirstMalformed, IsScript};
+ghost use Rattle.dnssec_record.specs.Inner.Devices.{FaultOfInput, TakesFront};
+ghost use Rattle.dnssec_script.specs.Inner.Reading.{IsOfStatements};
+ghost use Rattle.dnssec_script.specs.Script.{IsFirstMalformed, IsScript};
 ghost use Rattle.dnssec_run.specs.declared.call.Call.{Call};
 ghost use Rattle.dnssec_record.specs.declared.fault.ScriptFault.TheVariants.{Device, OutOfMemory};
 
 use crate::answers::answer;
 use crate::device::{DeviceFault, Sink, Source};
 use crate::fault::ScriptFault;
-use crate::lines::read_script;
-use crate::statement::Statement;
 use dnssec_base::Name;
 use dnssec_run::{Recorder, Run};
+use dnssec_script::{Reading, Statement, read_script};
 use std::alloc::{AllocError, Global};
 
 /// How many bytes the input is asked for at once.
@@ -104,7 +104,7 @@ fn read_to_end<R: Source>(alloc: Global, input: &mut R) -> Result<Vec<u8>, Scrip
         IfSome (R.left input.old) (λ text. script.items ≡ text)) }
     ensures end { OnOk result (IsAtEnd (R.left input.new)) }
     ensures counted { OnOk result (R.faults input.new ≡ R.faults input.old) }
-    ensures err { IfErr result (ReadFault (R.faults input.old) (R.faults input.new)) }
+    ensures err { IfErr result (FaultOfInput (R.faults input.old) (R.faults input.new)) }
 {
     let mut script = Vec::new(alloc);
     let mut piece = [0; PIECE];
@@ -122,7 +122,7 @@ fn answer_to(alloc: Global, script: &[u8]) -> Result<String, ScriptFault>
     ensures ok { IfOk result (λ text. IsAnswerOf script.now (string_bytes text)) }
     ensures err { IfErr result (AnswerFault script.now) }
 {
-    let (name, statements) = read_script(alloc, script)?;
+    let (name, statements) = statements_of(alloc, script)?;
     let text = answer(alloc, name, statements)?;
     Ok(text)
 }
@@ -146,8 +146,22 @@ pub fn record_script(alloc: Global, script: &[u8]) -> Result<Run, ScriptFault>
     ensures ok { IfOk result (λ run. IsRunOf script.now run.keyset run.entries.items) }
     ensures err { IfErr result (AnswerFault script.now) }
 {
-    let (name, statements) = read_script(alloc, script)?;
+    let (name, statements) = statements_of(alloc, script)?;
     Ok(recorded(alloc, name, statements)?)
+}
+
+/// The name of the zone of a script, and its statements.
+pub(crate) fn statements_of(
+    alloc: Global,
+    script: &[u8],
+) -> Result<(Name<Vec<u8>>, Vec<Statement<'_>>), ScriptFault>
+    ensures ok { IfOk result (λ read. IsOfStatements script.now read.0 read.1.items) }
+    ensures err { IfErr result (AnswerFault script.now) }
+{
+    match read_script(alloc, script)? {
+        Reading::Script(name, statements) => Ok((name, statements)),
+        Reading::Malformed(number) => Err(ScriptFault::Malformed(number)),
+    }
 }
 
 /// Makes the calls of the statements in turn on a new key set, and records each.

@@ -3,24 +3,24 @@ ghost use Rattle.std.specs.Prelude.{◌≡◌, ◌∷◌, ℕ, List, [], length,
 ghost use Rattle.std.specs.Prelude.{string_bytes};
 ghost use Rattle.dnssec_judge.specs.Verdict.{IsVerdict};
 ghost use Rattle.dnssec_record.specs.Answer.{AnswerFault};
-ghost use Rattle.dnssec_record.specs.Inner.Reading.{IsOfStatements};
-ghost use Rattle.dnssec_record.specs.Inner.Statement.{TakesOn, statement_says};
+ghost use Rattle.dnssec_record.specs.Inner.Statement.{TakesOn};
 ghost use Rattle.dnssec_record.specs.Courses.{as_listed, ended_by, listed_by};
 ghost use Rattle.dnssec_record.specs.Session.{Advances, Closes, FaultOfZone, Stands, StandsAfter};
 ghost use Rattle.dnssec_record.specs.Session.{Resumes, Takes};
 ghost use Rattle.dnssec_run.specs.Steps.{AreStepsOf};
 ghost use Rattle.dnssec_run.specs.declared.call.Call.{Call};
 ghost use Rattle.dnssec_run.specs.declared.record.Entry.{Entry};
+ghost use Rattle.dnssec_script.specs.Inner.Reading.{IsOfStatements};
 
 use crate::answers::{push_answer, push_chain_line, push_published};
 use crate::courses::{Courses, Listed, Turn};
 use crate::fault::ScriptFault;
-use crate::lines::{read_script, zone};
-use crate::statement::{Statement, read_line};
+use crate::script::statements_of;
 use dnssec_base::Name;
 use dnssec_judge::{Broken, Judge};
 use dnssec_keyset::{KeySet, RollType};
 use dnssec_run::{Call, Published, Recorder, Reply, Steps};
+use dnssec_script::{Statement, read_line, read_zone};
 use std::alloc::{AllocError, Global};
 
 /// A session of at most this many keys is fitted to them. So no call costs more for that than
@@ -70,7 +70,7 @@ impl Session {
         ensures ok { IfOk result (λ session. Stands (line.now ∷ []) [] session) }
         ensures err { IfErr result (FaultOfZone line.now) }
     {
-        let Some(name) = zone(alloc, line)? else {
+        let Some(name) = read_zone(alloc, line)? else {
             return Err(ScriptFault::Malformed(1));
         };
         Ok(Session::new(alloc, name)?)
@@ -87,7 +87,7 @@ impl Session {
         ensures ok { IfOk result (Resumes script.now) }
         ensures err { IfErr result (AnswerFault script.now) }
     {
-        let (name, statements) = read_script(alloc, script)?;
+        let (name, statements) = statements_of(alloc, script)?;
         Ok(Session::after(alloc, name, statements)?)
     }
 
@@ -171,7 +171,7 @@ impl Session {
     /// Makes the call of a statement.
     fn take(self, alloc: Global, statement: Statement<'_>) -> Result<(Session, Reply), AllocError>
         ensures { IfOk result (λ made.
-            TakesOn (statement_says statement.entry) self made.0 made.1) }
+            TakesOn statement.entry self made.0 made.1) }
     {
         match statement {
             Statement::Call(call) => self.make(alloc, call),
@@ -192,7 +192,7 @@ impl Session {
     {
         let Session {
             mut recorder,
-            judge,
+            mut judge,
             mut courses,
         } = self;
         let turn = Turn::of(&call);
@@ -200,7 +200,7 @@ impl Session {
             return Err(AllocError);
         };
         let news = recorder.news(&outcome);
-        let Ok(judge) = judge.take_next(alloc, outcome.mark, outcome.moment, news) else {
+        let Ok(()) = judge.note(alloc, outcome.mark, outcome.moment, news) else {
             return Err(AllocError);
         };
         courses.take(alloc, turn.after(&outcome.reply))?;
@@ -227,7 +227,8 @@ impl Session {
         }
     }
 
-    /// Whether it has few keys, and either room for twice as many, or room of rolls that have ended.
+    /// Whether it has few keys, and either room for twice as many, or room of rolls that have
+    /// ended.
     fn has_room_to_spare(&self) -> bool {
         let keys = self.keyset().keys();
         let rolls = self.keyset().rollstates();

@@ -1,12 +1,12 @@
 //! The names of rolls and actions.
 ghost use Rattle.std.specs.Prelude.{◌≡◌, ◌++◌, OnOk};
-ghost use Rattle.dnssec_record.specs.Output.{action_name};
 ghost use Rattle.dnssec_status.specs.Json.{array_json, further_json};
 ghost use Rattle.dnssec_status.specs.Names.{action_json, roll_json};
 
 use crate::json::push_bytes;
 use dnssec_key::roll_name;
 use dnssec_keyset::{Action, RollType};
+use dnssec_record::action_name;
 use std::alloc::AllocError;
 
 /// Writes the name of a roll.
@@ -83,23 +83,4 @@ fn push_action(out: &mut Vec<u8>, action: Action) -> Result<(), AllocError>
     push_bytes(out, b"\"")?;
     push_bytes(out, action_name(action).as_bytes())?;
     push_bytes(out, b"\"")
-}
-
-/// The name of an action.
-fn action_name(action: Action) -> &'static str
-    ensures { result.now ≡ action_name action }
-{
-    match action {
-        Action::UpdateDnskeyRrset => "UpdateDnskeyRrset",
-        Action::CreateCdsRrset => "CreateCdsRrset",
-        Action::RemoveCdsRrset => "RemoveCdsRrset",
-        Action::UpdateDsRrset => "UpdateDsRrset",
-        Action::UpdateRrsig => "UpdateRrsig",
-        Action::ReportDnskeyPropagated => "ReportDnskeyPropagated",
-        Action::WaitDnskeyPropagated => "WaitDnskeyPropagated",
-        Action::ReportDsPropagated => "ReportDsPropagated",
-        Action::WaitDsPropagated => "WaitDsPropagated",
-        Action::ReportRrsigPropagated => "ReportRrsigPropagated",
-        Action::WaitRrsigPropagated => "WaitRrsigPropagated",
-    }
 }

@@ -13,6 +13,7 @@ ghost use Rattle.dnssec_zone.specs.Rolls.{phase_of};
 use crate::json::{push_bytes, push_number};
 use crate::names::{push_actions, push_roll_name};
 use dnssec_keyset::{Action, KeySet, RollState, RollType, UnixTime, WaitEnd};
+use dnssec_zone::all_rolls;
 use std::alloc::{AllocError, Global};
 use std::time::Duration;
 
@@ -32,12 +33,9 @@ pub(crate) fn in_progress(alloc: Global, keyset: &KeySet) -> Result<Vec<Going>, 
         All (λ (g : GoingRoll). TellsEnd g.roll keyset.now g.end) rolls.items) }
 {
     let mut rolls = Vec::new(alloc);
-    note(&mut rolls, keyset, RollType::KskRoll)?;
-    note(&mut rolls, keyset, RollType::KskDoubleDsRoll)?;
-    note(&mut rolls, keyset, RollType::ZskRoll)?;
-    note(&mut rolls, keyset, RollType::ZskDoubleSignatureRoll)?;
-    note(&mut rolls, keyset, RollType::CskRoll)?;
-    note(&mut rolls, keyset, RollType::AlgorithmRoll)?;
+    for roll in all_rolls() {
+        note(&mut rolls, keyset, *roll)?;
+    }
     Ok(rolls)
 }
 

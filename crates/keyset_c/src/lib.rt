@@ -7,7 +7,7 @@
 ghost use Rattle.std.specs.Prelude.{◌≡◌, ◌≢◌, ◌⊎◌, ◌↔◌, ℕ, ◌<◌, ◌≤◌, List, length, take, drop};
 ghost use Rattle.std.specs.Prelude.{None, IsSome};
 ghost use Rattle.dnssec_record.specs.Answer.{IsAnswerOf};
-ghost use Rattle.dnssec_record.specs.Script.{IsFirstMalformed, IsScript, IsZoneLine, says};
+ghost use Rattle.dnssec_script.specs.Script.{IsFirstMalformed, IsScript, IsZoneLine, says};
 ghost use Rattle.dnssec_run.specs.declared.call.Call.{Call};
 ghost use Rattle.keyset_c.specs.Answered.{TextEndsSafe, IsAnswerOfLength, StaysSafeIfPlain};
 ghost use Rattle.keyset_c.specs.Handles.{IsWhole, kept_by};

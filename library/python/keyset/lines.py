@@ -5,6 +5,8 @@ finds the fields of a line that the key set has read."""
 
 import re
 
+from .values import RollType
+
 FORMS = {
     "add-ksk": "REF PRIV ALG TAG TIME YN",
     "add-zsk": "REF PRIV ALG TAG TIME YN",
@@ -27,14 +29,7 @@ FORMS = {
     "set-ds-visible": "REF TIME",
     "set-rrsig-visible": "REF TIME",
 }
-ROLLS = (
-    "ksk-roll",
-    "ksk-double-ds-roll",
-    "zsk-roll",
-    "zsk-double-signature-roll",
-    "csk-roll",
-    "algorithm-roll",
-)
+ROLLS = tuple(roll.value for roll in RollType)
 ALGORITHMS = {
     "RSASHA256": 8,
     "RSASHA512": 10,

@@ -1,63 +1,17 @@
--- What the reader makes of a line.
-use Rattle.std.specs.Prelude.{◌≡◌, ℕ, List, [], ◌∷◌, ◌++◌, map, false}
-use denote.Bor.{now}
+-- What a session makes of a line.
+use Rattle.std.specs.Prelude.{◌≡◌, ℕ, List}
 use Rattle.dnssec_run.specs.declared.call.Call.{Call}
 use Rattle.dnssec_run.specs.declared.record.Entry.{Entry}
-use Rattle.dnssec_run.specs.declared.record.Outcome.{Outcome}
 use Rattle.dnssec_run.specs.declared.record.Reply.{Reply}
-use Rattle.dnssec_run.specs.declared.running.Recorder.{Recorder}
-use Rattle.dnssec_run.specs.Recorder.{HasSameKeys, Records, TellsOutcome}
-use Rattle.dnssec_record.specs.Script.{Value, Reference, References, Roll, Moment}
-use Rattle.dnssec_record.specs.Script.{call_says, trait_values}
+use Rattle.dnssec_script.specs.Script.{call_says}
+use Rattle.dnssec_script.specs.Inner.Statement.{statement_says}
+use Rattle.dnssec_script.specs.declared.statement.Statement.{Statement}
 use Rattle.dnssec_record.specs.Session.{Advances, StandsAfter}
 use Rattle.dnssec_record.specs.declared.session.Session.{Session}
-use Rattle.dnssec_record.specs.declared.forms.KeyTraits.{KeyTraits}
-use Rattle.dnssec_record.specs.declared.words.Word.{Word}
-use Rattle.dnssec_record.specs.declared.words.Word.TheVariants as word
-use Rattle.dnssec_record.specs.declared.statement.Start.{Start}
-use Rattle.dnssec_record.specs.declared.statement.Statement.{Statement}
-use Rattle.dnssec_record.specs.declared.statement.Statement.TheVariants as statement
 
--- what an add says of these traits of its key
-abbrev pub traits_say : KeyTraits → List Value
-traits_say t = trait_values t.algorithm t.key_tag t.creation_ts t.available
-
--- what a start says
-abbrev pub start_says : Start → Word × List Value
-start_says s = (
-  word.Start,
-  Roll s.rolltype ∷ References (map now s.old.items) ∷ References (map now s.new.items)
-      ∷ Moment s.moment ∷ [],
-)
-
--- what a statement says
-abbrev pub statement_says : Statement → Word × List Value
-statement_says (statement.Call call) = call_says call
-statement_says (statement.Start start) = start_says start
-
--- a recorder has made a call that says this, and it came to this
-pub record Makes (says : Word × List Value) (old new : Recorder) (outcome : Outcome)
-    : Type 0 where
+-- a session has made the call of this statement, and this is the reply
+pub record TakesOn (statement : Statement) (s next : Session) (reply : Reply) : Type 0 where
   pub call : Call
-  pub is_call : call_says call ≡ says
-  pub records : (name : List ℕ) (calls : List Call) (entries : List Entry) (entry : Entry) →
-      TellsOutcome entry outcome → HasSameKeys entry.published new.published →
-      Records name calls entries old →
-      Records name (calls ++ call ∷ []) (entries ++ entry ∷ []) new
-  pub kept : outcome.may_publish ≡ false → new.published ≡ old.published
-
--- the same, and this is its entry
-pub record MakesEntry (says : Word × List Value) (old new : Recorder) (entry : Entry)
-    : Type 0 where
-  pub call : Call
-  pub is_call : call_says call ≡ says
-  pub records : (name : List ℕ) (calls : List Call) (entries : List Entry) →
-      Records name calls entries old →
-      Records name (calls ++ call ∷ []) (entries ++ entry ∷ []) new
-
--- a session has made a call that says this, and this is the reply
-pub record TakesOn (says : Word × List Value) (s next : Session) (reply : Reply) : Type 0 where
-  pub call : Call
-  pub is_call : call_says call ≡ says
+  pub is_call : call_says call ≡ statement_says statement
   pub advances : (name : List ℕ) (calls : List Call) (entries : List Entry) →
       StandsAfter name calls entries s → Advances name calls entries call next reply

@@ -1,7 +1,7 @@
 -- What a run of the script promises of the bytes that the vector took, said of the front of `out`.
 use Rattle.std.proofs.Common.{rules, Err, Some, ap, subst, ◌∙◌}
 use Rattle.dnssec_record.specs.Answer.{EndsSafe, IsSafeAnswer}
-use Rattle.dnssec_record.specs.Script.{IsFirstMalformed}
+use Rattle.dnssec_script.specs.Script.{IsFirstMalformed}
 use Rattle.keyset_c.proofs.Handed.{took}
 use Rattle.keyset_c.proofs.keyset_answer.Goals as goal
 

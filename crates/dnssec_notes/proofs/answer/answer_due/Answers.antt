@@ -4,7 +4,7 @@ use Rattle.std.specs.Prelude.{vec_len}
 use Rattle.dnssec_keyset.specs.KeySet.{KeySetParts}
 use Rattle.dnssec_run.specs.declared.record.Entry.{Entry}
 use Rattle.dnssec_run.specs.Safe.{base_below}
-use Rattle.dnssec_record.specs.Script.{lines_of}
+use Rattle.dnssec_script.specs.Script.{lines_of}
 use Rattle.dnssec_notes.specs.Due.{due_text}
 use Rattle.dnssec_notes.specs.Reading.{AreNotes}
 use Rattle.dnssec_notes.proofs.answer.answer_due.Goals as goal

@@ -1,7 +1,7 @@
 -- The first line, and the others.
 use Rattle.std.proofs.Common.{◌≡◌, sym, ap, ◌∙◌, map, subst, refl, inl, inr}
 use denote.Bor.{now}
-use Rattle.dnssec_record.specs.Script.{lines_of}
+use Rattle.dnssec_script.specs.Script.{lines_of}
 use Rattle.dnssec_notes.specs.Reading.{IsFaultOf}
 use Rattle.dnssec_notes.specs.declared.fault.NotesFault.TheVariants.{Malformed}
 use Rattle.dnssec_notes.proofs.Noting.{before_said, fault-all, lines_split, none_said}

@@ -1,7 +1,7 @@
 -- The lines of the text.
 use Rattle.std.proofs.Common.{◌≡◌, ap, ◌∙◌, map}
 use denote.Bor.{now}
-use Rattle.dnssec_record.specs.Script.{lines_of}
+use Rattle.dnssec_script.specs.Script.{lines_of}
 use Rattle.dnssec_notes.proofs.reading.read_notes.Goals as goal
 
 pub returns-clause-ok : goal.returns-clause-ok

@@ -3,7 +3,7 @@ use Rattle.std.proofs.Common.{◌++◌, ◌∙◌, ap, subst, rules, string_byte
 use Rattle.dnssec_run.specs.declared.record.Published.{Published}
 use Rattle.dnssec_record.specs.Output.{published_text}
 use Rattle.dnssec_record.proofs.Running.{HasAnswered, none_answered, one_more, all_answered}
-use Rattle.dnssec_record.proofs.Taken.{none_taken, one_taken, all_taken}
+use Rattle.dnssec_record.proofs.Taken.{none_taken, all_taken}
 use Rattle.dnssec_record.proofs.answers.answer.Goals as goal
 
 pub loop-statement-init : goal.loop-statement-init
@@ -15,25 +15,19 @@ loop-statement-init c = (
 
 pub loop-statement-preserved : goal.loop-statement-preserved
 loop-statement-preserved c =
-    let at = c.loop-statement in (
-      one_taken _ at.yielded _ _ c.in-Some.statement _ _ at.invariant.0 c.in-Some.ensures.steps.0
-          c.in-Some.ensures.steps.1,
-      one_more c.args.name at.yielded c.in-Some.statement (string_bytes at.text) _
-          at.recorder c.advance.new.recorder at.judge c.in-Ok-take_next.next
-          c.in-Ok-advance.outcome _ at.invariant.1 c.in-Ok-advance.ensures c.news-news.ensures
-          c.in-Ok-take_next.ensures.ok c.in_ok-push_answer.ensures,
-    )
+    let at = c.loop-statement in
+    one_more c.args.name (string_bytes at.text) _ at.recorder c.advance.new.recorder at.judge
+    c.note.new.self c.in-Ok-advance.outcome _ at.invariant c.in-Some.ensures.steps.0
+    c.in-Some.ensures.steps.1 c.in-Ok-advance.ensures c.news-news.ensures
+    c.in-Ok-note.ensures.ok c.in_ok-push_answer.ensures
 
 pub loop-statement-preserved-in_ok-push_answer : goal.loop-statement-preserved-in_ok-push_answer
 loop-statement-preserved-in_ok-push_answer c =
-    let at = c.loop-statement in (
-      one_taken _ at.yielded _ _ c.in-Some.statement _ _ at.invariant.0 c.in-Some.ensures.steps.0
-          c.in-Some.ensures.steps.1,
-      one_more c.args.name at.yielded c.in-Some.statement (string_bytes at.text) _
-          at.recorder c.advance.new.recorder at.judge c.in-Ok-take_next.next
-          c.in-Ok-advance.outcome _ at.invariant.1 c.in-Ok-advance.ensures c.news-news.ensures
-          c.in-Ok-take_next.ensures.ok c.in_ok-push_answer.ensures,
-    )
+    let at = c.loop-statement in
+    one_more c.args.name (string_bytes at.text) _ at.recorder c.advance.new.recorder at.judge
+    c.note.new.self c.in-Ok-advance.outcome _ at.invariant c.in-Some.ensures.steps.0
+    c.in-Some.ensures.steps.1 c.in-Ok-advance.ensures c.news-news.ensures
+    c.in-Ok-note.ensures.ok c.in_ok-push_answer.ensures
 
 pub returns : goal.returns
 returns c script is =

@@ -1,13 +1,10 @@
 -- Each turn writes a front of what is left.
 use Rattle.std.proofs.Common.{◌≡◌, ℕ, ◌-◌, List, ◌++◌, Option, length, take, drop, sym, ap, ◌∙◌}
-use Rattle.std.proofs.Common.{append_assoc, take-append-drop, arith}
-use Rattle.std.proofs.lemmas.Grind.{common_steps}
+use Rattle.std.proofs.Common.{append_assoc, take-append-drop}
+use Rattle.std.proofs.lemmas.List.{take_rest}
 use Rattle.std.proofs.KnownBytes.{Appends-trans}
 use Rattle.std.specs.Io.KnownBytes.{Appends}
 use Rattle.dnssec_record.proofs.script.write_all.Goals as goal
-
-rest_whole : (n : ℕ) (xs : List ℕ) → take (length xs - n) (drop n xs) ≡ drop n xs
-rest_whole n xs = grind (arith, common_steps)
 
 front_more : (a b c : Option (List ℕ)) (bytes front rest : List ℕ) (n : ℕ)
     → bytes ≡ front ++ rest → Appends a b front → Appends b c (take n rest)
@@ -16,7 +13,7 @@ front_more a b c bytes front rest n split taken took = (
   front ++ take n rest,
   split ∙ ap (λ t. front ++ t) (sym (take-append-drop n rest))
       ∙ sym (append_assoc front (take n rest) (drop n rest))
-      ∙ ap (λ t. (front ++ take n rest) ++ t) (sym (rest_whole n rest)),
+      ∙ ap (λ t. (front ++ take n rest) ++ t) (sym (take_rest rest n)),
   Appends-trans a b c front (take n rest) taken took,
 )
 

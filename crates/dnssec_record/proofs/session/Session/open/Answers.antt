@@ -1,5 +1,5 @@
-use Rattle.dnssec_record.specs.Script.{IsZoneLine}
-use Rattle.dnssec_record.proofs.Judging.{if_some}
+use Rattle.dnssec_script.specs.Script.{IsZoneLine}
+use Rattle.dnssec_script.proofs.Judging.{if_some}
 use Rattle.dnssec_record.proofs.Sessions.{opened}
 use Rattle.dnssec_record.proofs.session.Session.open.Goals as goal
 

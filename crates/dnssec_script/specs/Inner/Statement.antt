@@ -1,0 +1,52 @@
+-- What the reader makes of a line, and what a recorder has made of that.
+use Rattle.std.specs.Prelude.{◌≡◌, ℕ, List, [], ◌∷◌, ◌++◌, map, false}
+use denote.Bor.{now}
+use Rattle.dnssec_run.specs.declared.call.Call.{Call}
+use Rattle.dnssec_run.specs.declared.record.Entry.{Entry}
+use Rattle.dnssec_run.specs.declared.record.Outcome.{Outcome}
+use Rattle.dnssec_run.specs.declared.running.Recorder.{Recorder}
+use Rattle.dnssec_run.specs.Recorder.{HasSameKeys, Records, TellsOutcome}
+use Rattle.dnssec_script.specs.Script.{Value, References, Roll, Moment, call_says, trait_values}
+use Rattle.dnssec_script.specs.declared.forms.KeyTraits.{KeyTraits}
+use Rattle.dnssec_script.specs.declared.words.Word.{Word}
+use Rattle.dnssec_script.specs.declared.words.Word.TheVariants as word
+use Rattle.dnssec_script.specs.declared.statement.Start.{Start}
+use Rattle.dnssec_script.specs.declared.statement.Statement.{Statement}
+use Rattle.dnssec_script.specs.declared.statement.Statement.TheVariants as statement
+
+-- what an add says of these traits of its key
+abbrev pub traits_say : KeyTraits → List Value
+traits_say t = trait_values t.algorithm t.key_tag t.creation_ts t.available
+
+-- what a start says
+abbrev pub start_says : Start → Word × List Value
+start_says s = (
+  word.Start,
+  Roll s.rolltype ∷ References (map now s.old.items) ∷ References (map now s.new.items)
+      ∷ Moment s.moment ∷ [],
+)
+
+-- what a statement says
+abbrev pub statement_says : Statement → Word × List Value
+statement_says (statement.Call call) = call_says call
+statement_says (statement.Start start) = start_says start
+
+-- a recorder has made a call that says this, and it came to this
+pub record Makes (says : Word × List Value) (old new : Recorder) (outcome : Outcome)
+    : Type 0 where
+  pub call : Call
+  pub is_call : call_says call ≡ says
+  pub records : (name : List ℕ) (calls : List Call) (entries : List Entry) (entry : Entry) →
+      TellsOutcome entry outcome → HasSameKeys entry.published new.published →
+      Records name calls entries old →
+      Records name (calls ++ call ∷ []) (entries ++ entry ∷ []) new
+  pub kept : outcome.may_publish ≡ false → new.published ≡ old.published
+
+-- the same, and this is its entry
+pub record MakesEntry (says : Word × List Value) (old new : Recorder) (entry : Entry)
+    : Type 0 where
+  pub call : Call
+  pub is_call : call_says call ≡ says
+  pub records : (name : List ℕ) (calls : List Call) (entries : List Entry) →
+      Records name calls entries old →
+      Records name (calls ++ call ∷ []) (entries ++ entry ∷ []) new

@@ -1,0 +1,328 @@
+//! The fields of a line of a script: its word, and what each field after it says.
+ghost use Rattle.std.specs.Prelude.{◌≡◌, ◌≤◌, if◌then◌else◌, List, [], length, map, IfOk};
+ghost use Rattle.std.specs.Prelude.{Option, Some, None, is_some, IfSome};
+ghost use denote.Bor.{now};
+ghost use Rattle.std.specs.List.{list_all};
+ghost use Rattle.std.specs.Option.{option_map};
+ghost use Rattle.std.specs.Char.{is_ascii_digit};
+ghost use Rattle.dnssec_base.specs.AlgorithmNames.{algorithm_named};
+ghost use Rattle.dnssec_script.specs.Script.{Value, Reference, Private, References, Flag, Roll};
+ghost use Rattle.dnssec_script.specs.Script.{Number, Moment};
+ghost use Rattle.dnssec_script.specs.Script.{is_reference_byte, is_reference, as_reference};
+ghost use Rattle.dnssec_script.specs.Script.{as_private, as_list, as_yes_no, as_roll, as_number};
+ghost use Rattle.dnssec_script.specs.Script.{as_algorithm, as_tag, as_ttl, as_time};
+ghost use Rattle.dnssec_script.specs.Script.{is_number, number_of, roll_named};
+ghost use Rattle.dnssec_script.specs.Script.{value_at, values_of, first_field, fields_of, word_at};
+
+use crate::parts::{first_part, parts};
+use crate::words::Word;
+use dnssec_base::SecurityAlgorithm;
+use dnssec_keyset::{RollType, UnixTime};
+use std::alloc::{AllocError, Global};
+use std::marker::Model;
+use std::time::Duration;
+
+/// The roll with this name.
+fn roll_named(name: &[u8]) -> Option<RollType>
+    ensures { result ≡ roll_named name.now }
+{
+    match str::from_utf8(name) {
+        Ok(name) => name.parse().ok(),
+        Err(_) => None,
+    }
+}
+
+/// Whether a text may be the reference of a key.
+#[tactic(auto, unfolding(crate::specs::Script::is_reference))]
+fn is_reference(text: &[u8]) -> bool
+    ensures { result ≡ is_reference text.now }
+{
+    !text.is_empty() && text != b"-".as_slice() && are_reference_bytes(text)
+}
+
+/// Whether each byte may stand in a reference.
+fn are_reference_bytes(text: &[u8]) -> bool
+    ensures { result ≡ list_all is_reference_byte text.now }
+{
+    text.iter().all(|byte| is_reference_byte(*byte))
+}
+
+/// Whether the byte is a visible ASCII character, except the comma.
+fn is_reference_byte(byte: u8) -> bool
+    ensures { result ≡ is_reference_byte byte }
+{
+    byte.is_ascii_graphic() && byte != b','
+}
+
+/// A flag, from `yes` or `no`.
+#[tactic(auto, unfolding(crate::specs::Script::as_yes_no))]
+fn yes_no(text: &[u8]) -> Option<bool>
+    ensures { option_map Flag result ≡ as_yes_no text.now }
+{
+    if text == b"yes".as_slice() {
+        Some(true)
+    } else if text == b"no".as_slice() {
+        Some(false)
+    } else {
+        None
+    }
+}
+
+/// Whether each byte is a digit.
+fn are_digits(text: &[u8]) -> bool
+    ensures { result ≡ list_all is_ascii_digit text.now }
+{
+    text.iter().all(|byte| byte.is_ascii_digit())
+}
+
+/// The number that digits write.
+fn number_of(digits: &[u8]) -> u128
+    requires { length digits.now ≤ 20 }
+    ensures { result ≡ number_of digits.now }
+{
+    let mut number = 0;
+    for digit in digits {
+        number = number * 10 + u128::from(digit.saturating_sub(b'0'));
+    }
+    number
+}
+
+/// A number up to `most`.
+#[tactic(auto, unfolding(crate::specs::Script::is_number))]
+fn number(most: u64, text: &[u8]) -> Option<u64>
+    ensures bound { IfSome result (λ n. n ≤ most) }
+    ensures read { result ≡ if is_number most text.now then Some (number_of text.now) else None }
+{
+    if text.is_empty() || text.len() > 20 || !are_digits(text) {
+        return None;
+    }
+    u64::try_from(number_of(text))
+        .ok()
+        .filter(|number| *number <= most)
+}
+
+/// A key's reference.
+#[tactic(auto, unfolding(crate::specs::Script::as_reference))]
+fn reference(text: &[u8]) -> Option<&str>
+    ensures read { option_map (λ q. Reference q.now) result ≡ as_reference text.now }
+    ensures is { is_some result ≡ is_reference text.now }
+    ensures same { IfSome result (λ q. q.now ≡ text.now) }
+{
+    if !is_reference(text) {
+        return None;
+    }
+    // All of them are ASCII.
+    str::from_utf8(text).ok()
+}
+
+/// A private reference, or none from `-`.
+#[tactic(auto, unfolding(crate::specs::Script::as_private, crate::specs::Script::as_reference))]
+fn private(text: &[u8]) -> Option<Option<&str>>
+    ensures { option_map (λ q. Private (option_map now q)) result ≡ as_private text.now }
+{
+    if text == b"-".as_slice() {
+        Some(None)
+    } else {
+        Some(Some(reference(text)?))
+    }
+}
+
+/// The algorithm with this name.
+fn algorithm_named(name: &[u8]) -> Option<SecurityAlgorithm>
+    ensures { result ≡ algorithm_named name.now }
+{
+    match str::from_utf8(name) {
+        Ok(name) => SecurityAlgorithm::from_name(name),
+        Err(_) => None,
+    }
+}
+
+/// An algorithm, by its number or its name.
+#[tactic(auto, unfolding(crate::specs::Script::as_algorithm))]
+fn algorithm(text: &[u8]) -> Option<SecurityAlgorithm>
+    ensures { option_map Number result ≡ as_algorithm text.now }
+{
+    match number(255, text) {
+        Some(number) => Some(SecurityAlgorithm::from_int(number as u8)),
+        None => algorithm_named(text),
+    }
+}
+
+/// The references of a list.
+#[tactic(auto, unfolding(crate::specs::Script::as_list))]
+fn list(alloc: Global, text: &[u8]) -> Result<Option<Vec<&str>>, AllocError>
+    ensures { IfOk result (λ found.
+        option_map (λ v. References (map now v.items)) found ≡ as_list text.now) }
+{
+    if text == b"-".as_slice() {
+        return Ok(Some(Vec::new(alloc)));
+    }
+    let parts = parts(alloc, text, b',')?;
+    references(alloc, &parts)
+}
+
+/// The texts as references, if each is one.
+fn references<'a>(alloc: Global, texts: &[&'a [u8]]) -> Result<Option<Vec<&'a str>>, AllocError>
+    ensures { IfOk result (λ found. option_map (λ v. map now v.items) found
+        ≡ if list_all is_reference (map now texts.now) then Some (map now texts.now) else None) }
+{
+    let mut references = Vec::new(alloc);
+    for text in texts {
+        match reference(text) {
+            Some(reference) => references.push(reference)?,
+            None => return Ok(None),
+        }
+    }
+    Ok(Some(references))
+}
+
+/// The fields of a line that haven't been read yet, each between single spaces.
+#[derive(Drop)]
+pub struct Fields<'a> {
+    rest: Option<&'a [u8]>,
+}
+
+impl<'a> Model for Fields<'a> {
+    ghost use Rattle.std.specs.Prelude.{ℕ, List, []};
+    ghost use Rattle.std.specs.Option.{option_map_or};
+
+    ghost Value = { List (List ℕ) };
+
+    ghost use Rattle.dnssec_script.specs.Script.{fields_of};
+
+    ghost view = { λ fields. option_map_or (λ rest. fields_of rest.now) fields.rest [] };
+}
+
+impl<'a> Fields<'a> {
+    /// The fields of a line.
+    pub fn of(line: &'a [u8]) -> Self
+        ensures { result ≡ fields_of line.now }
+    {
+        Fields { rest: Some(line) }
+    }
+
+    /// The next field, and those after it.
+    pub fn next(self) -> Option<(&'a [u8], Fields<'a>)>
+        ensures { option_map (λ x. (x.0.now, x.1)) result ≡ first_field self.entry }
+    {
+        let rest = self.rest?;
+        let part = first_part(rest, b' ');
+        Some((part.0, Fields { rest: part.1 }))
+    }
+
+    /// Whether no field is left.
+    pub fn end(self) -> Option<()>
+        ensures { option_map (λ _. []) result ≡ values_of [] self.entry }
+    {
+        match self.next() {
+            Some(_) => None,
+            None => Some(()),
+        }
+    }
+
+    /// The next field as a word.
+    pub(crate) fn word(self) -> Option<(Word, Fields<'a>)>
+        ensures { option_map (λ x. (x.0, x.1)) result ≡ word_at self.entry }
+    {
+        let (name, fields) = self.next()?;
+        Some((Word::from_name(name)?, fields))
+    }
+
+    /// The next field as a reference.
+    pub(crate) fn reference(self) -> Option<(&'a str, Fields<'a>)>
+        ensures { option_map (λ x. (Reference x.0.now, x.1)) result
+            ≡ value_at as_reference self.entry }
+    {
+        let (text, fields) = self.next()?;
+        Some((reference(text)?, fields))
+    }
+
+    /// The next field as a private reference, or none.
+    pub(crate) fn private(self) -> Option<(Option<&'a str>, Fields<'a>)>
+        ensures { option_map (λ x. (Private (option_map now x.0), x.1)) result
+            ≡ value_at as_private self.entry }
+    {
+        let (text, fields) = self.next()?;
+        Some((private(text)?, fields))
+    }
+
+    /// The next field as yes or no.
+    pub(crate) fn yes_no(self) -> Option<(bool, Fields<'a>)>
+        ensures { option_map (λ x. (Flag x.0, x.1)) result ≡ value_at as_yes_no self.entry }
+    {
+        let (text, fields) = self.next()?;
+        Some((yes_no(text)?, fields))
+    }
+
+    /// The next field as a roll.
+    #[tactic(auto, unfolding(crate::specs::Script::as_roll))]
+    pub(crate) fn roll(self) -> Option<(RollType, Fields<'a>)>
+        ensures { option_map (λ x. (Roll x.0, x.1)) result ≡ value_at as_roll self.entry }
+    {
+        let (text, fields) = self.next()?;
+        Some((roll_named(text)?, fields))
+    }
+
+    /// The next field as an algorithm.
+    pub(crate) fn algorithm(self) -> Option<(SecurityAlgorithm, Fields<'a>)>
+        ensures { option_map (λ x. (Number x.0, x.1)) result ≡ value_at as_algorithm self.entry }
+    {
+        let (text, fields) = self.next()?;
+        Some((algorithm(text)?, fields))
+    }
+
+    /// The next field as a key tag.
+    pub(crate) fn tag(self) -> Option<(u16, Fields<'a>)>
+        ensures { option_map (λ x. (Number x.0, x.1)) result ≡ value_at as_tag self.entry }
+    {
+        let (number, fields) = self.number(65_535)?;
+        Some((number as u16, fields))
+    }
+
+    /// The next field as a TTL.
+    pub fn ttl(self) -> Option<(u32, Fields<'a>)>
+        ensures { option_map (λ x. (Number x.0, x.1)) result ≡ value_at as_ttl self.entry }
+    {
+        let (number, fields) = self.number(4_294_967_295)?;
+        Some((number as u32, fields))
+    }
+
+    /// The next field as a number up to `most`.
+    #[tactic(auto, unfolding(crate::specs::Script::as_number))]
+    pub fn number(self, most: u64) -> Option<(u64, Fields<'a>)>
+        ensures read { option_map (λ x. (Number x.0, x.1)) result
+            ≡ value_at (as_number most) self.entry }
+        ensures bound { IfSome result (λ x. x.0 ≤ most) }
+    {
+        let (text, fields) = self.next()?;
+        Some((number(most, text)?, fields))
+    }
+
+    /// The next field as a moment.
+    #[tactic(auto, unfolding(crate::specs::Script::as_time))]
+    pub fn time(self) -> Option<(UnixTime, Fields<'a>)>
+        ensures { option_map (λ x. (Moment x.0, x.1)) result ≡ value_at as_time self.entry }
+    {
+        let (text, fields) = self.next()?;
+        let seconds = number(u64::MAX, text)?;
+        Some((UnixTime::from(Duration::from_secs(seconds)), fields))
+    }
+
+    /// The next field as a list of references.
+    pub(crate) fn list(
+        self,
+        alloc: Global,
+    ) -> Result<Option<(Vec<&'a str>, Fields<'a>)>, AllocError>
+        ensures { IfOk result (λ found.
+            option_map (λ x. (References (map now x.0.items), x.1)) found
+            ≡ value_at as_list self.entry) }
+    {
+        match self.next() {
+            None => Ok(None),
+            Some((text, fields)) => match list(alloc, text)? {
+                None => Ok(None),
+                Some(list) => Ok(Some((list, fields))),
+            },
+        }
+    }
+}

@@ -1,0 +1,13 @@
+//! The reader of scripts: from the bytes of a script to the calls that its lines make.
+#![tactic(auto)]
+
+mod fields;
+mod forms;
+mod lines;
+mod parts;
+mod statement;
+mod words;
+
+pub use fields::Fields;
+pub use lines::{Reading, all_lines, read_script, read_zone};
+pub use statement::{Start, Statement, read_line};
