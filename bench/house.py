@@ -99,8 +99,8 @@ def functions(crates):
         written = sum(len(FUNCTION.findall(code(path))) for path in sources(crates, ".rt", "src")
                       if path.is_relative_to(crate))
         logs = sorted(crate.glob("out/*.log"), key=lambda path: path.stat().st_mtime)
-        told = [COUNTED.findall(log.read_text(errors="replace")) for log in logs]
-        counted = next((found[-1] for found in reversed(told) if found), None)
+        counts = [COUNTED.findall(log.read_text(errors="replace")) for log in logs]
+        counted = next((found[-1] for found in reversed(counts) if found), None)
         sizes.append(f"{crate.name} {written}" + (f" (checked {counted})" if counted else ""))
     yield f"functions: {', '.join(sizes)}"
 
@@ -117,18 +117,18 @@ def twins(crates):
             copy.parent.mkdir(parents=True, exist_ok=True)
             copy.write_text(re.sub(r"(?m)^(\s*)-- ", r"\1// ", path.read_text()))
         asked = ["duplicates", "--repo", folder, "--most", "1", "--seconds", "600"]
-        told = subprocess.run(asked, capture_output=True, text=True).stdout.splitlines()
-    yield f"twins: {told[0]}"
-    yield from (line for line in told if line.startswith("incomplete"))
+        found = subprocess.run(asked, capture_output=True, text=True).stdout.splitlines()
+    yield f"twins: {found[0]}"
+    yield from (line for line in found if line.startswith("incomplete"))
 
 
 def entered(program, places, script, folder):
-    """How often each of these places of the program is come to in a run."""
+    """How often a run comes to each of the places of the program."""
     given, asked = folder / "script", folder / "asked"
     given.write_text(script)
-    told = [f"break *{LOADED + place}\nignore {i} 1000000" for i, place in enumerate(places, 1)]
+    breaks = [f"break *{LOADED + place}\nignore {i} 1000000" for i, place in enumerate(places, 1)]
     asked.write_text("\n".join([
-        "set pagination off", f"starti <{given} >/dev/null", *told, "continue", "info breakpoints",
+        "set pagination off", f"starti <{given} >/dev/null", *breaks, "continue", "info breakpoints",
     ]))
     out = subprocess.run(["gdb", "-batch", "-nx", "-x", asked, program], capture_output=True,
                          text=True, env={**os.environ, "ASAN_OPTIONS": "detect_leaks=0"}).stdout

@@ -193,7 +193,7 @@ def text_of(state):
 
 def wait_end(keyset, roll):
     """The second from which on the wait of a roll is over, if it has one. A number that no moment
-    has stands for all of these."""
+    has stands for them all."""
     phase, ttl = keyset.phases.get(roll, (None, 0))
     stamps = keyset.checked(phase, roll) if phase in ("wait1", "wait2") else [None]
     if None in stamps:
