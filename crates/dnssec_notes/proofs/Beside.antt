@@ -6,10 +6,7 @@ use Rattle.std.specs.Prelude.{if◌then◌else◌, nat_lt}
 use Rattle.std.proofs.lemmas.List.{map-append}
 use Rattle.std.proofs.lemmas.Bool.{true≢false}
 use Rattle.std.proofs.lemmas.Option.{none-some, same_Some}
-use Rattle.dnssec_key.specs.declared.roll.RollType.{RollType}
 use Rattle.dnssec_keyset.specs.KeySet.{KeySetParts}
-use Rattle.dnssec_zone.specs.Rolls.{Rolls}
-use Rattle.dnssec_network.specs.declared.fact.Before.{Before}
 use Rattle.dnssec_network.specs.declared.fact.Fact.{Fact}
 use Rattle.dnssec_network.specs.declared.fact.News.{News}
 use Rattle.dnssec_network.specs.declared.fact.News.TheVariants.{Published, Everywhere}
@@ -17,12 +14,10 @@ use Rattle.dnssec_network.specs.declared.fact.NoteFault.{NoteFault}
 use Rattle.dnssec_network.specs.declared.fact.NoteFault.TheVariants.{CallNotMade}
 use Rattle.dnssec_network.specs.declared.progress.Newest.{Newest}
 use Rattle.dnssec_network.specs.Notes.{NotesParts, fall, newest_of, news_refusal, progress_of}
-use Rattle.dnssec_network.specs.Notes.{refusal}
 use Rattle.dnssec_run.specs.declared.call.Call.{Call}
 use Rattle.dnssec_run.specs.declared.record.Entry.{Entry}
 use Rattle.dnssec_run.specs.declared.steps.Steps.{Steps}
 use Rattle.dnssec_run.specs.Record.{world_at}
-use Rattle.dnssec_run.specs.Safe.{base_below}
 use Rattle.dnssec_run.specs.Steps.{AreStepsOf, step_of}
 use Rattle.dnssec_record.specs.Session.{Stands, StandsAfter}
 use Rattle.dnssec_record.specs.declared.session.Session.{Session}

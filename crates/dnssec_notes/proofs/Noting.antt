@@ -1,6 +1,6 @@
 -- Notes, line by line: what is noted after one more line.
 use Rattle.std.proofs.Common.{◌≡◌, ℕ, ◌+◌, ◌<◌, ◌≤◌, ◌++◌, List, [], ◌∷◌, Bor, map, length, take}
-use Rattle.std.proofs.Common.{arith, inl, inr, Result, Ok, Err}
+use Rattle.std.proofs.Common.{arith, inr, Result, Ok, Err}
 use Rattle.std.specs.Option.{option_map}
 use Rattle.std.specs.Prelude.{IfOk, IfErr}
 use Rattle.std.proofs.Common.{Option, None, Some, sym, ◌∙◌, ap, subst, refl}

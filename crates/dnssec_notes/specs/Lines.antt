@@ -1,6 +1,6 @@
 -- The lines of notes: what a line says, and which bytes are notes.
-use Rattle.std.specs.Prelude.{◌≡◌, ℕ, ◌+◌, Bool, if◌then◌else◌, List, [], ◌∷◌, map, length, take}
-use Rattle.std.specs.Prelude.{codes, Option, None, Some, option_and_then, slice_get}
+use Rattle.std.specs.Prelude.{ℕ, if◌then◌else◌, List, [], ◌∷◌}
+use Rattle.std.specs.Prelude.{codes, Option, None, Some, option_and_then}
 use Rattle.std.specs.Option.{option_map}
 use Rattle.std.specs.Str.{bytes_eq}
 use Rattle.dnssec_run.specs.declared.caches.SetKind.{SetKind}
@@ -9,7 +9,6 @@ use Rattle.dnssec_network.specs.declared.fact.Before.{Before}
 use Rattle.dnssec_network.specs.declared.fact.Fact.{Fact}
 use Rattle.dnssec_network.specs.declared.fact.News.{News}
 use Rattle.dnssec_network.specs.declared.fact.News.TheVariants as news
-use Rattle.dnssec_network.specs.Notes.{refusal}
 use Rattle.dnssec_script.specs.Script.{Form, Value, Number, Moment, as_number, as_time, as_ttl}
 use Rattle.dnssec_script.specs.Script.{fields_of, first_field, values_of}
 use Rattle.dnssec_notes.specs.declared.line.Word.{Word}

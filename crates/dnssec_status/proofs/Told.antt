@@ -1,9 +1,8 @@
 -- The text that was written is the status.
-use Rattle.std.proofs.Common.{◌≡◌, ◌∙◌, ℕ, List, [], ◌∷◌, ◌++◌, map, length, refl, sym, ap, subst}
-use Rattle.std.proofs.Common.{Option, Bor, String, append_assoc}
+use Rattle.std.proofs.Common.{◌≡◌, ◌∙◌, ℕ, List, [], ◌∷◌, ◌++◌, map, length, refl, ap, subst}
+use Rattle.std.proofs.Common.{Option, Bor, String}
 use Rattle.std.specs.Prelude.{codes}
 use Rattle.std.specs.FinMap as fin
-use Rattle.std.specs.List.{flat_map}
 use Rattle.dnssec_base.specs.NameText.{name_text}
 use Rattle.dnssec_key.specs.declared.roll.RollType.{RollType}
 use Rattle.dnssec_key.specs.Key.{KeyParts}

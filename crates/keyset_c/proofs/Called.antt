@@ -1,5 +1,5 @@
 -- A session that is kept after a call stands after one line more.
-use Rattle.std.proofs.Common.{◌≡◌, ℕ, List, Option, Some, ap, refl, string_bytes, subst, sym, ◌∙◌}
+use Rattle.std.proofs.Common.{◌≡◌, ℕ, List, Option, Some, ap, string_bytes, subst, sym, ◌∙◌}
 use Rattle.dnssec_run.specs.declared.record.Entry.{Entry}
 use Rattle.dnssec_record.specs.Session.{GoesOn, Stands}
 use Rattle.keyset_c.specs.Sessions.{Calls}

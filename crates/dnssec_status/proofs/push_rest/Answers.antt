@@ -1,11 +1,11 @@
 -- Piece by piece.
-use Rattle.std.proofs.Common.{◌≡◌, ◌++◌, ◌∙◌, ℕ, List, sym, decimal, map}
-use Rattle.std.specs.Prelude.{codes, string_bytes}
+use Rattle.std.proofs.Common.{◌++◌, ℕ, List, map}
+use Rattle.std.specs.Prelude.{codes}
 use Rattle.dnssec_record.specs.Courses.{as_listed}
 use Rattle.dnssec_status.specs.Inner.Entries.{entry_json}
 use Rattle.dnssec_status.specs.Json.{array_json}
 use Rattle.dnssec_status.specs.Rolls.{ended_json, going_json}
-use Rattle.dnssec_status.proofs.Chains.{more, more_as, on_ok}
+use Rattle.dnssec_status.proofs.Chains.{more, on_ok}
 use Rattle.dnssec_status.proofs.push_rest.Goals as goal
 
 pub returns : goal.returns

@@ -1,5 +1,5 @@
 -- Piece by piece.
-use Rattle.std.proofs.Common.{◌≡◌, ◌++◌, ◌∙◌, ℕ, List, sym, decimal, map}
+use Rattle.std.proofs.Common.{◌++◌, ℕ, List}
 use Rattle.std.specs.Prelude.{codes, string_bytes}
 use Rattle.dnssec_status.specs.Json.{text_json}
 use Rattle.dnssec_status.specs.Sets.{chain_json, sets_json}

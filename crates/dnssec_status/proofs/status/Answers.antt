@@ -1,5 +1,5 @@
 -- What was written in two parts is the status.
-use Rattle.std.proofs.Common.{◌≡◌, ◌++◌, ◌∙◌, ap, List, map, subst, sym, string_bytes}
+use Rattle.std.proofs.Common.{◌∙◌, ap, List, map, subst, sym, string_bytes}
 use Rattle.std.specs.FinMap as fin
 use Rattle.dnssec_base.specs.NameText.{name_text}
 use Rattle.dnssec_keyset.specs.KeySet.{KeySetParts}

@@ -1,5 +1,5 @@
 -- The session that is kept after a call stands after one more line.
-use Rattle.std.proofs.Common.{◌≡◌, ◌≢◌, arith, refl, string_bytes, subst, sym}
+use Rattle.std.proofs.Common.{◌≢◌, arith, refl, string_bytes, subst, sym}
 use Rattle.dnssec_record.specs.Session.{Takes}
 use Rattle.keyset_c.specs.declared.kept.Kept.{Kept}
 use Rattle.keyset_c.proofs.Called.{called}

@@ -1,5 +1,5 @@
 -- What is kept has been opened with the line.
-use Rattle.std.proofs.Common.{◌≡◌, ap, subst, sym, ◌∙◌, List, ℕ, [], ◌∷◌, Some}
+use Rattle.std.proofs.Common.{ap, subst, sym, ◌∙◌, [], ◌∷◌}
 use Rattle.dnssec_record.specs.Session.{Stands}
 use Rattle.keyset_c.specs.declared.kept.Kept.{Kept}
 use Rattle.keyset_c.proofs.keyset_open.Goals as goal

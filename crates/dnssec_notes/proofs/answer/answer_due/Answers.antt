@@ -1,5 +1,5 @@
 -- The lines are due after the run of the script.
-use Rattle.std.proofs.Common.{◌≡◌, ℕ, suc, sym, ap, ◌∙◌, arith, length, List, subst}
+use Rattle.std.proofs.Common.{◌≡◌, suc, ap, ◌∙◌, arith, length, List, subst}
 use Rattle.std.specs.Prelude.{vec_len}
 use Rattle.dnssec_keyset.specs.KeySet.{KeySetParts}
 use Rattle.dnssec_run.specs.declared.record.Entry.{Entry}

@@ -1,10 +1,7 @@
 -- Each turn notes the fact of one line.
-use Rattle.std.proofs.Common.{◌∙◌, ap, subst, map, length, sym}
-use denote.Bor.{now}
-use Rattle.std.proofs.lemmas.List.{length-map, take_all}
+use Rattle.std.proofs.Common.{◌∙◌, ap}
 use Rattle.std.proofs.lemmas.Result.{err_from_is_err_and}
 use Rattle.dnssec_network.specs.Notes.{NotesParts}
-use Rattle.dnssec_notes.specs.Reading.{AreFacts}
 use Rattle.dnssec_notes.proofs.Noting.{all_lines, before-stays, facts-more, fault-here, no_facts}
 use Rattle.dnssec_notes.proofs.reading.read_facts.Goals as goal
 

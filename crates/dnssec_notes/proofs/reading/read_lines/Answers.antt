@@ -1,6 +1,5 @@
 -- The first line, and the others.
-use Rattle.std.proofs.Common.{◌≡◌, sym, ap, ◌∙◌, map, subst, refl, inl, inr}
-use denote.Bor.{now}
+use Rattle.std.proofs.Common.{sym, subst, refl, inl}
 use Rattle.dnssec_script.specs.Script.{lines_of}
 use Rattle.dnssec_notes.specs.Reading.{IsFaultOf}
 use Rattle.dnssec_notes.specs.declared.fault.NotesFault.TheVariants.{Malformed}

@@ -1,6 +1,6 @@
 -- A walk over the map lends its entries, and sorting them leaves them the same.
-use Rattle.std.proofs.Common.{◌≡◌, ◌++◌, ◌∷◌, ◌∙◌, ℕ, List, [], map, Some, sym, ap, subst, refl}
-use Rattle.std.proofs.Common.{Bool, Bor, String, string_bytes, rules}
+use Rattle.std.proofs.Common.{◌≡◌, ◌++◌, ◌∷◌, ◌∙◌, ℕ, List, [], map, sym, ap, subst, refl}
+use Rattle.std.proofs.Common.{Bor, String, string_bytes, rules}
 use Rattle.std.specs.FinMap as fin
 use Rattle.std.specs.FinMap.{entries_sorted}
 use Rattle.std.specs.Global.{Global}

@@ -1,5 +1,5 @@
 -- Piece by piece.
-use Rattle.std.proofs.Common.{◌≡◌, ◌++◌, ◌∙◌, ℕ, List, sym, decimal, map}
+use Rattle.std.proofs.Common.{◌++◌, ℕ, List, map}
 use Rattle.std.specs.Prelude.{codes, string_bytes}
 use Rattle.dnssec_key.specs.Key.{all_states}
 use Rattle.dnssec_key.specs.State.{is_fresh, is_stale}

@@ -1,6 +1,6 @@
 -- Piece by piece.
-use Rattle.std.proofs.Common.{◌≡◌, ◌++◌, ◌∙◌, ℕ, List, sym, decimal, map}
-use Rattle.std.specs.Prelude.{codes, string_bytes}
+use Rattle.std.proofs.Common.{◌++◌, ◌∙◌, ℕ, List, decimal}
+use Rattle.std.specs.Prelude.{codes}
 use Rattle.dnssec_status.specs.Keys.{traits_json}
 use Rattle.dnssec_status.specs.Json.{option_json, text_json, flag_json}
 use Rattle.dnssec_status.proofs.Chains.{more, more_as, on_ok}

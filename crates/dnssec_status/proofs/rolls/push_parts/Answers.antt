@@ -1,10 +1,10 @@
 -- Piece by piece.
-use Rattle.std.proofs.Common.{◌≡◌, ◌++◌, ◌∙◌, ℕ, List, sym, decimal, map}
-use Rattle.std.specs.Prelude.{codes, string_bytes}
+use Rattle.std.proofs.Common.{◌++◌, ℕ, List}
+use Rattle.std.specs.Prelude.{codes}
 use Rattle.dnssec_status.specs.Rolls.{end_json, parts_json, phase_json, waits_for}
 use Rattle.dnssec_status.specs.Json.{array_json}
 use Rattle.dnssec_status.specs.Names.{action_json, roll_json}
-use Rattle.dnssec_status.proofs.Chains.{more, more_as, on_ok}
+use Rattle.dnssec_status.proofs.Chains.{more, on_ok}
 use Rattle.dnssec_status.proofs.rolls.push_parts.Goals as goal
 
 pub returns : goal.returns

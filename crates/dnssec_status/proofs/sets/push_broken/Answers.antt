@@ -1,8 +1,8 @@
 -- Piece by piece.
-use Rattle.std.proofs.Common.{◌≡◌, ◌++◌, ◌∙◌, ℕ, List, sym, decimal, map}
-use Rattle.std.specs.Prelude.{codes, string_bytes}
+use Rattle.std.proofs.Common.{◌++◌, ℕ, List, decimal}
+use Rattle.std.specs.Prelude.{codes}
 use Rattle.dnssec_status.specs.Sets.{chain_json}
-use Rattle.dnssec_status.proofs.Chains.{more, more_as, on_ok}
+use Rattle.dnssec_status.proofs.Chains.{more, on_ok}
 use Rattle.dnssec_status.proofs.sets.push_broken.Goals as goal
 
 pub returns : goal.returns

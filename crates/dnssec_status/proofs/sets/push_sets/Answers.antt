@@ -1,6 +1,6 @@
 -- Piece by piece.
-use Rattle.std.proofs.Common.{◌≡◌, ◌++◌, ◌∙◌, ℕ, List, sym, decimal, map}
-use Rattle.std.specs.Prelude.{codes, string_bytes}
+use Rattle.std.proofs.Common.{◌++◌, ℕ, List}
+use Rattle.std.specs.Prelude.{codes}
 use Rattle.dnssec_status.specs.Sets.{sets_json, published_json}
 use Rattle.dnssec_status.specs.Json.{array_json}
 use Rattle.dnssec_status.proofs.Chains.{more, more_as, on_ok}

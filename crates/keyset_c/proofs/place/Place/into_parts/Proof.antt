@@ -3,11 +3,10 @@ use Rattle.std.proofs.Common.{◌≡◌, List, [], ◌∷◌, ◌++◌, IsSome, 
 use mir.Syntax.{Fn}
 use mir.Val.{Val, vptr}
 use base.Logic.{SProp, emp}
-use base.Fml.{ftrue}
 use prog.Wp.{WpFn}
 use contract.Monad.{fact, fact_i}
 use contract.Running.{tables}
-use types.Kit.{‵, raw, ◌⊛◌, prop, ◌$◌, ◌∵◌, !, qed, by, move, keep, drop, use0, split, regoal}
+use types.Kit.{‵, raw, ◌⊛◌, prop, ◌$◌, ◌∵◌, !, qed, by, move, keep, use0, split, regoal}
 use types.Kit.{fsplit, fjoin}
 use types.Part.{whole, sub, agg}
 use types.Run.{stop, fld, of_opd, no_more, and_then, returns, enter}
@@ -21,7 +20,7 @@ use denote.Triple.Entry.{alive}
 use denote.Triple.Walked.{Stays, stay_dropped, walk_of}
 use Rattle.std.proofs.alloc.Calls.{Goes-blank, handle_tells}
 use Rattle.std.proofs.raw_atomic.Walks.{proved_at, leaves}
-use Rattle.keyset_c.proofs.Values.{some_is, R, Z, al, Open, Shut, both, one, both_good, shut_out}
+use Rattle.keyset_c.proofs.Values.{some_is, Z, al, Shut, both, one, both_good, shut_out}
 use Rattle.keyset_c.proofs.Values.{open_in}
 use Rattle.keyset_c.specs.contracts.place.Place.into_parts.{ended, clauses}
 use Rattle.keyset_c.specs.contracts.place.Place.into_parts.Key.{name as #self}

@@ -1,28 +1,23 @@
 -- `none` keeps nothing, and its pointer is null.
-use Rattle.std.proofs.Common.{◌≡◌, List, [], ◌∷◌, ◌++◌, None, Option, refl, lit<}
+use Rattle.std.proofs.Common.{◌≡◌, [], ◌∷◌, None, Option, refl, lit<}
 use mir.Syntax.{Fn}
-use mir.Val.{Val, vptr}
+use mir.Val.{Val}
 use base.Logic.{SProp, emp}
 use base.Fml.{ftrue}
-use prog.Wp.{WpFn}
 use contract.Monad.{fact, fact_i}
 use contract.Running.{tables}
-use types.Kit.{‵, raw, ◌⊛◌, prop, ◌$◌, ◌∵◌, !, qed, by, move, keep, drop, use0, split, regoal}
-use types.Kit.{fsplit, fjoin}
-use types.Part.{whole, sub, agg}
-use types.Run.{stop, fld, of_opd, lit, no_more, and_then, returns, enter}
-use types.ByLocal.{alloc_all, pass_all, free_all, look_at, get, get_in, sets}
-use denote.Exit.{yes}
+use types.Kit.{‵, raw, ◌⊛◌, ◌$◌, ◌∵◌, !, qed, by, move, keep, drop, use0, split}
+use types.Part.{agg}
+use types.Run.{lit, no_more, and_then, returns, enter}
+use types.ByLocal.{alloc_all, pass_all, free_all, look_at, sets}
 use denote.RattleType.{owns}
-use denote.RawPtr.{block_ptr}
-use denote.Signature.{types_at, plain}
+use denote.Signature.{types_at}
 use denote.Steps.{nothing}
 use denote.Triple.Entry.{alive}
-use denote.Triple.Walked.{Stays, stay_dropped, walk_of}
-use Rattle.std.proofs.alloc.Calls.{Goes-blank, handle_tells}
+use denote.Triple.Walked.{walk_of}
 use Rattle.std.proofs.raw_atomic.Walks.{proved_at, leaves}
 use denote.RawPtr.{null_ptr, ptr_val}
-use Rattle.keyset_c.proofs.Values.{R, Shut, one, none_in}
+use Rattle.keyset_c.proofs.Values.{R, one, none_in}
 use Rattle.keyset_c.specs.contracts.place.Place.none.{ended, clauses}
 use Rattle.keyset_c.specs.contracts.place.Place.none.Key.{name as #self}
 use Rattle.keyset_c.proofs.place.Place.none.Statement.{statement}

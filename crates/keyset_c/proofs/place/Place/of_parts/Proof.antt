@@ -19,9 +19,9 @@ use denote.Signature.{types_at, plain}
 use denote.Steps.{nothing}
 use denote.Triple.Entry.{alive}
 use denote.Triple.Walked.{Stays, stay_dropped, walk_of}
-use Rattle.std.proofs.alloc.Calls.{Goes-blank, handle_tells}
+use Rattle.std.proofs.alloc.Calls.{Goes-blank}
 use Rattle.std.proofs.raw_atomic.Walks.{proved_at, leaves}
-use Rattle.keyset_c.proofs.Values.{R, Open, Shut, both, one, both_good, open_out, shut_in}
+use Rattle.keyset_c.proofs.Values.{Open, both, one, both_good, open_out, shut_in}
 use Rattle.keyset_c.specs.contracts.place.Place.of_parts.{ended, clauses}
 use Rattle.keyset_c.specs.contracts.place.Place.of_parts.Key.{name as #self}
 use Rattle.keyset_c.proofs.place.Place.of_parts.Statement.{statement}
