@@ -128,7 +128,8 @@ def entered(program, places, script, folder):
     given.write_text(script)
     breaks = [f"break *{LOADED + place}\nignore {i} 1000000" for i, place in enumerate(places, 1)]
     asked.write_text("\n".join([
-        "set pagination off", f"starti <{given} >/dev/null", *breaks, "continue", "info breakpoints",
+        "set pagination off", f"starti <{given} >/dev/null", *breaks, "continue",
+        "info breakpoints",
     ]))
     out = subprocess.run(["gdb", "-batch", "-nx", "-x", asked, program], capture_output=True,
                          text=True, env={**os.environ, "ASAN_OPTIONS": "detect_leaks=0"}).stdout
