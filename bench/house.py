@@ -3,7 +3,7 @@
     python3 bench/house.py [--top FOLDER] [--start PROGRAM]
 
 - Matches over rolls: each `match` and `matches!` of the product's code in whose own patterns two or
-  more of the six kinds of rolls stand, by file; then those in whose patterns one kind stands.
+  more kinds of rolls stand, by file; then those in whose patterns one kind stands.
 - Lines of proofs: of the `.antt` files in `proofs/`, with and without their imports; and the rows
   that end with `= refl`.
 - Functions of a crate: the `fn` of its `src/`, and those that the last kept log of a check of it
@@ -26,14 +26,13 @@ import tempfile
 from collections import Counter
 from pathlib import Path
 
-KINDS = "KskRoll KskDoubleDsRoll ZskRoll ZskDoubleSignatureRoll CskRoll AlgorithmRoll".split()
 # They belong to the gate, and not to the product.
 GATE = {"callers", "courses", "dnssec_tests", "memory_of_calls"}
 
 COMMENT_OR_TEXT = re.compile(r'//[^\n]*|"(?:\\.|[^"\\])*"', re.DOTALL)
 FUNCTION = re.compile(r"\bfn\s+\w+")
 MATCH = re.compile(r"\bmatch\b[^{};]*\{|\bmatches!\(")
-KIND = re.compile(r"\b(?:%s)\b" % "|".join(KINDS))
+ROLLS = re.compile(r"\benum RollType \{(.*?)\n\}", re.DOTALL)
 COUNTED = re.compile(r"\bfunctions=(\d+)")
 
 SCRIPT = """\
@@ -73,12 +72,14 @@ def patterns(text, begin):
 
 
 def rolls(crates):
+    listed = ROLLS.search(code(crates / "dnssec_key/src/roll.rt"))[1]
+    kind = re.compile(r"\b(?:%s)\b" % "|".join(re.findall(r"\w+", listed)))
     several, one = Counter(), 0
     for path in sources(crates, ".rt", "src"):
         if path.relative_to(crates).parts[0] not in GATE:
             text = code(path)
             for match in MATCH.finditer(text):
-                kinds = set(KIND.findall(" ".join(patterns(text, match.end() - 1))))
+                kinds = set(kind.findall(" ".join(patterns(text, match.end() - 1))))
                 several[str(path.relative_to(crates))] += len(kinds) > 1
                 one += len(kinds) == 1
     places = ", ".join(f"{path} {count}" for path, count in several.items() if count)

@@ -5,13 +5,13 @@
    in, and its answer comes out. A call costs no more if many calls came before it. docs/CALLERS.md
    is the page for callers, and docs/SCRIPTS.md has the form of scripts and of answers.
 
-   Who owns what: all buffers are the caller's. The library reads and writes them while it is called,
-   and keeps no pointer. What it allocates it frees before it returns, except what a session keeps
-   until `keyset_close`.
+   Who owns what: all buffers are the caller's. The library reads and writes them while it is
+   called, and keeps no pointer. What it allocates it frees before it returns, except what a session
+   keeps until `keyset_close`.
 
    Reentrant: it has no data of its own, takes no lock, opens no file and reads no clock, so threads
-   may call it side by side, each with sessions and an `out` of its own. It calls malloc, realloc and
-   free, and so is not for signal handlers, nor for the forked child of a process with threads.
+   may call it side by side, each with sessions and an `out` of its own. It calls malloc, realloc
+   and free, and so is not for signal handlers, nor for the forked child of a process with threads.
 
    Links against the C library, and nothing else: `cc caller.c -lkeyset`.
 
@@ -112,12 +112,12 @@ struct keyset_answered keyset_call(struct keyset_session *session, const uint8_t
                                    size_t line_length, uint8_t *out, size_t out_length);
 
 /* These write into the front of `out`, and leave the session as it was (same), whatever the status:
-   answered (told, fits, rest), short (short), out of memory, closed (closed). Unless it was answered,
-   `out` is as it was (silent).
+   answered (told, fits, rest), short (short), out of memory, closed (closed). Unless it was
+   answered, `out` is as it was (silent).
 
    keyset_told     the answer to the last line again; before the first one nothing
-   keyset_closing  the last two lines of the answers to all lines so far: the published sets, and the
-                   verdict on the record
+   keyset_closing  the last two lines of the answers to all lines so far: the published sets, and
+                   the verdict on the record
    keyset_status   the status of the zone: one line of JSON, in the form that docs/STATUS.md has */
 struct keyset_answered keyset_told(struct keyset_session *session, uint8_t *out,
                                    size_t out_length);
@@ -126,9 +126,9 @@ struct keyset_answered keyset_closing(struct keyset_session *session, uint8_t *o
 struct keyset_answered keyset_status(struct keyset_session *session, uint8_t *out,
                                      size_t out_length);
 
-/* Takes the next line of the zone's notes, after the calls that the session has made so far: what is
-   published, with which TTL, and when all servers gave it. docs/NOTES.md has the form of the lines.
-   Notes stay when the session makes more calls (notes_outlast_calls).
+/* Takes the next line of the zone's notes, after the calls that the session has made so far: what
+   is published, with which TTL, and when all servers gave it. docs/NOTES.md has the form of the
+   lines. Notes stay when the session makes more calls (notes_outlast_calls).
 
    answered       the line is taken (noted)
    malformed      it is no line of notes; the first one begins with `before`
@@ -137,20 +137,20 @@ struct keyset_answered keyset_status(struct keyset_session *session, uint8_t *ou
    out of memory  asking again may help
    closed         the session is closed (closed)
 
-   Unless it is answered, the session and its notes are as they were (unchanged), and the status says
-   why (refused). */
+   Unless it is answered, the session and its notes are as they were (unchanged), and the status
+   says why (refused). */
 uint32_t keyset_note(struct keyset_session *session, const uint8_t *line, size_t line_length);
 
-/* Writes the reports that the rolls wait for, as they would be made at this second since 1970: a line
-   for each, in the form that docs/NOTES.md has. They are those that the program keyset_notes answers
-   for the lines of the session and of its notes (told). A session without notes is malformed
-   (no_notes). Else it is as the three functions above. */
+/* Writes the reports that the rolls wait for, as they would be made at this second since 1970: a
+   line for each, in the form that docs/NOTES.md has. They are those that the program keyset_notes
+   answers for the lines of the session and of its notes (told). A session without notes is
+   malformed (no_notes). Else it is as the three functions above. */
 struct keyset_answered keyset_due(struct keyset_session *session, uint64_t seconds, uint8_t *out,
                                   size_t out_length);
 
-/* Opens another session after the same calls, with the same last answer and the same notes (copied).
-   So you can try a call on it. The first session stays as it is (same). Each may go to a thread of
-   its own.
+/* Opens another session after the same calls, with the same last answer and the same notes
+   (copied). So you can try a call on it. The first session stays as it is (same). Each may go to
+   a thread of its own.
 
    answered       the other session is open
    out of memory  asking again may help

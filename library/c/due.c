@@ -1,5 +1,6 @@
-/* Says which reports are due by notes, as the program keyset_notes does: it reads a script, an empty
-   line, and the notes, with lines `due SECOND` among them. A session takes each line as it comes.
+/* Says which reports are due by notes, as the program keyset_notes does: it reads a script, an
+   empty line, and the notes, with lines `due SECOND` among them. A session takes each line as it
+   comes.
 
        cc -o due due.c $(pkg-config --cflags --libs keyset)
        ./due <../../crates/keyset_notes/stdin */

@@ -119,9 +119,9 @@ class Published:
 
 @dataclass(frozen=True)
 class Due:
-    """A report that a roll waits for: `report1` or `report2`, and the TTL to report. If it isn't due
-    yet, it has no TTL, but the first kind whose older sets servers may still give: `ds`, `dnskey` or
-    `zone`."""
+    """A report that a roll waits for: `report1` or `report2`, and the TTL to report. If it isn't
+    due yet, it has no TTL, but the first kind whose older sets servers may still give: `ds`,
+    `dnskey` or `zone`."""
 
     call: str
     roll: RollType

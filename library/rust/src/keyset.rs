@@ -36,8 +36,8 @@ impl NewKey {
 
 /// The keys of one zone.
 ///
-/// An error leaves it as it was. Moments are whole seconds since 1970: round that of a report up, and
-/// make the call once the clock has reached it; round any other down.
+/// An error leaves it as it was. Moments are whole seconds since 1970: round that of a report up,
+/// and make the call once the clock has reached it; round any other down.
 #[derive(Debug)]
 pub struct KeySet {
     session: Session,
@@ -89,7 +89,7 @@ impl KeySet {
         })
     }
 
-    /// Lines of the script that were refused when it was opened, with the reason: they are left out.
+    /// Lines that were refused when the script was opened, with the reason: they are left out.
     pub fn refused(&self) -> &[(usize, String)] {
         &self.refused
     }
@@ -232,8 +232,8 @@ impl KeySet {
         ))
     }
 
-    /// Reports that what the start changed has spread, and that caches may hold older data for `ttl`
-    /// seconds.
+    /// Reports that what the start changed has spread, and that caches may hold older data for
+    /// `ttl` seconds.
     pub fn propagation1_complete(
         &mut self,
         roll: RollType,
@@ -274,8 +274,8 @@ impl KeySet {
     }
 
     /// Takes the next line of the zone's notes. They are kept in memory only: keep their lines in a
-    /// file of your own, each before you go on, and hand them in again after you have opened the key
-    /// set.
+    /// file of your own, each before you go on, and hand them in again after you have opened the
+    /// key set.
     pub fn note(&mut self, note: Note) -> Result<(), Error> {
         self.session.note(&note.to_string())
     }

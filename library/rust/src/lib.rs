@@ -8,7 +8,10 @@
 //!
 //! fn main() -> Result<(), Error> {
 //!     let mut keys = KeySet::create("example.com.script", "example.com")?;
-//!     let made = |key_tag| NewKey { algorithm: Algorithm(13), key_tag, creation: 0, available: true };
+//!     let made = |key_tag| {
+//!         let algorithm = Algorithm(13);
+//!         NewKey { algorithm, key_tag, creation: 0, available: true }
+//!     };
 //!     keys.add_key_ksk("K1", None, made(1))?;
 //!     keys.add_key_zsk("Z1", None, made(2))?;
 //!     for action in keys.start_roll(RollType::AlgorithmRoll, &[], &["K1", "Z1"], 100)? {

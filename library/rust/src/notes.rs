@@ -19,16 +19,16 @@ pub enum Note {
     /// that there is none.
     Before { ds: u32, dnskey: u32, zone: u32 },
     /// From this moment on servers may give a version that has the sets after the call of this
-    /// number, counted from 1, and no higher TTL. Round the moment down, and note it before a server
-    /// gets the version.
+    /// number, counted from 1, and no higher TTL. Round the moment down, and note it before a
+    /// server gets the version.
     Published {
         kind: SetKind,
         call: usize,
         ttl: u32,
         moment: u64,
     },
-    /// At this moment all servers gave the version that was published last. Round it up, and note it
-    /// once the clock has reached it.
+    /// At this moment all servers gave the version that was published last. Round it up, and note
+    /// it once the clock has reached it.
     Everywhere { kind: SetKind, moment: u64 },
 }
 
