@@ -521,8 +521,8 @@ int main(int argc, char **argv)
     for (size_t i = 0; i < scripts; i += scripts / THREADS)
         play_copies_beside(&stored[i]);
 
-    printf("%zu scripts in sessions, %zu lines, %zu requests failed in turn, %zu of these closed a"
-           " session, %zu more of questions and copies, %d threads\n",
+    printf("%zu scripts in sessions, %zu lines, %zu requests failed in turn, %zu close a session,"
+           " %zu more of questions and copies, %d threads\n",
            scripts, lines, failed, closed, asked, THREADS);
     free(stored);
     return EXIT_SUCCESS;
