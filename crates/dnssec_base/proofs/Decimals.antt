@@ -4,8 +4,7 @@ use Rattle.std.proofs.Common.{false, List, [], ◌∷◌, ◌++◌, append-nil, 
 use Rattle.std.proofs.Common.{arith}
 use Rattle.std.proofs.Math.Nat.{mul-add-div_right, lt-div-mul-add, mod-eq_of_lt, mod-lt}
 use Rattle.std.proofs.Math.Nat.{div-lt_iff_lt-mul, pow-suc}
-use Rattle.std.proofs.lemmas.Bool.{cases_lt, ne_eqb}
-use Rattle.std.proofs.lemmas.Nat.{div-add-mod'}
+use Rattle.std.proofs.lemmas.{Bool.cases_lt, Bool.ne_eqb, Nat.div-add-mod'}
 use Rattle.std.specs.List.{list_all}
 use Rattle.dnssec_base.specs.ErrorTexts.{in_table, last_digits, without_end_zeros}
 use Rattle.dnssec_base.specs.declared.text.TimeUnit.{TimeUnit}

@@ -1,201 +1,203 @@
--- No fault stands before the place that the reader has come to: for the first fault in `from_str`.
-use Rattle.std.proofs.Common.{ℕ, ◌≡◌, ◌≢◌, ◌+◌, ◌-◌, ◌<◌, ◌≤◌, refl, sym, ap, subst, ◌∙◌, ⊎_elim}
-use Rattle.std.proofs.Common.{List, [], ◌∷◌, ◌++◌, length, length-append, arith}
-use Rattle.dnssec_base.specs.WireName.{wire_label}
-use Rattle.dnssec_base.specs.NameText.{IsSymbol, plain, escaped, decimal, dot, IsFault}
-use Rattle.dnssec_base.specs.NameText.{BeginsWithSymbol, BeginsWith, IsVisible}
-use Rattle.dnssec_base.specs.NameText.{Place, StandsFirst, HasNoFault, root_text}
-use Rattle.dnssec_base.specs.declared.name.error.NameError.{NameError}
+-- Which fault a place may have, and that none stands before the place that the reader has come to:
+-- for the first fault in `from_str` and the laws.
+use Rattle.std.proofs.Common.{ℕ, ◌≡◌, ◌≢◌, ◌⊎◌, ◌+◌, ◌-◌, ◌<◌, ◌≤◌, refl, sym, ap, subst, ◌∙◌, inl}
+use Rattle.std.proofs.Common.{inr, ⊎_elim, List, [], ◌∷◌, ◌++◌, length, length-append, arith}
+use Rattle.std.proofs.Common.{Option, Some, None, if◌then◌else◌, ◌==◌}
+use Rattle.std.proofs.lemmas.Bool.{cases_eq, ne_eqb, Decides.nat_tests}
+use Rattle.dnssec_base.specs.NameText.{dot, backslash, IsFault, BeginsWithSymbol, Place, root_text}
+use Rattle.dnssec_base.specs.NameText.{at_start, after_symbol, after_dot, Stands, StandsFirst}
+use Rattle.dnssec_base.specs.NameText.{HasNoFault}
 use Rattle.dnssec_base.specs.declared.name.error.NameError.TheVariants.{EmptyLabel, LongLabel}
 use Rattle.dnssec_base.specs.declared.name.error.NameError.TheVariants.{LongName, BadEscape}
 use Rattle.dnssec_base.specs.declared.name.error.NameError.TheVariants.{BadByte, OutOfMemory}
-use Rattle.dnssec_base.proofs.Places.{Ahead, SamePlace, past_symbol, past_dot, ahead_start}
-use Rattle.dnssec_base.proofs.Places.{ahead_same, ahead-length, symbol_length, symbol_dot}
-use Rattle.dnssec_base.proofs.Places.{start_only}
+use Rattle.dnssec_base.specs.{WireName.wire_label, declared.name.error.NameError.NameError}
+use Rattle.dnssec_base.proofs.Symbols.{symbol_front, symbol_found, no_symbol, symbol_or_not, within}
+use Rattle.dnssec_base.proofs.Places.{Spot, spot, At, Step, Ahead, left, past, ahead_start}
+use Rattle.dnssec_base.proofs.Places.{ahead_same, ahead-length}
 
--- each fault of the text stands at this place or ahead of it
-pub record FaultsAhead (text labels label after : List ℕ) : Type 0 where
-  pub ahead : (error : NameError) (ls l t : List ℕ) → Place text ls l t → IsFault error ls l t
-      → Ahead ls l t labels label after
+-- ---- which fault a place may have
+
+-- the fault of a text that begins with no symbol
+abbrev front_fault : List ℕ → NameError
+front_fault [] = EmptyLabel
+front_fault (c ∷ text) =
+    if c == dot then EmptyLabel else (if c == backslash then BadEscape else BadByte)
+
+-- the fault of a text by the symbol at its front, after n bytes of a label
+abbrev fault_of : Option (ℕ × List ℕ) → ℕ → List ℕ → NameError
+fault_of None n text = front_fault text
+fault_of (Some symbol) n text = if n == 63 then LongLabel else LongName
+
+-- the fault that may stand after this label, before this text
+abbrev pub may_be : List ℕ → List ℕ → NameError
+may_be label text = fault_of (symbol_front text) (length label) text
+
+-- before a symbol, and before none
+at_symbol : (label text : List ℕ) → BeginsWithSymbol text
+    → (if length label == 63 then LongLabel else LongName) ≡ may_be label text
+at_symbol label text front =
+    sym (ap (λ o. fault_of o (length label) text)
+    (ap symbol_front front.split ∙ symbol_found front.symbol front.after front.byte front.is))
+
+at_none : (label text : List ℕ) → symbol_front text ≡ None → front_fault text ≡ may_be label text
+at_none label text none = sym (ap (λ o. fault_of o (length label) text) none)
+
+-- no other fault stands there, unless a label and a name are both too long
+pub fault_is : (error : NameError) (labels label after : List ℕ) → IsFault error labels label after
+    → (error ≡ may_be label after)
+    ⊎ ((error ≡ LongName) × BeginsWithSymbol after × (length label ≡ 63))
+fault_is EmptyLabel labels label [] fault = inl refl
+fault_is EmptyLabel labels label (c ∷ text) fault = ⊎_elim
+    (λ nothing. absurd (omega (arith, ap length nothing, length-append labels (c ∷ text))))
+    (λ dotted. inl (ap (λ v. may_be label (v ∷ text)) (sym dotted)))
+    fault.1
+fault_is LongLabel labels label after fault =
+    inl (ap (λ n. if n == 63 then LongLabel else LongName) (sym fault.1)
+    ∙ at_symbol label after fault.0)
+fault_is LongName labels label after fault = ⊎_elim
+    (λ full. inr (refl, fault.0, full))
+    (λ room. inl (sym (ap (λ b. if b then LongLabel else LongName) (ne_eqb (length label) 63 room))
+    ∙ at_symbol label after fault.0))
+    (cases_eq (length label) 63)
+fault_is BadEscape labels label [] fault = absurd fault.0
+fault_is BadEscape labels label (c ∷ text) fault = ⊎_elim
+    (λ front. absurd (fault.1 front))
+    (λ none. inl (ap (λ v. front_fault (v ∷ text)) (sym fault.0) ∙ at_none label (c ∷ text) none))
+    (symbol_or_not (c ∷ text))
+fault_is BadByte labels label [] fault = absurd fault
+fault_is BadByte labels label (c ∷ text) fault = ⊎_elim
+    (λ visible. absurd (fault visible))
+    (λ out. let none : symbol_front (c ∷ text) ≡ None = grind (arith, nat_tests) in
+    let byte : BadByte ≡ front_fault (c ∷ text) = grind (arith, nat_tests) in
+    inl (byte ∙ at_none label (c ∷ text) none))
+    (within 0x21 0x7E c)
+fault_is OutOfMemory labels label after fault = absurd fault
+
+-- this fault stands at this place
+abbrev pub Faulty : NameError → Spot → Type 0
+Faulty error p = IsFault error p.labels p.label p.after
 
 -- no fault stands at this place
-abbrev pub NoFault : List ℕ → List ℕ → List ℕ → Type 0
-NoFault labels label after = (error : NameError) → IsFault error labels label after → ⊥
-
--- at the start
-pub faults_start : (text : List ℕ) → FaultsAhead text [] [] text
-faults_start text = record { ahead = λ error ls l t place fault. ahead_start text ls l t place }
-
--- a fault at one of two places that are one stands at the other
-pub fault_same : (error : NameError) (labels label after ls l t : List ℕ)
-    → SamePlace labels label after ls l t
-    → IsFault error labels label after → IsFault error ls l t
-fault_same error labels label after ls l t same fault =
-    let P : List ℕ → Type 0 = λ v. IsFault error v label after in
-    let Q : List ℕ → Type 0 = λ v. IsFault error ls v after in
-    let R : List ℕ → Type 0 = λ v. IsFault error ls l v in
-    subst R same.after_same (subst Q same.label_same (subst P same.labels_same fault))
-
--- after a symbol
-pub faults_symbol : (text labels label after s r : List ℕ) (b : ℕ) → IsSymbol s b → after ≡ s ++ r
-    → NoFault labels label after → FaultsAhead text labels label after
-    → FaultsAhead text labels (label ++ b ∷ []) r
-faults_symbol text labels label after s r b is e none faults = record {
-  ahead = λ error ls l t place fault.
-      ⊎_elim
-      (λ same. absurd (none error (fault_same error ls l t labels label after same fault)))
-      (λ further. further)
-      (past_symbol ls l t labels label after s r b is e (faults.ahead error ls l t place fault));
-}
-
--- after a dot
-pub faults_dot : (text labels label after r : List ℕ) → after ≡ dot ∷ r
-    → NoFault labels label after → FaultsAhead text labels label after
-    → FaultsAhead text (labels ++ wire_label label) [] r
-faults_dot text labels label after r e none faults = record {
-  ahead = λ error ls l t place fault.
-      ⊎_elim
-      (λ same. absurd (none error (fault_same error ls l t labels label after same fault)))
-      (λ further. further)
-      (past_dot ls l t labels label after r e (faults.ahead error ls l t place fault));
-}
-
--- what a symbol begins with
-pub symbol_front : (s r : List ℕ) (b : ℕ) → IsSymbol s b
-    → BeginsWith (λ c. IsVisible c × (c ≢ dot)) (s ++ r)
-symbol_front s r b (plain x visible nd nb) = (visible, nd)
-symbol_front s r b (escaped x low high nod) = ((omega arith, omega arith), λ e. omega (arith, e))
-symbol_front s r b (decimal x y z dx dy dz fits) =
-    ((omega arith, omega arith), λ e. omega (arith, e))
-
--- a text with a fact of its first byte has no other fact there
-pub fronts : (P Q : ℕ → Type 0) (t : List ℕ) → ((c : ℕ) → P c → Q c → ⊥) → BeginsWith P t
-    → BeginsWith Q t → ⊥
-fronts P Q [] clash p q = p
-fronts P Q (x ∷ t) clash p q = clash x p q
+abbrev pub NoFault : Spot → Type 0
+NoFault p = (error : NameError) → Faulty error p → ⊥
 
 -- a symbol that has room is no fault
-pub symbol_no_fault : (labels label after s r : List ℕ) (b : ℕ) → IsSymbol s b → after ≡ s ++ r
-    → length label < 63 → length (labels ++ wire_label label) + 2 ≤ 255 → NoFault labels label after
-symbol_no_fault labels label after s r b is e in_label in_name = go
-  where
-    front : BeginsWith (λ c. IsVisible c × (c ≢ dot)) after
-    front = subst (BeginsWith (λ c. IsVisible c × (c ≢ dot))) (sym e) (symbol_front s r b is)
-
-    some : 0 < length after
-    some = omega (arith, ap length e, length-append s r, symbol_length s b is)
-
-    go : (error : NameError) → IsFault error labels label after → ⊥
-    go EmptyLabel (empty, why) = ⊎_elim
-        (λ nothing. omega (arith, some, ap length nothing, length-append labels after))
-        (λ dotted. fronts _ _ after (λ c p q. p.1 q) front dotted)
-        why
-    go LongLabel fault = omega (arith, fault.1)
-    go LongName fault = omega (arith, fault.1)
-    go BadEscape fault = fault.1 (record { symbol = s; after = r; byte = b; is = is; split = e })
-    go BadByte fault = fronts _ _ after (λ c p q. q p.0) front fault
-    go OutOfMemory fault = fault
+pub symbol_no_fault : (p : Spot) → BeginsWithSymbol p.after → length p.label < 63
+    → length (p.labels ++ wire_label p.label) + 2 ≤ 255 → NoFault p
+symbol_no_fault p front in_label in_name error fault = ⊎_elim
+    (λ is. let room : length p.label ≢ 63 = (λ full. omega (arith, full, in_label)) in
+    let long : (if length p.label == 63 then LongLabel else LongName) ≡ LongName =
+    ap (λ b. if b then LongLabel else LongName) (ne_eqb (length p.label) 63 room) in
+    let name : Faulty LongName p =
+    subst (λ e. Faulty e p) (is ∙ sym (at_symbol p.label p.after front) ∙ long) fault in
+    omega (arith, name.1, in_name))
+    (λ both. omega (arith, both.2, in_label))
+    (fault_is error p.labels p.label p.after fault)
 
 -- a dot after a label with bytes is no fault
-pub dot_no_fault : (labels label after r : List ℕ) → after ≡ dot ∷ r → label ≢ []
-    → NoFault labels label after
-dot_no_fault labels label after r e some = go
-  where
-    no_symbol : BeginsWithSymbol after → ⊥
-    no_symbol front = symbol_dot front.symbol front.after r front.byte front.is (sym front.split
-        ∙ e)
+pub dot_no_fault : (p : Spot) (r : List ℕ) → p.after ≡ dot ∷ r → p.label ≢ [] → NoFault p
+dot_no_fault p r e some error fault = ⊎_elim
+    (λ is. let empty : Faulty EmptyLabel p =
+    subst (λ v. Faulty v p) (is ∙ ap (may_be p.label) e) fault in some empty.0)
+    (λ both. no_symbol p.after (ap symbol_front e) both.1)
+    (fault_is error p.labels p.label p.after fault)
 
-    front : BeginsWith (λ c. c ≡ dot) after
-    front = subst (BeginsWith (λ c. c ≡ dot)) (sym e) refl
-
-    go : (error : NameError) → IsFault error labels label after → ⊥
-    go EmptyLabel fault = some fault.0
-    go LongLabel fault = no_symbol fault.0
-    go LongName fault = no_symbol fault.0
-    go BadEscape fault = fronts _ _ after (λ c p q. omega (arith, p, q)) front fault.0
-    go BadByte fault = fronts _ _ after (λ c p q. q (
-      omega (arith, p),
-      omega (
-        arith,
-        p,
-      ),
-    )) front fault
-    go OutOfMemory fault = fault
-
--- no more text is left at a place than there was
-after-length : (text labels label after : List ℕ) → Place text labels label after
-    → length after ≤ length text
-after-length text labels label after place =
-    ahead-length labels label after [] [] text (ahead_start text labels label after place)
-
--- a fault at the place that the reader has come to stands first
-pub stands_first : (text labels label after : List ℕ) (error : NameError) → text ≢ root_text
-    → Place text labels label after → FaultsAhead text labels label after
-    → IsFault error labels label after
-    → (error ≡ LongName → length label ≢ 63) → StandsFirst text error
-stands_first text labels label after error other place faults fault order =
-    let within : length after ≤ length text = after-length text labels label after place in
-    record {
-      place = length text - length after;
-      stands = record {
-        other = other;
-        labels = labels;
-        label = label;
-        after = after;
-        at = place;
-        is = fault;
-        behind = omega arith;
-      };
-      first = λ error' place' stands.
-          let further : length stands.after ≤ length after = ahead-length _ _ _ labels label after
-          (faults.ahead error' stands.labels stands.label stands.after stands.at stands.is) in
-          omega (arith, stands.behind);
-      label_first = λ long stands.
-          let same : SamePlace stands.labels stands.label stands.after labels label after =
-          ahead_same _ _ _ labels label after
-          (faults.ahead LongLabel stands.labels stands.label stands.after stands.at stands.is)
-          (omega (arith, stands.behind)) in
-          order long (sym (ap length same.label_same) ∙ stands.is.1);
-    }
-
--- no symbol stands at the end of a text
-pub no_symbol_end : BeginsWithSymbol [] → ⊥
-no_symbol_end front = omega (
-  arith,
-  ap length front.split,
-  length-append front.symbol front.after,
-  symbol_length front.symbol front.byte front.is,
-)
-
--- no label and nothing after it is the empty text
-pub empty_start : (text labels label after : List ℕ) → text ≢ [] → Place text labels label after
-    → label ≡ [] → labels ++ after ≡ [] → ⊥
-empty_start text [] label after some place empty nothing =
-    some (sym (start_only text [] label after place empty) ∙ nothing)
-empty_start text (x ∷ labels) label after some place empty nothing = cc
+-- a place with nothing before it and nothing after it is that of the empty text
+empty_text_only : (text labels label after : List ℕ) → Place text labels label after
+    → length labels + length label ≡ 0 → after ≡ [] → text ≡ []
+empty_text_only text labels label after at_start none end = end
+empty_text_only text labels label after (after_symbol ls l s t b is place) none end =
+    absurd (omega (arith, none, length-append l (b ∷ [])))
+empty_text_only text labels label after (after_dot ls l t place) none end =
+    absurd (omega (arith, none, length-append ls (wire_label l)))
 
 -- no fault stands at the end of a text that is not empty
 pub end_no_fault : (text labels label : List ℕ) → text ≢ [] → Place text labels label []
-    → NoFault labels label []
-end_no_fault text labels label some place EmptyLabel fault = ⊎_elim
-    (λ nothing. empty_start text labels label [] some place fault.0 nothing)
+    → NoFault (spot labels label [])
+end_no_fault text labels label some place error fault = ⊎_elim
+    (λ is. let empty : IsFault EmptyLabel labels label [] =
+    subst (λ v. IsFault v labels label []) is fault in ⊎_elim
+    (λ nothing. some (empty_text_only text labels label [] place
+    (omega (arith, ap length empty.0, ap length nothing, length-append labels [])) refl))
     (λ dotted. dotted)
-    fault.1
-end_no_fault text labels label some place LongLabel fault = no_symbol_end fault.0
-end_no_fault text labels label some place LongName fault = no_symbol_end fault.0
-end_no_fault text labels label some place BadEscape fault = fault.0
-end_no_fault text labels label some place BadByte fault = fault
-end_no_fault text labels label some place OutOfMemory fault = fault
+    empty.1)
+    (λ both. no_symbol [] refl both.1)
+    (fault_is error labels label [] fault)
+
+-- ---- where faults stand
+
+-- each fault of the text stands at this place or ahead of it
+pub record FaultsAhead (text : List ℕ) (p : Spot) : Type 0 where
+  pub ahead : (error : NameError) (q : Spot) → At text q → Faulty error q → Ahead q p
+
+-- at the start
+pub faults_start : (text : List ℕ) → FaultsAhead text (spot [] [] text)
+faults_start text = record { ahead = λ error q place fault. ahead_start text q place }
+
+-- at the next place
+pub faults_step : (text : List ℕ) (p next : Spot) → Step p next → NoFault p → FaultsAhead text p
+    → FaultsAhead text next
+faults_step text p next step none faults = record {
+  ahead = λ error q place fault. ⊎_elim
+      (λ same. absurd (none error (subst (Faulty error) same fault)))
+      (λ further. further)
+      (past q p next step (faults.ahead error q place fault));
+}
+
+-- a fault at a place stands in the text
+pub stands_here : (text : List ℕ) (p : Spot) (error : NameError) (n : ℕ) → text ≢ root_text
+    → At text p → n + left p ≡ length text → Faulty error p → Stands text error n
+stands_here text p error n other place reached fault = record {
+  other = other;
+  labels = p.labels;
+  label = p.label;
+  after = p.after;
+  at = place;
+  is = fault;
+  place_is = reached;
+}
+
+pub stands_at : (text : List ℕ) (p : Spot) (error : NameError) → text ≢ root_text → At text p
+    → Faulty error p → Stands text error (length text - left p)
+stands_at text p error other place fault =
+    let within : left p ≤ length text =
+    ahead-length p (spot [] [] text) (ahead_start text p place) in
+    stands_here text p error (length text - left p) other place (omega (arith, within)) fault
+
+-- the place of a fault that stands in the text
+abbrev pub place_of : (text : List ℕ) (error : NameError) (n : ℕ) → Stands text error n → Spot
+place_of text error n stands = spot stands.labels stands.label stands.after
+
+-- a fault at the place that the reader has come to stands first
+pub stands_first : (text : List ℕ) (p : Spot) (error : NameError) → text ≢ root_text → At text p
+    → FaultsAhead text p → Faulty error p → (error ≡ LongName → length p.label ≢ 63)
+    → StandsFirst text error
+stands_first text p error other place faults fault order = record {
+  place = length text - left p;
+  stands = stands_at text p error other place fault;
+  first = λ error' n stands.
+      let q : Spot = place_of text error' n stands in
+      let further : left q ≤ left p =
+      ahead-length q p (faults.ahead error' q stands.at stands.is) in
+      omega (arith, further, stands.place_is);
+  label_first = λ long stands.
+      let q : Spot = place_of text LongLabel (length text - left p) stands in
+      let within : left p ≤ length text =
+      ahead-length p (spot [] [] text) (ahead_start text p place) in
+      let same : q ≡ p =
+      ahead_same q p (faults.ahead LongLabel q stands.at stands.is)
+      (omega (arith, within, stands.place_is)) in
+      order long (sym (ap (λ (v : Spot). length v.label) same) ∙ stands.is.1);
+}
 
 -- at the end of a text that is not empty no fault is left
 pub no_fault : (text labels label : List ℕ) → text ≢ [] → Place text labels label []
-    → FaultsAhead text labels label [] → HasNoFault text
+    → FaultsAhead text (spot labels label []) → HasNoFault text
 no_fault text labels label some place faults = record {
-  none = λ error at stands.
-      let same : SamePlace stands.labels stands.label stands.after labels label [] =
-      ahead_same _ _ _ labels label []
-      (faults.ahead error stands.labels stands.label stands.after stands.at stands.is)
-      (omega arith) in
-      end_no_fault text labels label some place error
-      (fault_same error stands.labels stands.label stands.after labels label [] same stands.is);
+  none = λ error n stands.
+      let end : Spot = spot labels label [] in
+      let q : Spot = place_of text error n stands in
+      let same : q ≡ end =
+      ahead_same q end (faults.ahead error q stands.at stands.is) (omega arith) in
+      end_no_fault text labels label some place error (subst (Faulty error) same stands.is);
 }

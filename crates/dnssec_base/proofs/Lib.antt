@@ -10,8 +10,8 @@
 -- | `SecurityAlgorithm::from_name` | `no_name`                | AlgorithmNames              |
 -- | `spells_one_name`              | of its name, as all laws | OneName, Places, Symbols    |
 -- | `spells_no_fault`              |                          | NoFault, Faults, Places     |
--- | `spells_unless_fault`          |                          | Complete, Reading, Places   |
--- | `one_fault_stands_first`       |                          | OneFault, Faults, Places    |
+-- | `spells_unless_fault`          |                          | Complete, Faults, Wholes    |
+-- | `one_fault_stands_first`       |                          | OneFault, Faults, Symbols   |
 -- | `prints_its_spelling`          |                          | PrintedNames, PrintedBytes  |
 -- | `write_decimals`               | `turn`, `all_decimals`   | Decimals                    |
 pub mod AlgorithmNames

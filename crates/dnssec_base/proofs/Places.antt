@@ -2,194 +2,129 @@
 use Rattle.std.proofs.Common.{ℕ, ◌≡◌, ◌⊎◌, ◌<◌, ◌≤◌, refl, sym, ap, subst, ◌∙◌, inl, inr, ⊎_elim}
 use Rattle.std.proofs.Common.{List, [], ◌∷◌, ◌++◌, length, length-append, arith}
 use Rattle.dnssec_base.specs.WireName.{wire_label}
-use Rattle.dnssec_base.specs.NameText.{IsSymbol, plain, escaped, decimal, dot, backslash}
-use Rattle.dnssec_base.specs.NameText.{Place, at_start, after_symbol, after_dot}
-use Rattle.dnssec_base.proofs.Symbols.{SameFront, one_symbol}
+use Rattle.dnssec_base.specs.NameText.{IsSymbol, dot, Place, at_start, after_symbol, after_dot}
+use Rattle.dnssec_base.proofs.Symbols.{one_symbol, no_symbol, symbol_front, symbol_length, begins}
 
--- two places are one
-pub record SamePlace (labels label after ls l t : List ℕ) : Type 0 where
-  pub labels_same : labels ≡ ls
-  pub label_same : label ≡ l
-  pub after_same : after ≡ t
+-- a place: the labels before it, the bytes so far of one more, and the text after it
+pub record Spot : Type 0 where
+  pub labels : List ℕ
+  pub label : List ℕ
+  pub after : List ℕ
+
+abbrev pub spot : List ℕ → List ℕ → List ℕ → Spot
+spot labels label after = record { labels = labels; label = label; after = after }
+
+-- it is a place of this text
+abbrev pub At : List ℕ → Spot → Type 0
+At text p = Place text p.labels p.label p.after
+
+-- from one place to the next
+pub data Step (p q : Spot) : Type 0 where
+  by_symbol : (s : List ℕ) (b : ℕ) → IsSymbol s b → p.after ≡ s ++ q.after → q.labels ≡ p.labels
+      → q.label ≡ p.label ++ b ∷ [] → Step p q
+  by_dot : p.after ≡ dot ∷ q.after → q.labels ≡ p.labels ++ wire_label p.label → q.label ≡ []
+      → Step p q
 
 -- a place is another, or lies ahead of it
-pub data Ahead (labels label after : List ℕ) : List ℕ → List ℕ → List ℕ → Type 0 where
-  here : (ls l t : List ℕ) → SamePlace labels label after ls l t → Ahead labels label after ls l t
-  by_symbol : (ls l t s r : List ℕ) (b : ℕ) → IsSymbol s b → t ≡ s ++ r
-      → Ahead labels label after ls (l ++ b ∷ []) r → Ahead labels label after ls l t
-  by_dot : (ls l t r : List ℕ) → t ≡ dot ∷ r
-      → Ahead labels label after (ls ++ wire_label l) [] r → Ahead labels label after ls l t
+pub data Ahead (q : Spot) : Spot → Type 0 where
+  here : (p : Spot) → q ≡ p → Ahead q p
+  on : (p next : Spot) → Step p next → Ahead q next → Ahead q p
 
--- a symbol is not empty
-pub symbol_length : (s : List ℕ) (b : ℕ) → IsSymbol s b → 0 < length s
-symbol_length s b (plain x visible nd nb) = omega arith
-symbol_length s b (escaped x low high nod) = omega arith
-symbol_length s b (decimal x y z dx dy dz fits) = omega arith
+-- the next place is a place of the text
+pub step_at : (text : List ℕ) (p q : Spot) → Step p q → At text p → At text q
+step_at text p q (by_symbol s b is e labels label) place =
+    rw (labels, label) (after_symbol p.labels p.label s q.after b is
+    (subst (Place text p.labels p.label) e place))
+step_at text p q (by_dot e labels label) place =
+    rw (labels, label) (after_dot p.labels p.label q.after
+    (subst (Place text p.labels p.label) e place))
 
--- the first byte of a text
-abbrev first : List ℕ → ℕ
-first [] = 0
-first (x ∷ text) = x
+-- it has less text after it
+step-length : (p q : Spot) → Step p q → length q.after < length p.after
+step-length p q (by_symbol s b is e labels label) =
+    omega (arith, ap length e, length-append s q.after, symbol_length s b is)
+step-length p q (by_dot e labels label) = omega (arith, ap length e)
 
--- a backslash is no dot
-no_dot : backslash ≡ dot → ⊥
-no_dot e = omega (arith, e)
+-- and is the only next place
+one_step : (p q r : Spot) → Step p q → Step p r → q ≡ r
+one_step p q r (by_symbol s b is e labels label) (by_symbol s' b' is' e' labels' label') =
+    let same = one_symbol s s' q.after r.after b b' is is' (sym e ∙ e') in λ i. record {
+      labels = (labels ∙ sym labels') i;
+      label = (label ∙ ap (λ v. p.label ++ v ∷ []) same.0 ∙ sym label') i;
+      after = same.1 i;
+    }
+one_step p q r (by_symbol s b is e labels label) (by_dot e' labels' label') =
+    absurd (no_symbol p.after (ap symbol_front e') (begins s q.after b is e))
+one_step p q r (by_dot e labels label) (by_symbol s b is e' labels' label') =
+    absurd (no_symbol p.after (ap symbol_front e) (begins s r.after b is e'))
+one_step p q r (by_dot e labels label) (by_dot e' labels' label') =
+    let same : q.after ≡ r.after = cc in λ i. record {
+      labels = (labels ∙ sym labels') i;
+      label = (label ∙ sym label') i;
+      after = same i;
+    }
 
--- no symbol begins with a dot
-pub symbol_dot : (s r t : List ℕ) (b : ℕ) → IsSymbol s b → s ++ r ≡ dot ∷ t → ⊥
-symbol_dot s r t b (plain x visible nd nb) e = nd (ap first e)
-symbol_dot s r t b (escaped x low high nod) e = no_dot (ap first e)
-symbol_dot s r t b (decimal x y z dx dy dz fits) e = no_dot (ap first e)
-
--- one more symbol ahead
-ahead-symbol : (labels label after ls l t s r : List ℕ) (b : ℕ) → IsSymbol s b → after ≡ s ++ r
-    → Ahead labels label after ls l t → Ahead labels (label ++ b ∷ []) r ls l t
-ahead-symbol labels label after ls l t s r b is e (here x y z same) =
-    by_symbol ls l t s r b is (sym same.after_same ∙ e) (here _ _ _ (record {
-      labels_same = same.labels_same;
-      label_same = ap (λ w. w ++ b ∷ []) same.label_same;
-      after_same = refl;
-    }))
-ahead-symbol labels label after ls l t s r b is e (by_symbol x y z s' r' b' is' e' rest) =
-    by_symbol ls l t s' r' b' is' e' (ahead-symbol labels label after ls
-    (l ++ b' ∷ []) r' s r b is e rest)
-ahead-symbol labels label after ls l t s r b is e (by_dot x y z r' e' rest) =
-    by_dot ls l t r' e' (ahead-symbol labels label after (ls ++ wire_label l) [] r' s r b is e rest)
-
--- one more dot ahead
-ahead-dot : (labels label after ls l t r : List ℕ) → after ≡ dot ∷ r
-    → Ahead labels label after ls l t → Ahead (labels ++ wire_label label) [] r ls l t
-ahead-dot labels label after ls l t r e (here x y z same) =
-    by_dot ls l t r (sym same.after_same ∙ e) (here _ _ _ (record {
-      labels_same = cc (same.labels_same, same.label_same);
-      label_same = refl;
-      after_same = refl;
-    }))
-ahead-dot labels label after ls l t r e (by_symbol x y z s' r' b' is' e' rest) =
-    by_symbol ls l t s' r' b' is' e' (ahead-dot labels label after ls (l ++ b' ∷ []) r' r e rest)
-ahead-dot labels label after ls l t r e (by_dot x y z r' e' rest) =
-    by_dot ls l t r' e' (ahead-dot labels label after (ls ++ wire_label l) [] r' r e rest)
+-- one more step ahead
+ahead_step : (q next p : Spot) → Step q next → Ahead q p → Ahead next p
+ahead_step q next p step (here x same) =
+    on p next (subst (λ v. Step v next) same step) (here next refl)
+ahead_step q next p step (on x m first rest) = on p m first (ahead_step q next m step rest)
 
 -- each place of a text lies ahead of its start
-pub ahead_start : (text labels label after : List ℕ) → Place text labels label after
-    → Ahead labels label after [] [] text
-ahead_start text labels label after at_start =
-    here [] [] text (record { labels_same = refl; label_same = refl; after_same = refl })
-ahead_start text labels label after (after_symbol ls l s t b is place) =
-    ahead-symbol ls l (s ++ t) [] [] text s t b is refl (ahead_start text ls l (s ++ t) place)
-ahead_start text labels label after (after_dot ls l t place) =
-    ahead-dot ls l (dot ∷ t) [] [] text t refl (ahead_start text ls l (dot ∷ t) place)
+ahead_from : (text labels label after : List ℕ) → Place text labels label after
+    → Ahead (spot labels label after) (spot [] [] text)
+ahead_from text labels label after at_start = here (spot [] [] text) refl
+ahead_from text labels label after (after_symbol ls l s t b is place) =
+    ahead_step (spot ls l (s ++ t)) (spot ls (l ++ b ∷ []) t) (spot [] [] text)
+    (by_symbol s b is refl refl refl) (ahead_from text ls l (s ++ t) place)
+ahead_from text labels label after (after_dot ls l t place) =
+    ahead_step (spot ls l (dot ∷ t)) (spot (ls ++ wire_label l) [] t) (spot [] [] text)
+    (by_dot refl refl refl) (ahead_from text ls l (dot ∷ t) place)
 
--- what lies ahead of a symbol is the place before it, or lies ahead of the place after it
-pub past_symbol : (labels label after ls l t s r : List ℕ) (b : ℕ) → IsSymbol s b → t ≡ s ++ r
-    → Ahead labels label after ls l t
-    → SamePlace labels label after ls l t ⊎ Ahead labels label after ls (l ++ b ∷ []) r
-past_symbol labels label after ls l t s r b is e (here x y z same) = inl same
-past_symbol labels label after ls l t s r b is e (by_symbol x y z s' r' b' is' e' rest) =
-    let front : SameFront s' r' s r b' b = one_symbol s' s r' r b' b is' is (sym e' ∙ e) in
-    let P : ℕ → Type 0 = λ v. Ahead labels label after ls (l ++ v ∷ []) r in
-    let Q : List ℕ → Type 0 = λ v. Ahead labels label after ls (l ++ b' ∷ []) v in
-    inr (subst P front.byte (subst Q front.after rest))
-past_symbol labels label after ls l t s r b is e (by_dot x y z r' e' rest) =
-    absurd (symbol_dot s r r' b is (sym e ∙ e'))
+pub ahead_start : (text : List ℕ) (p : Spot) → At text p → Ahead p (spot [] [] text)
+ahead_start text p place = ahead_from text p.labels p.label p.after place
 
--- what lies ahead of a dot is the place before it, or lies ahead of the place after it
-pub past_dot : (labels label after ls l t r : List ℕ) → t ≡ dot ∷ r
-    → Ahead labels label after ls l t
-    → SamePlace labels label after ls l t ⊎ Ahead labels label after (ls ++ wire_label l) [] r
-past_dot labels label after ls l t r e (here x y z same) = inl same
-past_dot labels label after ls l t r e (by_symbol x y z s' r' b' is' e' rest) =
-    absurd (symbol_dot s' r' r b' is' (sym e' ∙ e))
-past_dot labels label after ls l t r e (by_dot x y z r' e' rest) =
-    let P : List ℕ → Type 0 = λ v. Ahead labels label after (ls ++ wire_label l) [] v in
-    inr (subst P (let same : r' ≡ r = cc in same) rest)
+-- what lies ahead of a place is that place, or lies ahead of the next
+pub past : (q p next : Spot) → Step p next → Ahead q p → (q ≡ p) ⊎ Ahead q next
+past q p next step (here x same) = inl same
+past q p next step (on x m first rest) =
+    inr (subst (Ahead q) (one_step p m next first step) rest)
+
+-- how much text is after a place
+abbrev pub left : Spot → ℕ
+left p = length p.after
 
 -- a place ahead has no more text after it
-pub ahead-length : (labels label after ls l t : List ℕ) → Ahead labels label after ls l t
-    → length after ≤ length t
-ahead-length labels label after ls l t (here x y z same) = omega (arith, ap length same.after_same)
-ahead-length labels label after ls l t (by_symbol x y z s r b is e rest) =
-    omega (
-      arith,
-      ahead-length labels label after ls (l ++ b ∷ []) r rest,
-      ap length e,
-      length-append s r,
-    )
-ahead-length labels label after ls l t (by_dot x y z r e rest) =
-    omega (arith, ahead-length labels label after (ls ++ wire_label l) [] r rest, ap length e)
+pub ahead-length : (q p : Spot) → Ahead q p → left q ≤ left p
+ahead-length q p (here x same) = omega (arith, ap left same)
+ahead-length q p (on x next step rest) =
+    omega (arith, ahead-length q next rest, step-length p next step)
 
 -- a place ahead with as much text after it is the same
-pub ahead_same : (labels label after ls l t : List ℕ) → Ahead labels label after ls l t
-    → length t ≤ length after
-    → SamePlace labels label after ls l t
-ahead_same labels label after ls l t (here x y z same) h = same
-ahead_same labels label after ls l t (by_symbol x y z s r b is e rest) h = absurd (
-    omega (
-      arith,
-      ahead-length labels label after ls (l ++ b ∷ []) r rest,
-      ap length e,
-      length-append s r,
-      symbol_length s b is,
-    ))
-ahead_same labels label after ls l t (by_dot x y z r e rest) h = absurd (
-    omega (arith, ahead-length labels label after (ls ++ wire_label l) [] r rest, ap length e))
+pub ahead_same : (q p : Spot) → Ahead q p → left p ≤ left q → q ≡ p
+ahead_same q p (here x same) h = same
+ahead_same q p (on x next step rest) h =
+    absurd (omega (arith, ahead-length q next rest, step-length p next step))
 
--- of two places of a text the later one lies ahead of the other
-pub later_ahead : (labels' label' after' labels label after ls l t : List ℕ)
-    → length after' ≤ length after
-    → Ahead labels label after ls l t → Ahead labels' label' after' ls l t
-    → Ahead labels' label' after' labels label after
-later_ahead labels' label' after' labels label after ls l t h (here x y z same) other =
-    let P : List ℕ → Type 0 = λ v. Ahead labels' label' after' v label after in
-    let Q : List ℕ → Type 0 = λ v. Ahead labels' label' after' ls v after in
-    let R : List ℕ → Type 0 = λ v. Ahead labels' label' after' ls l v in
-    subst P (sym same.labels_same) (subst Q (sym same.label_same) (subst R
-    (sym same.after_same) other))
-later_ahead labels' label' after' labels label after ls l t h
-    (by_symbol x y z s r b is e rest) other = ⊎_elim
+-- of two places ahead of one the later lies ahead of the other
+later_ahead : (q m p : Spot) → left q ≤ left m → Ahead m p → Ahead q p → Ahead q m
+later_ahead q m p h (here x same) other = subst (Ahead q) (sym same) other
+later_ahead q m p h (on x next step rest) other = ⊎_elim
     (λ same. absurd (omega (
       arith,
-      ahead-length labels label after ls (l ++ b ∷ []) r rest,
-      ap length same.after_same,
-      ap length e,
-      length-append s r,
-      symbol_length s b is,
+      ap left same,
+      ahead-length m next rest,
+      step-length p next step,
     )))
-    (λ further. later_ahead labels' label' after' labels label after ls
-    (l ++ b ∷ []) r h rest further)
-    (past_symbol labels' label' after' ls l t s r b is e other)
-later_ahead labels' label' after' labels label after ls l t h (by_dot x y z r e rest) other = ⊎_elim
-    (λ same. absurd (omega (
-      arith,
-      ahead-length labels label after (ls ++ wire_label l) [] r rest,
-      ap length same.after_same,
-      ap length e,
-    )))
-    (λ further. later_ahead labels' label' after' labels label after
-    (ls ++ wire_label l) [] r h rest further)
-    (past_dot labels' label' after' ls l t r e other)
+    (λ further. later_ahead q m next h rest further)
+    (past q p next step other)
+
+-- so it is with two places of a text
+pub later : (text : List ℕ) (q m : Spot) → At text q → At text m → left q ≤ left m → Ahead q m
+later text q m at_q at_m h =
+    later_ahead q m (spot [] [] text) h (ahead_start text m at_m) (ahead_start text q at_q)
 
 -- two places of a text with as much text after them are one
-pub one_place : (text labels' label' after' labels label after : List ℕ)
-    → length after' ≡ length after
-    → Place text labels label after → Place text labels' label' after'
-    → SamePlace labels' label' after' labels label after
-one_place text labels' label' after' labels label after h place other =
-    ahead_same labels' label' after' labels label after
-    (later_ahead labels' label' after' labels label after [] [] text (omega (arith, h))
-    (ahead_start text labels label after place) (ahead_start text labels' label' after' other))
-    (omega (arith, h))
-
--- a place with no label before it is the start
-pub start_only : (text labels label after : List ℕ) → Place text labels label after
-    → labels ++ label ≡ [] → after ≡ text
-start_only text labels label after at_start e = refl
-start_only text labels label after (after_symbol ls l s t b is place) e =
-    absurd (omega (arith, ap length e, length-append ls (l ++ b ∷ []), length-append l (b ∷ [])))
-start_only text labels label after (after_dot ls l t place) e =
-    absurd (omega (
-      arith,
-      ap length e,
-      length-append (ls ++ wire_label l) [],
-      length-append ls (wire_label l),
-    ))
+pub one_place : (text : List ℕ) (q p : Spot) → left q ≡ left p → At text q → At text p → q ≡ p
+one_place text q p h at_q at_p =
+    ahead_same q p (later text q p at_q at_p (omega (arith, h))) (omega (arith, h))

@@ -1,16 +1,18 @@
 -- What a byte prints by its number is three digits: for the text that a name displays.
-use Rattle.std.proofs.Common.{ℕ, ◌≡◌, ◌⊎◌, ◌+◌, ◌/◌, ◌%◌, ◌<◌, ◌≤◌, ◌^◌, ◌-◌, [], ◌∷◌, false}
+use Rattle.std.proofs.Common.{ℕ, ◌≡◌, ◌⊎◌, ◌+◌, ◌/◌, ◌%◌, ◌<◌, ◌≤◌, ◌^◌, ◌-◌, List, [], ◌∷◌, false}
 use Rattle.std.proofs.Common.{⊎_elim, arith, ap, ◌∙◌, sym}
-use Rattle.std.proofs.lemmas.Bool.{cases_lt}
-use Rattle.std.proofs.lemmas.Bool.Decides.{nat_tests}
+use Rattle.std.proofs.lemmas.Bool.{cases_lt, Decides.nat_tests}
 use Rattle.std.proofs.lemmas.Fmt.{decimal_digit, decimal_step}
 use Rattle.std.specs.Fmt.{decimal, padded_integral, format_spec, styled_decimal, char_count}
 use Rattle.dnssec_base.specs.NameText.{printed_byte, backslash}
 
+-- the digits of a byte
+abbrev pub digits_of : ℕ → List ℕ
+digits_of n = (48 + n / 100) ∷ (48 + n / 10 % 10) ∷ (48 + n % 10) ∷ []
+
 -- a number below 256 in three digits
 pub three_digits : (n : ℕ) → n < 256
-    → padded_integral (format_spec 32 0 4 3 (2 ^ 64 - 1)) false [] (decimal n)
-    ≡ (48 + n / 100) ∷ (48 + n / 10 % 10) ∷ (48 + n % 10) ∷ []
+    → padded_integral (format_spec 32 0 4 3 (2 ^ 64 - 1)) false [] (decimal n) ≡ digits_of n
 unfolding padded_integral char_count
 three_digits n small = ⊎_elim
     (λ one. let a : n / 100 ≡ 0 = omega arith in let b : n / 10 % 10 ≡ 0 = omega arith in
@@ -33,8 +35,7 @@ three_digits n small = ⊎_elim
     (cases_lt n 10)
 
 -- a byte that is not visible prints its number
-pub hidden : (n : ℕ) → (n < 0x21) ⊎ (0x7F ≤ n)
-    → printed_byte n ≡ backslash ∷ (48 + n / 100) ∷ (48 + n / 10 % 10) ∷ (48 + n % 10) ∷ []
+pub hidden : (n : ℕ) → (n < 0x21) ⊎ (0x7F ≤ n) → printed_byte n ≡ backslash ∷ digits_of n
 hidden n out = grind (arith, nat_tests)
 
 -- what `\\{byte:03}` writes of a byte that is not visible

@@ -2,47 +2,24 @@
 use Rattle.std.proofs.Common.{ℕ, zero, suc, ◌≡◌, ◌⊎◌, ◌≢◌, ◌+◌, ◌<◌, ◌≤◌, refl, sym, ap, subst, ◌∙◌}
 use Rattle.std.proofs.Common.{inl, inr, ⊎_elim, List, [], ◌∷◌, ◌++◌, append_assoc, length}
 use Rattle.std.proofs.Common.{length-append, All, arith, ◌/◌, ◌%◌}
-use Rattle.std.proofs.lemmas.Bool.{cases_eq, cases_lt}
-use Rattle.std.proofs.lemmas.Bool.Decides.{nat_tests}
-use Rattle.dnssec_base.specs.WireName.{AreLabels, wire_label}
+use Rattle.std.proofs.lemmas.Bool.{cases_eq, Decides.nat_tests}
+use Rattle.std.proofs.lemmas.List.Elements.{All-head, All-tail}
 use Rattle.dnssec_base.specs.NameText.{Place, at_start, after_symbol, after_dot, is_root}
-use Rattle.dnssec_base.specs.NameText.{has_labels, wire_end, dot, backslash}
-use Rattle.dnssec_base.specs.NameText.{IsSymbol, plain, escaped, decimal, decimal_of, printed_after}
-use Rattle.dnssec_base.specs.NameText.{printed_byte}
-use Rattle.dnssec_base.specs.NameLaws.{PrintsItsSpelling}
-use Rattle.dnssec_base.proofs.PrintedBytes.{hidden}
-use Rattle.dnssec_base.proofs.Places.{symbol_length}
+use Rattle.dnssec_base.specs.NameText.{has_labels, wire_end, dot, backslash, IsSymbol, plain}
+use Rattle.dnssec_base.specs.NameText.{escaped, decimal, decimal_of, printed_after, printed_byte}
+use Rattle.dnssec_base.specs.{WireName.AreLabels, WireName.wire_label, NameLaws.PrintsItsSpelling}
+use Rattle.dnssec_base.proofs.Symbols.{begins, no_symbol, within}
+use Rattle.dnssec_base.proofs.{PrintedBytes.hidden, PrintedBytes.digits_of, Wholes.IsOctet}
 
--- a mark prints with a backslash
-mark : (n : ℕ) → (n ≡ dot) ⊎ (n ≡ backslash) → printed_byte n ≡ backslash ∷ n ∷ []
-mark n is = grind (arith, nat_tests)
-
--- another visible character prints as it is
-visible : (n : ℕ) → n ≢ dot → n ≢ backslash → 0x21 ≤ n → n ≤ 0x7E → printed_byte n ≡ n ∷ []
-visible n no_dot no_backslash low high = grind (arith, nat_tests)
+-- what a byte prints is a symbol for it, if it is a text that is one
+printed_as : (n : ℕ) (text : List ℕ) → printed_byte n ≡ text → IsSymbol text n
+    → IsSymbol (printed_byte n) n
+printed_as n text e symbol = subst (λ s. IsSymbol s n) (sym e) symbol
 
 -- a mark after a backslash is a symbol
 mark_symbol : (n : ℕ) → (n ≡ dot) ⊎ (n ≡ backslash) → IsSymbol (printed_byte n) n
-mark_symbol n is =
-    let symbol : IsSymbol (backslash ∷ n ∷ []) n =
-    escaped n (omega arith) (omega arith) (λ digit. omega arith) in
-    subst (λ s. IsSymbol s n) (sym (mark n is)) symbol
-
--- a visible character is a symbol, as it is or after a backslash
-visible_symbol : (n : ℕ) → 0x21 ≤ n → n ≤ 0x7E → IsSymbol (printed_byte n) n
-visible_symbol n low high = ⊎_elim
-    (λ is_dot. mark_symbol n (inl is_dot))
-    (λ no_dot. ⊎_elim
-    (λ is_backslash. mark_symbol n (inr is_backslash))
-    (λ no_backslash.
-    subst (λ s. IsSymbol s n) (sym (visible n no_dot no_backslash low high))
-    (plain n (low, high) no_dot no_backslash))
-    (cases_eq n backslash))
-    (cases_eq n dot)
-
--- the digits of a byte
-abbrev digits_of : ℕ → List ℕ
-digits_of n = (48 + n / 100) ∷ (48 + n / 10 % 10) ∷ (48 + n % 10) ∷ []
+mark_symbol n is = printed_as n (backslash ∷ n ∷ []) (grind (arith, nat_tests))
+    (escaped n (omega arith) (omega arith) (λ digit. omega arith))
 
 -- a byte that is not visible is written by three digits
 hidden_symbol : (n : ℕ) → n < 256 → (n < 0x21) ⊎ (0x7F ≤ n) → IsSymbol (printed_byte n) n
@@ -53,18 +30,22 @@ hidden_symbol n small out =
     decimal (48 + n / 100) (48 + n / 10 % 10) (48 + n % 10)
     (omega arith, omega arith) (omega arith, omega arith) (omega arith, omega arith)
     (omega arith) in
-    subst (λ s. IsSymbol s n) (sym (hidden n out))
+    printed_as n (backslash ∷ digits_of n) (hidden n out)
     (subst (IsSymbol (backslash ∷ digits_of n)) value_is symbol)
 
 -- what a byte prints is a symbol for it
 printed_symbol : (n : ℕ) → n < 256 → IsSymbol (printed_byte n) n
 printed_symbol n small = ⊎_elim
-    (λ low. hidden_symbol n small (inl low))
-    (λ from. ⊎_elim
-    (λ to. visible_symbol n from (omega (arith, to)))
-    (λ high. hidden_symbol n small (inr high))
-    (cases_lt n 0x7F))
-    (cases_lt n 0x21)
+    (λ seen. ⊎_elim
+    (λ is_dot. mark_symbol n (inl is_dot))
+    (λ no_dot. ⊎_elim
+    (λ is_backslash. mark_symbol n (inr is_backslash))
+    (λ no_backslash.
+    printed_as n (n ∷ []) (grind (arith, nat_tests)) (plain n seen no_dot no_backslash))
+    (cases_eq n backslash))
+    (cases_eq n dot))
+    (λ out. hidden_symbol n small out)
+    (within 0x21 0x7E n)
 
 -- the end of a text, and the name that it spells
 record Ends (text name : List ℕ) : Type 0 where
@@ -73,82 +54,54 @@ record Ends (text name : List ℕ) : Type 0 where
   place : Place text before last []
   name_is : name ≡ before ++ wire_end last
 
--- the bytes of a list are below 256, each and the rest
-all_first : (byte : ℕ) (bytes : List ℕ) → All (λ b. b < 256) (byte ∷ bytes) → byte < 256
-all_first byte bytes all = all 0 0 (omega arith)
-
-all_rest : (byte : ℕ) (bytes : List ℕ) → All (λ b. b < 256) (byte ∷ bytes)
-    → All (λ b. b < 256) bytes
-all_rest byte bytes all k d h = all (suc k) d (omega arith)
-
--- From a place in the printed text on: `left` bytes of the label are still to come.
-ends_after : (text labels label : List ℕ) (left : ℕ) (bytes : List ℕ) → 0 < length label + left
-    → All (λ b. b < 256) bytes → AreLabels left bytes
+-- From a place in the printed text on: `left` of a label's n bytes are still to come.
+ends_after : (text labels label : List ℕ) (n left : ℕ) (bytes : List ℕ) → n ≡ length label + left
+    → 0 < n → All IsOctet bytes → AreLabels left bytes
     → Place text labels label (printed_after left bytes)
-    → Ends text (labels ++ ((length label + left) ∷ (label ++ bytes)))
-ends_after text labels label left [] some all are place = absurd are
-ends_after text labels label (suc left) (byte ∷ bytes) some all are place =
-    let symbol : IsSymbol (printed_byte byte) byte =
-    printed_symbol byte (all_first byte bytes all) in
+    → Ends text (labels ++ (n ∷ (label ++ bytes)))
+ends_after text labels label n left [] is some all are place = absurd are
+ends_after text labels label n (suc left) (byte ∷ bytes) is some all are place =
     let next : Place text labels (label ++ byte ∷ []) (printed_after left bytes) =
-    after_symbol labels label (printed_byte byte) (printed_after left bytes) byte symbol place in
-    let end : Ends text (labels ++ ((length (label ++ byte ∷ []) + left) ∷
-    ((label ++ byte ∷ []) ++ bytes))) =
-    ends_after text labels (label ++ byte ∷ []) left bytes (omega (
-      arith,
-      length-append label (byte ∷ []),
-    )) (all_rest byte bytes all) are next in
-    let count : length (label ++ byte ∷ []) + left ≡ length label + suc left =
-    omega (arith, length-append label (byte ∷ [])) in
-    let regrouped : (label ++ byte ∷ []) ++ bytes ≡ label ++ (byte ∷ bytes) =
-    append_assoc label (byte ∷ []) bytes in
-    subst (λ name. Ends text (labels ++ name)) (ap (λ n. n ∷
-    ((label ++ byte ∷ []) ++ bytes)) count
-    ∙ ap (λ l. (length label + suc left) ∷ l) regrouped) end
-ends_after text labels [] zero (zero ∷ []) some all are place = absurd (omega arith)
-ends_after text labels (x ∷ label) zero (zero ∷ []) some all are place = record {
-  before = labels;
-  last = x ∷ label;
-  place = place;
-  name_is = ap (λ n. labels ++ (n ∷ ((x ∷ label) ++ 0 ∷ []))) (let e : length
-      (x ∷ label) + 0 ≡ length (x ∷ label) = omega arith in e);
-}
-ends_after text labels label zero (zero ∷ byte ∷ bytes) some all are place = absurd are
-ends_after text labels label zero (suc n ∷ bytes) some all are place =
-    let next : Place text (labels ++ wire_label label) [] (printed_after (suc n) bytes) =
-    after_dot labels label (printed_after (suc n) bytes) place in
-    let end : Ends text ((labels ++ wire_label label) ++ ((0 + suc n) ∷ bytes)) =
-    ends_after text (labels ++ wire_label label) [] (suc n) bytes (omega arith) (all_rest
-    (suc n) bytes all) are.1 next in
-    let count : 0 + suc n ≡ suc n = omega arith in
-    let sum : length label + 0 ≡ length label = omega arith in
+    after_symbol labels label (printed_byte byte) (printed_after left bytes) byte
+    (printed_symbol byte (All-head IsOctet byte bytes all)) place in
+    subst (λ l. Ends text (labels ++ (n ∷ l))) (append_assoc label (byte ∷ []) bytes)
+    (ends_after text labels (label ++ byte ∷ []) n left bytes
+    (omega (arith, is, length-append label (byte ∷ []))) some (All-tail IsOctet byte bytes all)
+    are next)
+ends_after text labels [] n zero (zero ∷ []) is some all are place = absurd (omega arith)
+ends_after text labels (x ∷ label) n zero (zero ∷ []) is some all are place =
+    let whole : n ≡ length (x ∷ label) = omega (arith, is) in record {
+      before = labels;
+      last = x ∷ label;
+      place = place;
+      name_is = ap (λ m. labels ++ (m ∷ ((x ∷ label) ++ 0 ∷ []))) whole;
+    }
+ends_after text labels label n zero (zero ∷ byte ∷ bytes) is some all are place = absurd are
+ends_after text labels label n zero (suc m ∷ bytes) is some all are place =
+    let whole : length label ≡ n = omega (arith, is) in
     subst (Ends text)
-    (append_assoc labels (wire_label label) ((0 + suc n) ∷ bytes)
-    ∙ ap (λ m. labels ++ (length label ∷ (label ++ (m ∷ bytes)))) count
-    ∙ ap (λ m. labels ++ (m ∷ (label ++ (suc n ∷ bytes)))) (sym sum))
-    end
+    (append_assoc labels (wire_label label) (suc m ∷ bytes)
+    ∙ ap (λ k. labels ++ (k ∷ (label ++ (suc m ∷ bytes)))) whole)
+    (ends_after text (labels ++ wire_label label) [] (suc m) (suc m) bytes (omega arith)
+    (omega arith) (All-tail IsOctet (suc m) bytes all) are.1
+    (after_dot labels label (printed_after (suc m) bytes) place))
 
 -- a text that begins with a symbol is not empty
-printed_some : (n : ℕ) (bytes : List ℕ) → All (λ b. b < 256) bytes → AreLabels (suc n) bytes
+printed_some : (n : ℕ) (bytes : List ℕ) → All IsOctet bytes → AreLabels (suc n) bytes
     → printed_after (suc n) bytes ≢ []
 printed_some n [] all are empty = are
 printed_some n (byte ∷ bytes) all are empty =
-    omega (
-      arith,
-      ap length empty,
-      length-append (printed_byte byte) (printed_after n bytes),
-      symbol_length (printed_byte byte) byte (printed_symbol byte (all_first byte bytes all)),
-    )
+    no_symbol [] refl (begins (printed_byte byte) (printed_after n bytes) byte
+    (printed_symbol byte (All-head IsOctet byte bytes all)) (sym empty))
 
 pub prints_its_spelling : PrintsItsSpelling
 prints_its_spelling [] wire = absurd wire.labels
 prints_its_spelling (zero ∷ []) wire = is_root refl refl
 prints_its_spelling (zero ∷ byte ∷ bytes) wire = absurd wire.labels
 prints_its_spelling (suc n ∷ bytes) wire =
-    let all : All (λ b. b < 256) bytes = all_rest (suc n) bytes wire.octets in
-    let end : Ends (printed_after (suc n) bytes) ((0 + suc n) ∷ bytes) =
-    ends_after (printed_after (suc n) bytes) [] [] (suc n) bytes
-    (omega arith) all wire.labels.1 at_start in
-    let count : 0 + suc n ≡ suc n = omega arith in
-    has_labels end.before end.last (printed_some n bytes all wire.labels.1) end.place
-    (ap (λ m. m ∷ bytes) (sym count) ∙ end.name_is) wire
+    let all : All IsOctet bytes = All-tail IsOctet (suc n) bytes wire.octets in
+    let end : Ends (printed_after (suc n) bytes) (suc n ∷ bytes) =
+    ends_after (printed_after (suc n) bytes) [] [] (suc n) (suc n) bytes (omega arith) (omega arith)
+    all wire.labels.1 at_start in
+    has_labels end.before end.last (printed_some n bytes all wire.labels.1) end.place end.name_is
+    wire

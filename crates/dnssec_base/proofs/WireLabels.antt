@@ -26,12 +26,18 @@ label_front [] bytes h = absurd (omega (arith, h.some))
 label_front (byte ∷ label) bytes h =
     (λ p. skip label bytes p.1, λ p. (omega (arith, h.fits), unskip label bytes p))
 
+-- a label that has bytes leaves one for the root
+pub label_room : (n : ℕ) (bytes : List ℕ) → 0 < n → AreLabels 0 (n ∷ bytes)
+    → (n ≤ 63) × (n < length bytes)
+label_room zero bytes some h = absurd (omega arith)
+label_room (suc n) bytes some h = (omega arith, left-le (suc n) bytes h.1)
+
 -- no label is longer than 63 bytes, or than the bytes that follow its length
 pub label_bounds : (n : ℕ) (bytes : List ℕ) → AreLabels 0 (n ∷ bytes)
     → (n ≤ 63) × (n ≤ length bytes)
 label_bounds zero bytes h = (omega arith, omega arith)
 label_bounds (suc n) bytes h =
-    let e : suc n < length bytes = left-le (suc n) bytes h.1 in (omega arith, omega arith)
+    let e = label_room (suc n) bytes (omega arith) h in (e.0, omega (arith, e.1))
 
 -- nothing follows the root
 pub root_last : (bytes : List ℕ) → AreLabels 0 (0 ∷ bytes) → 0 ∷ bytes ≡ 0 ∷ []

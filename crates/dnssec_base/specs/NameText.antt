@@ -104,7 +104,7 @@ pub record Stands (text : List ℕ) (fault : NameError) (place : ℕ) : Type 0 w
   pub after : List ℕ
   pub at : Place text labels label after
   pub is : IsFault fault labels label after
-  pub behind : place + length after ≡ length text
+  pub place_is : place + length after ≡ length text
 
 -- the fault stands first; at the same place a long label goes before a long name
 pub record StandsFirst (text : List ℕ) (fault : NameError) : Type 0 where

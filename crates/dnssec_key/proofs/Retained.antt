@@ -1,8 +1,7 @@
 -- What `retain` keeps of a list, if its closure stays as it is.
 use Rattle.std.proofs.Common.{◌≡◌, Bool, true, false, List, [], ◌∷◌, length, ◌∙◌, ap, arith, cond}
 use Rattle.std.proofs.Common.{refl, subst}
-use Rattle.std.specs.List.{filter, items_where_true}
-use Rattle.std.specs.List.Retain.{IsFiltered, ReturnsInTurn}
+use Rattle.std.specs.List.{filter, items_where_true, Retain.IsFiltered, Retain.ReturnsInTurn}
 
 module _ {X P : Type 0} (R : P → X → Bool → P → Type 0) (test : X → Bool) (p : P)
     (says : (x : X) (b : Bool) (q : P) → R p x b q → (q ≡ p) × (b ≡ test x)) where

@@ -1,61 +1,36 @@
 -- Stamps are written one by one, each on the keys that pass (`Writes::write`).
 use Rattle.std.proofs.Common.{◌≡◌, ℕ, Bool, true, false, refl}
-use Rattle.std.specs.Prelude.{if◌then◌else◌, ◌||◌, Option, Some}
-use Rattle.dnssec_base.specs.declared.stamps.Stamp.{Stamp}
+use Rattle.std.specs.Prelude.{if◌then◌else◌, ◌||◌}
 use Rattle.dnssec_base.specs.declared.stamps.Stamp.TheVariants.{Published, Visible, DsVisible}
 use Rattle.dnssec_base.specs.declared.stamps.Stamp.TheVariants.{RrsigVisible, Withdrawn}
-use Rattle.dnssec_base.specs.Stamps.{Stamps, with_stamp}
-use Rattle.dnssec_key.specs.declared.kind.KeyType.{KeyType}
-use Rattle.dnssec_key.specs.Stamping.{Writes, stamps_after}
+use Rattle.dnssec_base.specs.{declared.stamps.Stamp.Stamp, Stamps.Stamps, Stamps.with_stamp}
+use Rattle.dnssec_key.specs.{declared.kind.KeyType.KeyType, Stamping.Writes, Stamping.stamps_after}
 use Rattle.dnssec_key.specs.Inner.Columns.{put}
 
--- one stamp, by whether it was to be written before, and by whether it is now
-one : (a b : Bool) (x y : Option ℕ) → (if a || b then x else y)
-    ≡ (if b then x else (if a then x else y))
-one true true x y = refl
-one true false x y = refl
-one false true x y = refl
-one false false x y = refl
+or-true : (a : Bool) → (a || true) ≡ true
+or-true true = refl
+or-true false = refl
+
+or-false : (a : Bool) → (a || false) ≡ a
+or-false true = refl
+or-false false = refl
 
 module _ (w : Writes) (k : KeyType) (now : ℕ) (t : Stamps) where
-  then_one : (s : Stamp) (b : Bool) → stamps_after (put s (λ _. b) w) k now t
+  then_one : (p : KeyType → Bool) (s : Stamp) (b : Bool) → p k ≡ b
+      → stamps_after (put s p w) k now t
       ≡ (if b then with_stamp s now (stamps_after w k now t) else stamps_after w k now t)
-  then_one Published true = λ i. record (stamps_after w k now t) {
-    published = one (w.published k) true (Some now) t.published i;
-  }
-  then_one Published false = λ i. record (stamps_after w k now t) {
-    published = one (w.published k) false (Some now) t.published i;
-  }
-  then_one Visible true = λ i. record (stamps_after w k now t) {
-    visible = one (w.visible k) true (Some now) t.visible i;
-  }
-  then_one Visible false = λ i. record (stamps_after w k now t) {
-    visible = one (w.visible k) false (Some now) t.visible i;
-  }
-  then_one DsVisible true = λ i. record (stamps_after w k now t) {
-    ds_visible = one (w.ds_visible k) true (Some now) t.ds_visible i;
-  }
-  then_one DsVisible false = λ i. record (stamps_after w k now t) {
-    ds_visible = one (w.ds_visible k) false (Some now) t.ds_visible i;
-  }
-  then_one RrsigVisible true = λ i. record (stamps_after w k now t) {
-    rrsig_visible = one (w.rrsig_visible k) true (Some now) t.rrsig_visible i;
-  }
-  then_one RrsigVisible false = λ i. record (stamps_after w k now t) {
-    rrsig_visible = one (w.rrsig_visible k) false (Some now) t.rrsig_visible i;
-  }
-  then_one Withdrawn true = λ i. record (stamps_after w k now t) {
-    withdrawn = one (w.withdrawn k) true (Some now) t.withdrawn i;
-  }
-  then_one Withdrawn false = λ i. record (stamps_after w k now t) {
-    withdrawn = one (w.withdrawn k) false (Some now) t.withdrawn i;
-  }
+  then_one p Published true e = rw (e, or-true (w.published k))
+  then_one p Published false e = rw (e, or-false (w.published k))
+  then_one p Visible true e = rw (e, or-true (w.visible k))
+  then_one p Visible false e = rw (e, or-false (w.visible k))
+  then_one p DsVisible true e = rw (e, or-true (w.ds_visible k))
+  then_one p DsVisible false e = rw (e, or-false (w.ds_visible k))
+  then_one p RrsigVisible true e = rw (e, or-true (w.rrsig_visible k))
+  then_one p RrsigVisible false e = rw (e, or-false (w.rrsig_visible k))
+  then_one p Withdrawn true e = rw (e, or-true (w.withdrawn k))
+  then_one p Withdrawn false e = rw (e, or-false (w.withdrawn k))
 
   -- a further stamp is written last
   pub written : (p : KeyType → Bool) (s : Stamp) → stamps_after (put s p w) k now t
       ≡ (if p k then with_stamp s now (stamps_after w k now t) else stamps_after w k now t)
-  written p Published = then_one Published (p k)
-  written p Visible = then_one Visible (p k)
-  written p DsVisible = then_one DsVisible (p k)
-  written p RrsigVisible = then_one RrsigVisible (p k)
-  written p Withdrawn = then_one Withdrawn (p k)
+  written p s = then_one p s (p k) refl

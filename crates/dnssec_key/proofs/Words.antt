@@ -1,10 +1,8 @@
 -- The words so far grow by a separator and the next word, if its flag is set.
-use Rattle.std.proofs.Common.{◌≡◌, ℕ, ◌+◌, ◌<◌, Bool, true, false, List, [], ◌∷◌, ◌++◌, codes}
-use Rattle.std.proofs.Common.{map, take, length, get_or, refl, sym, ◌∙◌, append-nil, append_assoc}
-use Rattle.std.proofs.lemmas.Grind.{flat_map-append}
-use Rattle.std.proofs.lemmas.List.{map-append, take_more}
-use Rattle.std.proofs.lemmas.List.Elements.{filter-append}
-use Rattle.std.specs.List.{flat_map}
+use Rattle.std.proofs.Common.{◌≡◌, ℕ, ◌+◌, ◌<◌, Bool, true, false, List, [], ◌∷◌, ◌++◌, codes, map}
+use Rattle.std.proofs.Common.{take, length, get_or, refl, sym, ◌∙◌, append-nil, append_assoc}
+use Rattle.std.proofs.lemmas.{Grind.flat_map-append, List.map-append, List.take_more}
+use Rattle.std.{proofs.lemmas.List.Elements.filter-append, specs.List.flat_map}
 use Rattle.dnssec_key.specs.Texts.{comma_list, set_words}
 use denote.Bor.{Bor}
 

@@ -382,9 +382,9 @@ cache_expire First ttl = CacheExpire1 ttl
 cache_expire Second ttl = CacheExpire2 ttl
 
 -- the phase after the wait
-abbrev pub behind : Half → RollState
-behind First = Propagation2
-behind Second = Done
+abbrev pub after_expiry : Half → RollState
+after_expiry First = Propagation2
+after_expiry Second = Done
 
 -- what a roll asks of the operator in a phase
 abbrev pub actions_of : RollType → RollState → List Action

@@ -32,12 +32,8 @@ wants AlgorithmRoll = PresentKskRole ∷ PresentZskRole ∷ []
 
 -- only an algorithm roll goes from one set of algorithms to another (RFC 6781, section 4.1.4)
 abbrev pub may_change_algorithms : RollType → Bool
-may_change_algorithms KskRoll = false
-may_change_algorithms KskDoubleDsRoll = false
-may_change_algorithms ZskRoll = false
-may_change_algorithms ZskDoubleSignatureRoll = false
-may_change_algorithms CskRoll = false
 may_change_algorithms AlgorithmRoll = true
+may_change_algorithms _ = false
 
 -- This wait may change which keys that stay are in the DNSKEY set or have a DS. By the first wait
 -- of a roll that changes KSKs a DS follows its key, or keys come in for others. By the second an

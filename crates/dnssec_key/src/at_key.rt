@@ -69,9 +69,20 @@ impl KeyTest {
 
 impl Writes {
     /// Writes the stamps of a key that is of this kind before the event.
-    #[tactic(auto, using(crate::proofs::Stampings::written))]
+    // Most waits write none, and so make no call.
     #[inline(always)]
     pub(crate) fn write(&self, key: &KeyType, now: UnixTime, stamps: &mut KeyTimestamps)
+        ensures { stamps.new ≡ stamps_after (writes_of self.now) key.now now stamps.old }
+    {
+        match self {
+            Writes::Nothing => {}
+            some => some.write_each(key, now, stamps),
+        }
+    }
+
+    /// Writes them one by one.
+    #[tactic(auto, using(crate::proofs::Stampings::written))]
+    fn write_each(&self, key: &KeyType, now: UnixTime, stamps: &mut KeyTimestamps)
         ensures { stamps.new ≡ stamps_after (writes_of self.now) key.now now stamps.old }
     {
         match self {

@@ -1,6 +1,6 @@
 //! Rolls: their kinds, their phases, their halves, and what they ask of the operator.
 ghost use Rattle.std.specs.Prelude.{◌≡◌};
-ghost use Rattle.dnssec_key.specs.RollTable.{which, behind, cache_expire};
+ghost use Rattle.dnssec_key.specs.RollTable.{which, after_expiry, cache_expire};
 ghost use Rattle.dnssec_key.specs.Texts.{NamesRoll};
 
 use dnssec_base::Error;
@@ -139,8 +139,8 @@ impl Half {
     }
 
     /// The phase after the wait.
-    pub fn behind(self) -> RollState
-        ensures { result ≡ behind (which self) }
+    pub fn after_expiry(self) -> RollState
+        ensures { result ≡ after_expiry (which self) }
     {
         match self {
             Half::First => RollState::Propagation2,

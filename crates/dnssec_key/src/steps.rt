@@ -86,6 +86,7 @@ pub fn move_on(key: &mut Key, roll: RollType, half: Half, now: UnixTime)
 }
 
 /// Whether a wait checks the key.
+#[inline(always)]
 pub fn is_checked(key: &Key, roll: RollType, half: Half) -> bool
     ensures { result ≡ (half_of roll (which half)).checks key.now.keytype }
 {

@@ -2,8 +2,7 @@
 use Rattle.std.proofs.Common.{rules, ◌≡◌, ◌+◌, ◌/◌, [], ◌∷◌, ◌++◌, refl, sym, ap, ◌∙◌, arith}
 use Rattle.std.proofs.Common.{append_assoc, codes}
 use Rattle.std.proofs.Output.{has_written_append, has_written_of_eq}
-use Rattle.std.proofs.lemmas.Bool.{ne_eqb}
-use Rattle.std.proofs.lemmas.Fmt.{decimal_digit}
+use Rattle.std.proofs.lemmas.{Bool.ne_eqb, Fmt.decimal_digit}
 use Rattle.dnssec_base.proofs.Decimals.{turn, place_left, nanos-in_table, all_decimals}
 use Rattle.dnssec_base.specs.ErrorTexts.{in_table, decimals_text}
 use Rattle.dnssec_base.proofs.text.write_decimals.Goals as goal

@@ -1,7 +1,6 @@
 -- A text that is none of the names, and two that are.
 use Rattle.std.proofs.Common.{refl}
-use Rattle.dnssec_base.specs.AlgorithmNames.{algorithm_named}
-use Rattle.dnssec_base.proofs.AlgorithmNames.{no_name}
+use Rattle.dnssec_base.{specs.AlgorithmNames.algorithm_named, proofs.AlgorithmNames.no_name}
 use Rattle.dnssec_base.proofs.algorithm.SecurityAlgorithm.from_name.Goals as goal
 
 pub returns-in_default : goal.returns-in_default

@@ -1,5 +1,4 @@
-use Rattle.std.proofs.Common.{arith}
-use Rattle.std.proofs.lemmas.Grind.{elements}
+use Rattle.std.proofs.{Common.arith, lemmas.Grind.elements}
 use Rattle.dnssec_base.proofs.name.Name+Vec+u8.try_clone.Goals as goal
 
 pub returns-clause-ok : goal.returns-clause-ok

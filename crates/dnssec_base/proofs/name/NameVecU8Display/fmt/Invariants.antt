@@ -2,8 +2,7 @@
 -- displays.
 use Rattle.std.proofs.Common.{◌≡◌, ℕ, List, ◌++◌, length}
 use Rattle.std.specs.Fmt.{HasWritten, IsPlainFormatter}
-use Rattle.dnssec_base.specs.WireName.{AreLabels}
-use Rattle.dnssec_base.specs.NameText.{name_text, printed_after}
+use Rattle.dnssec_base.specs.{WireName.AreLabels, NameText.name_text, NameText.printed_after}
 use Rattle.dnssec_base.proofs.name.NameVecU8Display.fmt.Given as goal
 
 abbrev pub invariant-labels : goal.invariant-labels

@@ -1,5 +1,4 @@
-use Rattle.std.proofs.Common.{arith}
-use Rattle.std.proofs.lemmas.Grind.{common_steps}
+use Rattle.std.proofs.{Common.arith, lemmas.Grind.common_steps}
 use Rattle.dnssec_base.proofs.name.piece.split_decimal.Goals as goal
 
 pub returns-clause-some : goal.returns-clause-some

@@ -1,10 +1,8 @@
 -- Each piece takes the reader to the next place, or its fault stands first: for `from_str`.
 use Rattle.std.proofs.Common.{◌≡◌, List, sym, ap, subst, ◌∙◌, length, arith, ℕ}
-use Rattle.std.proofs.lemmas.List.{nil_from_length}
-use Rattle.std.proofs.lemmas.Result.{err_from_is_err_and}
+use Rattle.std.proofs.lemmas.{List.nil_from_length, Result.err_from_is_err_and}
 use Rattle.dnssec_base.specs.Inner.Pieces.{IsPiece}
-use Rattle.dnssec_base.specs.declared.name.piece.Piece.{Piece}
-use Rattle.dnssec_base.specs.declared.name.piece.Piece.TheVariants.{Dot, Byte}
+use Rattle.dnssec_base.specs.declared.name.piece.Piece.{Piece, TheVariants.Dot, TheVariants.Byte}
 use Rattle.dnssec_base.proofs.Reading.{reads_start, reads_dot, reads_byte, empty_label, over_limit}
 use Rattle.dnssec_base.proofs.Reading.{reads_end}
 use Rattle.dnssec_base.proofs.name.read.read.Goals as goal

@@ -1,5 +1,4 @@
-use Rattle.std.proofs.Common.{arith}
-use Rattle.std.proofs.lemmas.Grind.{elements}
+use Rattle.std.proofs.{Common.arith, lemmas.Grind.elements}
 use Rattle.dnssec_base.proofs.name.wire.is_wire_name.Goals as goal
 
 pub returns-then-octets-le-MAX_NAME : goal.returns-then-octets-le-MAX_NAME

@@ -1,10 +1,9 @@
 -- What is written so far are the words of the flags so far.
-use Rattle.std.proofs.Common.{◌≡◌}
-use denote.Text.{Utf8}
-use denote.Shadow.{shadow}
-use Rattle.std.specs.Fmt.{HasWritten, IsPlainFormatter}
+use Rattle.std.{proofs.Common.◌≡◌, specs.Fmt.HasWritten, specs.Fmt.IsPlainFormatter}
 use Rattle.dnssec_key.specs.Texts.{comma_list}
 use Rattle.dnssec_key.proofs.Words.{separator_after, words_before}
+use denote.Text.{Utf8}
+use denote.Shadow.{shadow}
 use Rattle.dnssec_key.proofs.state.KeyStateDisplay.fmt.Given as goal
 
 abbrev pub invariant-loop-is_set : goal.invariant-loop-is_set

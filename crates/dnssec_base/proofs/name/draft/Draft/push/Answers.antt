@@ -1,5 +1,4 @@
-use Rattle.std.proofs.Common.{arith}
-use Rattle.std.proofs.lemmas.Grind.{common_steps}
+use Rattle.std.proofs.{Common.arith, lemmas.Grind.common_steps}
 use Rattle.dnssec_base.proofs.name.draft.Draft.push.Goals as goal
 
 pub returns-then-self-gt-MAX_NAME-clause-limit : goal.returns-then-self-gt-MAX_NAME-clause-limit

@@ -1,7 +1,6 @@
 -- A byte that is not visible prints its number: for what a name displays.
-use Rattle.std.proofs.lemmas.Grind.{common_steps}
 use Rattle.std.proofs.Common.{◌⊎◌, ◌<◌, ◌≤◌, arith, inl, inr, ap, ◌∙◌, ◌∷◌}
-use Rattle.std.proofs.Output.{has_written_of_eq}
+use Rattle.std.proofs.{lemmas.Grind.common_steps, Output.has_written_of_eq}
 use Rattle.std.specs.Fmt.{styled_decimal}
 use Rattle.dnssec_base.proofs.PrintedBytes.{styled}
 use Rattle.dnssec_base.proofs.name.print.LabelByteDisplay.fmt.Goals as goal
