@@ -1,21 +1,15 @@
 -- What an accepted or a refused call found and left: for the chain of trust and the laws of runs.
-use Rattle.dnssec_keyset.proofs.After.{changed}
-use Rattle.dnssec_keyset.proofs.Changes.{Changes}
-use Rattle.std.proofs.Common.{◌≡◌, Bool, true, false, refl, sym, Option, None, Some, arith}
-use Rattle.std.specs.Prelude.{if◌then◌else◌, is_some}
-use Rattle.std.proofs.lemmas.Bool.{true≢false}
-use Rattle.std.proofs.lemmas.Option.{none-some}
-use Rattle.dnssec_key.specs.declared.roll.RollState.{RollState}
+use Rattle.dnssec_keyset.{proofs.After.changed, proofs.Changes.Changes, specs.KeySet.KeySetParts}
+use Rattle.std.proofs.Common.{◌≡◌, Bool, true, false, Option, None, Some, arith}
+use Rattle.std.{specs.Prelude.if◌then◌else◌, specs.Prelude.is_some, proofs.lemmas.Bool.true≢false}
 use Rattle.dnssec_key.specs.declared.roll.RollState.TheVariants.{Propagation1, Propagation2, Done}
+use Rattle.dnssec_key.specs.{declared.roll.RollState.RollState, RollTable.First, RollTable.Second}
+use Rattle.dnssec_key.specs.Key.{KeyParts}
 use Rattle.dnssec_base.specs.declared.error.Error.{Error}
-use Rattle.dnssec_keyset.specs.KeySet.{KeySetParts}
-use Rattle.dnssec_key.specs.RollTable.{First, Second}
-use Rattle.dnssec_zone.specs.Refusals.{deletion_refusal}
+use Rattle.dnssec_zone.{specs.Refusals.deletion_refusal, proofs.Flags.is_stale}
 use Rattle.dnssec_keyset.specs.Step as keyset
 use Rattle.dnssec_zone.specs.Wait as waits
 use Rattle.dnssec_zone.specs.Refusals as refusals
-use Rattle.dnssec_zone.proofs.Flags.{is_stale}
-use Rattle.dnssec_key.specs.Key.{KeyParts}
 
 abbrev pub is_refused : keyset.Reply → Bool
 is_refused (keyset.Refused cause) = true
@@ -37,25 +31,15 @@ pub no_error : (b : Bool) (e : Error) (o : Option Error) → (if b then Some e e
 no_error b e o h = (grind arith, grind arith)
 
 -- what is needed for no cause is there
-pub needed : (b : Bool) (e : Error) (o : Option Error) → (if b then o else Some e) ≡ None
-    → b ≡ true
+pub needed : (b : Bool) (e : Error) (o : Option Error) → (if b then o else Some e) ≡ None → b ≡ true
 needed b e o h = grind arith
 
 -- a key that may be deleted is there, and stale
 pub gone_key : (o : Option KeyParts) → deletion_refusal o ≡ None → (k : KeyParts) × (o ≡ Some k)
     × (is_stale k.keytype ≡ true)
-gone_key None e = absurd (none-some _ (sym e))
-gone_key (Some k) e = (k, refl, needed (is_stale k.keytype) Error.KeyNotOld None e)
+gone_key o e = grind arith
 
--- the phases in which a report and the end of a roll are accepted
-pub spreads_first : (o : Option RollState) → refusals.report_refusal First o ≡ None
-    → o ≡ Some Propagation1
-spreads_first o e = grind arith
-
-pub spreads_second : (o : Option RollState) → refusals.report_refusal Second o ≡ None
-    → o ≡ Some Propagation2
-spreads_second o e = grind arith
-
+-- the phase in which the end of a roll is accepted
 pub finishes : (o : Option RollState) → refusals.end_refusal o ≡ None → o ≡ Some Done
 finishes o e = grind arith
 
@@ -67,4 +51,4 @@ ends_early o e = grind arith
 -- an add is accepted only at a reference that no key has
 pub add_free : (a b : Bool) (x y : Error)
     → (if a then Some x else (if b then Some y else None)) ≡ None → b ≡ false
-add_free a b x y e = (no_error b y None (no_error a x (if b then Some y else None) e).1).0
+add_free a b x y e = grind arith

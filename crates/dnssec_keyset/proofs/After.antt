@@ -1,34 +1,23 @@
 -- What an accepted call changes fixes the set afterwards: it is the function of the set before and
 -- the call.
-use Rattle.dnssec_keyset.proofs.Changes.{Changes}
-use Rattle.std.proofs.Common.{◌≡◌, ℕ, cond, List, [], ◌∷◌, map, Some, None, refl, inl, inr, sym, ap}
-use Rattle.std.proofs.Common.{◌∙◌, subst}
-use Rattle.std.specs.Option.{option_map}
-use Rattle.std.specs.Str.{bytes_eq}
-use Rattle.std.specs.Ordering.{nat_cmp, is_eq, eq_by_cmp}
-use Rattle.std.specs.Cmp.Lexicographic.{slice_cmp, nat_list_cmp_total, nat_list_eq_equiv}
-use Rattle.std.specs.FinMap.{find, get, entries, get-entries, get-from_entries, get-insert}
-use Rattle.std.specs.FinMap.{get-remove}
-use Rattle.std.proofs.lemmas.Bool.{cases_Bool}
-use Rattle.std.proofs.lemmas.Iterator.Adapters.{option_map_id}
-use Rattle.std.proofs.lemmas.Map.Text.{is_eq-slice_cmp}
-use Rattle.dnssec_key.specs.Key.{KeyParts}
-use Rattle.dnssec_zone.specs.Keys.{Keys}
-use Rattle.dnssec_keyset.specs.KeySet.{KeySetParts}
+use Rattle.dnssec_zone.proofs.Counted.Lists.{get-with, get-without}
+use Rattle.dnssec_zone.{specs.Keys.Keys, proofs.Shown.same_keys, proofs.Quantified.same_key}
 use Rattle.dnssec_keyset.specs.Step.{Call, AddKey, DeleteKey, RollDone, Reply, Refused, Step, after}
 use Rattle.dnssec_keyset.specs.Step.{after_reply, keys_by}
-use Rattle.dnssec_zone.proofs.Shown.{same_keys}
-use Rattle.dnssec_zone.proofs.Quantified.{same_key}
+use Rattle.dnssec_keyset.{proofs.Changes.Changes, specs.KeySet.KeySetParts}
+use Rattle.std.proofs.Common.{◌≡◌, ℕ, List, [], ◌∷◌, map, refl, sym, ap, ◌∙◌, arith, subst}
+use Rattle.std.proofs.lemmas.Iterator.Adapters.{option_map_id}
+use Rattle.std.specs.FinMap.{find, get, entries, get-entries, get-from_entries}
+use Rattle.std.specs.{Option.option_map, Ordering.nat_cmp, Cmp.Lexicographic.slice_cmp}
+use Rattle.std.specs.Cmp.Lexicographic.{nat_list_cmp_total}
+use Rattle.dnssec_key.specs.Key.{KeyParts}
 
 module _ (f : List ℕ → KeyParts → KeyParts) where
   find-by : (es : List (List ℕ × KeyParts)) (q : List ℕ)
       → find (slice_cmp nat_cmp) q (map (λ (e : List ℕ × KeyParts). (e.0, f e.0 e.1)) es)
       ≡ option_map (f q) (find (slice_cmp nat_cmp) q es)
   find-by [] q = refl
-  find-by (e ∷ es) q = elim (cases_Bool (is_eq (slice_cmp nat_cmp q e.0))) [
-    | inl tied ↦ rw (tied) (ap (λ x. Some (f x e.1)) (sym (same_key q e.0 tied)))
-    | inr apart ↦ rw (apart) (find-by es q)
-  ]
+  find-by (e ∷ es) q = grind (arith, same_key q e.0, find-by es q)
 
   -- a look-up after every key went by f
   pub get-keys_by : (keys : Keys) (q : List ℕ) → get (keys_by f keys) q
@@ -37,32 +26,14 @@ module _ (f : List ℕ → KeyParts → KeyParts) where
       (map (λ (e : List ℕ × KeyParts). (e.0, f e.0 e.1)) (entries keys)) q
       ∙ find-by (entries keys) q ∙ ap (option_map (f q)) (sym (get-entries keys q))
 
--- two tests of a reference
-tied : (r q : List ℕ) → bytes_eq r q ≡ eq_by_cmp (slice_cmp nat_cmp) q r
-tied r q = nat_list_eq_equiv.symm r q ∙ sym (is_eq-slice_cmp q r)
-
 -- the set afterwards changes as the call does
 pub after-changes : (old : KeySetParts) (call : Call) → Changes old call (after call old)
-after-changes old (AddKey r key) = record {
-  name = refl;
-  rolls = refl;
-  lists = refl;
-  keys = λ q. get-insert nat_list_cmp_total old.keys r key q
-      ∙ sym (ap (λ b. cond b (Some key) (get old.keys q)) (tied r q));
-}
-after-changes old (DeleteKey r) = record {
-  name = refl;
-  rolls = refl;
-  lists = refl;
-  keys = λ q. get-remove nat_list_cmp_total old.keys r q
-      ∙ sym (ap (λ b. cond b None (get old.keys q)) (tied r q));
-}
-after-changes old (RollDone roll) = record {
-  name = refl;
-  rolls = refl;
-  lists = refl;
-  keys = λ q. sym (option_map_id (get old.keys q));
-}
+after-changes old (AddKey r key) =
+    record { name = refl; rolls = refl; lists = refl; keys = λ q. get-with old.keys r q key }
+after-changes old (DeleteKey r) =
+    record { name = refl; rolls = refl; lists = refl; keys = get-without old.keys r }
+after-changes old (RollDone roll) =
+    record { name = refl; rolls = refl; lists = refl; keys = λ q. sym (option_map_id _) }
 after-changes old _ =
     record { name = refl; rolls = refl; lists = refl; keys = get-keys_by _ old.keys }
 

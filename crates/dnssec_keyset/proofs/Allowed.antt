@@ -1,23 +1,18 @@
 -- From what a call found and changed to the allowed step.
-use Rattle.std.proofs.Common.{arith, ◌≡◌, ℕ, Bool, List, Some, None, Ok, Err, inl, inr, refl, ap}
-use Rattle.std.proofs.Common.{sym, ◌∙◌}
+use Rattle.std.proofs.Common.{arith, ◌≡◌, ℕ, Bool, List, Some, None, Ok, Err, refl, ap, sym, ◌∙◌}
 use Rattle.std.specs.Prelude.{Option, Result, OnOk, OnErr, if◌then◌else◌}
-use Rattle.std.specs.FinMap.{get}
-use Rattle.std.specs.Option.{option_map}
-use Rattle.std.specs.Str.{bytes_eq}
+use Rattle.std.specs.{FinMap.get, Option.option_map, Str.bytes_eq}
 use Rattle.dnssec_base.specs.declared.error.Error.{Error}
 use Rattle.dnssec_keyset.specs.KeySet.{KeySetParts}
 use Rattle.dnssec_keyset.specs.Step.{Call, AddKey, Set, Reply, Done, Refused, AnswersWait}
 use Rattle.dnssec_keyset.specs.Step.{accepted_reply, clearance, IsRefusedFor, Step, reply_done}
-use Rattle.dnssec_keyset.proofs.After.{changes-after}
-use Rattle.dnssec_keyset.proofs.Changes.{Changes}
-use Rattle.dnssec_zone.specs.Wait.{Clearance, Barred, Early, Clear, barred_by}
+use Rattle.dnssec_keyset.proofs.{After.changes-after, Changes.Changes}
+use Rattle.dnssec_zone.specs.Wait.{Clearance, Clear, barred_by}
+use Rattle.dnssec_zone.specs.Refusals.{Answers, AnswersExactly, add_refusal}
+use Rattle.dnssec_zone.specs.{Keys.Keys, Lists.Lists, Lists.without}
+use Rattle.dnssec_zone.proofs.Starts.{passed}
 use Rattle.dnssec_key.specs.Key.{KeyParts}
 use Rattle.dnssec_key.specs.Setters.{Setting, is_flag_setting, set_by}
-use Rattle.dnssec_zone.specs.Keys.{Keys}
-use Rattle.dnssec_zone.specs.Lists.{Lists, without}
-use Rattle.dnssec_zone.specs.Refusals.{Answers, AnswersExactly, add_refusal}
-use Rattle.dnssec_zone.proofs.Starts.{passed}
 
 -- no accepted call answers a cause
 not-refused : (call : Call) (cause : Error) → Refused cause ≡ accepted_reply call → ⊥
@@ -40,9 +35,7 @@ came_in o x h = grind arith
 
 -- a wait that passed is over
 pub over : {T : Type 0} (v : Clearance) (x : T) → AnswersWait v (Ok x) → v ≡ Clear
-over (Barred e) x h = cc
-over (Early left) x h = let e = h.1 in cc
-over Clear x h = refl
+over v x h = grind arith
 
 -- an add answers what the keys answer
 pub add-step : (old : KeySetParts) (keys : Keys) (lists : Lists) (reference : List ℕ)
@@ -52,17 +45,15 @@ pub add-step : (old : KeySetParts) (keys : Keys) (lists : Lists) (reference : Li
     ≡ (if bytes_eq reference q then Some key else get old.keys q))
     → OnErr r (keys ≡ old.keys)
     → Step old (AddKey reference key) (reply_done r) (record old { keys = keys; lists = lists })
-add-step old keys lists reference key (Ok u) kept told put same =
-    accepted-step old _ (AddKey reference key) Done (ap barred_by (came_in _ u told)) refl
+add-step old keys lists reference key (Ok u) kept reply put same =
+    accepted-step old _ (AddKey reference key) Done (ap barred_by (came_in _ u reply)) refl
     (record { name = refl; rolls = refl; lists = kept; keys = put })
-add-step old keys lists reference key (Err e) kept told put same =
-    (refused _ told, λ i. record old { keys = same i; lists = kept i })
+add-step old keys lists reference key (Err e) kept reply put same =
+    (refused _ reply, λ i. record old { keys = same i; lists = kept i })
   where
     refused : (o : Option Error) → Answers {T = Unit {0}} o (Err e)
         → IsRefusedFor (barred_by o) (AddKey reference key) e
-    refused None (inl h) = cc
-    refused None (inr h) = (tt, cc)
-    refused (Some cause) h = cc
+    refused o h = grind arith
 
 -- a key is changed by hand; if a flag was set, it is no longer listed
 pub set-step : (old : KeySetParts) (keys : Keys) (lists : Lists) (reference : List ℕ)

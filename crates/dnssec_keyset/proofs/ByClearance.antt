@@ -1,15 +1,11 @@
 -- The allowed step once more, by the clearance in place of the reply.
-use Rattle.std.proofs.Common.{◌≡◌, inl, inr, sym, ap, subst}
-use Rattle.std.specs.Prelude.{◌⊎◌}
-use Rattle.std.specs.Duration.{as_nanos}
-use Rattle.std.specs.declared.time.Duration.{Duration}
+use Rattle.std.proofs.Common.{◌≡◌, arith, inl}
+use Rattle.std.specs.{Prelude.◌⊎◌, Duration.as_nanos, declared.time.Duration.Duration}
 use Rattle.dnssec_base.specs.declared.error.Error.TheVariants.{Wait as WaitFor, OutOfMemory}
 use Rattle.dnssec_zone.specs.Wait.{Clearance, Barred, Early, Clear}
-use Rattle.dnssec_keyset.specs.KeySet.{KeySetParts}
-use Rattle.dnssec_keyset.specs.Step.{Call, Reply, Done, Actions, Refused, accepted_reply, clearance}
-use Rattle.dnssec_keyset.specs.Step.{IsRefusedFor, TakesMemory, Step}
-use Rattle.dnssec_keyset.proofs.After.{changed}
-use Rattle.dnssec_keyset.proofs.Changes.{Changes}
+use Rattle.dnssec_keyset.specs.Step.{Call, Reply, Refused, accepted_reply, clearance, IsRefusedFor}
+use Rattle.dnssec_keyset.specs.Step.{TakesMemory, Step}
+use Rattle.dnssec_keyset.{specs.KeySet.KeySetParts, proofs.After.changed, proofs.Changes.Changes}
 
 -- a call with this clearance may have the reply and leave new
 abbrev pub StepBy : Clearance → KeySetParts → Call → Reply → KeySetParts → Type 0
@@ -25,10 +21,5 @@ pub by-clearance : (old new : KeySetParts) (call : Call) (reply : Reply) → Ste
 by-clearance old new call (Refused cause) h = at (clearance old call) h.0
   where
     at : (v : Clearance) → IsRefusedFor v call cause → StepBy v old call (Refused cause) new
-    at (Barred x) e = (ap Refused e, h.1)
-    at (Early left) e = ((e.0, ap Refused e.1, e.2), h.1)
-    at Clear e = inr (e.0, ap Refused e.1, h.1)
-by-clearance old new call Done h = subst (λ v. StepBy v old call Done new) (sym h.0)
-    (inl (h.1, changed old new call h.2))
-by-clearance old new call (Actions xs) h =
-    subst (λ v. StepBy v old call (Actions xs) new) (sym h.0) (inl (h.1, changed old new call h.2))
+    at v e = grind (arith, h.1)
+by-clearance old new call _ h = rw (h.0) (inl (h.1, changed old new call h.2))

@@ -5,5 +5,5 @@
 -- | `exchange` | `NeighboursMayBeExchanged` | `Law.exchange` | all, in the order below     |
 pub mod Kinds
 pub mod Seen
-pub mod Told
+pub mod Clearances
 pub mod Law

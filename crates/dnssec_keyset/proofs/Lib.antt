@@ -2,8 +2,8 @@
 --
 -- | Function or law                | Lemma                          | Files                |
 -- |--------------------------------|--------------------------------|----------------------|
--- | `check_start`                  | `told-start`                   | StartReplies         |
--- | `check_wait`                   | `told-early`, `told-over`      | WaitReplies          |
+-- | `check_start`                  | `start-answer`                 | StartReplies         |
+-- | `check_wait`, `over_in_phase`  | `ttl-shown`, `no-wait`         | WaitReplies          |
 -- | `StaysSound`                   | `apart-step`, `together-step`  | Laws                 |
 -- | `KeepsSidesApart`              | `leaves-others`                | Sides, Moves         |
 -- | `NeighboursMayBeExchanged`     | `Law.exchange`                 | Exchange             |

@@ -2,36 +2,28 @@
 -- the lists of the step.
 use Rattle.std.proofs.Common.{arith, ◌≡◌, ℕ, not, List, [], Some, None, Ok, Err, refl, sym, ap}
 use Rattle.std.proofs.Common.{subst, ◌∙◌}
-use Rattle.std.specs.Prelude.{Option, Result, OnOk, OnErr, if◌then◌else◌}
-use Rattle.std.specs.Option.{option_map}
-use Rattle.std.specs.Str.{bytes_eq}
-use Rattle.std.specs.FinMap.{get}
+use Rattle.std.specs.Prelude.{Result, OnOk, OnErr, if◌then◌else◌}
+use Rattle.std.specs.{Option.option_map, Str.bytes_eq, FinMap.get}
 use Rattle.dnssec_base.specs.declared.error.Error.{Error}
-use Rattle.dnssec_key.specs.declared.roll.RollType.{RollType}
-use Rattle.dnssec_key.specs.Key.{KeyParts}
 use Rattle.dnssec_key.specs.RollTable.{Half, First, Second, after_start, after_report, after_wait}
 use Rattle.dnssec_key.specs.RollTable.{after_early_end, old_at_start, new_at_start}
-use Rattle.dnssec_key.specs.Setters.{Setting, set_by}
-use Rattle.dnssec_zone.specs.declared.listed.Entry.{Entry}
-use Rattle.dnssec_zone.specs.declared.listed.Part.TheVariants.{Old, New}
+use Rattle.dnssec_key.specs.{declared.roll.RollType.RollType, Key.KeyParts, Setters.Setting}
+use Rattle.dnssec_key.specs.Setters.{set_by}
 use Rattle.dnssec_zone.specs.Inner.Entries.{EntriesAgree, lists_of, without_tag, without_roll}
 use Rattle.dnssec_zone.specs.Inner.Entries.{entries_at_start, entries_after_report, has_entry}
 use Rattle.dnssec_zone.specs.Inner.Entries.{is_of_roll}
-use Rattle.dnssec_zone.specs.Keys.{Keys}
 use Rattle.dnssec_zone.specs.Lists.{Lists, listed_by, without, with_listed, listed_at_start}
 use Rattle.dnssec_zone.specs.Lists.{nothing_listed, lists_after_report}
-use Rattle.dnssec_zone.specs.Refusals.{Answers, add_refusal}
-use Rattle.dnssec_zone.specs.Start.{is_listed}
+use Rattle.dnssec_zone.specs.declared.listed.{Entry.Entry, Part.TheVariants.Old}
+use Rattle.dnssec_zone.specs.{declared.listed.Part.TheVariants.New, Keys.Keys, Refusals.Answers}
+use Rattle.dnssec_zone.specs.{Refusals.add_refusal, Start.is_listed}
 use Rattle.dnssec_zone.proofs.Listing.References.{means-mapped, means-added, means-removed}
 use Rattle.dnssec_zone.proofs.Listing.References.{forgotten, has_entry-is, there-filter}
 use Rattle.dnssec_zone.proofs.Listing.Starts.{lists_of-started, there-started, news-kept}
 use Rattle.dnssec_zone.proofs.Listing.Starts.{lists_of-reported, lists_of-taken_out}
 use Rattle.dnssec_zone.proofs.Tags.{kept_at, kept_set, kept_unmarked}
-use Rattle.dnssec_keyset.specs.KeySet.{KeySetParts}
-use Rattle.dnssec_keyset.specs.Step.{start_refusal}
-use Rattle.dnssec_keyset.proofs.Allowed.{came_in}
-use Rattle.dnssec_keyset.proofs.Laws.{no_add}
-use Rattle.dnssec_keyset.proofs.Moves.{kept_started}
+use Rattle.dnssec_keyset.specs.{KeySet.KeySetParts, Step.start_refusal}
+use Rattle.dnssec_keyset.proofs.{Allowed.came_in, Laws.no_add, Moves.kept_started}
 use Rattle.dnssec_keyset.proofs.Sides.{starts-clear}
 
 -- the entries agree with the keys, and mean these lists
@@ -47,14 +39,15 @@ taken_out roll keys es agree = record {
 }
 
 -- a key is changed by hand, and isn't forgotten
-pub set-kept : (old new : Keys) (r : List ℕ) (setting : Setting) → ((q : List ℕ) → get new q
+pub set-kept : {old new : Keys} {es : List Entry} → EntriesAgree old es → (r : List ℕ)
+    (setting : Setting) → ((q : List ℕ) → get new q
     ≡ option_map (λ k. if bytes_eq r q then set_by setting k else k) (get old q))
-    → (es : List Entry) → EntriesAgree old es → Listing new es (lists_of old es)
-set-kept old new r setting is =
+    → Listing new es (lists_of old es)
+set-kept {old} {new} {es} agree r setting is =
     means-mapped (λ q k. if bytes_eq r q then set_by setting k else k)
-    (λ q k. kept_at (set_by setting) (kept_set setting) (bytes_eq r q) k) old new is
+    (λ q k. kept_at (set_by setting) (kept_set setting) (bytes_eq r q) k) old new is es agree
 
-module _ (old new : Keys) (es : List Entry) (agree : EntriesAgree old es) where
+module _ {old : Keys} {es : List Entry} (agree : EntriesAgree old es) (new : Keys) where
   -- a key comes in, or none does
   pub added : (r : List ℕ) (x : KeyParts) (o : Result (Unit {0}) Error)
       → Answers (add_refusal old r x.key_tag) o
@@ -68,32 +61,24 @@ module _ (old new : Keys) (es : List Entry) (agree : EntriesAgree old es) where
 
   -- a key that has the tag
   module _ (r : List ℕ) (tag : ℕ)
-      (told : option_map (λ (k : KeyParts). k.key_tag) (get old r) ≡ Some tag) where
+      (has : option_map (λ (k : KeyParts). k.key_tag) (get old r) ≡ Some tag) where
     found : (x : KeyParts) × (get old r ≡ Some x) × (x.key_tag ≡ tag)
-    found = at (get old r) refl told
-      where
-        at : (o : Option KeyParts) → get old r ≡ o
-            → option_map (λ (k : KeyParts). k.key_tag) o ≡ Some tag
-            → (x : KeyParts) × (get old r ≡ Some x) × (x.key_tag ≡ tag)
-        at None f t = cc
-        at (Some x) f t = (x, f, cc)
+    found = grind (arith, has)
 
     -- it is changed by hand, and forgotten
     pub set-forgotten : (setting : Setting) → ((q : List ℕ) → get new q
         ≡ option_map (λ k. if bytes_eq r q then set_by setting k else k) (get old q))
         → Listing new (without_tag tag es) (without r (lists_of old es))
     set-forgotten setting is =
-        subst (λ t. Listing new (without_tag t es) (without r (lists_of old es))) found.2
+        rw (← found.2)
         (let kept = forgotten old es agree r found.0 found.1 in
-        let means = set-kept old new r setting is (without_tag found.0.key_tag es) kept.0 in
+        let means = set-kept kept.0 r setting is in
         (means.0, means.1 ∙ kept.1))
 
     -- it goes, and is forgotten
     pub removed : ((q : List ℕ) → get new q ≡ (if bytes_eq r q then None else get old q))
         → Listing new (without_tag tag es) (without r (lists_of old es))
-    removed is =
-        subst (λ t. Listing new (without_tag t es) (without r (lists_of old es))) found.2
-        (means-removed old es agree r found.0 found.1 new is)
+    removed is = rw (← found.2) (means-removed old es agree r found.0 found.1 new is)
 
   -- all keys go on
   pub waited : (roll : RollType) (half : Half) (now : ℕ)
@@ -137,34 +122,25 @@ module _ (old new : Keys) (es : List Entry) (agree : EntriesAgree old es) where
     pub undone-keys : (q : List ℕ) → get new q ≡ option_map (after_early_end roll
         (is_listed (listed_by (lists_of old es) roll).olds q)
         (is_listed (listed_by (lists_of old es) roll).news q)) (get old q)
-    undone-keys q = is q ∙ at (get old q) refl
-      where
-        at : (o : Option KeyParts) → get old q ≡ o →
-            option_map (λ k. after_early_end roll (has_entry roll Old k.key_tag es)
-            (has_entry roll New k.key_tag es) k) o
-            ≡ option_map (after_early_end roll
-            (is_listed (listed_by (lists_of old es) roll).olds q)
-            (is_listed (listed_by (lists_of old es) roll).news q)) o
-        at None f = refl
-        at (Some k) f = ap Some (λ i. after_early_end roll
-            (has_entry-is old agree.apart q k f roll Old es agree.there i)
-            (has_entry-is old agree.apart q k f roll New es agree.there i) k)
+    undone-keys q =
+        let listed : (k : KeyParts) → get old q ≡ Some k
+        → (has_entry roll Old k.key_tag es ≡ is_listed (listed_by (lists_of old es) roll).olds q)
+        × (has_entry roll New k.key_tag es ≡ is_listed (listed_by (lists_of old es) roll).news q) =
+        λ k f. (
+          has_entry-is old agree.apart q k f roll Old es agree.there,
+          has_entry-is old agree.apart q k f roll New es agree.there,
+        ) in
+        grind (arith, is q, listed)
 
 -- the keys are marked by a start
-module _ (set : KeySetParts) (new : Keys) (es : List Entry) (agree : EntriesAgree set.keys es)
+module _ (set : KeySetParts) {es : List Entry} (agree : EntriesAgree set.keys es) (new : Keys)
     (roll : RollType) (olds news : List (List ℕ)) (now : ℕ)
     (is : (q : List ℕ) → get new q
     ≡ option_map (λ k. if is_listed news q then new_at_start roll now k else k)
     (option_map (λ k. if is_listed olds q then old_at_start k else k) (get set.keys q))) where
   pub started-keys : (q : List ℕ) → get new q
       ≡ option_map (after_start roll now (is_listed olds q) (is_listed news q)) (get set.keys q)
-  started-keys q = is q ∙ at (get set.keys q)
-    where
-      at : (o : Option KeyParts) →
-          option_map (λ k. if is_listed news q then new_at_start roll now k else k)
-          (option_map (λ k. if is_listed olds q then old_at_start k else k) o)
-          ≡ option_map (after_start roll now (is_listed olds q) (is_listed news q)) o
-      at o = grind arith
+  started-keys q = is q ∙ (grind arith)
 
   pub started : start_refusal roll set olds news ≡ None
       → Listing new (entries_at_start set.keys roll olds news es)

@@ -13,8 +13,8 @@ use Rattle.std.specs.Str.{bytes_eq}
 use Rattle.dnssec_base.specs.declared.error.Error.{Error}
 use Rattle.dnssec_base.specs.declared.error.Error.TheVariants.{Wait as WaitFor, OutOfMemory}
 use Rattle.dnssec_key.specs.declared.roll.RollType.{RollType}
-use Rattle.dnssec_key.specs.RollTable.{Half, column, actions_of, behind, after_start, after_report}
-use Rattle.dnssec_key.specs.RollTable.{after_early_end, after_wait, cache_expire}
+use Rattle.dnssec_key.specs.RollTable.{Half, column, actions_of, after_expiry, after_start}
+use Rattle.dnssec_key.specs.RollTable.{after_report, after_early_end, after_wait, cache_expire}
 use Rattle.dnssec_key.specs.declared.roll.Action.{Action}
 use Rattle.dnssec_key.specs.Key.{KeyParts}
 use Rattle.dnssec_key.specs.Setters.{Setting, is_flag_setting, set_by}
@@ -106,7 +106,7 @@ accepted_reply (Set reference setting) = Done
 accepted_reply (DeleteKey reference) = Done
 accepted_reply (StartRoll roll olds news now) = Actions (actions_of roll Propagation1)
 accepted_reply (Report roll half ttl now) = Actions []
-accepted_reply (Wait roll half now) = Actions (actions_of roll (behind half))
+accepted_reply (Wait roll half now) = Actions (actions_of roll (after_expiry half))
 accepted_reply (RollDone roll) = Actions []
 accepted_reply (AbortRoll roll) = Actions (column roll).asks_early
 
@@ -144,7 +144,7 @@ after (Report roll half ttl now) set = record set {
 }
 after (Wait roll half now) set = record set {
   keys = keys_by (λ q. after_wait roll half now) set.keys;
-  rolls = with_phase set.rolls roll (Some (behind half));
+  rolls = with_phase set.rolls roll (Some (after_expiry half));
 }
 after (RollDone roll) set = record set { rolls = with_phase set.rolls roll None }
 after (AbortRoll roll) set =
@@ -163,7 +163,7 @@ TakesMemory (Set reference setting) = ⊥
 TakesMemory (DeleteKey reference) = ⊥
 TakesMemory (StartRoll roll olds news now) = Unit {0}
 TakesMemory (Report roll half ttl now) = ⊥
-TakesMemory (Wait roll half now) = actions_of roll (behind half) ≢ []
+TakesMemory (Wait roll half now) = actions_of roll (after_expiry half) ≢ []
 TakesMemory (RollDone roll) = ⊥
 TakesMemory (AbortRoll roll) = Unit {0}
 

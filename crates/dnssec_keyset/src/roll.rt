@@ -63,7 +63,7 @@ impl KeySet {
     /// Reports that all servers have what the start changed, at the moment `now`.
     ///
     /// The start's actions name the kinds of sets to report. `ttl` is the highest TTL, in seconds,
-    /// that a cache may still have for an older set of these kinds. No new action is due, so the
+    /// that a cache may still have for an older set of such a kind. No new action is due, so the
     /// answer is empty, and no memory is taken.
     ///
     /// # Errors
@@ -253,9 +253,9 @@ impl KeySet {
         ensures { Step self.old (Wait rolltype (which half) now.now) (reply_list result) self.new }
     {
         self.check_wait(rolltype, half, now)?;
-        let actions = list_actions(self.alloc, rolltype, half.behind())?;
+        let actions = list_actions(self.alloc, rolltype, half.after_expiry())?;
         self.keys.go_on_all(rolltype, half, *now);
-        self.rolls.move_to(rolltype, half.behind());
+        self.rolls.move_to(rolltype, half.after_expiry());
         Ok(actions)
     }
 }
@@ -269,7 +269,7 @@ fn list_actions(alloc: Global, roll: RollType, phase: RollState) -> Result<Vec<A
     copy_actions(alloc, roll.actions_in(phase))
 }
 
-/// A list of these actions. An empty list takes no memory.
+/// A list of the actions. An empty list takes no memory.
 fn copy_actions(alloc: Global, actions: &[Action]) -> Result<Vec<Action>, Error>
     ensures list { IfOk result (λ list. list.items ≡ actions.now) }
     ensures none { actions.now ≡ [] → IsOk result }

@@ -31,7 +31,7 @@ fn left_until(end: u128, now: u128, ttl: u32) -> Duration
 
 /// The moment of a nanosecond since 1970, if a `UnixTime` can have it.
 fn moment_of(nanos: u128) -> Option<UnixTime>
-    ensures told { IfSome result (λ moment. moment ≡ nanos) }
+    ensures same { IfSome result (λ moment. moment ≡ nanos) }
     ensures past { IfNone result (2 ^ 64 * 1_000_000_000 ≤ nanos) }
 {
     let seconds = u64::try_from(nanos / 1_000_000_000).ok()?;

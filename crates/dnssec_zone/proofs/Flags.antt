@@ -1,20 +1,16 @@
 -- What flags a key may have, by side, roll and phase: for the chain of trust and whole rolls.
-use Rattle.std.proofs.Common.{◌≡◌, Bool, true, false, not, ◌&&◌, refl, ap, arith}
-use Rattle.std.specs.Prelude.{if◌then◌else◌}
-use Rattle.std.proofs.lemmas.Bool.{and_left, and_parts, and_right}
-use Rattle.dnssec_key.specs.declared.roll.RollType.{RollType}
+use Rattle.std.proofs.Common.{◌≡◌, Bool, true, false, not, ◌&&◌, arith}
+use Rattle.std.{specs.Prelude.if◌then◌else◌, proofs.lemmas.Bool.and_parts}
 use Rattle.dnssec_key.specs.declared.roll.RollType.TheVariants.{KskDoubleDsRoll}
 use Rattle.dnssec_key.specs.declared.roll.RollType.TheVariants.{ZskDoubleSignatureRoll}
 use Rattle.dnssec_key.specs.declared.roll.RollType.TheVariants.{AlgorithmRoll}
-use Rattle.dnssec_key.specs.declared.kind.KeyType.{KeyType}
 use Rattle.dnssec_key.specs.declared.kind.KeyType.TheVariants.{Ksk, Zsk, Csk, Include}
+use Rattle.dnssec_key.specs.declared.{roll.RollType.RollType, kind.KeyType.KeyType}
 use Rattle.dnssec_key.specs.State.{Flags, is_used, is_stale as stale_state, Flags as KeyState}
 use Rattle.dnssec_key.specs.Key.{all_states}
 use Rattle.dnssec_key.specs.RollTable.{First, Second, half_of, column, at_roles, turns_old}
 use Rattle.dnssec_zone.specs.Start.{are_apart, lists_kind, side_of, KskSide, ZskSide}
-use Rattle.dnssec_zone.proofs.Tests.{each_in_roll, each_in_roll-at, each_key, each_key-at}
-use Rattle.dnssec_zone.proofs.Tests.{each_listed, each_listed-at, each_roll, each_roll-at, ◌⇒◌, mp}
-use Rattle.dnssec_zone.proofs.Tests.{alike, and-both}
+use Rattle.dnssec_zone.proofs.Tests.{each_roll, ◌⇒◌, alike}
 
 -- the kind and the flags of a key that is listed as old or not, and after a start
 abbrev pub listed_old : Bool → KeyType → KeyType
@@ -53,13 +49,6 @@ abbrev pub affects : SideOf → RollType → Bool
 affects Keys r = not (are_apart KskSide (side_of r))
 affects Zone r = not (are_apart ZskSide (side_of r))
 
--- a test of both sides
-abbrev pub each_side : (SideOf → Bool) → Bool
-each_side p = p Keys && p Zone
-
-pub each_side-at : (p : SideOf → Bool) → each_side p ≡ true → (sd : SideOf) → p sd ≡ true
-each_side-at p e sd = grind (arith, and_parts)
-
 -- how far a side is: in no roll, before its first wait, or after it
 pub data Stage : Type 0 where
   Quiet : Stage
@@ -71,15 +60,7 @@ abbrev pub each_stage : (Stage → Bool) → Bool
 each_stage p = p Quiet && each_roll (λ r. p (Early r)) && each_roll (λ r. p (Late r))
 
 pub each_stage-at : (p : Stage → Bool) → each_stage p ≡ true → (st : Stage) → p st ≡ true
-each_stage-at p e st =
-    let early = each_roll (λ r. p (Early r)) in
-    let x = and_parts (p Quiet && early) (each_roll (λ r. p (Late r))) e in
-    let y = and_parts (p Quiet) early x.0 in
-    elim st as (λ st. p st ≡ true) [
-      | Quiet ↦ y.0
-      | Early r ↦ each_roll-at (λ r. p (Early r)) y.1 r
-      | Late r ↦ each_roll-at (λ r. p (Late r)) x.1 r
-    ]
+each_stage-at p e st = grind (arith, and_parts)
 
 -- the flags that a KSK role may have at a stage: a Double-DS roll begins at the parent
 abbrev pub ksk_fits : Stage → KeyState → Bool
@@ -145,73 +126,38 @@ is_idle (Csk s t) = idle_state s && idle_state t
 is_idle (Include s) = true
 
 -- a key that a side doesn't see, or that is idle, fits any stage of it
-abbrev fit_table : SideOf → Stage → KeyType → Bool
-fit_table sd st k = not (has_role sd k && not (is_idle k)) ⇒ flags_fit sd st k
-
-fit_all : (a b : Bool)
-    → each_side (λ sd. each_stage (λ st. each_key a b (fit_table sd st))) ≡ true
-unfolding column
-fit_all a b = refl
-
-fit_holds : (sd : SideOf) (st : Stage) (k : KeyType) → fit_table sd st k ≡ true
-fit_holds sd st = each_key-at (fit_table sd st)
-    (λ a b. each_stage-at (λ st. each_key a b (fit_table sd st))
-    (each_side-at (λ sd. each_stage (λ st. each_key a b (fit_table sd st))) (fit_all a b) sd) st)
-
 pub unseen-fits : (sd : SideOf) (st : Stage) (k : KeyType) → has_role sd k ≡ false
     → flags_fit sd st k ≡ true
-unseen-fits sd st k e = mp _ _ (fit_holds sd st k) (ap not (and_left _ _ e))
+unseen-fits sd st k e = grind arith
 
 pub idle-fits : (sd : SideOf) (st : Stage) (k : KeyType) → is_idle k ≡ true → flags_fit sd st k
     ≡ true
-idle-fits sd st k e = mp _ _ (fit_holds sd st k) (ap not (and_right _ _ (ap not e)))
+unfolding column
+idle-fits sd st k e = grind arith
 
 pub stale-idle : (k : KeyType) → is_stale k ≡ true → is_idle k ≡ true
-stale-idle k = mp _ _ (each_key-at (λ k. is_stale k ⇒ is_idle k) (λ a b. refl) k)
+stale-idle k e = grind (arith, and_parts)
 
 pub blank-idle : (k : KeyType) → is_blank k ≡ true → is_idle k ≡ true
-blank-idle k = mp _ _ (each_key-at (λ k. is_blank k ⇒ is_idle k) (λ a b. refl) k)
+blank-idle k e = grind (arith, and_parts)
 
 -- ---- each call keeps it
-
-abbrev start_table : SideOf → RollType → Bool → Bool → KeyType → Bool
-start_table sd r o i k = (affects sd r && (may_start r o i k && flags_fit sd Quiet k))
-    ⇒ flags_fit sd (Early r) (started r o i k)
-
-start_all : (a b : Bool) → each_side (λ sd. each_listed a b (start_table sd)) ≡ true
-unfolding column
-start_all a b = refl
 
 -- a start
 pub start-fits : (sd : SideOf) (r : RollType) (o i : Bool) (k : KeyType) → affects sd r ≡ true
     → may_start r o i k ≡ true → flags_fit sd Quiet k ≡ true
     → flags_fit sd (Early r) (started r o i k) ≡ true
-start-fits sd r o i k own may fit = mp _ _
-    (each_listed-at (start_table sd)
-    (λ a b. each_side-at (λ sd. each_listed a b (start_table sd)) (start_all a b) sd) r o i k)
-    (and-both _ _ own (and-both _ _ may fit))
-
-abbrev wait_table : SideOf → RollType → KeyType → Bool
-wait_table sd r k = affects sd r ⇒ ((flags_fit sd (Early r) k
-    ⇒ flags_fit sd (Late r) ((half_of r First).moves k))
-    && (flags_fit sd (Late r) k ⇒ flags_fit sd Quiet ((half_of r Second).moves k)))
-
-wait_all : (a b : Bool) → each_side (λ sd. each_in_roll a b (wait_table sd)) ≡ true
 unfolding column
-wait_all a b = refl
-
-wait_facts : (sd : SideOf) (r : RollType) (k : KeyType) → affects sd r ≡ true
-    → ((flags_fit sd (Early r) k ⇒ flags_fit sd (Late r) ((half_of r First).moves k)) ≡ true)
-    × ((flags_fit sd (Late r) k ⇒ flags_fit sd Quiet ((half_of r Second).moves k)) ≡ true)
-wait_facts sd r k own = and_parts _ _ (mp _ _ (each_in_roll-at (wait_table sd)
-    (λ a b. each_side-at (λ sd. each_in_roll a b (wait_table sd)) (wait_all a b) sd) r k) own)
+start-fits sd r o i k own may fit = grind arith
 
 -- a first wait
 pub wait1-fits : (sd : SideOf) (r : RollType) (k : KeyType) → affects sd r ≡ true
     → flags_fit sd (Early r) k ≡ true → flags_fit sd (Late r) ((half_of r First).moves k) ≡ true
-wait1-fits sd r k own = mp _ _ (wait_facts sd r k own).0
+unfolding column
+wait1-fits sd r k own fit = grind arith
 
 -- a second wait
 pub wait2-fits : (sd : SideOf) (r : RollType) (k : KeyType) → affects sd r ≡ true
     → flags_fit sd (Late r) k ≡ true → flags_fit sd Quiet ((half_of r Second).moves k) ≡ true
-wait2-fits sd r k own = mp _ _ (wait_facts sd r k own).1
+unfolding column
+wait2-fits sd r k own fit = grind arith

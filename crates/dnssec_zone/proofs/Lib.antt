@@ -5,12 +5,12 @@
 -- | `Keys`: the map that it shows    | ruleset `shown`, `get-walked`  | Shown, Walks             |
 -- | `Derived`: the tags              | `TagsAgree-added` and the like | Tags, Quantified         |
 -- | `Derived`: the counts            | `counts-added` and the like    | Counted, Walks           |
--- | `check_many_new`                 | `fault-found`, `fault-behind`  | Entries, Marks           |
+-- | `check_many_new`                 | `fault-from`, `fault-listed`   | Entries, Marks           |
 -- | `mark_old`, `mark_new` and back  | `mark_more`                    | Marks                    |
 -- | `may_go_over`                    | `same_algorithms`              | Starts                   |
--- | `check_suitability`              | `all_met-walked`               | Starts                   |
+-- | `check_suitability`              | `all_met-is`                   | Starts                   |
 -- | `go_on_all`, `delete`            | `counts-waited` and the like   | Counted                  |
--- | `Lists`: the entries             | `list-more`, `filtered`        | Listing                  |
+-- | `Lists`: the entries             | `entries_of-at`, `filtered`    | Listing                  |
 -- | the phases of rolls              | ruleset `phases`               | Phases                   |
 -- | `over_from`                      | `walk-lacks`, `walk-over`      | Longest                  |
 -- | `Derived`: the reported wait     | `known-after`, `known-removed` | Reported                 |

@@ -1,18 +1,14 @@
 -- The phases that a key set shows, read through the hash map that it holds.
 use Rattle.std.proofs.Common.{◌≡◌, cond, refl, sym, ◌∙◌, true, ap, arith}
-use Rattle.std.specs.Prelude.{Option, nat_eq}
-use Rattle.std.proofs.lemmas.Bool.{cond_both, eq-eqb}
+use Rattle.std.proofs.lemmas.{Bool.cond_both, Bool.eq-eqb, List.nil_from_length}
+use Rattle.std.specs.Prelude.{Option, nat_eq, if◌then◌else◌}
 use Rattle.std.specs.HashMap.{HashMap, get, hash_map_len}
 use Rattle.std.specs.Map.{lookup}
-use Rattle.dnssec_key.specs.declared.roll.RollType.{RollType}
-use Rattle.dnssec_key.specs.declared.roll.RollState.{RollState}
-use Rattle.dnssec_key.specs.contracts.roll.RollTypePartialEq.TheImpl.{eq-value}
-use Rattle.dnssec_key.specs.contracts.roll.RollType.{the_type}
-use Rattle.dnssec_zone.specs.Rolls.{Rolls, same_roll, rolls_in_map, phase_of, with_phase}
-use Rattle.dnssec_zone.specs.Rolls.{roll_number, no_rolls}
-use Rattle.dnssec_zone.proofs.Walks.{none_of_length}
-use denote.Enum.Bare.{same_true}
-use denote.Enum.Declared.{tag_of}
+use Rattle.dnssec_key.specs.declared.roll.{RollType.RollType, RollState.RollState}
+use Rattle.dnssec_key.specs.contracts.roll.{RollTypePartialEq.TheImpl.eq-value, RollType.the_type}
+use Rattle.dnssec_zone.specs.Rolls.{same_roll, rolls_in_map, phase_of, with_phase, roll_number}
+use Rattle.dnssec_zone.specs.Rolls.{no_rolls}
+use denote.Enum.{Bare.same_true, Declared.tag_of}
 
 -- the `==` of rolls
 pub same_roll-eq : (a b : RollType) → eq-value.it a b ≡ same_roll a b
@@ -27,11 +23,11 @@ same-itself a = eq-eqb (roll_number a) (roll_number a) refl
 pub same_roll-is : (a b : RollType) → same_roll a b ≡ true → a ≡ b
 same_roll-is a b e = same_true the_type tt a b (same_roll-eq a b ∙ e)
 
--- a roll that is put into the phase that it is in
-pub same-phase : (r : Rolls) (roll : RollType) (phase : Option RollState)
-    → phase_of r roll ≡ phase → with_phase r roll phase ≡ r
-same-phase r roll phase is = λ i q. cond_both (same_roll roll q) phase (r q) (λ o. o ≡ r q)
-    (λ e. sym is ∙ ap r (same_roll-is roll q e)) (λ e. refl) i
+-- what is put in place of itself, for a roll
+pub put-same : {A : Type 0} (f : RollType → A) (roll : RollType) (x : A) → f roll ≡ x
+    → (λ q. if same_roll roll q then x else f q) ≡ f
+put-same f roll x is = λ i q. cond_both (same_roll roll q) x (f q) (λ y. y ≡ f q)
+    (λ e. sym is ∙ ap f (same_roll-is roll q e)) (λ e. refl) i
 
 module _ {S : Type 0} where
   pub phase_of-shown : (m : HashMap RollType RollState S) (roll : RollType)
@@ -50,6 +46,6 @@ module _ {S : Type 0} where
   -- an empty hash map has no phases
   pub shown-none : (m : HashMap RollType RollState S) → hash_map_len m ≡ 0
       → rolls_in_map m ≡ no_rolls
-  shown-none m e = λ i roll. ap (lookup (same_roll roll)) (none_of_length m.entries e) i
+  shown-none m e = λ i roll. ap (lookup (same_roll roll)) (nil_from_length m.entries e) i
 
 pub ruleset phases = (phase_of-shown, rolls_shown-updates)

@@ -1,21 +1,18 @@
 -- A test of some key, against the look-ups: if some key passes, a look-up finds it; if none passes,
 -- no look-up finds one.
 use Rattle.std.proofs.Common.{◌≡◌, ℕ, Bool, true, false, cond, List, [], ◌∷◌, map, Some, refl, sym}
-use Rattle.std.proofs.Common.{ap, subst, ◌∙◌, inl, inr}
+use Rattle.std.proofs.Common.{ap, arith, subst, ◌∙◌}
+use Rattle.std.proofs.lemmas.Bool.{false_from_ne_true, or_parts}
+use Rattle.std.proofs.lemmas.{List.Recursion.same_from_clauses, Map.Text.is_eq-slice_cmp}
 use Rattle.std.specs.Prelude.{◌&&◌, ◌||◌, ◌⊎◌, T}
 use Rattle.std.specs.List.{list_any}
-use Rattle.std.specs.declared.cmp.Ordering.{Ordering}
-use Rattle.std.specs.declared.cmp.Ordering.TheVariants.{Less}
+use Rattle.std.specs.declared.cmp.Ordering.{Ordering, TheVariants.Less}
 use Rattle.std.specs.Ordering.{nat_cmp, is_eq, is_lt}
 use Rattle.std.specs.Cmp.Lexicographic.{slice_cmp, bytes_decides}
 use Rattle.std.specs.FinMap.{find, entries, get, get-entries, entries_sorted}
 use Rattle.std.specs.FinMap.Entries.{below_all, is_sorted}
-use Rattle.std.proofs.lemmas.Bool.{cases_Bool, false_from_ne_true, or_parts}
-use Rattle.std.proofs.lemmas.List.Recursion.{same_from_clauses}
-use Rattle.std.proofs.lemmas.Map.Text.{is_eq-slice_cmp}
 use Rattle.dnssec_key.specs.Key.{KeyParts}
 use Rattle.dnssec_zone.specs.Keys.{Keys, some_key, some_entry}
-use Rattle.dnssec_zone.proofs.Tests.{or_second}
 
 pub first : (a b : Bool) → T (a && b) → T a
 first true b h = tt
@@ -46,21 +43,13 @@ apart x q h = false_from_ne_true _ (λ e. not_both (slice_cmp nat_cmp x x)
 pub find-cases : (q : List ℕ) (k : KeyParts) (e : List ℕ × KeyParts) (es : List (List ℕ × KeyParts))
     → find (slice_cmp nat_cmp) q (e ∷ es) ≡ Some k
     → ((q ≡ e.0) × (e.1 ≡ k)) ⊎ (find (slice_cmp nat_cmp) q es ≡ Some k)
-find-cases q k e es f =
-    let it = λ (c : Bool). cond c (Some e.1) (find (slice_cmp nat_cmp) q es) in
-    elim (cases_Bool (is_eq (slice_cmp nat_cmp q e.0))) [
-      | inl h ↦ let one : Some e.1 ≡ Some k = sym (ap it h) ∙ f in inl (same_key q e.0 h, cc)
-      | inr h ↦ inr (sym (ap it h) ∙ f)
-    ]
+find-cases q k e es f = grind (arith, same_key)
 
 pub below_found : (x q : List ℕ) (v : KeyParts) (es : List (List ℕ × KeyParts)) →
     T (below_all (slice_cmp nat_cmp) x es) → find (slice_cmp nat_cmp) q es ≡ Some v →
     T (is_lt (slice_cmp nat_cmp x q))
 below_found x q v [] b f = cc
-below_found x q v (e ∷ es) b f = elim (find-cases q v e es f) [
-  | inl h ↦ subst (λ k. T (is_lt (slice_cmp nat_cmp x k))) (sym h.0) (first _ _ b)
-  | inr h ↦ below_found x q v es (second _ _ b) h
-]
+below_found x q v (e ∷ es) b f = grind (arith, same_key, first, second, below_found x q v es)
 
 -- the first entry is found,
 pub here-found : (e : List ℕ × KeyParts) (es : List (List ℕ × KeyParts))
@@ -81,20 +70,13 @@ module _ (p : List ℕ → KeyParts → Bool) where
       → list_any (λ (e : List ℕ × KeyParts). p e.0 e.1) es ≡ true
       → (q : List ℕ) × (k : KeyParts) × (find (slice_cmp nat_cmp) q es ≡ Some k) × (p q k ≡ true)
   one_entry [] s h = cc
-  one_entry (e ∷ es) s h = elim (cases_Bool (p e.0 e.1)) [
-    | inl passes ↦ (e.0, e.1, here-found e es, passes)
-    | inr fails ↦ let rest = one_entry es (second _ _ s) (or_second _ _ h fails) in
-        (rest.0, rest.1, later-found e es s rest.0 rest.1 rest.2, rest.3)
-  ]
+  one_entry (e ∷ es) s h = grind (arith, one_entry es, second, here-found e es, later-found e es s)
 
   none_entry : (es : List (List ℕ × KeyParts)) (q : List ℕ) (k : KeyParts)
       → list_any (λ (e : List ℕ × KeyParts). p e.0 e.1) es ≡ false → find (slice_cmp nat_cmp) q es
       ≡ Some k → p q k ≡ false
   none_entry [] q k h f = cc
-  none_entry (e ∷ es) q k h f = elim (find-cases q k e es f) [
-    | inl it ↦ (λ i. p (it.0 i) (sym it.1 i)) ∙ (or_parts _ _ h).0
-    | inr later ↦ none_entry es q k (or_parts _ _ h).1 later
-  ]
+  none_entry (e ∷ es) q k h f = grind (arith, same_key, or_parts, none_entry es q k)
 
   pub some_entry-found : (keys : Keys) → some_entry p keys ≡ true → (q : List ℕ) × (k : KeyParts)
       × (get keys q ≡ Some k) × (p q k ≡ true)
@@ -113,15 +95,15 @@ list_any-map p f = same_from_clauses (λ xs. list_any p (map f xs)) (list_any (�
     (λ x b. p (f x) || b) refl (λ x xs. refl) (λ x xs. refl)
 
 module _ (p : KeyParts → Bool) (keys : Keys) where
-  asked : some_key p keys ≡ some_entry (λ q. p) keys
-  asked = list_any-map p (λ (e : List ℕ × KeyParts). e.1) (entries keys)
+  pub some_key-entry : some_key p keys ≡ some_entry (λ q. p) keys
+  some_key-entry = list_any-map p (λ (e : List ℕ × KeyParts). e.1) (entries keys)
 
   -- if some key passes, a look-up finds one
   pub some_key-found : some_key p keys ≡ true → (q : List ℕ) × (k : KeyParts)
       × (get keys q ≡ Some k) × (p k ≡ true)
-  some_key-found h = some_entry-found (λ q. p) keys (sym asked ∙ h)
+  some_key-found h = some_entry-found (λ q. p) keys (sym some_key-entry ∙ h)
 
   -- if no key passes, no look-up finds one that does
   pub some_key-none : (q : List ℕ) (k : KeyParts) → some_key p keys ≡ false
       → get keys q ≡ Some k → p k ≡ false
-  some_key-none q k h = some_entry-none (λ q. p) keys q k (sym asked ∙ h)
+  some_key-none q k h = some_entry-none (λ q. p) keys q k (sym some_key-entry ∙ h)

@@ -1,24 +1,18 @@
 -- The finite map that the keys show, read through the hash map that it holds.
 use Rattle.std.proofs.Common.{◌≡◌, ℕ, cond, List, [], ◌∷◌, map, Some, None, refl, sym, ap, ◌∙◌}
 use Rattle.std.proofs.Common.{arith, string_bytes}
-use Rattle.std.specs.declared.string.String.{String}
-use Rattle.std.specs.Ordering.{nat_cmp}
-use Rattle.std.specs.Cmp.Lexicographic.{nat_list_cmp_total, slice_cmp, bytes_decides}
-use Rattle.std.specs.HashMap.{HashMap, get_by_text}
-use Rattle.std.specs.Map.{lookup}
-use Rattle.std.specs.Prelude.{Option, if◌then◌else◌}
-use Rattle.std.specs.Str.{bytes_eq}
-use Rattle.std.specs.List.{AllZip}
-use Rattle.std.specs.FinMap as fin
-use Rattle.std.specs.FinMap.{find, get-from_entries, same_map, slice_cmp-IsAntisymmetric}
-use Rattle.std.specs.FinMap.{nat_cmp-IsAntisymmetric}
 use Rattle.std.proofs.lemmas.Map.Text.{is_text, is_eq-slice_cmp, text_keys}
 use Rattle.std.proofs.lemmas.Map.Made.{lookup-map_values}
-use Rattle.std.specs.Option.{option_map}
+use Rattle.std.specs.Cmp.Lexicographic.{nat_list_cmp_total, slice_cmp, bytes_decides}
+use Rattle.std.specs.FinMap.{find, get-from_entries, same_map, slice_cmp-IsAntisymmetric}
+use Rattle.std.specs.FinMap.{nat_cmp-IsAntisymmetric}
+use Rattle.std.specs.{declared.string.String.String, Ordering.nat_cmp, HashMap.HashMap}
+use Rattle.std.specs.{HashMap.get_by_text, Map.lookup, Prelude.Option, Prelude.if◌then◌else◌}
+use Rattle.std.specs.{Str.bytes_eq, List.AllZip, Option.option_map}
 use Rattle.dnssec_key.specs.Key.{KeyParts}
 use Rattle.dnssec_zone.specs.Keys.{Keys, keys_in_map, entries_by_bytes}
-use Rattle.dnssec_zone.specs.declared.keys.Keys.TheInside.{Inside}
-use Rattle.dnssec_zone.specs.contracts.keys.Keys.{the_view}
+use Rattle.dnssec_zone.specs.{declared.keys.Keys.TheInside.Inside, contracts.keys.Keys.the_view}
+use Rattle.std.specs.FinMap as fin
 
 module _ {Y : Type 0} where
   pub find_by_bytes : (es : List (String Y × KeyParts)) (q : List ℕ) →
@@ -44,14 +38,17 @@ pub get-shown : (i : Inside) (v : Keys) (q : List ℕ) → the_view i ≡ v → 
     ≡ get_by_text i.map q
 get-shown i v q e = sym (ap (λ (w : Keys). fin.get w q) e) ∙ get-keys_shown i.map q
 
--- what the keys show once a walk has put every key through a step
-pub get-walked : {Y S : Type 0} (step : KeyParts → KeyParts) (m n : HashMap (String Y) KeyParts S)
-    (v : Keys) → keys_in_map m ≡ v
-    → n.entries ≡ map (λ (e : String Y × KeyParts). (e.0, step e.1)) m.entries
+-- a walk has put every key through a step
+pub record IsWalked {Y S : Type 0} (step : KeyParts → KeyParts)
+    (m n : HashMap (String Y) KeyParts S) : Type 0 where
+  pub is : n.entries ≡ map (λ (e : String Y × KeyParts). (e.0, step e.1)) m.entries
+
+-- what the keys show afterwards
+pub get-walked : {Y S : Type 0} {step : KeyParts → KeyParts} {m n : HashMap (String Y) KeyParts S}
+    {v : Keys} → IsWalked step m n → keys_in_map m ≡ v
     → (q : List ℕ) → fin.get (keys_in_map n) q ≡ option_map step (fin.get v q)
-get-walked step m n v e is q = get-keys_shown n q ∙ ap (lookup (is_text q)) is
-    ∙ lookup-map_values step (is_text q) m.entries
-    ∙ ap (option_map step) (sym (get-keys_shown m q) ∙ ap (λ (w : Keys). fin.get w q) e)
+get-walked {step} {m} {n} walk e q = rw (← e, get-keys_shown n q, get-keys_shown m q, walk.is)
+    (lookup-map_values step (is_text q) m.entries)
 
 -- a change at a reference that no key has changes nothing
 pub get-absent : (f : KeyParts → KeyParts) (r : List ℕ) (v : Keys) → fin.get v r ≡ None
@@ -76,8 +73,7 @@ pub get-updated : {Y S : Type 0} (m n : HashMap (String Y) KeyParts S) (r : List
     → ((q : List ℕ) → get_by_text n q ≡ (if bytes_eq r q then o else get_by_text m q))
     → (q : List ℕ) → fin.get (keys_in_map n) q
     ≡ (if bytes_eq r q then o else fin.get (keys_in_map m) q)
-get-updated m n r o is q = get-keys_shown n q ∙ is q
-    ∙ ap (λ (x : Option KeyParts). if bytes_eq r q then o else x) (sym (get-keys_shown m q))
+get-updated m n r o is q = rw (get-keys_shown n q, get-keys_shown m q) (is q)
 
 pub ruleset shown = (get-keys_shown, get-shown, text_keys)
 

@@ -1,85 +1,46 @@
 -- What the check of a start cites: the keys to go on with, and the algorithms of its two lists.
-use Rattle.std.proofs.Common.{◌≡◌, ℕ, Bool, List, Some, None, Ok, ap, sym, ◌∙◌, arith, ◌+◌, ◌*◌}
-use Rattle.std.proofs.Common.{◌/◌, ◌%◌, ◌<◌, ◌^◌, true, false, [], ◌∷◌, length, get_or, refl}
-use Rattle.std.specs.Prelude.{Option, ◌&&◌, ◌||◌, if◌then◌else◌, nat_eq}
-use Rattle.std.specs.List.{list_all}
-use Rattle.std.specs.FinMap.{get}
+use Rattle.std.proofs.Common.{◌≡◌, ℕ, List, None, Ok, ap, sym, ◌∙◌, arith, ◌+◌, ◌*◌, ◌/◌, ◌%◌, ◌<◌}
+use Rattle.std.proofs.Common.{◌^◌, true, false, [], ◌∷◌, length, get_or, refl}
+use Rattle.std.specs.Prelude.{Option, ◌&&◌, ◌||◌, nat_eq}
+use Rattle.std.proofs.lemmas.Bool.{and_from, and_parts, or_right}
+use Rattle.std.specs.{List.list_all, FinMap.get, Int.bit_at, Option.option_map_or, Str.bytes_eq}
+use Rattle.std.{specs.Cmp.Lexicographic.bytes_decides, proofs.lemmas.Bool.Decides.nat_tests}
+use Rattle.std.proofs.lemmas.{List.ext_get_or, Nat.Bits.bit_at-lt, Nat.Bits.same_from_bits_below}
 use Rattle.dnssec_base.specs.declared.error.Error.{Error}
-use Rattle.dnssec_base.specs.declared.error.Error.TheVariants.{AlgorithmSetsMismatch}
-use Rattle.dnssec_key.specs.declared.roll.RollType.{RollType}
-use Rattle.dnssec_key.specs.Key.{KeyParts}
-use Rattle.dnssec_zone.specs.declared.side.Kinds.{Kinds}
-use Rattle.dnssec_zone.specs.Inner.Kinds.{AreOf, is_met_among}
-use Rattle.dnssec_zone.specs.Keys.{Keys}
-use Rattle.dnssec_zone.specs.Start.{is_met, some_kept, serves_as_kept, algorithm_fault}
-use Rattle.dnssec_zone.specs.Start.{algorithms_within, may_change_algorithms, wants, Want}
-use Rattle.dnssec_zone.specs.Start.{has_algorithm}
-use Rattle.dnssec_zone.specs.Refusals.{AnswersExactly}
-use Rattle.std.specs.Int.{bit_at}
-use Rattle.std.specs.Option.{option_map_or}
-use Rattle.std.specs.Str.{bytes_eq}
-use Rattle.std.specs.Cmp.Lexicographic.{bytes_decides}
-use Rattle.std.proofs.lemmas.Bool.Decides.{nat_tests}
-use Rattle.std.proofs.lemmas.List.{ext_get_or}
-use Rattle.std.proofs.lemmas.Nat.Bits.{bit_at-lt, same_from_bits_below}
-use Rattle.dnssec_key.specs.Inner.Bits.{is_set}
+use Rattle.dnssec_key.specs.{declared.roll.RollType.RollType, Key.KeyParts, Inner.Bits.is_set}
+use Rattle.dnssec_zone.specs.Start.{is_met, some_kept, serves_as_kept, algorithms_within, wants}
+use Rattle.dnssec_zone.specs.Start.{Want, has_algorithm}
+use Rattle.dnssec_zone.specs.{declared.side.Kinds.Kinds, Inner.Kinds.AreOf}
+use Rattle.dnssec_zone.specs.{Inner.Kinds.is_met_among, Keys.Keys, Refusals.AnswersExactly}
 use Rattle.dnssec_zone.proofs.Tests.{same_test}
-use Rattle.std.proofs.lemmas.Bool.{and_from, and_parts, eq-eqb, or_left, or_right}
 
--- whether all that a start has to leave is there, by the kinds of the new keys and a walk over what
--- the code asks for
-pub all_met-walked : (keys : Keys) (olds news : List (List ℕ)) (kinds : Kinds)
-    → AreOf (get keys) news kinds → (ws : List Want)
-    → list_all (is_met keys olds news) ws
+-- all that a start has to leave is there, by the kinds of the new keys and a walk over what the
+-- code asks for
+pub all_met-is : (roll : RollType) (keys : Keys) (olds news : List (List ℕ)) (kinds : Kinds)
+    → AreOf (get keys) news kinds → (ws : List Want) → ws ≡ wants roll
+    → list_all (is_met keys olds news) (wants roll)
     ≡ list_all (λ w. is_met_among keys olds kinds w) ws
-all_met-walked keys olds news kinds of ws =
-    λ i. list_all (λ w. sym (of w) i || some_kept (serves_as_kept w) keys olds) ws
-
--- so the walk's answer tells whether it is
-pub all_met-told : (roll : RollType) (keys : Keys) (olds news : List (List ℕ)) (kinds : Kinds)
-    → AreOf (get keys) news kinds → (ws : List Want) → ws ≡ wants roll → (met told : Bool)
-    → met ≡ list_all (λ w. is_met_among keys olds kinds w) ws → met ≡ told
-    → list_all (is_met keys olds news) (wants roll) ≡ told
-all_met-told roll keys olds news kinds of ws asked met told walked is =
-    ap (list_all (is_met keys olds news)) (sym asked)
-    ∙ all_met-walked keys olds news kinds of ws ∙ sym walked ∙ is
+all_met-is roll keys olds news kinds of ws asked = λ i.
+    list_all (λ w. sym (of w) i || some_kept (serves_as_kept w) keys olds) (sym asked i)
 
 -- an accepted answer has no cause
 pub passed : {T : Type 0} (o : Option Error) (x : T) → AnswersExactly o (Ok x) → o ≡ None
 passed o x h = grind arith
 
--- the algorithms, by whether the roll may go over
-pub algorithms-told : (roll : RollType) (at : List ℕ → Option KeyParts)
-    (olds news : List (List ℕ)) (may : Bool) → (may_change_algorithms roll
-    || (algorithms_within at olds news && algorithms_within at news olds)) ≡ may
-    → algorithm_fault roll at olds news ≡ (if may then None else Some AlgorithmSetsMismatch)
-algorithms-told roll at olds news may is =
-    ap (λ b. if b then None else Some AlgorithmSetsMismatch) is
-
 -- ---- two lists have the same algorithms if each one's are among the other's
 
 module _ (at : List ℕ → Option KeyParts) where
-  found-step : (q : List ℕ) (qs others : List (List ℕ)) (a : ℕ)
-      → (algorithms_within at qs others ≡ true → has_algorithm at qs a ≡ true
-      → has_algorithm at others a ≡ true)
-      → algorithms_within at (q ∷ qs) others ≡ true → has_algorithm at (q ∷ qs) a ≡ true
-      → has_algorithm at others a ≡ true
-  found-step q qs others a rest within has = grind (arith, nat_tests)
-
   -- what is within the others has an algorithm that the others have
   found : (qs others : List (List ℕ)) (a : ℕ) → algorithms_within at qs others ≡ true
       → has_algorithm at qs a ≡ true → has_algorithm at others a ≡ true
   found [] others a within has = cc
-  found (q ∷ qs) others a within has =
-      found-step q qs others a (found qs others a) within has
+  found (q ∷ qs) others a within has = grind (arith, nat_tests, found qs others a)
 
   within-step : (o : Option KeyParts) (qs others : List (List ℕ))
       → ((a : ℕ) → (option_map_or (λ (k : KeyParts). nat_eq k.algorithm a) o false
       || has_algorithm at qs a) ≡ true → has_algorithm at others a ≡ true)
       → option_map_or (λ (k : KeyParts). has_algorithm at others k.algorithm) o true ≡ true
-  within-step None qs others h = refl
-  within-step (Some k) qs others h =
-      h k.algorithm (or_left _ _ (eq-eqb k.algorithm k.algorithm refl))
+  within-step o qs others h = grind (arith, nat_tests, h)
 
   -- what has no algorithm but those of the others is within them
   within_by : (qs others : List (List ℕ))
@@ -102,12 +63,7 @@ same_words xs ys long low_xs low_ys same = ext_get_or 0 xs ys long
     bit i j b =
         let word : (64 * i + j) / 64 ≡ i = omega arith in
         let place : (64 * i + j) % 64 ≡ j = omega arith in
-        let tests : nat_eq (bit_at (get_or xs i 0) j) 1 ≡ nat_eq (bit_at (get_or ys i 0) j) 1 =
-        sym (λ k. nat_eq (bit_at (get_or xs (word k) 0) (place k)) 1) ∙ same (64 * i + j)
-        ∙ (λ k. nat_eq (bit_at (get_or ys (word k) 0) (place k)) 1) in
-        let one = bit_at-lt (get_or xs i 0) j in
-        let two = bit_at-lt (get_or ys i 0) j in
-        grind (arith, nat_tests)
+        grind (arith, nat_tests, bit_at-lt, word, place, same (64 * i + j))
 
 pub same_algorithms : (at : List ℕ → Option KeyParts) (olds news : List (List ℕ)) (xs ys : List ℕ)
     → length xs ≡ length ys

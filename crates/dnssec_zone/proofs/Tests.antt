@@ -1,28 +1,21 @@
 -- Tests of all kinds, flags and rolls, which are computed: for the finite facts of the tables.
 use Rattle.std.proofs.Common.{◌≡◌, Bool, true, false, not, ◌&&◌, ◌||◌, None, Some, refl, arith}
-use Rattle.std.specs.Prelude.{Option}
-use Rattle.std.specs.List.{list_all}
-use Rattle.dnssec_key.specs.declared.roll.RollType.{RollType}
-use Rattle.dnssec_key.specs.declared.kind.KeyType.{KeyType}
-use Rattle.dnssec_key.specs.State.{Flags as KeyState}
-use Rattle.dnssec_key.specs.RollTable.{Half, First, Second}
-use Rattle.dnssec_zone.specs.Rolls.{all_rolls}
 use Rattle.std.proofs.lemmas.Bool.{and_from, and_parts}
+use Rattle.std.specs.{Prelude.Option, List.list_all}
 use Rattle.dnssec_key.specs.declared.kind.KeyType.TheVariants.{Ksk, Zsk, Csk, Include}
-use Rattle.dnssec_zone.specs.Start.{serves_as_kept, Want, PresentKsk, KskAtParent, PresentZsk}
-use Rattle.dnssec_zone.specs.Start.{PresentKskRole, PresentZskRole}
+use Rattle.dnssec_key.specs.declared.{roll.RollType.RollType, kind.KeyType.KeyType}
+use Rattle.dnssec_key.specs.State.{Flags as KeyState}
+use Rattle.dnssec_zone.specs.Rolls.{all_rolls}
 
 -- computing over all kinds and flags; `available` stays a variable, since no table reads it
 abbrev pub both : (Bool → Bool) → Bool
 both p = p true && p false
 
 pub both-at : (p : Bool → Bool) → both p ≡ true → (b : Bool) → p b ≡ true
-both-at p e true = (and_parts (p true) (p false) e).0
-both-at p e false = (and_parts (p true) (p false) e).1
+both-at p e b = grind (arith, and_parts)
 
 abbrev pub flags : Bool → Bool → Bool → Bool → Bool → KeyState
-flags a o g r t =
-    record { available = a; old = o; signer = g; present = r; at_parent = t }
+flags a o g r t = record { available = a; old = o; signer = g; present = r; at_parent = t }
 
 -- a test of all flags
 abbrev pub each_state : Bool → (KeyState → Bool) → Bool
@@ -30,13 +23,7 @@ each_state a p = both (λ o. both (λ g. both (λ r. both (λ t. p (flags a o g 
 
 pub each_state-at : (p : KeyState → Bool) (s : KeyState) → each_state s.available p ≡ true
     → p s ≡ true
-each_state-at p s e =
-    let f = flags s.available in
-    both-at (λ t. p (f s.old s.signer s.present t))
-    (both-at (λ r. both (λ t. p (f s.old s.signer r t)))
-    (both-at (λ g. both (λ r. both (λ t. p (f s.old g r t))))
-    (both-at (λ o. both (λ g. both (λ r. both (λ t. p (f o g r t))))) e s.old) s.signer)
-    s.present) s.at_parent
+each_state-at p s e = grind (arith, both-at)
 
 -- a test of all keys whose states have these `available`
 abbrev pub each_key : Bool → Bool → (KeyType → Bool) → Bool
@@ -45,8 +32,7 @@ each_key a b p = each_state a (λ s. p (Ksk s)) && each_state a (λ s. p (Zsk s)
 
 pub four : (a b c d : Bool) → (a && b && c && d) ≡ true → (a ≡ true) × (b ≡ true) × (c ≡ true)
     × (d ≡ true)
-four a b c d e = let x = and_parts (a && b && c) d e in let y = and_parts (a && b) c x.0 in
-    let z = and_parts a b y.0 in (z.0, z.1, y.1, x.1)
+four a b c d e = (grind arith, grind arith, grind arith, grind arith)
 
 parts : (p : KeyType → Bool) (a b : Bool) → each_key a b p ≡ true
     → (each_state a (λ s. p (Ksk s)) ≡ true) × (each_state a (λ s. p (Zsk s)) ≡ true)
@@ -67,14 +53,6 @@ each_key-at p e (Csk s t) = each_state-at (λ t. p (Csk s t)) t
 each_key-at p e (Include s) = each_state-at (λ s. p (Include s)) s
     (parts p s.available true (e s.available true)).3
 
--- a test of all keys that reads `available` too
-abbrev pub each_kind : (KeyType → Bool) → Bool
-each_kind p = both (λ a. both (λ b. each_key a b p))
-
-pub each_kind-at : (p : KeyType → Bool) → each_kind p ≡ true → (k : KeyType) → p k ≡ true
-each_kind-at p e = each_key-at p (λ a b. both-at (λ b. each_key a b p)
-    (both-at (λ a. both (λ b. each_key a b p)) e a) b)
-
 -- a test of all rolls
 abbrev pub each_roll : (RollType → Bool) → Bool
 each_roll p = list_all p all_rolls
@@ -91,22 +69,6 @@ pub each_in_roll-at : (p : RollType → KeyType → Bool)
     → ((a b : Bool) → each_in_roll a b p ≡ true) → (r : RollType) (k : KeyType) → p r k ≡ true
 each_in_roll-at p e r = each_key-at (p r)
     (λ a b. each_roll-at (λ r. each_key a b (p r)) (e a b) r)
-
--- in both halves of each roll
-abbrev pub each_half : (Half → Bool) → Bool
-each_half p = p First && p Second
-
-each_half-at : (p : Half → Bool) → each_half p ≡ true → (half : Half) → p half ≡ true
-each_half-at p e half = grind (arith, and_parts)
-
-abbrev pub each_in_half : Bool → Bool → (RollType → Half → KeyType → Bool) → Bool
-each_in_half a b p = each_roll (λ r. each_half (λ h. each_key a b (p r h)))
-
-pub each_in_half-at : (p : RollType → Half → KeyType → Bool)
-    → ((a b : Bool) → each_in_half a b p ≡ true) → (r : RollType) (h : Half) (k : KeyType)
-    → p r h k ≡ true
-each_in_half-at p e r h = each_key-at (p r h) (λ a b. each_half-at (λ h. each_key a b (p r h))
-    (each_roll-at (λ r. each_half (λ h. each_key a b (p r h))) (e a b) r) h)
 
 -- listed as old or not, and as new or not
 abbrev pub each_listed : Bool → Bool → (RollType → Bool → Bool → KeyType → Bool) → Bool
@@ -178,22 +140,3 @@ same_kind-is (Csk s t) (Csk u v) e =
     λ i. Csk (same_state-is s u x.0 i) (same_state-is t v x.1 i)
 same_kind-is (Include s) (Include t) e = λ i. Include (same_state-is s t e i)
 same_kind-is k j e = cc
-
--- ---- wants of a start
-
--- a test of all wants
-abbrev pub each_want : (Want → Bool) → Bool
-each_want p = p PresentKsk && p KskAtParent && p PresentZsk
-    && (p PresentKskRole && p PresentZskRole)
-
-pub each_want-at : (p : Want → Bool) → each_want p ≡ true → (w : Want) → p w ≡ true
-each_want-at p e w = grind (arith, and_parts)
-
--- a kind serves as it does after a change
-abbrev pub serves_alike : (KeyType → KeyType) → KeyType → Bool
-serves_alike f t = each_want (λ w. alike (serves_as_kept w (f t)) (serves_as_kept w t))
-
-pub serves_alike-at : (f : KeyType → KeyType) (t : KeyType) → serves_alike f t ≡ true
-    → (w : Want) → serves_as_kept w (f t) ≡ serves_as_kept w t
-serves_alike-at f t e w = alike-same (serves_as_kept w (f t)) (serves_as_kept w t)
-    (each_want-at (λ w. alike (serves_as_kept w (f t)) (serves_as_kept w t)) e w)

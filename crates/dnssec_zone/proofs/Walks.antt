@@ -1,32 +1,23 @@
 -- The keys that a walk over the hash map meets are those of the finite map, in some order.
 use Rattle.std.proofs.Common.{◌≡◌, ℕ, Bool, false, cond, List, [], ◌∷◌, map, Some, None, refl, sym}
-use Rattle.std.proofs.Common.{subst, ◌∙◌, string_bytes, length, arith}
-use Rattle.std.specs.declared.string.String.{String}
+use Rattle.std.proofs.Common.{subst, ◌∙◌, string_bytes}
 use Rattle.std.specs.declared.cmp.Ordering.TheVariants.{Less, Equal, Greater}
-use Rattle.std.specs.Ordering.{nat_cmp, is_eq}
 use Rattle.std.specs.List.{IsDistinct, AllByRecursion, list_any}
-use Rattle.std.specs.List.Sorted.{IsPermutation}
-use Rattle.std.specs.Cmp.Lexicographic.{slice_cmp, nat_list_cmp_total}
 use Rattle.std.specs.HashMap.{HashMap, IsUnique, values}
-use Rattle.std.specs.Map.{keys_of}
-use Rattle.std.specs.String.{string_eq}
-use Rattle.std.specs.FinMap as fin
 use Rattle.std.specs.FinMap.{FinMap, find, from_entries, entries, entries-insert, get-entries}
 use Rattle.std.specs.FinMap.{get-from_entries, len-entries, len-empty}
-use Rattle.std.specs.FinMap.Entries.{put, by_order}
-use Rattle.std.proofs.lemmas.List.Recursion.{same_from_clauses}
 use Rattle.std.proofs.lemmas.List.Sorted.{IsPermutation-refl, IsPermutation-trans}
 use Rattle.std.proofs.lemmas.List.Sorted.{IsPermutation-cons, IsPermutation-middle}
 use Rattle.std.proofs.lemmas.List.Sorted.{IsPermutation-map, list_any-IsPermutation}
-use Rattle.std.proofs.lemmas.Map.{lookup-none}
-use Rattle.std.proofs.lemmas.Map.Text.{is_text}
+use Rattle.std.{proofs.lemmas.List.nil_from_length, specs.declared.string.String.String}
+use Rattle.std.specs.{Ordering.nat_cmp, Ordering.is_eq, List.Sorted.IsPermutation}
+use Rattle.std.specs.Cmp.Lexicographic.{slice_cmp, nat_list_cmp_total}
+use Rattle.std.specs.{Map.keys_of, String.string_eq, FinMap.Entries.put, FinMap.Entries.by_order}
+use Rattle.std.proofs.lemmas.{List.Recursion.same_from_clauses, Map.lookup-none, Map.Text.is_text}
 use Rattle.dnssec_key.specs.Key.{KeyParts}
 use Rattle.dnssec_zone.specs.Keys.{keys_in_map, entries_by_bytes, some_key}
 use Rattle.dnssec_zone.proofs.Shown.{find_by_bytes}
-
-pub none_of_length : {A : Type 0} (es : List A) → length es ≡ 0 → es ≡ []
-none_of_length [] e = refl
-none_of_length (x ∷ es) e = absurd (omega arith)
+use Rattle.std.specs.FinMap as fin
 
 module _ {X : Type 0} where
   -- to put an entry at a key that is new adds it somewhere
@@ -53,7 +44,7 @@ module _ {X : Type 0} where
   pub entries_permute : (es : List (List ℕ × X)) → AreApart es
       → IsPermutation es (entries (from_entries {R = slice_cmp nat_cmp} es))
   entries_permute [] apart = subst (IsPermutation [])
-      (sym (none_of_length _ (sym (len-entries (fin.empty {X = X} {R = slice_cmp nat_cmp}))
+      (sym (nil_from_length _ (sym (len-entries (fin.empty {X = X} {R = slice_cmp nat_cmp}))
       ∙ len-empty (slice_cmp nat_cmp) X))) (IsPermutation-refl [])
   entries_permute (e ∷ es) apart =
       let m : FinMap (slice_cmp nat_cmp) X = from_entries {R = slice_cmp nat_cmp} es in
@@ -82,7 +73,7 @@ module _ {Y : Type 0} where
       none_passes k [] h = tt
       none_passes k (e ∷ es) h = (h.0, none_passes k es h.1)
 
-  values_by_bytes : (es : List (String Y × KeyParts))
+  pub values_by_bytes : (es : List (String Y × KeyParts))
       → map (λ (e : List ℕ × KeyParts). e.1)
       (map (λ (e : String Y × KeyParts). (string_bytes e.0, e.1)) es)
       ≡ map (λ (e : String Y × KeyParts). e.1) es

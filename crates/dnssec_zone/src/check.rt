@@ -116,7 +116,7 @@ impl Keys {
         }
     }
 
-    /// What is wrong with a new entry, if the keys of these tags are listed before it.
+    /// What is wrong with a new entry, if the keys whose tags are taken are listed before it.
     fn new_entry_fault(&self, roll: RollType, reference: &str, taken: &TagSet) -> Option<Error>
         ensures { result ≡ new_entry_fault roll (map.get self.now reference.now)
             (has_its_tag taken.now (map.get self.now reference.now)) }
@@ -244,7 +244,7 @@ impl Keys {
         keys
     }
 
-    /// Refuses a start that leaves no key to go on with, if the new keys are of these kinds.
+    /// Refuses a start that leaves no key to go on with, by the kinds of its new keys.
     pub fn check_suitability(&self, roll: RollType, old: &[&str], new: Kinds) -> Result<(), Error>
         ensures { (news : List (List ℕ)) → AreOf (map.get self.now) news new
             → AnswersExactly (suitability_fault roll self.now (texts old.now) news) result }
@@ -264,14 +264,14 @@ impl Keys {
         wants.iter().all(|want| self.is_met(*want, old, new))
     }
 
-    /// Whether a new key of these kinds serves, or a key that isn't listed as old.
+    /// Whether a new key serves, by the kinds of the new keys, or a key that isn't listed as old.
     fn is_met(&self, want: Want, old: &[&str], new: Kinds) -> bool
         ensures { result ≡ is_met_among self.now (texts old.now) new want }
     {
         new.meet(want) || self.has_kept(want, old)
     }
 
-    /// Whether a key that isn't listed as old serves: more keys serve than the list has of these.
+    /// Whether a key that isn't listed as old serves: more keys serve than are listed.
     #[tactic(auto, using(crate::proofs::Counted::Lists::counts))]
     fn has_kept(&self, want: Want, old: &[&str]) -> bool
         ensures { result ≡ some_kept (serves_as_kept want) self.now (texts old.now) }
@@ -322,7 +322,7 @@ impl Keys {
         count
     }
 
-    /// Whether the key at a reference serves, and isn't one of these.
+    /// Whether the key at a reference serves, and isn't listed earlier.
     #[tactic(auto, using(crate::proofs::Marks::lists))]
     fn serves_but_for(&self, want: Want, reference: &str, earlier: &[&str]) -> bool
         ensures { result ≡ option_map_or (λ k. serves_as_kept want k.keytype
@@ -335,7 +335,7 @@ impl Keys {
         }
     }
 
-    /// Whether the key at a reference serves, and isn't one of those with these tags.
+    /// Whether the key at a reference serves, and isn't listed earlier, by the tags.
     fn serves_first(&self, want: Want, reference: &str, earlier: &TagSet) -> bool
         ensures { result ≡ option_map_or (λ k. serves_as_kept want k.keytype
             && not (is_set earlier.now k.key_tag)) (map.get self.now reference.now) false }

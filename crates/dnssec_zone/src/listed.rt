@@ -103,7 +103,7 @@ impl Lists {
         Ok(lists)
     }
 
-    /// Lists the keys that are not old. Each new key of a start is one of these.
+    /// Lists the keys that are not old. No new key of a start is old.
     fn list(
         &mut self,
         keys: &Keys,

@@ -39,7 +39,7 @@ impl Kinds {
         }
     }
 
-    /// Whether a new key of these kinds serves, as soon as it comes in.
+    /// Whether a new key of one of the kinds serves, as soon as it comes in.
     pub(crate) fn meet(self, want: Want) -> bool
         ensures { result ≡ some_serves self want }
     {

@@ -31,6 +31,15 @@ impl ReportedWait {
     {
         self.roll == roll && self.half == half && self.ttl == ttl
     }
+
+    /// The nanosecond since 1970 from which it is over for a key, or `None` if it lacks its stamp.
+    // Out of line, so that a setter, which finds no wait as a rule, stays short.
+    #[inline(never)]
+    fn over_for(self, key: &Key) -> Option<u128>
+        ensures { result ≡ over_at self.roll (which self.half) self.ttl key.now }
+    {
+        over_for(self.roll, self.half, self.ttl, key)
+    }
 }
 
 /// All that a reported wait sees of a key.
@@ -38,7 +47,7 @@ pub(crate) fn seen(reported: &Option<ReportedWait>, key: &Key) -> Option<u128>
     ensures { result ≡ over_for reported.now key.now }
 {
     match *reported {
-        Some(wait) => over_for(wait.roll, wait.half, wait.ttl, key),
+        Some(wait) => wait.over_for(key),
         None => None,
     }
 }
@@ -64,6 +73,7 @@ pub(crate) fn over_from(
 
 /// The nanosecond since 1970 from which nothing is left of a wait for a key, or `None` if its stamp
 /// is missing. It is the first of all for a key that the wait doesn't check, and if the TTL is 0.
+#[inline(always)]
 fn over_for(roll: RollType, half: Half, ttl: u32, key: &Key) -> Option<u128>
     ensures { result ≡ over_at roll (which half) ttl key.now }
 {

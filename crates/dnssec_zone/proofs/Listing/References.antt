@@ -1,56 +1,38 @@
 -- The references that the entries mean, as keys come, go and change.
 use Rattle.std.proofs.Common.{◌≡◌, ℕ, Bool, true, false, not, List, [], ◌∷◌, ◌++◌, map, Some, None}
-use Rattle.std.proofs.Common.{refl, sym, ap, ◌∙◌, inl, inr, arith, Bor, ◌+◌, ◌<◌, length, take}
-use Rattle.std.proofs.Common.{get_or}
-use Rattle.std.specs.Prelude.{Option, T, nat_eq, filter, if◌then◌else◌}
-use Rattle.std.specs.Option.{option_map}
-use Rattle.std.specs.Str.{bytes_eq}
-use Rattle.std.specs.Ordering.{nat_cmp}
-use Rattle.std.specs.Cmp.Lexicographic.{slice_cmp, bytes_decides}
+use Rattle.std.proofs.Common.{refl, sym, ap, ◌∙◌, arith, Bor, ◌+◌, ◌<◌, length, take, get_or}
+use Rattle.std.proofs.lemmas.{Bool.Decides.nat_tests, List.append-nil, List.append_assoc}
+use Rattle.std.specs.Prelude.{T, nat_eq, filter, if◌then◌else◌}
 use Rattle.std.specs.FinMap.{find, entries, get, get-entries, entries_sorted}
+use Rattle.std.specs.{Option.option_map, Str.bytes_eq, Ordering.nat_cmp}
+use Rattle.std.specs.Cmp.Lexicographic.{slice_cmp, bytes_decides}
 use Rattle.std.specs.FinMap.Entries.{is_sorted}
-use Rattle.std.proofs.lemmas.Bool.{cases_Bool, cond_both, eq-eqb, eqb-false, eqb-true}
-use Rattle.std.proofs.lemmas.Bool.Decides.{nat_tests}
-use Rattle.std.proofs.lemmas.List.{append-nil, append_assoc}
-use Rattle.std.proofs.lemmas.Option.{same_Some}
-use Rattle.dnssec_key.specs.declared.roll.RollType.{RollType}
-use Rattle.dnssec_key.specs.Key.{KeyParts}
-use Rattle.dnssec_zone.specs.declared.listed.Entry.{Entry}
-use Rattle.dnssec_zone.specs.declared.listed.Part.{Part}
-use Rattle.dnssec_zone.specs.declared.listed.Part.TheVariants.{Old, New}
+use Rattle.dnssec_key.specs.{declared.roll.RollType.RollType, Key.KeyParts}
 use Rattle.dnssec_zone.specs.Inner.Entries.{is_of, has_entry, without_tag, entry_of, entries_of}
 use Rattle.dnssec_zone.specs.Inner.Entries.{first_with, reference_of, references_of, lists_of}
 use Rattle.dnssec_zone.specs.Inner.Entries.{IsThere, AreThere, EntriesAgree}
 use Rattle.dnssec_zone.specs.Keys.{Keys, TagsApart, has_tag}
-use Rattle.dnssec_zone.specs.Lists.{without, others}
-use Rattle.dnssec_zone.specs.Start.{is_listed, texts}
 use Rattle.dnssec_zone.proofs.Tags.{apart-mapped, apart-added, apart-removed, there-added}
 use Rattle.dnssec_zone.proofs.Tags.{there-before, there-mapped, there-removed}
-use Rattle.dnssec_zone.proofs.Tests.{same_test}
-use Rattle.dnssec_zone.proofs.Marks.{texts-more}
-use Rattle.dnssec_zone.proofs.Quantified.{find-cases, here-found, later-found, second}
+use Rattle.dnssec_zone.proofs.Quantified.{here-found, later-found, same_key, second}
+use Rattle.dnssec_zone.specs.declared.listed.{Entry.Entry, Part.Part, Part.TheVariants.Old}
+use Rattle.dnssec_zone.specs.{declared.listed.Part.TheVariants.New, Lists.without, Lists.others}
+use Rattle.dnssec_zone.{specs.Start.is_listed, specs.Start.texts, proofs.Marks.texts-more}
 
 -- one reference more
 pub entries_of-more : (keys : Keys) (roll : RollType) (part : Part) (qs : List (List ℕ))
     (q : List ℕ) → entries_of keys roll part (qs ++ q ∷ [])
     ≡ entries_of keys roll part qs ++ entry_of roll part (get keys q)
 entries_of-more keys roll part [] q = append-nil _
-entries_of-more keys roll part (p ∷ qs) q =
-    ap (λ es. entry_of roll part (get keys p) ++ es) (entries_of-more keys roll part qs q)
-    ∙ sym (append_assoc (entry_of roll part (get keys p)) _ _)
+entries_of-more keys roll part (p ∷ qs) q = rw (entries_of-more keys roll part qs q, append_assoc)
 
--- the reference at i of a caller's list, after those before it
-pub list-more : (keys : Keys) (roll : RollType) (part : Part) (rs : List (Bor (List ℕ))) (i : ℕ)
-    (d : Bor (List ℕ)) (old a n : List Entry) (o : Option KeyParts) → i < length rs
-    → o ≡ get keys (get_or rs i d).now → a ≡ old ++ entries_of keys roll part (texts (take i rs))
-    → n ≡ a ++ entry_of roll part o
-    → n ≡ old ++ entries_of keys roll part (texts (take (i + 1) rs))
-list-more keys roll part rs i d old a n o h is before now =
-    now ∙ (λ j. before j ++ entry_of roll part (is j))
-    ∙ append_assoc old _ _
-    ∙ ap (λ es. old ++ es)
-    (sym (entries_of-more keys roll part (texts (take i rs)) (get_or rs i d).now)
-    ∙ ap (entries_of keys roll part) (sym (texts-more rs i d h)))
+-- and the one at i of a caller's list, after those before it
+pub entries_of-at : (keys : Keys) (roll : RollType) (part : Part) (rs : List (Bor (List ℕ))) (i : ℕ)
+    (d : Bor (List ℕ)) → i < length rs → entries_of keys roll part (texts (take (i + 1) rs))
+    ≡ entries_of keys roll part (texts (take i rs)) ++ entry_of roll part
+    (get keys (get_or rs i d).now)
+entries_of-at keys roll part rs i d h = ap (entries_of keys roll part) (texts-more rs i d h)
+    ∙ entries_of-more keys roll part (texts (take i rs)) (get_or rs i d).now
 
 -- the references that entries mean
 abbrev pub names : Keys → List Entry → List (List ℕ)
@@ -61,22 +43,18 @@ names keys = map (λ (e : Entry). reference_of keys e.key_tag)
 -- the first key with a tag is there, and has it
 first_found : (tag : ℕ) (es : List (List ℕ × KeyParts)) → T (is_sorted (slice_cmp nat_cmp) es)
     → (q : List ℕ) (k : KeyParts) → find (slice_cmp nat_cmp) q es ≡ Some k → k.key_tag ≡ tag
-    → (l : KeyParts) × (find (slice_cmp nat_cmp) (first_with tag es) es ≡ Some l)
-    × (l.key_tag ≡ tag)
+    → option_map (λ (l : KeyParts). l.key_tag) (find (slice_cmp nat_cmp) (first_with tag es) es)
+    ≡ Some tag
 first_found tag [] s q k f is = cc
-first_found tag (e ∷ es) s q k f is = elim (cases_Bool (nat_eq e.1.key_tag tag)) [
-  | inl same ↦
-      (e.1, ap at same ∙ here-found e es, eqb-true e.1.key_tag tag same)
-  | inr differs ↦ elim (find-cases q k e es f) [
-    | inl it ↦ absurd (eqb-false e.1.key_tag tag differs
-        (ap (λ (l : KeyParts). l.key_tag) it.1 ∙ is))
-    | inr later ↦ let rest = first_found tag es (second _ _ s) q k later is in
-        (rest.0, ap at differs ∙ later-found e es s _ rest.0 rest.1, rest.2)
-  ]
-]
-  where
-    at : Bool → Option KeyParts
-    at b = find (slice_cmp nat_cmp) (if b then e.0 else first_with tag es) (e ∷ es)
+first_found tag (e ∷ es) s q k f is = grind (
+  arith,
+  nat_tests,
+  same_key,
+  second,
+  here-found e es,
+  later-found e es s,
+  first_found tag es,
+)
 
 -- a key's tag has its reference
 pub reference_of-is : (keys : Keys) → TagsApart keys → (q : List ℕ) (k : KeyParts)
@@ -84,8 +62,13 @@ pub reference_of-is : (keys : Keys) → TagsApart keys → (q : List ℕ) (k : K
 reference_of-is keys differ q k found =
     let one = first_found k.key_tag (entries keys) (entries_sorted keys) q k
     (sym (get-entries keys q) ∙ found) refl in
-    differ (reference_of keys k.key_tag) q one.0 k
-    (get-entries keys (reference_of keys k.key_tag) ∙ one.1) found one.2
+    grind (
+      arith,
+      one,
+      found,
+      get-entries keys (reference_of keys k.key_tag),
+      differ (reference_of keys k.key_tag) q,
+    )
 
 module _ (keys : Keys) (differ : TagsApart keys) (q : List ℕ) (k : KeyParts)
     (found : get keys q ≡ Some k) where
@@ -95,40 +78,20 @@ module _ (keys : Keys) (differ : TagsApart keys) (q : List ℕ) (k : KeyParts)
   same_tag-is tag there =
       let is : reference_of keys tag ≡ there.0 =
       ap (reference_of keys) (sym there.3) ∙ reference_of-is keys differ there.0 there.1 there.2 in
-      same_test (nat_eq tag k.key_tag) (bytes_eq q (reference_of keys tag))
-      (λ same. (bytes_decides q (reference_of keys tag)).1 (sym (is
-      ∙ differ there.0 q there.1 k there.2 found (there.3 ∙ eqb-true tag k.key_tag same))))
-      (λ same. let one = (bytes_decides q (reference_of keys tag)).0 same ∙ is in
-      eq-eqb tag k.key_tag (sym there.3 ∙ ap (λ (x : KeyParts). x.key_tag)
-      (sym (same_Some _ _ (sym found ∙ ap (get keys) one ∙ there.2)))))
-
-  has-step : (roll : RollType) (part : Part) (e : Entry) (es : List Entry)
-      → nat_eq e.key_tag k.key_tag ≡ bytes_eq q (reference_of keys e.key_tag)
-      → has_entry roll part k.key_tag es ≡ is_listed (references_of keys roll part es) q
-      → has_entry roll part k.key_tag (e ∷ es)
-      ≡ is_listed (references_of keys roll part (e ∷ es)) q
-  has-step roll part e es is rest = grind arith
+      grind (arith, bytes_decides, nat_tests, is, differ there.0 q there.1 k there.2 found)
 
   -- an entry has the key's tag if and only if its reference is listed
   pub has_entry-is : (roll : RollType) (part : Part) (es : List Entry) → AreThere keys es
       → has_entry roll part k.key_tag es ≡ is_listed (references_of keys roll part es) q
   has_entry-is roll part [] there = refl
   has_entry-is roll part (e ∷ es) there =
-      has-step roll part e es (same_tag-is e.key_tag there.0) (has_entry-is roll part es there.1)
-
-  others-step : (p : Entry → Bool) (e : Entry) (es : List Entry)
-      → nat_eq e.key_tag k.key_tag ≡ bytes_eq q (reference_of keys e.key_tag)
-      → names keys (filter p (without_tag k.key_tag es)) ≡ others q (names keys (filter p es))
-      → names keys (filter p (without_tag k.key_tag (e ∷ es)))
-      ≡ others q (names keys (filter p (e ∷ es)))
-  others-step p e es is rest = grind arith
+      grind (arith, same_tag-is e.key_tag there.0, has_entry-is roll part es there.1)
 
   -- what is left without its tag are the other references
   pub others-is : (p : Entry → Bool) (es : List Entry) → AreThere keys es
       → names keys (filter p (without_tag k.key_tag es)) ≡ others q (names keys (filter p es))
   others-is p [] there = refl
-  others-is p (e ∷ es) there =
-      others-step p e es (same_tag-is e.key_tag there.0) (others-is p es there.1)
+  others-is p (e ∷ es) there = grind (arith, same_tag-is e.key_tag there.0, others-is p es there.1)
 
 -- ---- the lists that are meant
 
@@ -137,9 +100,7 @@ there-cut : (old new : Keys) (p : Entry → Bool)
     → ((e : Entry) → p e ≡ true → IsThere old e.key_tag → IsThere new e.key_tag)
     → (es : List Entry) → AreThere old es → AreThere new (filter p es)
 there-cut old new p stays [] there = tt
-there-cut old new p stays (e ∷ es) there = cond_both (p e) (e ∷ filter p es) (filter p es)
-    (AreThere new) (λ t. (stays e t there.0, there-cut old new p stays es there.1))
-    (λ t. there-cut old new p stays es there.1)
+there-cut old new p stays (e ∷ es) there = grind (arith, stays e, there-cut old new p stays es)
 
 pub there-filter : (keys : Keys) (p : Entry → Bool) (es : List Entry) → AreThere keys es
     → AreThere keys (filter p es)
@@ -149,12 +110,6 @@ pub there-append : (keys : Keys) (es fs : List Entry) → AreThere keys es → A
     → AreThere keys (es ++ fs)
 there-append keys [] fs one two = two
 there-append keys (e ∷ es) fs one two = (one.0, there-append keys es fs one.1 two)
-
-names-step : (some all : Keys) (p : Entry → Bool) (e : Entry) (es : List Entry)
-    → reference_of all e.key_tag ≡ reference_of some e.key_tag
-    → names all (filter p es) ≡ names some (filter p es)
-    → names all (filter p (e ∷ es)) ≡ names some (filter p (e ∷ es))
-names-step some all p e es is rest = grind arith
 
 -- the keys of one set are in another too, under their references and with their tags
 module _ (some all : Keys) (differ : TagsApart some) (apart : TagsApart all)
@@ -180,8 +135,8 @@ module _ (some all : Keys) (differ : TagsApart some) (apart : TagsApart all)
       same : (p : Entry → Bool) (es : List Entry) → AreThere some es
           → names all (filter p es) ≡ names some (filter p es)
       same p [] there = refl
-      same p (e ∷ es) there = names-step some all p e es (reference_of-within e.key_tag there.0)
-          (same p es there.1)
+      same p (e ∷ es) there =
+          grind (arith, reference_of-within e.key_tag there.0, same p es there.1)
 
 -- what is kept afterwards, and means the same
 abbrev pub MeansTheSame : Keys → Keys → List Entry → Type 0
@@ -250,5 +205,4 @@ module _ (keys : Keys) (es : List Entry) (agree : EntriesAgree keys es) (r : Lis
       stays : (e : Entry) → not (nat_eq e.key_tag x.key_tag) ≡ true → IsThere keys e.key_tag
           → IsThere new e.key_tag
       stays e other o =
-          let differs : nat_eq x.key_tag e.key_tag ≡ false = grind (arith, nat_tests) in
-          (o.0, o.1, there-removed keys new r is x found e.key_tag differs o, o.3)
+          (o.0, o.1, there-removed keys new r is x found _ (grind (arith, nat_tests)) o, o.3)

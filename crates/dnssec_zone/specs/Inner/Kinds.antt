@@ -7,7 +7,7 @@ use Rattle.dnssec_zone.specs.Start.{Want, PresentKsk, KskAtParent, PresentZsk, P
 use Rattle.dnssec_zone.specs.Start.{PresentZskRole, serves_as_new, serves_as_kept, some_listed}
 use Rattle.dnssec_zone.specs.Start.{some_kept}
 
--- a new key of one of these kinds serves
+-- a new key of one of the kinds serves
 abbrev pub some_serves : Kinds → Want → Bool
 some_serves kinds PresentKsk = kinds.ksk
 some_serves kinds KskAtParent = kinds.ksk
@@ -19,7 +19,7 @@ some_serves kinds PresentZskRole = kinds.zsk || kinds.csk
 abbrev pub AreOf : (List ℕ → Option KeyParts) → List (List ℕ) → Kinds → Type 0
 AreOf at qs kinds = (w : Want) → some_serves kinds w ≡ some_listed (serves_as_new w) at qs
 
--- a new key of these kinds serves, or a key that isn't listed as old
+-- a new key of one of the kinds serves, or a key that isn't listed as old
 abbrev pub is_met_among : Keys → List (List ℕ) → Kinds → Want → Bool
 is_met_among keys olds kinds want =
     some_serves kinds want || some_kept (serves_as_kept want) keys olds

@@ -7,7 +7,7 @@ use Rattle.dnssec_zone.specs.Keys.{Keys, TagsApart, has_tag}
 
 -- what an index says of a tag is whether some key has it, and no two keys have one tag
 pub record TagsAgree (has : ℕ → Option Bool) (keys : Keys) : Type 0 where
-  pub told : (t : ℕ) → IfSome (has t) (λ b. b ≡ has_tag t keys)
+  pub says : (t : ℕ) → IfSome (has t) (λ b. b ≡ has_tag t keys)
   pub apart : TagsApart keys
 
 -- a set of tags has those of the keys that are listed

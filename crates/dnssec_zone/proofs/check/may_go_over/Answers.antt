@@ -1,8 +1,7 @@
 -- Sets are the same if each list's algorithms are among the other's.
 use Rattle.std.proofs.Common.{rules, sym, ap, ◌∙◌}
 use Rattle.std.specs.Prelude.{◌||◌, ◌&&◌}
-use Rattle.dnssec_zone.specs.Start.{algorithms_within}
-use Rattle.dnssec_zone.proofs.Starts.{same_algorithms}
+use Rattle.dnssec_zone.{specs.Start.algorithms_within, proofs.Starts.same_algorithms}
 use Rattle.dnssec_zone.proofs.check.may_go_over.Goals as goal
 
 pub returns-else-may_change_algorithms-clause-within :

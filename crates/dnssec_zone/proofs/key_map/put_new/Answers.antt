@@ -1,8 +1,7 @@
 -- The entry is that of the reference, in this map, and the key is written at it.
 use Rattle.std.proofs.Common.{◌≡◌, Some, string_bytes, sym, ap, subst, ◌∙◌}
 use Rattle.std.proofs.lemmas.Map.Text.{hash_map_updates_text}
-use Rattle.std.specs.HashMap.{get_by_text}
-use Rattle.std.specs.HashMap.Entry.{entry_map_ref, map_with_value}
+use Rattle.std.specs.HashMap.{get_by_text, Entry.entry_map_ref, Entry.map_with_value}
 use Rattle.dnssec_zone.proofs.key_map.put_new.Goals as goal
 
 pub returns-in-Vacant-clause-ok : goal.returns-in-Vacant-clause-ok

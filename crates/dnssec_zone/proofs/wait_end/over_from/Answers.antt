@@ -1,7 +1,6 @@
 -- The walk has come to the last moment of all keys, or to a key that lacks its stamp.
 use Rattle.std.proofs.Common.{◌≡◌, Some, rules, sym, ◌∙◌}
-use Rattle.std.specs.List.{fold}
-use Rattle.std.specs.HashMap.{values}
+use Rattle.std.specs.{List.fold, HashMap.values}
 use Rattle.dnssec_key.specs.RollTable.{which}
 use Rattle.dnssec_zone.specs.Inner.Over.{over_with}
 use Rattle.dnssec_zone.proofs.Longest.{walk-lacks, walk-lost, walk-over}

@@ -1,7 +1,5 @@
 -- The latest moment so far.
-use Rattle.std.proofs.Common.{◌≡◌, Some}
-use Rattle.std.specs.List.{fold}
-use Rattle.std.specs.HashMap.{values}
+use Rattle.std.{proofs.Common.◌≡◌, proofs.Common.Some, specs.List.fold, specs.HashMap.values}
 use Rattle.dnssec_key.specs.RollTable.{which}
 use Rattle.dnssec_zone.specs.Inner.Over.{over_with}
 use Rattle.dnssec_zone.proofs.wait_end.over_from.Given as goal

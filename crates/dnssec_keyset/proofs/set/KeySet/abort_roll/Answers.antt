@@ -2,13 +2,12 @@
 use Rattle.std.proofs.Common.{refl, ap, ◌∙◌}
 use Rattle.dnssec_keyset.proofs.Listing.{undone, undone-keys}
 use Rattle.dnssec_keyset.proofs.Allowed.{accepted-step, cleared}
-use Rattle.dnssec_keyset.specs.Step.{Actions, AbortRoll}
-use Rattle.dnssec_keyset.specs.contracts.set.KeySet.{the_view}
+use Rattle.dnssec_keyset.specs.{Step.Actions, Step.AbortRoll, contracts.set.KeySet.the_view}
 use Rattle.dnssec_keyset.proofs.set.KeySet.abort_roll.Goals as goal
 
 pub invariant_of-self : goal.invariant_of-self
-invariant_of-self c = rw (c.take_out.ensures) (undone c.self.inside.keys c.unmark.new.keys
-    c.self.inside.lists.entries.items c.self.invariant c.args.rolltype c.unmark.ensures).0
+invariant_of-self c = rw (c.take_out.ensures) (undone c.self.invariant _
+    c.args.rolltype c.unmark.ensures).0
 
 pub returns : goal.returns
 returns c = rw (← c.self.view_is) (accepted-step (the_view c.self.inside) _
@@ -17,8 +16,7 @@ returns c = rw (← c.self.view_is) (accepted-step (the_view c.self.inside) _
     (record {
       name = refl;
       rolls = c.take_out-2.ensures;
-      lists = rw (c.take_out.ensures) (undone c.self.inside.keys c.unmark.new.keys
-          c.self.inside.lists.entries.items c.self.invariant c.args.rolltype c.unmark.ensures).1;
-      keys = undone-keys c.self.inside.keys c.unmark.new.keys
-          c.self.inside.lists.entries.items c.self.invariant c.args.rolltype c.unmark.ensures;
+      lists = rw (c.take_out.ensures) (undone c.self.invariant _ c.args.rolltype
+          c.unmark.ensures).1;
+      keys = undone-keys c.self.invariant _ c.args.rolltype c.unmark.ensures;
     }))

@@ -1,14 +1,12 @@
 -- The first cause that applies is answered: the checks before it passed.
 use Rattle.std.proofs.Common.{true, false, refl, sym, ◌∙◌}
 use Rattle.std.specs.FinMap.{get}
-use Rattle.dnssec_zone.specs.Start.{texts}
-use Rattle.dnssec_keyset.specs.contracts.set.KeySet.{the_view}
-use Rattle.dnssec_zone.proofs.Starts.{passed}
-use Rattle.dnssec_keyset.proofs.StartReplies.{told-start}
+use Rattle.dnssec_zone.{specs.Start.texts, proofs.Starts.passed}
+use Rattle.dnssec_keyset.{specs.contracts.set.KeySet.the_view, proofs.StartReplies.start-answer}
 use Rattle.dnssec_keyset.proofs.set.KeySet.check_start.Goals as goal
 
 pub returns-then-not-may_go_over : goal.returns-then-not-may_go_over
-returns-then-not-may_go_over c = rw (← c.self.view_is) (told-start (the_view c.self.inside)
+returns-then-not-may_go_over c = rw (← c.self.view_is) (start-answer (the_view c.self.inside)
     c.args.rolltype (texts c.args.old.now) (texts c.args.new.now)
     (passed _ _ c.in_ok-check_conflict.ensures) (passed _ _ c.in_ok-of_old.ensures.fault)
     (passed _ _ c.in_ok-of_new.ensures.fault) false
@@ -17,7 +15,7 @@ returns-then-not-may_go_over c = rw (← c.self.view_is) (told-start (the_view c
     ∙ c.if-not-may_go_over.true) _ refl)
 
 pub returns : goal.returns
-returns c = rw (← c.self.view_is) (told-start (the_view c.self.inside)
+returns c = rw (← c.self.view_is) (start-answer (the_view c.self.inside)
     c.args.rolltype (texts c.args.old.now) (texts c.args.new.now)
     (passed _ _ c.in_ok-check_conflict.ensures) (passed _ _ c.in_ok-of_old.ensures.fault)
     (passed _ _ c.in_ok-of_new.ensures.fault) true

@@ -1,22 +1,18 @@
 -- The key is gone, and no longer listed.
 use Rattle.std.proofs.Common.{refl}
-use Rattle.dnssec_keyset.proofs.Listing.{removed}
-use Rattle.dnssec_keyset.proofs.Allowed.{accepted-step, cleared}
-use Rattle.dnssec_keyset.specs.contracts.set.KeySet.{the_view}
-use Rattle.dnssec_keyset.specs.Step.{DeleteKey}
+use Rattle.dnssec_keyset.proofs.{Listing.removed, Allowed.accepted-step, Allowed.cleared}
+use Rattle.dnssec_keyset.specs.{contracts.set.KeySet.the_view, Step.DeleteKey}
 use Rattle.dnssec_keyset.proofs.set.KeySet.delete_key.Goals as goal
 
 pub invariant_of-self-2 : goal.invariant_of-self-2
 invariant_of-self-2 c = rw (c.forget.ensures)
-    (removed c.self.inside.keys c.delete.new.self c.self.inside.lists.entries.items
-    c.self.invariant c.args.pubref.now c.in_ok-key_tag.key_tag c.in_ok-key_tag.ensures.tag
-    c.in_ok-key_tag.ensures.ok).0
+    (removed c.self.invariant _ c.args.pubref.now c.in_ok-key_tag.key_tag
+    c.in_ok-key_tag.ensures.tag c.in_ok-key_tag.ensures.ok).0
 
 pub returns : goal.returns
 returns c =
-    let kept = removed c.self.inside.keys c.delete.new.self c.self.inside.lists.entries.items
-    c.self.invariant c.args.pubref.now c.in_ok-key_tag.key_tag c.in_ok-key_tag.ensures.tag
-    c.in_ok-key_tag.ensures.ok in
+    let kept = removed c.self.invariant _ c.args.pubref.now c.in_ok-key_tag.key_tag
+    c.in_ok-key_tag.ensures.tag c.in_ok-key_tag.ensures.ok in
     rw (← c.self.view_is) (accepted-step (the_view c.self.inside) _
     (DeleteKey c.args.pubref.now) _ (cleared _ _ c.in_ok-key_tag.ensures.reply) refl (record {
       name = refl;

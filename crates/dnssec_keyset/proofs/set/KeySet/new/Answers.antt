@@ -1,8 +1,6 @@
 -- There is neither a key nor an entry.
 use Rattle.std.proofs.Common.{◌≡◌, None, Some, sym, ◌∙◌}
-use Rattle.std.specs.FinMap.{get-empty}
-use Rattle.std.specs.Ordering.{nat_cmp}
-use Rattle.std.specs.Cmp.Lexicographic.{slice_cmp}
+use Rattle.std.specs.{FinMap.get-empty, Ordering.nat_cmp, Cmp.Lexicographic.slice_cmp}
 use Rattle.dnssec_key.specs.Key.{KeyParts}
 use Rattle.dnssec_keyset.proofs.set.KeySet.new.Goals as goal
 

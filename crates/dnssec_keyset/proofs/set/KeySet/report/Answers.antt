@@ -1,16 +1,13 @@
 -- The move of the roll and the walk over the keys are what an accepted report changes.
 use Rattle.std.proofs.Common.{refl, ap}
 use Rattle.dnssec_key.specs.RollTable.{which}
-use Rattle.dnssec_keyset.proofs.Listing.{reported}
-use Rattle.dnssec_keyset.proofs.Allowed.{accepted-step, cleared}
-use Rattle.dnssec_keyset.specs.Step.{Actions, Report}
-use Rattle.dnssec_keyset.specs.contracts.set.KeySet.{the_view}
+use Rattle.dnssec_keyset.proofs.{Listing.reported, Allowed.accepted-step, Allowed.cleared}
+use Rattle.dnssec_keyset.specs.{Step.Actions, Step.Report, contracts.set.KeySet.the_view}
 use Rattle.dnssec_keyset.proofs.set.KeySet.report.Goals as goal
 
 pub invariant_of-self-2 : goal.invariant_of-self-2
-invariant_of-self-2 c = rw (c.report.ensures) (reported c.self.inside.keys c.report_all.new.self
-    c.self.inside.lists.entries.items c.self.invariant c.args.rolltype (which c.args.half)
-    c.args.now.now c.report_all.ensures).0
+invariant_of-self-2 c = rw (c.report.ensures) (reported c.self.invariant _
+    c.args.rolltype (which c.args.half) c.args.now.now c.report_all.ensures).0
 
 pub returns : goal.returns
 returns c = rw (← c.self.view_is) (accepted-step (the_view c.self.inside) _
@@ -18,8 +15,7 @@ returns c = rw (← c.self.view_is) (accepted-step (the_view c.self.inside) _
     (cleared _ _ c.in_ok-take_report.ensures.reply) (ap Actions c.new.ensures.items) (record {
       name = refl;
       rolls = c.in_ok-take_report.ensures.ok;
-      lists = rw (c.report.ensures) (reported c.self.inside.keys c.report_all.new.self
-          c.self.inside.lists.entries.items c.self.invariant c.args.rolltype (which c.args.half)
-          c.args.now.now c.report_all.ensures).1;
+      lists = rw (c.report.ensures) (reported c.self.invariant _ c.args.rolltype
+          (which c.args.half) c.args.now.now c.report_all.ensures).1;
       keys = c.report_all.ensures;
     }))

@@ -1,21 +1,18 @@
 -- The key is changed; if a flag was set, it is no longer listed.
 use Rattle.std.proofs.Common.{true, false, sym, ◌∙◌}
 use Rattle.dnssec_key.specs.Setters.{setting_of}
-use Rattle.dnssec_keyset.proofs.Listing.{set-forgotten, set-kept}
-use Rattle.dnssec_keyset.proofs.Allowed.{cleared, set-step}
-use Rattle.dnssec_keyset.specs.contracts.set.KeySet.{the_view}
+use Rattle.dnssec_keyset.proofs.{Listing.set-forgotten, Listing.set-kept, Allowed.cleared}
+use Rattle.dnssec_keyset.{proofs.Allowed.set-step, specs.contracts.set.KeySet.the_view}
 use Rattle.dnssec_keyset.proofs.set.KeySet.set.Goals as goal
 
 pub invariant_of-self-then-sets_flag : goal.invariant_of-self-then-sets_flag
 invariant_of-self-then-sets_flag c = rw (c.forget.ensures)
-    (set-forgotten c.self.inside.keys c.set.new.self c.self.inside.lists.entries.items
-    c.self.invariant c.args.pubref.now c.in_ok-key_tag.key_tag c.in_ok-key_tag.ensures.tag
-    (setting_of c.args.setting) c.in_ok-key_tag.ensures.ok).0
+    (set-forgotten c.self.invariant _ c.args.pubref.now c.in_ok-key_tag.key_tag
+    c.in_ok-key_tag.ensures.tag (setting_of c.args.setting) c.in_ok-key_tag.ensures.ok).0
 
 pub invariant_of-self-else-sets_flag : goal.invariant_of-self-else-sets_flag
-invariant_of-self-else-sets_flag c = (set-kept c.self.inside.keys c.set.new.self c.args.pubref.now
-    (setting_of c.args.setting) c.in_ok-key_tag.ensures.ok c.self.inside.lists.entries.items
-    c.self.invariant).0
+invariant_of-self-else-sets_flag c = (set-kept c.self.invariant c.args.pubref.now
+    (setting_of c.args.setting) c.in_ok-key_tag.ensures.ok).0
 
 pub returns-then-sets_flag : goal.returns-then-sets_flag
 returns-then-sets_flag c = rw (← c.self.view_is)
@@ -23,14 +20,13 @@ returns-then-sets_flag c = rw (← c.self.view_is)
     (setting_of c.args.setting) true (sym c.sets_flag.ensures ∙ c.if-sets_flag.true)
     (cleared _ _ c.in_ok-key_tag.ensures.reply) c.in_ok-key_tag.ensures.ok
     (rw (c.forget.ensures)
-    (set-forgotten c.self.inside.keys c.set.new.self c.self.inside.lists.entries.items
-    c.self.invariant c.args.pubref.now c.in_ok-key_tag.key_tag c.in_ok-key_tag.ensures.tag
-    (setting_of c.args.setting) c.in_ok-key_tag.ensures.ok).1))
+    (set-forgotten c.self.invariant _ c.args.pubref.now c.in_ok-key_tag.key_tag
+    c.in_ok-key_tag.ensures.tag (setting_of c.args.setting) c.in_ok-key_tag.ensures.ok).1))
 
 pub returns-else-sets_flag : goal.returns-else-sets_flag
 returns-else-sets_flag c = rw (← c.self.view_is)
     (set-step (the_view c.self.inside) c.set.new.self _ c.args.pubref.now
     (setting_of c.args.setting) false (sym c.sets_flag.ensures ∙ c.if-sets_flag.false)
     (cleared _ _ c.in_ok-key_tag.ensures.reply) c.in_ok-key_tag.ensures.ok
-    (set-kept c.self.inside.keys c.set.new.self c.args.pubref.now (setting_of c.args.setting)
-    c.in_ok-key_tag.ensures.ok c.self.inside.lists.entries.items c.self.invariant).1)
+    (set-kept c.self.invariant c.args.pubref.now (setting_of c.args.setting)
+    c.in_ok-key_tag.ensures.ok).1)

@@ -1,18 +1,13 @@
 -- The marks, the new phase and what is listed are what a start changes.
 use Rattle.std.proofs.Common.{◌≡◌, ℕ, List, None, refl, ap, subst, sym, ◌∙◌}
-use Rattle.std.specs.Prelude.{if◌then◌else◌}
-use Rattle.std.specs.Option.{option_map}
-use Rattle.std.specs.FinMap.{get}
+use Rattle.std.specs.{Prelude.if◌then◌else◌, Option.option_map, FinMap.get}
 use Rattle.dnssec_key.specs.RollTable.{new_at_start, old_at_start}
 use Rattle.dnssec_zone.specs.Inner.Entries.{entries_at_start, lists_of}
-use Rattle.dnssec_zone.specs.Lists.{with_listed, listed_at_start}
-use Rattle.dnssec_zone.specs.Start.{texts, is_listed}
-use Rattle.dnssec_zone.proofs.Starts.{passed}
-use Rattle.dnssec_zone.specs.Wait.{barred_by}
+use Rattle.dnssec_zone.specs.{Lists.with_listed, Lists.listed_at_start, Start.texts}
+use Rattle.dnssec_zone.{specs.Start.is_listed, proofs.Starts.passed, specs.Wait.barred_by}
 use Rattle.dnssec_keyset.specs.Step.{start_refusal, Actions, StartRoll}
-use Rattle.dnssec_keyset.specs.contracts.set.KeySet.{the_view}
 use Rattle.dnssec_keyset.proofs.Listing.{Listing, started, started-keys}
-use Rattle.dnssec_keyset.proofs.Allowed.{accepted-step}
+use Rattle.dnssec_keyset.{specs.contracts.set.KeySet.the_view, proofs.Allowed.accepted-step}
 use Rattle.dnssec_keyset.proofs.set.KeySet.start_roll.Goals as goal
 
 marked : (c : goal.After-mark_new) (q : List ℕ) → get c.mark_new.new.self q
@@ -33,9 +28,8 @@ listing : (c : goal.After-mark_new) → Listing c.mark_new.new.self
     (texts c.args.new.now) c.self.inside.lists.entries.items)
     (with_listed (lists_of c.self.inside.keys c.self.inside.lists.entries.items) c.args.rolltype
     (listed_at_start c.self.inside.keys (texts c.args.old.now) (texts c.args.new.now)))
-listing c = started (the_view c.self.inside) c.mark_new.new.self
-    c.self.inside.lists.entries.items c.self.invariant c.args.rolltype (texts c.args.old.now)
-    (texts c.args.new.now) c.args.now.now (marked c)
+listing c = started (the_view c.self.inside) c.self.invariant _ c.args.rolltype
+    (texts c.args.old.now) (texts c.args.new.now) c.args.now.now (marked c)
     (subst (λ set. start_refusal c.args.rolltype set (texts c.args.old.now)
     (texts c.args.new.now) ≡ None) (sym c.self.view_is) (clear c))
 
@@ -50,7 +44,6 @@ returns c = accepted-step c.args.self.now _
       name = refl;
       rolls = c.in_ok-put_in.ensures.ok;
       lists = rw (c.in_ok-lists.ensures.ok) (listing c).1;
-      keys = started-keys (the_view c.self.inside) c.mark_new.new.self
-          c.self.inside.lists.entries.items c.self.invariant c.args.rolltype (texts c.args.old.now)
-          (texts c.args.new.now) c.args.now.now (marked c);
+      keys = started-keys (the_view c.self.inside) c.self.invariant _ c.args.rolltype
+          (texts c.args.old.now) (texts c.args.new.now) c.args.now.now (marked c);
     })

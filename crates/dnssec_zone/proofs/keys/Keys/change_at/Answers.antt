@@ -1,17 +1,13 @@
 -- If no key has the reference, nothing is changed; else one key is, and is counted anew.
 use Rattle.std.proofs.Common.{◌≡◌, ℕ, List, None, Some, rules, refl, sym, ap, subst, ◌∙◌}
-use Rattle.std.specs.Prelude.{if◌then◌else◌}
-use Rattle.dnssec_key.specs.Inner.TagIndex.{has}
-use Rattle.std.specs.Str.{bytes_eq}
-use Rattle.std.specs.Option.{option_map}
-use Rattle.std.specs.FinMap as map
-use Rattle.dnssec_key.specs.Key.{KeyParts}
-use Rattle.dnssec_zone.specs.Inner.Change.{makes}
+use Rattle.std.specs.{Prelude.if◌then◌else◌, Str.bytes_eq, Option.option_map}
+use Rattle.dnssec_key.specs.{Inner.TagIndex.has, Key.KeyParts}
 use Rattle.dnssec_zone.specs.Inner.Counts.{CountsAgree, with_key, without_key}
-use Rattle.dnssec_zone.specs.Keys.{keys_in_map}
+use Rattle.dnssec_zone.specs.{Inner.Change.makes, Keys.keys_in_map}
 use Rattle.dnssec_zone.proofs.Counted.Kept.{counts-exchanged, fits-shown}
 use Rattle.dnssec_zone.proofs.Shown.{shown, get-absent, put-changed}
 use Rattle.dnssec_zone.proofs.Tags.{tags-changed, kept_made}
+use Rattle.std.specs.FinMap as map
 use Rattle.dnssec_zone.proofs.keys.Keys.change_at.Goals as goal
 
 pub returns-in_default : goal.returns-in_default

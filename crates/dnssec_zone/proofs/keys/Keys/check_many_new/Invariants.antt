@@ -1,7 +1,6 @@
 -- No entry so far has a fault, and the set has the tags of the keys before.
 use Rattle.std.proofs.Common.{◌≡◌, length, take, drop, []}
-use Rattle.std.specs.Prelude.{◌||◌}
-use Rattle.std.specs.FinMap.{get}
+use Rattle.std.specs.{Prelude.◌||◌, FinMap.get}
 use Rattle.dnssec_zone.specs.Inner.Tags.{HasListed}
 use Rattle.dnssec_zone.specs.Start.{texts, is_listed, new_fault}
 use Rattle.dnssec_zone.proofs.keys.Keys.check_many_new.Given as goal

@@ -1,7 +1,6 @@
 -- The count that is kept is that of the keys that a contract sees.
 use Rattle.std.proofs.Common.{ap, ◌∙◌}
-use Rattle.dnssec_zone.specs.Inner.Counts.{count_in, passes}
-use Rattle.dnssec_zone.specs.Start.{serves_as_kept}
+use Rattle.dnssec_zone.specs.{Inner.Counts.count_in, Inner.Counts.passes, Start.serves_as_kept}
 use Rattle.dnssec_zone.proofs.keys.Keys.count.Goals as goal
 
 pub returns : goal.returns

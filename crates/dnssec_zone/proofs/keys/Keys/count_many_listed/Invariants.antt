@@ -1,7 +1,6 @@
 -- What has been counted so far, and the tags of the keys before.
 use Rattle.std.proofs.Common.{◌≡◌, ◌≤◌, length, take}
-use Rattle.dnssec_zone.specs.Inner.Counts.{count_in, listed_passes}
-use Rattle.dnssec_zone.specs.Inner.Tags.{HasListed}
+use Rattle.dnssec_zone.specs.Inner.{Counts.count_in, Counts.listed_passes, Tags.HasListed}
 use Rattle.dnssec_zone.specs.Start.{texts, is_listed, serves_as_kept}
 use Rattle.dnssec_zone.proofs.keys.Keys.count_many_listed.Given as goal
 

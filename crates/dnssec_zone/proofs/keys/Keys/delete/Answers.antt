@@ -1,16 +1,11 @@
 -- The key's tag leaves the index with it; a stale key was in no count, and in no wait.
 use Rattle.std.proofs.Common.{◌≡◌, true, None, Some, rules, ap, ◌∙◌}
-use Rattle.std.specs.FinMap.{get}
-use Rattle.dnssec_key.specs.Inner.TagIndex.{has}
-use Rattle.std.proofs.lemmas.Map.Text.{hash_map_updates_text}
-use Rattle.dnssec_key.specs.State.{is_stale}
-use Rattle.dnssec_key.specs.Key.{all_states}
+use Rattle.std.{specs.FinMap.get, proofs.lemmas.Map.Text.hash_map_updates_text}
+use Rattle.dnssec_key.specs.{Inner.TagIndex.has, State.is_stale, Key.all_states}
 use Rattle.dnssec_zone.specs.Inner.Counts.{bit, passes, share}
-use Rattle.dnssec_zone.specs.Keys.{keys_in_map}
-use Rattle.dnssec_zone.specs.Start.{serves_as_kept}
-use Rattle.dnssec_zone.proofs.Reported.{known-removed}
-use Rattle.dnssec_zone.proofs.Counted.Kept.{counts-alike, stale-serves}
-use Rattle.dnssec_zone.proofs.Shown.{shown, get-updated}
+use Rattle.dnssec_zone.specs.{Keys.keys_in_map, Start.serves_as_kept}
+use Rattle.dnssec_zone.proofs.{Reported.known-removed, Counted.Kept.counts-alike}
+use Rattle.dnssec_zone.proofs.{Counted.Kept.stale-serves, Shown.shown, Shown.get-updated}
 use Rattle.dnssec_zone.proofs.Tags.{TagsAgree-removed}
 use Rattle.dnssec_zone.proofs.keys.Keys.delete.Goals as goal
 

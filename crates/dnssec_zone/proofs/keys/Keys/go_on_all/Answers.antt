@@ -1,29 +1,23 @@
 -- The walk moves each key as an accepted wait does; if that may change a count, all are counted.
-use Rattle.std.proofs.Common.{refl, rules}
-use Rattle.dnssec_key.specs.Inner.TagIndex.{has}
-use Rattle.std.proofs.lemmas.Map.Made.{map_same_pairs}
+use Rattle.std.proofs.{Common.refl, Common.rules, lemmas.Map.Made.map_same_pairs}
 use Rattle.dnssec_key.specs.RollTable.{which, after_wait}
-use Rattle.dnssec_zone.proofs.Counted.Kept.{counts-waited}
-use Rattle.dnssec_zone.proofs.Shown.{get-walked}
+use Rattle.dnssec_zone.proofs.{Counted.Kept.counts-waited, Shown.IsWalked, Shown.get-walked}
 use Rattle.dnssec_zone.proofs.Tags.{tags-walked}
 use Rattle.dnssec_zone.proofs.keys.Keys.go_on_all.Goals as goal
 
+walk : (c : goal.After-go_on) → IsWalked (after_wait c.args.roll (which c.args.half) c.args.now)
+    c.self.inside.map c.retain.new.self
+walk c = record {
+  is = map_same_pairs _ _ _ (λ k v b w f t. search rules) _ _ c.retain.ensures.filtered;
+}
+
 pub returns : goal.returns
-returns c =
-    let step = after_wait c.args.roll (which c.args.half) c.args.now in
-    let e = map_same_pairs _ step _ (λ k v b w f t. search rules) _ _ c.retain.ensures.filtered in
-    get-walked step c.self.inside.map c.retain.new.self c.args.self.now c.self.view_is e
+returns c = get-walked (walk c) c.self.view_is
 
 pub invariant_of-self : goal.invariant_of-self
-invariant_of-self c =
-    let i = c.self.inside in
-    let n = c.retain.new.self in
-    let step = after_wait c.args.roll (which c.args.half) c.args.now in
-    let e = map_same_pairs _ step _ (λ k v b w f t. search rules) _ _ c.retain.ensures.filtered in (
-      rw c.go_on.ensures.tags (tags-walked step (λ k. refl) i.map n e (has i.derived.tags)
-          c.self.invariant.0),
-      counts-waited c.args.roll (which c.args.half) c.args.now i.derived.counts _
-          i.map n c.retain.ensures.was_unique c.retain.ensures.unique e c.self.invariant.1
-          c.go_on.ensures.moved c.go_on.ensures.kept,
-      rw c.go_on.ensures.reported tt,
-    )
+invariant_of-self c = (
+  rw c.go_on.ensures.tags (tags-walked (walk c) (λ k. refl) _ c.self.invariant.0),
+  counts-waited _ _ _ _ _ _ _ c.retain.ensures.was_unique c.retain.ensures.unique (walk c)
+      c.self.invariant.1 c.go_on.ensures.moved c.go_on.ensures.kept,
+  rw c.go_on.ensures.reported tt,
+)

@@ -1,8 +1,7 @@
 -- Without an index each key is asked.
 use Rattle.std.proofs.Common.{ap, sym, ◌∙◌}
 use Rattle.std.specs.Prelude.{nat_eq}
-use Rattle.dnssec_zone.specs.Keys.{has_tag}
-use Rattle.dnssec_zone.proofs.Walks.{some_key-shown}
+use Rattle.dnssec_zone.{specs.Keys.has_tag, proofs.Walks.some_key-shown}
 use Rattle.dnssec_zone.proofs.keys.Keys.has_tag.Goals as goal
 
 pub returns-in-None : goal.returns-in-None

@@ -2,8 +2,7 @@
 use Rattle.std.proofs.Common.{◌≡◌, ℕ, take}
 use Rattle.std.specs.FinMap.{get}
 use Rattle.dnssec_key.specs.Inner.Bits.{is_set}
-use Rattle.dnssec_zone.specs.Inner.Kinds.{AreOf}
-use Rattle.dnssec_zone.specs.Start.{texts, has_algorithm}
+use Rattle.dnssec_zone.specs.{Inner.Kinds.AreOf, Start.texts, Start.has_algorithm}
 use Rattle.dnssec_zone.proofs.keys.Keys.new_keys.Given as goal
 
 -- what is asked of the keys so far

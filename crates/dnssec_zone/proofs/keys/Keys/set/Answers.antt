@@ -1,20 +1,14 @@
 -- A key that a setter doesn't suit is written back as it was; else one key is changed.
 use Rattle.std.proofs.Common.{◌≡◌, ℕ, List, Some, rules, sym, ap, subst, ◌∙◌}
-use Rattle.std.specs.Prelude.{if◌then◌else◌}
-use Rattle.dnssec_key.specs.Inner.TagIndex.{has}
-use Rattle.std.specs.Str.{bytes_eq}
-use Rattle.std.specs.Option.{option_map}
-use Rattle.std.specs.FinMap as map
-use Rattle.dnssec_key.specs.Key.{KeyParts}
-use Rattle.dnssec_key.specs.Setters.{setting_of, set_by}
+use Rattle.std.specs.{Prelude.if◌then◌else◌, Str.bytes_eq, Option.option_map}
+use Rattle.dnssec_key.specs.{Inner.TagIndex.has, Key.KeyParts, Setters.setting_of, Setters.set_by}
 use Rattle.dnssec_zone.specs.Inner.Counts.{CountsAgree, moves_counts, with_key, without_key}
-use Rattle.dnssec_zone.specs.Inner.Reported.{IsKnown, known_after}
-use Rattle.dnssec_zone.specs.Inner.Derived.{IsDerived}
+use Rattle.dnssec_zone.specs.Inner.{Reported.IsKnown, Reported.known_after, Derived.IsDerived}
 use Rattle.dnssec_zone.specs.Keys.{keys_in_map}
-use Rattle.dnssec_zone.proofs.Counted.Kept.{counts-set, fits-shown}
-use Rattle.dnssec_zone.proofs.Reported.{known-after}
 use Rattle.dnssec_zone.proofs.Shown.{put-changed, same-written, shown}
-use Rattle.dnssec_zone.proofs.Tags.{tags-changed, kept_set}
+use Rattle.dnssec_zone.proofs.Counted.Kept.{counts-set, fits-shown}
+use Rattle.dnssec_zone.proofs.{Reported.known-after, Tags.tags-changed, Tags.kept_set}
+use Rattle.std.specs.FinMap as map
 use Rattle.dnssec_zone.proofs.keys.Keys.set.Goals as goal
 
 pub invariant_of-self-then-not-suits : goal.invariant_of-self-then-not-suits

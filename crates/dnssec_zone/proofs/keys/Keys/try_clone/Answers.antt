@@ -1,10 +1,7 @@
 -- A copy of the map shows the same keys, and what is derived of them is the same.
 use Rattle.std.proofs.Common.{◌≡◌, ap, ◌∙◌}
 use Rattle.std.specs.FinMap.{from_entries}
-use Rattle.dnssec_key.specs.Inner.TagIndex.{has}
-use Rattle.dnssec_zone.specs.Keys.{keys_in_map}
-use Rattle.dnssec_zone.proofs.Shown.{entries_by_bytes-clones}
-use Rattle.dnssec_zone.proofs.Tags.{TagsAgree-same}
+use Rattle.dnssec_zone.{specs.Keys.keys_in_map, proofs.Shown.entries_by_bytes-clones}
 use Rattle.dnssec_zone.proofs.keys.Keys.try_clone.Goals as goal
 
 pub returns-clause-same : goal.returns-clause-same
@@ -19,8 +16,10 @@ invariant_of-result c =
     ap from_entries (entries_by_bytes-clones i.map.entries c.in_ok-clone.field-0.entries
     c.in_ok-clone.ensures.cases) in
     rw (same, copy.ensures.counts, copy.ensures.reported) (
-      TagsAgree-same (has i.derived.tags) (has copy.field-0.tags) (keys_in_map i.map)
-          copy.ensures.tags c.self.invariant.0,
+      record {
+        says = λ t. rw (copy.ensures.tags t) (c.self.invariant.0.says t);
+        apart = c.self.invariant.0.apart;
+      },
       c.self.invariant.1,
       c.self.invariant.2,
     )

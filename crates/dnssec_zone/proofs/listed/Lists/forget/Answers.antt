@@ -1,6 +1,5 @@
 -- The entries of other keys are kept.
-use Rattle.std.proofs.Common.{rules, tests}
-use Rattle.std.specs.Prelude.{not, nat_eq}
+use Rattle.std.{proofs.Common.rules, proofs.Common.tests, specs.Prelude.not, specs.Prelude.nat_eq}
 use Rattle.dnssec_zone.specs.declared.listed.Entry.{Entry}
 use Rattle.dnssec_key.proofs.Retained.{filtered}
 use Rattle.dnssec_zone.proofs.listed.Lists.forget.Goals as goal

@@ -1,9 +1,8 @@
 -- Each turn of the loop looks at one more reference.
 use Rattle.std.proofs.Common.{◌++◌, ◌∙◌, ap, sym}
-use Rattle.std.proofs.lemmas.List.{append-nil, take_all}
-use Rattle.dnssec_zone.specs.Start.{texts}
-use Rattle.dnssec_zone.specs.Inner.Entries.{entries_of}
-use Rattle.dnssec_zone.proofs.Listing.References.{list-more}
+use Rattle.std.proofs.lemmas.List.{append-nil, append_assoc, take_all}
+use Rattle.dnssec_zone.specs.{Start.texts, Inner.Entries.entries_of, Inner.Entries.entry_of}
+use Rattle.dnssec_zone.proofs.Listing.References.{entries_of-at}
 use Rattle.dnssec_zone.proofs.listed.Lists.list.Goals as goal
 
 pub loop-reference-init : goal.loop-reference-init
@@ -12,8 +11,11 @@ loop-reference-init c = sym (append-nil c.args.self.now.entries.items)
 pub loop-reference-preserved : goal.loop-reference-preserved
 loop-reference-preserved c =
     let l = c.loop-reference in
-    list-more c.args.keys.now c.args.roll c.args.part c.args.references.now l.reference-index _ _ _
-    _ _ c.loop-reference-test.true c.get.ensures l.invariant c.in_ok-list_one.ensures.ok
+    c.in_ok-list_one.ensures.ok
+    ∙ (λ j. l.invariant j ++ entry_of c.args.roll c.args.part (c.get.ensures j))
+    ∙ append_assoc c.args.self.now.entries.items _ _
+    ∙ ap (λ es. c.args.self.now.entries.items ++ es) (sym (entries_of-at c.args.keys.now c.args.roll
+    c.args.part c.args.references.now l.reference-index _ c.loop-reference-test.true))
 
 pub returns-clause-ok : goal.returns-clause-ok
 returns-clause-ok c = c.loop-reference.invariant

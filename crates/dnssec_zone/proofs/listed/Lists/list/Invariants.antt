@@ -1,7 +1,6 @@
 -- What has been listed so far.
 use Rattle.std.proofs.Common.{◌≡◌, ◌++◌, take}
-use Rattle.dnssec_zone.specs.Start.{texts}
-use Rattle.dnssec_zone.specs.Inner.Entries.{entries_of}
+use Rattle.dnssec_zone.specs.{Start.texts, Inner.Entries.entries_of}
 use Rattle.dnssec_zone.proofs.listed.Lists.list.Given as goal
 
 -- the references so far are looked at

@@ -1,8 +1,6 @@
 -- The entries of other rolls are kept.
-use Rattle.std.proofs.Common.{rules, tests}
-use Rattle.std.specs.Prelude.{not}
-use Rattle.dnssec_zone.specs.declared.listed.Entry.{Entry}
-use Rattle.dnssec_zone.specs.Inner.Entries.{is_of_roll}
+use Rattle.std.{proofs.Common.rules, proofs.Common.tests, specs.Prelude.not}
+use Rattle.dnssec_zone.specs.{declared.listed.Entry.Entry, Inner.Entries.is_of_roll}
 use Rattle.dnssec_key.proofs.Retained.{filtered}
 use Rattle.dnssec_zone.proofs.listed.Lists.take_out.Goals as goal
 

@@ -1,9 +1,7 @@
 -- Without a roll in progress there is no cause. Else the roll itself is looked for first, then one
 -- beside which it may not begin.
 use Rattle.std.proofs.Common.{◌≡◌, rules, sym, ◌∙◌}
-use Rattle.dnssec_zone.specs.Rolls.{no_rolls}
-use Rattle.dnssec_zone.specs.Start.{conflict}
-use Rattle.dnssec_zone.proofs.Phases.{shown-none}
+use Rattle.dnssec_zone.{specs.Rolls.no_rolls, specs.Start.conflict, proofs.Phases.shown-none}
 use Rattle.dnssec_zone.proofs.rolls.Rolls.check_conflict.Goals as goal
 
 pub returns-then-is_empty : goal.returns-then-is_empty
