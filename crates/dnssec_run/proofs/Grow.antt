@@ -1,13 +1,10 @@
 -- A run goes on by one call, and its record by one entry.
 use Rattle.std.proofs.Common.{◌≡◌, ℕ, zero, suc, ◌+◌, ◌<◌, ◌≤◌, inl, inr, refl, sym, ◌∙◌, ap, subst}
 use Rattle.std.proofs.Common.{arith, List, [], ◌∷◌, ◌++◌, length, Some, length-append}
+use Rattle.std.proofs.lemmas.{Option.same_Some, Option.slice_get_within, Bool.cases_lt}
 use Rattle.std.specs.Prelude.{slice_get}
-use Rattle.std.proofs.lemmas.Option.{same_Some, slice_get_within}
-use Rattle.std.proofs.lemmas.Bool.{cases_lt}
-use Rattle.dnssec_run.specs.declared.call.Call.{Call}
-use Rattle.dnssec_run.specs.declared.record.Entry.{Entry}
-use Rattle.dnssec_run.specs.Published.{World}
-use Rattle.dnssec_run.specs.Record.{IsRun, IsEntry, world_at, world_after, world_behind, new_world}
+use Rattle.dnssec_run.specs.Record.{IsRun, IsEntry, world_at, world_after, world_next, new_world}
+use Rattle.dnssec_run.specs.{declared.call.Call.Call, declared.record.Entry.Entry, Published.World}
 
 pub front : {A : Type 0} (xs ys : List A) (i : ℕ) → i < length xs → slice_get (xs ++ ys) i
     ≡ slice_get xs i
@@ -25,7 +22,7 @@ module _ (name : List ℕ) where
   unfolding world_at
   world_front cs ds es fs zero lc le = refl
   world_front cs ds es fs (suc n) lc le =
-      λ i. world_behind (suc n) (world_front cs ds es fs n (omega arith) (omega arith) i)
+      λ i. world_next (suc n) (world_front cs ds es fs n (omega arith) (omega arith) i)
       (front cs ds n lc i) (front es fs n le i)
 
   -- the world after one more call
@@ -34,15 +31,14 @@ module _ (name : List ℕ) where
       ≡ world_after (suc (length cs)) (world_at name cs es (length cs)) c e.reply
   unfolding world_at
   world_more cs es c e same =
-      λ i. world_behind (suc (length cs))
+      λ i. world_next (suc (length cs))
       (world_front cs (c ∷ []) es (e ∷ []) (length cs) (omega arith) (omega arith) i)
       (at_end cs c i) ((subst (λ n. slice_get (es ++ e ∷ []) n ≡ Some e) same (at_end es e)) i)
 
   pub run_none : IsRun name [] []
   run_none = record {
     count = refl;
-    each =
-        λ n c e ci ei. absurd (let h = slice_get_within {A = Call} [] n c ci in omega arith);
+    each = λ n c e ci ei. absurd (let h = slice_get_within {A = Call} [] n c ci in omega arith);
   }
 
   pub run_more : (cs : List Call) (es : List Entry) (c : Call) (e : Entry) (after : World)
@@ -53,37 +49,33 @@ module _ (name : List ℕ) where
   run_more cs es c e after run next ok = record {
     count = simp length-append (omega (arith, run.count));
     each = λ n d f di fi. elim (cases_lt n (length cs)) [
-      | inl lt ↦
-          let d' : slice_get cs n ≡ Some d = sym (front cs (c ∷ []) n lt) ∙ di in
-          let f' : slice_get es n ≡ Some f = sym (front es (e ∷ []) n (omega (arith, run.count)))
-          ∙ fi in
-          subst (λ w. IsEntry w (world_at name (cs ++ c ∷ []) (es ++ e ∷ []) (suc n)) d f)
-          (sym (world_front cs (c ∷ []) es (e ∷ []) n (omega arith) (omega (arith, run.count))))
-          (subst (λ w. IsEntry (world_at name cs es n) w d f)
-          (sym (world_front cs (c ∷ []) es (e ∷ []) (suc n) lt (omega (arith, run.count))))
-          (run.each n d f d' f'))
+      | inl lt ↦ rw (before n (omega arith), before (suc n) lt)
+          (run.each n d f (sym (front cs (c ∷ []) n lt) ∙ di)
+          (sym (front es (e ∷ []) n (omega (arith, run.count))) ∙ fi))
       | inr ge ↦
           let bound : n < length (cs ++ c ∷ []) = slice_get_within (cs ++ c ∷ []) n d di in
           let total : length (cs ++ c ∷ []) ≡ length cs + 1 = length-append cs (c ∷ []) in
-          let last : n ≡ length cs = omega arith in
-          let dc : c ≡ d = same_Some c d
-          (sym (at_end cs c) ∙ ap (slice_get (cs ++ c ∷ [])) (sym last) ∙ di) in
-          let fe : e ≡ f = same_Some e f
-          (sym (at_end es e) ∙ ap (slice_get (es ++ e ∷ [])) (run.count ∙ sym last) ∙ fi) in
-          let before : world_at name cs es (length cs)
-          ≡ world_at name (cs ++ c ∷ []) (es ++ e ∷ []) n =
-          sym (world_front cs (c ∷ []) es (e ∷ []) (length cs) (omega arith)
-          (omega (arith, run.count))) ∙ ap (world_at name (cs ++ c ∷ []) (es ++ e ∷ []))
-          (sym last) in
-          let then : after ≡ world_at name (cs ++ c ∷ []) (es ++ e ∷ []) (suc n) = next
-          ∙ sym (world_more cs es c e run.count)
-          ∙ ap (λ m. world_at name (cs ++ c ∷ []) (es ++ e ∷ []) (suc m)) (sym last) in
-          subst (λ w. IsEntry w (world_at name (cs ++ c ∷ []) (es ++ e ∷ []) (suc n)) d f) before
-          (subst (λ w. IsEntry (world_at name cs es (length cs)) w d f) then
-          (subst (λ d. IsEntry (world_at name cs es (length cs)) after d f) dc
-          (subst (λ f. IsEntry (world_at name cs es (length cs)) after c f) fe ok)))
+          let here : length cs ≡ n = omega arith in
+          subst (λ n. slice_get (cs ++ c ∷ []) n ≡ Some d → slice_get (es ++ e ∷ []) n ≡ Some f
+          → IsEntry (then n) (then (suc n)) d f) here (last d f) di fi
     ];
   }
+    where
+      then : ℕ → World
+      then = world_at name (cs ++ c ∷ []) (es ++ e ∷ [])
+
+      before : (n : ℕ) → n ≤ length cs → then n ≡ world_at name cs es n
+      before n le = world_front cs (c ∷ []) es (e ∷ []) n le (omega (arith, run.count))
+
+      last : (d : Call) (f : Entry) → slice_get (cs ++ c ∷ []) (length cs) ≡ Some d
+          → slice_get (es ++ e ∷ []) (length cs) ≡ Some f
+          → IsEntry (then (length cs)) (then (suc (length cs))) d f
+      last d f di fi = rw (
+        before (length cs) (omega arith),
+        world_more cs es c e run.count ∙ sym next,
+        same_Some d c (sym di ∙ at_end cs c),
+        same_Some f e (sym fi ∙ sym (ap (slice_get (es ++ e ∷ [])) run.count) ∙ at_end es e),
+      ) ok
 
   pub world_none : (es : List Entry) → world_at name [] es 0 ≡ new_world name
   unfolding world_at

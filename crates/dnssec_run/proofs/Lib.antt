@@ -5,14 +5,14 @@
 -- |---------------------------|-------------------------------|------------------------------|
 -- | `run`, `run`              | `run_none`, `run_more`        | Grow                         |
 -- | `run`, `sound`            | `stays-sound`                 | Laws; the key set's Laws     |
--- | `run`, `sides`            | `sides-apart`                 | Laws; the key set's Sides    |
--- | `run`, `exchange`         | `neighbours-exchange`         | Laws; the key set's Exchange |
+-- | `run`, `sides`            | `leaves-others`               | the key set's Sides          |
+-- | `run`, `exchange`         | `exchange`                    | the key set's Exchange       |
 -- | `Recorder::new`           | `agrees-new`, `published-new` | Next                         |
 -- | `Recorder::advance`, `ok` | `entry-of`, `world_more`      | Next, Grow                   |
 -- | `advance`, both           | `agrees-accepted`             | Next; the key set's After    |
 -- | `read_sets`, `ok`         | `reads-all`                   | Positions                    |
 -- | `advance`, `leaves`       | `leaves`                      | Asked                        |
--- | `renew_key`, `read`       | `published-then`              | OneKey                       |
+-- | `renew_key`, `read`       | `renewed`                     | OneKey                       |
 -- | `starts_suffice`          | `starts-suffice`              | Starts                       |
 -- | `whole_runs_stay_safe`    | `chain-holds`, `each-holds`   | Chain                        |
 -- | the premise of plain lists| `plain-by-sets`               | Premise                      |

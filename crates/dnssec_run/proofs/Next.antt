@@ -1,73 +1,33 @@
 -- The positions that the recorder keeps go along with each call.
-use Rattle.std.proofs.Common.{◌≡◌, ℕ, Bool, true, false, cond, List, Some, None, refl, sym, ap, ◌∙◌}
-use Rattle.std.proofs.Common.{◌∷◌, subst, map, [], string_bytes, Global, arith}
-use Rattle.std.specs.Prelude.{Option, if◌then◌else◌}
-use Rattle.std.specs.Option.{option_map}
-use Rattle.std.specs.Str.{bytes_eq}
-use Rattle.std.specs.FinMap.{get, get-empty}
-use Rattle.std.specs.BTreeMap as tree
-use Rattle.std.specs.BTreeMap.{BTreeMap}
-use Rattle.std.specs.Map.{lookup}
-use Rattle.std.specs.List.{AllZip}
-use Rattle.std.specs.Ordering.{nat_cmp, is_eq}
-use Rattle.std.specs.Cmp.Lexicographic.{slice_cmp}
+use Rattle.std.proofs.Common.{◌≡◌, ℕ, true, false, cond, List, Some, refl, sym, ap, ◌∙◌, ◌∷◌, subst}
+use Rattle.std.proofs.Common.{map, [], string_bytes, Global, arith}
+use Rattle.std.specs.{Prelude.Option, Prelude.if◌then◌else◌, Option.option_map, Str.bytes_eq}
+use Rattle.std.specs.{FinMap.get, FinMap.get-empty, BTreeMap.BTreeMap, Map.lookup, List.AllZip}
+use Rattle.std.specs.{Ordering.nat_cmp, Ordering.is_eq, Cmp.Lexicographic.slice_cmp}
 use Rattle.std.specs.declared.string.String.{String}
-use Rattle.dnssec_key.specs.Key.{KeyParts}
-use Rattle.dnssec_key.specs.Setters.{Setting, set_by}
+use Rattle.dnssec_key.specs.{Key.KeyParts, Setters.set_by}
 use Rattle.dnssec_keyset.specs.KeySet.{KeySetParts, new_set}
-use Rattle.dnssec_keyset.specs.Step as keyset
 use Rattle.dnssec_keyset.specs.Step.{Set, after, after_reply}
 use Rattle.dnssec_keyset.proofs.After.{after-changes}
-use Rattle.dnssec_run.specs.declared.call.Call.{Call}
-use Rattle.dnssec_run.specs.declared.record.Entry.{Entry}
-use Rattle.dnssec_run.specs.declared.record.Outcome.{Outcome}
-use Rattle.dnssec_run.specs.declared.record.Published.{Published}
-use Rattle.dnssec_run.specs.declared.record.Reply.{Reply}
-use Rattle.dnssec_run.specs.declared.record.Reply.TheVariants.{Refused}
+use Rattle.dnssec_run.specs.declared.{call.Call.Call, record.Entry.Entry, record.Outcome.Outcome}
+use Rattle.dnssec_run.specs.declared.record.{Published.Published, Reply.Reply}
+use Rattle.dnssec_run.specs.declared.record.{Reply.TheVariants.Refused, Mark.TheVariants.Other}
 use Rattle.dnssec_run.specs.Published.{IsPublished, World, id_of, in_ds, in_dnskey, signs_dnskey}
 use Rattle.dnssec_run.specs.Published.{signs_zone}
 use Rattle.dnssec_run.specs.Record.{call_of, reply_of, is_accepted, mark_of, mark_after, IsEntry}
 use Rattle.dnssec_run.specs.Record.{reference_added, with_added, world_after, new_world}
-use Rattle.dnssec_run.specs.declared.record.Mark.TheVariants.{Other}
 use Rattle.dnssec_run.specs.Recorder.{Agrees, HasSameKeys, IsOutcome, TellsOutcome, positions_after}
-use Rattle.dnssec_run.specs.Recorder.{ChangesAt, ChangesOnly, reference_deleted, reference_set}
-use Rattle.dnssec_run.proofs.Effects.{looked-up, moved_key, put_at}
-use Rattle.dnssec_run.proofs.Positions.{shown-none}
-
--- who is there stays who is there, whatever happens to it
-still : (n : ℕ) (f : KeyParts → KeyParts) (o : Option KeyParts)
-    → option_map (λ (k : KeyParts). n) o ≡ option_map (λ (k : KeyParts). n) (option_map f o)
-still n f o = grind arith
-
--- a key that is added, and one that is deleted
-added_to : (b : Bool) (n m : ℕ) (key : KeyParts) (x : Option ℕ) (o : Option KeyParts)
-    → x ≡ option_map (λ (k : KeyParts). m) o → (if b then Some n else x)
-    ≡ option_map (λ (k : KeyParts). if b then n else m) (if b then Some key else o)
-added_to true n m key x o e = refl
-added_to false n m key x o e = e
-
-deleted_from : (b : Bool) (m : ℕ) (x : Option ℕ) (o : Option KeyParts)
-    → x ≡ option_map (λ (k : KeyParts). m) o → (if b then None else x)
-    ≡ option_map (λ (k : KeyParts). m) (if b then None else o)
-deleted_from b m x o e = grind arith
+use Rattle.dnssec_run.specs.Recorder.{ChangesOnly, reference_deleted, reference_set}
+use Rattle.dnssec_run.proofs.{Effects.looked-up, Positions.shown-none}
+use Rattle.std.specs.BTreeMap as tree
+use Rattle.dnssec_keyset.specs.Step as keyset
 
 module _ (n : ℕ) (w : World) (at : List ℕ → Option ℕ)
     (agrees : (q : List ℕ) → at q ≡ option_map (λ k. w.added q) (get w.set.keys q)) where
-  placed : (c : keyset.Call) (q : List ℕ) (o : Option KeyParts)
-      → at q ≡ option_map (λ (k : KeyParts). w.added q) o
-      → positions_after n (reference_added c) (reference_deleted c) at q
-      ≡ option_map (λ (k : KeyParts). with_added n (reference_added c) w.added q) (put_at c q o)
-  placed (keyset.AddKey r key) q o e = added_to (bytes_eq r q) n (w.added q) key (at q) o e
-  placed (keyset.DeleteKey r) q o e = deleted_from (bytes_eq r q) (w.added q) (at q) o e
-  placed _ q o e = e
-
   next : (c : keyset.Call) (q : List ℕ)
       → positions_after n (reference_added c) (reference_deleted c) at q ≡ option_map
       (λ k. with_added n (reference_added c) w.added q) (get (after c w.set).keys q)
-  next c q = placed c q (option_map (moved_key w.set c q) (get w.set.keys q))
-      (agrees q ∙ still (w.added q) (moved_key w.set c q) (get w.set.keys q))
-      ∙ ap (option_map (λ k. with_added n (reference_added c) w.added q))
-      (sym (looked-up w.set (after c w.set) c (after-changes w.set c) q))
+  next c q = grind (arith, agrees q, looked-up w.set (after c w.set) c (after-changes w.set c) q)
 
 -- an accepted call
 pub agrees-accepted : (n : ℕ) (w : World) (old new : KeySetParts) (at later : List ℕ → Option ℕ)
@@ -115,19 +75,14 @@ pub changes-only : (n : ℕ) (w : World) (call : Call) (reply : Reply)
     → ChangesOnly (reference_set (call_of call)) w (world_after n w call reply)
 changes-only n w call reply = by (call_of call) reply
   where
-    accepted : (r : List ℕ) (setting : Setting)
-        → ChangesAt r w (record { set = after (Set r setting) w.set; added = w.added })
-    accepted r setting = record {
+    by : (c : keyset.Call) (reply : Reply)
+        → ChangesOnly (reference_set c) w (world_then n w c reply)
+    by (Set r setting) (Refused cause) = record { others = λ q apart. refl; added = λ q. refl }
+    by (Set r setting) _ = record {
       others = λ q apart. (after-changes w.set (Set r setting)).keys q
           ∙ unchanged r q (set_by setting) (get w.set.keys q) apart;
       added = λ q. refl;
     }
-
-    by : (c : keyset.Call) (reply : Reply)
-        → ChangesOnly (reference_set c) w (world_then n w c reply)
-    by (Set r setting) (Refused cause) =
-        record { others = λ q apart. refl; added = λ q. refl }
-    by (Set r setting) _ = accepted r setting
     by _ _ = tt
 
 -- clones of the positions are the same positions

@@ -2,33 +2,25 @@
 -- key is put in. Then the set is the one that is published, if the other keys are as they were.
 use Rattle.std.proofs.Common.{◌≡◌, ◌≤◌, ◌<◌, ◌∙◌, ℕ, zero, suc, Bool, true, false, cond, List, []}
 use Rattle.std.proofs.Common.{◌∷◌, map, length, get_or, Some, None, refl, sym, ap, subst, arith}
-use Rattle.std.proofs.Common.{string_bytes}
+use Rattle.std.proofs.Common.{string_bytes, inl, inr}
 use Rattle.std.specs.Prelude.{Option, T, not, is_some, IsSortedBy}
-use Rattle.std.specs.declared.cmp.Ordering.{Ordering}
 use Rattle.std.specs.declared.cmp.Ordering.TheVariants.{Less, Equal, Greater}
-use Rattle.std.specs.Cmp.Lexicographic.{slice_cmp, nat_list_cmp_total, bytes_decides}
-use Rattle.std.specs.Option.{option_map}
-use Rattle.std.specs.FinMap.{get, slice_cmp-IsAntisymmetric, nat_cmp-IsAntisymmetric}
-use Rattle.std.specs.FinMap.Entries.{below_all, by_order, find-put, find-where_key, is_sorted-put}
+use Rattle.std.specs.FinMap.Entries.{below_all, find-put, find-where_key, is_sorted-put}
 use Rattle.std.specs.FinMap.Entries.{is_sorted-where_key, put, where_key}
-use Rattle.std.specs.List.{insert, remove}
-use Rattle.std.specs.List.Sorted.{IsNonDecreasingBy, IsPartitionPoint}
-use Rattle.std.specs.Ordering.{eq_by_cmp, is_eq, is_lt, nat_cmp, ordering_index, ordering_reverse}
-use Rattle.std.specs.Str.{bytes_eq}
-use Rattle.std.proofs.lemmas.List.Sorted.{searchable_from_sorted}
-use Rattle.std.proofs.lemmas.Map.Text.{is_eq-slice_cmp}
-use Rattle.dnssec_key.specs.declared.kind.KeyType.{KeyType}
-use Rattle.dnssec_key.specs.Key.{KeyParts}
+use Rattle.std.specs.Ordering.{eq_by_cmp, is_eq, is_lt, ordering_index, ordering_reverse}
+use Rattle.std.specs.{declared.cmp.Ordering.Ordering, Cmp.Lexicographic.nat_list_cmp_total}
+use Rattle.std.specs.{Cmp.Lexicographic.bytes_decides, Option.option_map, FinMap.get, List.insert}
+use Rattle.std.specs.List.{remove, Sorted.IsNonDecreasingBy, Sorted.IsPartitionPoint}
+use Rattle.std.{specs.Str.bytes_eq, proofs.lemmas.List.Sorted.searchable_from_sorted}
+use Rattle.std.proofs.lemmas.{Map.Text.is_eq-slice_cmp, Bool.cases_lt}
+use Rattle.dnssec_key.specs.{declared.kind.KeyType.KeyType, Key.KeyParts}
 use Rattle.dnssec_keyset.specs.KeySet.{KeySetParts}
 use Rattle.dnssec_zone.proofs.Quantified.{first, second}
 use Rattle.dnssec_run.specs.declared.record.PublishedKey.{PublishedKey}
 use Rattle.dnssec_run.specs.Published.{Id, World, id_of, keys_where}
 use Rattle.dnssec_run.specs.Recorder.{Agrees, ChangesAt, IsAscending, SetsPlace, position_after}
 use Rattle.dnssec_run.specs.Recorder.{position_in, position_shown}
-use Rattle.dnssec_run.proofs.Positions.{shown-ascending, shown-by, shown-found}
-
-abbrev order : List ℕ → List ℕ → Ordering
-order = slice_cmp nat_cmp
+use Rattle.dnssec_run.proofs.Positions.{equal-keys, order, shown-ascending, shown-by, shown-found}
 
 abbrev reference : PublishedKey → List ℕ
 reference k = string_bytes k.reference
@@ -44,12 +36,13 @@ turned_eq o = grind arith
 some-too : (b : Bool) (n : ℕ) (o : Option ℕ) → is_some o ≡ true → is_some (cond b (Some n) o) ≡ true
 some-too b n o h = grind arith
 
-stays-there : (n : ℕ) (was : Option ℕ) → is_some was ≡ true → position_after (Some n) was ≡ was
-stays-there n was h = grind arith
+stays-there : (at was : Option ℕ) → is_some at ≡ true → is_some was ≡ true
+    → position_after at was ≡ was
+stays-there at was some h = grind arith
 
-taken_at : (b : Bool) (was : Option ℕ) → cond (not b) was None
-    ≡ cond b (position_after None was) was
-taken_at b was = grind arith
+taken_at : (b : Bool) (at was : Option ℕ) → is_some at ≡ false → cond (not b) was None
+    ≡ cond b (position_after at was) was
+taken_at b at was none = grind arith
 
 lower : (o : Ordering) → T (is_lt o) → o ≡ Less
 lower Less h = refl
@@ -63,6 +56,9 @@ module _ (r : List ℕ) where
 
   turned : (x : List ℕ) (o : Ordering) → order x r ≡ o → order r x ≡ ordering_reverse o
   turned x o e = nat_list_cmp_total.antisymm r x ∙ ap ordering_reverse e
+
+  same-test : (x : List ℕ) → is_eq (order r x) ≡ is_eq (order x r)
+  same-test x = ap is_eq (nat_list_cmp_total.antisymm r x) ∙ turned_eq (order x r)
 
   abbrev other : List ℕ → Bool
   other q = not (eq_by_cmp order r q)
@@ -104,11 +100,12 @@ module _ (r : List ℕ) where
     λ j d low lt. gap.1 (suc j) d (omega arith) (omega arith),
   )
 
-  behind : (x : PublishedKey) (xs : List PublishedKey) → IsGap (x ∷ xs) 0 → IsGap xs 0
-  behind x xs gap = (
-    λ j d low lt. absurd (omega arith),
-    λ j d low lt. gap.1 (suc j) d (omega arith) (omega arith),
-  )
+  gap-apart : (keys : List PublishedKey) (i : ℕ) → IsGap keys i → (j : ℕ) (d : PublishedKey)
+      → j < length keys → is_eq (stands (get_or keys j d)) ≡ false
+  gap-apart keys i gap j d lt = elim (cases_lt j i) [
+    | inl low ↦ ap is_eq (gap.0 j d (omega arith) (omega arith))
+    | inr high ↦ ap is_eq (gap.1 j d (omega arith) (omega arith))
+  ]
 
   -- ---- what is done there
 
@@ -117,78 +114,54 @@ module _ (r : List ℕ) where
   inserted [] zero n k fits gap is = ap (λ (id : Id). id ∷ []) is
   inserted [] (suc i) n k fits gap is = absurd (omega arith)
   inserted (x ∷ xs) zero n k fits gap is =
-      ap (λ (id : Id). id ∷ ids (x ∷ xs)) is
-      ∙ sym (ap (λ o. by_order o ((r, n) ∷ ids (x ∷ xs)) ((reference x, n) ∷ ids xs)
-      (id_of x ∷ put order r n (ids xs)))
-      (turned (reference x) Greater (gap.1 0 x (omega arith) (omega arith))))
+      rw (turned (reference x) Greater (gap.1 0 x (omega arith) (omega arith)))
+      (ap (λ (id : Id). id ∷ ids (x ∷ xs)) is)
   inserted (x ∷ xs) (suc i) n k fits gap is =
-      ap (λ (l : List Id). id_of x ∷ l) (inserted xs i n k (omega arith) (later x xs i gap) is)
-      ∙ sym (ap (λ o. by_order o ((r, n) ∷ ids (x ∷ xs)) ((reference x, n) ∷ ids xs)
-      (id_of x ∷ put order r n (ids xs)))
-      (turned (reference x) Less (gap.0 0 x (omega arith) (omega arith))))
+      rw (turned (reference x) Less (gap.0 0 x (omega arith) (omega arith)))
+      (ap (λ (l : List Id). id_of x ∷ l) (inserted xs i n k (omega arith) (later x xs i gap) is))
 
-  absent : (keys : List PublishedKey) (i : ℕ) → IsGap keys i → position_in (ids keys) r ≡ None
-  absent [] i gap = refl
-  absent (x ∷ xs) zero gap =
-      ap (λ o. cond (is_eq o) (Some x.added) (position_in (ids xs) r))
-      (turned (reference x) Greater (gap.1 0 x (omega arith) (omega arith)))
-      ∙ absent xs 0 (behind x xs gap)
-  absent (x ∷ xs) (suc i) gap =
-      ap (λ o. cond (is_eq o) (Some x.added) (position_in (ids xs) r))
-      (turned (reference x) Less (gap.0 0 x (omega arith) (omega arith)))
-      ∙ absent xs i (later x xs i gap)
+  absent : (keys : List PublishedKey) → ((j : ℕ) (d : PublishedKey) → j < length keys
+      → is_eq (stands (get_or keys j d)) ≡ false) → position_in (ids keys) r ≡ None
+  absent [] apart = refl
+  absent (x ∷ xs) apart = rw (same-test (reference x) ∙ apart 0 x (omega arith))
+      (absent xs (λ j d lt. apart (suc j) d (omega arith)))
 
   -- the key at a place has the reference r
   abbrev pub IsHere : List PublishedKey → ℕ → Type 0
   IsHere keys i = (d : PublishedKey) → stands (get_or keys i d) ≡ Equal
 
-  is_r : (x : List ℕ) → order x r ≡ Equal → x ≡ r
-  is_r x e = slice_cmp-IsAntisymmetric nat_cmp-IsAntisymmetric x r e
-
   all_others : (l : List Id) → T (below_all order r l) → others l ≡ l
   all_others [] h = refl
-  all_others (e ∷ es) h =
-      ap (λ o. cond (not (is_eq o)) (e ∷ others es) (others es)) (lower _ (first _ _ h))
-      ∙ ap (λ (l : List Id). e ∷ l) (all_others es (second _ _ h))
+  all_others (e ∷ es) h = rw (lower (order r e.0) (first _ _ h))
+      (ap (λ (l : List Id). e ∷ l) (all_others es (second _ _ h)))
 
   below_here : (x : List ℕ) (keys : List PublishedKey) (i : ℕ) → i < length keys
       → T (below_all order x (ids keys)) → IsHere keys i → T (is_lt (order x r))
   below_here x [] i fits h here = absurd (omega arith)
   below_here x (y ∷ ys) zero fits h here =
-      subst (λ q. T (is_lt (order x q))) (is_r (reference y) (here y)) (first _ _ h)
+      subst (λ q. T (is_lt (order x q))) (equal-keys (reference y) r (here y)) (first _ _ h)
   below_here x (y ∷ ys) (suc i) fits h here = below_here x ys i (omega arith) (second _ _ h) here
 
   removed : (keys : List PublishedKey) (i : ℕ) → i < length keys → IsHere keys i
       → IsAscending (ids keys) → ids (remove keys i) ≡ others (ids keys)
   removed [] i fits here h = absurd (omega arith)
   removed (x ∷ xs) zero fits here h =
-      sym (ap (λ o. cond (not (is_eq o)) (id_of x ∷ others (ids xs)) (others (ids xs)))
-      (turned (reference x) Equal (here x))
-      ∙ all_others (ids xs) (subst (λ q. T (below_all order q (ids xs)))
-      (is_r (reference x) (here x)) (first _ _ h)))
+      rw (turned (reference x) Equal (here x)) (sym (all_others (ids xs)
+      (subst (λ q. T (below_all order q (ids xs))) (equal-keys (reference x) r (here x))
+      (first _ _ h))))
   removed (x ∷ xs) (suc i) fits here h =
-      ap (λ (l : List Id). id_of x ∷ l) (removed xs i (omega arith) here (second _ _ h))
-      ∙ sym (ap (λ o. cond (not (is_eq o)) (id_of x ∷ others (ids xs)) (others (ids xs)))
-      (turned (reference x) Less (lower (order (reference x) r)
-      (below_here (reference x) xs i (omega arith) (first _ _ h) here))))
+      rw (turned (reference x) Less (lower (order (reference x) r)
+      (below_here (reference x) xs i (omega arith) (first _ _ h) here)))
+      (ap (λ (l : List Id). id_of x ∷ l) (removed xs i (omega arith) here (second _ _ h)))
 
   present : (keys : List PublishedKey) (i : ℕ) → i < length keys → IsHere keys i
       → is_some (position_in (ids keys) r) ≡ true
   present [] i fits here = absurd (omega arith)
-  present (x ∷ xs) zero fits here =
-      ap (λ o. is_some (cond (is_eq o) (Some x.added) (position_in (ids xs) r)))
-      (turned (reference x) Equal (here x))
+  present (x ∷ xs) zero fits here = rw (turned (reference x) Equal (here x)) refl
   present (x ∷ xs) (suc i) fits here =
       some-too (is_eq (order r (reference x))) x.added _ (present xs i (omega arith) here)
 
   -- ---- the set then
-
-  -- two tests of a reference
-  tests : (q : List ℕ) → is_eq (order r q) ≡ bytes_eq r q
-  tests q = is_eq-slice_cmp r q
-
-  turned_test : (q : List ℕ) → eq_by_cmp order q r ≡ bytes_eq r q
-  turned_test q = ap is_eq (nat_list_cmp_total.antisymm q r) ∙ turned_eq (order r q) ∙ tests q
 
   -- at r the set has this, elsewhere what it had
   at_reference : (at : Option ℕ) (old : List ℕ → Option ℕ) (q : List ℕ) (new : Option ℕ)
@@ -200,48 +173,57 @@ module _ (r : List ℕ) where
       → (q : List ℕ) → old q ≡ cond (bytes_eq r q) (position_after at (old q)) (old q)
   same-at at old same q = grind (arith, bytes_decides)
 
-  pub puts-key : (old new : List PublishedKey) (i n : ℕ) (k : PublishedKey) → i ≤ length old
-      → new ≡ insert old i k → id_of k ≡ (r, n)
-      → (IsNonDecreasingBy (λ y. ordering_index (stands y)) old → IsGap old i)
-      → IsAscending (ids old) → SetsPlace r (Some n) (ids old) (ids new)
-  puts-key old new i n k fits is key split up =
-      let gap = split (rising old up) in
+  -- a search ends at the key, or in the gap for it
+  abbrev pub IsFound : List PublishedKey → ℕ → Type 0
+  IsFound keys i = (i < length keys) × IsHere keys i
+
+  abbrev pub IsMissed : List PublishedKey → ℕ → Type 0
+  IsMissed keys i = (i ≤ length keys)
+      × (IsNonDecreasingBy (λ y. ordering_index (stands y)) keys → IsGap keys i)
+
+  pub puts-key : (old new : List PublishedKey) (i n : ℕ) (k : PublishedKey) → IsMissed old i
+      → new ≡ insert old i k → id_of k ≡ (r, n) → IsAscending (ids old)
+      → SetsPlace r (Some n) (ids old) (ids new)
+  puts-key old new i n k missed is key up =
+      let gap = missed.1 (rising old up) in
       let put_in : ids new ≡ put order r n (ids old) =
-      ap ids is ∙ inserted old i n k fits gap key in
+      ap ids is ∙ inserted old i n k missed.0 gap key in
       record {
-        ascending = subst IsAscending (sym put_in)
-            (is_sorted-put order nat_list_cmp_total r n (ids old) up);
+        ascending = rw put_in (is_sorted-put order nat_list_cmp_total r n (ids old) up);
         found = λ q. at_reference (Some n) (position_in (ids old)) q (position_in (ids new) q)
-            (ap (λ l. position_in l q) put_in ∙ find-put order nat_list_cmp_total q r n (ids old)
-            ∙ ap (λ b. cond b (Some n) (position_in (ids old) q)) (turned_test q))
-            (ap (position_after (Some n)) (absent old i gap));
+            (rw (put_in, find-put order nat_list_cmp_total q r n (ids old), ← same-test q)
+            (rw (is_eq-slice_cmp r q) refl))
+            (ap (position_after (Some n)) (absent old (gap-apart old i gap)));
       }
 
-  pub takes-key : (old new : List PublishedKey) (i : ℕ) → i < length old → new ≡ remove old i
-      → IsHere old i → IsAscending (ids old) → SetsPlace r None (ids old) (ids new)
-  takes-key old new i fits is here up =
-      let gone : ids new ≡ others (ids old) = ap ids is ∙ removed old i fits here up in
+  pub takes-key : (old new : List PublishedKey) (i : ℕ) (at : Option ℕ) → is_some at ≡ false
+      → IsFound old i → new ≡ remove old i → IsAscending (ids old)
+      → SetsPlace r at (ids old) (ids new)
+  takes-key old new i at none found is up =
+      let gone : ids new ≡ others (ids old) = ap ids is ∙ removed old i found.0 found.1 up in
       record {
-        ascending = subst IsAscending (sym gone) (is_sorted-where_key order other (ids old) up);
-        found = λ q. ap (λ l. position_in l q) gone ∙ find-where_key order other q (λ x e. ap other
-            (sym (slice_cmp-IsAntisymmetric nat_cmp-IsAntisymmetric q x e))) (ids old)
-            ∙ ap (λ b. cond (not b) (position_in (ids old) q) None) (tests q)
-            ∙ taken_at (bytes_eq r q) (position_in (ids old) q);
+        ascending = rw gone (is_sorted-where_key order other (ids old) up);
+        found = λ q. rw (
+          gone,
+          find-where_key order other q (λ x e. ap other (sym (equal-keys q x e))) (ids old),
+          is_eq-slice_cmp r q,
+        ) (taken_at (bytes_eq r q) at (position_in (ids old) q) none);
       }
 
-  pub leaves-key : (keys : List PublishedKey) (i n : ℕ) → i < length keys → IsHere keys i
-      → IsAscending (ids keys) → SetsPlace r (Some n) (ids keys) (ids keys)
-  leaves-key keys i n fits here up = record {
+  pub leaves-key : (keys : List PublishedKey) (i : ℕ) (at : Option ℕ) → is_some at ≡ true
+      → IsFound keys i → IsAscending (ids keys) → SetsPlace r at (ids keys) (ids keys)
+  leaves-key keys i at some found up = record {
     ascending = up;
-    found = same-at (Some n) (position_in (ids keys)) (stays-there n _ (present keys i fits here));
+    found = same-at at (position_in (ids keys))
+        (stays-there at _ some (present keys i found.0 found.1));
   }
 
-  pub leaves-gap : (keys : List PublishedKey) (i : ℕ)
-      → (IsNonDecreasingBy (λ y. ordering_index (stands y)) keys → IsGap keys i)
-      → IsAscending (ids keys) → SetsPlace r None (ids keys) (ids keys)
-  leaves-gap keys i split up = record {
+  pub leaves-gap : (keys : List PublishedKey) (i : ℕ) → IsMissed keys i → IsAscending (ids keys)
+      → SetsPlace r None (ids keys) (ids keys)
+  leaves-gap keys i missed up = record {
     ascending = up;
-    found = same-at None (position_in (ids keys)) (sym (absent keys i (split (rising keys up))));
+    found = same-at None (position_in (ids keys))
+        (sym (absent keys (gap-apart keys i (missed.1 (rising keys up)))));
   }
 
 -- ---- the set that is published
@@ -255,27 +237,31 @@ published-at : (passes : KeyType → Bool) (r q : List ℕ) (here : List ℕ →
     → cond (bytes_eq r q) (position_after (here r) before) before ≡ position_shown passes o (Some n)
 published-at passes r q here before o was n was_so now others = grind (arith, bytes_decides)
 
-pub published-then : (passes : KeyType → Bool) (v w : World) (r : List ℕ) (set : KeySetParts)
-    (at : List ℕ → Option ℕ) (old new : List Id) → old ≡ keys_where passes v
-    → ChangesAt r v w → Agrees set at w
-    → (IsAscending old → SetsPlace r (position_shown passes (get set.keys r) (at r)) old new)
+-- a set that is touched has the key at its place, and another stays
+pub renewed : (passes : KeyType → Bool) (touched : Bool) (v w : World) (r : List ℕ)
+    (set : KeySetParts) (at : List ℕ → Option ℕ) (old new : List Id) (key : Option KeyParts)
+    (place result : Option ℕ) → key ≡ get set.keys r → place ≡ at r
+    → result ≡ position_shown passes key place
+    → (touched ≡ true → IsAscending old → SetsPlace r result old new)
+    → (touched ≡ false → new ≡ old) → old ≡ keys_where passes v → ChangesAt r v w
+    → Agrees set at w → (touched ≡ false → keys_where passes w ≡ keys_where passes v)
     → new ≡ keys_where passes w
-published-then passes v w r set at old new was only agrees sets =
-    shown-by passes w new then.ascending (λ q. then.found q ∙ published-at passes r q
-    (λ q. position_shown passes (get set.keys q) (at q)) (position_in old q) (get w.set.keys q)
-    (get v.set.keys q) (w.added q) (before q) (here q) (only.others q))
+renewed passes touched v w r set at old new key place result found placed is sets left was only
+    agrees leaves = by touched refl
   where
-    then : SetsPlace r (position_shown passes (get set.keys r) (at r)) old new
-    then = sets (subst IsAscending (sym was) (shown-ascending passes v))
-
     before : (q : List ℕ) → position_in old q
         ≡ position_shown passes (get v.set.keys q) (Some (w.added q))
-    before q = ap (λ l. position_in l q) was ∙ shown-found passes v q
-        ∙ ap (λ n. position_shown passes (get v.set.keys q) (Some n)) (sym (only.added q))
+    before q = rw (was, only.added q) (shown-found passes v q)
 
     here : (q : List ℕ) → position_shown passes (get set.keys q) (at q)
         ≡ position_shown passes (get w.set.keys q)
         (option_map (λ (k : KeyParts). w.added q) (get w.set.keys q))
-    here q = ap (position_shown passes (get set.keys q)) (agrees.positions q)
-        ∙ ap (λ (s : KeySetParts). position_shown passes (get s.keys q)
-        (option_map (λ (k : KeyParts). w.added q) (get w.set.keys q))) agrees.same
+    here q = rw (agrees.positions q, agrees.same) refl
+
+    by : (t : Bool) → touched ≡ t → new ≡ keys_where passes w
+    by true t =
+        let then = rw (is, found, placed) at (sets t (rw was (shown-ascending passes v))) in
+        shown-by passes w new then.ascending (λ q. then.found q ∙ published-at passes r q
+        (λ q. position_shown passes (get set.keys q) (at q)) (position_in old q)
+        (get w.set.keys q) (get v.set.keys q) (w.added q) (before q) (here q) (only.others q))
+    by false t = left t ∙ was ∙ sym (leaves t)

@@ -1,35 +1,25 @@
 -- What a plain list sets by hand and starts, said of the key set at each position, as the proofs
 -- use it. On every run it is the same as the definitions, which speak only of calls and replies:
 -- the kind of a key never changes. For `chain` and the laws of whole rolls.
-use Rattle.dnssec_keyset.proofs.Changes.{Changes}
 use Rattle.std.proofs.Common.{◌≡◌, ℕ, zero, suc, ◌<◌, Bool, true, false, List, Option, None, Some}
 use Rattle.std.proofs.Common.{refl, sym, ap, subst, ◌∙◌, arith}
 use Rattle.std.specs.Prelude.{if◌then◌else◌, nat_eq, slice_get}
-use Rattle.std.specs.Str.{bytes_eq}
-use Rattle.std.specs.FinMap.{get, get-empty}
-use Rattle.std.specs.Option.{option_map}
-use Rattle.std.specs.Ordering.{nat_cmp}
-use Rattle.std.specs.Cmp.Lexicographic.{slice_cmp}
-use Rattle.dnssec_key.specs.declared.kind.KeyType.{KeyType}
-use Rattle.dnssec_key.specs.declared.kind.KeyType.TheVariants.{Include}
-use Rattle.dnssec_key.specs.declared.roll.RollType.{RollType}
-use Rattle.dnssec_key.specs.declared.roll.RollType.TheVariants.{AlgorithmRoll}
-use Rattle.dnssec_key.specs.Key.{KeyParts}
-use Rattle.dnssec_key.specs.RollTable.{First}
+use Rattle.std.specs.{FinMap.get, FinMap.get-empty, Ordering.nat_cmp, Cmp.Lexicographic.slice_cmp}
 use Rattle.dnssec_key.specs.Setters.{Setting, Decoupled, Present}
-use Rattle.dnssec_keyset.specs.KeySet.{KeySetParts}
+use Rattle.dnssec_key.specs.declared.kind.KeyType.{KeyType, TheVariants.Include}
+use Rattle.dnssec_key.specs.declared.roll.RollType.{RollType, TheVariants.AlgorithmRoll}
+use Rattle.dnssec_key.specs.{Key.KeyParts, RollTable.First}
+use Rattle.dnssec_keyset.{specs.KeySet.KeySetParts, proofs.Exchange.Kinds.kind_number}
+use Rattle.dnssec_run.specs.Record.{IsRun, call_of, is_accepted, reply_of, world_at, world_next}
+use Rattle.dnssec_run.proofs.Effects.{accepted_step, looked-up, moved_key, passing-moved, put_at}
+use Rattle.dnssec_run.proofs.Effects.{same-number}
+use Rattle.dnssec_run.specs.declared.{call.Call.Call, record.Entry.Entry, record.Reply.Reply}
+use Rattle.dnssec_run.{specs.Published.World, proofs.Positions.passing}
 use Rattle.dnssec_keyset.specs.Step as keyset
-use Rattle.dnssec_keyset.proofs.Exchange.Kinds.{kind_number}
-use Rattle.dnssec_run.specs.declared.call.Call.{Call}
 use Rattle.dnssec_run.specs.declared.call.Call.TheVariants as call
-use Rattle.dnssec_run.specs.declared.record.Entry.{Entry}
-use Rattle.dnssec_run.specs.declared.record.Reply.{Reply}
 use Rattle.dnssec_run.specs.declared.record.Reply.TheVariants as reply
 use Rattle.dnssec_run.specs.Plain as plain
-use Rattle.dnssec_run.specs.Published.{World}
-use Rattle.dnssec_run.specs.Record.{IsRun, call_of, is_accepted, reply_of, world_at, world_behind}
 use Rattle.dnssec_run.specs.WholeRolls as rolls
-use Rattle.dnssec_run.proofs.Effects.{accepted_step, looked-up, moved_key, put_at, same-number}
 
 -- ---- by the key set
 
@@ -88,60 +78,26 @@ pub record IsPlainBySets (name : List ℕ) (calls : List Call) (entries : List E
       → DoesAt start_of calls entries n roll
       → (m : ℕ) × (m < n) × DoesAt first_wait_of calls entries m AlgorithmRoll
 
--- ---- the kind of a key stays
+-- ---- whose key it is, from one call to the next
 
+-- the kind of a key stays
 is-number : (k : KeyType) → is_another_signers k ≡ nat_eq (kind_number k) 3
 unfolding kind_number
 is-number k = grind arith
 
-same-kind : (j k : KeyType) → kind_number j ≡ kind_number k
-    → is_another_signers j ≡ is_another_signers k
-same-kind j k e = is-number j ∙ ap (λ n. nat_eq n 3) e ∙ sym (is-number k)
-
 kind-moved : (set : KeySetParts) (c : keyset.Call) (q : List ℕ) (k : KeyParts)
     → is_another_signers (moved_key set c q k).keytype ≡ is_another_signers k.keytype
-kind-moved set c q k = same-kind _ k.keytype (same-number set c q k)
-
--- ---- whose key it is, from one call to the next
+kind-moved set c q k =
+    is-number _ ∙ ap (λ n. nat_eq n 3) (same-number set c q k) ∙ sym (is-number k.keytype)
 
 -- the key is another signer's
 abbrev others_key : Option KeyParts → Bool
-others_key None = false
-others_key (Some k) = is_another_signers k.keytype
+others_key = passing is_another_signers
 
-others-put : (b : Bool) (x o : Option KeyParts) → others_key (if b then x else o)
-    ≡ (if b then others_key x else others_key o)
-others-put b x o = grind arith
-
-others-moved : (f : KeyParts → KeyParts) (o : Option KeyParts)
-    → ((k : KeyParts) → is_another_signers (f k).keytype ≡ is_another_signers k.keytype)
-    → others_key (option_map f o) ≡ others_key o
-others-moved f None stay = refl
-others-moved f (Some k) stay = stay k
-
--- what the definitions say of a call, by the call that the key set sees
-abbrev others_by : keyset.Call → List ℕ → Bool → Bool
-others_by (keyset.AddKey r key) q before =
-    if bytes_eq r q then is_another_signers key.keytype else before
-others_by (keyset.DeleteKey r) q before = if bytes_eq r q then false else before
-others_by _ q before = before
-
-call-others : (c : Call) (q : List ℕ) (b : Bool) → plain.others_after c q b
-    ≡ others_by (call_of c) q b
-call-others (call.AddKeyKsk a b c d e f) q x = refl
-call-others _ q x = refl
-
-others-placed : (c : keyset.Call) (q : List ℕ) (o : Option KeyParts)
-    → others_key (put_at c q o) ≡ others_by c q (others_key o)
-others-placed (keyset.AddKey r key) q o = others-put (bytes_eq r q) (Some key) o
-others-placed (keyset.DeleteKey r) q o = others-put (bytes_eq r q) None o
-others-placed _ q o = refl
-
-others-step : (old new : KeySetParts) (c : keyset.Call) → Changes old c new → (q : List ℕ)
-    → others_key (get new.keys q) ≡ others_by c q (others_key (get old.keys q))
-others-step old new c m q = ap others_key (looked-up old new c m q)
-    ∙ others-placed c q (option_map (moved_key old c q) (get old.keys q))
-    ∙ ap (others_by c q) (others-moved (moved_key old c q) (get old.keys q) (kind-moved old c q))
+-- what the definitions say of a call
+call-others : (c : Call) (q : List ℕ) (o : Option KeyParts)
+    → plain.others_after c q (others_key o) ≡ others_key (put_at (call_of c) q o)
+call-others c q o = grind arith
 
 others-replied : (old new : KeySetParts) (c : Call) (r : Reply)
     → keyset.Step old (call_of c) (reply_of r) new → (q : List ℕ)
@@ -149,8 +105,11 @@ others-replied : (old new : KeySetParts) (c : Call) (r : Reply)
     else others_key (get old.keys q)) ≡ others_key (get new.keys q)
 others-replied old new c (reply.Refused cause) step q =
     ap (λ (s : KeySetParts). others_key (get s.keys q)) (sym step.1)
-others-replied old new c r step q = call-others c q (others_key (get old.keys q))
-    ∙ sym (others-step old new (call_of c) (accepted_step old new (call_of c) r refl step).1 q)
+others-replied old new c r step q =
+    ap (plain.others_after c q) (sym (passing-moved is_another_signers
+    (moved_key old (call_of c) q) (get old.keys q) (kind-moved old (call_of c) q)))
+    ∙ call-others c q _ ∙ sym (ap others_key (looked-up old new (call_of c)
+    (accepted_step old new (call_of c) r refl step).1 q))
 
 -- ---- the same of one call
 
@@ -180,24 +139,22 @@ module _ (calls : List Call) (entries : List Entry) (n : ℕ) (roll : RollType) 
 
   pub start-seen : plain.DoesAt plain.start_of calls entries n roll
       → DoesAt start_of calls entries n roll
-  start-seen = does-too plain.start_of (λ c. start_of (call_of c)) (λ c. (same-rolls c).0)
+  start-seen = does-too _ _ (λ c. (same-rolls c).0)
 
   pub start-made : DoesAt start_of calls entries n roll
       → plain.DoesAt plain.start_of calls entries n roll
-  start-made = does-too (λ c. start_of (call_of c)) plain.start_of (λ c. sym (same-rolls c).0)
+  start-made = does-too _ _ (λ c. sym (same-rolls c).0)
 
   pub first_wait-seen : plain.DoesAt plain.first_wait_of calls entries n roll
       → DoesAt first_wait_of calls entries n roll
-  first_wait-seen =
-      does-too plain.first_wait_of (λ c. first_wait_of (call_of c)) (λ c. (same-rolls c).1)
+  first_wait-seen = does-too _ _ (λ c. (same-rolls c).1)
 
   pub first_wait-made : DoesAt first_wait_of calls entries n roll
       → plain.DoesAt plain.first_wait_of calls entries n roll
-  first_wait-made =
-      does-too (λ c. first_wait_of (call_of c)) plain.first_wait_of (λ c. sym (same-rolls c).1)
+  first_wait-made = does-too _ _ (λ c. sym (same-rolls c).1)
 
   pub end-made : DoesAt end_of calls entries n roll → plain.DoesAt rolls.end_of calls entries n roll
-  end-made = does-too (λ c. end_of (call_of c)) rolls.end_of (λ c. sym (same-rolls c).3)
+  end-made = does-too _ _ (λ c. sym (same-rolls c).3)
 
 -- ---- the same of a run
 
@@ -210,22 +167,19 @@ module _ {name : List ℕ} {calls : List Call} {entries : List Entry}
   names-others zero q = sym (ap others_key (get-empty (slice_cmp nat_cmp) q))
   names-others (suc n) q = at (slice_get calls n) (slice_get entries n) refl refl (names-others n q)
     where
+      w : World
+      w = world_at name calls entries n
+
       at : (oc : Option Call) (oe : Option Entry) → slice_get calls n ≡ oc
-          → slice_get entries n ≡ oe → plain.names_others calls entries n q
-          ≡ others_key (get (world_at name calls entries n).set.keys q)
-          → plain.others_behind oc oe q (plain.names_others calls entries n q) ≡ others_key
-          (get (world_behind (suc n) (world_at name calls entries n) oc oe).set.keys q)
+          → slice_get entries n ≡ oe
+          → plain.names_others calls entries n q ≡ others_key (get w.set.keys q)
+          → plain.others_next oc oe q (plain.names_others calls entries n q)
+          ≡ others_key (get (world_next (suc n) w oc oe).set.keys q)
       at None oe ci ei before = before
       at (Some c) None ci ei before = before
       at (Some c) (Some e) ci ei before =
-          let step_to : world_at name calls entries (suc n)
-          ≡ world_behind (suc n) (world_at name calls entries n) (Some c) (Some e) =
-          λ i. world_behind (suc n) (world_at name calls entries n) (ci i) (ei i) in
-          ap (λ b. if is_accepted e.reply then plain.others_after c q b else b) before
-          ∙ others-replied (world_at name calls entries n).set
-          (world_behind (suc n) (world_at name calls entries n) (Some c) (Some e)).set c e.reply
-          (subst (λ (w : World). keyset.Step (world_at name calls entries n).set (call_of c)
-          (reply_of e.reply) w.set) step_to (run.each n c e ci ei).step) q
+          rw before (others-replied w.set _ c e.reply
+          (rw (ci, ei) at (run.each n c e ci ei).step) q)
 
   -- whatever a call may set by hand, it may so by either
   pub sets-same : (n : ℕ) (c : Call) → sets_nothing (world_at name calls entries n).set (call_of c)

@@ -1,20 +1,14 @@
 -- What a recorder holds is what the last position shows: for callers of `Recorder`.
-use Rattle.std.proofs.Common.{◌≡◌, ℕ, List, length, map, sym, ◌∙◌, subst, arith}
-use Rattle.dnssec_run.specs.declared.call.Call.{Call}
-use Rattle.dnssec_run.specs.declared.record.Entry.{Entry}
-use Rattle.dnssec_run.specs.declared.running.Recorder.{Recorder}
-use Rattle.dnssec_run.specs.Published.{IsPublished, id_of}
-use Rattle.dnssec_run.specs.Record.{world_at}
-use Rattle.dnssec_run.specs.Recorder.{Records}
-use Rattle.dnssec_run.specs.Safe.{position_at}
+use Rattle.std.proofs.Common.{◌≡◌, ℕ, List, length, map, sym, ◌∙◌, arith}
+use Rattle.dnssec_run.specs.declared.{call.Call.Call, record.Entry.Entry, running.Recorder.Recorder}
+use Rattle.dnssec_run.specs.{Published.IsPublished, Published.id_of, Record.world_at}
+use Rattle.dnssec_run.{specs.Recorder.Records, specs.Safe.position_at, proofs.Asked.Changes.list-is}
 use Rattle.dnssec_run.specs.declared.sets.Shown.TheVariants as lists
-use Rattle.dnssec_run.proofs.Asked.Changes.{list-is}
 
 module _ (name : List ℕ) (calls : List Call) (entries : List Entry) (r : Recorder)
     (so : Records name calls entries r) where
   here : IsPublished r.published (world_at name calls entries (length entries))
-  here = subst (λ n. IsPublished r.published (world_at name calls entries n)) (sym so.run.count)
-      so.published
+  here = rw so.run.count so.published
 
   pub last-ds : (position_at entries (length entries)).ds ≡ map id_of r.published.ds.items
   last-ds = list-is so.run lists.Ds (length entries) (omega arith) ∙ sym here.ds

@@ -46,7 +46,7 @@ pub record Undoes (roll : RollType) (Own : List ℕ → Type 0) (w u v : World) 
   pub rolls : v.set.rolls ≡ with_phase u.set.rolls roll None
 
 -- An early end gives each key that the roll's last start listed the flags that it had before that
--- start, whatever calls came between. A key is left out if one of these calls set a flag of it by
+-- start, whatever calls came between. A key is left out if a call in between set a flag of it by
 -- hand or deleted it. The early end changes nothing else.
 abbrev pub UndoesStarts : List ℕ → List Call → List Entry → Type 0
 UndoesStarts name calls entries =

@@ -35,22 +35,22 @@ others_after (DeleteKey pubref) q before = if bytes_eq pubref.now q then false e
 others_after _ q before = before
 
 -- the same after a call with its entry, if both are there; a refused call changes nothing
-abbrev pub others_behind : Option Call → Option Entry → List ℕ → Bool → Bool
-others_behind (Some call) (Some entry) q before =
+abbrev pub others_next : Option Call → Option Entry → List ℕ → Bool → Bool
+others_next (Some call) (Some entry) q before =
     if is_accepted entry.reply then others_after call q before else before
-others_behind _ _ q before = before
+others_next _ _ q before = before
 
 -- at position n the reference names another signer's key: the last accepted call up to there that
 -- added or deleted a key of this reference is `add_public_key`
 unfoldable pub names_others : List Call → List Entry → ℕ → List ℕ → Bool
 names_others calls entries zero q = false
 names_others calls entries (suc n) q =
-    others_behind (slice_get calls n) (slice_get entries n) q (names_others calls entries n q)
+    others_next (slice_get calls n) (slice_get entries n) q (names_others calls entries n q)
 
 -- ---- what is set by hand
 
--- The call sets no flag and no time by hand. Only the keys of these references it may put into the
--- DNSKEY set, or take out.
+-- The call sets no flag and no time by hand. It may put into the DNSKEY set, or take out, only the
+-- keys of these references.
 abbrev pub sets_only_others : (List ℕ → Bool) → Call → Bool
 sets_only_others others (SetPresent pubref value now) = others pubref.now
 sets_only_others others (SetSigner pubref value) = false

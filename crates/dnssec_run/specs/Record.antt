@@ -132,9 +132,9 @@ world_after n w call reply = record {
 }
 
 -- the same with the entry of the call, if both are there
-abbrev pub world_behind : ℕ → World → Option Call → Option Entry → World
-world_behind n w (Some call) (Some entry) = world_after n w call entry.reply
-world_behind n w _ _ = w
+abbrev pub world_next : ℕ → World → Option Call → Option Entry → World
+world_next n w (Some call) (Some entry) = world_after n w call entry.reply
+world_next n w _ _ = w
 
 -- a new key set of this name
 abbrev pub new_world : List ℕ → World
@@ -144,7 +144,7 @@ new_world name = record { set = new_set name; added = λ q. 0 }
 unfoldable pub world_at : List ℕ → List Call → List Entry → ℕ → World
 world_at name calls entries zero = new_world name
 world_at name calls entries (suc n) =
-    world_behind (suc n) (world_at name calls entries n) (slice_get calls n) (slice_get entries n)
+    world_next (suc n) (world_at name calls entries n) (slice_get calls n) (slice_get entries n)
 
 -- ---- the record
 

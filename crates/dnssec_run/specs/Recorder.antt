@@ -115,7 +115,7 @@ ids_where {Y} p key es =
     (filter (λ (e : String Y × ℕ). option_map_or (λ (k : KeyParts). p k.keytype)
     (key (string_bytes e.0)) false) es)
 
--- each of these keys is the one at its reference
+-- each key that is lent is the one at its reference
 abbrev pub AreFound : {Y : Type 0} → (List ℕ → Option KeyParts)
     → List (Bor (String Y) × Bor KeyParts) → Type 0
 AreFound key = All (λ e. key (string_bytes e.0.now) ≡ Some e.1.now)

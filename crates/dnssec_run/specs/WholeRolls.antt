@@ -32,7 +32,7 @@ use Rattle.dnssec_run.specs.Published.{World}
 use Rattle.dnssec_run.specs.Record.{call_of, is_accepted, call_moment, reply_of, world_at}
 use Rattle.dnssec_run.specs.Safe.{position_at}
 
--- ---- words of these laws
+-- ---- words of the laws
 
 -- of two calls with moments the later one's is not below the earlier one's
 abbrev pub NeverFalls : List Call → Type 0

@@ -35,21 +35,11 @@ pub(crate) fn renew_key(
     let to = position(Shown::Dnskey, key, at);
     let dnskey = renew_place(alloc, touched.dnskey, &mut sets.dnskey, to, reference)?;
     let to = position(Shown::DnskeySigners, key, at);
-    let signers = renew_place(
-        alloc,
-        touched.dnskey,
-        &mut sets.dnskey_signers,
-        to,
-        reference,
-    )?;
+    let keys = &mut sets.dnskey_signers;
+    let signers = renew_place(alloc, touched.dnskey, keys, to, reference)?;
     let to = position(Shown::ZoneSigners, key, at);
-    let zone = renew_place(
-        alloc,
-        touched.zone_signers,
-        &mut sets.zone_signers,
-        to,
-        reference,
-    )?;
+    let keys = &mut sets.zone_signers;
+    let zone = renew_place(alloc, touched.zone_signers, keys, to, reference)?;
     Ok(is_any(ds, dnskey, signers, zone))
 }
 
@@ -81,7 +71,8 @@ fn renew_place(
     ensures kept { IfOk result (λ changed. changed ≡ false → keys.new ≡ keys.old) }
     ensures ok { OnOk result (is_touched ≡ true → IsAscending (map id_of keys.old.items) →
         SetsPlace reference.now at (map id_of keys.old.items) (map id_of keys.new.items)) }
-    ensures left { OnOk result (is_touched ≡ false → keys.new ≡ keys.old) }
+    ensures left { OnOk result (is_touched ≡ false →
+        map id_of keys.new.items ≡ map id_of keys.old.items) }
     ensures err { IfErr result (λ e. e ≡ OutOfMemory) }
 {
     if !is_touched {
@@ -103,20 +94,22 @@ fn set_place(
         SetsPlace reference.now at (map id_of keys.old.items) (map id_of keys.new.items)) }
     ensures err { IfErr result (λ e. e ≡ OutOfMemory) }
 {
-    let found = keys.binary_search_by(|key| key.reference.as_str().cmp(reference));
-    match (found, at) {
-        (Ok(place), None) => {
+    match keys.binary_search_by(|key| key.reference.as_str().cmp(reference)) {
+        Ok(place) => {
+            if at.is_some() {
+                return Ok(false);
+            }
             keys.remove(place);
             Ok(true)
         }
-        (Err(place), Some(added)) => {
-            let key = published_key(alloc, reference, added)?;
-            let Ok(()) = keys.insert(place, key) else {
-                return Err(Error::OutOfMemory);
+        Err(place) => {
+            let Some(added) = at else {
+                return Ok(false);
             };
+            let key = published_key(alloc, reference, added)?;
+            keys.insert(place, key)?;
             Ok(true)
         }
-        _ => Ok(false),
     }
 }
 
@@ -125,8 +118,6 @@ fn published_key(alloc: Global, reference: &str, added: usize) -> Result<Publish
     ensures ok { IfOk result (λ k. id_of k ≡ (reference.now, added)) }
     ensures err { IfErr result (λ e. e ≡ OutOfMemory) }
 {
-    match String::from_str(alloc, reference) {
-        Ok(reference) => Ok(PublishedKey { added, reference }),
-        Err(_) => Err(Error::OutOfMemory),
-    }
+    let reference = String::from_str(alloc, reference)?;
+    Ok(PublishedKey { added, reference })
 }

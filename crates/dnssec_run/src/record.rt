@@ -2,7 +2,7 @@
 ghost use Rattle.std.specs.Prelude.{◌≡◌, ◌||◌, [], true, false};
 ghost use Rattle.std.specs.List.{list_any};
 ghost use Rattle.dnssec_run.specs.Asked.{asked_by, updates};
-ghost use Rattle.dnssec_run.specs.Safe.{Dnskey, Ds, ZoneSigners, kind_of};
+ghost use Rattle.dnssec_run.specs.Safe.{kind_of};
 ghost use Rattle.dnssec_run.specs.Record.{is_accepted};
 
 use crate::caches::SetKind;
@@ -32,7 +32,7 @@ impl Reply {
 
     /// Whether the call may have changed the sets of this kind: if it was accepted, and has set a
     /// flag that they show, or asks to publish them.
-    fn touches(&self, kind: SetKind, by_hand: bool) -> bool
+    pub(crate) fn touches(&self, kind: SetKind, by_hand: bool) -> bool
         ensures { result ≡ false → is_accepted self.now ≡ true →
             (by_hand ≡ false) × (list_any (updates (kind_of kind)) (asked_by self.now) ≡ false) }
     {
@@ -71,27 +71,6 @@ pub(crate) struct Touched {
 }
 
 impl Touched {
-    /// What a call with this reply may have changed. `by_hand` are the kinds that show a flag which
-    /// the call sets.
-    pub(crate) fn after(reply: &Reply, by_hand: Touched) -> Touched
-        ensures ds { result.ds ≡ false → is_accepted reply.now ≡ true →
-            (by_hand.ds ≡ false) × (list_any (updates Ds) (asked_by reply.now) ≡ false) }
-        ensures dnskey { result.dnskey ≡ false → is_accepted reply.now ≡ true →
-            (by_hand.dnskey ≡ false) × (list_any (updates Dnskey) (asked_by reply.now) ≡ false) }
-        ensures zone_signers { result.zone_signers ≡ false → is_accepted reply.now ≡ true →
-            (by_hand.zone_signers ≡ false)
-            × (list_any (updates ZoneSigners) (asked_by reply.now) ≡ false) }
-    {
-        let ds = reply.touches(SetKind::Ds, by_hand.ds);
-        let dnskey = reply.touches(SetKind::Dnskey, by_hand.dnskey);
-        let zone_signers = reply.touches(SetKind::ZoneSigners, by_hand.zone_signers);
-        Touched {
-            ds,
-            dnskey,
-            zone_signers,
-        }
-    }
-
     /// Whether there are any.
     pub(crate) fn is_any(self) -> bool
         ensures { result ≡ (self.ds || self.dnskey || self.zone_signers) }

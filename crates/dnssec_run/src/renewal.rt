@@ -1,11 +1,10 @@
 //! A set while it is read anew in the order of its references.
 ghost use Rattle.std.specs.Prelude.{◌≡◌, ◌≤◌, ◌++◌, ◌∷◌, [], IfOk, IfErr, OnOk, map, true, false};
-ghost use Rattle.std.specs.Prelude.{string_bytes, vec_len, slice_get, Some};
+ghost use Rattle.std.specs.Prelude.{◌+◌, string_bytes, take, vec_len};
 ghost use Rattle.std.specs.Option.{option_map};
 ghost use Rattle.dnssec_base.specs.declared.error.Error.TheVariants.{OutOfMemory};
 ghost use Rattle.dnssec_run.specs.Published.{id_of};
 ghost use Rattle.dnssec_run.specs.Recorder.{ids_read, shown_once, shows};
-ghost use Rattle.dnssec_run.specs.declared.record.PublishedKey.{PublishedKey};
 
 use crate::record::PublishedKey;
 use crate::sets::{Shown, published_key};
@@ -32,7 +31,7 @@ impl Renewal {
     pub(crate) fn new(before: Vec<PublishedKey>, is_touched: bool) -> Self
         ensures none { ids_read result ≡ [] }
         ensures fits { result.read ≤ vec_len result.keys }
-        ensures before { result.keys ≡ before }
+        ensures before { result.keys.items ≡ before.items }
         ensures touched { result.is_touched ≡ is_touched }
     {
         Renewal {
@@ -69,49 +68,27 @@ impl Renewal {
         let Some(key) = key else {
             return Ok(());
         };
+        let is_next = self.is_next(reference, added);
         if !shown.shows(key.keytype()) {
-            self.leave_out(reference, added);
+            if !is_next {
+                return Ok(());
+            }
+            self.take_next();
             return Ok(());
         }
-        self.keep_or_put(reference, added)
-    }
-
-    /// Has the key in the set: it stays, or is put in.
-    #[inline(always)]
-    fn keep_or_put(&mut self, reference: &String, added: usize) -> Result<(), Error>
-        requires { self.old.read ≤ vec_len self.old.keys }
-        ensures ok { OnOk result (ids_read self.new
-            ≡ ids_read self.old ++ (string_bytes reference.now, added) ∷ []) }
-        ensures fits { OnOk result (self.new.read ≤ vec_len self.new.keys) }
-        ensures touched { OnOk result (self.new.is_touched ≡ self.old.is_touched) }
-        ensures err { IfErr result (λ e. e ≡ OutOfMemory) }
-    {
-        if self.is_next(reference, added) {
+        if is_next {
             self.read += 1;
             return Ok(());
         }
         self.put(reference, added)
     }
 
-    /// Takes the key out of the set, if it is there.
-    #[inline(always)]
-    fn leave_out(&mut self, reference: &String, added: usize)
-        requires { self.old.read ≤ vec_len self.old.keys }
-        ensures same { ids_read self.new ≡ ids_read self.old }
-        ensures touched { self.new.is_touched ≡ self.old.is_touched }
-        ensures fits { self.new.read ≤ vec_len self.new.keys }
-    {
-        if self.is_next(reference, added) {
-            self.take_next();
-        }
-    }
-
     /// Whether the next key of before is this one.
     #[inline(always)]
     fn is_next(&self, reference: &String, added: usize) -> bool
-        ensures { result ≡ true → (k : PublishedKey)
-            × (slice_get self.now.keys.items self.now.read ≡ Some k)
-            × (id_of k ≡ (string_bytes reference.now, added)) }
+        ensures next { result ≡ true → map id_of (take (self.now.read + 1) self.now.keys.items)
+            ≡ ids_read self.now ++ (string_bytes reference.now, added) ∷ [] }
+        ensures fits { result ≡ true → self.now.read + 1 ≤ vec_len self.now.keys }
     {
         match self.keys.get(self.read) {
             Some(key) if key.added == added && key.reference == *reference => true,
@@ -130,9 +107,7 @@ impl Renewal {
     {
         let key = published_key(reference, added)?;
         self.count_change();
-        let Ok(()) = self.keys.insert(self.read, key) else {
-            return Err(Error::OutOfMemory);
-        };
+        self.keys.insert(self.read, key)?;
         self.read += 1;
         Ok(())
     }
@@ -167,7 +142,7 @@ impl Renewal {
     /// The set, after all keys were read.
     pub(crate) fn into_keys(self) -> Vec<PublishedKey>
         ensures touched { self.is_touched ≡ true → map id_of result.items ≡ ids_read self }
-        ensures left { self.is_touched ≡ false → result ≡ self.keys }
+        ensures left { self.is_touched ≡ false → result.items ≡ self.keys.items }
     {
         let mut keys = self.keys;
         if self.is_touched {

@@ -44,10 +44,10 @@ fn note(
     ensures err { IfErr result (λ e. e ≡ OutOfMemory) }
 {
     match (put, taken) {
-        (Some(reference), _) => match added.insert(reference, at) {
-            Ok(_) => Ok(()),
-            Err(_) => Err(Error::OutOfMemory),
-        },
+        (Some(reference), _) => {
+            added.insert(reference, at)?;
+            Ok(())
+        }
         (None, Some(reference)) => {
             added.remove(reference);
             Ok(())
@@ -64,10 +64,7 @@ fn clone_added(alloc: Global, call: &Call<'_>) -> Result<Option<String>, Error>
 {
     match call.reference_added() {
         None => Ok(None),
-        Some(reference) => match String::from_str(alloc, reference) {
-            Ok(reference) => Ok(Some(reference)),
-            Err(_) => Err(Error::OutOfMemory),
-        },
+        Some(reference) => Ok(Some(String::from_str(alloc, reference)?)),
     }
 }
 
@@ -109,7 +106,11 @@ fn advance(
     } else {
         Mark::Other
     };
-    let touched = Touched::after(&reply, by_hand);
+    let touched = Touched {
+        ds: reply.touches(SetKind::Ds, by_hand.ds),
+        dnskey: reply.touches(SetKind::Dnskey, by_hand.dnskey),
+        zone_signers: reply.touches(SetKind::ZoneSigners, by_hand.zone_signers),
+    };
     let outcome = Outcome {
         reply,
         moment,
@@ -117,13 +118,6 @@ fn advance(
         may_publish: false,
     };
     Ok((outcome, touched))
-}
-
-/// The order of the keys changes, if the call adds or deletes one.
-fn forget(order: &mut WalkOrder, call: &Call<'_>) {
-    if call.reference_added().is_some() || call.reference_deleted().is_some() {
-        order.forget();
-    }
 }
 
 /// Makes calls one by one on a new key set, and says what each came to, as `run` records it.
@@ -191,7 +185,8 @@ impl Recorder {
             return Err(Error::OutOfMemory);
         };
         let set_by_hand = call.reference_set();
-        forget(&mut self.order, &call);
+        let moves = call.reference_added().is_some() || call.reference_deleted().is_some();
+        self.order.is_stale |= moves;
         let made = advance(alloc, &mut self.keyset, &mut self.added, call, at)?;
         let (mut outcome, touched) = made;
         outcome.may_publish = renew(
@@ -269,9 +264,7 @@ impl Recorder {
             Records name calls entries self.now → Records name calls entries copy) }
         ensures err { IfErr result (λ e. e ≡ OutOfMemory) }
     {
-        let Ok(added) = self.added.clone() else {
-            return Err(Error::OutOfMemory);
-        };
+        let added = self.added.clone()?;
         Ok(Recorder {
             keyset: self.keyset.try_clone()?,
             added,
@@ -354,9 +347,7 @@ pub fn run<'a>(alloc: Global, name: Name<Vec<u8>>, calls: Vec<Call<'a>>) -> Resu
         run.entries.items) }
     ensures err { IfErr result (λ e. e ≡ OutOfMemory) }
 {
-    let Ok(mut entries) = Vec::with_capacity(alloc, calls.len()) else {
-        return Err(Error::OutOfMemory);
-    };
+    let mut entries = Vec::with_capacity(alloc, calls.len())?;
     let mut recorder = Recorder::new(alloc, name);
     for call in calls {
         entries.push_reserved(recorder.make(alloc, call)?);

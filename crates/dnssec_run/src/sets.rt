@@ -52,10 +52,8 @@ pub(crate) fn published_key(reference: &String, added: usize) -> Result<Publishe
     ensures ok { IfOk result (λ k. id_of k ≡ (string_bytes reference.now, added)) }
     ensures err { IfErr result (λ e. e ≡ OutOfMemory) }
 {
-    match reference.clone() {
-        Ok(reference) => Ok(PublishedKey { reference, added }),
-        Err(_) => Err(Error::OutOfMemory),
-    }
+    let reference = reference.clone()?;
+    Ok(PublishedKey { reference, added })
 }
 
 /// Copies of keys of a record.
@@ -63,14 +61,9 @@ fn copy_keys(alloc: Global, keys: &[PublishedKey]) -> Result<Vec<PublishedKey>, 
     ensures ok { IfOk result (λ copies. map id_of copies.items ≡ map id_of keys.now) }
     ensures err { IfErr result (λ e. e ≡ OutOfMemory) }
 {
-    let Ok(mut copies) = Vec::with_capacity(alloc, keys.len()) else {
-        return Err(Error::OutOfMemory);
-    };
+    let mut copies = Vec::with_capacity(alloc, keys.len())?;
     for key in keys {
-        let copy = published_key(&key.reference, key.added)?;
-        if copies.push(copy).is_err() {
-            return Err(Error::OutOfMemory);
-        }
+        copies.push(published_key(&key.reference, key.added)?)?;
     }
     Ok(copies)
 }
@@ -87,9 +80,7 @@ fn walk(alloc: Global, keys: &HashMap<String, Key>) -> Result<Vec<(&String, &Key
     if keys.len() <= FEW {
         return Ok(Vec::new(alloc));
     }
-    let Ok(entries) = keys.iter().collect::<Vec<_>>(alloc) else {
-        return Err(Error::OutOfMemory);
-    };
+    let entries = keys.iter().collect::<Vec<_>>(alloc)?;
     Ok(entries)
 }
 
@@ -98,7 +89,7 @@ fn walk(alloc: Global, keys: &HashMap<String, Key>) -> Result<Vec<(&String, &Key
 pub(crate) struct WalkOrder {
     places: Vec<usize>,
     /// Whether a key came or went since.
-    is_stale: bool,
+    pub(crate) is_stale: bool,
 }
 
 impl WalkOrder {
@@ -110,11 +101,6 @@ impl WalkOrder {
         }
     }
 
-    /// A key may come or go.
-    pub(crate) fn forget(&mut self) {
-        self.is_stale = true;
-    }
-
     /// Brings the entries into order. Most of them stand where they stood before, so the sort
     /// begins with the last order.
     fn renew(&mut self, alloc: Global, entries: &[(&String, &Key)]) -> Result<(), Error>
@@ -123,72 +109,39 @@ impl WalkOrder {
         if !self.is_stale {
             return Ok(());
         }
-        let placed = in_order(alloc, entries, &self.places)?;
-        let Ok(places) = placed.iter().map(|(_, place)| *place).collect(alloc) else {
-            return Err(Error::OutOfMemory);
-        };
-        self.places = places;
+        let mut placed = Vec::with_capacity(alloc, entries.len())?;
+        for place in self
+            .places
+            .iter()
+            .copied()
+            .chain(self.places.len()..entries.len())
+        {
+            let Some((reference, _)) = entries.get(place) else {
+                continue;
+            };
+            placed.push((*reference, place))?;
+        }
+        placed.sort_by(|one, other| one.0.cmp(other.0))?;
+        self.places = placed.iter().map(|(_, place)| *place).collect(alloc)?;
         self.is_stale = false;
         Ok(())
     }
-
-    /// The place of the entry with this rank.
-    fn place(&self, rank: usize) -> usize {
-        self.places.get(rank).copied().unwrap_or(rank)
-    }
 }
 
-/// The references of the entries with their places, in order.
-fn in_order<'a>(
-    alloc: Global,
-    entries: &[(&'a String, &'a Key)],
-    before: &[usize],
-) -> Result<Vec<(&'a String, usize)>, Error>
-    ensures err { IfErr result (λ e. e ≡ OutOfMemory) }
-{
-    let Ok(mut placed) = Vec::with_capacity(alloc, entries.len()) else {
-        return Err(Error::OutOfMemory);
-    };
-    for place in before {
-        push_placed(&mut placed, entries, *place)?;
-    }
-    for place in before.len()..entries.len() {
-        push_placed(&mut placed, entries, place)?;
-    }
-    match placed.sort_by(|one, other| one.0.cmp(other.0)) {
-        Ok(()) => Ok(placed),
-        Err(_) => Err(Error::OutOfMemory),
-    }
-}
-
-fn push_placed<'a>(
-    placed: &mut Vec<(&'a String, usize)>,
-    entries: &[(&'a String, &'a Key)],
-    place: usize,
-) -> Result<(), Error>
-    ensures err { IfErr result (λ e. e ≡ OutOfMemory) }
-{
-    let Some((reference, _)) = entries.get(place) else {
-        return Ok(());
-    };
-    match placed.push((*reference, place)) {
-        Ok(()) => Ok(()),
-        Err(_) => Err(Error::OutOfMemory),
-    }
-}
-
-/// The key at a reference: that of the entry at this place, if it is there. Else it is looked up.
+/// The key at a reference: that of the entry with this rank, if it is there. Else it is looked up.
 fn key_at<'a>(
     keys: &'a HashMap<String, Key>,
     entries: &[(&'a String, &'a Key)],
-    at: usize,
+    order: &WalkOrder,
+    rank: usize,
     reference: &String,
 ) -> Option<&'a Key>
     requires { AreFound (hash.get_by_text keys.now) entries.now }
     ensures { option_map (λ k. k.now) result
         ≡ hash.get_by_text keys.now (string_bytes reference.now) }
 {
-    match entries.get(at) {
+    let place = order.places.get(rank).copied().unwrap_or(rank);
+    match entries.get(place) {
         Some((found, key)) if **found == *reference => Some(*key),
         _ => keys.get(reference.as_str()),
     }
@@ -217,7 +170,7 @@ fn read_sets(
     order.renew(alloc, &entries)?;
     let mut rank = 0usize;
     for (reference, position) in added.iter() {
-        let key = key_at(keys, &entries, order.place(rank), reference);
+        let key = key_at(keys, &entries, order, rank, reference);
         rank = rank.saturating_add(1);
         ds.show(Shown::Ds, key, reference, *position)?;
         dnskey.show(Shown::Dnskey, key, reference, *position)?;

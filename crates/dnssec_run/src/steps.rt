@@ -1,7 +1,6 @@
 //! The last steps of the rolls: what their next reports count from.
 ghost use Rattle.std.specs.Prelude.{◌≡◌, None, Some, if◌then◌else◌};
 ghost use Rattle.dnssec_key.specs.declared.roll.RollType.{RollType};
-ghost use Rattle.dnssec_zone.specs.Rolls.{same_roll};
 ghost use Rattle.dnssec_run.specs.Safe.{is_step};
 ghost use Rattle.dnssec_run.specs.Steps.{AreStepsOf, step_of};
 
@@ -48,21 +47,16 @@ impl Steps {
     }
 
     /// The last steps after a call with this mark at the position.
-    pub fn after(self, mark: Mark, at: usize) -> Self
+    pub fn after(mut self, mark: Mark, at: usize) -> Self
         ensures { (roll : RollType) → step_of result roll
             ≡ (if is_step roll mark then Some at else step_of self roll) }
     {
         match mark {
-            Mark::Step(roll) => self.with(roll, at),
+            Mark::Step(roll) => {
+                self.by_roll[roll as usize] = Some(at);
+                self
+            }
             _ => self,
         }
-    }
-
-    fn with(mut self, roll: RollType, at: usize) -> Self
-        ensures { (other : RollType) → step_of result other
-            ≡ (if same_roll other roll then Some at else step_of self other) }
-    {
-        self.by_roll[roll as usize] = Some(at);
-        self
     }
 }

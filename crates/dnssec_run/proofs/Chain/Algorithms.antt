@@ -1,119 +1,77 @@
 -- A key has the algorithm that the call gave it which added it.
-use Rattle.std.proofs.Common.{◌≡◌, ℕ, zero, suc, ◌≤◌, Bool, true, false, refl, sym, ◌∙◌, ap, arith}
-use Rattle.std.proofs.Common.{List, length, Option, None, Some}
-use Rattle.std.specs.Prelude.{if◌then◌else◌}
-use Rattle.std.specs.Option.{option_map, option_map_or}
-use Rattle.std.specs.Str.{bytes_eq}
-use Rattle.std.specs.FinMap.{get, get-empty}
-use Rattle.std.specs.Ordering.{nat_cmp}
+use Rattle.std.proofs.Common.{◌≡◌, ℕ, zero, suc, ◌≤◌, true, refl, sym, ◌∙◌, ap, arith, List, length}
+use Rattle.std.proofs.Common.{inl, inr, Some}
+use Rattle.std.proofs.lemmas.{Bool.cases_Bool, Bool.true≢false, Option.none-some}
+use Rattle.std.specs.{Option.option_map_or, FinMap.get, FinMap.get-empty, Ordering.nat_cmp}
 use Rattle.std.specs.Cmp.Lexicographic.{slice_cmp}
-use Rattle.std.proofs.lemmas.Option.{same_Some, none-some}
-use Rattle.dnssec_key.specs.RollTable.{after_start, after_report, after_wait, after_early_end}
-use Rattle.dnssec_key.specs.Setters.{Setting, Decoupled, set_by}
-use Rattle.dnssec_key.specs.declared.roll.RollType.{RollType}
-use Rattle.dnssec_zone.specs.Lists.{listed_by}
 use Rattle.dnssec_keyset.specs.KeySet.{KeySetParts}
-use Rattle.dnssec_keyset.specs.Step as keyset
-use Rattle.dnssec_keyset.proofs.Changes.{Changes}
-use Rattle.dnssec_keyset.proofs.Accepted.{accepted_changes}
 use Rattle.dnssec_run.specs.declared.call.Call.{Call}
-use Rattle.dnssec_run.specs.declared.record.Reply.{Reply}
-use Rattle.dnssec_run.specs.declared.record.Reply.TheVariants as reply
-use Rattle.dnssec_run.specs.Record as rec
 use Rattle.dnssec_run.specs.ByAlgorithm.{added_algorithm, algorithm_at}
-use Rattle.dnssec_run.proofs.Chain.Tale.{Tale, Key, world_at, start-parts, early-end-parts}
-use Rattle.dnssec_run.proofs.Chain.OneKey.{from_mapped}
-use Rattle.dnssec_run.proofs.Chain.Places.{place_at, real}
-use Rattle.dnssec_zone.specs.Start.{is_listed}
+use Rattle.dnssec_run.proofs.Effects.{accepted_step, refused_step, moved_key, key_added, came}
+use Rattle.dnssec_run.proofs.Effects.{added-at, added-same}
+use Rattle.dnssec_run.proofs.Chain.Tale.{Tale, Key, world_at}
+use Rattle.dnssec_run.proofs.Chain.Places.{Place, place_at, real}
+use Rattle.dnssec_keyset.specs.Step as keyset
+use Rattle.dnssec_zone.specs.Wait as waits
+use Rattle.dnssec_run.specs.Record as rec
 
--- ---- no call changes the algorithm of a key
+-- no call changes the algorithm of a key
+moved-algorithm : (set : KeySetParts) (c : keyset.Call) (q : List ℕ) (k : Key)
+    → (moved_key set c q k).algorithm ≡ k.algorithm
+moved-algorithm set c q k = grind arith
 
-set-at : (b : Bool) (s : Setting) (k : Key) → (if b then set_by s k else k).algorithm ≡ k.algorithm
-set-at true (Decoupled value) k = refl
-set-at _ _ k = refl
-
-after-start : (r : RollType) (now : ℕ) (o i : Bool) (k : Key)
-    → (after_start r now o i k).algorithm ≡ k.algorithm
-after-start r now o i k = ap (λ (k : Key). k.algorithm) (start-parts r now o i k)
-
-after-end : (r : RollType) (o i : Bool) (k : Key)
-    → (after_early_end r o i k).algorithm ≡ k.algorithm
-after-end r o i k = ap (λ (k : Key). k.algorithm) (early-end-parts r o i k)
+-- an added key has that of its call
+added-key : (c : keyset.Call) (k : Key) → key_added c ≡ Some k → added_algorithm c ≡ k.algorithm
+added-key c k e = grind arith
 
 -- ---- one call
 
 -- the call that made the key at each reference gave it its algorithm
-abbrev Given : List Call → (List ℕ → Option Key) → (List ℕ → ℕ) → Type 0
-Given calls keys added = (q : List ℕ) (k : Key) → keys q ≡ Some k
-    → algorithm_at calls (added q) ≡ k.algorithm
+abbrev Given : Tale → ℕ → Type 0
+Given tale n = (q : List ℕ) (k : Key) → (world_at tale n).key q ≡ Some k
+    → algorithm_at tale.calls ((world_at tale n).added q) ≡ k.algorithm
 
-module _ (calls : List Call) (old new : KeySetParts) (was now : List ℕ → ℕ) (n : ℕ)
-    (given : Given calls (get old.keys) was) where
-  moved : (f : List ℕ → Key → Key) → ((q : List ℕ) (k : Key) → (f q k).algorithm ≡ k.algorithm)
-      → ((q : List ℕ) → get new.keys q ≡ option_map (f q) (get old.keys q))
-      → ((q : List ℕ) → now q ≡ was q) → Given calls (get new.keys) now
-  moved f same keys added q k e =
-      let j = from_mapped (f q) (get old.keys q) k (sym (keys q) ∙ e) in
-      ap (algorithm_at calls) (added q) ∙ given q j.0 j.1 ∙ sym (same q j.0)
-      ∙ ap (λ (k : Key). k.algorithm) j.2
+module _ (tale : Tale) (n : ℕ) (p : Place tale n) (given : Given tale n) where
+  abbrev c : keyset.Call
+  c = rec.call_of p.call
 
-  accepted : (c : keyset.Call) → Changes old c new → algorithm_at calls (suc n) ≡ added_algorithm c
-      → ((q : List ℕ) → now q ≡ rec.with_added (suc n) (rec.reference_added c) was q)
-      → Given calls (get new.keys) now
-  accepted (keyset.AddKey r j) h here added q k e = by (bytes_eq r q) (sym (h.keys q) ∙ e) (added q)
-    where
-      by : (b : Bool) → (if b then Some j else get old.keys q) ≡ Some k
-          → now q ≡ (if b then suc n else was q) → algorithm_at calls (now q) ≡ k.algorithm
-      by true f at = ap (algorithm_at calls) at ∙ here
-          ∙ ap (λ (k : Key). k.algorithm) (same_Some _ _ f)
-      by false f at = ap (algorithm_at calls) at ∙ given q k f
-  accepted (keyset.Set r s) h here added q k e =
-      moved (λ q k. if bytes_eq r q then set_by s k else k) (λ q k. set-at (bytes_eq r q) s k)
-      h.keys added q k e
-  accepted (keyset.DeleteKey r) h here added q k e = by (bytes_eq r q) (sym (h.keys q) ∙ e)
-    where
-      by : (b : Bool) → (if b then None else get old.keys q) ≡ Some k
-          → algorithm_at calls (now q) ≡ k.algorithm
-      by true f = absurd (none-some k f)
-      by false f = ap (algorithm_at calls) (added q) ∙ given q k f
-  accepted (keyset.StartRoll r olds news t) h here added q k e =
-      moved (λ q. after_start r t (is_listed olds q) (is_listed news q))
-      (λ q k. after-start r t (is_listed olds q) (is_listed news q) k) h.keys added q k e
-  accepted (keyset.Report r half ttl t) h here added q k e =
-      moved (λ q. after_report r half t) (λ q k. refl) h.keys added q k e
-  accepted (keyset.Wait r half t) h here added q k e =
-      moved (λ q. after_wait r half t) (λ q k. refl) h.keys added q k e
-  accepted (keyset.RollDone r) h here added q k e =
-      moved (λ q k. k) (λ q k. refl) h.keys added q k e
-  accepted (keyset.AbortRoll r) h here added q k e = moved
-      (λ q. after_early_end r (is_listed (listed_by old.lists r).olds q)
-      (is_listed (listed_by old.lists r).news q))
-      (λ q k. after-end r (is_listed (listed_by old.lists r).olds q)
-      (is_listed (listed_by old.lists r).news q) k) h.keys added q k e
+  abbrev old : KeySetParts
+  old = (real tale n).set
 
-  by_reply : (c : keyset.Call) (r : Reply) → keyset.Step old c (rec.reply_of r) new
-      → algorithm_at calls (suc n) ≡ added_algorithm c
-      → ((q : List ℕ) → now q ≡ (if rec.is_accepted r then rec.with_added (suc n)
-      (rec.reference_added c) was else was) q) → Given calls (get new.keys) now
-  by_reply c (reply.Refused cause) step here added q k e =
-      let same = step.1 in
-      ap (algorithm_at calls) (added q)
-      ∙ given q k (sym (ap (λ (s : KeySetParts). get s.keys q) same) ∙ e)
-  by_reply c reply.Done step here added q k e = accepted c
-      (accepted_changes old new c keyset.Done refl step).1 here added q k e
-  by_reply c (reply.Actions actions) step here added q k e = accepted c
-      (accepted_changes old new c (keyset.Actions actions.items) refl step).1 here added q k e
+  abbrev new : KeySetParts
+  new = (real tale (suc n)).set
+
+  abbrev was : List ℕ → ℕ
+  was = (world_at tale n).added
+
+  -- a key that was there, and stays
+  stays : (rec.is_accepted p.entry.reply ≡ true → keyset.clearance old c ≡ waits.Clear)
+      → (q : List ℕ) (j k : Key) → get old.keys q ≡ Some j → j.algorithm ≡ k.algorithm
+      → algorithm_at tale.calls ((world_at tale (suc n)).added q) ≡ k.algorithm
+  stays clear q j k there same = ap (algorithm_at tale.calls) (ap (λ f. f q) p.added_is
+      ∙ added-same (suc n) p.call p.entry.reply was old clear q j there) ∙ given q j there ∙ same
+
+  given_next : Given tale (suc n)
+  given_next q k e = elim (cases_Bool (rec.is_accepted p.entry.reply)) [
+    | inl t ↦ let step = accepted_step old new c p.entry.reply t p.ok.step in
+        elim (came old new c step.1 q k e) [
+          | inl a ↦
+              let here : (world_at tale (suc n)).added q ≡ suc n =
+              grind (arith, ap (λ f. f q) p.added_is, added-at (suc n) c was q) in
+              ap (algorithm_at tale.calls) here ∙ ap (λ o. option_map_or
+              (λ (c : Call). added_algorithm (rec.call_of c)) o 0) p.call_is ∙ added-key c k a.1
+          | inr b ↦ stays (λ t. step.0) q b.0 k b.1
+              (sym (moved-algorithm old c q b.0) ∙ ap (λ (k : Key). k.algorithm) b.2)
+        ]
+    | inr t ↦ stays (λ u. absurd (true≢false (sym u ∙ t))) q k k
+        (sym (ap (λ (s : KeySetParts). get s.keys q)
+        (refused_step old new c p.entry.reply t p.ok.step)) ∙ e) refl
+  ]
 
 -- ---- the whole run
 
-pub has-algorithm : (tale : Tale) (n : ℕ) → n ≤ length tale.es
-    → Given tale.calls (world_at tale n).key (world_at tale n).added
+pub has-algorithm : (tale : Tale) (n : ℕ) → n ≤ length tale.es → Given tale n
 unfolding rec.world_at
 has-algorithm tale zero le q k e = absurd (none-some k (sym (get-empty (slice_cmp nat_cmp) q) ∙ e))
 has-algorithm tale (suc n) le q k e =
-    let p = place_at tale n le in
-    by_reply tale.calls (real tale n).set (real tale (suc n)).set (world_at tale n).added
-    (world_at tale (suc n)).added n (has-algorithm tale n (omega arith)) (rec.call_of p.call)
-    p.entry.reply p.ok.step
-    (ap (λ o. option_map_or (λ (c : Call). added_algorithm (rec.call_of c)) o 0) p.call_is)
-    (λ q. ap (λ f. f q) p.added_is) q k e
+    given_next tale n (place_at tale n le) (has-algorithm tale n (omega arith)) q k e

@@ -1,18 +1,14 @@
 -- The facts of the tables on early ends: what a start put on keys is taken from them again.
-use Rattle.dnssec_zone.specs.Start.{lists_kind, side_of}
 use Rattle.dnssec_zone.proofs.Tests.{each_key}
 use Rattle.dnssec_zone.proofs.Flags.{SideOf, Zone, affects, flags_fit, Quiet, has_role, ended}
 use Rattle.dnssec_zone.proofs.Flags.{may_start, started, tied, Stage, each_stage-at}
 use Rattle.std.proofs.Common.{◌≡◌, Bool, true, false, not, ◌&&◌, refl, ap}
-use Rattle.dnssec_key.specs.declared.roll.RollType.{RollType}
-use Rattle.dnssec_key.specs.declared.kind.KeyType.{KeyType}
-use Rattle.dnssec_key.specs.declared.kind.KeyType.TheVariants.{Csk}
-use Rattle.dnssec_key.specs.State.{is_kept}
-use Rattle.dnssec_key.specs.Key.{all_states}
+use Rattle.dnssec_key.specs.declared.{roll.RollType.RollType, kind.KeyType.KeyType}
+use Rattle.dnssec_key.specs.{declared.kind.KeyType.TheVariants.Csk, State.is_kept, Key.all_states}
 use Rattle.dnssec_key.specs.RollTable.{column}
 use Rattle.dnssec_run.proofs.Chain.Flags.{SideSet, Shared, is_in, in_use, on_set, on_sets, used_in}
 use Rattle.dnssec_run.proofs.Chain.Facts.{Seen, sees, test-seen}
-use Rattle.dnssec_run.proofs.Chain.Kinds.{same_role, same_list, number_ended}
+use Rattle.dnssec_run.proofs.Chain.Kinds.{same_role, number_ended}
 use Rattle.dnssec_run.proofs.Chain.Tables.{Claim, holds, ◌gives◌, ◌also◌, test, of_key}
 use Rattle.dnssec_run.proofs.Chain.Tables.{of_side_listed}
 
@@ -27,13 +23,9 @@ abbrev pub is_tied : KeyType → Bool
 is_tied (Csk s t) = tied s t
 is_tied _ = true
 
-tied_claim : Stage → KeyType → Claim
-tied_claim st k = flags_fit Zone st k gives holds (is_tied k)
-
 pub fits-tied : (st : Stage) (k : KeyType) → flags_fit Zone st k ≡ true → is_tied k ≡ true
-unfolding tied_claim
-fits-tied st = of_key (tied_claim st)
-    (λ a b. each_stage-at (λ st. each_key a b (λ k. test (tied_claim st k))) refl st)
+fits-tied st = of_key (λ k. flags_fit Zone st k gives holds (is_tied k)) (λ a b. each_stage-at
+    (λ st. each_key a b (λ k. test (flags_fit Zone st k gives holds (is_tied k)))) refl st)
 
 pub back-fits : (sd : SideOf) (r : RollType) (o i : Bool) (k : KeyType) → affects sd r ≡ true
     → may_start r o i k ≡ true → flags_fit sd Quiet k ≡ true → is_tied k ≡ true
@@ -50,17 +42,12 @@ set_claim sd r o i k set =
     (may_start r o i k gives is_in sd set (there_and_back r o i k) gives holds (is_in sd set k))
     also (is_in sd set (ended r o i k) gives holds (is_in sd set k))
 
-set_facts : (sd : SideOf) (set : SideSet) (r : RollType) (o i : Bool) (k : KeyType)
+pub set_facts : (sd : SideOf) (set : SideSet) (r : RollType) (o i : Bool) (k : KeyType)
     → (may_start r o i k ≡ true → is_in sd set (there_and_back r o i k) ≡ true
     → is_in sd set k ≡ true) × (is_in sd set (ended r o i k) ≡ true → is_in sd set k ≡ true)
 unfolding set_claim column
 set_facts sd set r o i k = on_set (set_claim sd r o i k)
     (of_side_listed (λ sd r o i k. on_sets (set_claim sd r o i k)) (λ a b. refl) sd r o i k) set
-
-pub back-set : (sd : SideOf) (set : SideSet) (r : RollType) (o i : Bool) (k : KeyType)
-    → may_start r o i k ≡ true → is_in sd set (there_and_back r o i k) ≡ true
-    → is_in sd set k ≡ true
-back-set sd set r o i k = (set_facts sd set r o i k).0
 
 pub ended-less : (sd : SideOf) (set : SideSet) (r : RollType) (o i : Bool) (k : KeyType)
     → is_in sd set (ended r o i k) ≡ true → is_in sd set k ≡ true
@@ -75,10 +62,6 @@ unfolding column
 unseen-ended sd r o i k e = of_side_listed (λ sd r o i k. not (sees sd k)
     gives holds (flags_fit sd Quiet (ended r o i k))) (λ a b. refl) sd r o i k (ap not e)
 
-pub role-ended : (sd : SideOf) (r : RollType) (o i : Bool) (k : KeyType)
-    → has_role sd (ended r o i k) ≡ has_role sd k
-role-ended sd r o i k = same_role sd _ k (number_ended r o i k)
-
 pub ended-seen : (sd : SideOf) (set : SideSet) (r : RollType) (o i : Bool)
     → Seen sd (λ k. is_in sd set (ended r o i k))
 ended-seen sd set r o i k e = test-seen sd set k (ended-less sd set r o i k e)
@@ -86,7 +69,3 @@ ended-seen sd set r o i k e = test-seen sd set k (ended-less sd set r o i k e)
 pub ended-used : (sd : SideOf) (r : RollType) (o i : Bool)
     → Seen sd (λ k. in_use sd (ended r o i k))
 ended-used sd r o i k e = ended-seen sd Shared r o i k (used_in sd Shared (ended r o i k) e)
-
-pub list-ended : (q r : RollType) (o i : Bool) (k : KeyType)
-    → lists_kind (side_of q) (ended r o i k) ≡ lists_kind (side_of q) k
-list-ended q r o i k = same_list q _ k (number_ended r o i k)

@@ -1,19 +1,16 @@
 -- The finite facts of the tables on both sides of the chain, computed over all kinds and flags.
 use Rattle.dnssec_zone.proofs.Flags.{SideOf, affects, flags_fit, has_role, may_start, started, Keys}
 use Rattle.dnssec_zone.proofs.Flags.{Zone, Quiet, Early, start-fits}
-use Rattle.std.proofs.Common.{◌≡◌, Bool, true, false, not, ◌&&◌, ◌||◌, refl}
+use Rattle.dnssec_zone.specs.Start.{serves_as_new, serves_as_kept}
+use Rattle.std.proofs.Common.{◌≡◌, Bool, true, false, not, ◌&&◌, ◌||◌, arith}
 use Rattle.std.proofs.lemmas.Bool.{and_parts}
-use Rattle.dnssec_key.specs.declared.roll.RollType.{RollType}
 use Rattle.dnssec_key.specs.declared.roll.RollType.TheVariants.{KskDoubleDsRoll, AlgorithmRoll}
 use Rattle.dnssec_key.specs.declared.roll.RollType.TheVariants.{ZskDoubleSignatureRoll}
-use Rattle.dnssec_key.specs.declared.kind.KeyType.{KeyType}
-use Rattle.dnssec_key.specs.declared.kind.KeyType.TheVariants.{Ksk, Zsk, Csk}
+use Rattle.dnssec_key.specs.declared.{roll.RollType.RollType, kind.KeyType.KeyType}
+use Rattle.dnssec_key.specs.{RollTable.column, Key.ksk_role, Key.zsk_role}
 use Rattle.dnssec_run.specs.Safe.{SetKind, Ds, Dnskey, ZoneSigners}
-use Rattle.dnssec_key.specs.RollTable.{column}
 use Rattle.dnssec_run.specs.Published.{in_ds, in_dnskey, signs_dnskey as signs_keys, signs_zone}
-use Rattle.dnssec_zone.specs.Start.{serves_as_new, serves_as_kept}
-use Rattle.dnssec_run.proofs.Chain.Tables.{Claim, holds, ◌gives◌, ◌also◌, of_side_listed, want_on}
-use Rattle.dnssec_run.proofs.Chain.Tables.{Says}
+use Rattle.dnssec_run.proofs.Chain.Tables.{Claim, ◌also◌, want_on, Says}
 
 -- at its first wait the roll changes its second set; else it only leaves the old keys out
 abbrev pub switches : SideOf → RollType → Bool
@@ -72,15 +69,11 @@ in_use sd k = is_in sd Shared k && is_in sd Own k
 
 pub used_in : (sd : SideOf) (set : SideSet) (k : KeyType) → in_use sd k ≡ true
     → is_in sd set k ≡ true
-used_in sd set k e = let p = and_parts (is_in sd Shared k) (is_in sd Own k) e in
-    by_set (λ set. is_in sd set k ≡ true) p.0 p.1 set
+used_in sd set k e = grind (arith, and_parts)
 
 abbrev pub is_old : SideOf → KeyType → Bool
-is_old Keys (Ksk s) = s.old
-is_old Keys (Csk s t) = s.old
-is_old Zone (Zsk s) = s.old
-is_old Zone (Csk s t) = t.old
-is_old _ _ = false
+is_old Keys = ksk_role (λ s. s.old)
+is_old Zone = zsk_role (λ s. s.old)
 
 -- a key of the first set that isn't old: it is in use from the first wait on
 abbrev pub remains : SideOf → RollType → KeyType → Bool
@@ -91,17 +84,6 @@ abbrev pub live : SideOf → KeyType → Bool
 live sd k = in_use sd k && not (is_old sd k)
 
 -- a start
-start_claim : SideOf → RollType → Bool → Bool → KeyType → Claim
-start_claim sd r o i k =
-    let j = started r o i k in
-    affects sd r gives may_start r o i k gives flags_fit sd Quiet k gives
-    ((is_in sd (second_set r) k gives holds (is_in sd (first_set r) k))
-    also (in_use sd k gives holds (in_use sd j))
-    also (switches sd r gives is_in sd (second_set r) j gives
-    (holds (is_in sd (second_set r) k) also holds (is_in sd (first_set r) j)))
-    also (((i && serves_as_new (want_on sd r) k) || (not o && serves_as_kept (want_on sd r) k))
-    gives holds (remains sd r j)))
-
 pub record Started (sd : SideOf) (r : RollType) (o i : Bool) (k : KeyType) : Type 0 where
   pub fit : flags_fit sd (Early r) (started r o i k) ≡ true
   pub inner : is_in sd (second_set r) k ≡ true → is_in sd (first_set r) k ≡ true
@@ -113,7 +95,5 @@ pub record Started (sd : SideOf) (r : RollType) (o i : Bool) (k : KeyType) : Typ
 
 pub start_facts : (sd : SideOf) (r : RollType) (o i : Bool) (k : KeyType) → affects sd r ≡ true
     → may_start r o i k ≡ true → flags_fit sd Quiet k ≡ true → Started sd r o i k
-unfolding start_claim column
-start_facts sd r o i k own may fit =
-    let x = of_side_listed start_claim (λ a b. refl) sd r o i k own may fit in
-    assumption (start-fits sd r o i k own may fit, x)
+unfolding column
+start_facts sd r o i k own may fit = grind (arith, and_parts, start-fits)

@@ -1,28 +1,21 @@
 -- Calls of a roll leave the other side alone; so does the waiting roll of another kind.
-use Rattle.std.proofs.lemmas.Bool.{false_from_ne_true, true≢false}
+use Rattle.std.proofs.lemmas.Bool.{true≢false}
 use Rattle.std.proofs.Common.{◌≡◌, ℕ, suc, true, false, not, sym, ◌∙◌, ap, subst, List, Option}
-use Rattle.std.proofs.Common.{Some}
-use Rattle.dnssec_key.specs.declared.roll.RollType.{RollType}
-use Rattle.dnssec_key.specs.declared.roll.RollState.{RollState}
+use Rattle.std.proofs.Common.{arith, Some}
+use Rattle.dnssec_key.specs.declared.roll.{RollType.RollType, RollState.RollState}
 use Rattle.dnssec_zone.specs.Rolls.{same_roll}
-use Rattle.dnssec_run.specs.Published.{Id}
-use Rattle.dnssec_run.specs.Safe.{position_at, is_step}
 use Rattle.dnssec_zone.proofs.Flags.{SideOf, affects, Stage, has_role}
+use Rattle.dnssec_run.specs.{Published.Id, Safe.position_at, Safe.is_step}
 use Rattle.dnssec_run.proofs.Chain.Tale.{key_at, Tale, Key, world_at}
-use Rattle.dnssec_run.proofs.Chain.Facts.{sees, apart}
-use Rattle.dnssec_run.proofs.Chain.Kinds.{same_role}
 use Rattle.dnssec_run.proofs.Chain.Same.{SameKind, AlikeOn, map_but, failed-out}
-use Rattle.dnssec_run.proofs.Chain.Rolls.{StageFits, put-fits}
-use Rattle.dnssec_run.proofs.Chain.Places.{NoDs, found_key}
-use Rattle.dnssec_run.proofs.Chain.Returns.{KeepsLists}
-use Rattle.dnssec_run.proofs.Chain.Invariant.{Gentle}
-use Rattle.dnssec_run.proofs.Chain.OneKey.{Mapped}
+use Rattle.dnssec_run.proofs.Chain.{Facts.sees, Facts.apart, Kinds.same_role, Rolls.StageFits}
+use Rattle.dnssec_run.proofs.Chain.{Rolls.put-fits, Places.NoDs, Places.found_key}
+use Rattle.dnssec_run.proofs.Chain.{Returns.KeepsLists, Invariant.Gentle, OneKey.Mapped}
 use Rattle.dnssec_keyset.proofs.Laws.{same-is}
 
 pub distinct : (sd : SideOf) (r q : RollType) → affects sd r ≡ false → affects sd q ≡ true
     → same_roll r q ≡ false
-distinct sd r q outside inside = false_from_ne_true (same_roll r q)
-    (λ e. true≢false (sym inside ∙ ap (affects sd) (sym (same-is r q e)) ∙ outside))
+distinct sd r q outside inside = grind arith
 
 module _ (tale : Tale) (n : ℕ) (sd : SideOf) (st : Stage)
     (was_rolls : (q : RollType) → affects sd q ≡ true → StageFits st q ((world_at tale n).roll q))
@@ -62,6 +55,5 @@ module _ (tale : Tale) (n : ℕ) (sd : SideOf) (st : Stage)
       → Gentle tale sd st n
   gentle-still same p phase on no_step = gentle_map (λ id k e role. same id.0 k)
       (λ q own e. let eq = same-is r q e in subst (λ q. StageFits st q o) eq
-      (on (subst (StageFits st r) phase
-      (was_rolls r (subst (λ q. affects sd q ≡ true) (sym eq) own)))))
+      (on (subst (StageFits st r) phase (was_rolls r (ap (affects sd) eq ∙ own)))))
       (λ q own. no_step q)

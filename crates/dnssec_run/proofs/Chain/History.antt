@@ -1,16 +1,13 @@
 -- Positions of a record: time, retirement, bases; and the side of the key chain.
 use Rattle.std.proofs.Common.{[], ◌≡◌, ℕ, zero, suc, ◌≤◌, ◌⊎◌, inl, inr, refl, sym, Bool, true, ◌∷◌}
-use Rattle.std.proofs.Common.{false, subst, arith, List, Some, ◌<◌}
-use Rattle.std.specs.Prelude.{if◌then◌else◌}
-use Rattle.std.proofs.lemmas.Option.{none-some, same_Some}
+use Rattle.std.proofs.Common.{◌∙◌, false, arith, List, Some, ◌<◌}
+use Rattle.std.proofs.lemmas.{Option.none-some, Option.same_Some, Bool.cases_lt, Bool.cases_Bool}
 use Rattle.std.specs.List.{Contains}
-use Rattle.std.proofs.lemmas.Bool.{cases_lt}
 use Rattle.dnssec_key.specs.declared.roll.RollType.{RollType}
 use Rattle.dnssec_zone.proofs.Flags.{SideOf, Keys, Zone, affects}
-use Rattle.dnssec_run.specs.declared.record.Entry.{Entry}
-use Rattle.dnssec_run.specs.Published.{Id}
 use Rattle.dnssec_run.specs.Safe.{SetKind, position_at, base_below, time_at, IsGone, is_step}
 use Rattle.dnssec_run.specs.Safe.{retires}
+use Rattle.dnssec_run.specs.{declared.record.Entry.Entry, Published.Id}
 use Rattle.dnssec_run.proofs.Chain.Tale.{Tale}
 use Rattle.dnssec_run.proofs.Chain.Flags.{SideSet, Shared, Own, kind_on, first_set, second_set}
 use Rattle.dnssec_run.proofs.Chain.Flags.{switches}
@@ -21,13 +18,10 @@ unfolding time_at
 time_grows es n = omega arith
 
 pub time_mono : (es : List Entry) (m n : ℕ) → m ≤ n → time_at es m ≤ time_at es n
-time_mono es m zero le = let e : m ≡ zero = omega arith in
-    subst (λ x. time_at es x ≤ time_at es zero) (sym e) (omega arith)
+time_mono es m zero le = let e : m ≡ zero = omega arith in rw e (omega arith)
 time_mono es m (suc n) le = elim (cases_lt m (suc n)) [
-  | inl lt ↦ let before : time_at es m ≤ time_at es n = time_mono es m n (omega arith) in
-      omega (arith, time_grows es n)
-  | inr ge ↦ let e : m ≡ suc n = omega arith in
-      subst (λ x. time_at es x ≤ time_at es (suc n)) (sym e) (omega arith)
+  | inl lt ↦ omega (arith, time_mono es m n (omega arith), time_grows es n)
+  | inr ge ↦ let e : m ≡ suc n = omega arith in rw e (omega arith)
 ]
 
 pub time_now : (es : List Entry) (n m : ℕ) → (position_at es n).moment ≡ Some m → m ≤ time_at es n
@@ -69,13 +63,10 @@ pub base-lies-below : (es : List Entry) (r : RollType) (n b : ℕ) → base_belo
     → b < n
 unfolding base_below
 base-lies-below es r zero b e = absurd (none-some b e)
-base-lies-below es r (suc n) b e =
-    by (base-lies-below es r n b) (is_step r (position_at es n).mark) e
-  where
-    by : (base_below es r n ≡ Some b → b < n) → (s : Bool)
-        → (if s then Some n else base_below es r n) ≡ Some b → b < suc n
-    by rest true e = let same : n ≡ b = same_Some n b e in omega arith
-    by rest false e = omega (arith, rest e)
+base-lies-below es r (suc n) b e = elim (cases_Bool (is_step r (position_at es n).mark)) [
+  | inl t ↦ omega (arith, same_Some n b (sym (base_here es r n t) ∙ e))
+  | inr t ↦ omega (arith, base-lies-below es r n b (sym (base_same es r n t) ∙ e))
+]
 
 pub never-gone-now : (es : List Entry) (kind : SetKind) (n : ℕ) → IsGone es kind n n → ⊥
 never-gone-now es kind n h =
@@ -103,6 +94,11 @@ pub second-retires : (sd : SideOf) (r : RollType) → affects sd r ≡ true
     → retires r (switches sd r) (kind_on sd (second_set r)) ≡ true
 second-retires = of_side_roll
     (λ sd r. affects sd r gives holds (retires r (switches sd r) (kind_on sd (second_set r)))) refl
+
+-- the report of a half has retired each set that it counts for, below the roll's base
+abbrev pub Retired : List Entry → ℕ → RollType → Bool → Type 0
+Retired es n r second = (kind : SetKind) → retires r second kind ≡ true → (b : ℕ)
+    → base_below es r (suc n) ≡ Some b → (q : ℕ) → q < b → IsGone es kind q (suc n)
 
 pub nothing_in : {A : Type 0} (xs : List A) → ((x : A) → Contains xs x → ⊥) → xs ≡ []
 nothing_in [] h = refl

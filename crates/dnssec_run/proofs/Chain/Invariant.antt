@@ -1,47 +1,38 @@
 -- What each roll keeps of a side, what it gives, and the calls that leave a side alone.
 use Rattle.dnssec_run.proofs.Chain.Flags.{SideSet, first_set, second_set, is_in, in_use, used_in}
 use Rattle.dnssec_run.proofs.Chain.Flags.{live, remains, switches}
-use Rattle.std.proofs.Common.{◌≡◌, ℕ, suc, ◌≤◌, Bool, true, false, refl, sym, ◌∙◌, arith, List, inl}
-use Rattle.std.proofs.Common.{length, Option, Some}
-use Rattle.std.proofs.lemmas.Bool.{true≢false}
-use Rattle.std.proofs.lemmas.Option.{same_Some}
-use Rattle.dnssec_key.specs.declared.roll.RollType.{RollType}
-use Rattle.dnssec_key.specs.declared.roll.RollType.TheVariants.{KskDoubleDsRoll}
-use Rattle.dnssec_key.specs.declared.kind.KeyType.{KeyType}
-use Rattle.dnssec_run.specs.declared.record.Entry.{Entry}
-use Rattle.dnssec_run.specs.Published.{Id}
-use Rattle.dnssec_run.specs.Safe.{position_at, base_below, is_step}
-use Rattle.dnssec_zone.proofs.Flags.{SideOf, Keys, Zone, affects, Stage, Quiet, Early, Late}
-use Rattle.dnssec_zone.proofs.Flags.{flags_fit}
 use Rattle.dnssec_run.proofs.Chain.Tale.{Passes, key_at, Tale, Key, if_some, world_at}
-use Rattle.dnssec_run.proofs.Chain.Side.{Rest, Early as EarlySets, Late as LateSets, Broad, Settles}
+use Rattle.dnssec_run.proofs.Chain.Side.{Rest, Early as EarlySets, Late as LateSets, Settles}
 use Rattle.dnssec_run.proofs.Chain.Side.{Alive as AliveSide, rest-serves, early-serves, late-serves}
-use Rattle.dnssec_run.proofs.Chain.Side.{broad-serves, early-stays, late-stays, broad-stays}
-use Rattle.dnssec_run.proofs.Chain.Side.{rest-shrinks}
+use Rattle.dnssec_run.proofs.Chain.Side.{early-stays, late-stays, rest-shrinks}
 use Rattle.dnssec_run.proofs.Chain.Facts.{Seen, test-seen, use-seen, live-seen, remains-seen}
-use Rattle.dnssec_run.proofs.Chain.Facts.{wait1_facts}
 use Rattle.dnssec_run.proofs.Chain.Rolls.{StageFits, stage_own}
 use Rattle.dnssec_run.proofs.Chain.History.{Serving, Without, base_same}
-use Rattle.dnssec_run.proofs.Chain.Places.{Fits, side, NoDs, some_weaker, some_of}
+use Rattle.dnssec_run.proofs.Chain.Places.{Fits, side, NoDs, some_weaker}
 use Rattle.dnssec_run.proofs.Chain.Same.{AlikeOn, alike-on-round, some-was, fits-still}
 use Rattle.dnssec_run.proofs.Chain.Returns.{Back, KeepsLists, leads-on}
+use Rattle.dnssec_run.specs.Safe.{position_at, base_below, is_step}
+use Rattle.dnssec_run.specs.{declared.record.Entry.Entry, Published.Id}
+use Rattle.std.proofs.Common.{◌≡◌, ℕ, suc, ◌≤◌, Bool, true, false, sym, ◌∙◌, arith, List, inl}
+use Rattle.std.proofs.Common.{length, Option, Some}
+use Rattle.std.proofs.lemmas.{Bool.true≢false, Option.same_Some}
+use Rattle.dnssec_key.specs.declared.roll.RollType.{RollType, TheVariants.KskDoubleDsRoll}
+use Rattle.dnssec_key.specs.declared.kind.KeyType.{KeyType}
+use Rattle.dnssec_zone.proofs.Flags.{SideOf, Keys, Zone, affects, Stage, Quiet, Early, Late}
+use Rattle.dnssec_zone.proofs.Flags.{flags_fit}
 
 -- the base of a roll in progress
 abbrev pub Based : List Entry → RollType → ℕ → ℕ → Type 0
 Based es r n b = (b ≤ n) × (base_below es r (suc n) ≡ Some b)
 
--- whether or not the second set changes at the first wait
-abbrev pub EarlyOf : Tale → SideOf → RollType → ℕ → ℕ → Bool → Type 0
-EarlyOf tale sd r n b true = EarlySets (side tale sd) r n b
-EarlyOf tale sd r n b false = Broad (side tale sd) n b
-
+-- whether or not the second set changed at the first wait
 abbrev pub LateOf : Tale → SideOf → RollType → ℕ → ℕ → Bool → Type 0
 LateOf tale sd r n b true = LateSets (side tale sd) r n b
 LateOf tale sd r n b false = Rest (side tale sd) n
 
 abbrev pub Holds : Tale → SideOf → Stage → ℕ → Type 0
 Holds tale sd Quiet n = Rest (side tale sd) n
-Holds tale sd (Early r) n = (b : ℕ) × Based tale.es r n b × EarlyOf tale sd r n b (switches sd r)
+Holds tale sd (Early r) n = (b : ℕ) × Based tale.es r n b × EarlySets (side tale sd) n b
 Holds tale sd (Late r) n = (b : ℕ) × Based tale.es r n b × LateOf tale sd r n b (switches sd r)
 
 -- a key of the family that passes
@@ -84,11 +75,6 @@ module _ (tale : Tale) (n : ℕ) where
   alive_side : (sd : SideOf) → Alive tale sd n → AliveSide (side tale sd) n
   alive_side sd a = (a.0, λ set. used-some sd set (key_at tale n a.0) a.1, a.2)
 
-  early_settles : (sd : SideOf) (r : RollType) (b : ℕ) (w : Bool) → Alive tale sd n
-      → EarlyOf tale sd r n b w → Settles (side tale sd) n
-  early_settles sd r b true a h = early-serves (side tale sd) r n b (alive_side sd a) h
-  early_settles sd r b false a h = broad-serves (side tale sd) n b h
-
   late_settles : (sd : SideOf) (r : RollType) (b : ℕ) (w : Bool) → Alive tale sd n
       → LateOf tale sd r n b w → Settles (side tale sd) n
   late_settles sd r b true a h = let x = alive_side sd a in late-serves (side tale sd) r n b
@@ -98,7 +84,7 @@ module _ (tale : Tale) (n : ℕ) where
   pub at-settles : (sd : SideOf) (st : Stage) → Alive tale sd n → At tale sd st n
       → Settles (side tale sd) n
   at-settles sd Quiet a h = rest-serves (side tale sd) n (alive_side sd a) h.holds
-  at-settles sd (Early r) a h = early_settles sd r h.holds.0 (switches sd r) a h.holds.2
+  at-settles sd (Early r) a h = early-serves (side tale sd) n h.holds.0 h.holds.2
   at-settles sd (Late r) a h = late_settles sd r h.holds.0 (switches sd r) a h.holds.2
 
   -- a DS set without the family serves for any key
@@ -139,9 +125,8 @@ module _ (tale : Tale) (n : ℕ) (here : suc n ≤ length tale.es) (sd : SideOf)
 
   on_gentle : (st : Stage) (p : KeyType → Bool) → Seen sd p → Gentle tale sd st n → (id : Id)
       → Passes tale p n id → Passes tale p (suc n) id
-  on_gentle st p seen g id = some-was sd p seen (key_at tale (suc n) id)
-      (key_at tale n id) (alike-on-round sd (key_at tale n id)
-      (key_at tale (suc n) id) (g.keys id))
+  on_gentle st p seen g id = some-was sd p seen (key_at tale (suc n) id) (key_at tale n id)
+      (alike-on-round sd (key_at tale n id) (key_at tale (suc n) id) (g.keys id))
 
   pub has-gentle : (st : Stage) (p : KeyType → Bool) → Seen sd p → Gentle tale sd st n
       → Has tale p n → Has tale p (suc n)
@@ -151,72 +136,51 @@ module _ (tale : Tale) (n : ℕ) (here : suc n ≤ length tale.es) (sd : SideOf)
       → HasNo tale p n → HasNo tale p (suc n)
   has_no-gentle st p seen g h id o e = h id o (was-gentle st p seen g id e)
 
-  left_gentle : (st : Stage) → Gentle tale sd st n → Left tale sd st n → Left tale sd st (suc n)
-  left_gentle Quiet g h = tt
-  left_gentle (Early r) g h = has-gentle (Early r) (remains sd r) (remains-seen sd r) g h
-  left_gentle (Late r) g h = has-gentle (Late r) (live sd) (live-seen sd) g h
+  module _ (st : Stage) (g : Gentle tale sd st n) where
+    on : (p : KeyType → Bool) → Seen sd p → Has tale p n → Has tale p (suc n)
+    on p seen = has-gentle st p seen g
 
-  pub lasts-gentle : (st : Stage) → Gentle tale sd st n → Lasts tale sd st n
-      → Lasts tale sd st (suc n)
-  lasts-gentle st g h = (has-gentle st (in_use sd) (use-seen sd) g h.0, left_gentle st g h.1)
+    left : (st : Stage) → Left tale sd st n → Left tale sd st (suc n)
+    left Quiet h = tt
+    left (Early r) h = on (remains sd r) (remains-seen sd r) h
+    left (Late r) h = on (live sd) (live-seen sd) h
 
-  less_gentle : (st : Stage) → Gentle tale sd st n → (set : SideSet) (id : Id)
-      → Passes tale (is_in sd set) (suc n) id → Passes tale (is_in sd set) n id
-  less_gentle st g set = was-gentle st (is_in sd set) (test-seen sd set) g
+    pub lasts-gentle : Lasts tale sd st n → Lasts tale sd st (suc n)
+    lasts-gentle h = (on (in_use sd) (use-seen sd) h.0, left st h.1)
 
-  more_gentle : (st : Stage) → Gentle tale sd st n → (set : SideSet) (id : Id)
-      → Passes tale (is_in sd set) n id → Passes tale (is_in sd set) (suc n) id
-  more_gentle st g set = on_gentle st (is_in sd set) (test-seen sd set) g
+    less : (set : SideSet) (id : Id) → Passes tale (is_in sd set) (suc n) id
+        → Passes tale (is_in sd set) n id
+    less set = was-gentle st (is_in sd set) (test-seen sd set) g
 
-  early_gentle : (r : RollType) (b : ℕ) (w : Bool) → switches sd r ≡ w → affects sd r ≡ true
-      → Gentle tale sd (Early r) n → ((id : Id) → Fits tale (flags_fit sd (Early r)) (suc n) id)
-      → EarlyOf tale sd r n b w → EarlyOf tale sd r (suc n) b w
-  early_gentle r b true sw own g flags h =
-      early-stays (side tale sd) n here r b (less_gentle (Early r) g)
-      (λ id. some_of (flags_fit sd (Early r)) (is_in sd (second_set r)) (is_in sd (first_set r))
-      (λ k f. (wait1_facts sd r k own f).inner sw) (key_at tale (suc n) id) (flags id)) h
-  early_gentle r b false sw own g flags h = broad-stays (side tale sd) n here b g.dead
-      (more_gentle (Early r) g) (less_gentle (Early r) g) h
+    more : (set : SideSet) (id : Id) → Passes tale (is_in sd set) n id
+        → Passes tale (is_in sd set) (suc n) id
+    more set = on_gentle st (is_in sd set) (test-seen sd set) g
 
-  late_gentle : (r : RollType) (b : ℕ) (w : Bool) → b ≤ n → Gentle tale sd (Late r) n
-      → LateOf tale sd r n b w → LateOf tale sd r (suc n) b w
-  late_gentle r b true le g h = late-stays (side tale sd) n here r b le g.dead
-      (more_gentle (Late r) g (first_set r)) (less_gentle (Late r) g) h
-  late_gentle r b false le g h = rest-shrinks (side tale sd) n here (less_gentle (Late r) g) h
+    late : (r : RollType) (b : ℕ) (w : Bool) → LateOf tale sd r n b w → LateOf tale sd r (suc n) b w
+    late r b true h = late-stays (side tale sd) n here r b g.dead (more (first_set r)) less h
+    late r b false h = rest-shrinks (side tale sd) n here less h
 
-  based_gentle : (r : RollType) (b : ℕ) → is_step r (position_at tale.es (suc n)).mark ≡ false
-      → Based tale.es r n b → Based tale.es r (suc n) b
-  based_gentle r b still h = (omega (arith, h.0), base_same tale.es r (suc n) still ∙ h.1)
+    based : (r : RollType) (b : ℕ) → affects sd r ≡ true → Based tale.es r n b
+        → Based tale.es r (suc n) b
+    based r b own h = (omega (arith, h.0), base_same tale.es r (suc n) (g.no_step r own) ∙ h.1)
 
-  holds_gentle : (st : Stage) → stage_own sd st ≡ true → Gentle tale sd st n
-      → ((id : Id) → Fits tale (flags_fit sd st) (suc n) id)
-      → Holds tale sd st n → Holds tale sd st (suc n)
-  holds_gentle Quiet own g flags h = rest-shrinks (side tale sd) n here (less_gentle Quiet g) h
-  holds_gentle (Early r) own g flags h = (
-    h.0,
-    based_gentle r h.0 (g.no_step r own) h.1,
-    early_gentle r h.0 (switches sd r) refl own g flags h.2,
-  )
-  holds_gentle (Late r) own g flags h = (
-    h.0,
-    based_gentle r h.0 (g.no_step r own) h.1,
-    late_gentle r h.0 (switches sd r) h.1.0 g h.2,
-  )
+    holds : (st : Stage) → stage_own sd st ≡ true → Holds tale sd st n → Holds tale sd st (suc n)
+    holds Quiet own h = rest-shrinks (side tale sd) n here less h
+    holds (Early r) own h =
+        (h.0, based r h.0 own h.1, early-stays (side tale sd) n here h.0 g.dead more less h.2)
+    holds (Late r) own h = (h.0, based r h.0 own h.1, late r h.0 (switches sd r) h.2)
 
-  back_gentle : (st : Stage) → stage_own sd st ≡ true → Gentle tale sd st n → Back tale sd st n
-      → Back tale sd st (suc n)
-  back_gentle (Early r) own g h = λ phase. leads-on tale n here sd g.keys g.dead g.lists r own
-      phase (h (g.lists.phase r own phase))
-  back_gentle _ own g h = tt
+    back : (st : Stage) → stage_own sd st ≡ true → Back tale sd st n → Back tale sd st (suc n)
+    back (Early r) own h = λ phase. leads-on tale n here sd g.keys g.dead g.lists r own
+        phase (h (g.lists.phase r own phase))
+    back _ own h = tt
 
-  pub at-gentle : (st : Stage) → Gentle tale sd st n → At tale sd st n → At tale sd st (suc n)
-  at-gentle st g h =
-      let flags = λ (id : Id). fits-still sd st (key_at tale n id)
-      (key_at tale (suc n) id) (g.keys id) (h.flags id) in
-      record {
-        own = h.own;
-        rolls = g.rolls;
-        flags = flags;
-        holds = holds_gentle st h.own g flags h.holds;
-        back = back_gentle st h.own g h.back;
-      }
+    pub at-gentle : At tale sd st n → At tale sd st (suc n)
+    at-gentle h = record {
+      own = h.own;
+      rolls = g.rolls;
+      flags = λ id. fits-still sd st (key_at tale n id) (key_at tale (suc n) id) (g.keys id)
+          (h.flags id);
+      holds = holds st h.own h.holds;
+      back = back st h.own h.back;
+    }

@@ -1,15 +1,13 @@
 -- More facts of the tables: keys in a set on the side of keys, and keys that stay, for a family of
 -- keys that comes, stays or leaves.
 use Rattle.dnssec_zone.proofs.Flags.{Keys, Zone, affects, flags_fit, Quiet, Early, Late, may_start}
-use Rattle.dnssec_zone.proofs.Flags.{started}
+use Rattle.dnssec_zone.proofs.Flags.{ended, started}
+use Rattle.dnssec_zone.specs.Start.{may_change_algorithms}
 use Rattle.std.proofs.Common.{◌≡◌, Bool, true, not, ◌&&◌, ◌||◌, refl}
-use Rattle.dnssec_key.specs.declared.roll.RollType.{RollType}
-use Rattle.dnssec_key.specs.declared.roll.RollType.TheVariants.{AlgorithmRoll}
+use Rattle.dnssec_key.specs.declared.roll.RollType.{RollType, TheVariants.AlgorithmRoll}
 use Rattle.dnssec_key.specs.declared.kind.KeyType.{KeyType}
 use Rattle.dnssec_key.specs.RollTable.{column, First, Second, half_of}
-use Rattle.dnssec_zone.specs.Start.{may_change_algorithms}
-use Rattle.dnssec_run.specs.ByAlgorithm.{keeps_ksk, keeps_zsk}
-use Rattle.dnssec_run.specs.Published.{in_ds}
+use Rattle.dnssec_run.specs.{ByAlgorithm.keeps_ksk, ByAlgorithm.keeps_zsk, Published.in_ds}
 use Rattle.dnssec_run.proofs.Chain.Tables.{Claim, holds, ◌gives◌, ◌also◌, of_key, of_roll_key}
 use Rattle.dnssec_run.proofs.Chain.Tables.{of_listed}
 use Rattle.dnssec_run.proofs.Chain.Flags.{Shared, Own, is_in, in_use, live, remains}
@@ -61,8 +59,7 @@ pub record BeforeFirst (r : RollType) (k : KeyType) : Type 0 where
 pub before_first : (r : RollType) (k : KeyType) → affects Keys r ≡ true
     → flags_fit Keys (Early r) k ≡ true → BeforeFirst r k
 unfolding early_claim column
-before_first r k own fit =
-    let x = of_roll_key early_claim (λ a b. refl) r k own fit in assumption x
+before_first r k own fit = let x = of_roll_key early_claim (λ a b. refl) r k own fit in assumption x
 
 pub before_second : (r : RollType) (k : KeyType) → affects Keys r ≡ true
     → flags_fit Keys (Late r) k ≡ true → engaged ((half_of r Second).moves k) ≡ true
@@ -114,6 +111,13 @@ pub at_start : (r : RollType) (o i : Bool) (k : KeyType) → may_start r o i k �
     → AtStart r o i k
 unfolding start_claim column
 at_start r o i k may = let x = of_listed start_claim (λ a b. refl) r o i k may in assumption x
+
+-- ---- an early end
+
+pub ended-engaged : (r : RollType) (o i : Bool) (k : KeyType) → engaged (ended r o i k) ≡ true
+    → engaged k ≡ true
+unfolding column
+ended-engaged = of_listed (λ r o i k. engaged (ended r o i k) gives holds (engaged k)) (λ a b. refl)
 
 -- ---- what a waiting algorithm roll reads
 

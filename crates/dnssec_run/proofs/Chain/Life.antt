@@ -1,28 +1,23 @@
 -- How a family of keys fares: it stays on both sides, leaves, or isn't there. Calls that leave both
 -- sides alone keep that.
-use Rattle.std.proofs.Common.{◌≡◌, ℕ, suc, ◌<◌, ◌≤◌, ◌⊎◌, inl, inr, true, false, ◌∙◌, subst, arith}
+use Rattle.std.proofs.Common.{◌≡◌, ℕ, suc, ◌<◌, ◌≤◌, ◌⊎◌, inl, inr, Bool, true, false, ◌∙◌, arith}
 use Rattle.std.proofs.Common.{length}
-use Rattle.std.proofs.lemmas.Bool.{cases_lt, or_right}
-use Rattle.dnssec_key.specs.declared.roll.RollType.{RollType}
-use Rattle.dnssec_key.specs.declared.roll.RollType.TheVariants.{AlgorithmRoll}
+use Rattle.std.proofs.lemmas.Bool.{or_right}
+use Rattle.dnssec_key.specs.declared.roll.RollType.{RollType, TheVariants.AlgorithmRoll}
 use Rattle.dnssec_key.specs.declared.kind.KeyType.{KeyType}
-use Rattle.dnssec_run.specs.ByAlgorithm.{keeps_ksk}
-use Rattle.dnssec_run.specs.Published.{Id, in_ds}
+use Rattle.dnssec_run.specs.{ByAlgorithm.keeps_ksk, Published.Id, Published.in_ds}
 use Rattle.dnssec_run.proofs.Premise.{DoesAt, first_wait_of, start_of}
-use Rattle.dnssec_zone.proofs.Flags.{SideOf, Keys, Zone, affects, Stage, Quiet, Early, Late}
-use Rattle.dnssec_zone.proofs.Flags.{flags_fit}
-use Rattle.dnssec_run.proofs.Chain.Tale.{key_at, Tale}
-use Rattle.dnssec_run.proofs.Chain.OneKey.{Starts}
-use Rattle.dnssec_run.proofs.Chain.Side.{upto}
-use Rattle.dnssec_run.proofs.Chain.Flags.{Own, in_use, live, remains}
+use Rattle.dnssec_run.proofs.Chain.Flags.{Own, Shared, in_use, is_in, live, remains}
 use Rattle.dnssec_run.proofs.Chain.Facts.{test-seen, use-seen, live-seen, remains-seen}
 use Rattle.dnssec_run.proofs.Chain.Keeping.{engaged, engaged-seen, rest-keeps, live-keeps}
 use Rattle.dnssec_run.proofs.Chain.Keeping.{before_first}
-use Rattle.dnssec_run.proofs.Chain.History.{Without, base_same}
-use Rattle.dnssec_run.proofs.Chain.Places.{Fits, NoDs, LessDs, shown_at, without-next, some_of}
-use Rattle.dnssec_run.proofs.Chain.Places.{some_weaker}
+use Rattle.dnssec_run.proofs.Chain.Places.{Fits, NoDs, shown_at, without-next, some_of, some_weaker}
 use Rattle.dnssec_run.proofs.Chain.Invariant.{At, Alive, Based, Gentle, Has, HasNo, Lasts, Left}
 use Rattle.dnssec_run.proofs.Chain.Invariant.{has-gentle, has_no-gentle, lasts-gentle, was-gentle}
+use Rattle.dnssec_run.proofs.Chain.{Tale.key_at, Tale.Tale, OneKey.Starts, Side.upto}
+use Rattle.dnssec_run.proofs.Chain.History.{Without, base_same}
+use Rattle.dnssec_zone.proofs.Flags.{SideOf, Keys, Zone, affects, Stage, Quiet, Early, Late}
+use Rattle.dnssec_zone.proofs.Flags.{flags_fit}
 
 -- ---- first waits of algorithm rolls
 
@@ -36,10 +31,7 @@ Unpassed tale n = (m : ℕ) → m < n → PassesAt tale m → ⊥
 
 pub unpassed-next : (tale : Tale) (n : ℕ) → (PassesAt tale n → ⊥) → Unpassed tale n
     → Unpassed tale (suc n)
-unpassed-next tale n none h m lt s = elim (cases_lt m n) [
-  | inl before ↦ h m before s
-  | inr ge ↦ let e : m ≡ n = omega arith in none (subst (PassesAt tale) e s)
-]
+unpassed-next tale n none h m lt s = grind (arith, none, h)
 
 -- ---- a family of keys
 
@@ -80,37 +72,25 @@ Life tale ks zs n = (Lasts tale Keys ks n × Lasts tale Zone zs n)
 -- ---- what a family has
 
 -- one that stays has a KSK role that stays
+kept_by : (tale : Tale) (st : Stage) (n : ℕ) → At tale Keys st n → (p : KeyType → Bool)
+    → ((k : KeyType) → flags_fit Keys st k ≡ true → p k ≡ true → keeps_ksk k ≡ true)
+    → Has tale p n → Has tale keeps_ksk n
+kept_by tale st n h p on k =
+    (k.0, some_of (flags_fit Keys st) p keeps_ksk on (key_at tale n k.0) (h.flags k.0) k.1, k.2)
+
 pub lasts-keeps : (tale : Tale) (st : Stage) (n : ℕ) → At tale Keys st n → Lasts tale Keys st n
     → Has tale keeps_ksk n
-lasts-keeps tale Quiet n h a = (
-  a.0.0,
-  some_of (flags_fit Keys Quiet) (in_use Keys) keeps_ksk rest-keeps
-      (key_at tale n a.0.0) (h.flags a.0.0) a.0.1,
-  a.0.2,
-)
-lasts-keeps tale (Early r) n h a = (
-  a.1.0,
-  some_of (flags_fit Keys (Early r)) (remains Keys r) keeps_ksk (λ k f.
-      (before_first r k h.own f).kept)
-      (key_at tale n a.1.0) (h.flags a.1.0) a.1.1,
-  a.1.2,
-)
-lasts-keeps tale (Late r) n h a = (
-  a.1.0,
-  some_weaker (live Keys) keeps_ksk live-keeps
-      (key_at tale n a.1.0) a.1.1,
-  a.1.2,
-)
+lasts-keeps tale Quiet n h a = kept_by tale Quiet n h (in_use Keys) rest-keeps a.0
+lasts-keeps tale (Early r) n h a =
+    kept_by tale (Early r) n h (remains Keys r) (λ k f. (before_first r k h.own f).kept) a.1
+lasts-keeps tale (Late r) n h a = kept_by tale (Late r) n h (live Keys) (λ k f. live-keeps k) a.1
 
 -- one of which no key is in a set isn't in the DS set
 pub without-engaged : (tale : Tale) (n : ℕ) → suc n ≤ length tale.es → HasNo tale engaged (suc n)
     → Without tale (suc n)
 without-engaged tale n here none id o c = none id o
-    (some_weaker in_ds engaged (λ k e. in_either k e) (key_at tale (suc n) id)
-    (((shown_at tale (suc n) here).ds id).0 c))
-  where
-    in_either : (k : KeyType) → in_ds k ≡ true → engaged k ≡ true
-    in_either k e = or_right _ _ e
+    (some_weaker in_ds engaged (λ k. or_right (is_in Keys Shared k) (in_ds k))
+    (key_at tale (suc n) id) (((shown_at tale (suc n) here).ds id).0 c))
 
 -- ---- a start
 
@@ -141,9 +121,6 @@ Law tale = (n : ℕ) → suc n ≤ length tale.es → (r : RollType) → Starts 
 
 module _ (tale : Tale) (n : ℕ) (here : suc n ≤ length tale.es) (ks zs : Stage)
     (gk : Gentle tale Keys ks n) (gz : Gentle tale Zone zs n) (none : PassesAt tale n → ⊥) where
-  less_ds : LessDs tale n
-  less_ds = was-gentle tale n here Keys ks in_ds (test-seen Keys Own) gk
-
   early_on : (r : RollType) → LeavesEarly tale r ks zs n → LeavesEarly tale r ks zs (suc n)
   early_on r h = (
     h.0,
@@ -160,7 +137,6 @@ module _ (tale : Tale) (n : ℕ) (here : suc n ≤ length tale.es) (ks zs : Stag
       → LeavesLate tale r ks zs (suc n)
   late_on r own h =
       let at = h.3 in
-      let bare = at.2 in
       let le : at.0 ≤ n = at.1.0 in (
         h.0,
         h.1,
@@ -168,8 +144,9 @@ module _ (tale : Tale) (n : ℕ) (here : suc n ≤ length tale.es) (ks zs : Stag
         (
           at.0,
           (omega (arith, le), base_same tale.es r (suc n) (gk.no_step r own) ∙ at.1.1),
-          λ q ge le. upto (λ q. at.0 ≤ q → Without tale q) n (λ q le ge. bare q ge le)
-              (λ _. without-next tale n here less_ds (bare n at.1.0 (omega arith))) q le ge,
+          λ q ge le. upto (λ q. at.0 ≤ q → Without tale q) n (λ q le ge. at.2 q ge le)
+              (λ _. without-next tale n here (was-gentle tale n here Keys ks in_ds
+              (test-seen Keys Own) gk) (at.2 n at.1.0 (omega arith))) q le ge,
         ),
       )
 

@@ -1,34 +1,26 @@
 -- A place of a run: the call, its entry, and the worlds before and after; a side of the chain over
 -- the record.
-use Rattle.dnssec_run.proofs.Laws.{made-at}
-use Rattle.dnssec_run.proofs.Chain.Flags.{SideSet, Shared, Own, kind_on, is_in}
-use Rattle.std.proofs.Common.{◌≡◌, ◌↔◌, ℕ, zero, suc, ◌<◌, ◌≤◌, inr, Bool, true, false, refl, sym}
-use Rattle.std.proofs.Common.{◌∙◌, ap, subst, arith, List, [], length, Option, None, Some}
-use Rattle.std.specs.Prelude.{slice_get, if◌then◌else◌, ◌==◌}
-use Rattle.std.specs.Option.{option_map}
-use Rattle.std.specs.List.{Contains}
-use Rattle.std.specs.FinMap.{get-empty}
-use Rattle.std.specs.Ordering.{nat_cmp}
-use Rattle.std.specs.Cmp.Lexicographic.{slice_cmp}
-use Rattle.std.proofs.lemmas.Option.{same_Some, none-some}
-use Rattle.std.proofs.lemmas.Bool.{true≢false, and_parts, eqb-true, eq-eqb}
-use Rattle.dnssec_key.specs.declared.kind.KeyType.{KeyType}
-use Rattle.dnssec_run.specs.declared.call.Call.{Call}
-use Rattle.dnssec_run.specs.declared.record.Entry.{Entry}
-use Rattle.dnssec_run.specs.Published.{Id, World as RealWorld, keys_where, in_ds, in_dnskey}
-use Rattle.dnssec_run.specs.Published.{signs_dnskey as signs_keys, signs_zone}
-use Rattle.dnssec_run.specs.Record as rec
-use Rattle.dnssec_run.specs.Safe.{Ds, Position, position_of, position_at, IsGone}
-use Rattle.dnssec_key.specs.declared.roll.RollType.{RollType}
-use Rattle.dnssec_keyset.specs.Step as keyset
-use Rattle.dnssec_run.proofs.Premise.{sets_nothing, DoesAt}
-use Rattle.dnssec_zone.proofs.Flags.{SideOf, Keys, Zone, has_role}
+use Rattle.dnssec_run.proofs.Chain.Flags.{SideSet, kind_on, is_in}
 use Rattle.dnssec_run.proofs.Chain.Tale.{Passes, key_at, Tale, World, Key, seen, found, if_some}
 use Rattle.dnssec_run.proofs.Chain.Tale.{world_at}
-use Rattle.dnssec_run.proofs.Chain.Shown.{shown-found}
 use Rattle.dnssec_run.proofs.Chain.History.{Serving, Without, retired_stays, never-gone-now}
-use Rattle.dnssec_run.proofs.Chain.History.{not_in_empty}
-use Rattle.dnssec_run.proofs.Chain.Side.{Side, upto}
+use Rattle.dnssec_run.proofs.{Laws.made-at, Positions.shown-none, Premise.sets_nothing}
+use Rattle.dnssec_run.proofs.{Premise.DoesAt, Chain.Shown.shown-found, Chain.Side.Side}
+use Rattle.dnssec_run.proofs.Chain.Side.{upto}
+use Rattle.dnssec_run.specs.declared.{call.Call.Call, record.Entry.Entry}
+use Rattle.dnssec_run.specs.Published.{Id, World as RealWorld, keys_where, in_ds, in_dnskey}
+use Rattle.dnssec_run.specs.Published.{signs_dnskey as signs_keys, signs_zone}
+use Rattle.dnssec_run.specs.Safe.{Ds, Position, blank, position_of, position_at, IsGone}
+use Rattle.std.proofs.Common.{◌≡◌, ◌↔◌, ℕ, zero, suc, ◌<◌, ◌≤◌, Bool, true, refl, sym, ap, subst}
+use Rattle.std.proofs.Common.{arith, List, length, Option, None, Some}
+use Rattle.std.proofs.lemmas.Bool.{and_parts, cond_both, eqb-true, eq-eqb}
+use Rattle.std.specs.Prelude.{slice_get, if◌then◌else◌, ◌==◌}
+use Rattle.std.specs.{Option.option_map, List.Contains, FinMap.get-empty, Ordering.nat_cmp}
+use Rattle.std.specs.Cmp.Lexicographic.{slice_cmp}
+use Rattle.dnssec_key.specs.declared.{kind.KeyType.KeyType, roll.RollType.RollType}
+use Rattle.dnssec_zone.proofs.Flags.{SideOf}
+use Rattle.dnssec_run.specs.Record as rec
+use Rattle.dnssec_keyset.specs.Step as keyset
 
 -- a test that a missing key passes
 abbrev pub all_ok : (KeyType → Bool) → Option Key → Bool
@@ -41,30 +33,22 @@ Fits tale p n id = all_ok p (key_at tale n id) ≡ true
 
 pub each-ok : (p : KeyType → Bool) (o : Option Key)
     → ((k : Key) → o ≡ Some k → p k.keytype ≡ true) → all_ok p o ≡ true
-each-ok p None h = refl
-each-ok p (Some k) h = h k refl
+each-ok p o h = grind (arith, h)
 
 pub some_key : (p : KeyType → Bool) (o : Option Key) → if_some p o ≡ true → (k : Key) × (o ≡ Some k)
     × (p k.keytype ≡ true)
-some_key p None e = absurd (true≢false (sym e))
-some_key p (Some k) e = (k, refl, e)
+some_key p o e = grind arith
 
 pub found_key : (w : World) (id : Id) (k : Key) → found w id ≡ Some k → (w.key id.0 ≡ Some k)
     × (w.added id.0 ≡ id.1)
-found_key w id k e = at_tag (w.added id.0 == id.1) refl e
-  where
-    at_tag : (b : Bool) → (w.added id.0 == id.1) ≡ b → (if b then w.key id.0 else None) ≡ Some k
-        → (w.key id.0 ≡ Some k) × (w.added id.0 ≡ id.1)
-    at_tag true t h = (h, eqb-true _ _ t)
-    at_tag false t h = absurd (none-some k h)
+found_key w id k e = (grind arith, eqb-true _ _ (grind arith))
 
 pub found_now : (w : World) (q : List ℕ) → found w (q, w.added q) ≡ w.key q
 found_now w q = ap (λ b. if b then w.key q else None) (eq-eqb (w.added q) (w.added q) refl)
 
 pub found_map : (b : Bool) (f : Key → Key) (o : Option Key) → (if b then option_map f o else None)
     ≡ option_map f (if b then o else None)
-found_map true f o = refl
-found_map false f o = refl
+found_map b f o = grind arith
 
 -- a list that shows exactly the keys that pass
 abbrev pub Shows : List Id → RealWorld → (KeyType → Bool) → Type 0
@@ -81,6 +65,16 @@ pub record IsShown (p : Position) (w : RealWorld) : Type 0 where
   pub dnskey : Shows p.dnskey w in_dnskey
   pub signers : Shows p.signers w signs_keys
   pub zone : Shows p.zone w signs_zone
+
+shown_by : (p : Position) (w : RealWorld) → p.ds ≡ keys_where in_ds w
+    → p.dnskey ≡ keys_where in_dnskey w → p.signers ≡ keys_where signs_keys w
+    → p.zone ≡ keys_where signs_zone w → IsShown p w
+shown_by p w ds dnskey signers zone = record {
+  ds = shows_by in_ds w p.ds ds;
+  dnskey = shows_by in_dnskey w p.dnskey dnskey;
+  signers = shows_by signs_keys w p.signers signers;
+  zone = shows_by signs_zone w p.zone zone;
+}
 
 abbrev pub real : Tale → ℕ → RealWorld
 real tale n = rec.world_at tale.name tale.calls tale.es n
@@ -112,67 +106,38 @@ place_at tale i lt =
     }
 
 -- at the start there is no key
-pub nothing_there : (b : Bool) (o : Option Key) → o ≡ None → (if b then o else None) ≡ None
-nothing_there true o e = e
-nothing_there false o e = refl
-
 pub none_at_start : (tale : Tale) (id : Id) → key_at tale zero id ≡ None
 unfolding rec.world_at
-none_at_start tale id = nothing_there (0 == id.1) _ (get-empty (slice_cmp nat_cmp) id.0)
-
-nothing_shown : (tale : Tale) (p : KeyType → Bool) → Shows [] (real tale zero) p
-nothing_shown tale p id = (
-  λ c. absurd (not_in_empty id c),
-  λ e. absurd (true≢false (sym e ∙ ap (if_some p) (none_at_start tale id))),
-)
+none_at_start tale id = cond_both (0 == id.1) _ None (λ o. o ≡ None)
+    (λ t. get-empty (slice_cmp nat_cmp) id.0) (λ t. refl)
 
 pub shown_at : (tale : Tale) (n : ℕ) → n ≤ length tale.es
     → IsShown (position_at tale.es n) (real tale n)
-unfolding position_at
-shown_at tale zero le = record {
-  ds = nothing_shown tale in_ds;
-  dnskey = nothing_shown tale in_dnskey;
-  signers = nothing_shown tale signs_keys;
-  zone = nothing_shown tale signs_zone;
-}
+unfolding position_at rec.world_at
+shown_at tale zero le = shown_by blank (real tale zero) (sym (shown-none in_ds tale.name))
+    (sym (shown-none in_dnskey tale.name)) (sym (shown-none signs_keys tale.name))
+    (sym (shown-none signs_zone tale.name))
 shown_at tale (suc i) le =
     let p = place_at tale i (omega arith) in
-    let w = real tale (suc i) in
-    let shown : IsShown (position_of p.entry) w = record {
-      ds = shows_by in_ds w _ p.ok.published.ds;
-      dnskey = shows_by in_dnskey w _ p.ok.published.dnskey;
-      signers = shows_by signs_keys w _ p.ok.published.dnskey_signers;
-      zone = shows_by signs_zone w _ p.ok.published.zone_signers;
-    } in
-    subst (λ q. IsShown q w) (sym p.position_is) shown
+    let sets = p.ok.published in
+    subst (λ q. IsShown q (real tale (suc i))) (sym p.position_is)
+    (shown_by (position_of p.entry) (real tale (suc i)) sets.ds sets.dnskey sets.dnskey_signers
+    sets.zone_signers)
 
 pub some_weaker : (p q : KeyType → Bool) → ((k : KeyType) → p k ≡ true → q k ≡ true)
     → (o : Option Key) → if_some p o ≡ true → if_some q o ≡ true
-some_weaker p q h None e = absurd (true≢false (sym e))
-some_weaker p q h (Some k) e = h k.keytype e
+some_weaker p q h o e = grind (arith, h)
 
 -- a key that fits and passes one test passes another
 pub some_of : (f p q : KeyType → Bool) → ((k : KeyType) → f k ≡ true → p k ≡ true → q k ≡ true)
     → (o : Option Key) → all_ok f o ≡ true → if_some p o ≡ true → if_some q o ≡ true
-some_of f p q h None e g = absurd (true≢false (sym g))
-some_of f p q h (Some k) e g = h k.keytype e g
+some_of f p q h o e g = grind (arith, h)
 
 pub shows : (tale : Tale) (sd : SideOf) (set : SideSet) (n : ℕ) → n ≤ length tale.es → (id : Id)
     → Passes tale (is_in sd set) n id → Serving tale sd set n id
-shows tale Keys Own n le id e = inr (((shown_at tale n le).ds id).1 e)
-shows tale Zone Own n le id e = ((shown_at tale n le).zone id).1 e
-shows tale Zone Shared n le id e = ((shown_at tale n le).dnskey id).1
-    (some_weaker (is_in Zone Shared) in_dnskey (λ k h. (and_parts (has_role Zone k) _ h).1)
-    (key_at tale n id) e)
-shows tale Keys Shared n le id e =
+shows tale sd set n le id e =
     let p = shown_at tale n le in
-    let parts = λ (k : KeyType) (h : is_in Keys Shared k ≡ true).
-    and_parts (in_dnskey k) (signs_keys k) h in (
-      (p.dnskey id).1 (some_weaker (is_in Keys Shared) in_dnskey (λ k h. (parts k h).0)
-          (key_at tale n id) e),
-      (p.signers id).1 (some_weaker (is_in Keys Shared) signs_keys (λ k h. (parts k h).1)
-          (key_at tale n id) e),
-    )
+    grind (arith, and_parts, (p.ds id).1, (p.dnskey id).1, (p.signers id).1, (p.zone id).1)
 
 -- no DS set that caches may hold has a key of the family
 abbrev pub NoDs : Tale → ℕ → Type 0
@@ -220,9 +185,4 @@ side tale sd = record {
 pub same_call : (does : keyset.Call → Option RollType) (tale : Tale) (n : ℕ) (p : Place tale n)
     (q : RollType) → DoesAt does tale.calls tale.es n q
     → (rec.is_accepted p.entry.reply ≡ true) × (does (rec.call_of p.call) ≡ Some q)
-same_call does tale n p q s =
-    let c : p.call ≡ s.call = same_Some _ _ (sym p.call_is ∙ s.call_is) in
-    let e : p.entry ≡ s.entry = same_Some _ _ (sym p.entry_is ∙ s.entry_is) in (
-      ap (λ (e : Entry). rec.is_accepted e.reply) e ∙ s.accepted,
-      ap (λ c. does (rec.call_of c)) c ∙ s.roll_is,
-    )
+same_call does tale n p q s = (cc, cc)

@@ -2,24 +2,20 @@
 use Rattle.std.proofs.Common.{◌≡◌, ℕ, suc, ◌≤◌, ◌⊎◌, inl, inr, Bool, true, sym, ◌∙◌, ap, List, Some}
 use Rattle.std.proofs.Common.{length}
 use Rattle.std.proofs.lemmas.Bool.{and_parts, cases_Bool}
-use Rattle.dnssec_key.specs.declared.roll.RollType.{RollType}
-use Rattle.dnssec_key.specs.declared.roll.RollState.TheVariants.{Propagation1}
+use Rattle.dnssec_key.specs.declared.roll.{RollType.RollType, RollState.TheVariants.Propagation1}
 use Rattle.dnssec_key.specs.declared.kind.KeyType.{KeyType}
-use Rattle.dnssec_zone.specs.Lists.{Listed, listed_by}
-use Rattle.dnssec_run.specs.Published.{Id}
+use Rattle.dnssec_zone.specs.{Lists.Listed, Lists.listed_by, Start.is_listed}
 use Rattle.dnssec_zone.proofs.Flags.{SideOf, affects, Stage, Quiet, Early, Late, flags_fit}
-use Rattle.dnssec_zone.proofs.Flags.{has_role}
-use Rattle.dnssec_zone.proofs.Flags.{ended}
+use Rattle.dnssec_zone.proofs.Flags.{has_role, ended}
+use Rattle.dnssec_run.specs.Published.{Id}
 use Rattle.dnssec_run.proofs.Chain.Tale.{Passes, key_at, Tale, Key, if_some, world_at}
-use Rattle.dnssec_run.proofs.Chain.Side.{Cached, cached-on}
+use Rattle.dnssec_run.proofs.Chain.Side.{or_map, Cached, cached-on}
 use Rattle.dnssec_run.proofs.Chain.Flags.{SideSet, is_in, in_use}
-use Rattle.dnssec_run.proofs.Chain.Facts.{Seen, sees}
 use Rattle.dnssec_run.proofs.Chain.EarlyEnds.{ended-less, unseen-ended, ended-seen, ended-used}
-use Rattle.dnssec_run.proofs.Chain.History.{Serving}
 use Rattle.dnssec_run.proofs.Chain.Places.{Fits, real, all_ok, each-ok, shows, side, NoDs, some_key}
 use Rattle.dnssec_run.proofs.Chain.Places.{some_weaker}
 use Rattle.dnssec_run.proofs.Chain.Same.{AlikeOn, alike-on-round, was-seen, some-was}
-use Rattle.dnssec_zone.specs.Start.{is_listed}
+use Rattle.dnssec_run.proofs.Chain.{Facts.Seen, Facts.sees, History.Serving}
 
 -- what is kept of the start of a roll
 abbrev pub listed_at : Tale → RollType → ℕ → Listed
@@ -74,58 +70,45 @@ module _ (tale : Tale) (n : ℕ) (here : suc n ≤ length tale.es) (sd : SideOf)
     (dead : NoDs tale n → NoDs tale (suc n)) (lists : KeepsLists tale sd n)
     (r : RollType) (own : affects sd r ≡ true)
     (phase : (world_at tale (suc n)).roll r ≡ Some Propagation1) where
+  abbrev back : ℕ → Id → KeyType → KeyType
+  back n id = kind_back tale r n id.0
+
   -- an early end makes the same of a key that the side sees
   same_kind : (id : Id) (k : Key) → key_at tale (suc n) id ≡ Some k → sees sd k.keytype ≡ true
-      → kind_back tale r (suc n) id.0 k.keytype ≡ kind_back tale r n id.0 k.keytype
+      → back (suc n) id k.keytype ≡ back n id k.keytype
   same_kind id k e seen =
       let s = lists.same r own phase id k e (and_parts (has_role sd k.keytype) _ seen).0 in
       λ j. ended r (s.0 j) (s.1 j) k.keytype
 
-  was : (p : KeyType → Bool) → ((o i : Bool) → Seen sd (λ k. p (ended r o i k))) → (id : Id)
-      → Passes tale (λ k. p (kind_back tale r (suc n) id.0 k)) (suc n) id
-      → Passes tale (λ k. p (kind_back tale r n id.0 k)) n id
-  was p seen id e =
-      let k = some_key (λ k. p (kind_back tale r (suc n) id.0 k)) (key_at tale (suc n) id)
-      e in
-      some-was sd (λ k. p (kind_back tale r n id.0 k)) (seen _ _) (key_at tale n id)
-      (key_at tale (suc n) id) (keys id)
-      (ap (if_some (λ k. p (kind_back tale r n id.0 k))) k.1
-      ∙ ap p (sym (same_kind id k.0 k.1 (seen _ _ k.0.keytype k.2))) ∙ k.2)
+  module _ (p : KeyType → Bool) (seen : (o i : Bool) → Seen sd (λ k. p (ended r o i k))) (id : Id)
+    where
+      was : Passes tale (λ k. p (back (suc n) id k)) (suc n) id
+          → Passes tale (λ k. p (back n id k)) n id
+      was e = let k = some_key (λ k. p (back (suc n) id k)) (key_at tale (suc n) id) e in
+          some-was sd (λ k. p (back n id k)) (seen _ _) (key_at tale n id) (key_at tale (suc n) id)
+          (keys id) (ap (if_some (λ k. p (back n id k))) k.1
+          ∙ ap p (sym (same_kind id k.0 k.1 (seen _ _ k.0.keytype k.2))) ∙ k.2)
 
-  stays : (p : KeyType → Bool) → ((o i : Bool) → Seen sd (λ k. p (ended r o i k))) → (id : Id)
-      → Passes tale (λ k. p (kind_back tale r n id.0 k)) n id
-      → Passes tale (λ k. p (kind_back tale r (suc n) id.0 k)) (suc n) id
-  stays p seen id e =
-      let then = key_at tale (suc n) id in
-      let now = some-was sd (λ k. p (kind_back tale r n id.0 k)) (seen _ _) then
-      (key_at tale n id) (alike-on-round sd (key_at tale n id) then (keys id)) e
-      in
-      let k = some_key (λ k. p (kind_back tale r n id.0 k)) then now in
-      ap (if_some (λ k. p (kind_back tale r (suc n) id.0 k))) k.1
-      ∙ ap p (same_kind id k.0 k.1 (seen _ _ k.0.keytype k.2)) ∙ k.2
-
-  flags_next : LeadsBack tale sd r n → (id : Id)
-      → Fits tale (λ k. flags_fit sd Quiet (kind_back tale r (suc n) id.0 k)) (suc n) id
-  flags_next h id = each-ok _ (key_at tale (suc n) id) (λ k e.
-      elim (cases_Bool (sees sd k.keytype)) [
-        | inl t ↦
-            let j = was-seen sd (key_at tale n id) (key_at tale (suc n) id)
-            (keys id) k e t in
-            ap (flags_fit sd Quiet) (same_kind id k e t ∙ ap (kind_back tale r n id.0) (sym j.2))
-            ∙ sym (ap (all_ok (λ k. flags_fit sd Quiet (kind_back tale r n id.0 k))) j.1)
-            ∙ h.flags id
-        | inr t ↦ unseen-ended sd r _ _ k.keytype t
-      ])
+      stays : Passes tale (λ k. p (back n id k)) n id
+          → Passes tale (λ k. p (back (suc n) id k)) (suc n) id
+      stays e = let k = some_key (λ k. p (back n id k)) (key_at tale (suc n) id)
+          (some-was sd (λ k. p (back n id k)) (seen _ _) (key_at tale (suc n) id) (key_at tale n id)
+          (alike-on-round sd (key_at tale n id) (key_at tale (suc n) id) (keys id)) e) in
+          ap (if_some (λ k. p (back (suc n) id k))) k.1
+          ∙ ap p (same_kind id k.0 k.1 (seen _ _ k.0.keytype k.2)) ∙ k.2
 
   pub leads-on : LeadsBack tale sd r n → LeadsBack tale sd r (suc n)
   leads-on h = record {
-    flags = flags_next h;
+    flags = λ id. each-ok _ (key_at tale (suc n) id) (λ k e.
+        elim (cases_Bool (sees sd k.keytype)) [
+          | inl t ↦
+              let j = was-seen sd (key_at tale n id) (key_at tale (suc n) id) (keys id) k e t in
+              ap (flags_fit sd Quiet) (same_kind id k e t ∙ ap (back n id) (sym j.2))
+              ∙ sym (ap (all_ok (λ k. flags_fit sd Quiet (back n id k))) j.1) ∙ h.flags id
+          | inr t ↦ unseen-ended sd r _ _ k.keytype t
+        ]);
     rest = λ set. cached-on (side tale sd) n here set (StaysIn tale sd r n set)
         (StaysIn tale sd r (suc n) set) (was (is_in sd set) (ended-seen sd set r))
         (stays-shown tale sd r (suc n) here set) (h.rest set);
-    used = elim (h.used) [
-      | inl d ↦ inl (dead d)
-      | inr a ↦
-          inr (a.0, stays (in_use sd) (ended-used sd r) a.0 a.1, a.2)
-    ];
+    used = or_map h.used dead (λ a. (a.0, stays (in_use sd) (ended-used sd r) a.0 a.1, a.2));
   }

@@ -1,17 +1,13 @@
 -- Rolls, their states, and the stages of a side.
-use Rattle.std.proofs.Common.{◌≡◌, Bool, true, false, Option, None, Some, refl, sym, ◌∙◌, ap}
-use Rattle.std.specs.Prelude.{if◌then◌else◌}
-use Rattle.std.proofs.lemmas.Bool.{true≢false}
-use Rattle.dnssec_key.specs.declared.roll.RollType.{RollType}
-use Rattle.dnssec_key.specs.declared.roll.RollState.{RollState}
+use Rattle.std.proofs.Common.{◌≡◌, Bool, true, false, Option, None, Some, ap, arith}
+use Rattle.std.{specs.Prelude.if◌then◌else◌, proofs.lemmas.Bool.cond_both}
 use Rattle.dnssec_key.specs.declared.roll.RollState.TheVariants.{Propagation1, CacheExpire1, Done}
 use Rattle.dnssec_key.specs.declared.roll.RollState.TheVariants.{Propagation2, CacheExpire2}
-use Rattle.dnssec_zone.specs.Rolls.{same_roll}
-use Rattle.dnssec_run.proofs.Chain.Tale.{put_roll}
+use Rattle.dnssec_key.specs.declared.roll.{RollType.RollType, RollState.RollState}
+use Rattle.dnssec_zone.specs.{Rolls.same_roll, Start.together}
 use Rattle.dnssec_zone.proofs.Flags.{SideOf, affects, Stage, Quiet, Early, Late}
-use Rattle.dnssec_zone.specs.Start.{together}
-use Rattle.dnssec_run.proofs.Chain.Tables.{holds, fails, same, ◌gives◌, on_both, on_side, of_roll}
-use Rattle.dnssec_run.proofs.Chain.Tables.{of_rolls}
+use Rattle.dnssec_run.proofs.Chain.Tale.{put_roll}
+pub use Rattle.dnssec_zone.proofs.Phases.{same-itself as same-same}
 
 -- the stage of a side with a roll of its own in this phase
 abbrev pub stage_in : RollType → RollState → Stage
@@ -37,43 +33,24 @@ stage_own sd Quiet = true
 stage_own sd (Early r) = affects sd r
 stage_own sd (Late r) = affects sd r
 
-pub same-same : (r : RollType) → same_roll r r ≡ true
-same-same = of_roll (λ r. holds (same_roll r r)) refl
-
 pub same-sym : (r q : RollType) → same_roll r q ≡ same_roll q r
-same-sym = of_rolls (λ r q. same (same_roll r q) (same_roll q r)) refl
+same-sym r q = grind arith
 
 -- two rolls of a side never run together
 pub clash : (sd : SideOf) (r q : RollType) → affects sd r ≡ true → affects sd q ≡ true
     → together r q ≡ false
-clash sd r q = on_side (λ sd. affects sd r gives affects sd q gives fails (together r q))
-    (of_rolls (λ r q. on_both (λ sd. affects sd r gives affects sd q gives fails (together r q)))
-    refl r q) sd
+clash sd r q own also_own = grind arith
 
 -- a side on which no roll of its own is in progress is at rest
 pub stage_quiet : (sd : SideOf) (st : Stage) → stage_own sd st ≡ true
     → ((q : RollType) → affects sd q ≡ true → is_of st q ≡ false) → st ≡ Quiet
-stage_quiet sd Quiet own h = refl
-stage_quiet sd (Early r) own h = absurd (true≢false (sym (same-same r) ∙ h r own))
-stage_quiet sd (Late r) own h = absurd (true≢false (sym (same-same r) ∙ h r own))
-
--- while a roll of the side is in progress, its other rolls aren't
-pub others_none : (st : Stage) (r q : RollType) (o : Option RollState) → is_of st r ≡ true
-    → same_roll r q ≡ false → StageFits st q o → o ≡ None
-others_none st r q None own d e = refl
-others_none st r q (Some Done) own d e = absurd (true≢false (sym own ∙ ap (λ s. is_of s r) e))
-others_none st r q (Some _) own d e =
-    absurd (true≢false (sym own ∙ ap (λ s. is_of s r) e ∙ same-sym q r ∙ d))
+stage_quiet sd st own h = grind (arith, h, same-same)
 
 -- a stage after one roll's state is put
 pub put-fits : (st : Stage) (f : RollType → Option RollState) (r : RollType) (o : Option RollState)
     (q : RollType) → (same_roll r q ≡ true → StageFits st q o)
     → (same_roll r q ≡ false → StageFits st q (f q)) → StageFits st q (put_roll f r o q)
-put-fits st f r o q here there = by (same_roll r q) refl
-  where
-    by : (b : Bool) → same_roll r q ≡ b → StageFits st q (if b then o else f q)
-    by true e = here e
-    by false e = there e
+put-fits st f r o q = cond_both (same_roll r q) o (f q) (StageFits st q)
 
 pub put-same : (f : RollType → Option RollState) (r : RollType) (o : Option RollState)
     → put_roll f r o r ≡ o

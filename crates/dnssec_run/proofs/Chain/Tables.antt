@@ -3,36 +3,31 @@ use Rattle.dnssec_zone.proofs.Tests.{each_in_roll, each_in_roll-at, each_listed,
 use Rattle.dnssec_zone.proofs.Tests.{each_key, each_key-at, each_roll, each_roll-at, ◌⇒◌, alike}
 use Rattle.dnssec_zone.proofs.Tests.{alike-same}
 use Rattle.dnssec_zone.proofs.Flags.{SideOf, Keys, Zone}
-use Rattle.std.proofs.Common.{◌≡◌, ◌&&◌, Bool, true, false, not, ℕ, List, [], ◌∷◌, Option, refl}
-use Rattle.std.proofs.lemmas.Bool.{and_parts, not-true}
-use Rattle.dnssec_key.specs.declared.roll.RollType.{RollType}
-use Rattle.dnssec_key.specs.declared.roll.RollType.TheVariants.{KskRoll}
-use Rattle.dnssec_key.specs.declared.kind.KeyType.{KeyType}
+use Rattle.dnssec_zone.specs.Start.{Want, PresentKskRole, PresentZskRole, wants}
+use Rattle.std.proofs.Common.{◌≡◌, ◌&&◌, Bool, true, false, not, ℕ, ◌-◌, Option, arith, get_or}
+use Rattle.std.proofs.Common.{length}
+use Rattle.std.{proofs.lemmas.Bool.and_parts, proofs.lemmas.Bool.not-true, specs.List.list_all}
+use Rattle.dnssec_key.specs.declared.{roll.RollType.RollType, kind.KeyType.KeyType}
+use Rattle.dnssec_key.specs.RollTable.{Half, First, Second, half_of, column, Writes}
 use Rattle.dnssec_base.specs.Stamps.{Stamps, stamp_named}
 use Rattle.dnssec_base.specs.declared.stamps.Stamp.{Stamp as StampOfCode}
 use Rattle.dnssec_base.specs.declared.stamps.Stamp.TheVariants as code
-use Rattle.dnssec_key.specs.RollTable.{Half, First, Second, half_of, column, Writes}
-use Rattle.dnssec_zone.specs.Start.{Want, PresentKskRole, PresentZskRole, wants}
-use Rattle.std.specs.List.{list_all}
 
--- ---- both halves of a roll
-
+-- in both halves of each roll
 abbrev pub each_half : (Half → Bool) → Bool
 each_half p = p First && p Second
 
 pub each_half-at : (p : Half → Bool) → each_half p ≡ true → (half : Half) → p half ≡ true
-each_half-at p e First = (and_parts (p First) (p Second) e).0
-each_half-at p e Second = (and_parts (p First) (p Second) e).1
+each_half-at p e half = grind (arith, and_parts)
 
 abbrev pub each_in_half : Bool → Bool → (RollType → Half → KeyType → Bool) → Bool
-each_in_half a b p = each_roll (λ r. each_half (λ half. each_key a b (p r half)))
+each_in_half a b p = each_roll (λ r. each_half (λ h. each_key a b (p r h)))
 
 pub each_in_half-at : (p : RollType → Half → KeyType → Bool)
-    → ((a b : Bool) → each_in_half a b p ≡ true) → (r : RollType) (half : Half) (k : KeyType)
-    → p r half k ≡ true
-each_in_half-at p e r half = each_key-at (p r half) (λ a b.
-    each_half-at (λ half. each_key a b (p r half))
-    (each_roll-at (λ r. each_half (λ half. each_key a b (p r half))) (e a b) r) half)
+    → ((a b : Bool) → each_in_half a b p ≡ true) → (r : RollType) (h : Half) (k : KeyType)
+    → p r h k ≡ true
+each_in_half-at p e r h = each_key-at (p r h) (λ a b. each_half-at (λ h. each_key a b (p r h))
+    (each_roll-at (λ r. each_half (λ h. each_key a b (p r h))) (e a b) r) h)
 
 -- ---- claims, which are computed over all flags, kinds and rolls
 
@@ -75,10 +70,6 @@ of_key c e k = says (c k) (each_key-at (λ k. test (c k)) e k)
 pub of_roll : (c : RollType → Claim) → each_roll (λ r. test (c r)) ≡ true → (r : RollType)
     → Says (c r)
 of_roll c e r = says (c r) (each_roll-at (λ r. test (c r)) e r)
-
-pub of_rolls : (c : RollType → RollType → Claim)
-    → each_roll (λ r. each_roll (λ q. test (c r q))) ≡ true → (r q : RollType) → Says (c r q)
-of_rolls c e r = of_roll (c r) (each_roll-at (λ r. each_roll (λ q. test (c r q))) e r)
 
 pub of_roll_key : (c : RollType → KeyType → Claim)
     → ((a b : Bool) → each_in_roll a b (λ r k. test (c r k)) ≡ true) → (r : RollType) (k : KeyType)
@@ -129,13 +120,7 @@ read r half = of_code (half_of r half).reads
 pub reads-stamp : (r : RollType) (half : Half) (t : Stamps)
     → stamp_named (half_of r half).reads t ≡ stamp_in (read r half) t
 unfolding column
-reads-stamp r half t = by half r
-  where
-    by : (half : Half) (r : RollType)
-        → stamp_named (half_of r half).reads t ≡ stamp_in (read r half) t
-    by First KskRoll = refl
-    by Second KskRoll = refl
-    by _ _ = refl
+reads-stamp r half t = grind arith
 
 -- a claim of each of them
 abbrev pub at_stamps : (Stamp → Claim) → Claim
@@ -155,24 +140,17 @@ checked r half k = (half_of r half).checks k
 abbrev pub on_both : (SideOf → Claim) → Claim
 on_both c = c Keys also c Zone
 
-pub on_side : (c : SideOf → Claim) → Says (on_both c) → (sd : SideOf) → Says (c sd)
-on_side c h Keys = h.0
-on_side c h Zone = h.1
-
 pub by_side : (P : SideOf → Type 0) → P Keys → P Zone → (sd : SideOf) → P sd
 by_side P keys zone Keys = keys
 by_side P keys zone Zone = zone
+
+pub on_side : (c : SideOf → Claim) → Says (on_both c) → (sd : SideOf) → Says (c sd)
+on_side c h = by_side (λ sd. Says (c sd)) h.0 h.1
 
 pub of_side_roll : (c : SideOf → RollType → Claim)
     → each_roll (λ r. test (on_both (λ sd. c sd r))) ≡ true → (sd : SideOf) (r : RollType)
     → Says (c sd r)
 of_side_roll c e sd r = on_side (λ sd. c sd r) (of_roll (λ r. on_both (λ sd. c sd r)) e r) sd
-
-pub of_side_key : (c : SideOf → RollType → KeyType → Claim)
-    → ((a b : Bool) → each_in_roll a b (λ r k. test (on_both (λ sd. c sd r k))) ≡ true)
-    → (sd : SideOf) (r : RollType) (k : KeyType) → Says (c sd r k)
-of_side_key c e sd r k = on_side (λ sd. c sd r k)
-    (of_roll_key (λ r k. on_both (λ sd. c sd r k)) e r k) sd
 
 pub of_side_listed : (c : SideOf → RollType → Bool → Bool → KeyType → Claim)
     → ((a b : Bool) → each_listed a b (λ r o i k. test (on_both (λ sd. c sd r o i k))) ≡ true)
@@ -181,36 +159,11 @@ of_side_listed c e sd r o i k = on_side (λ sd. c sd r o i k)
     (of_listed (λ r o i k. on_both (λ sd. c sd r o i k)) e r o i k) sd
 
 -- what a start of the roll has to leave on a side: of two wants, the first is on the side of keys
-abbrev some_want : List Want → Bool
-some_want [] = false
-some_want (w ∷ ws) = true
-
-abbrev first_want : List Want → Want
-first_want [] = PresentKskRole
-first_want (w ∷ ws) = w
-
-abbrev last_want : List Want → Want
-last_want [] = PresentZskRole
-last_want (w ∷ []) = w
-last_want (v ∷ w ∷ ws) = last_want (w ∷ ws)
-
 abbrev pub want_on : SideOf → RollType → Want
-want_on Keys r = first_want (wants r)
-want_on Zone r = last_want (wants r)
-
-first_met : (p : Want → Bool) (ws : List Want) → some_want ws ≡ true → list_all p ws ≡ true
-    → p (first_want ws) ≡ true
-first_met p [] some e = cc
-first_met p (w ∷ ws) some e = (and_parts _ _ e).0
-
-last_met : (p : Want → Bool) (ws : List Want) → some_want ws ≡ true → list_all p ws ≡ true
-    → p (last_want ws) ≡ true
-last_met p [] some e = cc
-last_met p (w ∷ []) some e = (and_parts _ _ e).0
-last_met p (v ∷ w ∷ ws) some e = last_met p (w ∷ ws) refl (and_parts _ _ e).1
+want_on Keys r = get_or (wants r) 0 PresentKskRole
+want_on Zone r = get_or (wants r) (length (wants r) - 1) PresentZskRole
 
 -- what a roll wants, it wants on each side
 pub met : (p : Want → Bool) (r : RollType) → list_all p (wants r) ≡ true → (sd : SideOf)
     → p (want_on sd r) ≡ true
-met p r e Keys = first_met p (wants r) (each_roll-at (λ r. some_want (wants r)) refl r) e
-met p r e Zone = last_met p (wants r) (each_roll-at (λ r. some_want (wants r)) refl r) e
+met p r e sd = grind (arith, and_parts)

@@ -1,25 +1,21 @@
 -- A run as the chain's proof sees it: at each position the keys by reference, the positions of
 -- their adds, and the phases of the rolls.
 use Rattle.std.proofs.Common.{◌≡◌, ℕ, ◌-◌, ◌≤◌, ◌⊎◌, Bool, true, false, List, Option, None, Some}
-use Rattle.std.proofs.Common.{refl}
+use Rattle.std.proofs.Common.{arith}
 use Rattle.std.specs.Prelude.{if◌then◌else◌, ◌==◌, ◌*◌}
 use Rattle.std.specs.FinMap.{get}
-use Rattle.dnssec_key.specs.declared.roll.RollType.{RollType}
-use Rattle.dnssec_key.specs.declared.roll.RollState.{RollState}
-use Rattle.dnssec_key.specs.declared.kind.KeyType.{KeyType}
-use Rattle.dnssec_key.specs.Key.{KeyParts, all_states}
-use Rattle.dnssec_zone.specs.Rolls.{phase_of, same_roll}
 use Rattle.dnssec_key.specs.RollTable.{after_start, after_early_end, column, stamps_after, Half}
+use Rattle.dnssec_key.specs.declared.roll.{RollType.RollType, RollState.RollState}
+use Rattle.dnssec_key.specs.{declared.kind.KeyType.KeyType, Key.KeyParts, Key.all_states}
+use Rattle.dnssec_key.specs.State.{is_future}
+use Rattle.dnssec_zone.specs.Rolls.{phase_of, same_roll}
 use Rattle.dnssec_zone.specs.Start.{is_listed, may_change_algorithms, together, serves_as_new}
 use Rattle.dnssec_zone.specs.Start.{serves_as_kept, lists_kind, side_of}
-use Rattle.dnssec_run.specs.declared.call.Call.{Call}
-use Rattle.dnssec_run.specs.declared.record.Entry.{Entry}
-use Rattle.dnssec_run.specs.Published.{Id, World as RealWorld}
-use Rattle.dnssec_run.specs.Record as rec
-use Rattle.dnssec_run.proofs.Premise.{IsPlainBySets}
 use Rattle.dnssec_zone.proofs.Flags.{started, ended, listed_old, SideOf, affects}
 use Rattle.dnssec_run.proofs.Chain.Tables.{Stamp, stamp_in, read, checked, want_on}
-use Rattle.dnssec_key.specs.State.{is_future}
+use Rattle.dnssec_run.specs.{declared.call.Call.Call, declared.record.Entry.Entry, Published.Id}
+use Rattle.dnssec_run.{specs.Published.World as RealWorld, proofs.Premise.IsPlainBySets}
+use Rattle.dnssec_run.specs.Record as rec
 
 -- a run of a plain list, with its record, and a family of keys whose chain is shown
 pub record Tale : Type 0 where
@@ -79,15 +75,11 @@ started_key r now o i k = record k {
 
 pub start-parts : (r : RollType) (now : ℕ) (o i : Bool) (k : Key) → after_start r now o i k
     ≡ started_key r now o i k
-start-parts r now true true k = refl
-start-parts r now false true k = refl
-start-parts r now _ _ k = refl
+start-parts r now o i k = grind arith
 
 pub early-end-parts : (r : RollType) (o i : Bool) (k : Key)
     → after_early_end r o i k ≡ record k { keytype = ended r o i k.keytype }
-early-end-parts r true true k = refl
-early-end-parts r false true k = refl
-early-end-parts r _ _ k = refl
+early-end-parts r o i k = grind arith
 
 abbrev pub start_key : RollType → ℕ → List (List ℕ) → List (List ℕ) → List ℕ → Key → Key
 start_key r now old new q k = started_key r now (is_listed old q) (is_listed new q) k

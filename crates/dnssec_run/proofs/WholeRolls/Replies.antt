@@ -1,67 +1,39 @@
 -- What an accepted call did, and that a refused one did nothing; and rolls in progress beside one
 -- another, over one call: for the laws of runs.
-use Rattle.dnssec_keyset.proofs.Changes.{Changes}
-use Rattle.dnssec_run.proofs.Effects.{accepted_step, refused_step, is_on}
-use Rattle.std.proofs.Common.{◌≡◌, ℕ, suc, Bool, true, false, List, Some, refl, sym, subst, inl}
-use Rattle.std.proofs.Common.{inr, ◌⊎◌, ◌∙◌, ap}
-use Rattle.std.proofs.lemmas.Bool.{cases_Bool, true≢false, true_from_ne_false}
-use Rattle.dnssec_keyset.specs.KeySet.{KeySetParts}
-use Rattle.dnssec_keyset.specs.Step as keyset
-use Rattle.dnssec_zone.specs.Wait as waits
-use Rattle.dnssec_run.specs.declared.record.Reply.{Reply}
-use Rattle.dnssec_run.specs.declared.record.Reply.TheVariants as reply
-use Rattle.dnssec_run.specs.Record.{IsRun, reply_of, is_accepted, mark_after, call_moment, call_of}
-use Rattle.dnssec_run.specs.Record.{world_at, added_by}
-use Rattle.std.specs.Prelude.{slice_get, if◌then◌else◌, is_some}
-use Rattle.dnssec_run.specs.WholeRolls.{IsMade, propagation}
-use Rattle.dnssec_run.specs.Safe.{position_at}
-use Rattle.dnssec_run.specs.declared.call.Call.{Call}
-use Rattle.dnssec_run.specs.declared.record.Entry.{Entry}
-use Rattle.dnssec_run.specs.declared.record.Mark.TheVariants.{Other}
-use Rattle.dnssec_run.proofs.Chain.Trust.{mark, plainly}
-use Rattle.dnssec_keyset.proofs.Sides.{leaves-others}
-use Rattle.std.specs.FinMap.{get}
-use Rattle.std.proofs.lemmas.Option.{none-some, same_Some}
-use Rattle.dnssec_key.specs.declared.roll.RollType.{RollType}
-use Rattle.dnssec_key.specs.declared.roll.RollState.{RollState}
-use Rattle.dnssec_key.specs.declared.roll.RollState.TheVariants.{Propagation1, Done}
+use Rattle.std.proofs.Common.{◌≡◌, ℕ, suc, true, false, List, Some, refl, sym, subst, inl, inr, ◌⊎◌}
+use Rattle.std.proofs.Common.{◌∙◌, ap, zero, ◌≤◌, length, arith}
+use Rattle.std.proofs.lemmas.Bool.{cases_Bool, cases_lt, true_from_ne_false}
+use Rattle.std.specs.Prelude.{Option, slice_get, is_some}
+use Rattle.std.{specs.Option.option_map_or, specs.FinMap.get, proofs.lemmas.Option.none-some}
+use Rattle.dnssec_key.specs.declared.roll.{RollType.RollType, RollState.RollState}
 use Rattle.dnssec_key.specs.Key.{KeyParts}
-use Rattle.dnssec_key.specs.RollTable.{cache_expire}
 use Rattle.dnssec_zone.specs.Rolls.{phase_of, same_roll}
 use Rattle.dnssec_zone.specs.Start.{together, lists_kind, side_of}
+use Rattle.dnssec_keyset.proofs.{Changes.Changes, Sides.leaves-others, Laws.no_cause}
+use Rattle.dnssec_keyset.specs.KeySet.{KeySetParts}
 use Rattle.dnssec_keyset.specs.Laws.{LeavesOthers, RollsTogether, roll_of}
-use Rattle.dnssec_keyset.proofs.Accepted.{ends_early, finishes}
-use Rattle.dnssec_keyset.proofs.Laws.{no_cause}
+use Rattle.dnssec_run.specs.Record.{call_moment, IsRun, reply_of, is_accepted, call_of, world_at}
+use Rattle.dnssec_run.specs.Record.{added_by, mark_after}
+use Rattle.dnssec_run.specs.{WholeRolls.IsMade, Safe.position_at, declared.call.Call.Call}
+use Rattle.dnssec_run.specs.declared.record.{Entry.Entry, Mark.TheVariants.Other}
 use Rattle.dnssec_run.specs.Published.{World}
-use Rattle.dnssec_run.proofs.Chain.Allowed.{can_start, spreads, waits_in_phase}
-use Rattle.dnssec_run.proofs.Chain.Facts.{other}
+use Rattle.dnssec_run.proofs.Effects.{accepted_step, refused_step, is_on}
+use Rattle.dnssec_run.proofs.{Next.mark-accepted, Next.mark-refused, Laws.made-at, Premise.DoesAt}
+use Rattle.dnssec_run.proofs.Chain.{Trust.mark, Trust.plainly, Allowed.can_start, Facts.other}
+use Rattle.dnssec_zone.specs.Wait as waits
+use Rattle.dnssec_keyset.specs.Step as keyset
 
 -- ---- positions
 
--- what a position says of its call
-pub record At (calls : List Call) (entries : List Entry) (n : ℕ) (c : Call) (e : Entry)
-    : Type 0 where
-  pub call_is : slice_get calls n ≡ Some c
-  pub entry_is : slice_get entries n ≡ Some e
-  pub mark_is : (position_at entries (suc n)).mark ≡ mark_after c e.reply
-  pub when : (position_at entries (suc n)).moment ≡ call_moment c
-
--- the mark of an entry
-pub marked : (c : Call) (r : Reply) (b : Bool) → is_accepted r ≡ b
-    → mark_after c r ≡ (if b then mark (call_of c) else Other)
-marked c (reply.Refused x) true t = absurd (true≢false (sym t))
-marked c (reply.Refused x) false t = refl
-marked c _ true t = (plainly c).mark_is
-marked c _ false t = absurd (true≢false t)
-
 module _ {name : List ℕ} {calls : List Call} {entries : List Entry}
     (run : IsRun name calls entries) where
-  pub at_position : (n : ℕ) (c : Call) (e : Entry) → slice_get calls n ≡ Some c
-      → slice_get entries n ≡ Some e → At calls entries n c e
+  -- the mark and the moment at the position of a call
+  pub position-is : (n : ℕ) (c : Call) (e : Entry) → slice_get calls n ≡ Some c
+      → slice_get entries n ≡ Some e
+      → ((position_at entries (suc n)).mark ≡ mark_after c e.reply)
+      × ((position_at entries (suc n)).moment ≡ call_moment c)
   unfolding position_at
-  at_position n c e ci ei =
-      let ok = run.each n c e ci ei in
-      record { call_is = ci; entry_is = ei; mark_is = rw ei ok.mark; when = rw ei ok.moment }
+  position-is n c e ci ei = let ok = run.each n c e ci ei in (rw ei ok.mark, rw ei ok.moment)
 
   -- a call that is made is a step
   pub step-made : (n : ℕ) (call : keyset.Call) (made : IsMade calls entries n call)
@@ -104,7 +76,7 @@ module _ {name : List ℕ} {calls : List Call} {entries : List Entry}
         × ((position_at entries (suc n)).mark ≡ mark (call_of c)))
     outcome =
         let step = (run.each n c e ci ei).step in
-        let here = (at_position n c e ci ei).mark_is in
+        let here = (position-is n c e ci ei).0 in
         elim (cases_Bool (is_accepted e.reply)) [
           | inl t ↦ let x = did t in inr (
             t,
@@ -112,10 +84,29 @@ module _ {name : List ℕ} {calls : List Call} {entries : List Entry}
             x.1,
             leaves-others old new (call_of c) (reply_of e.reply) step,
             x.2,
-            here ∙ marked c e.reply true t,
+            here ∙ sym (mark-accepted c e.reply t) ∙ (plainly c).mark_is,
           )
-          | inr t ↦ inl (t, idle t, here ∙ marked c e.reply false t)
+          | inr t ↦ inl (t, idle t, here ∙ sym (mark-refused c e.reply t))
         ]
+
+  -- what holds at a position and is kept by each later call
+  pub since : (P : ℕ → Type 0) (s : ℕ) → P s → ((n : ℕ) (c : Call) (e : Entry) → s ≤ n
+      → suc n ≤ length entries → slice_get calls n ≡ Some c → slice_get entries n ≡ Some e → P n
+      → P (suc n)) → (n : ℕ) → s ≤ n → n ≤ length entries → P n
+  since P s begun next zero later within = let same : s ≡ 0 = omega arith in
+      subst P same begun
+  since P s begun next (suc n) later within = elim (cases_lt n s) [
+    | inl lt ↦ let same : s ≡ suc n = omega arith in subst P same begun
+    | inr ge ↦ let x = made-at run n within in next n x.0 x.1 ge within x.2 x.3
+        (since P s begun next n ge (omega arith))
+  ]
+
+  -- an accepted call does what it does for the roll
+  pub does : (f : keyset.Call → Option RollType) (roll : RollType) (n : ℕ) (c : Call) (e : Entry)
+      → slice_get calls n ≡ Some c → slice_get entries n ≡ Some e → is_accepted e.reply ≡ true
+      → f (call_of c) ≡ Some roll → DoesAt f calls entries n roll
+  does f roll n c e ci ei ok is =
+      record { call = c; entry = e; call_is = ci; entry_is = ei; accepted = ok; roll_is = is }
 
   -- the same of a call that is made
   pub did-made : (n : ℕ) (call : keyset.Call) (made : IsMade calls entries n call)
@@ -142,35 +133,23 @@ module _ (set : KeySetParts) (r : RollType) (y : RollState) (there : phase_of se
     module _ (all : RollsTogether set.rolls) where
       beside : (q : RollType) (x : RollState) → phase_of set.rolls q ≡ Some x
           → same_roll q r ≡ false → together q r ≡ true
-      beside q x e aside = elim (all q r (ap is_some e) (ap is_some there)) [
-        | inl same ↦ absurd (true≢false (sym same ∙ aside))
-        | inr t ↦ t
-      ]
-
-      given : (p q : RollType) → Some p ≡ Some q → together p r ≡ true → together q r ≡ true
-      given p q on t = subst (λ p. together p r ≡ true) (same_Some p q on) t
+      beside q x e aside = let both = all q r (ap is_some e) (ap is_some there) in grind arith
 
       -- the roll of each other call goes with it
+      goes_beside : (c : keyset.Call) → keyset.clearance set c ≡ waits.Clear → is_on c r ≡ false
+          → option_map_or (λ (q : RollType). together q r) (roll_of c) true ≡ true
+      goes_beside (keyset.StartRoll q olds news now) v aside = start-beside q olds news now v
+      goes_beside c v aside = grind (arith, beside, v)
+
       pub runs-beside : (c : keyset.Call) → keyset.clearance set c ≡ waits.Clear
           → is_on c r ≡ false → (q : RollType) → roll_of c ≡ Some q → together q r ≡ true
-      runs-beside (keyset.StartRoll p olds news now) v aside q on =
-          given p q on (start-beside p olds news now v)
-      runs-beside (keyset.Report p half ttl now) v aside q on =
-          given p q on (beside p (propagation half) (spreads half _ (no_cause _ v)) aside)
-      runs-beside (keyset.Wait p half now) v aside q on =
-          let w = waits_in_phase p half now (world_of set) v in
-          given p q on (beside p (cache_expire half w.0) w.1 aside)
-      runs-beside (keyset.RollDone p) v aside q on =
-          given p q on (beside p Done (finishes _ (no_cause _ v)) aside)
-      runs-beside (keyset.AbortRoll p) v aside q on =
-          given p q on (beside p Propagation1 (ends_early _ (no_cause _ v)) aside)
-      runs-beside _ v aside q on = absurd (none-some q on)
+      runs-beside c v aside q on = let goes = goes_beside c v aside in grind arith
 
       -- so the call leaves the keys that this roll lists
-      pub leaves-beside : (new : KeySetParts) (c : keyset.Call)
-          → keyset.clearance set c ≡ waits.Clear → is_on c r ≡ false → LeavesOthers set c new
+      pub leaves-beside : (after : KeySetParts) (c : keyset.Call)
+          → keyset.clearance set c ≡ waits.Clear → is_on c r ≡ false → LeavesOthers set c after
           → (p : RollType) → roll_of c ≡ Some p → (q : List ℕ) (k : KeyParts)
-          → get set.keys q ≡ Some k → lists_kind (side_of r) k.keytype ≡ true → get new.keys q
-          ≡ Some k
-      leaves-beside new c v aside leaves p on q k e own =
+          → get set.keys q ≡ Some k → lists_kind (side_of r) k.keytype ≡ true
+          → get after.keys q ≡ Some k
+      leaves-beside after c v aside leaves p on q k e own =
           leaves p q k on e (other p r k.keytype (runs-beside c v aside p on) own)

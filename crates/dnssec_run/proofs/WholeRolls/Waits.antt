@@ -1,138 +1,86 @@
 -- A wait in its phase lasts exactly until the TTL has passed since its report. First, what a wait
 -- is answered if its stamps are known: for `waits`.
-use Rattle.std.proofs.lemmas.Bool.{cases_Bool, false_from_ne_true, true≢false}
-use Rattle.std.proofs.Common.{◌≡◌, ℕ, zero, suc, ◌+◌, ◌-◌, ◌*◌, ◌≤◌, inl, inr, true, false, refl}
-use Rattle.std.proofs.Common.{sym, ◌∙◌, ap, subst, arith, List, Option, None, Some, length}
-use Rattle.std.specs.Prelude.{is_some, if◌then◌else◌, slice_get, unwrap_or}
-use Rattle.std.specs.Option.{option_map_or}
-use Rattle.std.specs.Duration.{as_nanos}
-use Rattle.std.specs.FinMap.{get, get-empty}
-use Rattle.dnssec_key.specs.declared.roll.RollType.{RollType}
-use Rattle.dnssec_base.specs.declared.error.Error.TheVariants.{WrongKeyState}
-use Rattle.dnssec_key.specs.Key.{KeyParts}
-use Rattle.dnssec_run.specs.WholeRolls.{WaitsUntil, IsMade, NeverFalls, LastReport, counts_from}
-use Rattle.dnssec_run.specs.WholeRolls.{WaitsExactly}
-use Rattle.dnssec_keyset.specs.KeySet.{KeySetParts}
-use Rattle.dnssec_zone.specs.Keys.{some_key}
-use Rattle.dnssec_key.specs.RollTable.{Half, First, Second, cache_expire}
-use Rattle.dnssec_zone.specs.Wait.{lacks_stamp, longest_left, time_left, left_since, stamp_read}
-use Rattle.dnssec_zone.specs.Wait.{ttl_in}
-use Rattle.dnssec_keyset.specs.Step as keyset
-use Rattle.dnssec_keyset.proofs.ByClearance.{StepBy, by-clearance}
-use Rattle.dnssec_zone.specs.Wait as waits
-use Rattle.dnssec_zone.proofs.Longest.{longest-is, none-left, some-left}
-use Rattle.dnssec_run.proofs.Chain.Tables.{read, reads-stamp, checked}
-use Rattle.dnssec_run.proofs.Chain.Tale.{stamp_of}
-use Rattle.dnssec_run.proofs.WholeRolls.Armed.{Armed, late-same, late-step, unstamped, NoneLater}
-use Rattle.dnssec_run.proofs.WholeRolls.Armed.{beside-same, is_zds, timed_second, zds_facts}
-use Rattle.dnssec_run.proofs.Laws.{made-at, stays-sound}
-use Rattle.dnssec_run.proofs.WholeRolls.Replies.{outcome, step-made, At, at_position}
-use Rattle.dnssec_run.proofs.WholeRolls.Reports.{Tells, Arms, Data, data-beside, is_report}
-use Rattle.dnssec_run.proofs.WholeRolls.Reports.{data-step, fits_at}
-use Rattle.dnssec_run.proofs.Chain.Facts.{timer, stays_facts}
-use Rattle.dnssec_zone.proofs.Flags.{Late, Keys, Zone, flags_fit}
-use Rattle.std.specs.Ordering.{nat_cmp}
-use Rattle.std.specs.Cmp.Lexicographic.{slice_cmp}
 use Rattle.std.proofs.lemmas.Option.{none-some, slice_get_within}
+use Rattle.std.proofs.Common.{◌≡◌, ℕ, zero, suc, ◌+◌, ◌-◌, ◌*◌, ◌≤◌, inl, inr, true, refl, sym, ◌∙◌}
+use Rattle.std.proofs.Common.{ap, subst, arith, List, Some, length}
+use Rattle.std.specs.{Prelude.slice_get, Prelude.unwrap_or, Cmp.Lexicographic.slice_cmp}
+use Rattle.std.specs.{Ordering.nat_cmp, FinMap.get, FinMap.get-empty}
+use Rattle.dnssec_key.specs.declared.roll.RollType.{RollType, TheVariants.ZskDoubleSignatureRoll}
 use Rattle.dnssec_key.specs.declared.roll.RollState.{RollState}
 use Rattle.dnssec_key.specs.declared.roll.RollState.TheVariants.{CacheExpire1, CacheExpire2}
-use Rattle.dnssec_run.proofs.Premise.{SetsNothing, sets-nothing}
-use Rattle.dnssec_run.proofs.Chain.Trust.{moment, plainly}
-use Rattle.dnssec_zone.specs.Rolls.{phase_of}
-use Rattle.dnssec_run.specs.declared.call.Call.{Call}
-use Rattle.dnssec_run.specs.declared.record.Entry.{Entry}
-use Rattle.dnssec_run.specs.Safe.{position_at, time_at}
-use Rattle.dnssec_run.proofs.Chain.History.{time_grows, time_now, time_mono}
+use Rattle.dnssec_key.specs.RollTable.{Half, First, Second, cache_expire}
+use Rattle.dnssec_zone.specs.{Rolls.phase_of, Wait.longest_left, Wait.time_left}
+use Rattle.dnssec_zone.proofs.Flags.{SideOf, Zone}
+use Rattle.dnssec_zone.proofs.Longest.{longest-is, none-left, some-left}
+use Rattle.dnssec_keyset.specs.KeySet.{KeySetParts}
+use Rattle.dnssec_keyset.proofs.ByClearance.{StepBy, by-clearance}
 use Rattle.dnssec_run.specs.Record.{IsRun, call_of, reply_of, world_at, call_moment}
-use Rattle.dnssec_run.proofs.WholeRolls.Keys.{roll_now}
-use Rattle.dnssec_run.proofs.WholeRolls.Order.{in-order, no_lack, nothing_set, read_there}
-use Rattle.dnssec_run.proofs.Chain.RollFacts.{timed_first}
+use Rattle.dnssec_run.specs.WholeRolls.{WaitsUntil, IsMade, NeverFalls, LastReport, counts_from}
+use Rattle.dnssec_run.specs.WholeRolls.{WaitsExactly}
+use Rattle.dnssec_run.proofs.Chain.History.{time_grows, time_now, time_mono}
+use Rattle.dnssec_run.proofs.WholeRolls.Armed.{Armed, late-step, NoneLater, beside-same, zds}
+use Rattle.dnssec_run.proofs.WholeRolls.Armed.{zds_facts}
+use Rattle.dnssec_run.proofs.WholeRolls.Keys.{Expiring, dates, fits_of, roll_now}
+use Rattle.dnssec_run.proofs.WholeRolls.Order.{by-time, in-order, nothing_set}
+use Rattle.dnssec_run.proofs.WholeRolls.Replies.{outcome, position-is, since, step-made}
+use Rattle.dnssec_run.proofs.WholeRolls.Reports.{Tells, Arms, Data, data-beside, data-step}
+use Rattle.dnssec_run.specs.{declared.call.Call.Call, declared.record.Entry.Entry, Safe.position_at}
+use Rattle.dnssec_run.{specs.Safe.time_at, proofs.Laws.made-at, proofs.Laws.stays-sound}
+use Rattle.dnssec_run.proofs.{Premise.SetsNothing, Premise.sets-nothing, Chain.Facts.stays_facts}
+use Rattle.dnssec_run.proofs.Chain.{RollFacts.timed_first, Tables.reads-stamp, Tables.checked}
+use Rattle.dnssec_run.proofs.{Chain.Trust.moment, Chain.Trust.plainly, WholeRolls.OrderedKeys.Order}
+use Rattle.dnssec_run.proofs.WholeRolls.OrderedKeys.{in-order-at}
+use Rattle.dnssec_zone.specs.Wait as waits
+use Rattle.dnssec_keyset.specs.Step as keyset
 
 -- ---- what a wait is answered if its stamps are known
 
+-- a wait that goes on with this key reads its stamp
+reads : (set : KeySetParts) → ((sd : SideOf) → Order sd set) → (r : RollType) (half : Half)
+    (ttl m : ℕ) → roll_now set r ≡ Some (cache_expire half ttl) → (a : Armed r half m set)
+    → checked r half a.key.1.keytype ≡ true
+reads set h ZskDoubleSignatureRoll Second ttl m e a =
+    (zds_facts a.key.1.keytype).1.1 (fits_of Zone (Expiring Second zds) a.key.1.keytype
+    (dates a.key.1) (in-order-at Zone set (h Zone) a.key.0 a.key.1 a.key.2 zds (CacheExpire2 ttl)
+    (Expiring Second zds) refl refl e)) a.key.3
+reads set h r First ttl m e a = (stays_facts r First a.key.1.keytype a.key.3).check (timed_first r)
+reads set h r Second ttl m e a = (stays_facts r Second a.key.1.keytype a.key.3).check refl
+
 -- the wait's clearance, from the latest stamp that it checks
-module _ (set : KeySetParts) (r : RollType) (half : Half) (ttl now m : ℕ)
-    (armed : Armed r half m set) (le : m ≤ now) (reads : checked r half armed.parts.keytype ≡ true)
-    (stamps : (q : List ℕ) (k : KeyParts) → get set.keys q ≡ Some k
-    → checked r half k.keytype ≡ true → is_some (stamp_of (read r half) k) ≡ true) where
-  abbrev left : KeyParts → ℕ
-  left = time_left r half ttl now
-
-  left_checked : (k : KeyParts) (x : ℕ) → checked r half k.keytype ≡ true
-      → stamp_of (read r half) k ≡ Some x → left k ≡ ttl * 1_000_000_000 - (now - x)
-  left_checked k x c s =
-      ap (λ b. if b then option_map_or (left_since ttl now) (stamp_read r half k) 0 else 0) c
-      ∙ ap (λ o. option_map_or (left_since ttl now) o 0) (reads-stamp r half k.timestamps ∙ s)
-
-  left_unchecked : (k : KeyParts) → checked r half k.keytype ≡ false → left k ≡ 0
-  left_unchecked k c =
-      ap (λ b. if b then option_map_or (left_since ttl now) (stamp_read r half k) 0 else 0) c
-
-  some_stamp : (o : Option ℕ) → is_some o ≡ true → (x : ℕ) × (o ≡ Some x)
-  some_stamp None e = absurd (true≢false (sym e))
-  some_stamp (Some x) e = (x, refl)
-
+module _ (set : KeySetParts) (h : (sd : SideOf) → Order sd set) (r : RollType) (half : Half)
+    (ttl now m : ℕ) (phase : roll_now set r ≡ Some (cache_expire half ttl))
+    (armed : Armed r half m set) (le : m ≤ now) where
   -- no key has more left than the one with the report's stamp
-  at_most : (q : List ℕ) (k : KeyParts) → get set.keys q ≡ Some k
-      → left k ≤ ttl * 1_000_000_000 - (now - m)
-  at_most q k e = elim (cases_Bool (checked r half k.keytype)) [
-    | inl c ↦
-        let x = some_stamp (stamp_of (read r half) k) (stamps q k e c) in
-        let bound : x.0 ≤ m = armed.bound q k x.0 e c x.1 in
-        subst (λ d. d ≤ ttl * 1_000_000_000 - (now - m)) (sym (left_checked k x.0 c x.1))
-        (omega arith)
-    | inr c ↦
-        subst (λ d. d ≤ ttl * 1_000_000_000 - (now - m)) (sym (left_unchecked k c)) (omega arith)
-  ]
-
-  -- the longest that is left
   longest : longest_left r half ttl now set.keys ≡ ttl * 1_000_000_000 - (now - m)
-  longest = longest-is left set.keys (ttl * 1_000_000_000 - (now - m)) at_most armed.key armed.parts
-      armed.there (left_checked armed.parts m reads armed.has_it)
+  longest = longest-is (time_left r half ttl now) set.keys (ttl * 1_000_000_000 - (now - m))
+      (λ q k e. let most = armed.bound q k in
+      grind (arith, most, reads-stamp r half k.timestamps, e))
+      armed.key.0 armed.key.1 armed.key.2
+      (let on = reads set h r half ttl m phase armed in
+      let is = reads-stamp r half armed.key.1.timestamps in
+      let has = armed.has_it in
+      grind arith)
+
+  clearance_is : keyset.wait_clearance r half now set
+      ≡ waits.early_by (ttl * 1_000_000_000 - (now - m))
+  clearance_is = by-time set h r half ttl now phase ∙ ap waits.early_by longest
 
   -- what the wait is answered
   pub answers : (new : KeySetParts) (reply : keyset.Reply)
-      → (some_key (lacks_stamp r half) set.keys ≡ true → ⊥)
-      → StepBy (waits.wait_in_phase r half (Some ttl) now set.keys) set
-      (keyset.Wait r half now) reply new → WaitsUntil (m + ttl * 1_000_000_000) now reply
+      → keyset.Step set (keyset.Wait r half now) reply new
+      → WaitsUntil (m + ttl * 1_000_000_000) now reply
       (keyset.accepted_reply (keyset.Wait r half now))
-  answers new reply whole step =
-      by (ttl * 1_000_000_000 - (now - m)) refl
-      (subst (λ v. StepBy v set (keyset.Wait r half now) reply new) clearance_is step)
+  answers new reply step = record {
+    early = λ lt. let x = by (waits.Early (ttl * 1_000_000_000 - (now - m)))
+        (some-left _ (omega arith)) in (x.0.0, x.0.1, x.0.2 ∙ omega arith);
+    over = λ ge. elim (by waits.Clear (none-left _ (omega arith)))
+        [ inl ok ↦ inl ok.0 | inr memory ↦ inr memory.1 ];
+  }
     where
-      clearance_is : waits.wait_in_phase r half (Some ttl) now set.keys
-          ≡ waits.early_by (ttl * 1_000_000_000 - (now - m))
-      clearance_is =
-          ap (λ b. if b then waits.Barred WrongKeyState
-          else waits.early_by (longest_left r half ttl now set.keys))
-          (false_from_ne_true (some_key (lacks_stamp r half) set.keys) whole)
-          ∙ ap waits.early_by longest
-
-      by : (left : ℕ) → left ≡ ttl * 1_000_000_000 - (now - m)
-          → StepBy (waits.early_by left) set (keyset.Wait r half now) reply new
-          → WaitsUntil (m + ttl * 1_000_000_000) now reply
-          (keyset.accepted_reply (keyset.Wait r half now))
-      by zero is s =
-          let said = subst (λ v. StepBy v set (keyset.Wait r half now) reply new)
-          (none-left 0 (omega arith)) s in
-          record {
-            early = λ lt. absurd (omega arith);
-            over = λ ge. elim said [ inl ok ↦ inl ok.0 | inr memory ↦ inr memory.1 ];
-          }
-      by (suc n) is s =
-          let said = subst (λ v. StepBy v set (keyset.Wait r half now) reply new)
-          (some-left (suc n) (omega arith)) s in
-          let d : as_nanos said.0.0 ≡ suc n = said.0.2 in
-          record {
-            early = λ lt. (said.0.0, said.0.1, omega arith);
-            over = λ ge. absurd (omega arith);
-          }
-
-timer_zds : (r : RollType) → is_zds r ≡ true → timer r ≡ Zone
-timer_zds r zds = grind arith
-
-ttl_of : (h : Half) (ttl : ℕ) → ttl_in h (Some (cache_expire h ttl)) ≡ Some ttl
-ttl_of h ttl = grind arith
+      by : (v : waits.Clearance) → waits.early_by (ttl * 1_000_000_000 - (now - m)) ≡ v
+          → StepBy v set (keyset.Wait r half now) reply new
+      by v is = subst (λ v. StepBy v set (keyset.Wait r half now) reply new) (clearance_is ∙ is)
+          (by-clearance set new (keyset.Wait r half now) reply step)
 
 -- ---- at each position
 
@@ -146,109 +94,59 @@ module _ {name : List ℕ} {calls : List Call} {entries : List Entry} (run : IsR
     data_of : (r : RollType) (p : RollState) → roll_now (set_at n) r ≡ Some p
         → Data entries (set_at n) n r p
 
-  none_above : (o : Option ℕ) (now : ℕ) → ((m : ℕ) → o ≡ Some m → m ≤ now) → unwrap_or o 0 ≤ now
-  none_above None now h = omega arith
-  none_above (Some m) now h = h m refl
-
-  -- no time before a call is later than its moment
-  time_before : (n : ℕ) (c : Call) (now : ℕ) → slice_get calls n ≡ Some c → call_moment c ≡ Some now
-      → (k : ℕ) → k ≤ n → k ≤ length entries → time_at entries k ≤ now
+  -- no time up to a call is later than its moment
+  time_upto : (n : ℕ) (c : Call) (now : ℕ) → slice_get calls n ≡ Some c → call_moment c ≡ Some now
+      → (k : ℕ) → k ≤ suc n → k ≤ length entries → time_at entries k ≤ now
   unfolding time_at
-  time_before n c now ci mo zero le within = omega arith
-  time_before n c now ci mo (suc k) le within =
-      let before = time_before n c now ci mo k (omega arith) (omega arith) in
+  time_upto n c now ci mo zero le within = omega arith
+  time_upto n c now ci mo (suc k) le within =
+      let before = time_upto n c now ci mo k (omega arith) (omega arith) in
       let x = made-at run k within in
-      let a = at_position run k x.0 x.1 x.2 x.3 in
-      let here : unwrap_or (position_at entries (suc k)).moment 0 ≤ now = none_above _ now
-      (λ m e. never k n x.0 c m now (omega arith) x.2 ci (sym a.when ∙ e) mo) in
+      let at = (position-is run k x.0 x.1 x.2 x.3).1 in
+      let most : (m : ℕ) → call_moment x.0 ≡ Some m → m ≤ now =
+      λ m e. never k n x.0 c m now (omega arith) x.2 ci e mo in
+      let here : unwrap_or (position_at entries (suc k)).moment 0 ≤ now = grind (arith, at, most) in
       omega arith
 
-  time_after : (n : ℕ) (c : Call) (e : Entry) (now : ℕ) → n ≤ length entries
-      → At calls entries n c e → call_moment c ≡ Some now → time_at entries (suc n) ≤ now
-  unfolding time_at
-  time_after n c e now within a m =
-      let before = time_before n c now a.call_is m n (omega arith) within in
-      let is : unwrap_or (position_at entries (suc n)).moment 0 ≡ now =
-      ap (λ o. unwrap_or o 0) (a.when ∙ m) in
-      omega arith
-
-  same-clock : (n : ℕ) → set_at (suc n) ≡ set_at n
-      → ((r : RollType) (s : Half) → is_report r s (position_at entries (suc n)).mark ≡ false)
-      → Clock n → Clock (suc n)
-  same-clock n same none h = record {
-    late = late-same (time_at entries n) (time_at entries (suc n)) (time_grows entries n) (set_at n)
-        (set_at (suc n)) h.late same;
-    data_of = λ r p e. data-beside entries r p n (set_at n) (set_at (suc n))
-        (beside-same r (set_at n) (set_at (suc n)) same) (none r)
-        (h.data_of r p (sym (ap (λ (s : KeySetParts). phase_of s.rolls r) same) ∙ e));
-  }
-
-  clock-next : (n : ℕ) (c : Call) (e : Entry) → n ≤ length entries → slice_get calls n ≡ Some c
-      → slice_get entries n ≡ Some e → Clock n → Clock (suc n)
+  clock-next : (n : ℕ) (c : Call) (e : Entry) → suc n ≤ length entries
+      → slice_get calls n ≡ Some c → slice_get entries n ≡ Some e → Clock n → Clock (suc n)
   clock-next n c e within ci ei h = elim (outcome run n c e ci ei) [
-    | inl x ↦ same-clock n x.1 (λ r s. ap (is_report r s) x.2) h
+    | inl x ↦ record {
+      late = λ q k s y at st.
+          let before = h.late q k s y (ap (λ (set : KeySetParts). get set.keys q) (sym x.1) ∙ at)
+          st in
+          let more = time_grows entries n in
+          omega arith;
+      data_of = λ r p at. data-beside entries n (set_at n) (set_at (suc n)) r
+          (beside-same r (set_at n) (set_at (suc n))
+          (λ q. ap (λ (set : KeySetParts). get set.keys q) x.1))
+          (λ s ttl e. let other = sym x.2 ∙ e in cc) p
+          (h.data_of r p (ap (λ (set : KeySetParts). phase_of set.rolls r) (sym x.1) ∙ at));
+    }
     | inr d ↦
-        let a = at_position run n c e ci ei in
         let clean = nothing_set (set_at n) c (plain n c ci) in
-        let mo : (position_at entries (suc n)).moment ≡ moment (call_of c) = a.when
-        ∙ (plainly c).moment_is in
+        let mo : (position_at entries (suc n)).moment ≡ moment (call_of c) =
+        (position-is run n c e ci ei).1 ∙ (plainly c).moment_is in
         let late : NoneLater (time_at entries (suc n)) (set_at (suc n)) =
         late-step (time_at entries n) (time_at entries (suc n)) (time_grows entries n)
-        (set_at n) (set_at (suc n)) h.late (call_of c) clean (unstamped c)
+        (set_at n) (set_at (suc n)) h.late c clean
         (λ now m. time_now entries (suc n) now (mo ∙ m)) d.2 in
         record {
           late = late;
-          data_of = data-step entries n (set_at n) (set_at (suc n)) (in-order run plain Keys n)
-              (in-order run plain Zone n) (stays-sound run n within).rolls (call_of c) clean d.1
-              d.2 d.3 d.5 mo (λ now m q k s x at st. let top = late q k s x at st in
-              let so = time_after n c e now within a ((plainly c).moment_is ∙ m) in
-              omega arith) h.data_of;
+          data_of = data-step entries n (set_at n) (set_at (suc n)) (in-order run plain n)
+              (stays-sound run n (omega arith)).rolls (call_of c) clean d.1 d.2 d.3 d.5 mo
+              (λ now m q k s x at st. let top = late q k s x at st in
+              let so = time_upto n c now ci ((plainly c).moment_is ∙ m) (suc n) (omega arith)
+              within in omega arith) h.data_of;
         }
   ]
 
   clocks : (n : ℕ) → n ≤ length entries → Clock n
   unfolding world_at
-  clocks zero le = record {
+  clocks n within = since run Clock 0 (record {
     late = λ q k s x e f. absurd (none-some k (sym (get-empty (slice_cmp nat_cmp) q) ∙ e));
     data_of = λ r p e. absurd (none-some p e);
-  }
-  clocks (suc n) le = let x = made-at run n le in
-      clock-next n x.0 x.1 (omega arith) x.2 x.3 (clocks n (omega arith))
-
-  checks : (n : ℕ) → n ≤ length entries → (r : RollType) (half : Half) (ttl : ℕ)
-      → roll_now (set_at n) r ≡ Some (cache_expire half ttl)
-      → (m : ℕ) (a : Armed r half m (set_at n)) → checked r half a.parts.keytype ≡ true
-  checks n within r First ttl e m a =
-      (stays_facts r First a.parts.keytype a.goes_on).check (timed_first r)
-  checks n within r Second ttl e m a = elim (cases_Bool (is_zds r)) [
-    | inl zds ↦ (zds_facts r a.parts.keytype zds).reads
-        (ap (λ sd. flags_fit sd (Late r) a.parts.keytype) (sym (timer_zds r zds))
-        ∙ fits_at entries n (set_at n) (set_at n) (in-order run plain Keys n)
-        (in-order run plain Zone n) (stays-sound run n within).rolls r (CacheExpire2 ttl) e a.key
-        a.parts a.there) a.goes_on
-    | inr other ↦ (stays_facts r Second a.parts.keytype a.goes_on).check (timed_second r other)
-  ]
-
-  whole : (n : ℕ) (r : RollType) (half : Half) (ttl now : ℕ)
-      → roll_now (set_at n) r ≡ Some (cache_expire half ttl) → n ≤ length entries
-      → (a : Arms entries (set_at n) n r half) → (c : Call) → slice_get calls n ≡ Some c
-      → call_moment c ≡ Some now → (new : KeySetParts) (reply : keyset.Reply)
-      → StepBy (waits.wait_in_phase r half (Some ttl) now (set_at n).keys)
-      (set_at n) (keyset.Wait r half now) reply new
-      → WaitsUntil (a.0.moment + ttl * 1_000_000_000) now reply
-      (keyset.accepted_reply (keyset.Wait r half now))
-  whole n r half ttl now e within a c ci mo new reply step =
-      let ks = in-order run plain Keys n in
-      let zs = in-order run plain Zone n in
-      let said : a.0.moment ≤ time_at entries a.0.at =
-      time_now entries a.0.at a.0.moment a.0.moment_is in
-      let since : time_at entries a.0.at ≤ time_at entries n =
-      time_mono entries a.0.at n a.0.within in
-      let before : time_at entries n ≤ now = time_before n c now ci mo n (omega arith) within in
-      answers (set_at n) r half ttl now a.0.moment a.1 (omega arith)
-      (checks n within r half ttl e a.0.moment a.1)
-      (λ q k at check. read_there (set_at n) ks zs r half ttl now e q k at check) new reply
-      (no_lack (set_at n) ks zs r half ttl now e) step
+  }) (λ n c e later. clock-next n c e) n (omega arith) within
 
   -- what the record says of the wait, and what the wait is answered
   exactly : (n : ℕ) (r : RollType) (h : Half) (now ttl : ℕ)
@@ -258,24 +156,22 @@ module _ {name : List ℕ} {calls : List Call} {entries : List Entry} (run : IsR
       × (from : LastReport entries r (counts_from r h) n)
       × WaitsUntil (from.moment + last.ttl * 1_000_000_000) now (reply_of wait.entry.reply)
       (keyset.accepted_reply (keyset.Wait r h now))
-  unfolding Data
   exactly n r h now ttl wait phase =
       let d = counted h phase in
-      let in_phase : StepBy (waits.wait_in_phase r h (Some ttl) now (set_at n).keys)
-      (set_at n) (keyset.Wait r h now) (reply_of wait.entry.reply) (set_at (suc n)) =
-      subst (λ o. StepBy (waits.wait_in_phase r h o now (set_at n).keys) (set_at n)
-      (keyset.Wait r h now) (reply_of wait.entry.reply) (set_at (suc n)))
-      (ap (ttl_in h) phase ∙ ttl_of h ttl)
-      (by-clearance (set_at n) (set_at (suc n)) (keyset.Wait r h now) (reply_of wait.entry.reply)
-      (step-made run n (keyset.Wait r h now) wait)) in (
+      let its = phase ∙ ap (λ t. Some (cache_expire h t)) (sym d.1.1) in
+      let mo = (plainly wait.made).moment_is ∙ ap moment wait.call_is in
+      let said : d.0.0.moment ≤ time_at entries d.0.0.at =
+      time_now entries d.0.0.at d.0.0.moment d.0.0.moment_is in
+      let later : time_at entries d.0.0.at ≤ time_at entries n =
+      time_mono entries d.0.0.at n d.0.0.within in
+      let before : time_at entries n ≤ now =
+      time_upto n wait.made now wait.made_is mo n (omega arith) within in (
         d.1.0,
         d.1.1,
         d.0.0,
-        subst (λ t. WaitsUntil (d.0.0.moment + t * 1_000_000_000) now (reply_of wait.entry.reply)
-            (keyset.accepted_reply (keyset.Wait r h now))) (sym d.1.1)
-            (whole n r h ttl now phase within d.0 wait.made wait.made_is
-            ((plainly wait.made).moment_is ∙ ap moment wait.call_is) (set_at (suc n))
-            (reply_of wait.entry.reply) in_phase),
+        answers (set_at n) (in-order run plain n) r h d.1.0.ttl now d.0.0.moment its d.0.1
+            (omega arith) (set_at (suc n)) (reply_of wait.entry.reply)
+            (step-made run n (keyset.Wait r h now) wait),
       )
     where
       within : n ≤ length entries

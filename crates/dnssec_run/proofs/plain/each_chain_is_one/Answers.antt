@@ -1,9 +1,7 @@
 -- The chain by the algorithm of any key of the DS set is a chain.
 use Rattle.std.proofs.Common.{[], ◌∷◌, ◌≡◌, ℕ, List, inl, inr, refl, sym, subst, arith}
 use Rattle.std.specs.List.{Contains}
-use Rattle.dnssec_run.specs.ByAlgorithm.{HasChainByEach}
-use Rattle.dnssec_run.specs.Published.{Id}
-use Rattle.dnssec_run.specs.Safe.{HasChain, Position}
+use Rattle.dnssec_run.specs.{ByAlgorithm.HasChainByEach, Published.Id, Safe.HasChain, Safe.Position}
 use Rattle.dnssec_run.proofs.plain.each_chain_is_one.Goals as goal
 
 one : (algorithm : Id → ℕ) (p q z : Position) → HasChainByEach algorithm p q z → (ds : List Id)

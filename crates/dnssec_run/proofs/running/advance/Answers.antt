@@ -1,15 +1,14 @@
 -- A recorded call is an allowed step, and the positions that are kept go along with it.
-use Rattle.std.proofs.Common.{◌≡◌, List, ℕ, refl, sym, ap, subst, ◌∙◌, Bor}
-use Rattle.std.specs.Option.{option_map}
-use Rattle.std.specs.BTreeMap as tree
-use Rattle.dnssec_keyset.proofs.After.{step-after}
-use Rattle.dnssec_run.specs.Record.{call_of, reply_of, world_after, mark_after, reference_added}
+use Rattle.std.proofs.Common.{◌≡◌, refl, sym, ap, subst, ◌∙◌}
+use Rattle.dnssec_keyset.{proofs.After.step-after, specs.KeySet.KeySetParts}
+use Rattle.dnssec_run.specs.Record.{call_of, reply_of, world_after, mark_after}
 use Rattle.dnssec_run.specs.Recorder.{Agrees, positions_after}
 use Rattle.dnssec_run.proofs.Asked.Changes.{leaves}
 use Rattle.dnssec_run.proofs.Next.{agrees-accepted, agrees-refused, mark-accepted, mark-refused}
+use Rattle.dnssec_run.proofs.running.advance.Goals.{then-is_accepted+in_ok-note, else-is_accepted}
+use Rattle.std.specs.BTreeMap as tree
 use Rattle.dnssec_keyset.specs.Step as keyset
 use Rattle.dnssec_run.proofs.running.advance.Goals as goal
-use Rattle.dnssec_run.proofs.running.advance.Goals.{then-is_accepted+in_ok-note, else-is_accepted}
 
 pub returns-clause-next : goal.returns-clause-next
 returns-clause-next c w agrees =
@@ -23,14 +22,10 @@ returns-clause-next c w agrees =
           (tree.get_by_text c.if-is_accepted.added) a.call r
           (sym c.is_accepted.ensures ∙ b.if-is_accepted.true) agrees step
           (λ q. ap (λ m. tree.get_by_text m q) b.added-is ∙ b.in_ok-note.ensures.ok q
-          ∙ ap (λ put. positions_after a.at put
-          (option_map (λ (r : Bor (List ℕ)). r.now) c.reference_deleted-taken.result)
-          (tree.get_by_text a.added.now) q) c.in_ok-put.ensures.ok
-          ∙ ap (λ taken. positions_after a.at (reference_added (call_of a.call)) taken
-          (tree.get_by_text a.added.now) q) c.reference_deleted-taken.ensures)
+          ∙ (λ i. positions_after a.at (c.in_ok-put.ensures.ok i)
+          (c.reference_deleted-taken.ensures i) (tree.get_by_text a.added.now) q))
       | else-is_accepted b ↦
-          subst (λ m. Agrees set (tree.get_by_text m) (world_after a.at w a.call r))
-          (sym b.added-is)
+          rw b.added-is
           (agrees-refused a.at w a.keyset.now set (tree.get_by_text a.added.now) a.call r
           (sym c.is_accepted.ensures ∙ b.if-is_accepted.false) agrees step)
     ]
@@ -47,19 +42,19 @@ returns-clause-outcome c w agrees =
       | else-is_accepted b ↦ b.mark-is
           ∙ mark-refused a.call r (sym c.is_accepted.ensures ∙ b.if-is_accepted.false)
     ] in
-    let step = subst (λ s. keyset.Step s (call_of a.call) (reply_of r)
-    (world_after a.at w a.call r).set) agrees.same
-    (subst (keyset.Step a.keyset.now (call_of a.call) (reply_of r)) then.same
-    c.make-reply.ensures) in
-    record { step = step; mark = mark; moment = c.moment-moment.ensures }
+    record {
+      step = subst (λ (s : KeySetParts × KeySetParts). keyset.Step s.0 (call_of a.call)
+          (reply_of r) s.1) (λ i. (agrees.same i, then.same i)) c.make-reply.ensures;
+      mark = mark;
+      moment = c.moment-moment.ensures;
+    }
 
 pub returns-clause-leaves : goal.returns-clause-leaves
 returns-clause-leaves c w agrees =
     let a = c.args in
     let r = c.make-reply.result in
-    let by = c.after-touched.ensures in
     leaves a.at w (world_after a.at w a.call r) a.call r (returns-clause-outcome c w agrees).step
-    refl c.after-touched.result
-    (λ no t. let calm = by.ds no t in (sym c.sets_shown.ensures ∙ calm.0, calm.1))
-    (λ no t. let calm = by.dnskey no t in (sym c.sets_shown-2.ensures ∙ calm.0, calm.1))
-    (λ no t. let calm = by.zone_signers no t in (sym c.sets_shown-3.ensures ∙ calm.0, calm.1))
+    refl _
+    (λ no t. let calm = c.touches.ensures no t in (sym c.sets_shown.ensures ∙ calm.0, calm.1))
+    (λ no t. let calm = c.touches-2.ensures no t in (sym c.sets_shown-2.ensures ∙ calm.0, calm.1))
+    (λ no t. let calm = c.touches-3.ensures no t in (sym c.sets_shown-3.ensures ∙ calm.0, calm.1))

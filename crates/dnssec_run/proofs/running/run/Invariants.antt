@@ -1,7 +1,6 @@
 -- The entries so far are the record of the calls so far, and the list has room for the rest.
 use Rattle.std.proofs.Common.{◌≡◌, ◌+◌, ◌≤◌, ◌++◌, length}
-use Rattle.std.specs.Prelude.{vec_capacity}
-use Rattle.std.specs.Vec.Iter.{into_iter_items, into_iter_len}
+use Rattle.std.specs.{Prelude.vec_capacity, Vec.Iter.into_iter_items, Vec.Iter.into_iter_len}
 use Rattle.dnssec_run.specs.Recorder.{Records}
 use Rattle.dnssec_run.proofs.running.run.Given as goal
 

@@ -1,8 +1,8 @@
 -- Each of the four lists is the keys that its set shows.
-use Rattle.std.proofs.Common.{◌≡◌, ◌∙◌, Bool, ap, map, refl, rules}
+use Rattle.std.proofs.Common.{◌≡◌, Bool, rules}
 use Rattle.std.specs.HashMap as hash
 use Rattle.dnssec_key.specs.declared.kind.KeyType.{KeyType}
-use Rattle.dnssec_run.specs.Published.{id_of, in_ds, in_dnskey, signs_dnskey, signs_zone}
+use Rattle.dnssec_run.specs.Published.{in_ds, in_dnskey, signs_dnskey, signs_zone}
 use Rattle.dnssec_run.proofs.Positions.{passing-shown, reads-all, reads-begin, reads-next}
 use Rattle.dnssec_run.proofs.sets.read_sets.Goals as goal
 
@@ -12,13 +12,13 @@ loop-reference-init c =
     let begun : c.into_iter-reference-iterator.result ≡ c.args.added.now.entries = search rules in
     record {
       ds = let new = c.new-ds.ensures in
-          reads-begin in_ds key _ _ _ _ _ begun new.touched new.none refl new.fits;
+          reads-begin in_ds key _ _ _ _ _ begun new.touched new.none new.before new.fits;
       dnskey = let new = c.new-dnskey.ensures in
-          reads-begin in_dnskey key _ _ _ _ _ begun new.touched new.none refl new.fits;
+          reads-begin in_dnskey key _ _ _ _ _ begun new.touched new.none new.before new.fits;
       dnskey_signers = let new = c.new-dnskey_signers.ensures in
-          reads-begin signs_dnskey key _ _ _ _ _ begun new.touched new.none refl new.fits;
+          reads-begin signs_dnskey key _ _ _ _ _ begun new.touched new.none new.before new.fits;
       zone_signers = let new = c.new-zone_signers.ensures in
-          reads-begin signs_zone key _ _ _ _ _ begun new.touched new.none refl new.fits;
+          reads-begin signs_zone key _ _ _ _ _ begun new.touched new.none new.before new.fits;
     }
 
 pub loop-reference-preserved : goal.loop-reference-preserved
@@ -54,22 +54,15 @@ returns-clause-ok c v w was leaves agrees =
     let shown = λ (p : KeyType → Bool). passing-shown p key added set w ordered agrees at in
     record {
       ds = let into = c.into_keys.ensures in
-          reads-all in_ds key _ _ _ _ _ _ v w none inv.ds into.touched
-          (λ t. ap (λ keys. keys.items) (into.left t)) (shown in_ds)
-          (ap (λ keys. map id_of keys.items) c.new-ds.ensures.before ∙ was.ds) leaves.ds;
+          reads-all in_ds key _ _ _ _ _ _ v w none inv.ds into.touched into.left
+          (shown in_ds) was.ds leaves.ds;
       dnskey = let into = c.into_keys-2.ensures in
-          reads-all in_dnskey key _ _ _ _ _ _ v w none inv.dnskey into.touched
-          (λ t. ap (λ keys. keys.items) (into.left t)) (shown in_dnskey)
-          (ap (λ keys. map id_of keys.items) c.new-dnskey.ensures.before ∙ was.dnskey)
-          leaves.dnskey;
+          reads-all in_dnskey key _ _ _ _ _ _ v w none inv.dnskey into.touched into.left
+          (shown in_dnskey) was.dnskey leaves.dnskey;
       dnskey_signers = let into = c.into_keys-3.ensures in
-          reads-all signs_dnskey key _ _ _ _ _ _ v w none inv.dnskey_signers into.touched
-          (λ t. ap (λ keys. keys.items) (into.left t)) (shown signs_dnskey)
-          (ap (λ keys. map id_of keys.items) c.new-dnskey_signers.ensures.before
-          ∙ was.dnskey_signers) leaves.dnskey_signers;
+          reads-all signs_dnskey key _ _ _ _ _ _ v w none inv.dnskey_signers into.touched into.left
+          (shown signs_dnskey) was.dnskey_signers leaves.dnskey_signers;
       zone_signers = let into = c.into_keys-4.ensures in
-          reads-all signs_zone key _ _ _ _ _ _ v w none inv.zone_signers into.touched
-          (λ t. ap (λ keys. keys.items) (into.left t)) (shown signs_zone)
-          (ap (λ keys. map id_of keys.items) c.new-zone_signers.ensures.before ∙ was.zone_signers)
-          leaves.zone_signers;
+          reads-all signs_zone key _ _ _ _ _ _ v w none inv.zone_signers into.touched into.left
+          (shown signs_zone) was.zone_signers leaves.zone_signers;
     }

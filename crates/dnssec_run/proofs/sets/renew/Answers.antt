@@ -1,8 +1,7 @@
 -- Sets that weren't touched stay. After a setter one key is renewed, after another call all are.
 use Rattle.std.proofs.Common.{◌∙◌, subst, sym}
 use Rattle.std.proofs.lemmas.Bool.{or_parts}
-use Rattle.dnssec_run.specs.declared.record.Published.{Published}
-use Rattle.dnssec_run.specs.Published.{IsPublished}
+use Rattle.dnssec_run.specs.{declared.record.Published.Published, Published.IsPublished}
 use Rattle.dnssec_run.proofs.sets.renew.Goals as goal
 
 pub returns-then-not-is_any-clause-read : goal.returns-then-not-is_any-clause-read

@@ -6,7 +6,7 @@ use Rattle.dnssec_run.proofs.running.Recorder.try_clone.Goals as goal
 pub returns-clause-same : goal.returns-clause-same
 returns-clause-same c = record {
   keyset = c.in_ok-try_clone.ensures.same;
-  added = positions-cloned _ _ c.in-Ok.ensures.cases;
+  added = positions-cloned _ _ c.in_ok-added.ensures.cases;
   published = c.in_ok-copy_sets.ensures.ok;
   at = refl;
 }

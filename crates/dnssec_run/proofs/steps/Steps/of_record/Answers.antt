@@ -1,12 +1,11 @@
 -- Each entry is a step of one roll, or of none.
-use Rattle.std.proofs.Common.{◌≡◌, ℕ, suc, ◌+◌, ◌≤◌, sym, ◌∙◌, ap, refl, subst, arith, List, length}
-use Rattle.std.proofs.Common.{Option, None, Some}
-use Rattle.std.specs.Prelude.{if◌then◌else◌, slice_get}
+use Rattle.std.proofs.Common.{◌≡◌, ℕ, suc, ◌+◌, sym, ◌∙◌, ap, refl, arith, List, length, Option}
+use Rattle.std.proofs.Common.{Some}
 use Rattle.std.proofs.lemmas.Option.{slice_get-get_or}
+use Rattle.std.specs.Prelude.{if◌then◌else◌, slice_get}
 use Rattle.dnssec_key.specs.declared.roll.RollType.{RollType}
-use Rattle.dnssec_run.specs.declared.record.Entry.{Entry}
 use Rattle.dnssec_run.specs.Safe.{base_below, is_step, position_at}
-use Rattle.dnssec_run.specs.Steps.{step_of}
+use Rattle.dnssec_run.specs.{declared.record.Entry.Entry, Steps.step_of}
 use Rattle.dnssec_run.proofs.steps.Steps.of_record.Goals as goal
 
 -- one position more
@@ -14,17 +13,11 @@ more : (entries : List Entry) (roll : RollType) (n at : ℕ) (e : Entry) (here :
     → slice_get entries n ≡ Some e → here ≡ base_below entries roll (suc n) → at ≡ suc n
     → (if is_step roll e.mark then Some at else here) ≡ base_below entries roll (suc at)
 unfolding base_below position_at
-more entries roll n at e here there so same =
-    subst (λ k. (if is_step roll e.mark then Some k else here) ≡ base_below entries roll (suc k))
-    (sym same) (rw (there, so) refl)
-
--- below position 1 there is none
-none_below : (entries : List Entry) (roll : RollType) → None ≡ base_below entries roll (suc 0)
-unfolding base_below position_at
-none_below entries roll = refl
+more entries roll n at e here there so same = rw (same, there, so) refl
 
 pub loop-index-init : goal.loop-index-init
-loop-index-init c roll = c.new-steps.ensures roll ∙ none_below c.args.entries.now roll
+unfolding base_below position_at
+loop-index-init c roll = c.new-steps.ensures roll
 
 pub loop-index-preserved : goal.loop-index-preserved
 loop-index-preserved c roll =
@@ -37,7 +30,5 @@ loop-index-preserved c roll =
 
 pub returns : goal.returns
 returns c roll =
-    let end : length c.args.entries.now ≤ c.loop-index.index = c.loop-index-test.false in
-    let up_to : c.loop-index.index ≤ length c.args.entries.now = c.loop-index.auto.index-end in
-    let all : c.loop-index.index ≡ length c.args.entries.now = omega (arith, end, up_to) in
+    let all : c.loop-index.index ≡ length c.args.entries.now = omega arith in
     c.loop-index.invariant roll ∙ ap (λ n. base_below c.args.entries.now roll (suc n)) all

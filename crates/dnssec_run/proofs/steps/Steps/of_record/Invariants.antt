@@ -1,8 +1,7 @@
 -- The last steps so far.
 use Rattle.std.proofs.Common.{◌≡◌, suc}
 use Rattle.dnssec_key.specs.declared.roll.RollType.{RollType}
-use Rattle.dnssec_run.specs.Safe.{base_below}
-use Rattle.dnssec_run.specs.Steps.{step_of}
+use Rattle.dnssec_run.specs.{Safe.base_below, Steps.step_of}
 use Rattle.dnssec_run.proofs.steps.Steps.of_record.Given as goal
 
 abbrev pub invariant-loop-index : goal.invariant-loop-index

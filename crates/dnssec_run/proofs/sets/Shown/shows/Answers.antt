@@ -1,5 +1,0 @@
-use Rattle.std.proofs.Common.{rules}
-use Rattle.dnssec_run.proofs.sets.Shown.shows.Goals as goal
-
-pub returns-in-DnskeySigners-Ksk : goal.returns-in-DnskeySigners-Ksk
-returns-in-DnskeySigners-Ksk c = search rules
