@@ -46,6 +46,7 @@ impl Due {
     }
 
     /// All below this position is retired at the time.
+    #[tactic(auto, using(std::proofs::lemmas::Grind::common_steps))]
     pub(crate) fn over(&self, time: UnixTime) -> usize
         ensures { result ≡ over self.now time }
     {

@@ -1,23 +1,28 @@
 -- Lists of keys: what a test finds, and a test that a key of one piece passes.
 use Rattle.std.proofs.Common.{◌≡◌, ℕ, zero, suc, ◌<◌, Bool, true, refl, sym, ◌∙◌, ap, arith, subst}
 use Rattle.std.proofs.Common.{List, [], ◌∷◌, ◌++◌, length, get_or, drop, take, map}
-use Rattle.std.specs.Bool.{Decides}
-use Rattle.std.specs.List.{Contains, list_any}
-use Rattle.std.specs.Prelude.{◌||◌, flat_map}
 use Rattle.std.proofs.lemmas.Bool.Decides.{Decides-and, Decides-eqb, Decides-like}
-use Rattle.std.proofs.lemmas.List.{take-append-drop}
 use Rattle.std.proofs.lemmas.List.Folds.{Any-from_list_any, list_any-append, list_any-from_Any}
-use Rattle.std.proofs.lemmas.Slice.Eq.{bytes_eq-Decides}
+use Rattle.std.proofs.lemmas.{List.take-append-drop, Slice.Eq.bytes_eq-Decides}
 use Rattle.std.proofs.Math.Bool.{or-true}
+use Rattle.std.specs.{Bool.Decides, List.Contains, List.list_any, Prelude.◌||◌, Prelude.flat_map}
 use Rattle.dnssec_run.specs.Published.{Id}
-use Rattle.dnssec_sets.specs.Chained.{ids_of_piece, is_in, same_id}
-use Rattle.dnssec_sets.specs.declared.list.Piece.{Piece}
+use Rattle.dnssec_sets.specs.Chained.{ids_of_piece, is_in, same_id, shared_id}
+use Rattle.dnssec_sets.specs.declared.{list.Piece.Piece, shared.SharedKey.SharedKey}
 
 -- a test of what elements are
 pub list_any-map : {A B : Type 0} (p : B → Bool) (f : A → B) (xs : List A)
     → list_any p (map f xs) ≡ list_any (λ x. p (f x)) xs
 list_any-map p f [] = refl
 list_any-map p f (x ∷ xs) = ap (λ b. p (f x) || b) (list_any-map p f xs)
+
+-- the other is the same key
+abbrev pub is_same : SharedKey → SharedKey → Bool
+is_same key other = same_id (shared_id other) (shared_id key)
+
+pub in_shared : (key : SharedKey) (keys : List SharedKey)
+    → is_in (map shared_id keys) (shared_id key) ≡ list_any (is_same key) keys
+in_shared key keys = list_any-map (λ other. same_id other (shared_id key)) shared_id keys
 
 -- a test finds a key that passes, if there is one
 pub any-key : (p : Id → Bool) (P : Id → Type 0) → ((k : Id) → Decides (p k) (P k))

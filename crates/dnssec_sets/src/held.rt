@@ -6,7 +6,6 @@ ghost use Rattle.dnssec_sets.specs.Chained.{is_none};
 ghost use Rattle.dnssec_sets.specs.Sets.{keys_hold, parts_of, set_of_held, zone_holds};
 
 use crate::list::KeyList;
-use crate::shared::with_room;
 use crate::sharing::share_list;
 use crate::trust::{Found, Trust, test};
 use dnssec_keyset::Error;
@@ -151,15 +150,14 @@ impl Held {
 }
 
 /// The same sets, which share their keys.
+#[tactic(auto, using(std::proofs::lemmas::Grind::common_steps))]
 pub fn clone_sets(alloc: Global, sets: &[Held]) -> Result<Vec<Held>, Error>
     ensures ok { IfOk result (λ copies. map parts_of copies.items ≡ map parts_of sets.now) }
     ensures err { IfErr result (λ e. e ≡ OutOfMemory) }
 {
-    let mut copies = with_room(alloc, sets.len())?;
+    let mut copies = Vec::with_capacity(alloc, sets.len())?;
     for held in sets {
-        if copies.push(held.try_clone(alloc)?).is_err() {
-            return Err(Error::OutOfMemory);
-        }
+        copies.push(held.try_clone(alloc)?)?;
     }
     Ok(copies)
 }
@@ -169,11 +167,9 @@ pub fn add_set(sets: &mut Vec<Held>, held: Held) -> Result<(), Error>
     ensures items { OnOk result (sets.new.items ≡ sets.old.items ++ held ∷ []) }
     ensures err { IfErr result (λ e. e ≡ OutOfMemory) }
 {
-    if sets.len() < ONE_BY_ONE && sets.reserve_exact(1).is_err() {
-        return Err(Error::OutOfMemory);
+    if sets.len() < ONE_BY_ONE {
+        sets.reserve_exact(1)?;
     }
-    match sets.push(held) {
-        Ok(()) => Ok(()),
-        Err(_) => Err(Error::OutOfMemory),
-    }
+    sets.push(held)?;
+    Ok(())
 }

@@ -6,7 +6,7 @@ ghost use Rattle.dnssec_run.specs.Published.{Id, id_of};
 ghost use Rattle.dnssec_sets.specs.Chained.{ids_in, ids_of_piece, is_in, is_none, shared_id};
 
 use crate::place::{SHORT, beside, is_at, is_found, is_in, place_of};
-use crate::shared::{SharedKey, are_same, share_all, with_room};
+use crate::shared::{SharedKey, are_same, share_all};
 use dnssec_keyset::Error;
 use dnssec_run::PublishedKey;
 use std::alloc::Global;
@@ -19,15 +19,13 @@ pub(crate) struct Piece {
 }
 
 impl Piece {
-    /// A piece of these keys.
+    /// A piece with the keys.
     pub(crate) fn new(alloc: Global, keys: Vec<SharedKey>) -> Result<Self, Error>
         ensures ok { IfOk result (λ piece. ids_of_piece piece ≡ map shared_id keys.items) }
         ensures err { IfErr result (λ e. e ≡ OutOfMemory) }
     {
-        match Arc::new(alloc, keys) {
-            Ok(keys) => Ok(Piece { keys }),
-            Err(_) => Err(Error::OutOfMemory),
-        }
+        let keys = Arc::new(alloc, keys)?;
+        Ok(Piece { keys })
     }
 
     /// The same piece, for one list more.
@@ -35,10 +33,8 @@ impl Piece {
         ensures ok { IfOk result (λ piece. ids_of_piece piece ≡ ids_of_piece self.now) }
         ensures err { IfErr result (λ e. e ≡ OutOfMemory) }
     {
-        match self.keys.clone() {
-            Ok(keys) => Ok(Piece { keys }),
-            Err(_) => Err(Error::OutOfMemory),
-        }
+        let keys = self.keys.clone()?;
+        Ok(Piece { keys })
     }
 
     /// Its keys, in the order of the list.
@@ -77,7 +73,7 @@ impl Place {
     pub(crate) const FIRST: Place = Place { piece: 0, at: 0 };
 
     /// The place after it in the same piece.
-    pub(crate) fn next(self) -> Place {
+    fn next(self) -> Place {
         Place {
             piece: self.piece,
             at: self.at.saturating_add(1),
@@ -86,7 +82,7 @@ impl Place {
 }
 
 impl KeyList {
-    /// A list of these keys, which is whole.
+    /// A list of the keys, which is whole.
     pub(crate) fn whole(alloc: Global, keys: Vec<SharedKey>) -> Result<Self, Error>
         ensures ok { IfOk result (λ list. ids_in list ≡ map shared_id keys.items) }
         ensures err { IfErr result (λ e. e ≡ OutOfMemory) }
@@ -94,21 +90,15 @@ impl KeyList {
         if has_none(&keys) {
             return Ok(KeyList::Empty);
         }
-        match Box::new(alloc, keys) {
-            Ok(keys) => Ok(KeyList::Whole(keys)),
-            Err(_) => Err(Error::OutOfMemory),
-        }
+        Ok(KeyList::Whole(Box::new(alloc, keys)?))
     }
 
-    /// A list of these pieces.
+    /// A list of the pieces.
     pub(crate) fn of_pieces(alloc: Global, pieces: Vec<Piece>) -> Result<Self, Error>
         ensures ok { IfOk result (λ list. ids_in list ≡ flat_map ids_of_piece pieces.items) }
         ensures err { IfErr result (λ e. e ≡ OutOfMemory) }
     {
-        match Box::new(alloc, pieces) {
-            Ok(pieces) => Ok(KeyList::Pieces(pieces)),
-            Err(_) => Err(Error::OutOfMemory),
-        }
+        Ok(KeyList::Pieces(Box::new(alloc, pieces)?))
     }
 
     /// The same list, which shares its keys.
@@ -204,6 +194,7 @@ impl KeyList {
     }
 
     /// Whether a search finds the key. In a list that isn't in order it may stand elsewhere.
+    #[tactic(auto, using(std::proofs::lemmas::Grind::common_steps))]
     pub(crate) fn finds(&self, key: &SharedKey) -> bool
         ensures { result ≡ true → is_in (ids_in self.now) (shared_id key.now) ≡ true }
     {
@@ -211,6 +202,7 @@ impl KeyList {
     }
 
     /// Whether the key stands at this place.
+    #[tactic(auto, using(std::proofs::lemmas::Grind::common_steps))]
     pub(crate) fn is_at(&self, key: &SharedKey, place: Place) -> bool
         ensures { result ≡ true → is_in (ids_in self.now) (shared_id key.now) ≡ true }
     {
@@ -229,12 +221,7 @@ impl KeyList {
     }
 
     /// The key, shared with that of the list if it stands at this place.
-    pub(crate) fn share_at(
-        &self,
-        alloc: Global,
-        key: &PublishedKey,
-        place: Place,
-    ) -> Result<SharedKey, Error>
+    fn share_at(&self, alloc: Global, key: &PublishedKey, place: Place) -> Result<SharedKey, Error>
         ensures ok { IfOk result (λ shared. shared_id shared ≡ id_of key.now) }
         ensures err { IfErr result (λ e. e ≡ OutOfMemory) }
     {
@@ -243,19 +230,38 @@ impl KeyList {
             _ => SharedKey::new(alloc, key),
         }
     }
+
+    /// These keys, each shared with that of the list if a search finds it.
+    #[tactic(auto, using(std::proofs::lemmas::Grind::common_steps))]
+    pub(crate) fn share_found(
+        &self,
+        alloc: Global,
+        keys: &[PublishedKey],
+    ) -> Result<Vec<SharedKey>, Error>
+        ensures ok { IfOk result (λ shared. map shared_id shared.items ≡ map id_of keys.now) }
+        ensures err { IfErr result (λ e. e ≡ OutOfMemory) }
+    {
+        let mut shared = Vec::with_capacity(alloc, keys.len())?;
+        let mut place = Place::FIRST;
+        for key in keys {
+            place = self.near(key, place);
+            shared.push(self.share_at(alloc, key, place)?)?;
+            place = place.next();
+        }
+        Ok(shared)
+    }
 }
 
 /// The same pieces.
+#[tactic(auto, using(std::proofs::lemmas::Grind::common_steps))]
 fn share_pieces(alloc: Global, pieces: &[Piece]) -> Result<Vec<Piece>, Error>
     ensures ok { IfOk result (λ shared.
         flat_map ids_of_piece shared.items ≡ flat_map ids_of_piece pieces.now) }
     ensures err { IfErr result (λ e. e ≡ OutOfMemory) }
 {
-    let mut shared = with_room(alloc, pieces.len())?;
+    let mut shared = Vec::with_capacity(alloc, pieces.len())?;
     for piece in pieces {
-        if shared.push(piece.share()?).is_err() {
-            return Err(Error::OutOfMemory);
-        }
+        shared.push(piece.share()?)?;
     }
     Ok(shared)
 }

@@ -10,6 +10,7 @@ pub(crate) const SHORT: usize = 8;
 
 /// Whether a list has the key. It is first looked for at its place: the lists of a run are in
 /// order, but those of another record may not be.
+#[tactic(auto, using(crate::proofs::Lists::in_shared))]
 pub(crate) fn is_in(keys: &[SharedKey], key: &SharedKey) -> bool
     ensures { result ≡ is_in (map shared_id keys.now) (shared_id key.now) }
 {

@@ -1,5 +1,5 @@
 //! Keys that the sets of a judge share.
-ghost use Rattle.std.specs.Prelude.{◌≡◌, [], map, true, IfOk, IfErr};
+ghost use Rattle.std.specs.Prelude.{◌≡◌, map, true, IfOk, IfErr};
 ghost use Rattle.dnssec_base.specs.declared.error.Error.TheVariants.{OutOfMemory};
 ghost use Rattle.dnssec_run.specs.Published.{id_of};
 ghost use Rattle.dnssec_sets.specs.Chained.{same_id, shared_id};
@@ -22,14 +22,10 @@ impl SharedKey {
         ensures ok { IfOk result (λ shared. shared_id shared ≡ id_of key.now) }
         ensures err { IfErr result (λ e. e ≡ OutOfMemory) }
     {
-        let Ok(reference) = key.reference.clone() else {
-            return Err(Error::OutOfMemory);
-        };
+        let reference = key.reference.clone()?;
         let added = key.added;
-        match Arc::new(alloc, PublishedKey { added, reference }) {
-            Ok(key) => Ok(SharedKey { key }),
-            Err(_) => Err(Error::OutOfMemory),
-        }
+        let key = Arc::new(alloc, PublishedKey { added, reference })?;
+        Ok(SharedKey { key })
     }
 
     /// The same key, for one set more.
@@ -37,10 +33,8 @@ impl SharedKey {
         ensures ok { IfOk result (λ shared. shared_id shared ≡ shared_id self.now) }
         ensures err { IfErr result (λ e. e ≡ OutOfMemory) }
     {
-        match self.key.clone() {
-            Ok(key) => Ok(SharedKey { key }),
-            Err(_) => Err(Error::OutOfMemory),
-        }
+        let key = self.key.clone()?;
+        Ok(SharedKey { key })
     }
 
     /// Whether it is this key.
@@ -51,19 +45,9 @@ impl SharedKey {
     }
 }
 
-/// An empty list with room for so many elements.
-pub(crate) fn with_room<T>(alloc: Global, count: usize) -> Result<Vec<T>, Error>
-    ensures ok { IfOk result (λ list. list.items ≡ []) }
-    ensures err { IfErr result (λ e. e ≡ OutOfMemory) }
-{
-    match Vec::with_capacity(alloc, count) {
-        Ok(list) => Ok(list),
-        Err(_) => Err(Error::OutOfMemory),
-    }
-}
-
 /// The keys of a list, each shared with the key of before if that is the same. Both lists should be
 /// in the order of their references; else fewer keys are shared.
+#[tactic(auto, using(std::proofs::lemmas::Grind::common_steps))]
 pub(crate) fn share_keys(
     alloc: Global,
     keys: &[PublishedKey],
@@ -72,14 +56,12 @@ pub(crate) fn share_keys(
     ensures ok { IfOk result (λ shared. map shared_id shared.items ≡ map id_of keys.now) }
     ensures err { IfErr result (λ e. e ≡ OutOfMemory) }
 {
-    let mut shared = with_room(alloc, keys.len())?;
+    let mut shared = Vec::with_capacity(alloc, keys.len())?;
     let mut before = before;
     for key in keys {
         let (copy, rest) = share_next(alloc, before, key)?;
         before = rest;
-        if shared.push(copy).is_err() {
-            return Err(Error::OutOfMemory);
-        }
+        shared.push(copy)?;
     }
     Ok(shared)
 }
@@ -113,15 +95,14 @@ fn share_next<'a>(
 }
 
 /// A list of the same keys.
+#[tactic(auto, using(std::proofs::lemmas::Grind::common_steps))]
 pub(crate) fn share_all(alloc: Global, keys: &[SharedKey]) -> Result<Vec<SharedKey>, Error>
     ensures ok { IfOk result (λ shared. map shared_id shared.items ≡ map shared_id keys.now) }
     ensures err { IfErr result (λ e. e ≡ OutOfMemory) }
 {
-    let mut shared = with_room(alloc, keys.len())?;
+    let mut shared = Vec::with_capacity(alloc, keys.len())?;
     for key in keys {
-        if shared.push(key.share()?).is_err() {
-            return Err(Error::OutOfMemory);
-        }
+        shared.push(key.share()?)?;
     }
     Ok(shared)
 }

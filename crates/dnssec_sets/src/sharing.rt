@@ -4,8 +4,8 @@ ghost use Rattle.dnssec_base.specs.declared.error.Error.TheVariants.{OutOfMemory
 ghost use Rattle.dnssec_run.specs.Published.{id_of};
 ghost use Rattle.dnssec_sets.specs.Chained.{ids_in, ids_of_piece, shared_id};
 
-use crate::list::{KeyList, Piece, Place};
-use crate::shared::{SharedKey, are_same, share_keys, with_room};
+use crate::list::{KeyList, Piece};
+use crate::shared::{SharedKey, are_same, share_keys};
 use dnssec_keyset::Error;
 use dnssec_run::PublishedKey;
 use std::alloc::Global;
@@ -16,7 +16,7 @@ const MOST: usize = 64;
 /// How many keys each piece gets if they are too many for one.
 const CUT: usize = 40;
 
-/// The list of these keys. It shares pieces with the list before it, and keys with a list that has
+/// The list of some keys. It shares pieces with the list before it, and keys with a list that has
 /// them. All should be in the order of their references; else less is shared.
 pub(crate) fn share_list(
     alloc: Global,
@@ -42,7 +42,7 @@ pub(crate) fn share_list(
     }
 }
 
-/// The pieces of these keys, which shares those that didn't change. The keys of a changed piece are
+/// The pieces of some keys, which shares those that didn't change. The keys of a changed piece are
 /// those up to the first key of the next one.
 fn share_groups(
     alloc: Global,
@@ -53,7 +53,7 @@ fn share_groups(
     ensures ok { IfOk result (λ pieces. flat_map ids_of_piece pieces.items ≡ map id_of keys.now) }
     ensures err { IfErr result (λ e. e ≡ OutOfMemory) }
 {
-    let mut pieces = with_room(alloc, before.len())?;
+    let mut pieces = Vec::with_capacity(alloc, before.len())?;
     let mut rest = keys;
     for (index, piece) in before.iter().enumerate() {
         let count = count_below(rest, piece.keys().len(), before.get(index + 1));
@@ -134,13 +134,11 @@ fn add_piece(mut pieces: Vec<Piece>, piece: Piece) -> Result<Vec<Piece>, Error>
         ≡ flat_map ids_of_piece pieces.items ++ ids_of_piece piece) }
     ensures err { IfErr result (λ e. e ≡ OutOfMemory) }
 {
-    match pieces.push(piece) {
-        Ok(()) => Ok(pieces),
-        Err(_) => Err(Error::OutOfMemory),
-    }
+    pieces.push(piece)?;
+    Ok(pieces)
 }
 
-/// A new piece of these keys.
+/// A new piece with the keys.
 fn new_piece(alloc: Global, keys: &[PublishedKey], source: &KeyList) -> Result<Piece, Error>
     ensures ok { IfOk result (λ piece. ids_of_piece piece ≡ map id_of keys.now) }
     ensures err { IfErr result (λ e. e ≡ OutOfMemory) }
@@ -160,27 +158,6 @@ fn share_from(
     match source {
         KeyList::Empty => share_keys(alloc, keys, &[]),
         KeyList::Whole(source) => share_keys(alloc, keys, source.as_slice()),
-        KeyList::Pieces(_) => share_found(alloc, keys, source),
+        KeyList::Pieces(_) => source.share_found(alloc, keys),
     }
-}
-
-/// These keys, each shared with that of a long list if a search finds it.
-fn share_found(
-    alloc: Global,
-    keys: &[PublishedKey],
-    source: &KeyList,
-) -> Result<Vec<SharedKey>, Error>
-    ensures ok { IfOk result (λ shared. map shared_id shared.items ≡ map id_of keys.now) }
-    ensures err { IfErr result (λ e. e ≡ OutOfMemory) }
-{
-    let mut shared = with_room(alloc, keys.len())?;
-    let mut place = Place::FIRST;
-    for key in keys {
-        place = source.near(key, place);
-        if shared.push(source.share_at(alloc, key, place)?).is_err() {
-            return Err(Error::OutOfMemory);
-        }
-        place = place.next();
-    }
-    Ok(shared)
 }

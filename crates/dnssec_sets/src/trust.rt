@@ -17,16 +17,6 @@ pub struct Found<'a> {
 }
 
 impl<'a> Found<'a> {
-    /// A key of which no place is known.
-    fn new(key: &'a SharedKey) -> Self {
-        Found {
-            key,
-            first: Place::FIRST,
-            dnskey: Place::FIRST,
-            signers: Place::FIRST,
-        }
-    }
-
     /// The same key, if a search finds it in the next sets too.
     fn again(
         self,
@@ -109,15 +99,22 @@ pub(crate) fn test<'a>(
     }
 }
 
-/// The key for the next test, if a list is long. Short lists are as fast read anew.
+/// The key for the next test, if a list is long. No place of it is known yet. Short lists are as
+/// fast read anew.
 fn for_next<'a>(key: &'a SharedKey, one: &KeyList, other: &KeyList) -> Option<Found<'a>> {
     if one.is_short() && other.is_short() {
         return None;
     }
-    Some(Found::new(key))
+    Some(Found {
+        key,
+        first: Place::FIRST,
+        dnskey: Place::FIRST,
+        signers: Place::FIRST,
+    })
 }
 
 /// A key of the first list that a search finds in the others.
+#[tactic(auto, using(std::proofs::lemmas::Grind::common_steps))]
 fn find<'a>(
     first: &'a KeyList,
     dnskey: &KeyList,

@@ -48,15 +48,17 @@ impl Window {
             .all(|held| held.has_left(begin) || held.has_no_keys())
     }
 
-    /// Whether each DS set that came at position `tested` or later trusts each DNSKEY set.
-    pub(crate) fn new_ds_trust(&self, dnskey: &Window, tested: usize) -> bool
+    /// Whether each set that came at position `tested` or later holds with each set of the other
+    /// window.
+    #[inline(always)]
+    pub(crate) fn new_hold(&self, other: &Window, pair: Pair, tested: usize) -> bool
         ensures { result ≡ list_all (newly (begin_of self.now.spans.items) tested (λ p. list_all
-            (lasting (begin_of dnskey.now.spans.items) (λ q. keys_hold p q))
-            dnskey.now.sets.items)) self.now.sets.items }
+            (lasting (begin_of other.now.spans.items) (pair_holds pair p)) other.now.sets.items))
+            self.now.sets.items }
     {
         let begin = self.begin();
-        self.sets.iter().all(|ds| {
-            ds.has_left(begin) || ds.is_tested(tested) || dnskey.all_hold(Pair::KeysOfDs, ds)
+        self.sets.iter().all(|held| {
+            held.has_left(begin) || held.is_tested(tested) || other.all_hold(pair, held)
         })
     }
 
@@ -73,21 +75,6 @@ impl Window {
             dnskey.has_left(begin)
                 || dnskey.is_tested(tested)
                 || ds.all_hold(Pair::DsOfKeys, dnskey) && zone.all_hold(Pair::SignersOfKeys, dnskey)
-        })
-    }
-
-    /// Whether all zone signers that came at position `tested` or later are trusted by each DNSKEY
-    /// set.
-    pub(crate) fn new_signers_sign(&self, dnskey: &Window, tested: usize) -> bool
-        ensures { result ≡ list_all (newly (begin_of self.now.spans.items) tested (λ z. list_all
-            (lasting (begin_of dnskey.now.spans.items) (λ q. zone_holds q z))
-            dnskey.now.sets.items)) self.now.sets.items }
-    {
-        let begin = self.begin();
-        self.sets.iter().all(|zone| {
-            zone.has_left(begin)
-                || zone.is_tested(tested)
-                || dnskey.all_hold(Pair::KeysOfSigners, zone)
         })
     }
 

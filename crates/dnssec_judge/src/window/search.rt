@@ -11,7 +11,7 @@ use crate::verdict::Broken;
 use dnssec_sets::Held;
 
 impl Window {
-    /// The first of these DS sets, with a DNSKEY set and zone signers, that has no chain.
+    /// The window's first DS set, with a DNSKEY set and zone signers, that has no chain.
     pub(crate) fn find_ds(&self, dnskey: &Window, zone: &Window, at: usize) -> Option<Broken>
         ensures { result ≡ first_ds at self.now.floor (stretches_of self.now)
             dnskey.now.floor (stretches_of dnskey.now) zone.now.floor (stretches_of zone.now) }
@@ -26,7 +26,9 @@ impl Window {
         None
     }
 
-    /// The first of these DNSKEY sets, with zone signers, that leaves the DS set without a chain.
+    /// The window's first DNSKEY set, with zone signers, that leaves the DS set without a chain.
+    /// There is no search if the DS set is empty, or if it trusts all DNSKEY sets and they trust
+    /// all zone signers. So among many DS sets only the first broken one takes a search of both.
     fn find_for(
         &self,
         zone: &Window,
@@ -40,28 +42,9 @@ impl Window {
         ensures { result ≡ first_keys at from (set_of_any (option_copied ds.entry))
             self.now.floor (stretches_of self.now) zone.now.floor (stretches_of zone.now) }
     {
-        match ds {
-            Some(ds) => self.find_with(zone, is_trusted, ds, from, at),
-            None => None,
-        }
-    }
-
-    /// The same for a DS set that there is. There is no search if it is empty, or if it trusts all
-    /// DNSKEY sets and they trust all zone signers. So among many DS sets only the first broken one
-    /// takes a search of both.
-    fn find_with(
-        &self,
-        zone: &Window,
-        is_trusted: bool,
-        ds: &Held,
-        from: usize,
-        at: usize,
-    ) -> Option<Broken>
-        requires { is_trusted ≡ all_pass (λ q. all_pass (λ z. zone_holds q z)
-            (stretches_of zone.now)) (stretches_of self.now) }
-        ensures { result ≡ first_keys at from (set_of_held ds.now)
-            self.now.floor (stretches_of self.now) zone.now.floor (stretches_of zone.now) }
-    {
+        let Some(ds) = ds else {
+            return None;
+        };
         if ds.has_no_keys() {
             return None;
         }
@@ -71,7 +54,7 @@ impl Window {
         self.find_keys(zone, ds, from, at)
     }
 
-    /// Whether each of these DNSKEY sets trusts all of the zone signers.
+    /// Whether each DNSKEY set of the window trusts all zone signers.
     fn trust_all(&self, zone: &Window) -> bool
         ensures { result ≡ all_pass (λ q. all_pass (λ z. zone_holds q z) (stretches_of zone.now))
             (stretches_of self.now) }
@@ -84,7 +67,7 @@ impl Window {
         true
     }
 
-    /// Whether the DNSKEY set trusts all of these zone signers.
+    /// Whether the DNSKEY set trusts all zone signers of the window.
     fn are_all_signers(&self, dnskey: Option<&Held>) -> bool
         ensures { result ≡ all_pass (λ z. zone_holds (set_of_any (option_copied dnskey.entry)) z)
             (stretches_of self.now) }
@@ -97,7 +80,7 @@ impl Window {
         true
     }
 
-    /// Whether the DS set trusts each of these DNSKEY sets.
+    /// Whether the DS set trusts each DNSKEY set of the window.
     fn are_all_trusted(&self, ds: &Held) -> bool
         ensures { result ≡ all_pass (λ q. keys_hold (set_of_held ds.now) q)
             (stretches_of self.now) }
@@ -110,7 +93,7 @@ impl Window {
         true
     }
 
-    /// The first of these DNSKEY sets, with zone signers, that leaves the DS set without a chain.
+    /// The same by a search of the window.
     fn find_keys(&self, zone: &Window, ds: &Held, from: usize, at: usize) -> Option<Broken>
         ensures { result ≡ first_keys at from (set_of_held ds.now)
             self.now.floor (stretches_of self.now) zone.now.floor (stretches_of zone.now) }
@@ -168,6 +151,7 @@ fn has_trusted(ds: &Held, dnskey: Option<&Held>) -> bool
 }
 
 /// Whether a key of the DNSKEY set signs the zone.
+#[tactic(auto, using(crate::proofs::Verdicts::Chains::no_key_signs))]
 fn has_signer(dnskey: Option<&Held>, zone: Option<&Held>) -> bool
     ensures { result ≡ zone_holds (set_of_any (option_copied dnskey.entry))
         (set_of_any (option_copied zone.entry)) }

@@ -1,6 +1,5 @@
 -- The pieces that are left have the answer.
-use Rattle.std.proofs.Common.{◌≡◌, drop}
-use Rattle.std.specs.Prelude.{flat_map}
+use Rattle.std.{proofs.Common.◌≡◌, proofs.Common.drop, specs.Prelude.flat_map}
 use Rattle.dnssec_sets.specs.Chained.{ids_of_piece, is_none}
 use Rattle.dnssec_sets.proofs.list.are_empty.Given as goal
 

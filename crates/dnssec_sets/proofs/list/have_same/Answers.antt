@@ -1,10 +1,8 @@
 -- A piece has the next of the keys.
 use Rattle.std.proofs.Common.{◌≡◌, ◌∷◌, ◌+◌, ◌++◌, sym, ◌∙◌, ap, drop, map}
-use Rattle.std.specs.Prelude.{flat_map}
-use Rattle.std.proofs.lemmas.List.{drop_more, map-append}
+use Rattle.std.{specs.Prelude.flat_map, proofs.lemmas.List.drop_more, proofs.lemmas.List.map-append}
 use Rattle.dnssec_run.specs.Published.{id_of}
-use Rattle.dnssec_sets.specs.Chained.{ids_of_piece}
-use Rattle.dnssec_sets.proofs.Lists.{joined}
+use Rattle.dnssec_sets.{specs.Chained.ids_of_piece, proofs.Lists.joined}
 use Rattle.dnssec_sets.proofs.list.have_same.Goals as goal
 
 pub loop-piece-preserved : goal.loop-piece-preserved

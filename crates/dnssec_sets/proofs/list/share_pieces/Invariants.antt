@@ -1,6 +1,5 @@
 -- The pieces so far.
-use Rattle.std.proofs.Common.{◌≡◌, take}
-use Rattle.std.specs.Prelude.{flat_map}
+use Rattle.std.{proofs.Common.◌≡◌, proofs.Common.take, specs.Prelude.flat_map}
 use Rattle.dnssec_sets.specs.Chained.{ids_of_piece}
 use Rattle.dnssec_sets.proofs.list.share_pieces.Given as goal
 

@@ -1,24 +1,19 @@
 -- What a search finds is in the list; if the list is in order, what is in it is found.
-use Rattle.std.proofs.Common.{◌≡◌, ◌<◌, ℕ, Bool, true, false, List, inl, inr, sym, ap, ◌∙◌, get_or}
+use Rattle.std.proofs.Common.{◌≡◌, ◌<◌, ℕ, true, false, List, inl, inr, sym, ap, ◌∙◌, get_or}
 use Rattle.std.proofs.Common.{length, string_bytes, arith, rules, ◌+◌}
-use Rattle.std.specs.Prelude.{◌==◌, IsSortedBy}
-use Rattle.std.specs.declared.cmp.Ordering.{Ordering}
-use Rattle.std.specs.declared.cmp.Ordering.TheVariants.{Less, Equal, Greater}
-use Rattle.std.specs.Cmp.Lexicographic.{slice_cmp, nat_list_cmp_total}
-use Rattle.std.specs.List.{Any, list_any}
-use Rattle.std.specs.List.Sorted.{IsNonDecreasingBy, IsPartitionPoint}
-use Rattle.std.specs.Ordering.{nat_cmp, is_lt, ordering_index, ordering_reverse}
 use Rattle.std.proofs.lemmas.Bool.{cases_lt, false_from_ne_true, true≢false}
-use Rattle.std.proofs.lemmas.Bool.Decides.{same_from_decides}
-use Rattle.std.proofs.lemmas.Cmp.{tied_itself}
-use Rattle.std.proofs.lemmas.Fn.{always_returns_same}
-use Rattle.std.proofs.lemmas.List.{get_or_default}
 use Rattle.std.proofs.lemmas.List.Folds.{Any-from_list_any, list_any-from_Any, list_any_at}
+use Rattle.std.proofs.lemmas.{Bool.Decides.same_from_decides, Cmp.tied_itself}
+use Rattle.std.proofs.lemmas.{Fn.always_returns_same, List.get_or_default}
 use Rattle.std.proofs.lemmas.List.Sorted.{searchable_from_sorted}
-use Rattle.dnssec_sets.specs.declared.shared.SharedKey.{SharedKey}
-use Rattle.dnssec_sets.specs.Chained.{IsInOrder, same_id, shared_id}
+use Rattle.std.specs.declared.cmp.Ordering.TheVariants.{Less, Equal, Greater}
+use Rattle.std.specs.Ordering.{nat_cmp, is_lt, ordering_index, ordering_reverse}
+use Rattle.std.specs.{Prelude.◌==◌, Prelude.IsSortedBy, declared.cmp.Ordering.Ordering}
+use Rattle.std.specs.{Cmp.Lexicographic.slice_cmp, Cmp.Lexicographic.nat_list_cmp_total, List.Any}
+use Rattle.std.specs.List.{list_any, Sorted.IsNonDecreasingBy, Sorted.IsPartitionPoint}
+use Rattle.dnssec_sets.specs.{declared.shared.SharedKey.SharedKey, Chained.IsInOrder}
+use Rattle.dnssec_sets.proofs.Lists.{in_shared, is_same, same-id}
 use Rattle.dnssec_sets.proofs.place.is_at_its_place.Goals as goal
-use Rattle.dnssec_sets.proofs.Lists.{list_any-map, same-id}
 
 abbrev reference : SharedKey → List ℕ
 reference key = string_bytes key.key.value.reference
@@ -26,9 +21,6 @@ reference key = string_bytes key.key.value.reference
 -- how a reference stands to that of the key
 abbrev stands : SharedKey → SharedKey → Ordering
 stands key other = slice_cmp nat_cmp (reference other) (reference key)
-
-abbrev is_same : SharedKey → SharedKey → Bool
-is_same key other = same_id (shared_id other) (shared_id key)
 
 -- the same key has the same reference
 same-reference : (key other : SharedKey) → is_same key other ≡ true → stands key other ≡ Equal
@@ -101,7 +93,7 @@ module _ (key : SharedKey) (keys : List SharedKey) (order : IsInOrder keys) wher
 pub returns-in-Ok-clause-found : goal.returns-in-Ok-clause-found
 returns-in-Ok-clause-found c is =
     let key = c.args.key.now in
-    list_any-map (λ other. same_id other (shared_id key)) shared_id c.args.keys.now
+    in_shared key c.args.keys.now
     ∙ list_any_at (is_same key) c.args.keys.now c.in-Ok.place c.index-keys-place.result
     c.in-Ok.ensures.bound
     (ap (is_same key) (sym c.index-keys-place.is) ∙ sym c.eq.ensures ∙ is)
@@ -115,7 +107,7 @@ returns-in-Ok-clause-sorted c long order =
     c.eq.ensures ∙ ap (is_same key) (c.index-keys-place.is
     ∙ get_or_default keys c.in-Ok.place _ key c.in-Ok.ensures.bound)
     ∙ found key keys order c.in-Ok.place c.in-Ok.ensures.bound (place key)
-    ∙ sym (list_any-map (λ other. same_id other (shared_id key)) shared_id keys)
+    ∙ sym (in_shared key keys)
 
 pub returns-in-Err-clause-sorted : goal.returns-in-Err-clause-sorted
 returns-in-Err-clause-sorted c long order =
@@ -123,4 +115,4 @@ returns-in-Err-clause-sorted c long order =
     let keys = c.args.keys.now in
     lost key keys order _ (c.in-Err.ensures.position (stands key)
     (always_returns_same _ _ _ (λ a r f k. (search rules, search rules))))
-    ∙ sym (list_any-map (λ other. same_id other (shared_id key)) shared_id keys)
+    ∙ sym (in_shared key keys)

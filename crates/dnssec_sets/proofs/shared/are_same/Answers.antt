@@ -2,9 +2,8 @@
 use Rattle.std.proofs.Common.{◌≡◌, ◌∷◌, ◌+◌, sym, ◌∙◌, ap, drop, map}
 use Rattle.std.proofs.lemmas.List.{drop_more}
 use Rattle.dnssec_run.specs.Published.{id_of}
-use Rattle.dnssec_sets.specs.Chained.{shared_id}
+use Rattle.dnssec_sets.{specs.Chained.shared_id, proofs.Lists.same-id}
 use Rattle.dnssec_sets.proofs.shared.are_same.Goals as goal
-use Rattle.dnssec_sets.proofs.Lists.{same-id}
 
 pub loop-key-preserved : goal.loop-key-preserved
 loop-key-preserved c rest =

@@ -1,10 +1,8 @@
 -- A piece takes the next of the keys.
 use Rattle.std.proofs.Common.{◌++◌, append_assoc, sym, ◌∙◌, ap, map}
-use Rattle.std.specs.Prelude.{flat_map}
-use Rattle.std.proofs.lemmas.List.{map-append}
+use Rattle.std.{specs.Prelude.flat_map, proofs.lemmas.List.map-append}
 use Rattle.dnssec_run.specs.Published.{id_of}
-use Rattle.dnssec_sets.specs.Chained.{ids_of_piece}
-use Rattle.dnssec_sets.proofs.Lists.{joined}
+use Rattle.dnssec_sets.{specs.Chained.ids_of_piece, proofs.Lists.joined}
 use Rattle.dnssec_sets.proofs.sharing.push_pieces.Goals as goal
 
 pub loop-group-preserved : goal.loop-group-preserved

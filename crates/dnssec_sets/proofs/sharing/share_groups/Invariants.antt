@@ -6,5 +6,4 @@ use Rattle.dnssec_sets.specs.Chained.{ids_of_piece}
 use Rattle.dnssec_sets.proofs.sharing.share_groups.Given as goal
 
 abbrev pub invariant-loop-index : goal.invariant-loop-index
-invariant-loop-index l =
-    flat_map ids_of_piece l.pieces.items ++ map id_of l.rest ≡ map id_of l.keys
+invariant-loop-index l = flat_map ids_of_piece l.pieces.items ++ map id_of l.rest ≡ map id_of l.keys

@@ -1,9 +1,8 @@
 -- The key that was found.
-use Rattle.std.proofs.Common.{sym, ◌∙◌}
-use Rattle.std.proofs.lemmas.List.Folds.{list_any-from_Any}
+use Rattle.std.proofs.{Common.sym, Common.◌∙◌, lemmas.List.Folds.list_any-from_Any}
 use Rattle.dnssec_sets.proofs.Lists.{list_any-map}
-use Rattle.dnssec_sets.proofs.trust.find_in.Goals as goal
 use Rattle.dnssec_sets.specs.Chained.{ids_in, ids_lent, passes, shared_id}
+use Rattle.dnssec_sets.proofs.trust.find_in.Goals as goal
 
 pub returns-then-is_found : goal.returns-then-is_found
 returns-then-is_found c =

@@ -1,6 +1,5 @@
 -- The pieces that are left have the answer.
-use Rattle.std.proofs.Common.{◌≡◌, drop}
-use Rattle.std.specs.Prelude.{flat_map}
+use Rattle.std.{proofs.Common.◌≡◌, proofs.Common.drop, specs.Prelude.flat_map}
 use Rattle.dnssec_sets.specs.Chained.{any_passes, ids_of_piece}
 use Rattle.dnssec_sets.proofs.trust.has_one_in.Given as goal
 

@@ -1,5 +1,4 @@
 -- The copy knows what the judge knows, and the other way round.
-use Rattle.std.proofs.Common.{refl}
 use Rattle.dnssec_judge.specs.declared.judging.Judge.{Judge}
 use Rattle.dnssec_judge.proofs.judging.Judge.try_clone.Goals as goal
 use Rattle.dnssec_judge.proofs.OneByOne.Copies.{copy-knows, same-back}
@@ -7,20 +6,15 @@ use Rattle.dnssec_judge.proofs.OneByOne.Copies.{copy-knows, same-back}
 pub returns-clause-same : goal.returns-clause-same
 returns-clause-same c entries =
     let j = c.args.self.now in
-    let k : Judge = record {
-      at = j.at;
-      time = j.time;
-      steps = j.steps;
+    let k : Judge = record j {
       ds = c.in_ok-try_clone.field-0;
       dnskey = c.in_ok-try_clone-2.field-0;
       zone = c.in_ok-try_clone-3.field-0;
-      tested = j.tested;
-      found = j.found;
     } in
     let ds = c.in_ok-try_clone.ensures.ok in
     let dnskey = c.in_ok-try_clone-2.ensures.ok in
     let zone = c.in_ok-try_clone-3.ensures.ok in (
-      copy-knows entries j k refl refl refl refl refl ds dnskey zone,
-      copy-knows entries k j refl refl refl refl refl (same-back j.ds k.ds ds)
+      copy-knows entries j k.ds k.dnskey k.zone ds dnskey zone,
+      copy-knows entries k j.ds j.dnskey j.zone (same-back j.ds k.ds ds)
           (same-back j.dnskey k.dnskey dnskey) (same-back j.zone k.zone zone),
     )

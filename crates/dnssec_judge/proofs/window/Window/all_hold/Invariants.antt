@@ -1,6 +1,5 @@
 -- The rest of the sets has the answer.
-use Rattle.std.proofs.Common.{◌≡◌, drop}
-use Rattle.std.specs.List.{list_all}
+use Rattle.std.{proofs.Common.◌≡◌, proofs.Common.drop, specs.List.list_all}
 use Rattle.dnssec_sets.specs.Sets.{set_of_held}
 use Rattle.dnssec_judge.specs.Inner.Window.{lasting, pair_holds}
 use Rattle.dnssec_judge.proofs.window.Window.all_hold.Given as goal

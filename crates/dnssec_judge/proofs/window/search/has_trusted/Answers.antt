@@ -1,12 +1,9 @@
 -- No DNSKEY set has no key.
 use Rattle.std.proofs.Common.{ap, refl, sym, ◌∙◌, Bor, [], Option}
-use Rattle.std.proofs.lemmas.List.Folds.{list_any_none}
-use Rattle.std.proofs.Math.Bool.{or-false}
-use Rattle.std.specs.Option.{option_copied}
-use Rattle.std.specs.Prelude.{◌||◌, ◌&&◌}
-use Rattle.dnssec_sets.specs.Chained.{is_in, is_none}
+use Rattle.std.proofs.{lemmas.List.Folds.list_any_none, Math.Bool.or-false}
+use Rattle.std.specs.{Option.option_copied, Prelude.◌||◌, Prelude.◌&&◌}
 use Rattle.dnssec_sets.specs.Sets.{keys_hold, set_of_any, set_of_held}
-use Rattle.dnssec_sets.specs.declared.held.Held.{Held}
+use Rattle.dnssec_sets.specs.{Chained.is_in, Chained.is_none, declared.held.Held.Held}
 use Rattle.dnssec_judge.proofs.window.search.has_trusted.Goals as goal
 
 pub returns-in-None : goal.returns-in-None

@@ -1,11 +1,8 @@
 -- A key of a piece is one of the list.
 use Rattle.std.proofs.Common.{rules, ◌≡◌, ap, sym, ◌∙◌, List}
-use Rattle.std.specs.List.{list_any}
-use Rattle.std.specs.Prelude.{flat_map}
-use Rattle.dnssec_sets.specs.declared.list.KeyList.{KeyList}
-use Rattle.dnssec_sets.specs.declared.list.Piece.{Piece}
-use Rattle.dnssec_sets.specs.Chained.{ids_in, ids_of_piece}
-use Rattle.dnssec_sets.proofs.Lists.{in-piece}
+use Rattle.std.specs.{List.list_any, Prelude.flat_map}
+use Rattle.dnssec_sets.specs.declared.list.{KeyList.KeyList, Piece.Piece}
+use Rattle.dnssec_sets.{specs.Chained.ids_in, specs.Chained.ids_of_piece, proofs.Lists.in-piece}
 use Rattle.dnssec_sets.proofs.list.KeyList.part.Goals as goal
 
 pub returns-in-Some : goal.returns-in-Some

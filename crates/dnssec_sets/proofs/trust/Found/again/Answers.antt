@@ -2,10 +2,9 @@
 use Rattle.std.proofs.Common.{◌≡◌, ap, true, ◌∙◌, Bor, Option}
 use Rattle.std.proofs.lemmas.Bool.{and_from}
 use Rattle.dnssec_sets.proofs.Lists.{met}
-use Rattle.dnssec_sets.proofs.trust.Found.again.Goals as goal
 use Rattle.dnssec_sets.specs.Chained.{any_passes, ids_in, ids_lent, is_in, passes, shared_id}
-use Rattle.dnssec_sets.specs.declared.list.KeyList.{KeyList}
-use Rattle.dnssec_sets.specs.declared.shared.SharedKey.{SharedKey}
+use Rattle.dnssec_sets.specs.declared.{list.KeyList.KeyList, shared.SharedKey.SharedKey}
+use Rattle.dnssec_sets.proofs.trust.Found.again.Goals as goal
 
 -- by what is handed in of the signers
 finds : (first dnskey : KeyList) (signers is : Option (Bor KeyList)) (key : SharedKey)
