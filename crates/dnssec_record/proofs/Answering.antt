@@ -1,13 +1,11 @@
 -- What is known of the input carries over to the answer to it.
-use Rattle.std.proofs.Common.{◌≡◌, ◌≢◌, ℕ, List, Option, Some, None, IfSome, sym, ◌∙◌, subst}
-use Rattle.dnssec_record.specs.Answer.{IsAnswerOf, AnswerFault, TakesBeginning}
-use Rattle.dnssec_record.specs.Inner.Devices.{TakesFront}
-use Rattle.dnssec_script.specs.Script.{IsScript, lines_of}
-use Rattle.dnssec_run.specs.declared.call.Call.{Call}
-use Rattle.dnssec_record.specs.declared.fault.ScriptFault.{ScriptFault}
+use Rattle.std.proofs.Common.{◌≡◌, ◌≢◌, ℕ, List, Option, Some, None, IfSome, ◌∙◌, subst}
 use Rattle.dnssec_record.specs.declared.fault.ScriptFault.TheVariants.{Malformed, Device}
 use Rattle.dnssec_record.specs.declared.fault.ScriptFault.TheVariants.{OutOfMemory}
+use Rattle.dnssec_record.specs.{Answer.AnswerFault, declared.fault.ScriptFault.ScriptFault}
+use Rattle.dnssec_script.specs.Script.{IsScript, lines_of}
 use Rattle.dnssec_script.proofs.Judging.{never_malformed}
+use Rattle.dnssec_run.specs.declared.call.Call.{Call}
 
 -- what holds of the bytes that were read holds of those that the input had left
 pub of_input : (left : Option (List ℕ)) (P : List ℕ → Type 0) (shown read : List ℕ)
@@ -23,14 +21,3 @@ never_fault script (Malformed m) first name calls is n same =
     never_malformed (lines_of script) name calls m is first
 never_fault script Device first name calls is n same = absurd first
 never_fault script OutOfMemory first name calls is n same = cc
-
--- a front of an answer is a beginning of it
-pub begins : (script : List ℕ) (old new : Option (List ℕ)) (bytes text : List ℕ)
-    → IsAnswerOf script text → bytes ≡ text → TakesFront old new bytes
-    → TakesBeginning script old new
-begins script old new bytes text answers same taken = (
-  taken.0,
-  taken.1,
-  subst (IsAnswerOf script) (sym same ∙ taken.2) answers,
-  taken.3,
-)

@@ -1,12 +1,10 @@
 -- The output of a plain list ends with the line `chain safe`, for the clauses of `run_script`.
-use Rattle.std.proofs.Common.{◌≡◌, ℕ, List, ◌++◌, Option, Some, None, IfSome, refl, sym, ap}
-use Rattle.std.proofs.Common.{◌∙◌, append_assoc}
+use Rattle.std.proofs.Common.{◌≡◌, ℕ, List, ◌++◌, Option, Some, None, IfSome, refl, sym, ap, ◌∙◌}
+use Rattle.std.proofs.Common.{append_assoc}
 use Rattle.std.specs.Prelude.{codes, slice_get, length, ◌-◌}
-use Rattle.dnssec_run.specs.declared.record.Entry.{Entry}
-use Rattle.dnssec_run.specs.declared.record.Published.{Published}
+use Rattle.dnssec_run.specs.declared.record.{Entry.Entry, Published.Published}
 use Rattle.dnssec_run.proofs.Chain.Trust.{chain-holds}
-use Rattle.dnssec_judge.specs.declared.verdict.Broken.{Broken}
-use Rattle.dnssec_judge.proofs.Verdicts.Laws.{plain-passes}
+use Rattle.dnssec_judge.{specs.declared.verdict.Broken.Broken, proofs.Verdicts.Laws.plain-passes}
 use Rattle.dnssec_record.specs.Answer.{EndsSafe, IsSafeAnswer}
 use Rattle.dnssec_record.specs.Output.{answers, output, published_text, set_line, set_text}
 use Rattle.dnssec_record.specs.Output.{sets_text}

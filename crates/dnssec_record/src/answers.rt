@@ -1,48 +1,13 @@
 //! The answers to a script, as text.
-ghost use Rattle.std.specs.Prelude.{◌≡◌, ◌++◌, ℕ, List, IfOk, OnOk, codes, decimal, string_bytes};
+ghost use Rattle.std.specs.Prelude.{◌≡◌, ◌++◌, OnOk, codes, decimal, string_bytes};
 ghost use Rattle.std.specs.List.{flat_map};
-ghost use Rattle.dnssec_record.specs.Answer.{IsAnswerOf};
 ghost use Rattle.dnssec_record.specs.Output.{action_name, actions_text, broken_text, chain_line};
 ghost use Rattle.dnssec_record.specs.Output.{published_text, reply_text, set_text};
-ghost use Rattle.dnssec_script.specs.Inner.Reading.{IsOfStatements};
 
-use dnssec_base::Name;
-use dnssec_judge::{Broken, Judge};
+use dnssec_judge::Broken;
 use dnssec_keyset::Action;
-use dnssec_run::{Published, PublishedKey, Recorder, Reply};
-use dnssec_script::Statement;
-use std::alloc::{AllocError, Global};
-
-/// Makes the calls of the statements in turn on a new key set for the zone of this name. Says what
-/// each is answered, then which sets are published, and last the verdict on the record. At any time
-/// it keeps only one call, and of the record only what a recorder and a judge keep.
-pub(crate) fn answer(
-    alloc: Global,
-    name: Name<Vec<u8>>,
-    statements: Vec<Statement<'_>>,
-) -> Result<String, AllocError>
-    ensures { IfOk result (λ text. (script : List ℕ) →
-        IsOfStatements script name statements.entry.items → IsAnswerOf script (string_bytes text)) }
-{
-    let mut text = String::new(alloc);
-    let mut recorder = Recorder::new(alloc, name);
-    let Ok(mut judge) = Judge::new(alloc) else {
-        return Err(AllocError);
-    };
-    for statement in statements {
-        let Ok(outcome) = statement.advance(alloc, &mut recorder) else {
-            return Err(AllocError);
-        };
-        let news = recorder.news(&outcome);
-        let Ok(()) = judge.note(alloc, outcome.mark, outcome.moment, news) else {
-            return Err(AllocError);
-        };
-        push_answer(&mut text, &outcome.reply)?;
-    }
-    push_published(&mut text, recorder.published())?;
-    push_chain_line(&mut text, judge.verdict())?;
-    Ok(text)
-}
+use dnssec_run::{Published, PublishedKey, Reply};
+use std::alloc::AllocError;
 
 /// Writes the line of an answer.
 pub(crate) fn push_answer(text: &mut String, reply: &Reply) -> Result<(), AllocError>
@@ -80,6 +45,7 @@ fn push_actions(text: &mut String, actions: &[Action]) -> Result<(), AllocError>
 }
 
 /// The name of an action, as answers have it.
+#[tactic(auto, using(std::proofs::lemmas::Grind::common_steps))]
 pub fn action_name(action: Action) -> &'static str
     ensures { result.now ≡ action_name action }
 {
@@ -99,6 +65,7 @@ pub fn action_name(action: Action) -> &'static str
 }
 
 /// Writes the sets that are published after the last call.
+#[tactic(auto, using(std::proofs::lemmas::Grind::common_steps))]
 pub(crate) fn push_published(text: &mut String, published: &Published) -> Result<(), AllocError>
     ensures { OnOk result (string_bytes text.new
         ≡ string_bytes text.old ++ published_text published.now) }

@@ -81,6 +81,7 @@ impl<T> Std<T> {
     ghost use Rattle.dnssec_record.specs.Std.{std_inner, std_faults};
 
     /// A device that reads or writes `inner`, and has not failed yet.
+    #[tactic(auto, using(std::proofs::lemmas::Grind::common_steps))]
     pub fn new(inner: T) -> Self
         ensures inner { std_inner result ≡ inner }
         ensures faults { std_faults result ≡ 0 }
@@ -97,6 +98,7 @@ impl<T> Std<T> {
     }
 
     /// How often an operation of the inner device has failed.
+    #[tactic(auto, using(std::proofs::lemmas::Grind::common_steps))]
     fn count(&self) -> u64
         ensures { result ≡ std_faults self.now }
     {
@@ -111,6 +113,7 @@ impl<T: Read> Source for Std<T> {
 
     ghost faults = { λ device. std_faults device };
 
+    #[tactic(auto, using(std::proofs::lemmas::Grind::common_steps))]
     fn read(&mut self, buf: &mut [u8]) -> Result<usize, DeviceFault> {
         match self.inner.read(buf) {
             Ok(count) => Ok(count),
@@ -133,6 +136,7 @@ impl<T: Write> Sink for Std<T> {
 
     ghost faults = { λ device. std_faults device };
 
+    #[tactic(auto, using(std::proofs::lemmas::Grind::common_steps))]
     fn write(&mut self, buf: &[u8]) -> Result<usize, DeviceFault> {
         match self.inner.write(buf) {
             Ok(count) if count > 0 || buf.is_empty() => Ok(count),

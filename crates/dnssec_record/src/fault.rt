@@ -22,6 +22,7 @@ pub enum ScriptFault {
 impl ScriptFault {
     /// The status that a program ends with after this fault: 1 for a malformed script, 2 for a
     /// device, 3 for memory.
+    #[tactic(auto, using(std::proofs::lemmas::Grind::common_steps))]
     pub fn status(&self) -> u8
         ensures { result ≡ fault_status self.now }
     {

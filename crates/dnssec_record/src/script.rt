@@ -11,13 +11,14 @@ ghost use Rattle.dnssec_script.specs.Script.{IsFirstMalformed, IsScript};
 ghost use Rattle.dnssec_run.specs.declared.call.Call.{Call};
 ghost use Rattle.dnssec_record.specs.declared.fault.ScriptFault.TheVariants.{Device, OutOfMemory};
 
-use crate::answers::answer;
+use crate::answers::{push_answer, push_chain_line, push_published};
 use crate::device::{DeviceFault, Sink, Source};
 use crate::fault::ScriptFault;
 use dnssec_base::Name;
+use dnssec_judge::Judge;
 use dnssec_run::{Recorder, Run};
 use dnssec_script::{Reading, Statement, read_script};
-use std::alloc::{AllocError, Global};
+use std::alloc::Global;
 
 /// How many bytes the input is asked for at once.
 const PIECE: usize = 4096;
@@ -47,6 +48,7 @@ const PIECE: usize = 4096;
 ///     eprintln!(rt; "{fault}")?;
 /// }
 /// ```
+#[tactic(auto, using(std::proofs::lemmas::Grind::common_steps))]
 pub fn run_script<R: Source, W: Sink>(
     alloc: Global,
     input: &mut R,
@@ -98,6 +100,7 @@ pub fn run_script<R: Source, W: Sink>(
 }
 
 /// Reads all that the input has left.
+#[tactic(auto, using(std::proofs::lemmas::Grind::common_steps))]
 fn read_to_end<R: Source>(alloc: Global, input: &mut R) -> Result<Vec<u8>, ScriptFault>
     requires { R.faults input.old < u64.MAX }
     ensures whole { IfOk result (λ script.
@@ -117,13 +120,31 @@ fn read_to_end<R: Source>(alloc: Global, input: &mut R) -> Result<Vec<u8>, Scrip
     }
 }
 
-/// The answers to a script.
+/// The answers to a script: makes the calls of its lines in turn on a new key set. Says what each
+/// is answered, then which sets are published, and last the verdict on the record. At any time it
+/// keeps only one call, and of the record only what a recorder and a judge keep.
 fn answer_to(alloc: Global, script: &[u8]) -> Result<String, ScriptFault>
     ensures ok { IfOk result (λ text. IsAnswerOf script.now (string_bytes text)) }
     ensures err { IfErr result (AnswerFault script.now) }
 {
     let (name, statements) = statements_of(alloc, script)?;
-    let text = answer(alloc, name, statements)?;
+    let mut text = String::new(alloc);
+    let mut recorder = Recorder::new(alloc, name);
+    let Ok(mut judge) = Judge::new(alloc) else {
+        return Err(ScriptFault::OutOfMemory);
+    };
+    for statement in statements {
+        let Ok(outcome) = statement.advance(alloc, &mut recorder) else {
+            return Err(ScriptFault::OutOfMemory);
+        };
+        let news = recorder.news(&outcome);
+        let Ok(()) = judge.note(alloc, outcome.mark, outcome.moment, news) else {
+            return Err(ScriptFault::OutOfMemory);
+        };
+        push_answer(&mut text, &outcome.reply)?;
+    }
+    push_published(&mut text, recorder.published())?;
+    push_chain_line(&mut text, judge.verdict())?;
     Ok(text)
 }
 
@@ -147,7 +168,18 @@ pub fn record_script(alloc: Global, script: &[u8]) -> Result<Run, ScriptFault>
     ensures err { IfErr result (AnswerFault script.now) }
 {
     let (name, statements) = statements_of(alloc, script)?;
-    Ok(recorded(alloc, name, statements)?)
+    let mut recorder = Recorder::new(alloc, name);
+    let mut entries = Vec::with_capacity(alloc, statements.len())?;
+    for statement in statements {
+        let Ok(entry) = statement.make(alloc, &mut recorder) else {
+            return Err(ScriptFault::OutOfMemory);
+        };
+        entries.push(entry)?;
+    }
+    Ok(Run {
+        keyset: recorder.into_keyset(),
+        entries,
+    })
 }
 
 /// The name of the zone of a script, and its statements.
@@ -162,30 +194,6 @@ pub(crate) fn statements_of(
         Reading::Script(name, statements) => Ok((name, statements)),
         Reading::Malformed(number) => Err(ScriptFault::Malformed(number)),
     }
-}
-
-/// Makes the calls of the statements in turn on a new key set, and records each.
-fn recorded(
-    alloc: Global,
-    name: Name<Vec<u8>>,
-    statements: Vec<Statement<'_>>,
-) -> Result<Run, AllocError>
-    ensures { IfOk result (λ run. (script : List ℕ) →
-        IsOfStatements script name statements.entry.items →
-        IsRunOf script run.keyset run.entries.items) }
-{
-    let mut recorder = Recorder::new(alloc, name);
-    let mut entries = Vec::with_capacity(alloc, statements.len())?;
-    for statement in statements {
-        let Ok(entry) = statement.make(alloc, &mut recorder) else {
-            return Err(AllocError);
-        };
-        entries.push(entry)?;
-    }
-    Ok(Run {
-        keyset: recorder.into_keyset(),
-        entries,
-    })
 }
 
 /// Writes all of the bytes, or fails with some of them written.

@@ -10,7 +10,6 @@ ghost use Rattle.dnssec_record.specs.Session.{Resumes, Takes};
 ghost use Rattle.dnssec_run.specs.Steps.{AreStepsOf};
 ghost use Rattle.dnssec_run.specs.declared.call.Call.{Call};
 ghost use Rattle.dnssec_run.specs.declared.record.Entry.{Entry};
-ghost use Rattle.dnssec_script.specs.Inner.Reading.{IsOfStatements};
 
 use crate::answers::{push_answer, push_chain_line, push_published};
 use crate::courses::{Courses, Listed, Turn};
@@ -88,18 +87,6 @@ impl Session {
         ensures err { IfErr result (AnswerFault script.now) }
     {
         let (name, statements) = statements_of(alloc, script)?;
-        Ok(Session::after(alloc, name, statements)?)
-    }
-
-    /// The session after the calls of these statements.
-    fn after(
-        alloc: Global,
-        name: Name<Vec<u8>>,
-        statements: Vec<Statement<'_>>,
-    ) -> Result<Self, AllocError>
-        ensures { IfOk result (λ session. (script : List ℕ) →
-            IsOfStatements script name statements.entry.items → Resumes script session) }
-    {
         let mut session = Session::new(alloc, name)?;
         for statement in statements {
             let (next, _) = session.take(alloc, statement)?;
@@ -214,6 +201,7 @@ impl Session {
 
     /// The same session, which lets go of room to spare: a map takes its first room for nine keys,
     /// a roll leaves room, and most zones at rest have two keys or three.
+    #[tactic(auto, using(std::proofs::lemmas::Grind::common_steps))]
     fn fitted(self, alloc: Global) -> Self
         ensures { (name : List ℕ) (calls : List Call) (entries : List Entry) →
             StandsAfter name calls entries self → StandsAfter name calls entries result }
@@ -269,6 +257,7 @@ impl Session {
 
     /// The keys that the starts of the rolls in progress listed: for each roll the old ones, then
     /// the new ones. A key that was deleted since is left out.
+    #[tactic(auto, using(std::proofs::lemmas::Grind::common_steps))]
     pub fn listed(&self) -> &[Listed]
         ensures { (name : List ℕ) (calls : List Call) (entries : List Entry) →
             StandsAfter name calls entries self.now →
@@ -280,6 +269,7 @@ impl Session {
     /// The rolls that were ended early, in the order of their ends. No call reports what such an
     /// end asked for. So it stays here until a roll starts that may not go beside the ended one:
     /// who starts that roll has seen it done.
+    #[tactic(auto, using(std::proofs::lemmas::Grind::common_steps))]
     pub fn ended_early(&self) -> &[RollType]
         ensures { (name : List ℕ) (calls : List Call) (entries : List Entry) →
             StandsAfter name calls entries self.now → result.now ≡ ended_by calls entries }
@@ -288,6 +278,7 @@ impl Session {
     }
 
     /// How many calls were made so far, also refused ones: the length of the record.
+    #[tactic(auto, using(std::proofs::lemmas::Grind::common_steps))]
     pub fn calls(&self) -> usize
         ensures { (name : List ℕ) (calls : List Call) (entries : List Entry) →
             StandsAfter name calls entries self.now → result ≡ length entries }
@@ -296,6 +287,7 @@ impl Session {
     }
 
     /// The last step of each roll so far: what its next report counts from.
+    #[tactic(auto, using(std::proofs::lemmas::Grind::common_steps))]
     pub fn steps(&self) -> Steps
         ensures { (name : List ℕ) (calls : List Call) (entries : List Entry) →
             StandsAfter name calls entries self.now → AreStepsOf entries result }
@@ -304,6 +296,7 @@ impl Session {
     }
 
     /// The verdict on the record so far: what `audit` answers of it.
+    #[tactic(auto, using(std::proofs::lemmas::Grind::common_steps))]
     pub fn verdict(&self) -> Option<Broken>
         ensures { (name : List ℕ) (calls : List Call) (entries : List Entry) →
             StandsAfter name calls entries self.now → IsVerdict entries result }

@@ -1,10 +1,7 @@
 -- The names of algorithms are ASCII, so what isn't text names none.
 use Rattle.std.proofs.Common.{◌≡◌, ◌≢◌, ℕ, List, true, refl, sym, subst, codes}
-use Rattle.std.specs.Prelude.{None}
-use Rattle.std.specs.List.{list_all}
-use Rattle.std.specs.Str.{IsUtf8}
-use Rattle.dnssec_base.specs.AlgorithmNames.{algorithm_named}
-use Rattle.dnssec_base.proofs.AlgorithmNames.{no_name}
+use Rattle.std.specs.{Prelude.None, List.list_all, Str.IsUtf8}
+use Rattle.dnssec_base.{specs.AlgorithmNames.algorithm_named, proofs.AlgorithmNames.no_name}
 use Rattle.dnssec_script.proofs.Ascii.{is_below, ascii_utf8}
 
 pub no_text : (text : List ℕ) → ¬ IsUtf8 text → None ≡ algorithm_named text

@@ -1,12 +1,10 @@
 -- A text of ASCII characters is text: a reference, and the name of a zone, a roll or an algorithm.
-use Rattle.std.proofs.Common.{◌≡◌, ℕ, ◌<◌, ◌≤◌, ◌∙◌, ◌∷◌, ◌&&◌, Bool, true, List, ap, arith}
-use Rattle.std.specs.Prelude.{nat_le}
-use Rattle.std.specs.List.{list_all}
-use Rattle.std.specs.Str.{IsUtf8}
-use Rattle.std.proofs.lemmas.Str.{IsUtf8-from_ascii}
-use Rattle.std.proofs.lemmas.Str.Ascii.{IsAscii-from_all}
-use Rattle.std.proofs.lemmas.List.Sums.{AllPass-from_list_all}
-use Rattle.std.proofs.lemmas.Bool.Decides.{nat_tests}
+use Rattle.std.proofs.Common.{◌≡◌, ℕ, ◌<◌, ◌≤◌, ◌∙◌, ◌∷◌, ◌&&◌, ◌==◌, Bool, true, false, not, List}
+use Rattle.std.proofs.Common.{ap, arith, codes, length}
+use Rattle.std.proofs.lemmas.{Grind.common_steps, Str.IsUtf8-from_ascii, Str.Ascii.IsAscii-from_all}
+use Rattle.std.proofs.lemmas.{List.Sums.AllPass-from_list_all, Bool.Decides.nat_tests}
+use Rattle.std.specs.{Prelude.nat_le, List.list_all, Str.IsUtf8, Str.bytes_eq}
+use Rattle.dnssec_script.specs.Script.{is_reference, is_reference_byte}
 
 -- if each byte passes a test that only ASCII passes
 pub all_utf8 : (p : ℕ → Bool) → ((b : ℕ) → p b ≡ true → b < 128) → (text : List ℕ)
@@ -31,3 +29,21 @@ below b le = grind (arith, nat_tests)
 pub one_below : (b : ℕ) (after : List ℕ) → b ≤ 0x7E → list_all is_below after ≡ true
     → list_all is_below (b ∷ after) ≡ true
 one_below b after le rest = ap (λ x. x && list_all is_below after) (below b le) ∙ rest
+
+-- ---- a reference
+
+visible_128 : (b : ℕ) → is_reference_byte b ≡ true → b < 128
+visible_128 b visible = grind (arith, nat_tests)
+
+last_of_three : (x y z : Bool) → (x && y && z) ≡ true → z ≡ true
+last_of_three true true z e = e
+last_of_three true false z e = cc
+last_of_three false y z e = cc
+
+pub reference_utf8 : (text : List ℕ) → is_reference text ≡ true → IsUtf8 text
+unfolding is_reference
+reference_utf8 text is =
+    let last = last_of_three (not (length text == 0)) (not (bytes_eq text (codes "-"))) _ is in
+    all_utf8 is_reference_byte visible_128 text last
+
+pub ruleset steps = (common_steps, reference_utf8)

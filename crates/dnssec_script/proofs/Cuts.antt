@@ -1,12 +1,10 @@
 -- A text that is cut at a byte: its first part, and the others (for `first_part`).
-use Rattle.std.proofs.Common.{◌≡◌, ℕ, ◌+◌, Bool, true, false, cond, Option, Some, None, List}
-use Rattle.std.proofs.Common.{[], ◌∷◌, Bor, take, drop, refl, sym, ap, ◌∙◌, arith}
-use Rattle.std.specs.List.{slice_split, position}
-use Rattle.std.specs.Option.{option_map_or}
-use Rattle.std.proofs.lemmas.Bool.{ltb-true, ltb-false}
-use Rattle.std.proofs.lemmas.Option.{cond_some}
+use Rattle.std.proofs.Common.{◌≡◌, ℕ, ◌+◌, Bool, true, false, cond, Option, Some, None, List, []}
+use Rattle.std.proofs.Common.{◌∷◌, Bor, take, drop, refl, sym, ap, ◌∙◌, arith}
+use Rattle.std.proofs.lemmas.{Bool.ltb-true, Bool.ltb-false, Option.cond_some}
 use Rattle.std.proofs.lemmas.List.Splits.{slice_split_first, slice_split_none}
 use Rattle.std.proofs.lemmas.List.Sums.{fails_before_first}
+use Rattle.std.specs.{List.slice_split, List.position, Option.option_map_or}
 
 -- at the first byte that passes there is a cut
 pub cut_at : (p : ℕ → Bool) (xs : List ℕ) (i : ℕ) → position p xs ≡ Some i

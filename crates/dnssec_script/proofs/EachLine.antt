@@ -1,60 +1,30 @@
 -- The lines of a script, one after another: what is kept of each, its end, and its calls.
-use Rattle.std.proofs.Common.{◌≡◌, ◌≢◌, ℕ, ◌+◌, ◌-◌, ◌<◌, ◌==◌, if◌then◌else◌, true, false}
-use Rattle.std.proofs.Common.{Option, Some, None, is_some, List, [], ◌∷◌, ◌++◌, map, length}
-use Rattle.std.proofs.Common.{zero, suc, get_or, refl, sym, ap, ◌∙◌, arith, append_assoc}
-use Rattle.std.proofs.Common.{append-nil, length-append, subst}
-use Rattle.std.specs.Option.{option_map}
-use Rattle.std.specs.Prelude.{nat_lt}
-use Rattle.std.proofs.lemmas.Bool.Decides.{nat_tests}
+use Rattle.std.proofs.Common.{◌≡◌, ℕ, ◌+◌, ◌-◌, ◌<◌, ◌==◌, if◌then◌else◌, true, false, Some}
+use Rattle.std.proofs.Common.{is_some, List, [], ◌∷◌, ◌++◌, map, length, zero, suc, get_or, refl}
+use Rattle.std.proofs.Common.{sym, ap, ◌∙◌, arith, append_assoc, append-nil, length-append, subst}
 use Rattle.std.proofs.lemmas.List.{get_or_append_left, length-map, map-append}
+use Rattle.std.{specs.Prelude.nat_lt, proofs.lemmas.Bool.Decides.nat_tests}
 use Rattle.std.proofs.Math.Seq.{get_or-append_seam, take-append_seam}
 use Rattle.dnssec_run.specs.declared.call.Call.{Call}
 use Rattle.dnssec_script.specs.Script.{Value, call_says, says, without_end}
 use Rattle.dnssec_script.specs.Inner.Statement.{statement_says}
 use Rattle.dnssec_script.specs.Inner.Reading.{says_some, SilentFirst}
-use Rattle.dnssec_script.specs.declared.statement.Statement.{Statement}
-use Rattle.dnssec_script.specs.declared.words.Word.{Word}
+use Rattle.dnssec_script.specs.declared.{statement.Statement.Statement, words.Word.Word}
 
 -- a line feed at the end is taken off, and no other byte
-without_end-last : (text : List ℕ) (b : ℕ)
+pub without_end_last : (text : List ℕ) (b : ℕ)
     → without_end (text ++ b ∷ []) ≡ (if b == 10 then text else text ++ b ∷ [])
-without_end-last text b =
+without_end_last text b =
     let long = length-append text (b ∷ []) in
     let some : nat_lt 0 (length (text ++ b ∷ [])) ≡ true = grind (arith, nat_tests) in
     let last : length (text ++ b ∷ []) - 1 ≡ length text = omega arith in
     rw (some, last, get_or-append_seam text b [] 0, take-append_seam text (b ∷ [])) refl
 
--- so a line feed at the end goes
-pub ended : (script text : List ℕ) (b : ℕ) → script ≡ text ++ b ∷ [] → b ≡ 10
-    → text ≡ without_end script
-ended script text b split feed =
-    ap (λ n. if n == 10 then text else text ++ n ∷ []) (sym feed)
-    ∙ sym (without_end-last text b) ∙ ap without_end (sym split)
-
--- and another end stays
-pub unended : (script text : List ℕ) (b : ℕ) → script ≡ text ++ b ∷ [] → b ≢ 10
-    → script ≡ without_end script
-unended script text b split other =
-    let no : (b == 10) ≡ false = grind (arith, nat_tests) in
-    split ∙ ap (λ t. if t then text else text ++ b ∷ []) (sym no)
-    ∙ sym (without_end-last text b) ∙ ap without_end (sym split)
-
--- what a line says, if nothing was read
-pub silent : (found : Option Statement) (line : List ℕ)
-    → option_map statement_says found ≡ says line → found ≡ None → false ≡ says_some line
-silent found line call_says none =
-    ap (λ (o : Option Statement). is_some (option_map statement_says o)) (sym none)
-    ∙ ap is_some call_says
-
--- what a line says, if a statement was read
-pub spoken : (found : Option Statement) (line : List ℕ) (s : Statement)
-    → option_map statement_says found ≡ says line → found ≡ Some s
-    → Some (statement_says s) ≡ says line
-spoken found line s call_says some = ap (option_map statement_says) (sym some) ∙ call_says
+pub ruleset ends = (without_end_last, nat_tests)
 
 -- ---- from line 2 on
 
--- these statements say what the first of these lines say; the others are left
+-- the statements say what the first lines say; the others are left
 pub record HasRead (all : List (List ℕ)) (ss : List Statement) (left : List (List ℕ)) : Type 0 where
   pub read : List (List ℕ)
   pub are : read ++ left ≡ all
@@ -97,8 +67,7 @@ spoken_at (line ∷ lines) [] same k below = cc
 spoken_at (line ∷ lines) (one ∷ said) same zero below =
     let e : says line ≡ Some one = cc in
     ap is_some e
-spoken_at (line ∷ lines) (one ∷ said) same (suc k) below =
-    spoken_at lines said (cc) k (omega arith)
+spoken_at (line ∷ lines) (one ∷ said) same (suc k) below = spoken_at lines said (cc) k (omega arith)
 
 -- a line that says nothing, after those that were read
 pub first_silent : (all left rest : List (List ℕ)) (ss : List Statement) (line : List ℕ) (n : ℕ)

@@ -1,10 +1,9 @@
 -- A script's lines, judged: each has its form, or one is the first that has not.
-use Rattle.std.proofs.Common.{◌≡◌, ◌≢◌, ℕ, zero, suc, ◌-◌, ◌<◌, ◌≤◌, ◌==◌, false, Option, Some}
-use Rattle.std.proofs.Common.{None, IsSome, IfSome, IfNone, is_some, List, [], ◌∷◌, map}
-use Rattle.std.proofs.Common.{length, get_or, sym, ap, ◌∙◌, subst, arith, Result, Ok, Err, IfOk}
-use Rattle.std.proofs.lemmas.Bool.{false≢true}
-use Rattle.std.proofs.lemmas.Bool.Decides.{nat_tests}
-use Rattle.std.proofs.lemmas.List.Splits.{length-slice_split}
+use Rattle.std.proofs.Common.{◌≡◌, ◌≢◌, ℕ, zero, suc, ◌-◌, ◌<◌, ◌≤◌, ◌==◌, false, Some, IsSome}
+use Rattle.std.proofs.Common.{is_some, List, [], ◌∷◌, map, length, get_or, sym, ap, ◌∙◌, subst}
+use Rattle.std.proofs.Common.{arith, Result, Ok, Err, IfOk}
+use Rattle.std.{specs.Prelude.MatchBool, proofs.lemmas.Bool.false≢true}
+use Rattle.std.proofs.lemmas.{Bool.Decides.nat_tests, List.Splits.length-slice_split}
 use Rattle.dnssec_script.specs.Script.{says, call_says, IsZoneLine, AreLinesOf, AreScript, HasForm}
 use Rattle.dnssec_script.specs.Script.{line_of, lines_of, without_end, IsFirstOf}
 use Rattle.dnssec_script.specs.Inner.Reading.{IsReadingAfter, IsReadingOf, SilentFirst}
@@ -14,57 +13,38 @@ use Rattle.dnssec_run.specs.declared.call.Call.{Call}
 
 -- there is always a first line
 pub some_line : (script : List ℕ) → 0 < length (lines_of script)
-some_line script =
-    let count = length-slice_split (λ b. b == 10) (without_end script) in omega arith
-
-is_some_from : {T : Type 0} (o : Option T) (x : T) → o ≡ Some x → IsSome o
-is_some_from o x e = ap is_some e
+some_line script = let count = length-slice_split (λ b. b == 10) (without_end script) in omega arith
 
 -- what makes a call says something
-pub each_says : (lines : List (List ℕ)) (calls : List Call) → AreLinesOf lines calls
+each_says : (lines : List (List ℕ)) (calls : List Call) → AreLinesOf lines calls
     → (i : ℕ) → i < length lines → IsSome (says (get_or lines i []))
 each_says [] [] each i within = absurd (omega arith)
 each_says [] (call ∷ calls) each i within = absurd each
 each_says (line ∷ lines) [] each i within = absurd each
-each_says (line ∷ lines) (call ∷ calls) each zero within = is_some_from _ _ each.0
+each_says (line ∷ lines) (call ∷ calls) each zero within = ap is_some each.0
 each_says (line ∷ lines) (call ∷ calls) each (suc i) within =
     each_says lines calls each.1 i (omega arith)
 
--- a line past the first, and its form
-line_past : (zone : List ℕ) (lines : List (List ℕ)) (i : ℕ)
-    → line_of (zone ∷ lines) (suc (suc i)) ≡ get_or lines i []
-line_past zone lines i =
+-- a line past the first has its form if it says something
+form_past : (zone : List ℕ) (lines : List (List ℕ)) (i : ℕ)
+    → HasForm (suc (suc i)) (line_of (zone ∷ lines) (suc (suc i)))
+    ≡ IsSome (says (get_or lines i []))
+form_past zone lines i =
     let e : suc (suc i) - 1 ≡ suc i = omega arith in
-    ap (λ k. get_or (zone ∷ lines) k []) e
-
-past_first : (i : ℕ) → (suc (suc i) == 1) ≡ false
-past_first i = let other : suc (suc i) ≢ 1 = omega arith in grind (arith, nat_tests)
-
-pub form_past : (zone : List ℕ) (lines : List (List ℕ)) (i : ℕ)
-    → IsSome (says (get_or lines i []))
-    → HasForm (suc (suc i)) (line_of (zone ∷ lines) (suc (suc i)))
-form_past zone lines i some =
-    let line = line_past zone lines i in
-    let other = past_first i in
-    rw (line, other) some
-
-pub form_past-says : (zone : List ℕ) (lines : List (List ℕ)) (i : ℕ)
-    → HasForm (suc (suc i)) (line_of (zone ∷ lines) (suc (suc i)))
-    → IsSome (says (get_or lines i []))
-form_past-says zone lines i form =
-    let line = line_past zone lines i in
-    let other = past_first i in
-    rw (line, other) at form
+    let other : suc (suc i) ≢ 1 = omega arith in
+    let past : (suc (suc i) == 1) ≡ false = grind (arith, nat_tests) in
+    let line = ap (λ k. get_or (zone ∷ lines) k []) e in
+    λ j. MatchBool (past j) ((name : List ℕ) × IsZoneLine (line j) name) (IsSome (says (line j)))
 
 -- each line of a script has its form
-pub script_forms : (lines : List (List ℕ)) (name : List ℕ) (calls : List Call)
+script_forms : (lines : List (List ℕ)) (name : List ℕ) (calls : List Call)
     → AreScript lines name calls → (n : ℕ) → 0 < n → n ≤ length lines
     → HasForm n (line_of lines n)
 script_forms [] name calls is n above within = absurd is
 script_forms (zone ∷ lines) name calls is zero above within = absurd (omega arith)
 script_forms (zone ∷ lines) name calls is (suc zero) above within = (name, is.0)
 script_forms (zone ∷ lines) name calls is (suc (suc i)) above within =
-    form_past zone lines i (each_says lines calls is.1 i (omega arith))
+    subst (λ T. T) (sym (form_past zone lines i)) (each_says lines calls is.1 i (omega arith))
 
 -- a script has no malformed line
 pub never_malformed : (lines : List (List ℕ)) (name : List ℕ) (calls : List Call) (n : ℕ)
@@ -86,14 +66,15 @@ call_first : (zone : List ℕ) (lines : List (List ℕ)) (name : List ℕ) (i : 
     → IsZoneLine zone name → SilentFirst lines i → IsFirstOf (zone ∷ lines) (suc (suc i))
 call_first zone lines name i is silent = record {
   number = let within = silent.within in (omega arith, omega arith);
-  malformed = λ form. false≢true (sym silent.silent ∙ form_past-says zone lines i form);
+  malformed = λ form. false≢true (sym silent.silent ∙ subst (λ T. T) (form_past zone lines i) form);
   before = before;
 }
   where
     before : (k : ℕ) → 0 < k → k < suc (suc i) → HasForm k (line_of (zone ∷ lines) k)
     before zero above below = absurd (omega arith)
     before (suc zero) above below = (name, is)
-    before (suc (suc k)) above below = form_past zone lines k (silent.before k (omega arith))
+    before (suc (suc k)) above below =
+        subst (λ T. T) (sym (form_past zone lines k)) (silent.before k (omega arith))
 
 -- calls that say what the lines say are the lines' calls
 spell_each : (lines : List (List ℕ)) (calls : List Call)
@@ -117,14 +98,6 @@ whole_reading script zone lines name (Ok (Malformed n)) split named first =
     let here = call_first zone lines name first.0 named first.2 in
     subst (λ ls. IsFirstOf ls n) (sym split) (subst (IsFirstOf (zone ∷ lines)) e here)
 whole_reading script zone lines name (Err e) split named read = tt
-
--- what holds of a value that is there
-pub if_some : {T : Type 0} (P : T → Type 0) (o : Option T) (x : T) → IfSome o P → o ≡ Some x → P x
-if_some P o x holds e = subst (λ v. IfSome v P) e holds
-
--- and of none
-pub if_none : {T : Type 0} (Q : Type 0) (o : Option T) → IfNone o Q → o ≡ None → Q
-if_none Q o holds e = subst (λ v. IfNone v Q) e holds
 
 -- the lines are not none
 pub not_empty : (script : List ℕ) → lines_of script ≡ [] → ⊥

@@ -2,19 +2,13 @@
 use Rattle.std.proofs.Common.{◌≡◌, ◌≢◌, ℕ, ◌∙◌, List, [], ◌∷◌, Bool, true, false, refl, ap, sym}
 use Rattle.std.proofs.Common.{subst, cond}
 use Rattle.std.specs.Prelude.{Option, Some, None, Result, Ok, Err, find}
-use Rattle.std.specs.List.{list_all}
-use Rattle.std.specs.Option.{option_map_or}
-use Rattle.std.specs.Str.{IsUtf8, bytes_eq}
-use Rattle.std.specs.Cmp.Lexicographic.{bytes_decides}
-use Rattle.std.specs.Result.{result_ok}
+use Rattle.std.specs.{List.list_all, Option.option_map_or, Str.IsUtf8, Str.bytes_eq}
+use Rattle.std.specs.{Cmp.Lexicographic.bytes_decides, Result.result_ok}
 use Rattle.dnssec_base.specs.declared.error.Error.{Error}
-use Rattle.dnssec_key.specs.Texts.{roll_name, NamesRoll}
-use Rattle.dnssec_key.specs.declared.roll.RollType.{RollType}
+use Rattle.dnssec_key.specs.{Texts.roll_name, Texts.NamesRoll, declared.roll.RollType.RollType}
 use Rattle.dnssec_zone.specs.Rolls.{all_rolls, same_roll}
-use Rattle.dnssec_zone.proofs.Phases.{same_roll-is}
-use Rattle.dnssec_zone.proofs.Tests.{each_roll-at}
-use Rattle.dnssec_script.specs.Script.{roll_named}
-use Rattle.dnssec_script.proofs.Ascii.{ascii_utf8, is_below}
+use Rattle.dnssec_zone.proofs.{Phases.same_roll-is, Tests.each_roll-at}
+use Rattle.dnssec_script.{specs.Script.roll_named, proofs.Ascii.ascii_utf8, proofs.Ascii.is_below}
 
 is_found : (roll : RollType) (o : Option RollType) → option_map_or (same_roll roll) o false ≡ true
     → o ≡ Some roll
@@ -30,8 +24,7 @@ name_utf8 : (roll : RollType) → IsUtf8 (roll_name roll)
 name_utf8 roll =
     ascii_utf8 (roll_name roll) (each_roll-at (λ r. list_all is_below (roll_name r)) refl roll)
 
-none_passes : {X : Type 0} (p : X → Bool) (xs : List X) → ((x : X) → p x ≡ false)
-    → find p xs ≡ None
+none_passes : {X : Type 0} (p : X → Bool) (xs : List X) → ((x : X) → p x ≡ false) → find p xs ≡ None
 none_passes p [] fails = refl
 none_passes p (x ∷ xs) fails =
     ap (λ b. cond b (Some x) (find p xs)) (fails x) ∙ none_passes p xs fails

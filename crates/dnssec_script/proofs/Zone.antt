@@ -1,9 +1,8 @@
 -- What spells a zone name is ASCII, and so it is text.
-use Rattle.std.proofs.Common.{◌≡◌, ℕ, ◌≤◌, ◌∙◌, ◌++◌, [], ◌∷◌, true, List, refl, ap, arith}
-use Rattle.std.proofs.Common.{subst, sym, drop}
-use Rattle.std.specs.List.{list_all}
-use Rattle.std.specs.Prelude.{Option, Some, None, Result, Ok, Err, IfOk, IfSome, IfNone, codes}
-use Rattle.std.specs.Str.{IsUtf8}
+use Rattle.std.proofs.Common.{◌≡◌, ℕ, ◌∙◌, ◌++◌, [], ◌∷◌, true, List, refl, ap, arith, subst, sym}
+use Rattle.std.proofs.Common.{drop}
+use Rattle.std.specs.Prelude.{Option, Some, None, IfNone, codes}
+use Rattle.std.specs.{List.list_all, Str.IsUtf8}
 use Rattle.dnssec_base.specs.NameText.{Spells, is_root, has_labels, Place, at_start, after_symbol}
 use Rattle.dnssec_base.specs.NameText.{after_dot, IsSymbol, plain, escaped, decimal, dot}
 use Rattle.dnssec_base.specs.NameText.{StandsFirst}
@@ -18,11 +17,9 @@ symbol_below _ _ after (plain x visible undotted unescaped) rest = one_below x a
 symbol_below _ _ after (escaped x above le undigit) rest =
     one_below 92 (x ∷ after) (omega arith) (one_below x after le rest)
 symbol_below _ _ after (decimal x y z dx dy dz le) rest =
-    let x' : x ≤ 0x7E = omega (arith, dx.1) in
-    let y' : y ≤ 0x7E = omega (arith, dy.1) in
-    let z' : z ≤ 0x7E = omega (arith, dz.1) in
-    one_below 92 (x ∷ y ∷ z ∷ after) (omega arith) (one_below x (y ∷ z ∷ after) x'
-    (one_below y (z ∷ after) y' (one_below z after z' rest)))
+    one_below 92 (x ∷ y ∷ z ∷ after) (omega arith) (one_below x (y ∷ z ∷ after)
+    (omega (arith, dx.1)) (one_below y (z ∷ after) (omega (arith, dy.1))
+    (one_below z after (omega (arith, dz.1)) rest)))
 
 place_below : (text labels label after : List ℕ) → Place text labels label after
     → list_all is_below after ≡ true → list_all is_below text ≡ true
@@ -46,20 +43,11 @@ pub faulty : (text : List ℕ) (fault : NameError) → StandsFirst text fault
 faulty text fault first name spelled =
     (spells_no_fault text name spelled).none fault first.place first.stands
 
--- the name that the text after the word spells
-pub zone_found : {E : Type 0} (line text : List ℕ) → line ≡ codes "zone " ++ text
-    → (r : Result (Option (List ℕ)) E) → IfOk r (λ found. IfSome found (Spells text))
-    → IfOk r (λ found. IfSome found (IsZoneLine line))
-zone_found line text split (Ok (Some name)) spelled = (text, split, spelled)
-zone_found line text split (Ok None) spelled = tt
-zone_found line text split (Err e) spelled = tt
-
-pub zone_none : {E : Type 0} (line text : List ℕ) → line ≡ codes "zone " ++ text
-    → (r : Result (Option (List ℕ)) E)
-    → IfOk r (λ found. IfNone found ((name : List ℕ) → ¬ Spells text name))
-    → IfOk r (λ found. IfNone found ((name : List ℕ) → ¬ IsZoneLine line name))
-zone_none line text split (Ok (Some name)) spelled = tt
-zone_none line text split (Ok None) spelled = λ name is.
+-- if the text after the word spells no name, the line has none
+pub zone_none : (line text : List ℕ) → line ≡ codes "zone " ++ text → (o : Option (List ℕ))
+    → IfNone o ((name : List ℕ) → ¬ Spells text name)
+    → IfNone o ((name : List ℕ) → ¬ IsZoneLine line name)
+zone_none line text split (Some name) spelled = tt
+zone_none line text split None spelled = λ name is.
     let same : text ≡ is.0 = ap (drop 5) (sym split ∙ is.1) in
     spelled name (subst (λ t. Spells t name) (sym same) is.2)
-zone_none line text split (Err e) spelled = tt

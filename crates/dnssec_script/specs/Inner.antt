@@ -1,3 +1,3 @@
--- What the reader promises to the crates above. No contract of a public call of these names it.
+-- What the reader promises to the crates above. No contract of their public calls names it.
 pub mod Statement
 pub mod Reading

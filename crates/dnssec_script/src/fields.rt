@@ -23,6 +23,7 @@ use std::marker::Model;
 use std::time::Duration;
 
 /// The roll with this name.
+#[tactic(auto, using(crate::proofs::Rolls::no_text, crate::proofs::Rolls::roll_read))]
 fn roll_named(name: &[u8]) -> Option<RollType>
     ensures { result ≡ roll_named name.now }
 {
@@ -55,7 +56,7 @@ fn is_reference_byte(byte: u8) -> bool
 }
 
 /// A flag, from `yes` or `no`.
-#[tactic(auto, unfolding(crate::specs::Script::as_yes_no))]
+#[tactic(auto, using(crate::proofs::Ascii::steps), unfolding(crate::specs::Script::as_yes_no))]
 fn yes_no(text: &[u8]) -> Option<bool>
     ensures { option_map Flag result ≡ as_yes_no text.now }
 {
@@ -102,7 +103,7 @@ fn number(most: u64, text: &[u8]) -> Option<u64>
 }
 
 /// A key's reference.
-#[tactic(auto, unfolding(crate::specs::Script::as_reference))]
+#[tactic(auto, using(crate::proofs::Ascii::steps), unfolding(crate::specs::Script::as_reference))]
 fn reference(text: &[u8]) -> Option<&str>
     ensures read { option_map (λ q. Reference q.now) result ≡ as_reference text.now }
     ensures is { is_some result ≡ is_reference text.now }
@@ -128,6 +129,7 @@ fn private(text: &[u8]) -> Option<Option<&str>>
 }
 
 /// The algorithm with this name.
+#[tactic(auto, using(crate::proofs::Algorithms::no_text))]
 fn algorithm_named(name: &[u8]) -> Option<SecurityAlgorithm>
     ensures { result ≡ algorithm_named name.now }
 {
@@ -138,7 +140,7 @@ fn algorithm_named(name: &[u8]) -> Option<SecurityAlgorithm>
 }
 
 /// An algorithm, by its number or its name.
-#[tactic(auto, unfolding(crate::specs::Script::as_algorithm))]
+#[tactic(auto, using(crate::proofs::Ascii::steps), unfolding(crate::specs::Script::as_algorithm))]
 fn algorithm(text: &[u8]) -> Option<SecurityAlgorithm>
     ensures { option_map Number result ≡ as_algorithm text.now }
 {

@@ -71,6 +71,7 @@ pub fn all_lines(alloc: Global, text: &[u8]) -> Result<Vec<&[u8]>, AllocError>
 }
 
 /// The script without a line feed at its end.
+#[tactic(auto, using(crate::proofs::EachLine::ends))]
 fn without_end(script: &[u8]) -> &[u8]
     ensures { result.now ≡ without_end script.now }
 {

@@ -1,7 +1,6 @@
 -- What was read so far came from the input, which has not failed; each turn adds some bytes.
 use Rattle.std.proofs.Common.{◌≡◌, ◌-◌, ◌^◌}
-use Rattle.std.specs.Prelude.{vec_len}
-use Rattle.std.specs.Io.KnownBytes.{Consumes}
+use Rattle.std.specs.{Prelude.vec_len, Io.KnownBytes.Consumes}
 use Rattle.dnssec_record.proofs.script.read_to_end.Given as goal
 
 abbrev pub invariant-loop-script : goal.invariant-loop-script

@@ -4,8 +4,7 @@ use Rattle.dnssec_script.specs.Script.{is_reference}
 use Rattle.dnssec_script.proofs.fields.references.Goals as goal
 
 pub returns-in-None : goal.returns-in-None
-returns-in-None c =
-    rw (fails_at is_reference _ _ c.loop-text-test.true c.in-None.ensures.is)
+returns-in-None c = rw (fails_at is_reference _ _ c.loop-text-test.true c.in-None.ensures.is)
 
 pub loop-text-preserved : goal.loop-text-preserved
 loop-text-preserved c = (

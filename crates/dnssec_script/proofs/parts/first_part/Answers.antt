@@ -1,7 +1,6 @@
 -- The first part ends at the first separator, or with the text.
-use Rattle.std.proofs.Common.{◌+◌, sym}
+use Rattle.std.proofs.{Common.◌+◌, Common.sym, lemmas.List.take_rest}
 use Rattle.std.specs.Prelude.{◌==◌}
-use Rattle.std.proofs.lemmas.List.{take_rest}
 use Rattle.dnssec_script.proofs.Cuts.{cut_at, no_cut}
 use Rattle.dnssec_script.proofs.parts.first_part.Goals as goal
 

@@ -1,6 +1,5 @@
 -- The pieces between separators are those that `split` gives.
-use Rattle.std.proofs.Common.{rules, ◌==◌}
-use Rattle.std.proofs.lemmas.Iterator.Consumers.{map_from_collect}
+use Rattle.std.proofs.{Common.rules, Common.◌==◌, lemmas.Iterator.Consumers.map_from_collect}
 use Rattle.std.proofs.lemmas.Iterator.Splits.{YieldsList-from_slice_split}
 use Rattle.dnssec_script.proofs.parts.parts.Goals as goal
 

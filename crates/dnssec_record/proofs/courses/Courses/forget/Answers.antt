@@ -1,10 +1,8 @@
 -- The other keys are kept.
 use Rattle.std.proofs.Common.{rules, tests}
-use Rattle.std.specs.Prelude.{not, string_bytes}
-use Rattle.std.specs.Str.{bytes_eq}
+use Rattle.std.specs.{Prelude.not, Prelude.string_bytes, Str.bytes_eq}
 use Rattle.dnssec_key.proofs.Retained.{filtered}
-use Rattle.dnssec_record.specs.Courses.{is_another}
-use Rattle.dnssec_record.specs.declared.courses.Listed.{Listed}
+use Rattle.dnssec_record.specs.{Courses.is_another, declared.courses.Listed.Listed}
 use Rattle.dnssec_record.proofs.Kept.{kept_listed}
 use Rattle.dnssec_record.proofs.courses.Courses.forget.Goals as goal
 

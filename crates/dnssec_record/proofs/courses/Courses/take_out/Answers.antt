@@ -2,8 +2,7 @@
 use Rattle.std.proofs.Common.{◌∙◌, rules, tests}
 use Rattle.std.specs.Prelude.{not}
 use Rattle.dnssec_key.proofs.Retained.{filtered}
-use Rattle.dnssec_record.specs.Courses.{is_of_other}
-use Rattle.dnssec_record.specs.declared.courses.Listed.{Listed}
+use Rattle.dnssec_record.specs.{Courses.is_of_other, declared.courses.Listed.Listed}
 use Rattle.dnssec_record.proofs.Kept.{kept_listed}
 use Rattle.dnssec_zone.specs.Rolls.{same_roll}
 use Rattle.dnssec_record.proofs.courses.Courses.take_out.Goals as goal

@@ -1,12 +1,26 @@
-use Rattle.std.proofs.Common.{ap, ◌∙◌}
-use Rattle.dnssec_record.specs.Courses.{turn_after}
-use Rattle.dnssec_record.proofs.Sessions.{advances, fits}
+-- The recorder, the judge and the rolls go on, and a copy may stand in the place of the three.
+use Rattle.std.proofs.Common.{ap, refl, ◌∙◌}
+use Rattle.dnssec_record.specs.{Courses.turn_after, declared.session.Session.Session}
+use Rattle.dnssec_record.proofs.Sessions.{advances}
 use Rattle.dnssec_record.proofs.session.Session.make.Goals as goal
 
 pub returns : goal.returns
 returns c name calls entries stands =
-    fits name calls entries c.args.call _ _ _ c.fitted.ensures
-    (advances name calls entries c.args.self _ c.args.call c.in-Ok.outcome _ stands
-    c.in-Ok.ensures.ok c.in-Ok.ensures.kept c.news-news.ensures c.in-Ok-note.ensures.ok
-    _ (c.after.ensures ∙ ap (λ t. turn_after t c.in-Ok.outcome.reply) c.of-turn.ensures)
-    c.in_ok-take.ensures.listed c.in_ok-take.ensures.ended)
+    let new : Session = record {
+      recorder = c.advance.new.self;
+      judge = c.note.new.self;
+      courses = c.take.new.self;
+    } in
+    let next = advances name calls entries c.args.self new c.in-Ok.outcome _ stands (record {
+      call = c.args.call;
+      is_call = refl;
+      records = c.in-Ok.ensures.ok;
+      kept = c.in-Ok.ensures.kept;
+    }) c.news-news.ensures c.in-Ok-note.ensures.ok _
+    (c.after.ensures ∙ ap (λ t. turn_after t c.in-Ok.outcome.reply) c.of-turn.ensures)
+    c.in_ok-take.ensures.listed c.in_ok-take.ensures.ended in
+    record {
+      entry = next.entry;
+      stands = c.fitted.ensures _ _ _ next.stands;
+      is_reply = next.is_reply;
+    }

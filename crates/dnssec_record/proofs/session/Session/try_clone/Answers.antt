@@ -1,9 +1,13 @@
-use Rattle.dnssec_record.proofs.Sessions.{copied}
+-- The copy stands after the same calls.
+use Rattle.std.proofs.Common.{◌∙◌}
+use Rattle.dnssec_record.proofs.Running.{same_sets}
 use Rattle.dnssec_record.proofs.session.Session.try_clone.Goals as goal
 
 pub returns : goal.returns
-returns c name calls entries stands =
-    copied name calls entries c.args.self.now _ stands
-    (c.in-Ok.ensures.records name calls entries stands.records)
-    ((c.in-Ok-try_clone.ensures.same entries).0 stands.knows) c.in-Ok.ensures.same.published
-    c.in_ok-courses.ensures.listed c.in_ok-courses.ensures.ended
+returns c name calls entries stands = record {
+  records = c.in-Ok.ensures.records name calls entries stands.records;
+  knows = (c.in-Ok-try_clone.ensures.same entries).0 stands.knows;
+  shown = same_sets _ _ c.in-Ok.ensures.same.published ∙ stands.shown;
+  listed = c.in_ok-courses.ensures.listed ∙ stands.listed;
+  ended = c.in_ok-courses.ensures.ended ∙ stands.ended;
+}

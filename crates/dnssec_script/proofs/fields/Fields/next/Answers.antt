@@ -1,8 +1,6 @@
 -- The next field is the first part of what is left.
-use Rattle.std.proofs.Common.{ap}
-use Rattle.std.specs.Prelude.{◌==◌}
-use Rattle.dnssec_script.specs.Script.{first_field}
-use Rattle.dnssec_script.proofs.Cuts.{parts_seen}
+use Rattle.std.{proofs.Common.ap, specs.Prelude.◌==◌}
+use Rattle.dnssec_script.{specs.Script.first_field, proofs.Cuts.parts_seen}
 use Rattle.dnssec_script.proofs.fields.Fields.next.Goals as goal
 
 pub returns : goal.returns

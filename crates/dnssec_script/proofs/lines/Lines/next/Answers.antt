@@ -1,6 +1,5 @@
 -- The next line is the first part of what is left.
-use Rattle.std.proofs.Common.{sym}
-use Rattle.std.specs.Prelude.{◌==◌}
+use Rattle.std.{proofs.Common.sym, specs.Prelude.◌==◌}
 use Rattle.dnssec_script.proofs.Cuts.{parts_seen}
 use Rattle.dnssec_script.proofs.lines.Lines.next.Goals as goal
 

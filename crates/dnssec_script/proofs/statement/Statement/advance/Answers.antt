@@ -1,7 +1,6 @@
 -- The recorder makes the call of the statement.
 use Rattle.std.proofs.Common.{◌∙◌, ap, sym}
-use Rattle.dnssec_script.specs.Inner.Statement.{statement_says}
-use Rattle.dnssec_script.proofs.Making.{makes}
+use Rattle.dnssec_script.{specs.Inner.Statement.statement_says, proofs.Making.makes}
 use Rattle.dnssec_script.proofs.statement.Statement.advance.Goals as goal
 
 pub returns-in-Call : goal.returns-in-Call

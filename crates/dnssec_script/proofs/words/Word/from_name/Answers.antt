@@ -1,13 +1,9 @@
 -- The first row of the table with this name has the word.
 use Rattle.std.proofs.Common.{◌≡◌, ℕ, List, [], ◌∷◌, map, Option, Some, None, Bool, true, false}
 use Rattle.std.proofs.Common.{cond, refl, sym, ap, ◌∙◌, rules, Bor}
-use Rattle.std.specs.List.{find}
-use Rattle.std.specs.Option.{option_map}
-use Rattle.std.specs.Str.{bytes_eq}
-use Rattle.std.proofs.lemmas.Iterator.{YieldsList-from_slice}
-use Rattle.std.proofs.lemmas.Iterator.Search.{find_from_yields_List}
-use Rattle.dnssec_script.specs.Script.{word_named, words}
-use Rattle.dnssec_script.specs.declared.words.Word.{Word}
+use Rattle.std.proofs.lemmas.Iterator.{YieldsList-from_slice, Search.find_from_yields_List}
+use Rattle.std.specs.{List.find, Option.option_map, Str.bytes_eq}
+use Rattle.dnssec_script.specs.{Script.word_named, Script.words, declared.words.Word.Word}
 use Rattle.dnssec_script.proofs.words.Word.from_name.Goals as goal
 
 -- a row of the reader's table, and the row of the format that it shows
@@ -38,32 +34,30 @@ row_found name [] = refl
 row_found name (row ∷ rows) = one_found name row rows (has_name name row) (row_found name rows)
 
 -- what the search for a row of the table gives
-word_found : (name : List ℕ) (all rows : List Row) (o : Option (Bor Row)) → all ≡ rows
+named : (name : List ℕ) (all rows : List Row) (o : Option (Bor Row)) (word : Option Word)
+    → all ≡ rows → map shown rows ≡ words
     → option_map (λ (x : Bor Row). x.now) o ≡ find (has_name name) rows
-    → option_map (λ (x : Bor Row). x.now.1) o ≡ word_in name (map shown rows)
-word_found name all rows None same e =
-    ap (option_map (λ (r : Row). r.1)) e ∙ row_found name rows
-word_found name all rows (Some x) same e =
-    ap (option_map (λ (r : Row). r.1)) e ∙ row_found name rows
-
-named_by : (name : List ℕ) (o : Option (Bor Row)) (word : Option Word)
-    → option_map (λ (x : Bor Row). x.now.1) o ≡ word_in name words
     → word ≡ option_map (λ (x : Bor Row). x.now.1) o → word ≡ word_named name
 unfolding word_named
-named_by name o word e same = same ∙ e
+named name all rows o word table shows found same =
+    same ∙ by o ∙ ap (option_map (λ (r : Row). r.1)) found ∙ row_found name rows
+    ∙ ap (word_in name) shows
+  where
+    by : (o : Option (Bor Row)) → option_map (λ (x : Bor Row). x.now.1) o
+        ≡ option_map (λ (r : Row). r.1) (option_map (λ (x : Bor Row). x.now) o)
+    by None = refl
+    by (Some x) = refl
 
 pub returns-in_err-row : goal.returns-in_err-row
 returns-in_err-row c =
-    let found = find_from_yields_List (has_name c.args.name.now) _ _ _ c.find.ensures.ran
-    (YieldsList-from_slice _ c.iter.ensures.rest) (λ x b q k. search rules) in
-    named_by c.args.name.now c.find.result _
-    (word_found c.args.name.now _ _ c.find.result c.iter.ensures.rest found)
+    named c.args.name.now _ _ c.find.result _ c.iter.ensures.rest refl
+    (find_from_yields_List (has_name c.args.name.now) _ _ _ c.find.ensures.ran
+    (YieldsList-from_slice _ c.iter.ensures.rest) (λ x b q k. search rules))
     (c.from_residual.ensures ∙ ap (option_map (λ (x : Bor Row). x.now.1)) (sym c.in_err-row.was))
 
 pub returns : goal.returns
 returns c =
-    let found = find_from_yields_List (has_name c.args.name.now) _ _ _ c.find.ensures.ran
-    (YieldsList-from_slice _ c.iter.ensures.rest) (λ x b q k. search rules) in
-    named_by c.args.name.now c.find.result _
-    (word_found c.args.name.now _ _ c.find.result c.iter.ensures.rest found)
+    named c.args.name.now _ _ c.find.result _ c.iter.ensures.rest refl
+    (find_from_yields_List (has_name c.args.name.now) _ _ _ c.find.ensures.ran
+    (YieldsList-from_slice _ c.iter.ensures.rest) (λ x b q k. search rules))
     (ap (option_map (λ (x : Bor Row). x.now.1)) (sym c.in_ok-row.was))

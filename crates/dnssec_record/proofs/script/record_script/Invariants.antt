@@ -1,11 +1,11 @@
 -- The entries so far are those of the calls of the statements so far.
 use Rattle.std.specs.Vec.Iter.{into_iter_items, into_iter_len}
-use Rattle.dnssec_record.proofs.Running.{HasRecorded}
-use Rattle.dnssec_record.proofs.Taken.{HasTaken}
-use Rattle.dnssec_record.proofs.script.recorded.Given as goal
+use Rattle.dnssec_run.specs.Recorder.{Records}
+use Rattle.dnssec_record.proofs.Made.{HasMade}
+use Rattle.dnssec_record.proofs.script.record_script.Given as goal
 
 abbrev pub invariant-loop-statement : goal.invariant-loop-statement
 invariant-loop-statement l =
-    HasTaken (into_iter_items l.initial.statement-iterator) l.yielded
+    HasMade l.script (into_iter_items l.initial.statement-iterator)
     (into_iter_items l.statement-iterator) (into_iter_len l.statement-iterator)
-    × HasRecorded l.fn.name l.yielded l.entries.items l.recorder
+    (λ name calls entries. Records name calls l.entries.items l.recorder)

@@ -1,4 +1,0 @@
-use Rattle.dnssec_record.proofs.session.Session.calls.Goals as goal
-
-pub returns : goal.returns
-returns c name calls entries stands = c.taken.ensures entries stands.knows

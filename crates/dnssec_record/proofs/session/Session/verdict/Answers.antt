@@ -1,4 +1,0 @@
-use Rattle.dnssec_record.proofs.session.Session.verdict.Goals as goal
-
-pub returns : goal.returns
-returns c name calls entries stands = c.verdict.ensures entries stands.knows
