@@ -1,33 +1,27 @@
 -- The sight that decides which TTL is due, and the older version that servers may have given until
 -- then.
 use Rattle.std.proofs.Common.{◌≡◌, ℕ, zero, suc, ◌<◌, ◌≤◌, ◌+◌, ◌⊎◌, inl, inr, refl, sym, ◌∙◌, ap}
-use Rattle.std.proofs.Common.{subst, arith, List, [], ◌∷◌, Option, None, Some, Bool, true, false}
-use Rattle.std.specs.Prelude.{max, if◌then◌else◌, nat_lt, ◌-◌, fold, unwrap_or}
-use Rattle.std.proofs.lemmas.Bool.{cases_lt}
-use Rattle.std.proofs.lemmas.Option.{same_Some, none-some}
-use Rattle.dnssec_network.specs.declared.fact.News.{News}
-use Rattle.dnssec_network.specs.declared.fact.News.TheVariants.{Published, Everywhere}
-use Rattle.dnssec_network.specs.declared.progress.Newest.{Newest}
-use Rattle.dnssec_network.specs.declared.spread.Spread.{Spread}
-use Rattle.dnssec_network.specs.Least.{ComeInOrder}
-use Rattle.dnssec_network.specs.Notes.{newest_after}
-use Rattle.dnssec_network.specs.Reports.{higher}
+use Rattle.std.proofs.Common.{subst, arith, List, [], ◌∷◌, Option, None, Some}
+use Rattle.std.proofs.lemmas.{Bool.cases_lt, Option.none-some}
+use Rattle.std.specs.Prelude.{if◌then◌else◌, nat_lt, ◌-◌, fold}
 use Rattle.dnssec_network.specs.Spread.{after, expired_after, next_second}
+use Rattle.dnssec_network.specs.declared.fact.News.{News, TheVariants.Published}
+use Rattle.dnssec_network.specs.declared.{fact.News.TheVariants.Everywhere, progress.Newest.Newest}
+use Rattle.dnssec_network.specs.{declared.spread.Spread.Spread, Least.ComeInOrder}
 
--- ---- the versions that are noted: number k of these news, counted from 0
+-- ---- the versions that are noted
 
-abbrev pub noted_position : ℕ → List News → ℕ → ℕ
-noted_position base [] k = base
-noted_position base (Published position ttl moment ∷ later) zero = position
-noted_position base (Published position ttl moment ∷ later) (suc k) =
-    noted_position base later k
-noted_position base (Everywhere moment ∷ later) k = noted_position base later k
+-- position and TTL of the version that comes k after the newest, which has these
+abbrev pub noted : ℕ × ℕ → List News → ℕ → ℕ × ℕ
+noted now [] k = now
+noted now (Published position ttl moment ∷ later) zero = now
+noted now (Published position ttl moment ∷ later) (suc k) = noted (position, ttl) later k
+noted now (Everywhere moment ∷ later) k = noted now later k
 
-abbrev pub noted_ttl : List News → ℕ → ℕ
-noted_ttl [] k = 0
-noted_ttl (Published position ttl moment ∷ later) zero = ttl
-noted_ttl (Published position ttl moment ∷ later) (suc k) = noted_ttl later k
-noted_ttl (Everywhere moment ∷ later) k = noted_ttl later k
+pub noted-now : (now : ℕ × ℕ) (news : List News) → noted now news 0 ≡ now
+noted-now now [] = refl
+noted-now now (Published position ttl moment ∷ later) = refl
+noted-now now (Everywhere moment ∷ later) = noted-now now later
 
 -- the newest version that is published at a time, after version n
 abbrev pub reached : ℕ → List News → ℕ → ℕ
@@ -39,14 +33,7 @@ reached n (Everywhere moment ∷ later) time = reached n later time
 pub at-least : (n : ℕ) (news : List News) (time : ℕ) → n ≤ reached n news time
 at-least n [] time = omega arith
 at-least n (Everywhere moment ∷ later) time = at-least n later time
-at-least n (Published position ttl moment ∷ later) time =
-    let rec : suc n ≤ reached (suc n) later time = at-least (suc n) later time in
-    by (nat_lt time moment) rec
-  where
-    by : (b : Bool) → suc n ≤ reached (suc n) later time
-        → n ≤ (if b then n else reached (suc n) later time)
-    by true h = omega arith
-    by false h = omega (arith, h)
+at-least n (Published position ttl moment ∷ later) time = grind (arith, at-least (suc n) later time)
 
 -- no version is published before one that precedes it
 pub rises : (n : ℕ) (news : List News) (early late : ℕ) → early ≤ late
@@ -54,87 +41,24 @@ pub rises : (n : ℕ) (news : List News) (early late : ℕ) → early ≤ late
 rises n [] early late le = omega arith
 rises n (Everywhere moment ∷ later) early late le = rises n later early late le
 rises n (Published position ttl moment ∷ later) early late le =
-    let rec : reached (suc n) later early ≤ reached (suc n) later late =
-    rises (suc n) later early late le in
-    let more : suc n ≤ reached (suc n) later late = at-least (suc n) later late in
-    elim (cases_lt early moment) [
-      | inl before ↦
-          let is : nat_lt early moment ≡ true = grind (arith, before) in
-          subst (λ b. (if b then n else reached (suc n) later early)
-          ≤ reached n (Published position ttl moment ∷ later) late) (sym is)
-          (at-least n (Published position ttl moment ∷ later) late)
-      | inr after ↦
-          let is : nat_lt early moment ≡ false = grind (arith, after) in
-          let same : nat_lt late moment ≡ false = grind (arith, after, le) in
-          subst (λ b. (if b then n else reached (suc n) later early)
-          ≤ reached n (Published position ttl moment ∷ later) late) (sym is)
-          (subst (λ b. reached (suc n) later early
-          ≤ (if b then n else reached (suc n) later late)) (sym same) rec)
-    ]
-
--- a version is published at its moment, and not before
-pub held-back : (n position ttl moment : ℕ) (later : List News) (time : ℕ)
-    → n < reached n (Published position ttl moment ∷ later) time → moment ≤ time
-held-back n position ttl moment later time lt = elim (cases_lt time moment) [
-  | inl before ↦
-      let is : nat_lt time moment ≡ true = grind (arith, before) in
-      let same : reached n (Published position ttl moment ∷ later) time ≡ n =
-      ap (λ b. if b then n else reached (suc n) later time) is in
-      absurd (omega (arith, lt, same))
-  | inr after ↦ after
-]
-
-pub goes-on : (n position ttl moment : ℕ) (later : List News) (time : ℕ) → moment ≤ time
-    → reached n (Published position ttl moment ∷ later) time ≡ reached (suc n) later time
-goes-on n position ttl moment later time le =
-    let is : nat_lt time moment ≡ false = grind (arith, le) in
-    ap (λ b. if b then n else reached (suc n) later time) is
-
--- what a suffix of the news may still reach
-pub no-more : (n position ttl moment : ℕ) (later : List News) (time : ℕ)
-    → reached n (Published position ttl moment ∷ later) time ≤ reached (suc n) later time
-no-more n position ttl moment later time =
-    let rec : suc n ≤ reached (suc n) later time = at-least (suc n) later time in
-    elim (cases_lt time moment) [
-      | inl before ↦
-          let is : nat_lt time moment ≡ true = grind (arith, before) in
-          let same : reached n (Published position ttl moment ∷ later) time ≡ n =
-          ap (λ b. if b then n else reached (suc n) later time) is in
-          omega (arith, rec, same)
-      | inr after ↦
-          let same : reached n (Published position ttl moment ∷ later) time
-          ≡ reached (suc n) later time = goes-on n position ttl moment later time after in
-          omega (arith, same)
-    ]
+    grind (arith, rises (suc n) later early late le, at-least (suc n) later late)
 
 -- ---- positions don't go back
 
-pub stays-above : (base last : ℕ) (newest : Newest) (news : List News)
-    → ComeInOrder base last newest news → base ≤ last → (k : ℕ)
-    → base ≤ noted_position base news k
-stays-above base last newest [] order le k = omega arith
-stays-above base last newest (Published position ttl moment ∷ later) order le zero = order.1 le
-stays-above base last newest (Published position ttl moment ∷ later) order le (suc k) =
-    stays-above base position (newest_after (Published position ttl moment) newest) later order.2
-    (order.1 le) k
-stays-above base last newest (Everywhere moment ∷ later) order le k =
-    stays-above base last (newest_after (Everywhere moment) newest) later order.2 le k
-
-pub none-falls : (base last : ℕ) (newest : Newest) (news : List News)
-    → ComeInOrder base last newest news → (j k : ℕ) → j ≤ k
-    → base ≤ noted_position base news j → base ≤ noted_position base news k
-none-falls base last newest [] order j k le h = omega arith
-none-falls base last newest (Published position ttl moment ∷ later) order zero zero le h = h
-none-falls base last newest (Published position ttl moment ∷ later) order zero (suc k) le h =
-    stays-above base position (newest_after (Published position ttl moment) newest) later order.2
-    h k
-none-falls base last newest (Published position ttl moment ∷ later) order (suc j) zero le h =
+pub none-falls : (base : ℕ) (now : ℕ × ℕ) (newest : Newest) (news : List News)
+    → ComeInOrder base now.0 newest news → (j k : ℕ) → j ≤ k
+    → base ≤ (noted now news j).0 → base ≤ (noted now news k).0
+none-falls base now newest [] order j k le h = h
+none-falls base now newest (Published position ttl moment ∷ later) order zero zero le h = h
+none-falls base now newest (Published position ttl moment ∷ later) order zero (suc k) le h =
+    none-falls base (position, ttl) _ later order.2 0 k (omega arith)
+    (subst (λ (p : ℕ × ℕ). base ≤ p.0) (sym (noted-now (position, ttl) later)) (order.1 h))
+none-falls base now newest (Published position ttl moment ∷ later) order (suc j) zero le h =
     absurd (omega (arith, le))
-none-falls base last newest (Published position ttl moment ∷ later) order (suc j) (suc k) le h =
-    none-falls base position (newest_after (Published position ttl moment) newest) later order.2
-    j k (omega (arith, le)) h
-none-falls base last newest (Everywhere moment ∷ later) order j k le h =
-    none-falls base last (newest_after (Everywhere moment) newest) later order.2 j k le h
+none-falls base now newest (Published position ttl moment ∷ later) order (suc j) (suc k) le h =
+    none-falls base (position, ttl) _ later order.2 j k (omega (arith, le)) h
+none-falls base now newest (Everywhere moment ∷ later) order j k le h =
+    none-falls base now _ later order.2 j k le h
 
 -- ---- the sights before a time are of versions up to v
 
@@ -144,196 +68,116 @@ Clear e v n (Published position ttl moment ∷ later) = Clear e v (suc n) later
 Clear e v n (Everywhere moment ∷ later) = (moment < e → n ≤ v) × Clear e v n later
 
 -- if there are none before it
-pub clear-later : (base last e v n : ℕ) (newest : Newest) (news : List News)
+clear-later : (base last e v n : ℕ) (newest : Newest) (news : List News)
     → ComeInOrder base last newest news → e ≤ newest.seen → Clear e v n news
 clear-later base last e v n newest [] order le = tt
 clear-later base last e v n newest (Published position ttl moment ∷ later) order le =
-    clear-later base position e v (suc n) (newest_after (Published position ttl moment) newest)
-    later order.2 le
-clear-later base last e v n newest (Everywhere moment ∷ later) order le =
-    let seen : newest.seen ≤ moment = order.1 in (
-      λ lt. absurd (omega (arith, lt, le, seen)),
-      clear-later base last e v n (newest_after (Everywhere moment) newest) later order.2
-          (omega (arith, le, seen)),
-    )
+    clear-later base position e v (suc n) _ later order.2 le
+clear-later base last e v n newest (Everywhere moment ∷ later) order le = (
+  λ lt. absurd (omega (arith, lt, le, order.1)),
+  clear-later base last e v n _ later order.2 (omega (arith, le, order.1)),
+)
 
 -- ---- a sight from which on older versions expire last
 
-module _ (position ttl whole : ℕ → ℕ) (base : ℕ) where
-  -- the versions after number n are those of the news
-  pub record Has (n : ℕ) (news : List News) : Type 0 where
-    pub position_is : (m k : ℕ) → m ≡ suc (n + k) → position m ≡ noted_position base news k
-    pub ttl_is : (m k : ℕ) → m ≡ suc (n + k) → ttl m ≡ noted_ttl news k
+-- the versions from number n on are those of the news
+abbrev pub Has : (ℕ → ℕ × ℕ) → ℕ → ℕ × ℕ → List News → Type 0
+Has version n now news = (m k : ℕ) → m ≡ n + k → version m ≡ noted now news k
 
-  -- once the newest of before is published, what is published follows the news
-  abbrev pub Follows : ℕ → ℕ → List News → Type 0
-  Follows n published news = (time : ℕ) → published ≤ time → whole time ≡ reached n news time
+-- what is published follows the news, once the newest version of before is published
+abbrev pub Follows : (ℕ → ℕ) → ℕ → ℕ → List News → Type 0
+Follows whole n published news = (time : ℕ) → (whole time ≤ reached n news time)
+    × (published ≤ time → whole time ≡ reached n news time)
 
-  pub has-on : (n at lives moment : ℕ) (later : List News)
-      → Has n (Published at lives moment ∷ later) → Has (suc n) later
-  has-on n at lives moment later has = record {
-    position_is = λ m k e. has.position_is m (suc k) (omega (arith, e));
-    ttl_is = λ m k e. has.ttl_is m (suc k) (omega (arith, e));
-  }
+pub has-next : (version : ℕ → ℕ × ℕ) (n at lives moment : ℕ) (now : ℕ × ℕ) (later : List News)
+    → Has version n now (Published at lives moment ∷ later)
+    → Has version (suc n) (at, lives) later × version (suc n) ≡ (at, lives)
+has-next version n at lives moment now later has = (
+  λ m k e. has m (suc k) (omega (arith, e)),
+  has (suc n) 1 (omega arith) ∙ noted-now (at, lives) later,
+)
 
-  pub follows-on : (n published at lives moment : ℕ) (later : List News) → published ≤ moment
-      → Follows n published (Published at lives moment ∷ later)
-      → Follows (suc n) moment later
-  follows-on n published at lives moment later le follows time after =
-      follows time (omega (arith, le, after)) ∙ goes-on n at lives moment later time after
+pub follows-on : (whole : ℕ → ℕ) (n published at lives moment : ℕ) (later : List News)
+    → published ≤ moment → Follows whole n published (Published at lives moment ∷ later)
+    → Follows whole (suc n) moment later
+follows-on whole n published at lives moment later le follows time =
+    let same = (follows time).1 in (
+      grind (arith, (follows time).0, at-least (suc n) later time),
+      λ from. grind (arith, same, le, from),
+    )
 
-  -- number n is the newest version, and number `first` was when all were last seen to be
-  pub record Holds (n first : ℕ) (s : Spread) : Type 0 where
-    pub position_is : position n ≡ s.position
-    pub ttl_is : ttl n ≡ s.ttl
-    pub low : first ≤ n
-    -- an older version that servers may still give has the TTL that is noted
-    pub older : (m : ℕ) → s.older ≡ Some m
-        → (v : ℕ) × (v < n) × (position v < base) × (ttl v ≡ m) × (first ≤ v)
+-- the second from which it is expired rises only to the end of the TTL that is noted
+risen : (moment expired : ℕ) (o : Option ℕ) → (expired_after moment o expired ≡ expired)
+    ⊎ ((ttl : ℕ) × (o ≡ Some ttl) × (expired_after moment o expired ≡ next_second moment + ttl))
+risen moment expired None = inl refl
+risen moment expired (Some ttl) = elim (cases_lt expired (next_second moment + ttl)) [
+  | inl more ↦ inr (ttl, refl, omega (arith, more))
+  | inr less ↦ inl (omega (arith, less))
+]
+
+module _ (version : ℕ → ℕ × ℕ) (whole : ℕ → ℕ) (base : ℕ) where
+  -- an older version that servers may still give has the TTL that is noted; number `first` was the
+  -- newest when all were last seen to give it
+  abbrev Older : ℕ → ℕ → Option ℕ → Type 0
+  Older n first o = (m : ℕ) → o ≡ Some m
+      → (v : ℕ) × (v < n) × ((version v).0 < base) × ((version v).1 ≡ m) × (first ≤ v)
 
   -- at e all servers had left version v, from which on it expires last
-  pub record Decides (n first seen : ℕ) (news : List News) (expired : ℕ) : Type 0 where
-    pub v : ℕ
-    pub e : ℕ
-    pub before : position v < base
-    pub ends : expired ≡ next_second e + ttl v
+  pub record ExpiresLast (v e expired : ℕ) : Type 0 where
+    pub before : (version v).0 < base
+    pub ends : expired ≡ next_second e + (version v).1
     pub positive : 0 < e
     pub reaches : v ≤ whole (e - 1)
-    pub late : seen ≤ e
-    pub above : first ≤ v
-    pub clear : Clear e v n news
 
-  -- the newest of before is older than the step
-  older-on : (n first at : ℕ) (s : Spread) (b : Bool) → Holds n first s
-      → (b ≡ true → s.position < base)
-      → (m : ℕ) → (if b then Some (max (unwrap_or s.older 0) s.ttl) else s.older) ≡ Some m
-      → (v : ℕ) × (v < suc n) × (position v < base) × (ttl v ≡ m) × (first ≤ v)
-  older-on n first at s false holds is m e =
-      let old = holds.older m e in
-      (old.0, omega (arith, old.1), old.2, old.3, old.4)
-  older-on n first at s true holds is m e =
-      by s.older refl (same_Some _ _ e)
-    where
-      newest : s.ttl ≡ m
-          → (v : ℕ) × (v < suc n) × (position v < base) × (ttl v ≡ m) × (first ≤ v)
-      newest same =
-          let at_n : position n ≡ s.position = holds.position_is in
-          let lt : s.position < base = is refl in
-          let low : first ≤ n = holds.low in
-          (n, omega arith, omega (arith, at_n, lt), holds.ttl_is ∙ same, low)
-
-      by : (o : Option ℕ) → s.older ≡ o → max (unwrap_or o 0) s.ttl ≡ m
-          → (v : ℕ) × (v < suc n) × (position v < base) × (ttl v ≡ m) × (first ≤ v)
-      by None none same = newest (omega (arith, same))
-      by (Some k) some same = elim (cases_lt s.ttl k) [
-        | inl lower ↦
-            let old = holds.older k some in
-            let is_k : ttl old.0 ≡ k = old.3 in
-            let below : old.0 < n = old.1 in
-            (old.0, omega (arith, below), old.2, omega (arith, is_k, same, lower), old.4)
-        | inr higher ↦ newest (omega (arith, same, higher))
-      ]
-
-  holds-on : (n first at lives moment : ℕ) (later : List News) (s : Spread)
-      → Has n (Published at lives moment ∷ later) → Holds n first s
-      → Holds (suc n) first (after base s (Published at lives moment))
-  holds-on n first at lives moment later s has holds =
-      let low : first ≤ n = holds.low in
-      record {
-        position_is = has.position_is (suc n) 0 (omega arith);
-        ttl_is = has.ttl_is (suc n) 0 (omega arith);
-        low = omega (arith, low);
-        older = λ m e. older-on n first at s (nat_lt s.position base) holds
-            (λ is. grind (arith, is)) m e;
-      }
+  -- so it is if more is expired than before
+  abbrev pub Decides : ℕ → ℕ → List News → ℕ → ℕ → Type 0
+  Decides n first news before expired = (v : ℕ) × (e : ℕ) × Clear e v n news × (first ≤ v)
+      × ((expired ≡ before) ⊎ ExpiresLast v e expired)
 
   pub decided : (n first : ℕ) (newest : Newest) (s : Spread) (news : List News)
-      → Has n news → Holds n first s → ComeInOrder base s.position newest news
-      → Follows n newest.published news
-      → ((fold (after base) s news).expired ≡ s.expired)
-      ⊎ Decides n first newest.seen news (fold (after base) s news).expired
-  decided n first newest s [] has holds order follows = inl refl
-  decided n first newest s (Published at lives moment ∷ later) has holds order follows =
-      elim (decided (suc n) first (newest_after (Published at lives moment) newest)
-      (after base s (Published at lives moment)) later
-      (has-on n at lives moment later has) (holds-on n first at lives moment later s has holds)
-      order.2 (follows-on n newest.published at lives moment later order.0 follows)) [
-        | inl same ↦ inl same
-        | inr d ↦ inr (record {
-          v = d.v;
-          e = d.e;
-          before = d.before;
-          ends = d.ends;
-          positive = d.positive;
-          reaches = d.reaches;
-          late = d.late;
-          above = d.above;
-          clear = d.clear;
-        })
-      ]
-  decided n first newest s (Everywhere moment ∷ later) has holds order follows =
-      let published : newest.published < moment = order.0 in
-      let seen : newest.seen ≤ moment = order.1 in
-      let low : first ≤ n = holds.low in
-      elim (decided n n (newest_after (Everywhere moment) newest)
-      (after base s (Everywhere moment)) later
-      (record { position_is = has.position_is; ttl_is = has.ttl_is })
-      (record {
-        position_is = holds.position_is;
-        ttl_is = holds.ttl_is;
-        low = omega arith;
-        older = λ m e. absurd (none-some m e);
-      })
-      order.2 follows) [
-        | inl same ↦ by s.older refl same
-        | inr d ↦
-            let above : n ≤ d.v = d.above in
-            let late : moment ≤ d.e = d.late in
-            inr (record {
-              v = d.v;
-              e = d.e;
-              before = d.before;
-              ends = d.ends;
-              positive = d.positive;
-              reaches = d.reaches;
-              late = omega (arith, late, seen);
-              above = omega (arith, above, low);
-              clear = (λ lt. above, d.clear);
-            })
-      ]
-    where
-      by : (o : Option ℕ) → s.older ≡ o
-          → (fold (after base) s (Everywhere moment ∷ later)).expired
-          ≡ expired_after moment o s.expired
-          → ((fold (after base) s (Everywhere moment ∷ later)).expired ≡ s.expired)
-          ⊎ Decides n first newest.seen (Everywhere moment ∷ later)
-          (fold (after base) s (Everywhere moment ∷ later)).expired
-      by None none same = inl same
-      by (Some k) some same = elim (cases_lt s.expired (next_second moment + k)) [
-        | inl more ↦
-            let published : newest.published < moment = order.0 in
-            let seen : newest.seen ≤ moment = order.1 in
-            let old = holds.older k some in
-            let below : old.0 < n = old.1 in
-            let is_k : ttl old.0 ≡ k = old.3 in
-            let reach : n ≤ reached n (Everywhere moment ∷ later) (moment - 1) =
-            at-least n (Everywhere moment ∷ later) (moment - 1) in
-            let follow : whole (moment - 1) ≡ reached n (Everywhere moment ∷ later) (moment - 1) =
-            follows (moment - 1) (omega (arith, published)) in
-            inr (record {
-              v = old.0;
-              e = moment;
-              before = old.2;
-              ends = omega (arith, same, more, is_k);
-              positive = omega (arith, published);
-              reaches = omega (arith, below, reach, follow);
-              late = seen;
-              above = old.4;
-              clear = (
-                λ lt. absurd (omega (arith, lt)),
-                clear-later base s.position moment old.0 n (newest_after (Everywhere moment) newest)
-                    later order.2 (omega arith),
-              );
-            })
-        | inr less ↦ inl (omega (arith, same, less))
+      → Has version n (s.position, s.ttl) news → first ≤ n → Older n first s.older
+      → ComeInOrder base s.position newest news → Follows whole n newest.published news
+      → Decides n first news s.expired (fold (after base) s news).expired
+  decided n first newest s [] has low older order follows = (n, 0, tt, low, inl refl)
+  decided n first newest s (Published at lives moment ∷ later) has low older order follows =
+      let is : version n ≡ (s.position, s.ttl) = has n 0 (omega arith) in
+      let next = has-next version n at lives moment (s.position, s.ttl) later has in
+      decided (suc n) first _ (after base s (Published at lives moment)) later next.0
+      (omega (arith, low))
+      (λ m e.
+      let was : (s.older ≡ Some m) ⊎ ((s.position < base) × (s.ttl ≡ m)) = grind (arith, e) in
+      elim was [
+        | inl old ↦ let o = older m old in (o.0, omega (arith, o.1), o.2, o.3, o.4)
+        | inr newly ↦ (n, omega arith, rw is newly.0, rw is newly.1, low)
+      ]) order.2 (follows-on whole n newest.published at lives moment later order.0 follows)
+  decided n first newest s (Everywhere moment ∷ later) has low older order follows =
+      let d = decided n n _ (after base s (Everywhere moment)) later has (omega arith)
+      (λ m e. absurd (none-some m e)) order.2 follows in
+      let last : ℕ = (fold (after base) s (Everywhere moment ∷ later)).expired in
+      let stays : (last ≡ s.expired) ⊎ ExpiresLast d.0 d.1 last
+      → Decides n first (Everywhere moment ∷ later) s.expired last =
+      λ h. (d.0, d.1, (λ lt. d.3, d.2), omega (arith, low, d.3), h) in
+      elim d.4 [
+        | inl same ↦ elim (risen moment s.expired s.older) [
+          | inl kept ↦ stays (inl (same ∙ kept))
+          | inr rose ↦
+              let o = older rose.0 rose.1 in
+              let more = at-least n (Everywhere moment ∷ later) (moment - 1) in
+              let is = (follows (moment - 1)).1 (omega (arith, order.0)) in (
+                o.0,
+                moment,
+                (
+                  λ lt. absurd (omega (arith, lt)),
+                  clear-later base s.position moment o.0 n _ later order.2 (omega arith),
+                ),
+                o.4,
+                inr (record {
+                  before = o.2;
+                  ends = same ∙ rose.2 ∙ ap (λ ttl. next_second moment + ttl) (sym o.3);
+                  positive = omega (arith, order.0);
+                  reaches = omega (arith, o.1, is, more);
+                }),
+              )
+        ]
+        | inr last ↦ stays (inr last)
       ]

@@ -5,21 +5,15 @@ use Rattle.dnssec_run.specs.declared.record.Entry.{Entry}
 use Rattle.dnssec_run.specs.ByAlgorithm.{HasChainByEach, KeepsWhole, algorithm_of}
 use Rattle.dnssec_run.specs.Plain.{IsPlain}
 use Rattle.dnssec_run.specs.Record.{IsRun}
-use Rattle.dnssec_run.specs.Safe.{Ds, Dnskey, ZoneSigners, position_at}
-use Rattle.dnssec_network.specs.Network.{Network, IsNetworkOf, MayBeHeld, NoneLiesAhead}
+use Rattle.dnssec_network.specs.Network.{Network, IsNetworkOf, NoneLiesAhead, OfAllHeld}
 use Rattle.dnssec_network.specs.Network.{ReportsAreTrue}
 
 -- Whatever sets caches hold at this time, they have a chain by each algorithm of the DS set. A
 -- resolver that keeps the algorithms of a DS set with the DNSKEY set that it checked holds the DS
 -- set as long: that counts in the TTL of DS sets.
 abbrev pub FindChainByEach : List Call → List Entry → Network → ℕ → Type 0
-FindChainByEach calls entries network time = (p q z : ℕ) →
-    MayBeHeld network Ds p time →
-    MayBeHeld network Dnskey q time →
-    MayBeHeld network ZoneSigners z time →
-    HasChainByEach (algorithm_of calls) (position_at entries (network.position Ds p))
-    (position_at entries (network.position Dnskey q))
-    (position_at entries (network.position ZoneSigners z))
+FindChainByEach calls entries network time =
+    OfAllHeld entries network time (HasChainByEach (algorithm_of calls))
 
 -- so they find at every time, if the list also keeps the sets whole
 abbrev pub ResolversFindEachChain : Type 0

@@ -42,7 +42,7 @@ due_of before facts kind speaks base now =
     else Ok 0
 
 -- the highest TTL for all kinds that a report of the roll speaks of, if its step is at `base`; or
--- the first of these kinds whose older sets servers may still give
+-- the first such kind whose older sets servers may still give
 abbrev pub due : Before → List Fact → RollType → Bool → ℕ → ℕ → Result ℕ Kind
 due before facts roll second base now =
     higher (higher (due_of before facts Ds (retires roll second (kind_of Ds)) base now)

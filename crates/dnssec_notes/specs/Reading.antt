@@ -14,8 +14,7 @@ use Rattle.dnssec_notes.specs.declared.fault.NotesFault.TheVariants.{OutOfMemory
 
 -- ---- notes
 
--- given the number of calls made, none of these facts is refused after the old ones and those
--- before it
+-- given the number of calls made, no fact is refused after the old ones and those before it
 abbrev pub AreTaken : ℕ → List Fact → List Fact → Type 0
 AreTaken calls old [] = Unit {0}
 AreTaken calls old (fact ∷ facts) =

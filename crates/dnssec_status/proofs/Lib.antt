@@ -3,8 +3,7 @@
 -- | Function and clause | Lemma | File |
 -- |---|---|---|
 -- | `keys::in_order` | `put_in_order` | Order |
--- | each longer `push_` | `more`, `more_as`, `on_ok` | Chains |
--- | `status` | `all_told` | Told |
+-- | each longer `push_` | `on_ok` | Chains |
+-- | `status` | `array_read` | Chains |
 pub mod Chains
 pub mod Order
-pub mod Told

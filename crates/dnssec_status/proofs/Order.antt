@@ -1,26 +1,23 @@
 -- Entries of a map that were put in order are those of the finite map, in its order.
-use Rattle.std.proofs.Common.{◌≡◌, ℕ, ◌+◌, Bool, true, false, ◌&&◌, List, [], ◌∷◌, map}
-use Rattle.std.proofs.Common.{length, Option, None, Some, refl, sym, ap, ◌∙◌, subst, arith, get_or}
-use Rattle.std.proofs.Common.{T, cond}
-use Rattle.std.specs.Prelude.{IsPermutation, IsSortedByKey}
-use Rattle.std.specs.declared.cmp.Ordering.{Ordering}
+use Rattle.std.proofs.Common.{◌≡◌, ℕ, ◌+◌, Bool, true, false, ◌&&◌, List, [], ◌∷◌, map, length}
+use Rattle.std.proofs.Common.{Option, None, Some, refl, sym, ap, ◌∙◌, subst, arith, get_or, T, cond}
 use Rattle.std.specs.declared.cmp.Ordering.TheVariants.{Less, Equal, Greater}
-use Rattle.std.proofs.lemmas.Cmp.{eq_by_cmp_equiv}
-use Rattle.std.specs.Cmp.Lexicographic.{slice_cmp, nat_list_cmp_total}
-use Rattle.std.specs.FinMap.{nat_cmp-IsAntisymmetric, slice_cmp-IsAntisymmetric}
 use Rattle.std.specs.FinMap.Entries.{below_all, find, is_sorted, same_entries}
-use Rattle.std.specs.List.{AllByRecursion, IsDistinct}
-use Rattle.std.specs.List.Sorted.{IsStrictlySortedBy}
-use Rattle.std.specs.Map.{keys_of, lookup}
 use Rattle.std.specs.Ordering.{eq_by_cmp, is_eq, is_lt, nat_cmp, ordering_reverse}
-use Rattle.std.proofs.lemmas.List.{get_or-map, length-map}
 use Rattle.std.proofs.lemmas.List.Sorted.{Contains-permutation, IsPermutation-map}
 use Rattle.std.proofs.lemmas.List.Sorted.{IsPermutation-sym}
 use Rattle.std.proofs.lemmas.Map.Keys.{IsDistinct-IsPermutation, IsDistinct-from_sorted}
-use Rattle.std.proofs.lemmas.Map.Keys.{apart_from_distinct, sorted_from_all_adjacent}
-use Rattle.std.proofs.lemmas.Map.Keys.{sorted_head, sorted_tail}
-use Rattle.std.proofs.lemmas.Map.Lookups.{exact_bytes}
+use Rattle.std.proofs.lemmas.Map.Keys.{apart_from_distinct, sorted_from_all_adjacent, sorted_head}
+use Rattle.std.proofs.lemmas.Map.Keys.{sorted_tail}
 use Rattle.std.proofs.lemmas.Map.Views.{Contains-from_lookup, lookup-from_Contains, tells_apart}
+use Rattle.std.specs.{Prelude.IsPermutation, Prelude.IsSortedByKey, declared.cmp.Ordering.Ordering}
+use Rattle.std.{proofs.lemmas.Cmp.eq_by_cmp_equiv, specs.Cmp.Lexicographic.slice_cmp}
+use Rattle.std.specs.{Cmp.Lexicographic.nat_list_cmp_total, FinMap.nat_cmp-IsAntisymmetric}
+use Rattle.std.specs.{FinMap.slice_cmp-IsAntisymmetric, List.AllByRecursion, List.IsDistinct}
+use Rattle.std.specs.{List.Sorted.IsStrictlySortedBy, Map.keys_of, Map.lookup}
+use Rattle.std.proofs.lemmas.{List.get_or-map, List.length-map, Map.Lookups.exact_bytes}
+use Rattle.dnssec_zone.proofs.Quantified.{first, second}
+use mathlib.Core.List.{map-map}
 
 -- the order of references
 abbrev R : List ℕ → List ℕ → Ordering
@@ -34,14 +31,6 @@ same = eq_by_cmp R
 both : (a b : Bool) → T a → T b → T (a && b)
 both true b p q = q
 both false b p q = absurd p
-
-first : (a b : Bool) → T (a && b) → T a
-first true b p = tt
-first false b p = absurd p
-
-second : (a b : Bool) → T (a && b) → T b
-second true b p = p
-second false b p = absurd p
 
 less : (r : Ordering) → T (is_lt r) → r ≡ Less
 less Less p = refl
@@ -100,9 +89,7 @@ module _ {X : Type 0} where
 -- ---- in order and all different, the keys strictly rise
 
 rises : (r : Ordering) → is_eq r ≡ false → is_lt (ordering_reverse r) ≡ false → r ≡ Less
-rises Less apart up = refl
-rises Equal apart up = cc
-rises Greater apart up = cc
+rises r apart up = grind arith
 
 module _ {L : Type 0} (key : L → List ℕ) where
   strictly : (ls : List L) → IsSortedByKey key R ls → IsDistinct same (map key ls)
@@ -127,24 +114,20 @@ module _ {L : Type 0} (key : L → List ℕ) where
 -- ---- so two lists in order that have the same entries are one
 
 module _ {L X : Type 0} (entry : L → List ℕ × X) where
-  keys_read : (ls : List L) → keys_of (map entry ls) ≡ map (λ l. (entry l).0) ls
-  keys_read [] = refl
-  keys_read (l ∷ ls) = ap (λ ks. (entry l).0 ∷ ks) (keys_read ls)
-
   pub put_in_order : (es : List (List ℕ × X)) (ls : List L) → T (is_sorted R es)
       → IsPermutation es (map entry ls) → IsSortedByKey (λ l. (entry l).0) R ls
       → map entry ls ≡ es
   put_in_order es ls sorted moved up =
       let fs : List (List ℕ × X) = map entry ls in
+      let read = map-map (λ (e : List ℕ × X). e.0) entry ls in
       let apart_es : IsDistinct same (keys_of es) =
       IsDistinct-from_sorted R (keys_of es) (of_entries es sorted) in
       let apart_fs : IsDistinct same (keys_of fs) =
       IsDistinct-IsPermutation same (eq_by_cmp_equiv nat_list_cmp_total).symm (keys_of es)
       (keys_of fs) (IsPermutation-map (λ (e : List ℕ × X). e.0) es fs moved) apart_es in
       let rising : IsStrictlySortedBy R (keys_of fs) =
-      subst (IsStrictlySortedBy R) (sym (keys_read ls))
-      (strictly (λ l. (entry l).0) ls up
-      (subst (IsDistinct same) (keys_read ls) apart_fs)) in
+      subst (IsStrictlySortedBy R) (sym read)
+      (strictly (λ l. (entry l).0) ls up (subst (IsDistinct same) read apart_fs)) in
       same_entries R nat_list_cmp_total
       (slice_cmp-IsAntisymmetric nat_cmp-IsAntisymmetric) fs es (to_entries fs rising) sorted
       (found_alike es fs moved apart_es apart_fs)

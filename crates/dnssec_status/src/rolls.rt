@@ -104,6 +104,7 @@ fn push_roll(alloc: Global, out: &mut Vec<u8>, going: &Going) -> Result<(), Allo
 }
 
 /// Writes a roll in progress by its parts.
+#[tactic(auto, using(crate::proofs::Chains::assoc), unfolding(crate::specs::Rolls::parts_json))]
 fn push_parts(
     alloc: Global,
     out: &mut Vec<u8>,
@@ -123,37 +124,35 @@ fn push_parts(
     push_waits_for(out, phase, due)?;
     push_bytes(out, b",\"due\":")?;
     push_actions(out, due)?;
-    push_bytes(out, b"}")
+    push_bytes(out, b"}")?;
+    Ok(())
 }
+
+// What is written in each phase of a roll. In a wait the TTL stands between two pieces.
+const SPREADS1: &[u8] = b",\"phase\":\"propagation1\",\"ttl\":null,\"next\":\"report1\"";
+
+const EXPIRES1: &[u8] = b",\"phase\":\"cache-expire1\",\"ttl\":";
+
+const THEN_WAIT1: &[u8] = b",\"next\":\"wait1\"";
+
+const SPREADS2: &[u8] = b",\"phase\":\"propagation2\",\"ttl\":null,\"next\":\"report2\"";
+
+const EXPIRES2: &[u8] = b",\"phase\":\"cache-expire2\",\"ttl\":";
+
+const THEN_WAIT2: &[u8] = b",\"next\":\"wait2\"";
+
+const DONE: &[u8] = b",\"phase\":\"done\",\"ttl\":null,\"next\":\"done\"";
 
 /// Writes the phase of a roll, its TTL and the next call.
 fn push_phase(alloc: Global, out: &mut Vec<u8>, phase: RollState) -> Result<(), AllocError>
     ensures { OnOk result (out.new.items ≡ out.old.items ++ phase_json phase) }
 {
     match phase {
-        RollState::Propagation1 => push_bytes(
-            out,
-            b",\"phase\":\"propagation1\",\"ttl\":null,\"next\":\"report1\"",
-        ),
-        RollState::CacheExpire1(ttl) => push_ttl(
-            alloc,
-            out,
-            b",\"phase\":\"cache-expire1\",\"ttl\":",
-            ttl,
-            b",\"next\":\"wait1\"",
-        ),
-        RollState::Propagation2 => push_bytes(
-            out,
-            b",\"phase\":\"propagation2\",\"ttl\":null,\"next\":\"report2\"",
-        ),
-        RollState::CacheExpire2(ttl) => push_ttl(
-            alloc,
-            out,
-            b",\"phase\":\"cache-expire2\",\"ttl\":",
-            ttl,
-            b",\"next\":\"wait2\"",
-        ),
-        RollState::Done => push_bytes(out, b",\"phase\":\"done\",\"ttl\":null,\"next\":\"done\""),
+        RollState::Propagation1 => push_bytes(out, SPREADS1),
+        RollState::CacheExpire1(ttl) => push_ttl(alloc, out, EXPIRES1, ttl, THEN_WAIT1),
+        RollState::Propagation2 => push_bytes(out, SPREADS2),
+        RollState::CacheExpire2(ttl) => push_ttl(alloc, out, EXPIRES2, ttl, THEN_WAIT2),
+        RollState::Done => push_bytes(out, DONE),
     }
 }
 

@@ -8,27 +8,25 @@ use dnssec_record::{Broken, Published, PublishedKey};
 use std::alloc::{AllocError, Global};
 
 /// Writes the four sets.
-#[tactic(auto, unfolding(crate::specs::Sets::sets_json))]
+#[tactic(auto, using(crate::proofs::Chains::assoc), unfolding(crate::specs::Sets::sets_json))]
 pub(crate) fn push_sets(out: &mut Vec<u8>, sets: &Published) -> Result<(), AllocError>
     ensures { OnOk result (out.new.items ≡ out.old.items ++ sets_json sets.now) }
 {
-    push_bytes(out, b"{\"ds\":")?;
-    push_set(out, &sets.ds)?;
-    push_bytes(out, b",\"dnskey\":")?;
-    push_set(out, &sets.dnskey)?;
-    push_bytes(out, b",\"signers\":")?;
-    push_set(out, &sets.dnskey_signers)?;
-    push_bytes(out, b",\"zone\":")?;
-    push_set(out, &sets.zone_signers)?;
-    push_bytes(out, b"}")
+    push_set(out, b"{\"ds\":", &sets.ds)?;
+    push_set(out, b",\"dnskey\":", &sets.dnskey)?;
+    push_set(out, b",\"signers\":", &sets.dnskey_signers)?;
+    push_set(out, b",\"zone\":", &sets.zone_signers)?;
+    push_bytes(out, b"}")?;
+    Ok(())
 }
 
-/// Writes a set, by its references.
+/// Writes a set after a piece, by its references.
 #[tactic(auto, unfolding(crate::specs::Json::array_json))]
-fn push_set(out: &mut Vec<u8>, keys: &[PublishedKey]) -> Result<(), AllocError>
+fn push_set(out: &mut Vec<u8>, before: &[u8], keys: &[PublishedKey]) -> Result<(), AllocError>
     ensures { OnOk result (out.new.items ≡ out.old.items
-        ++ array_json published_json keys.now) }
+        ++ (before.now ++ array_json published_json keys.now)) }
 {
+    push_bytes(out, before)?;
     match keys.split_first() {
         None => push_bytes(out, b"[]"),
         Some((first, rest)) => {

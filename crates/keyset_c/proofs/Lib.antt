@@ -2,5 +2,4 @@
 -- as a pointer and comes back (Values, and the five proofs by hand under parts and place).
 mod Handed
 pub mod Called
-pub mod Refused
 pub mod Values

@@ -1,6 +1,10 @@
 -- The machine values of `Parts` of a store, and of a `Place`. Assumes `Logic`.
-use Rattle.std.proofs.Common.{◌≡◌, ℕ, List, [], ◌∷◌, ◌++◌, refl, subst}
+use Rattle.std.proofs.Common.{◌≡◌, ◌∙◌, ℕ, List, [], ◌∷◌, ◌++◌, ap, refl}
+use Rattle.std.proofs.alloc.Calls.{Al, Fits, handle_tells}
+use Rattle.std.proofs.ResultValues.{and_tt}
 use Rattle.std.specs.Prelude.{Option, Some, None, IsSome}
+use Rattle.std.specs.{Box.Ownership.box_owns, contracts.impls.GlobalAllocator.TheImpl.ghosts}
+use Rattle.keyset_c.specs.Owned.{chunk, kept_owned}
 use mathlib.Core.Bool.{true, ◌&&◌}
 use lib.Dec.{T}
 use seplogic.Ra.Ura.{Ura}
@@ -17,15 +21,9 @@ use denote.Memory.{lone}
 use denote.RawPtr.{Ptr, block_ptr, null_ptr, ptr_val, in_a_block}
 use denote.Steps.{nothing}
 use denote.Param.{layout}
-use denote.Struct.Struct.{within}
-use denote.Struct.Owning.{shape}
-use Rattle.std.proofs.alloc.Calls.{Al, Fits, handle_tells}
+use denote.Struct.{Struct.within, Owning.shape}
 use Rattle.std.proofs.alloc.Global.TheLaws as heap_laws
-use Rattle.std.proofs.ResultValues.{and_tt}
-use Rattle.std.specs.Box.Ownership.{box_owns}
 use Rattle.std.specs.contracts.alloc.Global as heap
-use Rattle.std.specs.contracts.impls.GlobalAllocator.TheImpl.{ghosts}
-use Rattle.keyset_c.specs.Owned.{chunk, kept_owned}
 use Rattle.keyset_c.specs.contracts.kept.Kept as store
 use Rattle.keyset_c.specs.contracts.parts.Parts as parts
 use Rattle.keyset_c.specs.contracts.place.Place as place
@@ -43,8 +41,7 @@ al = record {
   laws = heap_laws.the_row_laws;
   g = ghosts;
   d = impl [] tnil dnil;
-  drops =
-      impl [] tnil dnil;
+  drops = impl [] tnil dnil;
 }
 
 abbrev pub Open : RattleType
@@ -77,10 +74,8 @@ module _ {M : Type 1} {𝓤 : Ura M} {𝓛 : Logic 𝓤} {K : Type 0} {Γ : List
         handle_tells al t d.alloc vss.1.0 (λ h ea fits. move t (1 ∷ []) $ drop t $ move t (1 ∷ []) $
         in_a_block t d.ptr (λ p. box_owns chunk R p d.value)
         (fst∗ 𝓤 (never 𝓤) (sem 𝓛 (chunk (bare (lone R.mir)) null_ptr))) (λ b o e. k b o h
-        (subst (λ (p : Ptr). vs ≡ vstruct (of_list (ptr_val p ∷ h ∷ [])) ∷ []) e
-        (subst (λ (ws : List Val). vs ≡ vstruct (of_list (ptr_val d.ptr ∷ (ws ++ []))) ∷ []) ea
-        (subst (λ (ps : List Val). vs ≡ vstruct (of_list (ps ++ (vss.1.0 ++ []))) ∷ []) ep ev)))
-        fits)))))
+        (ev ∙ (λ i. vstruct (of_list ((ep ∙ ap (λ (p : Ptr). ptr_val p ∷ []) e) i
+        ++ (ea i ++ []))) ∷ [])) fits)))))
 
     pub open_in : K → (b o : ℕ) (h : Val) (a : Z.Denot) (x : R.Denot)
         → Step K 𝓛 (‵ (Open.own_val (record { ptr = block_ptr b o; alloc = a; value = x })
@@ -103,8 +98,7 @@ module _ {M : Type 1} {𝓤 : Ura M} {𝓛 : Logic 𝓤} {K : Type 0} {Γ : List
         rewrite t 0 (λ (y : Option R.Denot). ‵ (kept_owned d.ptr y)) is refl $
         in_a_block t d.ptr (λ p. box_owns chunk R p x)
         (fst∗ 𝓤 (never 𝓤) (sem 𝓛 (chunk (bare (lone R.mir)) null_ptr))) (λ b o e. k b o
-        (subst (λ (p : Ptr). vs ≡ vstruct (of_list (ptr_val p ∷ [])) ∷ []) e
-        (subst (λ (ps : List Val). vs ≡ vstruct (of_list (ps ++ [])) ∷ []) ep ev))))))
+        (ev ∙ (λ i. vstruct (of_list ((ep ∙ ap (λ (p : Ptr). ptr_val p ∷ []) e) i ++ [])) ∷ []))))))
 
     pub shut_in : K → (b o : ℕ) (x : R.Denot)
         → Step K 𝓛 (‵ (Shut.own_val (record { ptr = block_ptr b o; value = Some x })

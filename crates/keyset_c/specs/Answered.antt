@@ -1,5 +1,5 @@
--- What an answer that was written says of the run whose output it is.
-use Rattle.std.specs.Prelude.{◌≡◌, ◌++◌, ℕ, List, codes, length}
+-- What an answer that was written says of the run whose output it is, and what it leaves as it was.
+use Rattle.std.specs.Prelude.{◌≡◌, ◌≢◌, ◌<◌, ◌≤◌, ◌++◌, ℕ, List, codes, drop, length}
 use Rattle.dnssec_run.specs.Plain.{IsPlain, StaysSafe}
 use Rattle.dnssec_record.specs.Answer.{IsAnswerOf}
 
@@ -16,3 +16,11 @@ TextEndsSafe script text =
 -- an answer to the script has this length
 abbrev pub IsAnswerOfLength : List ℕ → ℕ → Type 0
 IsAnswerOfLength script n = (text : List ℕ) × IsAnswerOf script text × (length text ≡ n)
+
+-- `out` after an answer of this status and length. Answered: it fits, and what stands after it is
+-- as it was. Short of room: it is longer. Without an answer nothing is written.
+pub record Hands (status n : ℕ) (old new : List ℕ) : Type 0 where
+  pub fits : status ≡ 0 → n ≤ length new
+  pub rest : status ≡ 0 → drop n new ≡ drop n old
+  pub short : status ≡ 4 → length old < n
+  pub silent : status ≢ 0 → new ≡ old

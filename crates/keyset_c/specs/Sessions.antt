@@ -30,7 +30,7 @@ pub record Calls (old new : Option Kept) (line text : List ℕ) : Type 0 where
   pub is_before : old ≡ Some before
   pub after : Kept
   pub is_after : new ≡ Some after
-  pub tells : string_bytes after.told ≡ text
+  pub tells : string_bytes after.answer ≡ text
   pub goes_on : (lines : List (List ℕ)) (entries : List Entry) →
       Stands lines entries before.session → GoesOn lines entries line after.session text
   pub notes : after.notes ≡ before.notes
@@ -43,7 +43,7 @@ CallsAtLength old new line n = (text : List ℕ) × Calls old new line text × (
 pub record Repeats (old : Option Kept) (text : List ℕ) : Type 0 where
   pub kept : Kept
   pub is : old ≡ Some kept
-  pub tells : string_bytes kept.told ≡ text
+  pub tells : string_bytes kept.answer ≡ text
 
 -- the text is the last two lines of the answers to its calls so far
 pub record ClosesWith (old : Option Kept) (text : List ℕ) : Type 0 where
@@ -65,7 +65,7 @@ pub record ShowsStatus (old : Option Kept) (text : List ℕ) : Type 0 where
 -- all else is as it was
 pub record NotesLine (before : Kept) (line : List ℕ) (after : Kept) : Type 0 where
   pub session : after.session ≡ before.session
-  pub told : after.told ≡ before.told
+  pub answer : after.answer ≡ before.answer
   pub takes : (lines notes : List (List ℕ)) (entries : List Entry) →
       Stands lines entries before.session → HasTaken (length entries) notes before.notes →
       HasTaken (length entries) (notes ++ line ∷ []) after.notes
@@ -141,5 +141,5 @@ pub record Copies (old copy : Option Kept) : Type 0 where
   pub is_copy : copy ≡ Some copied
   pub stands : (name : List ℕ) (calls : List Call) (entries : List Entry) →
       StandsAfter name calls entries kept.session → StandsAfter name calls entries copied.session
-  pub tells : string_bytes copied.told ≡ string_bytes kept.told
+  pub tells : string_bytes copied.answer ≡ string_bytes kept.answer
   pub notes : copied.notes ≡ kept.notes

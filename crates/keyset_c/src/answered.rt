@@ -1,5 +1,5 @@
 //! How C is answered.
-ghost use Rattle.std.specs.Prelude.{◌≡◌, ◌⊎◌, ◌<◌, ◌≤◌, length, take, drop};
+ghost use Rattle.std.specs.Prelude.{◌≡◌, ◌≢◌, ◌⊎◌, ◌<◌, ◌≤◌, length, take, drop};
 ghost use Rattle.keyset_c.specs.Sessions.{status_of};
 
 use dnssec_notes::{LineFault, NoteFault};
@@ -39,7 +39,9 @@ pub struct Answered {
 
 /// The status for a line that notes don't take.
 pub(crate) fn refused(fault: LineFault) -> u32
-    ensures { result ≡ status_of fault }
+    ensures rule { result ≡ status_of fault }
+    ensures not_answered { result ≢ 0 }
+    ensures not_closed { result ≢ 5 }
 {
     match fault {
         LineFault::Malformed => MALFORMED,

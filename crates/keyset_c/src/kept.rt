@@ -6,6 +6,6 @@ use dnssec_record::Session;
 #[derive(Drop)]
 pub struct Kept {
     pub(crate) session: Session,
-    pub(crate) told: String,
+    pub(crate) answer: String,
     pub(crate) notes: SessionNotes,
 }

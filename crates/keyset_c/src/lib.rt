@@ -113,7 +113,7 @@ pub extern "C" fn keyset_open(alloc: Global, line: &[u8], session: &mut Handle) 
         Ok(opened) => {
             let kept = Kept {
                 session: opened,
-                told: String::new(alloc),
+                answer: String::new(alloc),
                 notes: SessionNotes::new(),
             };
             match Box::new(alloc, kept) {
@@ -175,14 +175,14 @@ pub extern "C" fn keyset_call(
     };
     let Kept {
         session: before,
-        told,
+        answer,
         notes,
     } = Box::into_inner(kept);
     match before.call(alloc, line) {
         Ok(Told::Answered(after, text)) => {
             let kept = Kept {
                 session: after,
-                told: text,
+                answer: text,
                 notes,
             };
             put_next(alloc, session, kept, out)
@@ -190,7 +190,7 @@ pub extern "C" fn keyset_call(
         Ok(Told::Malformed(same)) => {
             let kept = Kept {
                 session: same,
-                told,
+                answer,
                 notes,
             };
             put_back(alloc, session, kept)
@@ -212,7 +212,7 @@ pub extern "C" fn keyset_told(alloc: Global, session: &mut Handle, out: &mut [u8
     ensures closed { (result.status ≡ 5) ↔ (kept_by session.old ≡ None) }
     ensures silent { result.status ≢ 0 → out.new ≡ out.old }
 {
-    ask(alloc, session, Question::Last, out)
+    ask(alloc, Question::Last, session, out)
 }
 
 /// Writes the last two lines of the answers so far: the sets that are published after the last
@@ -230,7 +230,7 @@ pub extern "C" fn keyset_closing(alloc: Global, session: &mut Handle, out: &mut 
     ensures closed { (result.status ≡ 5) ↔ (kept_by session.old ≡ None) }
     ensures silent { result.status ≢ 0 → out.new ≡ out.old }
 {
-    ask(alloc, session, Question::Closing, out)
+    ask(alloc, Question::Closing, session, out)
 }
 
 /// Writes the status of the zone after the calls so far, as one line of JSON.
@@ -247,7 +247,7 @@ pub extern "C" fn keyset_status(alloc: Global, session: &mut Handle, out: &mut [
     ensures closed { (result.status ≡ 5) ↔ (kept_by session.old ≡ None) }
     ensures silent { result.status ≢ 0 → out.new ≡ out.old }
 {
-    ask(alloc, session, Question::Status, out)
+    ask(alloc, Question::Status, session, out)
 }
 
 /// Takes the next line of the notes beside a session, after the calls that it has made so far.
@@ -294,7 +294,7 @@ pub extern "C" fn keyset_due(
     ensures closed { (result.status ≡ 5) ↔ (kept_by session.old ≡ None) }
     ensures silent { result.status ≢ 0 → out.new ≡ out.old }
 {
-    ask(alloc, session, Question::Due(seconds), out)
+    ask(alloc, Question::Due(seconds), session, out)
 }
 
 /// Opens another session after the same calls, to try one: 0, or 3 for lack of memory, 5 if the

@@ -1,10 +1,11 @@
 //! The parts of the calls of a session.
-ghost use Rattle.std.specs.Prelude.{◌≡◌, ◌≢◌, ◌⊎◌, ◌↔◌, ℕ, ◌<◌, ◌≤◌, List, length, take, drop};
-ghost use Rattle.std.specs.Prelude.{None, Some, IfOk, string_bytes};
+ghost use Rattle.std.specs.Prelude.{◌≡◌, ◌≢◌, ◌⊎◌, ◌↔◌, ℕ, List, length, take, None, Some, IfOk};
+ghost use Rattle.std.specs.Prelude.{string_bytes};
 ghost use Rattle.dnssec_record.specs.Session.{Closes, StandsAfter};
 ghost use Rattle.dnssec_run.specs.declared.call.Call.{Call};
 ghost use Rattle.dnssec_run.specs.declared.record.Entry.{Entry};
 ghost use Rattle.dnssec_status.specs.Status.{IsStatus};
+ghost use Rattle.keyset_c.specs.Answered.{Hands};
 ghost use Rattle.keyset_c.specs.Handles.{IsWhole, kept_by};
 ghost use Rattle.keyset_c.specs.Sessions.{IsDueOf, Lacks, NotesLine, RefusesLine, Tells};
 
@@ -33,21 +34,18 @@ pub(crate) enum Question {
 /// Answers a question, and leaves the session as it was.
 pub(crate) fn ask(
     alloc: Global,
-    session: &mut Handle,
     question: Question,
+    session: &mut Handle,
     out: &mut [u8],
 ) -> Answered
     requires { IsWhole session.old }
     ensures whole { IsWhole session.new }
     ensures same { kept_by session.new ≡ kept_by session.old }
+    ensures closed { (result.status ≡ 5) ↔ (kept_by session.old ≡ None) }
     ensures told { result.status ≡ 0 →
         Tells question (kept_by session.old) (take result.length out.new) }
-    ensures fits { result.status ≡ 0 → result.length ≤ length out.new }
-    ensures rest { result.status ≡ 0 → drop result.length out.new ≡ drop result.length out.old }
-    ensures short { result.status ≡ 4 → length out.old < result.length }
     ensures missing { result.status ≡ 1 → Lacks question (kept_by session.old) }
-    ensures closed { (result.status ≡ 5) ↔ (kept_by session.old ≡ None) }
-    ensures silent { result.status ≢ 0 → out.new ≡ out.old }
+    ensures handed { Hands result.status result.length out.old out.new }
 {
     let Some(kept) = session.take(alloc) else {
         return fault(CLOSED);
@@ -64,13 +62,10 @@ fn tell(alloc: Global, question: Question, kept: &Kept, out: &mut [u8]) -> Answe
     ensures missing { result.status ≡ 1 → Lacks question (Some kept.now) }
     ensures status { (result.status ≡ 0) ⊎ (result.status ≡ 1) ⊎ (result.status ≡ 3)
         ⊎ (result.status ≡ 4) }
-    ensures fits { result.status ≡ 0 → result.length ≤ length out.new }
-    ensures rest { result.status ≡ 0 → drop result.length out.new ≡ drop result.length out.old }
-    ensures short { result.status ≡ 4 → length out.old < result.length }
-    ensures silent { result.status ≢ 0 → out.new ≡ out.old }
+    ensures handed { Hands result.status result.length out.old out.new }
 {
     match question {
-        Question::Last => hand_out(kept.told.as_bytes(), out),
+        Question::Last => hand_out(kept.answer.as_bytes(), out),
         Question::Closing => tell_closing(alloc, &kept.session, out),
         Question::Status => tell_status(alloc, &kept.session, out),
         Question::Due(seconds) => tell_due(alloc, kept, seconds, out),
@@ -85,16 +80,13 @@ pub(crate) fn put_next(alloc: Global, session: &mut Handle, kept: Kept, out: &mu
     ensures status { (result.status ≡ 0) ⊎ (result.status ≡ 3) ⊎ (result.status ≡ 4) }
     ensures kept { result.status ≢ 3 → kept_by session.new ≡ Some kept }
     ensures lost { result.status ≡ 3 → kept_by session.new ≡ None }
-    ensures written { result.status ≡ 0 → take result.length out.new ≡ string_bytes kept.told }
-    ensures fits { result.status ≡ 0 → result.length ≤ length out.new }
-    ensures rest { result.status ≡ 0 → drop result.length out.new ≡ drop result.length out.old }
-    ensures short { result.status ≡ 4 → length out.old < result.length }
-    ensures needed { result.status ≡ 4 → result.length ≡ length (string_bytes kept.told) }
-    ensures silent { result.status ≢ 0 → out.new ≡ out.old }
+    ensures written { result.status ≡ 0 → take result.length out.new ≡ string_bytes kept.answer }
+    ensures handed { Hands result.status result.length out.old out.new }
+    ensures needed { result.status ≡ 4 → result.length ≡ length (string_bytes kept.answer) }
 {
     match Box::new(alloc, kept) {
         Ok(kept) => {
-            let answered = hand_out(kept.told.as_bytes(), out);
+            let answered = hand_out(kept.answer.as_bytes(), out);
             session.put(kept);
             answered
         }
@@ -126,10 +118,7 @@ fn tell_closing(alloc: Global, session: &Session, out: &mut [u8]) -> Answered
         (name : List ℕ) (calls : List Call) (entries : List Entry) →
         StandsAfter name calls entries session.now → Closes entries (take result.length out.new) }
     ensures status { (result.status ≡ 0) ⊎ (result.status ≡ 3) ⊎ (result.status ≡ 4) }
-    ensures fits { result.status ≡ 0 → result.length ≤ length out.new }
-    ensures rest { result.status ≡ 0 → drop result.length out.new ≡ drop result.length out.old }
-    ensures short { result.status ≡ 4 → length out.old < result.length }
-    ensures silent { result.status ≢ 0 → out.new ≡ out.old }
+    ensures handed { Hands result.status result.length out.old out.new }
 {
     match session.closing(alloc) {
         Ok(text) => hand_out(text.as_bytes(), out),
@@ -144,10 +133,7 @@ fn tell_status(alloc: Global, session: &Session, out: &mut [u8]) -> Answered
         StandsAfter name calls entries session.now →
         IsStatus name calls entries (take result.length out.new) }
     ensures status { (result.status ≡ 0) ⊎ (result.status ≡ 3) ⊎ (result.status ≡ 4) }
-    ensures fits { result.status ≡ 0 → result.length ≤ length out.new }
-    ensures rest { result.status ≡ 0 → drop result.length out.new ≡ drop result.length out.old }
-    ensures short { result.status ≡ 4 → length out.old < result.length }
-    ensures silent { result.status ≢ 0 → out.new ≡ out.old }
+    ensures handed { Hands result.status result.length out.old out.new }
 {
     match status(alloc, session) {
         Ok(text) => hand_out(&text, out),
@@ -162,10 +148,7 @@ fn tell_due(alloc: Global, kept: &Kept, seconds: u64, out: &mut [u8]) -> Answere
     ensures missing { result.status ≡ 1 → kept.now.notes ≡ None }
     ensures status { (result.status ≡ 0) ⊎ (result.status ≡ 1) ⊎ (result.status ≡ 3)
         ⊎ (result.status ≡ 4) }
-    ensures fits { result.status ≡ 0 → result.length ≤ length out.new }
-    ensures rest { result.status ≡ 0 → drop result.length out.new ≡ drop result.length out.old }
-    ensures short { result.status ≡ 4 → length out.old < result.length }
-    ensures silent { result.status ≢ 0 → out.new ≡ out.old }
+    ensures handed { Hands result.status result.length out.old out.new }
 {
     match kept.notes.due_now(alloc, &kept.session, seconds) {
         Ok(Some(text)) => hand_out(text.as_bytes(), out),
@@ -194,12 +177,12 @@ pub(crate) fn copy_of(alloc: Global, kept: &Kept) -> Result<Box<Kept>, AllocErro
         StandsAfter name calls entries kept.now.session →
         StandsAfter name calls entries copy.value.session) }
     ensures told { IfOk result (λ copy.
-        string_bytes copy.value.told ≡ string_bytes kept.now.told) }
+        string_bytes copy.value.answer ≡ string_bytes kept.now.answer) }
     ensures notes { IfOk result (λ copy. copy.value.notes ≡ kept.now.notes) }
 {
     let copy = Kept {
         session: kept.session.try_clone(alloc)?,
-        told: kept.told.clone()?,
+        answer: kept.answer.clone()?,
         notes: kept.notes.try_clone(alloc)?,
     };
     Ok(Box::new(alloc, copy)?)

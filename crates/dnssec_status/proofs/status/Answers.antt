@@ -1,28 +1,54 @@
 -- What was written in two parts is the status.
-use Rattle.std.proofs.Common.{◌∙◌, ap, List, map, subst, sym, string_bytes}
-use Rattle.std.specs.FinMap as fin
+use Rattle.std.proofs.Common.{◌≡◌, ◌∙◌, ap, List, map, subst, sym, string_bytes, refl, length}
 use Rattle.dnssec_base.specs.NameText.{name_text}
 use Rattle.dnssec_keyset.specs.KeySet.{KeySetParts}
-use Rattle.dnssec_status.specs.Inner.Entries.{entry_of}
-use Rattle.dnssec_status.specs.Rolls.{AreGoing}
-use Rattle.dnssec_status.specs.declared.rolls.Going.{Going}
-use Rattle.dnssec_status.proofs.Told.{all_told}
+use Rattle.dnssec_run.specs.Record.{world_at}
+use Rattle.dnssec_record.specs.Courses.{Listed, as_listed, listed_by}
+use Rattle.dnssec_status.specs.Status.{state_json, status_text, zone_json}
+use Rattle.dnssec_status.specs.{Inner.Entries.entry_json, Inner.Entries.entry_of, Json.array_json}
+use Rattle.dnssec_status.specs.{Keys.key_json, Rolls.AreGoing, declared.rolls.Going.Going}
+use Rattle.dnssec_status.proofs.Chains.{array_read}
+use Rattle.std.specs.FinMap as fin
 use Rattle.dnssec_status.proofs.status.Goals as goal
 
 pub returns : goal.returns
+unfolding status_text zone_json state_json
 returns c name calls entries stands =
     let s = c.args.session.now in
     let set = c.keyset-keyset.ensures in
-    all_told s name calls entries (string_bytes c.in_ok-zone.zone) c.verdict.result
-    c.published.result.now c.listed.result.now c.deref.result.now c.deref-2.result.now
-    c.ended_early.result.now _ _ _ stands
-    (c.in_ok-zone.ensures.ok ∙ ap name_text (c.name.ensures ∙ ap (λ (k : KeySetParts). k.name) set))
-    (c.verdict.ensures name calls entries stands) c.published.ensures
+    let same = stands.records.agrees.same in
+    let named : string_bytes c.in_ok-zone.zone ≡ name_text s.recorder.keyset.name =
+    c.in_ok-zone.ensures.ok
+    ∙ ap name_text (c.name.ensures ∙ ap (λ (k : KeySetParts). k.name) set) in
+    let keys : array_json (entry_json (map as_listed c.listed.result.now)) c.deref.result.now
+    ≡ array_json (key_json (listed_by calls entries)) (fin.entries s.recorder.keyset.keys) =
+    ap (λ (ls : List Listed). array_json (entry_json ls) c.deref.result.now)
     (c.listed.ensures name calls entries stands)
+    ∙ array_read entry_of (key_json (listed_by calls entries)) c.deref.result.now
+    ∙ ap (array_json (key_json (listed_by calls entries)))
     (ap (map entry_of) c.deref.ensures.value ∙ c.in_ok-keys.ensures
-    ∙ ap fin.entries (c.keys.ensures.shown ∙ ap (λ (k : KeySetParts). k.keys) set))
-    (subst (λ (rolls : List Going). AreGoing s.recorder.keyset rolls) (sym c.deref-2.ensures.value)
-    (subst (λ (k : KeySetParts). AreGoing k c.in_ok-rolls.rolls.items) set
-    (record { all = c.in_ok-rolls.ensures.all; ends = c.in_ok-rolls.ensures.ends })))
-    (c.ended_early.ensures name calls entries stands)
-    c.new-out.ensures.items c.in_ok-push_zone.ensures c.in_ok-push_rest.ensures
+    ∙ ap fin.entries (c.keys.ensures.shown ∙ ap (λ (k : KeySetParts). k.keys) set)) in
+    record {
+      world = world_at name calls entries (length calls);
+      is_world = refl;
+      verdict = c.verdict.result;
+      is_verdict = c.verdict.ensures name calls entries stands;
+      sets = s.recorder.published;
+      are_published = stands.records.published;
+      rolls = c.deref-2.result.now;
+      are_rolls = subst (λ (rolls : List Going).
+          AreGoing (world_at name calls entries (length calls)).set rolls)
+          (sym c.deref-2.ensures.value)
+          (subst (λ (k : KeySetParts). AreGoing k c.in_ok-rolls.rolls.items) (set ∙ same)
+          (record { all = c.in_ok-rolls.ensures.all; ends = c.in_ok-rolls.ensures.ends }));
+      is_text = simp (
+        c.in_ok-push_rest.ensures,
+        c.in_ok-push_zone.ensures,
+        c.new-out.ensures.items,
+        named,
+        c.published.ensures,
+        keys,
+        c.ended_early.ensures name calls entries stands,
+        same,
+      );
+    }

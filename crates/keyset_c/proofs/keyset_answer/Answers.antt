@@ -1,35 +1,27 @@
 -- What a run of the script promises of the bytes that the vector took, said of the front of `out`.
-use Rattle.std.proofs.Common.{rules, Err, Some, ap, subst, ◌∙◌}
-use Rattle.dnssec_record.specs.Answer.{EndsSafe, IsSafeAnswer}
-use Rattle.dnssec_script.specs.Script.{IsFirstMalformed}
+use Rattle.std.proofs.Common.{rules, Err, ap, ◌∙◌}
 use Rattle.keyset_c.proofs.Handed.{took}
 use Rattle.keyset_c.proofs.keyset_answer.Goals as goal
 
 pub returns-in-Ok-clause-safe : goal.returns-in-Ok-clause-safe
 returns-in-Ok-clause-safe c = λ answered a.
-    let old = Some c.new-output.result.inner.items in
-    let new = Some c.run_script.new.output.inner.items in
-    let told =
-    subst (λ s. IsSafeAnswer s.now old new) c.new-input.ensures.inner c.in-Ok.ensures.safe in
     let empty = ap (λ v. v.items) c.new-output.ensures.inner ∙ c.new.ensures.items in
     let same = c.deref.ensures.value ∙ ap (λ v. v.items) c.into_inner.ensures in
-    told _ a (took _ _ _ _ empty same (c.hand_out.ensures.written answered))
+    let safe = rw c.new-input.ensures.inner at c.in-Ok.ensures.safe in
+    safe _ a (took _ _ _ _ empty same (c.hand_out.ensures.written answered))
 
 pub returns-in-Ok-clause-chain : goal.returns-in-Ok-clause-chain
 returns-in-Ok-clause-chain c = λ answered a.
-    let old = Some c.new-output.result.inner.items in
-    let new = Some c.run_script.new.output.inner.items in
-    let told = subst (λ s. EndsSafe s.now old new) c.new-input.ensures.inner
-    c.in-Ok.ensures.chain in
     let empty = ap (λ v. v.items) c.new-output.ensures.inner ∙ c.new.ensures.items in
     let same = c.deref.ensures.value ∙ ap (λ v. v.items) c.into_inner.ensures in
-    told _ a (took _ _ _ _ empty same (c.hand_out.ensures.written answered))
+    let ends = rw c.new-input.ensures.inner at c.in-Ok.ensures.chain in
+    ends _ a (took _ _ _ _ empty same (c.hand_out.ensures.written answered))
 
 pub returns-in-Err-Malformed-clause-malformed : goal.returns-in-Err-Malformed-clause-malformed
 returns-in-Err-Malformed-clause-malformed c = λ _.
     let line = c.in-Err-Malformed.line in
-    let told = c.in-Err-Malformed.ensures.malformed line (ap Err c.in-Err-Malformed.field-0-is) in
-    subst (λ s. IsFirstMalformed s.now line) c.new-input.ensures.inner told
+    rw c.new-input.ensures.inner at (c.in-Err-Malformed.ensures.malformed line
+    (ap Err c.in-Err-Malformed.field-0-is))
 
 pub returns : goal.returns
 returns c = search rules

@@ -1,7 +1,4 @@
 -- The notes that took the line, or didn't, are those of the session.
-use Rattle.std.proofs.Common.{subst}
-use Rattle.keyset_c.specs.Sessions.{NotesLine, RefusesLine}
-use Rattle.keyset_c.specs.declared.kept.Kept.{Kept}
 use Rattle.keyset_c.proofs.keyset_note.Goals as goal
 
 pub returns-clause-noted : goal.returns-clause-noted
@@ -10,14 +7,12 @@ returns-clause-noted c = λ noted. record {
   is_before = c.in-Some.ensures.taken;
   after = c.note-status.new.kept;
   is_after = c.put.ensures.kept;
-  takes = subst (λ (k : Kept). NotesLine k c.args.line.now c.note-status.new.kept)
-      c.deref_mut.ensures.value (c.note-status.ensures.noted noted);
+  takes = rw (← c.deref_mut.ensures.value) (c.note-status.ensures.noted noted);
 }
 
 pub returns-clause-refused : goal.returns-clause-refused
 returns-clause-refused c = λ other still. record {
   kept = c.in-Some.kept.value;
   is = c.in-Some.ensures.taken;
-  refuses = subst (λ (k : Kept). RefusesLine k c.args.line.now c.note-status.result)
-      c.deref_mut.ensures.value (c.note-status.ensures.refused other);
+  refuses = rw (← c.deref_mut.ensures.value) (c.note-status.ensures.refused other);
 }

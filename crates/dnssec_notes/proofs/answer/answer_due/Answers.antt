@@ -2,11 +2,9 @@
 use Rattle.std.proofs.Common.{◌≡◌, suc, ap, ◌∙◌, arith, length, List, subst}
 use Rattle.std.specs.Prelude.{vec_len}
 use Rattle.dnssec_keyset.specs.KeySet.{KeySetParts}
-use Rattle.dnssec_run.specs.declared.record.Entry.{Entry}
-use Rattle.dnssec_run.specs.Safe.{base_below}
+use Rattle.dnssec_run.specs.{declared.record.Entry.Entry, Safe.base_below}
 use Rattle.dnssec_script.specs.Script.{lines_of}
-use Rattle.dnssec_notes.specs.Due.{due_text}
-use Rattle.dnssec_notes.specs.Reading.{AreNotes}
+use Rattle.dnssec_notes.specs.{Due.due_text, Reading.AreNotes}
 use Rattle.dnssec_notes.proofs.answer.answer_due.Goals as goal
 
 pub returns : goal.returns
@@ -21,10 +19,10 @@ returns c =
       entries = entries.items;
       before = noted.before;
       facts = noted.facts;
-      is_script = ran.is_script;
-      is_run = ran.is_run;
       are_notes = subst (λ n. AreNotes n (lines_of c.args.notes.now) noted.before noted.facts)
           (c.len.ensures ∙ count) c.in_ok-noted.ensures.ok;
+      is_script = ran.is_script;
+      is_run = ran.is_run;
       is_text = c.in_ok-lines.ensures
           ∙ (λ i. due_text c.in_ok-ran.ran.keyset.rolls
           (λ roll. c.of_record-steps.ensures roll i) noted.before noted.facts c.args.seconds)

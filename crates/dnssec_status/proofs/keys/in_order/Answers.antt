@@ -1,23 +1,19 @@
 -- A walk over the map lends its entries, and sorting them leaves them the same.
-use Rattle.std.proofs.Common.{◌≡◌, ◌++◌, ◌∷◌, ◌∙◌, ℕ, List, [], map, sym, ap, subst, refl}
-use Rattle.std.proofs.Common.{Bor, String, string_bytes, rules}
-use Rattle.std.specs.FinMap as fin
-use Rattle.std.specs.FinMap.{entries_sorted}
-use Rattle.std.specs.Global.{Global}
-use Rattle.std.specs.Prelude.{IsPermutation}
+use Rattle.std.proofs.Common.{◌++◌, ◌∙◌, ℕ, List, map, sym, ap, subst, Bor, String, string_bytes}
+use Rattle.std.proofs.Common.{rules}
+use Rattle.std.proofs.lemmas.List.Sorted.{IsPermutation-map, IsPermutation-sym, IsPermutation-trans}
+use Rattle.std.proofs.lemmas.List.Sorted.{ranks_by}
+use Rattle.std.proofs.lemmas.{Fn.always_returns_same, List.append-nil, Map.Iter.rest_so_far}
+use Rattle.std.specs.{FinMap.entries_sorted, Global.Global, Prelude.IsPermutation}
 use Rattle.std.specs.Cmp.Lexicographic.{slice_cmp, nat_list_cmp_total}
 use Rattle.std.specs.Ordering.{nat_cmp, is_lt}
-use Rattle.std.proofs.lemmas.Fn.{always_returns_same}
-use Rattle.std.proofs.lemmas.List.{append-nil}
-use Rattle.std.proofs.lemmas.List.Sorted.{IsPermutation-map, IsPermutation-sym}
-use Rattle.std.proofs.lemmas.List.Sorted.{IsPermutation-trans, ranks_by}
-use Rattle.std.proofs.lemmas.Map.Iter.{rest_so_far}
 use Rattle.dnssec_key.specs.Key.{KeyParts}
 use Rattle.dnssec_run.specs.Recorder.{entry_lent}
-use Rattle.dnssec_status.specs.Inner.Entries.{entry_of}
-use Rattle.dnssec_status.proofs.Order.{put_in_order}
+use Rattle.dnssec_status.{specs.Inner.Entries.entry_of, proofs.Order.put_in_order}
 use Rattle.dnssec_zone.specs.Keys.{entries_by_bytes, keys_in_map}
 use Rattle.dnssec_zone.proofs.Walks.{apart_by_bytes, entries_permute}
+use mathlib.Core.List.{map-map}
+use Rattle.std.specs.FinMap as fin
 use Rattle.dnssec_status.proofs.keys.in_order.Goals as goal
 
 -- an entry as it is lent
@@ -30,10 +26,6 @@ reference e = string_bytes e.0.now
 -- the entries of a map, with the bytes of their references
 abbrev by_bytes : String Global × KeyParts → List ℕ × KeyParts
 by_bytes e = (string_bytes e.0, e.1)
-
-read_lent : (es : List Lent) → map by_bytes (map entry_lent es) ≡ map entry_of es
-read_lent [] = refl
-read_lent (e ∷ es) = ap (λ xs. entry_of e ∷ xs) (read_lent es)
 
 pub returns : goal.returns
 returns c =
@@ -49,7 +41,7 @@ returns c =
     subst (λ es. IsPermutation es (lent sorted)) (sym walked)
     (IsPermutation-map entry_lent _ _ c.sort_unstable_by.ensures.permutation) in
     let moved : IsPermutation (entries_by_bytes m) (map entry_of sorted) =
-    subst (IsPermutation (entries_by_bytes m)) (read_lent sorted)
+    subst (IsPermutation (entries_by_bytes m)) (map-map by_bytes entry_lent sorted)
     (IsPermutation-map by_bytes m.entries (lent sorted) all) in
     let shown : IsPermutation (entries_by_bytes m) (fin.entries (keys_in_map m)) =
     entries_permute (entries_by_bytes m) (apart_by_bytes m.entries c.iter.ensures.unique) in

@@ -1,8 +1,7 @@
 -- What was written so far.
 use Rattle.std.proofs.Common.{◌≡◌, ◌++◌, map, take}
 use Rattle.dnssec_record.specs.Courses.{as_listed}
-use Rattle.dnssec_status.specs.Inner.Entries.{entry_json}
-use Rattle.dnssec_status.specs.Json.{further_json}
+use Rattle.dnssec_status.specs.{Inner.Entries.entry_json, Json.further_json}
 use Rattle.dnssec_status.proofs.keys.push_further.Given as goal
 
 abbrev pub invariant-loop-entry : goal.invariant-loop-entry

@@ -1,7 +1,6 @@
 -- What was written so far.
 use Rattle.std.proofs.Common.{◌≡◌, ◌++◌, take}
-use Rattle.dnssec_status.specs.Json.{further_json}
-use Rattle.dnssec_status.specs.Names.{roll_json}
+use Rattle.dnssec_status.specs.{Json.further_json, Names.roll_json}
 use Rattle.dnssec_status.proofs.names.push_further_rolls.Given as goal
 
 abbrev pub invariant-loop-roll : goal.invariant-loop-roll

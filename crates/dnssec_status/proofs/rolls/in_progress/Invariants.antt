@@ -2,8 +2,7 @@
 use Rattle.std.proofs.Common.{◌≡◌, map, take}
 use Rattle.std.specs.List.{All, flat_map}
 use Rattle.dnssec_keyset.specs.WaitEnd.{TellsEnd}
-use Rattle.dnssec_status.specs.declared.rolls.Going.{Going}
-use Rattle.dnssec_status.specs.Rolls.{phase_pair, with_its_phase}
+use Rattle.dnssec_status.specs.{declared.rolls.Going.Going, Rolls.phase_pair, Rolls.with_its_phase}
 use Rattle.dnssec_zone.specs.Rolls.{all_rolls, phase_of}
 use Rattle.dnssec_status.proofs.rolls.in_progress.Given as goal
 

@@ -1,6 +1,5 @@
-use Rattle.std.proofs.Common.{sym, subst}
+use Rattle.std.proofs.{Common.sym, Common.subst, lemmas.List.Elements.All-push}
 use Rattle.std.specs.List.{All}
-use Rattle.std.proofs.lemmas.List.Elements.{All-push}
 use Rattle.dnssec_keyset.specs.WaitEnd.{TellsEnd}
 use Rattle.dnssec_status.specs.declared.rolls.Going.{Going}
 use Rattle.dnssec_status.proofs.rolls.note.Goals as goal

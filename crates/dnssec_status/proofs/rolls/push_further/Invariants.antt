@@ -1,7 +1,6 @@
 -- What was written so far.
 use Rattle.std.proofs.Common.{◌≡◌, ◌++◌, take}
-use Rattle.dnssec_status.specs.Json.{further_json}
-use Rattle.dnssec_status.specs.Rolls.{going_json}
+use Rattle.dnssec_status.specs.{Json.further_json, Rolls.going_json}
 use Rattle.dnssec_status.proofs.rolls.push_further.Given as goal
 
 abbrev pub invariant-loop-roll : goal.invariant-loop-roll

@@ -1,7 +1,6 @@
 -- What was written so far.
 use Rattle.std.proofs.Common.{◌≡◌, ◌++◌, take}
-use Rattle.dnssec_status.specs.Json.{further_json}
-use Rattle.dnssec_status.specs.Sets.{published_json}
+use Rattle.dnssec_status.specs.{Json.further_json, Sets.published_json}
 use Rattle.dnssec_status.proofs.sets.push_further.Given as goal
 
 abbrev pub invariant-loop-key : goal.invariant-loop-key

@@ -1,5 +1,4 @@
-use Rattle.std.proofs.Common.{arith}
-use Rattle.std.proofs.lemmas.Grind.{common_steps}
+use Rattle.std.proofs.{Common.arith, lemmas.Grind.common_steps}
 use Rattle.keyset_c.proofs.answered.hand_out.Goals as goal
 
 pub returns-then-length-out-clause-written : goal.returns-then-length-out-clause-written

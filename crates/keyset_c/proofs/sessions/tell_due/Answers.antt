@@ -1,17 +1,15 @@
 -- What was handed out are the lines that are due.
 use Rattle.std.proofs.Common.{Option, sym, subst, ◌∙◌}
-use Rattle.std.specs.Option.{option_map}
-use Rattle.std.specs.Prelude.{string_bytes}
-use Rattle.std.specs.declared.alloc.Global.{Global}
+use Rattle.std.specs.{Option.option_map, Prelude.string_bytes, declared.alloc.Global.Global}
 use Rattle.std.specs.declared.string.String.{String}
 use Rattle.dnssec_notes.specs.Due.{AnswersDue, IsDueAfter}
 use Rattle.keyset_c.proofs.sessions.tell_due.Goals as goal
 
 pub returns-in-Ok-Some-clause-told : goal.returns-in-Ok-Some-clause-told
-returns-in-Ok-Some-clause-told c = λ told lines notes entries stands taken.
+returns-in-Ok-Some-clause-told c = λ written lines notes entries stands taken.
     let kept = c.args.kept.now in
     subst (IsDueAfter lines notes c.args.seconds)
-    (sym (c.hand_out.ensures.written told ∙ c.as_bytes.ensures.value))
+    (sym (c.hand_out.ensures.written written ∙ c.as_bytes.ensures.value))
     (subst (λ (o : Option (String Global)).
     AnswersDue kept.session kept.notes c.args.seconds (option_map string_bytes o))
     c.in-Ok-Some.field-0-is c.in-Ok-Some.ensures lines notes entries stands taken)

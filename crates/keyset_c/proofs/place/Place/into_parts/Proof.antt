@@ -1,13 +1,18 @@
 -- `into_parts` puts the allocator beside the pointer again.
 use Rattle.std.proofs.Common.{◌≡◌, List, [], ◌∷◌, ◌++◌, IsSome, Some, sym, refl}
+use Rattle.std.proofs.alloc.Calls.{Goes-blank, handle_tells}
+use Rattle.std.proofs.raw_atomic.Walks.{proved_at, leaves}
+use Rattle.keyset_c.proofs.Values.{some_is, Z, al, Shut, both, one, both_good, shut_out, open_in}
+use Rattle.keyset_c.proofs.place.Place.into_parts.Statement.{statement}
+use Rattle.keyset_c.specs.contracts.place.Place.into_parts.{ended, clauses, Key.name as #self}
 use mir.Syntax.{Fn}
 use mir.Val.{Val, vptr}
 use base.Logic.{SProp, emp}
 use prog.Wp.{WpFn}
 use contract.Monad.{fact, fact_i}
 use contract.Running.{tables}
-use types.Kit.{‵, raw, ◌⊛◌, prop, ◌$◌, ◌∵◌, !, qed, by, move, keep, use0, split, regoal}
-use types.Kit.{fsplit, fjoin}
+use types.Kit.{‵, raw, ◌⊛◌, prop, ◌$◌, ◌∵◌, !, qed, by, move, keep, use0, split, regoal, fsplit}
+use types.Kit.{fjoin}
 use types.Part.{whole, sub, agg}
 use types.Run.{stop, fld, of_opd, no_more, and_then, returns, enter}
 use types.ByLocal.{alloc_all, pass_all, free_all, look_at, get, get_in, sets}
@@ -18,13 +23,6 @@ use denote.Signature.{types_at, plain}
 use denote.Steps.{nothing, heard}
 use denote.Triple.Entry.{alive}
 use denote.Triple.Walked.{Stays, stay_dropped, walk_of}
-use Rattle.std.proofs.alloc.Calls.{Goes-blank, handle_tells}
-use Rattle.std.proofs.raw_atomic.Walks.{proved_at, leaves}
-use Rattle.keyset_c.proofs.Values.{some_is, Z, al, Shut, both, one, both_good, shut_out}
-use Rattle.keyset_c.proofs.Values.{open_in}
-use Rattle.keyset_c.specs.contracts.place.Place.into_parts.{ended, clauses}
-use Rattle.keyset_c.specs.contracts.place.Place.into_parts.Key.{name as #self}
-use Rattle.keyset_c.proofs.place.Place.into_parts.Statement.{statement}
 use Rattle.keyset_c.proofs.place.Place.into_parts.Code as compiled
 
 pub into_parts_spec : {M : Type 1} → statement M

@@ -1,5 +1,9 @@
 -- `of_parts` keeps only the pointer: the allocator has no bytes.
 use Rattle.std.proofs.Common.{◌≡◌, List, [], ◌∷◌, ◌++◌, Some, refl}
+use Rattle.std.proofs.{alloc.Calls.Goes-blank, raw_atomic.Walks.proved_at, raw_atomic.Walks.leaves}
+use Rattle.keyset_c.proofs.Values.{Open, both, one, both_good, open_out, shut_in}
+use Rattle.keyset_c.proofs.place.Place.of_parts.Statement.{statement}
+use Rattle.keyset_c.specs.contracts.place.Place.of_parts.{ended, clauses, Key.name as #self}
 use mir.Syntax.{Fn}
 use mir.Val.{Val, vptr}
 use base.Logic.{SProp, emp}
@@ -19,12 +23,6 @@ use denote.Signature.{types_at, plain}
 use denote.Steps.{nothing}
 use denote.Triple.Entry.{alive}
 use denote.Triple.Walked.{Stays, stay_dropped, walk_of}
-use Rattle.std.proofs.alloc.Calls.{Goes-blank}
-use Rattle.std.proofs.raw_atomic.Walks.{proved_at, leaves}
-use Rattle.keyset_c.proofs.Values.{Open, both, one, both_good, open_out, shut_in}
-use Rattle.keyset_c.specs.contracts.place.Place.of_parts.{ended, clauses}
-use Rattle.keyset_c.specs.contracts.place.Place.of_parts.Key.{name as #self}
-use Rattle.keyset_c.proofs.place.Place.of_parts.Statement.{statement}
 use Rattle.keyset_c.proofs.place.Place.of_parts.Code as compiled
 
 pub of_parts_spec : {M : Type 1} → statement M
