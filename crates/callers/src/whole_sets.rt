@@ -11,19 +11,15 @@ use anyhow::Result;
 use dnssec_keyset::{Key, KeySet, KeyState, KeyType, RollType, UnixTime};
 use dnssec_record::{Std, audit, audit_window, record_script, run_script};
 use std::alloc::Global;
+use std::str::FromStr;
 use std::time::Duration;
 
 /// The flags of a role: old, signer, present, at parent.
 type Flags = [bool; 4];
 
-const ROLLS: [RollType; 6] = [
-    RollType::KskRoll,
-    RollType::KskDoubleDsRoll,
-    RollType::ZskRoll,
-    RollType::ZskDoubleSignatureRoll,
-    RollType::CskRoll,
-    RollType::AlgorithmRoll,
-];
+/// The names of the rolls.
+const ROLLS: &str =
+    "ksk-roll ksk-double-ds-roll zsk-roll zsk-double-signature-roll csk-roll algorithm-roll";
 
 /// An empty line stands between two scripts, and between two parts of what is written.
 pub fn tell(rt: &HostRuntime, scripts: &str) -> Result<()> {
@@ -32,10 +28,10 @@ pub fn tell(rt: &HostRuntime, scripts: &str) -> Result<()> {
         tell_record(rt, script)?;
         for (end, byte) in script.bytes().enumerate() {
             if byte == b'\n' {
-                tell_set_behind(rt, script.get(..end).unwrap_or_default())?;
+                tell_set_after(rt, script.get(..end).unwrap_or_default())?;
             }
         }
-        tell_set_behind(rt, script)?;
+        tell_set_after(rt, script)?;
     }
     Ok(())
 }
@@ -61,7 +57,7 @@ fn tell_record(rt: &HostRuntime, script: &str) -> Result<()> {
     Ok(())
 }
 
-fn tell_set_behind(rt: &HostRuntime, script: &str) -> Result<()> {
+fn tell_set_after(rt: &HostRuntime, script: &str) -> Result<()> {
     let run = record_script(rt.alloc(), script.as_bytes())?;
     let set = run.keyset.try_clone()?;
     println!(rt;
@@ -74,8 +70,8 @@ fn tell_set_behind(rt: &HostRuntime, script: &str) -> Result<()> {
         tell_key(rt, reference.as_str(), &copy)?;
         tell_states(rt, reference.as_str(), copy.keytype())?;
     }
-    for roll in ROLLS {
-        tell_roll(rt, &set, roll)?;
+    for name in ROLLS.split(' ') {
+        tell_roll(rt, &set, RollType::from_str(name)?)?;
     }
     println!(rt)?;
     Ok(())
