@@ -12,8 +12,9 @@
   it is there.
 - A start: the functions of our sources, and their modules, that the program enters more often if a
   script has one accepted start more. So its reading, its call, its record, its verdict and its
-  answer count. gdb counts. PROGRAM has to keep each function apart, as the one that `rt try` makes
-  in crates/keyset, and that it takes away at its end: copy it while it waits for its input.
+  answer count. They are listed by the files in which they are written. gdb counts. PROGRAM has to
+  keep each function apart, as the one that `rt try` makes in crates/keyset, and that it takes away
+  at its end: copy it while it reads a long script.
 """
 
 import argparse
@@ -31,6 +32,12 @@ GATE = {"callers", "courses", "dnssec_tests", "memory_of_calls"}
 
 COMMENT_OR_TEXT = re.compile(r'//[^\n]*|"(?:\\.|[^"\\])*"', re.DOTALL)
 FUNCTION = re.compile(r"\bfn\s+\w+")
+# The head of an `impl`, and a function with its indent.
+WRITTEN = re.compile(
+    r"^impl(?:<[^>]*>)? (?:(?P<trait>\w+)(?:<[^>{]*>)? for )?(?P<type>\w+)"
+    r"|^(?P<indent> *)(?:pub(?:\(\w+\))? )?fn (?P<name>\w+)",
+    re.MULTILINE,
+)
 MATCH = re.compile(r"\bmatch\b[^{};]*\{|\bmatches!\(")
 ROLLS = re.compile(r"\benum RollType \{(.*?)\n\}", re.DOTALL)
 COUNTED = re.compile(r"\bfunctions=(\d+)")
@@ -138,33 +145,49 @@ def entered(program, places, script, folder):
 
 
 def written(crates):
-    """The functions of our sources, by the names that the linker gives them."""
+    """The module of each function of our sources, by its crate, what it stands in, and its name. It
+    stands in its module, or in the `impl` of a type, which may be of another module."""
     for path in sources(crates, ".rt", "src"):
         crate, _, *rooms = path.relative_to(crates).with_suffix("").parts
         module = "::".join([crate, *(room for room in rooms if room not in ("lib", "main"))])
-        for name in re.findall(r"\bfn\s+(\w+)", code(path)):
-            yield module, name
+        owner = ""
+        for found in WRITTEN.finditer(code(path)):
+            if found["type"]:
+                owner = found["type"] + (found["trait"] or "")
+            else:
+                yield (crate, owner if found["indent"] else module, found["name"]), module
+
+
+def place_of(name, ours):
+    """The module in which the function with this name of the linker is written, if it is ours. The
+    name of a trait's impl goes on with what stands between the trait's brackets."""
+    room, _, last = name.rpartition("::")
+    crate, owner = name.partition("::")[0], room.rpartition("::")[2]
+    for within in (room, *(owner[:end] for end in range(len(owner), 0, -1))):
+        if (crate, within, last) in ours:
+            return ours[crate, within, last]
+    return None
 
 
 def start(crates, program):
-    ours = set(written(crates))
-    modules = {module for module, _ in ours}
+    ours = dict(written(crates))
     listed = subprocess.run(["nm", "-C", program], capture_output=True, text=True, check=True)
     places = {}
     for place, name in re.findall(r"^([0-9a-f]+) [tT] ([^<\n]+)", listed.stdout, re.MULTILINE):
-        room, _, last = name.rstrip(":").rpartition("::")
-        while room and room not in modules:
-            room = room.rpartition("::")[0]
         # (A name with `fn` is that of a closure.)
-        if (room, last) in ours and "::fn::" not in name:
-            places[int(place, 16)] = room, name
+        module = None if "::fn::" in name else place_of(name.rstrip(":"), ours)
+        if module:
+            places[int(place, 16)] = module, name
     sought = sorted(places)
     with tempfile.TemporaryDirectory() as folder:
         before = entered(program, sought, SCRIPT, Path(folder))
         after = entered(program, sought, SCRIPT + START, Path(folder))
-    passed = {places[at] for at in sought if after.get(at, 0) > before.get(at, 0)}
-    rooms = {room for room, _ in passed}
+    passed = sorted({places[at] for at in sought if after.get(at, 0) > before.get(at, 0)})
+    rooms = Counter(module for module, _ in passed)
     yield f"an accepted start enters {len(passed)} functions in {len(rooms)} modules"
+    for module, count in rooms.items():
+        names = ", ".join(name.rpartition("::")[2] for room, name in passed if room == module)
+        yield f"  {module} {count}: {names}"
 
 
 def main():
