@@ -1,9 +1,9 @@
 -- The stamps of a key: when it passed the stages of its life (RFC 7583, section 3: the events of a
 -- key).
 use Rattle.std.specs.Prelude.{ℕ, Option, None, Bool, true, Some}
-use Rattle.dnssec_base.specs.declared.stamps.Stamp.{Stamp}
-use Rattle.dnssec_base.specs.declared.stamps.Stamp.TheVariants.{Visible, DsVisible, RrsigVisible}
-use Rattle.dnssec_base.specs.declared.stamps.Stamp.TheVariants.{Published, Withdrawn}
+use Rattle.dnssec_base.specs.declared.time.Stamp.{Stamp}
+use Rattle.dnssec_base.specs.declared.time.Stamp.TheVariants.{Visible, DsVisible, RrsigVisible}
+use Rattle.dnssec_base.specs.declared.time.Stamp.TheVariants.{Published, Withdrawn}
 
 -- when a key passed each stage of its life, if it did (RFC 7583, section 3: the events of a key)
 pub record Stamps : Type 0 where

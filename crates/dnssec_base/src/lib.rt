@@ -11,7 +11,6 @@ mod algorithm;
 mod error;
 mod facts_for_proofs;
 mod name;
-mod stamps;
 mod text;
 mod time;
 mod timestamp;
@@ -26,6 +25,5 @@ pub use name::{
     Name, NameError, one_fault_stands_first, prints_its_spelling, spells_no_fault, spells_one_name,
     spells_unless_fault,
 };
-pub use stamps::{KeyTimestamps, Stamp, new_stamps, stamp_named, write_stamp};
-pub use time::UnixTime;
+pub use time::{KeyTimestamps, Stamp, UnixTime, new_stamps, stamp_named, write_stamp};
 pub use timestamp::Timestamp;

@@ -1,5 +1,5 @@
 -- A user of the key set needn't read these. Contracts of `dnssec_key` that `dnssec_zone` calls name
--- `Bits` and `TagIndex`.
+-- all three.
 pub mod Bits
 pub mod TagIndex
 pub mod Columns

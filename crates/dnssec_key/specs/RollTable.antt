@@ -4,8 +4,8 @@
 -- takes back; which actions are due. Tests read the flags before the call. The rest stays.
 use Rattle.std.specs.Prelude.{true, not, if◌then◌else◌, false, Bool, List, ◌||◌, [], ◌∷◌, ℕ, Some}
 use Rattle.std.specs.Prelude.{Option, None}
-use Rattle.dnssec_base.specs.declared.stamps.Stamp.{Stamp}
-use Rattle.dnssec_base.specs.declared.stamps.Stamp.TheVariants.{Visible, DsVisible, RrsigVisible}
+use Rattle.dnssec_base.specs.declared.time.Stamp.{Stamp}
+use Rattle.dnssec_base.specs.declared.time.Stamp.TheVariants.{Visible, DsVisible, RrsigVisible}
 use Rattle.dnssec_key.specs.State.{Flags, kept_present, kept_at_parent, old_present, is_any}
 use Rattle.dnssec_key.specs.State.{is_leaving, old_at_parent, kept_signing, old_silent, is_old}
 use Rattle.dnssec_key.specs.declared.kind.KeyType.{KeyType}

@@ -1,14 +1,23 @@
-//! What the words of a roll's column do to one key.
-ghost use Rattle.std.specs.Prelude.{◌≡◌, false, if◌then◌else◌};
+//! What happens to one key: what the words of a roll's column say, and then the calls of a key set,
+//! by these words. The calls are functions, and no methods of `Key`, so that only our crates reach
+//! them: whoever has a key set can't change a key outside its calls.
+ghost use Rattle.std.specs.Prelude.{◌≡◌, false};
 ghost use Rattle.std.specs.Option.{option_map_or};
-ghost use Rattle.dnssec_base.specs.Stamps.{with_stamp};
 ghost use Rattle.dnssec_key.specs.RollTable.{at_roles, comes_in_signing, leaves_dnskey};
+ghost use Rattle.dnssec_key.specs.RollTable.{which, half_of, after_report, after_wait};
+ghost use Rattle.dnssec_key.specs.RollTable.{new_at_start, old_at_start, new_at_early_end};
+ghost use Rattle.dnssec_key.specs.RollTable.{old_at_early_end};
+ghost use Rattle.dnssec_key.specs.Setters.{setting_of, set_by};
 ghost use Rattle.dnssec_key.specs.Stamping.{stamps_after};
 ghost use Rattle.dnssec_key.specs.Inner.Columns.{test_of, keys_of, move_of, change_of, writes_of};
 
-use crate::column::{KeyMove, KeyTest, RoleMove, RoleTest, Writes};
+use crate::column::KeyMove::{AtEachRole, AtEachState, AtRoles};
+use crate::column::RoleMove::{SetAtParent, SetPresent, SetSigner, SetStale, Stays, TurnsOld};
+use crate::column::{KeyMove, KeyTest, RoleMove, RoleTest};
+use crate::key::{Key, KeyState};
 use crate::kind::KeyType;
-use crate::state::KeyState;
+use crate::roll::{Half, RollType};
+use crate::setting::Setting;
 use dnssec_base::{KeyTimestamps, Stamp, UnixTime, write_stamp};
 
 impl RoleTest {
@@ -67,42 +76,22 @@ impl KeyTest {
     }
 }
 
-impl Writes {
-    /// Writes the stamps of a key that is of this kind before the event.
-    // Most waits write none, and so make no call.
-    #[inline(always)]
-    pub(crate) fn write(&self, key: &KeyType, now: UnixTime, stamps: &mut KeyTimestamps)
-        ensures { stamps.new ≡ stamps_after (writes_of self.now) key.now now stamps.old }
-    {
-        match self {
-            Writes::Nothing => {}
-            some => some.write_each(key, now, stamps),
-        }
-    }
-
-    /// Writes them one by one.
-    #[tactic(auto, using(crate::proofs::Stampings::written))]
-    fn write_each(&self, key: &KeyType, now: UnixTime, stamps: &mut KeyTimestamps)
-        ensures { stamps.new ≡ stamps_after (writes_of self.now) key.now now stamps.old }
-    {
-        match self {
-            Writes::Nothing => {}
-            Writes::One(stamp, keys) => write_if(keys.has(key), *stamp, now, stamps),
-            Writes::Two(stamp, keys, other, others) => {
-                write_if(keys.has(key), *stamp, now, stamps);
-                write_if(others.has(key), *other, now, stamps);
-            }
-        }
-    }
-}
-
-/// Writes a stamp, if the key passed.
+/// Writes each stamp whose test the key passes; `key` is its kind before the event.
+// Most waits write none, and so make no call.
 #[inline(always)]
-fn write_if(passed: bool, stamp: Stamp, now: UnixTime, stamps: &mut KeyTimestamps)
-    ensures { stamps.new ≡ (if passed then with_stamp stamp now stamps.old else stamps.old) }
+#[tactic(auto, using(std::proofs::lemmas::Grind::common_steps, crate::proofs::Stampings::put_last))]
+fn write_stamps(
+    writes: &[(Stamp, KeyTest)],
+    key: &KeyType,
+    now: UnixTime,
+    stamps: &mut KeyTimestamps,
+)
+    ensures { stamps.new ≡ stamps_after (writes_of writes.now) key.now now stamps.old }
 {
-    if passed {
-        write_stamp(stamps, stamp, now);
+    for (stamp, keys) in writes {
+        if keys.has(key) {
+            write_stamp(stamps, *stamp, now);
+        }
     }
 }
 
@@ -229,4 +218,82 @@ fn at_roles(ksk: RoleMove, zsk: RoleMove, key: &mut KeyType)
         }
         KeyType::Include(_) => {}
     }
+}
+
+/// Applies a setter, whatever the kind of the key.
+pub fn apply_setting(key: &mut Key, setting: Setting)
+    ensures { key.new ≡ set_by (setting_of setting) key.old }
+{
+    match setting {
+        Setting::Decoupled(value) => key.decoupled = value,
+        Setting::Present(value, now) => {
+            AtEachState(SetPresent(value)).at(&mut key.keytype);
+            if value && key.timestamps.published().is_none() {
+                write_stamp(&mut key.timestamps, Stamp::Published, now);
+            }
+        }
+        Setting::Signer(value) => AtEachState(SetSigner(value)).at(&mut key.keytype),
+        Setting::AtParent(value) => AtRoles(SetAtParent(value), Stays).at(&mut key.keytype),
+        Setting::Stale => AtEachState(SetStale).at(&mut key.keytype),
+        Setting::VisibleAt(time) => write_stamp(&mut key.timestamps, Stamp::Visible, time),
+        Setting::DsVisibleAt(time) => write_stamp(&mut key.timestamps, Stamp::DsVisible, time),
+        Setting::RrsigVisibleAt(time) => {
+            write_stamp(&mut key.timestamps, Stamp::RrsigVisible, time);
+        }
+    }
+}
+
+/// A start lists the key as old.
+pub fn mark_old(key: &mut Key)
+    ensures { key.new ≡ old_at_start key.old }
+{
+    AtEachRole(TurnsOld).at(&mut key.keytype);
+}
+
+/// A start lists the key as new.
+pub fn mark_new(key: &mut Key, roll: RollType, now: UnixTime)
+    ensures { key.new ≡ new_at_start roll now key.old }
+{
+    let column = roll.column();
+    write_stamps(column.writes, &key.keytype, now, &mut key.timestamps);
+    column.comes.at(&mut key.keytype);
+}
+
+/// A roll that listed the key as old is ended early.
+pub fn unmark_old(key: &mut Key, roll: RollType)
+    ensures { key.new ≡ old_at_early_end roll key.old }
+{
+    roll.column().returns.at(&mut key.keytype);
+}
+
+/// A roll that listed the key as new is ended early.
+pub fn unmark_new(key: &mut Key, roll: RollType)
+    ensures { key.new ≡ new_at_early_end roll key.old }
+{
+    roll.column().goes.at(&mut key.keytype);
+}
+
+/// A report of a roll is made.
+pub fn stamp_report(key: &mut Key, roll: RollType, half: Half, now: UnixTime)
+    ensures { key.new ≡ after_report roll (which half) now key.old }
+{
+    let report = roll.half(half).report;
+    write_stamps(report, &key.keytype, now, &mut key.timestamps);
+}
+
+/// A wait of a roll is over.
+pub fn move_on(key: &mut Key, roll: RollType, half: Half, now: UnixTime)
+    ensures { key.new ≡ after_wait roll (which half) now key.old }
+{
+    let half_roll = roll.half(half);
+    write_stamps(half_roll.writes, &key.keytype, now, &mut key.timestamps);
+    half_roll.moves.at(&mut key.keytype);
+}
+
+/// Whether a wait checks the key.
+#[inline(always)]
+pub fn is_checked(key: &Key, roll: RollType, half: Half) -> bool
+    ensures { result ≡ (half_of roll (which half)).checks key.now.keytype }
+{
+    roll.half(half).checks.has(&key.keytype)
 }

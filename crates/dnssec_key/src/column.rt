@@ -80,11 +80,7 @@ pub(crate) enum KeyMove {
 }
 
 /// Which stamps an event writes: each on the keys that pass.
-pub(crate) enum Writes {
-    Nothing,
-    One(Stamp, KeyTest),
-    Two(Stamp, KeyTest, Stamp, KeyTest),
-}
+pub(crate) type Writes = &'static [(Stamp, KeyTest)];
 
 /// Half of a roll: a change spreads and is reported, then old data leaves the caches.
 pub(crate) struct HalfRoll {
@@ -103,15 +99,15 @@ pub(crate) struct HalfRoll {
 }
 
 /// A roll: its start, its two halves, and the actions due.
-pub(crate) struct Column {
+pub struct Column {
     /// Its name in a script.
     pub(crate) name: &'static str,
     /// Which keys it changes.
-    pub(crate) side: Side,
+    pub side: Side,
     /// What its start has to leave.
-    pub(crate) wants: &'static [Want],
+    pub wants: &'static [Want],
     /// Whether its new keys may have other algorithms than its old ones.
-    pub(crate) changes_algorithms: bool,
+    pub changes_algorithms: bool,
     /// What a start puts on a new key.
     pub(crate) comes: KeyMove,
     /// The stamps that it writes on it.

@@ -4,7 +4,6 @@
 //! `dnssec_keyset` re-exports what its callers name, and itself uses the rest.
 #![tactic(auto)]
 
-mod actions;
 mod at_key;
 mod bits;
 mod column;
@@ -13,12 +12,13 @@ mod key;
 mod kind;
 mod roll;
 mod setting;
-mod state;
-mod steps;
 mod table;
-mod tag_index;
 
-pub use bits::{AlgorithmSet, TagSet, is_set, set};
+pub use at_key::{
+    apply_setting, is_checked, mark_new, mark_old, move_on, stamp_report, unmark_new, unmark_old,
+};
+pub use bits::{AlgorithmSet, TagIndex, TagSet, is_set, set};
+pub use column::Column;
 pub use dnssec_base::{
     Error, KeyTimestamps, Stamp, UnixTime, default_stamps_are_none, equal_errors_are_one,
     equal_moments_are_one, moments_are_in_order_of_time, stamp_named,
@@ -26,13 +26,8 @@ pub use dnssec_base::{
 pub use facts_for_proofs::{
     default_states_are_unused, equal_kinds_are_one, equal_phases_are_one, equal_states_are_one,
 };
-pub use key::{Key, new_key};
+pub use key::{Available, Key, KeyState, is_kept_at_parent, is_kept_present, new_key};
 pub use kind::KeyType;
 pub use roll::{Action, Half, RollState, RollType, Side, Want};
 pub use setting::Setting;
-pub use state::{Available, KeyState, is_kept_at_parent, is_kept_present};
-pub use steps::{
-    apply_setting, is_checked, mark_new, mark_old, move_on, stamp_report, unmark_new, unmark_old,
-};
-pub use table::{may_change_algorithms, roll_name, side_of, stamp_read, wait_moves_kept, wants};
-pub use tag_index::TagIndex;
+pub use table::{roll_name, side_of, stamp_read, wait_moves_kept};

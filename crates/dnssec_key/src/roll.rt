@@ -1,10 +1,6 @@
 //! Rolls: their kinds, their phases, their halves, and what they ask of the operator.
 ghost use Rattle.std.specs.Prelude.{◌≡◌};
 ghost use Rattle.dnssec_key.specs.RollTable.{which, after_expiry, cache_expire};
-ghost use Rattle.dnssec_key.specs.Texts.{NamesRoll};
-
-use dnssec_base::Error;
-use std::str::FromStr;
 
 /// The kind of a roll (RFC 6781, section 4.1).
 #[derive(Clone, Copy, Debug, PartialEq, Eq, Hash)]
@@ -26,7 +22,7 @@ pub enum RollType {
 }
 
 /// Which keys a roll changes.
-#[derive(Clone, Copy, Debug, PartialEq, Eq)]
+#[derive(Clone, Copy)]
 pub enum Side {
     /// Only KSKs.
     KskSide,
@@ -37,7 +33,7 @@ pub enum Side {
 }
 
 /// What a start has to leave on a side that the roll changes: a key that serves.
-#[derive(Clone, Copy, Debug, PartialEq, Eq)]
+#[derive(Clone, Copy)]
 pub enum Want {
     /// A KSK in the DNSKEY set.
     PresentKsk,
@@ -49,27 +45,6 @@ pub enum Want {
     PresentKskRole,
     /// A ZSK or a CSK in the DNSKEY set.
     PresentZskRole,
-}
-
-impl FromStr for RollType {
-    type Err = Error;
-
-    ghost from_str_gives = { NamesRoll };
-
-    /// The roll of this name: `ksk-roll`, `ksk-double-ds-roll`, `zsk-roll`,
-    /// `zsk-double-signature-roll`, `csk-roll` or `algorithm-roll`. Every other text is refused
-    /// with `UnknownRollType`.
-    fn from_str(text: &str) -> Result<RollType, Error> {
-        match text {
-            "ksk-roll" => Ok(RollType::KskRoll),
-            "ksk-double-ds-roll" => Ok(RollType::KskDoubleDsRoll),
-            "zsk-roll" => Ok(RollType::ZskRoll),
-            "zsk-double-signature-roll" => Ok(RollType::ZskDoubleSignatureRoll),
-            "csk-roll" => Ok(RollType::CskRoll),
-            "algorithm-roll" => Ok(RollType::AlgorithmRoll),
-            _ => Err(Error::UnknownRollType),
-        }
-    }
 }
 
 /// The phase of a roll.
@@ -88,7 +63,7 @@ pub enum RollState {
 }
 
 /// One of the two halves of a roll: a change, a report that it has spread, and a wait.
-#[derive(Clone, Copy, Debug, PartialEq, Eq)]
+#[derive(Clone, Copy, PartialEq)]
 pub enum Half {
     First,
     Second,

@@ -6,7 +6,7 @@ use crate::kind::KeyType;
 use dnssec_base::UnixTime;
 
 /// What a setter sets.
-#[derive(Clone, Copy, Debug)]
+#[derive(Clone, Copy)]
 pub enum Setting {
     Decoupled(bool),
     Present(bool, UnixTime),

@@ -1,12 +1,13 @@
 //! The table of rolls: each roll is one column, as in `specs/RollTable`. `specs/Sides` has the side
-//! of a roll, what its start asks, and `moves_kept`; `specs/Texts` its name.
+//! of a roll, what its start asks, and `moves_kept`; `specs/Texts` its name. What others read of a
+//! column stands after it.
 #![tactic(auto, unfolding(crate::specs::RollTable::column))]
 
 ghost use Rattle.std.specs.Prelude.{◌≡◌};
-ghost use Rattle.dnssec_key.specs.RollTable.{which, column, half_of};
+ghost use Rattle.dnssec_key.specs.RollTable.{which, column, half_of, actions_of};
 ghost use Rattle.dnssec_key.specs.RollTable.{First as TheFirst, Second as TheSecond};
 ghost use Rattle.dnssec_key.specs.Sides.{side_of, wants, may_change_algorithms, wait_moves_kept};
-ghost use Rattle.dnssec_key.specs.Texts.{roll_name};
+ghost use Rattle.dnssec_key.specs.Texts.{roll_name, NamesRoll};
 ghost use Rattle.dnssec_key.specs.Inner.Columns.{half_roll_of, column_of};
 
 use crate::column::KeyMove::{AtEachRole, AtEachRoleIf, AtKsk, AtRoles, AtZsk, NoRole};
@@ -20,7 +21,6 @@ use crate::column::RoleTest::{
     KeptAtParent, KeptPresent, KeptSigning, LeavingOrKeptAtParent, LeavingOrKeptPresent, Old,
     OldAtParent, OldPresent, OldSilent,
 };
-use crate::column::Writes::{Nothing, One, Two};
 use crate::column::{Column, HalfRoll};
 use crate::roll::Action::{
     CreateCdsRrset, RemoveCdsRrset, ReportDnskeyPropagated, ReportDsPropagated,
@@ -29,9 +29,10 @@ use crate::roll::Action::{
 };
 use crate::roll::Side::{BothSides, KskSide, ZskSide};
 use crate::roll::Want::{KskAtParent, PresentKsk, PresentKskRole, PresentZsk, PresentZskRole};
-use crate::roll::{Half, RollType, Side, Want};
-use dnssec_base::Stamp;
+use crate::roll::{Action, Half, RollState, RollType, Side};
 use dnssec_base::Stamp::{DsVisible, Published, RrsigVisible, Visible, Withdrawn};
+use dnssec_base::{Error, Stamp};
+use std::str::FromStr;
 
 /// Double-Signature KSK roll: both sign the DNSKEY set, then the DS moves.
 static KSK_DOUBLE_SIGNATURE: Column = Column {
@@ -40,27 +41,27 @@ static KSK_DOUBLE_SIGNATURE: Column = Column {
     wants: &[PresentKsk],
     changes_algorithms: false,
     comes: AtKsk(ComesInSigning),
-    writes: One(Published, EveryKey),
+    writes: &[(Published, EveryKey)],
     asks: &[UpdateDnskeyRrset, ReportDnskeyPropagated],
     goes: AtKsk(LeavesDnskey),
     returns: AtKsk(TurnsBack),
     asks_early: &[UpdateDnskeyRrset, WaitDnskeyPropagated],
     first: HalfRoll {
-        report: One(Visible, Ksk(KeptPresent)),
+        report: &[(Visible, Ksk(KeptPresent))],
         checks: Ksk(LeavingOrKeptPresent),
         reads: Visible,
         moves: AtKsk(DsFollows),
         moves_kept: true,
-        writes: Nothing,
+        writes: &[],
     },
     asks_between: &[CreateCdsRrset, UpdateDsRrset, ReportDsPropagated],
     second: HalfRoll {
-        report: One(DsVisible, Ksk(KeptAtParent)),
+        report: &[(DsVisible, Ksk(KeptAtParent))],
         checks: Ksk(LeavingOrKeptAtParent),
         reads: DsVisible,
         moves: AtKsk(LeavesDnskeyIf(OldPresent)),
         moves_kept: false,
-        writes: One(Withdrawn, Ksk(OldPresent)),
+        writes: &[(Withdrawn, Ksk(OldPresent))],
     },
     asks_last: &[RemoveCdsRrset, UpdateDnskeyRrset, WaitDnskeyPropagated],
 };
@@ -72,27 +73,27 @@ static KSK_DOUBLE_DS: Column = Column {
     wants: &[KskAtParent],
     changes_algorithms: false,
     comes: AtKsk(DsComesIn),
-    writes: Nothing,
+    writes: &[],
     asks: &[CreateCdsRrset, UpdateDsRrset, ReportDsPropagated],
     goes: AtKsk(LeavesParent),
     returns: AtKsk(TurnsBack),
     asks_early: &[CreateCdsRrset, UpdateDsRrset, WaitDsPropagated],
     first: HalfRoll {
-        report: One(DsVisible, Ksk(KeptAtParent)),
+        report: &[(DsVisible, Ksk(KeptAtParent))],
         checks: Ksk(KeptAtParent),
         reads: DsVisible,
         moves: AtKsk(KeysChangePlaces),
         moves_kept: true,
-        writes: One(Published, Ksk(KeptAtParent)),
+        writes: &[(Published, Ksk(KeptAtParent))],
     },
     asks_between: &[RemoveCdsRrset, UpdateDnskeyRrset, ReportDnskeyPropagated],
     second: HalfRoll {
-        report: One(Visible, Ksk(KeptPresent)),
+        report: &[(Visible, Ksk(KeptPresent))],
         checks: Ksk(KeptPresent),
         reads: Visible,
         moves: AtKsk(LeavesParentIf(OldAtParent)),
         moves_kept: false,
-        writes: One(Withdrawn, Ksk(OldAtParent)),
+        writes: &[(Withdrawn, Ksk(OldAtParent))],
     },
     asks_last: &[CreateCdsRrset, UpdateDsRrset, WaitDsPropagated],
 };
@@ -104,27 +105,27 @@ static ZSK_PRE_PUBLISH: Column = Column {
     wants: &[PresentZsk],
     changes_algorithms: false,
     comes: AtZsk(ComesIn),
-    writes: One(Published, EveryKey),
+    writes: &[(Published, EveryKey)],
     asks: &[UpdateDnskeyRrset, ReportDnskeyPropagated],
     goes: AtZsk(LeavesSilently),
     returns: AtZsk(TurnsBack),
     asks_early: &[UpdateDnskeyRrset, WaitDnskeyPropagated],
     first: HalfRoll {
-        report: One(Visible, Zsk(KeptPresent)),
+        report: &[(Visible, Zsk(KeptPresent))],
         checks: Zsk(KeptPresent),
         reads: Visible,
         moves: AtZsk(SignaturesFollow),
         moves_kept: false,
-        writes: Nothing,
+        writes: &[],
     },
     asks_between: &[UpdateRrsig, ReportRrsigPropagated],
     second: HalfRoll {
-        report: One(RrsigVisible, Zsk(KeptSigning)),
+        report: &[(RrsigVisible, Zsk(KeptSigning))],
         checks: Zsk(KeptSigning),
         reads: RrsigVisible,
         moves: AtZsk(LeavesSilentlyIf(OldSilent)),
         moves_kept: false,
-        writes: One(Withdrawn, Zsk(OldSilent)),
+        writes: &[(Withdrawn, Zsk(OldSilent))],
     },
     asks_last: &[UpdateDnskeyRrset, WaitDnskeyPropagated],
 };
@@ -136,7 +137,7 @@ static ZSK_DOUBLE_SIGNATURE: Column = Column {
     wants: &[PresentZsk],
     changes_algorithms: false,
     comes: AtZsk(ComesInSigning),
-    writes: One(Published, EveryKey),
+    writes: &[(Published, EveryKey)],
     asks: &[
         UpdateDnskeyRrset,
         UpdateRrsig,
@@ -152,12 +153,15 @@ static ZSK_DOUBLE_SIGNATURE: Column = Column {
         WaitRrsigPropagated,
     ],
     first: HalfRoll {
-        report: Two(Visible, Zsk(KeptPresent), RrsigVisible, Zsk(KeptPresent)),
+        report: &[
+            (Visible, Zsk(KeptPresent)),
+            (RrsigVisible, Zsk(KeptPresent)),
+        ],
         checks: Zsk(KeptPresent),
         reads: Visible,
         moves: AtZsk(LeavesDnskeyIf(Old)),
         moves_kept: false,
-        writes: One(Withdrawn, Zsk(Old)),
+        writes: &[(Withdrawn, Zsk(Old))],
     },
     asks_between: &[
         UpdateDnskeyRrset,
@@ -166,12 +170,12 @@ static ZSK_DOUBLE_SIGNATURE: Column = Column {
         ReportRrsigPropagated,
     ],
     second: HalfRoll {
-        report: Nothing,
+        report: &[],
         checks: Zsk(KeptSigning),
         reads: RrsigVisible,
         moves: NoRole,
         moves_kept: false,
-        writes: Nothing,
+        writes: &[],
     },
     asks_last: &[],
 };
@@ -183,18 +187,18 @@ static CSK_ROLL: Column = Column {
     wants: &[PresentKskRole, PresentZskRole],
     changes_algorithms: false,
     comes: AtRoles(ComesInSigning, ComesIn),
-    writes: One(Published, EveryKey),
+    writes: &[(Published, EveryKey)],
     asks: &[UpdateDnskeyRrset, ReportDnskeyPropagated],
     goes: AtRoles(LeavesDnskey, LeavesSilently),
     returns: AtEachRole(TurnsBack),
     asks_early: &[UpdateDnskeyRrset, WaitDnskeyPropagated],
     first: HalfRoll {
-        report: One(Visible, AnyKey(KeptPresent)),
+        report: &[(Visible, AnyKey(KeptPresent))],
         checks: AnyKey(KeptPresent),
         reads: Visible,
         moves: AtRoles(DsFollows, SignaturesFollow),
         moves_kept: true,
-        writes: Nothing,
+        writes: &[],
     },
     asks_between: &[
         CreateCdsRrset,
@@ -204,17 +208,15 @@ static CSK_ROLL: Column = Column {
         ReportRrsigPropagated,
     ],
     second: HalfRoll {
-        report: Two(
-            DsVisible,
-            KskRole(KeptPresent),
-            RrsigVisible,
-            ZskRole(KeptSigning),
-        ),
+        report: &[
+            (DsVisible, KskRole(KeptPresent)),
+            (RrsigVisible, ZskRole(KeptSigning)),
+        ],
         checks: ZskRole(KeptSigning),
         reads: RrsigVisible,
         moves: AtRoles(LeavesDnskeyIf(OldPresent), LeavesSilentlyIf(OldSilent)),
         moves_kept: false,
-        writes: One(Withdrawn, EitherRole(OldPresent, OldSilent)),
+        writes: &[(Withdrawn, EitherRole(OldPresent, OldSilent))],
     },
     asks_last: &[RemoveCdsRrset, UpdateDnskeyRrset, WaitDnskeyPropagated],
 };
@@ -226,7 +228,7 @@ static ALGORITHM_ROLL: Column = Column {
     wants: &[PresentKskRole, PresentZskRole],
     changes_algorithms: true,
     comes: AtEachRole(ComesInSigning),
-    writes: One(Published, EveryKey),
+    writes: &[(Published, EveryKey)],
     asks: &[
         UpdateDnskeyRrset,
         UpdateRrsig,
@@ -242,26 +244,24 @@ static ALGORITHM_ROLL: Column = Column {
         WaitRrsigPropagated,
     ],
     first: HalfRoll {
-        report: Two(
-            Visible,
-            AnyKey(KeptPresent),
-            RrsigVisible,
-            ZoneKey(KeptPresent),
-        ),
+        report: &[
+            (Visible, AnyKey(KeptPresent)),
+            (RrsigVisible, ZoneKey(KeptPresent)),
+        ],
         checks: AnyKey(KeptPresent),
         reads: Visible,
         moves: AtRoles(DsFollows, Stays),
         moves_kept: true,
-        writes: Nothing,
+        writes: &[],
     },
     asks_between: &[CreateCdsRrset, UpdateDsRrset, ReportDsPropagated],
     second: HalfRoll {
-        report: One(DsVisible, KskRole(KeptPresent)),
+        report: &[(DsVisible, KskRole(KeptPresent))],
         checks: KskRole(KeptSigning),
         reads: DsVisible,
         moves: AtEachRoleIf(OldPresent, LeavesDnskey),
         moves_kept: true,
-        writes: One(Withdrawn, AnyKey(OldPresent)),
+        writes: &[(Withdrawn, AnyKey(OldPresent))],
     },
     asks_last: &[
         RemoveCdsRrset,
@@ -274,7 +274,7 @@ static ALGORITHM_ROLL: Column = Column {
 
 impl RollType {
     /// The column of a roll.
-    pub(crate) fn column(self) -> &'static Column
+    pub fn column(self) -> &'static Column
         ensures means { column_of result.now ≡ column self }
         ensures name { result.now.name.now ≡ roll_name self }
         ensures side { result.now.side ≡ side_of self }
@@ -303,6 +303,25 @@ impl RollType {
             Half::Second => &self.column().second,
         }
     }
+
+    /// The actions due in a phase.
+    pub fn actions_in(self, phase: RollState) -> &'static [Action]
+        ensures { result.now ≡ actions_of self phase }
+    {
+        match phase {
+            RollState::Propagation1 => self.column().asks,
+            RollState::Propagation2 => self.column().asks_between,
+            RollState::Done => self.column().asks_last,
+            RollState::CacheExpire1(_) | RollState::CacheExpire2(_) => &[],
+        }
+    }
+
+    /// The actions due after the roll is ended early.
+    pub fn asks_at_early_end(self) -> &'static [Action]
+        ensures { result.now ≡ (column self).asks_early }
+    {
+        self.column().asks_early
+    }
 }
 
 /// The stamp that a wait reads.
@@ -326,23 +345,30 @@ pub fn side_of(roll: RollType) -> Side
     roll.column().side
 }
 
-/// What a start has to leave: a key that serves on each side of the roll.
-pub fn wants(roll: RollType) -> &'static [Want]
-    ensures { result.now ≡ wants roll }
-{
-    roll.column().wants
-}
-
-/// Whether the new keys of a roll may have other algorithms than the old ones.
-pub fn may_change_algorithms(roll: RollType) -> bool
-    ensures { result ≡ may_change_algorithms roll }
-{
-    roll.column().changes_algorithms
-}
-
 /// The name of a roll in a script.
 pub fn roll_name(roll: RollType) -> &'static str
     ensures { result.now ≡ roll_name roll }
 {
     roll.column().name
+}
+
+impl FromStr for RollType {
+    type Err = Error;
+
+    ghost from_str_gives = { NamesRoll };
+
+    /// The roll of this name: `ksk-roll`, `ksk-double-ds-roll`, `zsk-roll`,
+    /// `zsk-double-signature-roll`, `csk-roll` or `algorithm-roll`. Every other text is refused
+    /// with `UnknownRollType`.
+    fn from_str(text: &str) -> Result<RollType, Error> {
+        match text {
+            "ksk-roll" => Ok(RollType::KskRoll),
+            "ksk-double-ds-roll" => Ok(RollType::KskDoubleDsRoll),
+            "zsk-roll" => Ok(RollType::ZskRoll),
+            "zsk-double-signature-roll" => Ok(RollType::ZskDoubleSignatureRoll),
+            "csk-roll" => Ok(RollType::CskRoll),
+            "algorithm-roll" => Ok(RollType::AlgorithmRoll),
+            _ => Err(Error::UnknownRollType),
+        }
+    }
 }

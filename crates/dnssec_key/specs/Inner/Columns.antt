@@ -1,5 +1,5 @@
 -- What the columns of the code mean: the words of a column are those of the table of rolls.
-use Rattle.std.specs.Prelude.{Bool, ◌||◌}
+use Rattle.std.specs.{Prelude.Bool, Prelude.◌||◌, Prelude.List, List.fold}
 use Rattle.dnssec_key.specs.State.{Flags, kept_present, kept_at_parent, old_present, is_old}
 use Rattle.dnssec_key.specs.State.{is_leaving, old_at_parent, kept_signing, old_silent}
 use Rattle.dnssec_key.specs.Key.{ksk, zsk, every_key, ksk_role, zsk_role, any_key, either}
@@ -22,11 +22,9 @@ use Rattle.dnssec_key.specs.declared.column.RoleMove.{RoleMove}
 use Rattle.dnssec_key.specs.declared.column.RoleMove.TheVariants as does
 use Rattle.dnssec_key.specs.declared.column.KeyMove.{KeyMove}
 use Rattle.dnssec_key.specs.declared.column.KeyMove.TheVariants as change
-use Rattle.dnssec_key.specs.declared.column.Writes.{Writes}
-use Rattle.dnssec_key.specs.declared.column.Writes.TheVariants as writes
-use Rattle.dnssec_base.specs.declared.stamps.Stamp.{Stamp}
-use Rattle.dnssec_base.specs.declared.stamps.Stamp.TheVariants.{Published, Visible, DsVisible}
-use Rattle.dnssec_base.specs.declared.stamps.Stamp.TheVariants.{RrsigVisible, Withdrawn}
+use Rattle.dnssec_base.specs.declared.time.Stamp.{Stamp}
+use Rattle.dnssec_base.specs.declared.time.Stamp.TheVariants.{Published, Visible, DsVisible}
+use Rattle.dnssec_base.specs.declared.time.Stamp.TheVariants.{RrsigVisible, Withdrawn}
 use Rattle.dnssec_key.specs.declared.column.HalfRoll.{HalfRoll}
 use Rattle.dnssec_key.specs.declared.column.Column.{Column}
 
@@ -94,26 +92,24 @@ put RrsigVisible t w = record w { rrsig_visible = either w.rrsig_visible t }
 put Withdrawn t w = record w { withdrawn = either w.withdrawn t }
 
 -- which stamps an event writes
-abbrev pub writes_of : Writes → WritesOfRoll
-writes_of writes.Nothing = writes_nothing
-writes_of (writes.One s t) = put s (keys_of t) writes_nothing
-writes_of (writes.Two s t u v) = put u (keys_of v) (put s (keys_of t) writes_nothing)
+abbrev pub writes_of : List (Stamp × KeyTest) → WritesOfRoll
+writes_of = fold (λ w (s : Stamp × KeyTest). put s.0 (keys_of s.1) w) writes_nothing
 
 -- half of a roll
 abbrev pub half_roll_of : HalfRoll → HalfOfRoll
 half_roll_of h = record {
-  report = writes_of h.report;
+  report = writes_of h.report.now;
   checks = keys_of h.checks;
   reads = h.reads;
   moves = change_of h.moves;
-  writes = writes_of h.writes;
+  writes = writes_of h.writes.now;
 }
 
 -- a roll
 abbrev pub column_of : Column → ColumnOfRoll
 column_of c = record {
   comes = change_of c.comes;
-  writes = writes_of c.writes;
+  writes = writes_of c.writes.now;
   asks = c.asks.now;
   goes = change_of c.goes;
   returns = change_of c.returns;

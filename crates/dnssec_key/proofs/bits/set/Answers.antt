@@ -1,12 +1,13 @@
 -- One bit of one word is set, and no other.
-use Rattle.std.proofs.Common.{◌%◌, true, ap, arith}
+use Rattle.std.{proofs.Common.◌<◌, proofs.Common.◌%◌, proofs.Common.arith, specs.Int.w64}
+use Rattle.std.specs.Prelude.{get_or, ◌/◌}
 use Rattle.std.proofs.lemmas.Nat.Bits.{bit_at_set_same, bit_at_set_other}
-use Rattle.std.specs.{Prelude.nat_eq, Int.w64}
-use Rattle.dnssec_key.proofs.BitWords.{written}
+use Rattle.std.proofs.lemmas.{Bool.Decides.nat_tests, List.get_or-set_same, List.get_or-set_other}
 use Rattle.dnssec_key.proofs.bits.set.Goals as goal
 
 pub returns-clause-put : goal.returns-clause-put
 returns-clause-put c = λ n.
-    rw (c.from-at.ensures) (written c.args.words.now c.args.number _ true c.requires
-    (ap (λ x. nat_eq x 1) (bit_at_set_same w64 _ (c.args.number % 64) (omega arith)))
-    (λ i low d. bit_at_set_other w64 _ (c.args.number % 64) (omega arith) i d) n)
+    let low : c.args.number % 64 < 64 = omega arith in
+    let same = bit_at_set_same w64 (get_or c.args.words.now (c.args.number / 64) 0) _ low in
+    let others = bit_at_set_other w64 (get_or c.args.words.now (c.args.number / 64) 0) _ low in
+    grind (arith, nat_tests, same, others, get_or-set_same, get_or-set_other)

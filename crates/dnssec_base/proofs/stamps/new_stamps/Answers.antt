@@ -1,5 +1,0 @@
-use Rattle.std.proofs.Common.{rules}
-use Rattle.dnssec_base.proofs.stamps.new_stamps.Goals as goal
-
-pub returns : goal.returns
-returns c = search rules

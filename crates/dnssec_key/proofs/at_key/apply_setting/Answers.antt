@@ -1,0 +1,5 @@
+use Rattle.std.proofs.Common.{rules}
+use Rattle.dnssec_key.proofs.at_key.apply_setting.Goals as goal
+
+pub returns-in-VisibleAt : goal.returns-in-VisibleAt
+returns-in-VisibleAt c = search rules

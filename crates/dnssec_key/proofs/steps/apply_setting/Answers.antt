@@ -1,5 +1,0 @@
-use Rattle.std.proofs.Common.{rules}
-use Rattle.dnssec_key.proofs.steps.apply_setting.Goals as goal
-
-pub returns-in-VisibleAt : goal.returns-in-VisibleAt
-returns-in-VisibleAt c = search rules
