@@ -1,12 +1,14 @@
 -- What an accepted or a refused call found and left: for the chain of trust and the laws of runs.
-use Rattle.dnssec_keyset.{proofs.After.changed, proofs.Changes.Changes, specs.KeySet.KeySetParts}
+use Rattle.dnssec_keyset.proofs.{After.changed, Changes.Changes}
+use Rattle.dnssec_keyset.specs.KeySet.{KeySetParts}
 use Rattle.std.proofs.Common.{◌≡◌, Bool, true, false, Option, None, Some, arith}
-use Rattle.std.{specs.Prelude.if◌then◌else◌, specs.Prelude.is_some, proofs.lemmas.Bool.true≢false}
-use Rattle.dnssec_key.specs.declared.roll.RollState.TheVariants.{Propagation1, Propagation2, Done}
-use Rattle.dnssec_key.specs.{declared.roll.RollState.RollState, RollTable.First, RollTable.Second}
-use Rattle.dnssec_key.specs.Key.{KeyParts}
+use Rattle.std.proofs.lemmas.Bool.{true≢false}
+use Rattle.std.specs.Prelude.{if◌then◌else◌, is_some}
+use Rattle.dnssec_key.specs.declared.roll.RollState.TheVariants.{Propagation1, Done}
+use Rattle.dnssec_key.specs.{declared.roll.RollState.RollState, Key.KeyParts}
 use Rattle.dnssec_base.specs.declared.error.Error.{Error}
-use Rattle.dnssec_zone.{specs.Refusals.deletion_refusal, proofs.Flags.is_stale}
+use Rattle.dnssec_zone.specs.Refusals.{deletion_refusal}
+use Rattle.dnssec_zone.proofs.Flags.{is_stale}
 use Rattle.dnssec_keyset.specs.Step as keyset
 use Rattle.dnssec_zone.specs.Wait as waits
 use Rattle.dnssec_zone.specs.Refusals as refusals

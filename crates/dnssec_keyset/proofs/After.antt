@@ -1,15 +1,16 @@
 -- What an accepted call changes fixes the set afterwards: it is the function of the set before and
 -- the call.
-use Rattle.dnssec_zone.proofs.Counted.Lists.{get-with, get-without}
-use Rattle.dnssec_zone.{specs.Keys.Keys, proofs.Shown.same_keys, proofs.Quantified.same_key}
 use Rattle.dnssec_keyset.specs.Step.{Call, AddKey, DeleteKey, RollDone, Reply, Refused, Step, after}
-use Rattle.dnssec_keyset.specs.Step.{after_reply, keys_by}
-use Rattle.dnssec_keyset.{proofs.Changes.Changes, specs.KeySet.KeySetParts}
 use Rattle.std.proofs.Common.{◌≡◌, ℕ, List, [], ◌∷◌, map, refl, sym, ap, ◌∙◌, arith, subst}
+use Rattle.dnssec_keyset.specs.{Step.after_reply, Step.keys_by, KeySet.KeySetParts}
+use Rattle.dnssec_zone.proofs.{Counted.get-with, Counted.get-without, Walks.same_keys}
+use Rattle.dnssec_zone.proofs.{Quantified.same_key}
+use Rattle.dnssec_zone.specs.Keys.{Keys}
+use Rattle.dnssec_keyset.proofs.Changes.{Changes}
 use Rattle.std.proofs.lemmas.Iterator.Adapters.{option_map_id}
-use Rattle.std.specs.FinMap.{find, get, entries, get-entries, get-from_entries}
-use Rattle.std.specs.{Option.option_map, Ordering.nat_cmp, Cmp.Lexicographic.slice_cmp}
-use Rattle.std.specs.Cmp.Lexicographic.{nat_list_cmp_total}
+use Rattle.std.specs.{FinMap.find, FinMap.get, FinMap.entries, FinMap.get-entries}
+use Rattle.std.specs.{FinMap.get-from_entries, Option.option_map, Ordering.nat_cmp}
+use Rattle.std.specs.{Cmp.Lexicographic.slice_cmp, Cmp.Lexicographic.nat_list_cmp_total}
 use Rattle.dnssec_key.specs.Key.{KeyParts}
 
 module _ (f : List ℕ → KeyParts → KeyParts) where

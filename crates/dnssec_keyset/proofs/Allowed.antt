@@ -1,27 +1,22 @@
 -- From what a call found and changed to the allowed step.
 use Rattle.std.proofs.Common.{arith, ◌≡◌, ℕ, Bool, List, Some, None, Ok, Err, refl, ap, sym, ◌∙◌}
-use Rattle.std.specs.Prelude.{Option, Result, OnOk, OnErr, if◌then◌else◌}
-use Rattle.std.specs.{FinMap.get, Option.option_map, Str.bytes_eq}
-use Rattle.dnssec_base.specs.declared.error.Error.{Error}
-use Rattle.dnssec_keyset.specs.KeySet.{KeySetParts}
 use Rattle.dnssec_keyset.specs.Step.{Call, AddKey, Set, Reply, Done, Refused, AnswersWait}
 use Rattle.dnssec_keyset.specs.Step.{accepted_reply, clearance, IsRefusedFor, Step, reply_done}
+use Rattle.std.specs.{Prelude.Option, Prelude.Result, Prelude.OnOk, Prelude.OnErr}
+use Rattle.std.specs.{Prelude.if◌then◌else◌, FinMap.get, Option.option_map, Str.bytes_eq}
+use Rattle.dnssec_base.specs.declared.error.Error.{Error}
+use Rattle.dnssec_keyset.specs.KeySet.{KeySetParts}
 use Rattle.dnssec_keyset.proofs.{After.changes-after, Changes.Changes}
-use Rattle.dnssec_zone.specs.Wait.{Clearance, Clear, barred_by}
-use Rattle.dnssec_zone.specs.Refusals.{Answers, AnswersExactly, add_refusal}
-use Rattle.dnssec_zone.specs.{Keys.Keys, Lists.Lists, Lists.without}
+use Rattle.dnssec_zone.specs.{Wait.Clearance, Wait.Clear, Wait.barred_by, Refusals.Answers}
+use Rattle.dnssec_zone.specs.{Refusals.AnswersExactly, Refusals.add_refusal, Keys.Keys, Lists.Lists}
+use Rattle.dnssec_zone.specs.{Lists.without}
 use Rattle.dnssec_zone.proofs.Starts.{passed}
-use Rattle.dnssec_key.specs.Key.{KeyParts}
-use Rattle.dnssec_key.specs.Setters.{Setting, is_flag_setting, set_by}
-
--- no accepted call answers a cause
-not-refused : (call : Call) (cause : Error) → Refused cause ≡ accepted_reply call → ⊥
-not-refused call cause e = grind arith
+use Rattle.dnssec_key.specs.{Key.KeyParts, Setters.Setting, Setters.is_flag_setting, Setters.set_by}
 
 -- a clear call that made its change, and answers so, is an allowed step
 pub accepted-step : (s new : KeySetParts) (call : Call) (reply : Reply) → clearance s call ≡ Clear
     → reply ≡ accepted_reply call → Changes s call new → Step s call reply new
-accepted-step s new call (Refused cause) clear is changes = absurd (not-refused call cause is)
+accepted-step s new call (Refused cause) clear is changes = absurd (grind (arith, is))
 accepted-step s new call _ clear is changes = (clear, is, changes-after s new call changes)
 
 -- a check that passed bars nothing

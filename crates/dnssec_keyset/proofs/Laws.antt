@@ -1,28 +1,26 @@
 -- Laws of every step, and so of every run: no two keys get one tag, and rolls in progress go
 -- together.
+use Rattle.dnssec_keyset.specs.Step.{Call, AddKey, Set, DeleteKey, StartRoll, Report, Wait}
+use Rattle.dnssec_keyset.specs.Step.{RollDone, AbortRoll, Reply, Refused, Step, clearance}
+use Rattle.std.proofs.Common.{arith, ◌≡◌, ℕ, Bool, true, false, not, List, Some, None, refl, inl}
+use Rattle.dnssec_zone.specs.Start.{Side, are_apart, conflict, has_conflict, side_of, together}
+use Rattle.dnssec_zone.proofs.Tags.{apart-added, apart-mapped, apart-removed, kept_at, kept_set}
+use Rattle.std.proofs.Common.{inr, sym, ap, subst}
+use Rattle.std.proofs.lemmas.Bool.{or_parts, true≢false}
+use Rattle.dnssec_zone.proofs.{Tags.kept_unmarked, Listing.Starts.none_of_both, Phases.same_roll-is}
 use Rattle.dnssec_keyset.proofs.Accepted.{ends_early, finishes, no_error, no_some}
 use Rattle.dnssec_keyset.proofs.{After.changed, Changes.Changes, Moves.kept_started}
 use Rattle.dnssec_keyset.specs.KeySet.{KeySetParts, new_set}
-use Rattle.dnssec_keyset.specs.Step.{Call, AddKey, Set, DeleteKey, StartRoll, Report, Wait}
-use Rattle.dnssec_keyset.specs.Step.{RollDone, AbortRoll, Reply, Refused, Step, clearance}
 use Rattle.dnssec_keyset.specs.Laws.{RollsTogether, in_progress}
-use Rattle.std.proofs.Common.{arith, ◌≡◌, ℕ, Bool, true, false, not, List, Some, None, refl, inl}
-use Rattle.std.proofs.Common.{inr, sym, ap, subst}
-use Rattle.std.proofs.lemmas.Bool.{or_parts, true≢false}
-use Rattle.std.specs.Prelude.{Option, ◌⊎◌, ◌&&◌, is_some, if◌then◌else◌}
-use Rattle.std.specs.{List.list_any, Option.option_or, Str.bytes_eq, Cmp.Lexicographic.slice_cmp}
-use Rattle.std.specs.{FinMap.get, FinMap.get-empty, Ordering.nat_cmp}
-use Rattle.dnssec_zone.specs.Start.{Side, are_apart, conflict, has_conflict, side_of, together}
-use Rattle.dnssec_zone.specs.Keys.{Keys, has_tag, TagsApart}
-use Rattle.dnssec_zone.specs.Rolls.{Rolls, phase_of, with_phase, same_roll, all_rolls}
-use Rattle.dnssec_zone.specs.Wait.{ttl_in, Clear, barred_by, wait_in_phase}
-use Rattle.dnssec_zone.specs.Refusals.{add_refusal, report_refusal}
-use Rattle.dnssec_zone.proofs.Tags.{apart-added, apart-mapped, apart-removed, kept_at, kept_set}
-use Rattle.dnssec_zone.proofs.Tags.{kept_unmarked}
-use Rattle.dnssec_zone.proofs.{Listing.Starts.none_of_both, Phases.same_roll-is}
-use Rattle.dnssec_key.specs.declared.roll.{RollType.RollType, RollState.RollState}
+use Rattle.std.specs.{Prelude.Option, Prelude.◌⊎◌, Prelude.◌&&◌, Prelude.is_some}
+use Rattle.std.specs.{Prelude.if◌then◌else◌, List.list_any, Str.bytes_eq}
+use Rattle.std.specs.{Cmp.Lexicographic.slice_cmp, FinMap.get, FinMap.get-empty, Ordering.nat_cmp}
+use Rattle.dnssec_zone.specs.{Keys.Keys, Keys.has_tag, Keys.TagsApart, Rolls.Rolls, Rolls.phase_of}
+use Rattle.dnssec_zone.specs.{Rolls.with_phase, Rolls.same_roll, Rolls.all_rolls, Wait.Clear}
+use Rattle.dnssec_zone.specs.{Wait.barred_by, Refusals.add_refusal}
+use Rattle.dnssec_key.specs.{declared.roll.RollType.RollType, declared.roll.RollState.RollState}
 use Rattle.dnssec_key.specs.{declared.roll.RollState.TheVariants.Propagation1, Key.KeyParts}
-use Rattle.dnssec_key.specs.{RollTable.Half, Setters.set_by}
+use Rattle.dnssec_key.specs.{Setters.set_by}
 use Rattle.dnssec_base.specs.declared.error.Error.{Error}
 
 -- ---- a step changes nothing, or makes a change for which no cause stood
@@ -43,12 +41,6 @@ step-keeps P old new call reply was by h = elim (moved old new call reply h) [
 
 pub no_cause : (o : Option Error) → barred_by o ≡ Clear → o ≡ None
 no_cause o e = grind arith
-
-pub no_first : (a b : Option Error) → option_or a b ≡ None → a ≡ None
-no_first a b e = (none_of_both a b e).0
-
-pub no_rest : (a b : Option Error) → option_or a b ≡ None → b ≡ None
-no_rest a b e = (none_of_both a b e).1
 
 -- ---- tags
 
@@ -124,14 +116,6 @@ module _ (old : Rolls) (all : RollsTogether old) (roll : RollType) (phase : Opti
       all a b,
     )
 
-reported-there : (half : Half) (o : Option RollState) → report_refusal half o ≡ None → is_some o
-    ≡ true
-reported-there half o e = grind arith
-
-waited-there : (roll : RollType) (half : Half) (o : Option RollState) (now : ℕ) (keys : Keys)
-    → wait_in_phase roll half (ttl_in half o) now keys ≡ Clear → is_some o ≡ true
-waited-there roll half o now keys e = grind arith
-
 moves-together : (old new : KeySetParts) → RollsTogether old.rolls → (roll : RollType)
     (phase : Option RollState) → is_some (phase_of old.rolls roll) ≡ true
     → new.rolls ≡ with_phase old.rolls roll phase → RollsTogether new.rolls
@@ -141,11 +125,11 @@ together-changes : (old new : KeySetParts) → RollsTogether old.rolls → (call
     → clearance old call ≡ Clear → Changes old call new → RollsTogether new.rolls
 together-changes old new all (StartRoll roll olds news now) clear h =
     rw h.rolls (together-more old.rolls all roll (Some Propagation1)
-    (no_conflict roll old.rolls (no_first _ _ (no_cause _ clear))))
+    (no_conflict roll old.rolls (none_of_both _ _ (no_cause _ clear)).0))
 together-changes old new all (Report roll half ttl now) clear h = moves-together old new all roll _
-    (reported-there half (phase_of old.rolls roll) (no_cause _ clear)) h.rolls
+    (grind (arith, clear)) h.rolls
 together-changes old new all (Wait roll half now) clear h = moves-together old new all roll _
-    (waited-there roll half (phase_of old.rolls roll) now old.keys clear) h.rolls
+    (grind (arith, clear)) h.rolls
 together-changes old new all (RollDone roll) clear h = moves-together old new all roll None
     (ap is_some (finishes (phase_of old.rolls roll) (no_cause _ clear))) h.rolls
 together-changes old new all (AbortRoll roll) clear h = moves-together old new all roll None

@@ -2,8 +2,7 @@
 --
 -- | Function or law                | Lemma                          | Files                |
 -- |--------------------------------|--------------------------------|----------------------|
--- | `check_start`                  | `start-answer`                 | StartReplies         |
--- | `check_wait`, `over_in_phase`  | `ttl-shown`, `no-wait`         | WaitReplies          |
+-- | `check_wait`, `over_in_phase`  | `ttl-shown`, `no-wait`         | Replies              |
 -- | `StaysSound`                   | `apart-step`, `together-step`  | Laws                 |
 -- | `KeepsSidesApart`              | `leaves-others`                | Sides, Moves         |
 -- | `NeighboursMayBeExchanged`     | `Law.exchange`                 | Exchange             |
@@ -12,8 +11,7 @@
 --
 -- `Accepted` says what an accepted call found: for the laws of runs.
 pub mod Listing
-pub mod WaitReplies
-pub mod StartReplies
+pub mod Replies
 pub mod Changes
 pub mod After
 pub mod Allowed

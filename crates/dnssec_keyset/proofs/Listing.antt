@@ -1,30 +1,29 @@
 -- What starts have listed, after each call: the entries that are kept agree with the keys, and mean
 -- the lists of the step.
 use Rattle.std.proofs.Common.{arith, ◌≡◌, ℕ, not, List, [], Some, None, Ok, Err, refl, sym, ap}
-use Rattle.std.proofs.Common.{subst, ◌∙◌}
-use Rattle.std.specs.Prelude.{Result, OnOk, OnErr, if◌then◌else◌}
-use Rattle.std.specs.{Option.option_map, Str.bytes_eq, FinMap.get}
-use Rattle.dnssec_base.specs.declared.error.Error.{Error}
 use Rattle.dnssec_key.specs.RollTable.{Half, First, Second, after_start, after_report, after_wait}
-use Rattle.dnssec_key.specs.RollTable.{after_early_end, old_at_start, new_at_start}
-use Rattle.dnssec_key.specs.{declared.roll.RollType.RollType, Key.KeyParts, Setters.Setting}
-use Rattle.dnssec_key.specs.Setters.{set_by}
 use Rattle.dnssec_zone.specs.Inner.Entries.{EntriesAgree, lists_of, without_tag, without_roll}
 use Rattle.dnssec_zone.specs.Inner.Entries.{entries_at_start, entries_after_report, has_entry}
-use Rattle.dnssec_zone.specs.Inner.Entries.{is_of_roll}
 use Rattle.dnssec_zone.specs.Lists.{Lists, listed_by, without, with_listed, listed_at_start}
-use Rattle.dnssec_zone.specs.Lists.{nothing_listed, lists_after_report}
-use Rattle.dnssec_zone.specs.declared.listed.{Entry.Entry, Part.TheVariants.Old}
-use Rattle.dnssec_zone.specs.{declared.listed.Part.TheVariants.New, Keys.Keys, Refusals.Answers}
-use Rattle.dnssec_zone.specs.{Refusals.add_refusal, Start.is_listed}
 use Rattle.dnssec_zone.proofs.Listing.References.{means-mapped, means-added, means-removed}
 use Rattle.dnssec_zone.proofs.Listing.References.{forgotten, has_entry-is, there-filter}
 use Rattle.dnssec_zone.proofs.Listing.Starts.{lists_of-started, there-started, news-kept}
+use Rattle.std.proofs.Common.{subst, ◌∙◌}
+use Rattle.std.specs.{Prelude.Result, Prelude.OnOk, Prelude.OnErr, Prelude.if◌then◌else◌}
+use Rattle.std.specs.{Option.option_map, Str.bytes_eq, FinMap.get}
+use Rattle.dnssec_base.specs.declared.error.Error.{Error}
+use Rattle.dnssec_key.specs.{RollTable.after_early_end, RollTable.old_at_start}
+use Rattle.dnssec_key.specs.{RollTable.new_at_start, declared.roll.RollType.RollType, Key.KeyParts}
+use Rattle.dnssec_key.specs.{Setters.Setting, Setters.set_by}
+use Rattle.dnssec_zone.specs.Lists.{nothing_listed, lists_after_report}
+use Rattle.dnssec_zone.specs.declared.rolls.Part.TheVariants.{Old, New}
+use Rattle.dnssec_zone.specs.{Inner.Entries.is_of_roll, declared.rolls.Entry.Entry, Keys.Keys}
+use Rattle.dnssec_zone.specs.{Refusals.Answers, Refusals.add_refusal, Start.is_listed}
 use Rattle.dnssec_zone.proofs.Listing.Starts.{lists_of-reported, lists_of-taken_out}
 use Rattle.dnssec_zone.proofs.Tags.{kept_at, kept_set, kept_unmarked}
 use Rattle.dnssec_keyset.specs.{KeySet.KeySetParts, Step.start_refusal}
 use Rattle.dnssec_keyset.proofs.{Allowed.came_in, Laws.no_add, Moves.kept_started}
-use Rattle.dnssec_keyset.proofs.Sides.{starts-clear}
+use Rattle.dnssec_keyset.proofs.{Sides.starts-clear}
 
 -- the entries agree with the keys, and mean these lists
 abbrev pub Listing : Keys → List Entry → Lists → Type 0
@@ -132,15 +131,16 @@ module _ {old : Keys} {es : List Entry} (agree : EntriesAgree old es) (new : Key
         ) in
         grind (arith, is q, listed)
 
--- the keys are marked by a start
-module _ (set : KeySetParts) {es : List Entry} (agree : EntriesAgree set.keys es) (new : Keys)
+-- the keys are marked by a start, the old ones first
+module _ (set : KeySetParts) {es : List Entry} (agree : EntriesAgree set.keys es) (mid new : Keys)
     (roll : RollType) (olds news : List (List ℕ)) (now : ℕ)
-    (is : (q : List ℕ) → get new q
-    ≡ option_map (λ k. if is_listed news q then new_at_start roll now k else k)
-    (option_map (λ k. if is_listed olds q then old_at_start k else k) (get set.keys q))) where
+    (one : (q : List ℕ) → get mid q
+    ≡ option_map (λ k. if is_listed olds q then old_at_start k else k) (get set.keys q))
+    (two : (q : List ℕ) → get new q
+    ≡ option_map (λ k. if is_listed news q then new_at_start roll now k else k) (get mid q)) where
   pub started-keys : (q : List ℕ) → get new q
       ≡ option_map (after_start roll now (is_listed olds q) (is_listed news q)) (get set.keys q)
-  started-keys q = is q ∙ (grind arith)
+  started-keys q = grind (arith, one q, two q)
 
   pub started : start_refusal roll set olds news ≡ None
       → Listing new (entries_at_start set.keys roll olds news es)

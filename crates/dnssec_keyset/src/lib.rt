@@ -10,7 +10,6 @@
 mod key_calls;
 mod roll;
 mod set;
-mod start;
 mod wait;
 
 pub use dnssec_base::{Name, NameError, SecurityAlgorithm, Timestamp};

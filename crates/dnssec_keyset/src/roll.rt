@@ -1,14 +1,14 @@
 //! The calls of a roll.
 ghost use Rattle.std.specs.Prelude.{◌≡◌, [], IfOk, IsOk, IsOkUnless};
 ghost use Rattle.dnssec_base.specs.declared.error.Error.TheVariants.{OutOfMemory};
-ghost use Rattle.dnssec_key.specs.RollTable.{which, First, Second, actions_due, actions_of};
-ghost use Rattle.dnssec_zone.specs.Rolls.{phase_of};
+ghost use Rattle.dnssec_key.specs.RollTable.{which, First, Second, actions_due};
+ghost use Rattle.dnssec_zone.specs.{Refusals.AnswersExactly, Rolls.phase_of, Start.texts};
 ghost use Rattle.dnssec_keyset.specs.Step.{Step, StartRoll, Report, Wait, RollDone, AbortRoll};
-ghost use Rattle.dnssec_keyset.specs.Step.{reply_list};
-ghost use Rattle.dnssec_zone.specs.Start.{texts};
+ghost use Rattle.dnssec_keyset.specs.Step.{reply_list, start_refusal};
 
 use crate::set::KeySet;
 use dnssec_key::{Action, Error, Half, RollState, RollType, UnixTime};
+use dnssec_zone::{Mark, may_go_over};
 use std::alloc::Global;
 
 impl KeySet {
@@ -49,14 +49,20 @@ impl KeySet {
         ensures { Step self.old (StartRoll rolltype (texts old.now) (texts new.now) now.now)
             (reply_list result) self.new }
     {
-        self.check_start(rolltype, old, new)?;
-        let actions = list_actions(self.alloc, rolltype, RollState::Propagation1)?;
+        self.rolls.check_conflict(rolltype)?;
+        let of_old = self.keys.check_old(rolltype, old)?;
+        let of_new = self.keys.check_new(rolltype, old, new)?;
+        if !may_go_over(rolltype, &of_old, &of_new.algorithms) {
+            return Err(Error::AlgorithmSetsMismatch);
+        }
+        self.keys.check_suitability(rolltype, old, &of_new)?;
+        let actions = list(self.alloc, rolltype.actions_in(RollState::Propagation1))?;
         let lists = self.lists.with_start(&self.keys, rolltype, old, new)?;
         // The last request for memory comes before the first write: nothing after it can fail.
         self.rolls.put_in(rolltype, RollState::Propagation1)?;
         self.lists = lists;
-        self.keys.mark_old(old);
-        self.keys.mark_new(rolltype, new, *now);
+        self.keys.mark(old, &Mark::AsOld);
+        self.keys.mark(new, &Mark::AsNew(rolltype, *now));
         Ok(actions)
     }
 
@@ -198,7 +204,7 @@ impl KeySet {
         ensures { Step self.old (AbortRoll rolltype) (reply_list result) self.new }
     {
         self.rolls.check_early_end(rolltype)?;
-        let actions = copy_actions(self.alloc, rolltype.asks_at_early_end())?;
+        let actions = list(self.alloc, rolltype.asks_at_early_end())?;
         self.lists.unmark(rolltype, &mut self.keys);
         self.lists.take_out(rolltype);
         self.rolls.take_out(rolltype);
@@ -221,7 +227,7 @@ impl KeySet {
     {
         match self.rolls.phase_of(rolltype) {
             None => Ok(Vec::new(self.alloc)),
-            Some(phase) => list_actions(self.alloc, rolltype, phase),
+            Some(phase) => list(self.alloc, rolltype.actions_in(phase)),
         }
     }
 
@@ -253,25 +259,16 @@ impl KeySet {
         ensures { Step self.old (Wait rolltype (which half) now.now) (reply_list result) self.new }
     {
         self.check_wait(rolltype, half, now)?;
-        let actions = list_actions(self.alloc, rolltype, half.after_expiry())?;
+        let actions = list(self.alloc, rolltype.actions_in(half.after_expiry()))?;
         self.keys.go_on_all(rolltype, half, *now);
         self.rolls.move_to(rolltype, half.after_expiry());
         Ok(actions)
     }
 }
 
-/// The actions of a roll in a phase.
-fn list_actions(alloc: Global, roll: RollType, phase: RollState) -> Result<Vec<Action>, Error>
-    ensures list { IfOk result (λ actions. actions.items ≡ actions_of roll phase) }
-    ensures none { actions_of roll phase ≡ [] → IsOk result }
-    ensures err { IsOkUnless result OutOfMemory }
-{
-    copy_actions(alloc, roll.actions_in(phase))
-}
-
 /// A list of the actions. An empty list takes no memory.
-fn copy_actions(alloc: Global, actions: &[Action]) -> Result<Vec<Action>, Error>
-    ensures list { IfOk result (λ list. list.items ≡ actions.now) }
+fn list(alloc: Global, actions: &[Action]) -> Result<Vec<Action>, Error>
+    ensures same { IfOk result (λ made. made.items ≡ actions.now) }
     ensures none { actions.now ≡ [] → IsOk result }
     ensures err { IsOkUnless result OutOfMemory }
 {

@@ -10,7 +10,7 @@ use Rattle.dnssec_key.specs.State.{Flags, is_used, is_stale as stale_state, Flag
 use Rattle.dnssec_key.specs.Key.{all_states}
 use Rattle.dnssec_key.specs.RollTable.{First, Second, half_of, column, at_roles, turns_old}
 use Rattle.dnssec_zone.specs.Start.{are_apart, lists_kind, side_of, KskSide, ZskSide}
-use Rattle.dnssec_zone.proofs.Tests.{each_roll, ◌⇒◌, alike}
+use Rattle.dnssec_zone.proofs.Tests.{◌⇒◌, alike}
 
 -- the kind and the flags of a key that is listed as old or not, and after a start
 abbrev pub listed_old : Bool → KeyType → KeyType
@@ -54,13 +54,6 @@ pub data Stage : Type 0 where
   Quiet : Stage
   Early : RollType → Stage
   Late : RollType → Stage
-
--- a test of all stages
-abbrev pub each_stage : (Stage → Bool) → Bool
-each_stage p = p Quiet && each_roll (λ r. p (Early r)) && each_roll (λ r. p (Late r))
-
-pub each_stage-at : (p : Stage → Bool) → each_stage p ≡ true → (st : Stage) → p st ≡ true
-each_stage-at p e st = grind (arith, and_parts)
 
 -- the flags that a KSK role may have at a stage: a Double-DS roll begins at the parent
 abbrev pub ksk_fits : Stage → KeyState → Bool

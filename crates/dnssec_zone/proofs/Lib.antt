@@ -2,22 +2,21 @@
 --
 -- | Function or law                  | Lemma                          | Files                    |
 -- |----------------------------------|--------------------------------|--------------------------|
--- | `Keys`: the map that it shows    | ruleset `shown`, `get-walked`  | Shown, Walks             |
+-- | `Keys`: the map that it shows    | ruleset `shown`, `get-walked`  | Walks                    |
 -- | `Derived`: the tags              | `TagsAgree-added` and the like | Tags, Quantified         |
 -- | `Derived`: the counts            | `counts-added` and the like    | Counted, Walks           |
--- | `check_many_new`                 | `fault-from`, `fault-listed`   | Entries, Marks           |
--- | `mark_old`, `mark_new` and back  | `mark_more`                    | Marks                    |
+-- | `check_many_new`                 | `fault-from`, `new-fault`      | Marks                    |
+-- | `mark` and back                  | `mark_more`                    | Marks                    |
 -- | `may_go_over`                    | `same_algorithms`              | Starts                   |
 -- | `check_suitability`              | `all_met-is`                   | Starts                   |
 -- | `go_on_all`, `delete`            | `counts-waited` and the like   | Counted                  |
 -- | `Lists`: the entries             | `entries_of-at`, `filtered`    | Listing                  |
 -- | the phases of rolls              | ruleset `phases`               | Phases                   |
 -- | `over_from`                      | `walk-lacks`, `walk-over`      | Longest                  |
--- | `Derived`: the reported wait     | `known-after`, `known-removed` | Reported                 |
+-- | `Derived`: the reported wait     | `known-after`, `known-removed` | Longest                  |
 --
--- `Tests` computes tables over all rolls and keys; `Flags` says by it what flags a key may have on
--- each side: for the laws of key sets and of runs.
-pub mod Shown
+-- `Tests` tests all rolls, options and pairs of flags; `Flags` says by it what flags a key may have
+-- on each side: for the laws of key sets and of runs.
 pub mod Walks
 pub mod Phases
 pub mod Quantified
@@ -26,8 +25,6 @@ pub mod Listing
 pub mod Counted
 pub mod Starts
 pub mod Marks
-pub mod Entries
 pub mod Longest
-pub mod Reported
 pub mod Tests
 pub mod Flags

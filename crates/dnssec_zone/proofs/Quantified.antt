@@ -1,16 +1,15 @@
 -- A test of some key, against the look-ups: if some key passes, a look-up finds it; if none passes,
 -- no look-up finds one.
 use Rattle.std.proofs.Common.{◌≡◌, ℕ, Bool, true, false, cond, List, [], ◌∷◌, map, Some, refl, sym}
-use Rattle.std.proofs.Common.{ap, arith, subst, ◌∙◌}
-use Rattle.std.proofs.lemmas.Bool.{false_from_ne_true, or_parts}
-use Rattle.std.proofs.lemmas.{List.Recursion.same_from_clauses, Map.Text.is_eq-slice_cmp}
-use Rattle.std.specs.Prelude.{◌&&◌, ◌||◌, ◌⊎◌, T}
-use Rattle.std.specs.List.{list_any}
-use Rattle.std.specs.declared.cmp.Ordering.{Ordering, TheVariants.Less}
-use Rattle.std.specs.Ordering.{nat_cmp, is_eq, is_lt}
-use Rattle.std.specs.Cmp.Lexicographic.{slice_cmp, bytes_decides}
-use Rattle.std.specs.FinMap.{find, entries, get, get-entries, entries_sorted}
-use Rattle.std.specs.FinMap.Entries.{below_all, is_sorted}
+use Rattle.std.proofs.{Common.ap, Common.arith, Common.subst, Common.◌∙◌}
+use Rattle.std.proofs.{lemmas.Bool.false_from_ne_true, lemmas.Bool.or_parts}
+use Rattle.std.proofs.{lemmas.List.Recursion.same_from_clauses, lemmas.Map.Text.is_eq-slice_cmp}
+use Rattle.std.specs.{Prelude.◌&&◌, Prelude.◌||◌, Prelude.T, List.list_any}
+use Rattle.std.specs.{declared.cmp.Ordering.Ordering, declared.cmp.Ordering.TheVariants.Less}
+use Rattle.std.specs.{Ordering.nat_cmp, Ordering.is_eq, Ordering.is_lt, Cmp.Lexicographic.slice_cmp}
+use Rattle.std.specs.{Cmp.Lexicographic.bytes_decides, FinMap.find, FinMap.entries, FinMap.get}
+use Rattle.std.specs.{FinMap.get-entries, FinMap.entries_sorted, FinMap.Entries.below_all}
+use Rattle.std.specs.{FinMap.Entries.is_sorted}
 use Rattle.dnssec_key.specs.Key.{KeyParts}
 use Rattle.dnssec_zone.specs.Keys.{Keys, some_key, some_entry}
 
@@ -38,12 +37,6 @@ apart x q h = false_from_ne_true _ (λ e. not_both (slice_cmp nat_cmp x x)
     (subst (λ k. T (is_lt (slice_cmp nat_cmp x k))) (same_key q x e) h) (itself x))
 
 -- ---- a look-up in a list of entries
-
--- finds the first entry, or one after it
-pub find-cases : (q : List ℕ) (k : KeyParts) (e : List ℕ × KeyParts) (es : List (List ℕ × KeyParts))
-    → find (slice_cmp nat_cmp) q (e ∷ es) ≡ Some k
-    → ((q ≡ e.0) × (e.1 ≡ k)) ⊎ (find (slice_cmp nat_cmp) q es ≡ Some k)
-find-cases q k e es f = grind (arith, same_key)
 
 pub below_found : (x q : List ℕ) (v : KeyParts) (es : List (List ℕ × KeyParts)) →
     T (below_all (slice_cmp nat_cmp) x es) → find (slice_cmp nat_cmp) q es ≡ Some v →

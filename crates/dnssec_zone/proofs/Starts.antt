@@ -1,27 +1,28 @@
 -- What the check of a start cites: the keys to go on with, and the algorithms of its two lists.
-use Rattle.std.proofs.Common.{◌≡◌, ℕ, List, None, Ok, ap, sym, ◌∙◌, arith, ◌+◌, ◌*◌, ◌/◌, ◌%◌, ◌<◌}
-use Rattle.std.proofs.Common.{◌^◌, true, false, [], ◌∷◌, length, get_or, refl}
-use Rattle.std.specs.Prelude.{Option, ◌&&◌, ◌||◌, nat_eq}
-use Rattle.std.proofs.lemmas.Bool.{and_from, and_parts, or_right}
-use Rattle.std.specs.{List.list_all, FinMap.get, Int.bit_at, Option.option_map_or, Str.bytes_eq}
-use Rattle.std.{specs.Cmp.Lexicographic.bytes_decides, proofs.lemmas.Bool.Decides.nat_tests}
-use Rattle.std.proofs.lemmas.{List.ext_get_or, Nat.Bits.bit_at-lt, Nat.Bits.same_from_bits_below}
+use Rattle.std.proofs.Common.{◌≡◌, ℕ, Bool, List, None, Ok, ap, sym, ◌∙◌, arith, ◌+◌, ◌*◌, ◌/◌, ◌%◌}
+use Rattle.dnssec_zone.specs.Start.{is_met, some_kept, serves_as_kept, algorithms_within, wants}
+use Rattle.std.proofs.Common.{◌<◌, ◌^◌, true, false, [], ◌∷◌, length, get_or, refl}
+use Rattle.std.proofs.{lemmas.Bool.and_from, lemmas.Bool.and_parts, lemmas.Bool.or_right}
+use Rattle.std.proofs.{lemmas.Bool.Decides.nat_tests, lemmas.List.ext_get_or}
+use Rattle.std.proofs.{lemmas.Nat.Bits.bit_at-lt, lemmas.Nat.Bits.same_from_bits_below}
+use Rattle.std.specs.{Prelude.Option, Prelude.◌&&◌, Prelude.◌||◌, Prelude.nat_eq, List.list_all}
+use Rattle.std.specs.{FinMap.get, Int.bit_at, Option.option_map_or, Str.bytes_eq}
+use Rattle.std.specs.{Cmp.Lexicographic.bytes_decides, Cmp.both_ways}
 use Rattle.dnssec_base.specs.declared.error.Error.{Error}
 use Rattle.dnssec_key.specs.{declared.roll.RollType.RollType, Key.KeyParts, Inner.Bits.is_set}
-use Rattle.dnssec_zone.specs.Start.{is_met, some_kept, serves_as_kept, algorithms_within, wants}
-use Rattle.dnssec_zone.specs.Start.{Want, has_algorithm}
-use Rattle.dnssec_zone.specs.{declared.side.Kinds.Kinds, Inner.Kinds.AreOf}
-use Rattle.dnssec_zone.specs.{Inner.Kinds.is_met_among, Keys.Keys, Refusals.AnswersExactly}
-use Rattle.dnssec_zone.proofs.Tests.{same_test}
+use Rattle.dnssec_zone.specs.{Start.Want, Start.has_algorithm, Inner.NewKeys.AreOf}
+use Rattle.dnssec_zone.specs.{Inner.NewKeys.some_serves, declared.check.NewKeys.NewKeys, Keys.Keys}
+use Rattle.dnssec_zone.specs.{Refusals.AnswersExactly}
 
 -- all that a start has to leave is there, by the kinds of the new keys and a walk over what the
 -- code asks for
-pub all_met-is : (roll : RollType) (keys : Keys) (olds news : List (List ℕ)) (kinds : Kinds)
-    → AreOf (get keys) news kinds → (ws : List Want) → ws ≡ wants roll
-    → list_all (is_met keys olds news) (wants roll)
-    ≡ list_all (λ w. is_met_among keys olds kinds w) ws
-all_met-is roll keys olds news kinds of ws asked = λ i.
-    list_all (λ w. sym (of w) i || some_kept (serves_as_kept w) keys olds) (sym asked i)
+pub all_met-is : (roll : RollType) (keys : Keys) (olds news : List (List ℕ)) (new : NewKeys)
+    → AreOf (get keys) news new → (ws : List Want) → ws ≡ wants roll → (met : Bool)
+    → met ≡ list_all (λ w. some_serves new w || some_kept (serves_as_kept w) keys olds) ws
+    → list_all (is_met keys olds news) (wants roll) ≡ met
+all_met-is roll keys olds news new of ws asked met is =
+    (λ i. list_all (λ w. sym (of w) i || some_kept (serves_as_kept w) keys olds) (sym asked i))
+    ∙ sym is
 
 -- an accepted answer has no cause
 pub passed : {T : Type 0} (o : Option Error) (x : T) → AnswersExactly o (Ok x) → o ≡ None
@@ -72,7 +73,7 @@ pub same_algorithms : (at : List ℕ → Option KeyParts) (olds news : List (Lis
     → ((a : ℕ) → is_set xs a ≡ has_algorithm at olds a)
     → ((a : ℕ) → is_set ys a ≡ has_algorithm at news a)
     → bytes_eq xs ys ≡ (algorithms_within at olds news && algorithms_within at news olds)
-same_algorithms at olds news xs ys long low_xs low_ys of_olds of_news = same_test _ _
+same_algorithms at olds news xs ys long low_xs low_ys of_olds of_news = both_ways _ _
     (λ same.
     let words : xs ≡ ys = (bytes_decides xs ys).0 same in
     let one : (a : ℕ) → has_algorithm at olds a ≡ has_algorithm at news a =
@@ -80,5 +81,5 @@ same_algorithms at olds news xs ys long low_xs low_ys of_olds of_news = same_tes
     and_from _ _ (within_by at olds news (λ a has. sym (one a) ∙ has))
     (within_by at news olds (λ a has. one a ∙ has)))
     (λ both. (bytes_decides xs ys).1 (same_words xs ys long low_xs low_ys
-    (λ a. of_olds a ∙ same_test _ _ (found at olds news a (and_parts _ _ both).0)
+    (λ a. of_olds a ∙ both_ways _ _ (found at olds news a (and_parts _ _ both).0)
     (found at news olds a (and_parts _ _ both).1) ∙ sym (of_news a))))

@@ -1,19 +1,17 @@
 -- What keeps the index of the tags right, whatever its form: `has` is what it says of a tag.
 use Rattle.std.proofs.Common.{◌≡◌, ℕ, Bool, true, false, List, Some, None, refl, sym, ap, subst}
-use Rattle.std.proofs.Common.{◌∙◌, arith}
 use Rattle.std.proofs.lemmas.Bool.{cond_both, eqb-false, eqb-true, false_from_ne_true}
-use Rattle.std.proofs.lemmas.Bool.Decides.{nat_tests}
-use Rattle.std.specs.Prelude.{Option, IfSome, nat_eq, if◌then◌else◌}
+use Rattle.std.proofs.{Common.◌∙◌, Common.arith, lemmas.Bool.Decides.nat_tests}
+use Rattle.std.specs.{Prelude.Option, Prelude.IfSome, Prelude.nat_eq, Prelude.if◌then◌else◌}
 use Rattle.std.specs.{Str.bytes_eq, Cmp.Lexicographic.bytes_decides, Option.option_map, FinMap.get}
-use Rattle.std.specs.{HashMap.HashMap, declared.string.String.String}
+use Rattle.std.specs.{HashMap.HashMap, declared.string.String.String, Cmp.both_ways}
 use Rattle.dnssec_key.specs.{Key.KeyParts, RollTable.after_early_end, Setters.Setting}
 use Rattle.dnssec_key.specs.{Setters.set_by, declared.roll.RollType.RollType}
-use Rattle.dnssec_zone.specs.declared.keys.Change.{Change}
-use Rattle.dnssec_zone.specs.Inner.{Change.makes, Entries.IsThere, Tags.TagsAgree}
-use Rattle.dnssec_zone.specs.Keys.{Keys, has_tag, keys_in_map, TagsApart}
-use Rattle.dnssec_zone.proofs.Counted.Lists.{count-changed, some-alike, some_key-counted}
-use Rattle.dnssec_zone.proofs.{Quantified.some_key-found, Quantified.some_key-none, Shown.IsWalked}
-use Rattle.dnssec_zone.proofs.{Shown.get-walked, Tests.same_test}
+use Rattle.dnssec_zone.specs.{Inner.Entries.IsThere, Inner.Tags.TagsAgree, Keys.Keys, Keys.has_tag}
+use Rattle.dnssec_zone.specs.{Keys.keys_in_map, Keys.TagsApart}
+use Rattle.dnssec_zone.proofs.Counted.{count-changed, some-alike, some_key-counted}
+use Rattle.dnssec_zone.proofs.Quantified.{some_key-found, some_key-none}
+use Rattle.dnssec_zone.proofs.Walks.{IsWalked, get-walked}
 
 -- a change at some references keeps the tags
 pub kept_at : (f : KeyParts → KeyParts) → ((k : KeyParts) → (f k).key_tag ≡ k.key_tag) →
@@ -22,9 +20,6 @@ kept_at f keeps b k = grind (arith, keeps)
 
 pub kept_set : (setting : Setting) (k : KeyParts) → (set_by setting k).key_tag ≡ k.key_tag
 kept_set setting k = grind arith
-
-pub kept_made : (change : Change) (k : KeyParts) → (makes change k).key_tag ≡ k.key_tag
-kept_made change k = grind arith
 
 pub kept_unmarked : (roll : RollType) (as_old as_new : Bool) (k : KeyParts)
     → (after_early_end roll as_old as_new k).key_tag ≡ k.key_tag
@@ -66,7 +61,7 @@ module _ (m n : Keys) (f : List ℕ → KeyParts → KeyParts)
 
   pub TagsAgree-mapped : (has : ℕ → Option Bool) → TagsAgree has m → TagsAgree has n
   TagsAgree-mapped has old = record {
-    says = λ t. subst (λ b. IfSome (has t) (λ x. x ≡ b)) (same_test (has_tag t m) (has_tag t n)
+    says = λ t. subst (λ b. IfSome (has t) (λ x. x ≡ b)) (both_ways (has_tag t m) (has_tag t n)
         (λ h. let o = has_tag-found m t h in let l = there-mapped t o in
         has_tag-there n t (o.0, l.0, l.1, l.2))
         (λ h. let o = has_tag-found n t h in
@@ -95,11 +90,6 @@ tags-changed m n r f keeps = TagsAgree-mapped m n (λ q k. if bytes_eq r q then 
 
 module _ (m n : Keys) (r : List ℕ)
     (is : (q : List ℕ) → get n q ≡ (if bytes_eq r q then None else get m q)) where
-  -- what is there was there, under another reference
-  pub there-before : (q : List ℕ) (k : KeyParts) → get n q ≡ Some k
-      → (bytes_eq r q ≡ false) × (get m q ≡ Some k)
-  there-before q k e = (grind (arith, is q), grind (arith, is q))
-
   pub apart-removed : TagsApart m → TagsApart n
   apart-removed old q s k l e d same = grind (arith, is q, is s, old q s k l)
 
@@ -133,10 +123,6 @@ module _ (m n : Keys) (r : List ℕ)
 
 module _ (m n : Keys) (r : List ℕ) (x : KeyParts) (absent : get m r ≡ None)
     (is : (q : List ℕ) → get n q ≡ (if bytes_eq r q then Some x else get m q)) where
-  -- what was there still is
-  pub there-added : (q : List ℕ) (k : KeyParts) → get m q ≡ Some k → get n q ≡ Some k
-  there-added q k e = grind (arith, bytes_decides, is q)
-
   module _ (free : has_tag x.key_tag m ≡ false) where
     other_tag : (q : List ℕ) (k : KeyParts) → get m q ≡ Some k → k.key_tag ≡ x.key_tag → ⊥
     other_tag q k e same = eqb-false k.key_tag x.key_tag

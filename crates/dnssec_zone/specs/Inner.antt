@@ -1,10 +1,10 @@
 -- A user of the key set needn't read these. Contracts of `dnssec_zone` that `dnssec_keyset` calls
--- name `Kinds` and `Entries`. So does what a contract sees of a `KeySet`: its lists.
-pub mod Change
+-- name `NewKeys`, `Mark` and `Entries`. So does what a contract sees of a `KeySet`: its lists.
+pub mod Mark
 pub mod Tags
 pub mod Entries
 pub mod Counts
-pub mod Kinds
+pub mod NewKeys
 pub mod Over
 pub mod Reported
 pub mod Derived

@@ -1,89 +1,91 @@
 //! Why a start is refused for its keys. Nothing is changed here.
 ghost use Rattle.std.specs.Prelude.{◌≡◌, ℕ, Bool, List, [], false, not, ◌&&◌, ◌||◌, length, None};
-ghost use Rattle.std.specs.Prelude.{Some, IfOk, IfErr, Option, nat_eq};
-ghost use Rattle.std.specs.List.{list_any, list_all};
+ghost use Rattle.std.specs.Prelude.{Some, Option, IfOk, IfErr, OnOk, nat_eq};
 ghost use Rattle.std.specs.Option.{option_map_or};
 ghost use Rattle.std.specs.Str.{bytes_eq};
 ghost use Rattle.std.specs.FinMap as map;
-ghost use Rattle.dnssec_key.specs.Key.{KeyParts};
-ghost use Rattle.dnssec_key.specs.Inner.Bits.{is_set};
+ghost use Rattle.dnssec_key.specs.{Inner.Bits.is_set, Key.KeyParts};
 ghost use Rattle.dnssec_zone.specs.Inner.Counts.{count_in, listed_passes};
-ghost use Rattle.dnssec_zone.specs.Inner.Kinds.{AreOf, is_met_among, some_serves};
-ghost use Rattle.dnssec_zone.specs.Inner.Tags.{HasListed, has_its_tag};
-ghost use Rattle.dnssec_zone.specs.Start.{texts, is_listed, old_entry_fault, old_fault};
-ghost use Rattle.dnssec_zone.specs.Start.{new_entry_fault, new_fault, has_algorithm};
+ghost use Rattle.dnssec_zone.specs.Inner.NewKeys.{AreOf, freshness_fault, some_serves};
+ghost use Rattle.dnssec_zone.specs.Inner.Tags.{HasListed};
 ghost use Rattle.dnssec_zone.specs.Start.{algorithms_within, may_change_algorithms};
-ghost use Rattle.dnssec_zone.specs.Start.{serves_as_new, serves_as_kept, some_kept};
-ghost use Rattle.dnssec_zone.specs.Start.{suitability_fault, Want as AnyWant};
+ghost use Rattle.dnssec_zone.specs.Start.{texts, is_listed, old_entry_fault, old_fault};
+ghost use Rattle.dnssec_zone.specs.Start.{new_fault, has_algorithm, serves_as_new, serves_as_kept};
+ghost use Rattle.dnssec_zone.specs.Start.{some_kept, suitability_fault, Want as AnyWant};
 ghost use Rattle.dnssec_zone.specs.Refusals.{AnswersExactly};
 
 use crate::keys::Keys;
-use crate::side::{Kinds, may_list, serves_as_kept};
 use dnssec_key::{
-    AlgorithmSet, Error, Key, RollType, TagSet, Want, is_set, may_change_algorithms, set, side_of,
-    wants,
+    AlgorithmSet, Error, Key, KeyType, RollType, Side, TagSet, Want, is_kept_at_parent,
+    is_kept_present, is_set, set,
 };
 
 /// A list of more entries is long.
 const ENTRIES_OF_SHORT_LIST: usize = 4;
 
-/// What a start asks of its new keys together.
+/// What a start asks of its new keys together: their algorithms, and the kinds among them.
 #[derive(Clone, Copy)]
 pub struct NewKeys {
     pub algorithms: AlgorithmSet,
-    pub kinds: Kinds,
+    ksk: bool,
+    zsk: bool,
+    csk: bool,
 }
+
+/// What a start asks of no keys.
+const NO_KEYS: NewKeys = NewKeys {
+    algorithms: [0; 4],
+    ksk: false,
+    zsk: false,
+    csk: false,
+};
 
 impl NewKeys {
-    /// What it asks of no keys.
-    fn none() -> NewKeys
-        ensures algorithms { (a : ℕ) → is_set result.algorithms a ≡ false }
-        ensures kinds { (w : AnyWant) → some_serves result.kinds w ≡ false }
+    /// Adds one more key, or refuses it: it has to be fresh, and not listed before.
+    fn add(&mut self, key: &Key, is_taken: bool) -> Result<(), Error>
+        ensures sound { OnOk result (freshness_fault key.now is_taken ≡ None) }
+        ensures fault { IfErr result (λ fault. freshness_fault key.now is_taken ≡ Some fault) }
+        ensures algorithms { OnOk result ((a : ℕ) → is_set self.new.algorithms a
+            ≡ (is_set self.old.algorithms a || nat_eq key.now.algorithm a)) }
+        ensures kinds { OnOk result ((w : AnyWant) → some_serves self.new w
+            ≡ (some_serves self.old w || serves_as_new w key.now.keytype)) }
     {
-        NewKeys {
-            algorithms: [0; 4],
-            kinds: Kinds::none(),
+        if is_taken || !key.is_fresh() {
+            return Err(Error::WrongKeyState);
+        }
+        set(&mut self.algorithms, u16::from(key.algorithm().to_int()));
+        match key.keytype() {
+            KeyType::Ksk(_) => self.ksk = true,
+            KeyType::Zsk(_) => self.zsk = true,
+            KeyType::Csk(_, _) => self.csk = true,
+            KeyType::Include(_) => (),
+        }
+        Ok(())
+    }
+
+    /// Whether one of them serves, as soon as it comes in.
+    fn serve(&self, want: Want) -> bool
+        ensures { result ≡ some_serves self.now want }
+    {
+        match want {
+            Want::PresentKsk | Want::KskAtParent => self.ksk,
+            Want::PresentZsk => self.zsk,
+            Want::PresentKskRole => self.ksk || self.csk,
+            Want::PresentZskRole => self.zsk || self.csk,
         }
     }
-
-    /// Adds one more key.
-    fn add(&mut self, key: &Key)
-        ensures algorithms { (a : ℕ) → is_set self.new.algorithms a
-            ≡ (is_set self.old.algorithms a || nat_eq key.now.algorithm a) }
-        ensures kinds { (w : AnyWant) → some_serves self.new.kinds w
-            ≡ (some_serves self.old.kinds w || serves_as_new w key.now.keytype) }
-    {
-        set(&mut self.algorithms, u16::from(key.algorithm().to_int()));
-        self.kinds.add(key.keytype());
-    }
 }
 
-/// Whether a reference stands in a list.
-fn is_listed(references: &[&str], reference: &str) -> bool
-    ensures { result ≡ list_any (λ r. bytes_eq reference.now r.now) references.now }
+/// Whether a key serves in its state, if it isn't listed as old.
+fn serves_as_kept(want: Want, keytype: KeyType) -> bool
+    ensures { result ≡ serves_as_kept want keytype }
 {
-    references.iter().any(|listed| reference == *listed)
-}
-
-/// Whether a new entry is an old one too, or stands earlier among the new.
-#[tactic(auto, using(crate::proofs::Marks::lists))]
-fn is_taken(old: &[&str], earlier: &[&str], reference: &str) -> bool
-    ensures { result ≡
-        (is_listed (texts old.now) reference.now || is_listed (texts earlier.now) reference.now) }
-{
-    is_listed(old, reference) || is_listed(earlier, reference)
-}
-
-/// What is wrong with a new entry that names this key.
-fn new_key_fault(roll: RollType, key: &Key, is_taken: bool) -> Option<Error>
-    ensures { result ≡ new_entry_fault roll (Some key.now) is_taken }
-{
-    if !may_list(side_of(roll), key.keytype()) {
-        Some(Error::WrongKeyType)
-    } else if key.is_fresh() && !is_taken {
-        None
-    } else {
-        Some(Error::WrongKeyState)
+    match want {
+        Want::PresentKsk => is_kept_present(keytype.ksk()),
+        Want::KskAtParent => is_kept_at_parent(keytype.ksk()),
+        Want::PresentZsk => is_kept_present(keytype.zsk()),
+        Want::PresentKskRole => is_kept_present(keytype.ksk_role()),
+        Want::PresentZskRole => is_kept_present(keytype.zsk_role()),
     }
 }
 
@@ -96,51 +98,34 @@ pub fn may_go_over(roll: RollType, old: &AlgorithmSet, new: &AlgorithmSet) -> bo
         → result ≡ (may_change_algorithms roll
         || (algorithms_within at olds news && algorithms_within at news olds)) }
 {
-    may_change_algorithms(roll) || *old == *new
+    roll.column().changes_algorithms || *old == *new
+}
+
+/// Whether a reference stands in a list.
+fn is_listed(references: &[&str], reference: &str) -> bool
+    ensures { result ≡ is_listed (texts references.now) reference.now }
+{
+    references.iter().any(|listed| reference == *listed)
 }
 
 /// Why a start is refused for its keys.
 impl Keys {
-    /// The key of an old entry, or what is wrong with the entry.
-    fn old_key(&self, roll: RollType, reference: &str) -> Result<&Key, Error>
+    /// The key that an entry names, or what is wrong with the entry, old or new.
+    fn listed_key(&self, roll: RollType, reference: &str) -> Result<&Key, Error>
         ensures key { IfOk result (λ key. map.get self.now reference.now ≡ Some key.now) }
         ensures sound { IfOk result (λ key.
             old_entry_fault roll (map.get self.now reference.now) ≡ None) }
         ensures fault { IfErr result (λ fault.
             old_entry_fault roll (map.get self.now reference.now) ≡ Some fault) }
     {
-        match self.get(reference) {
-            None => Err(Error::KeyNotFound),
-            Some(key) if may_list(side_of(roll), key.keytype()) => Ok(key),
-            Some(_) => Err(Error::WrongKeyType),
-        }
-    }
-
-    /// What is wrong with a new entry, if the keys whose tags are taken are listed before it.
-    fn new_entry_fault(&self, roll: RollType, reference: &str, taken: &TagSet) -> Option<Error>
-        ensures { result ≡ new_entry_fault roll (map.get self.now reference.now)
-            (has_its_tag taken.now (map.get self.now reference.now)) }
-    {
-        match self.get(reference) {
-            None => Some(Error::KeyNotFound),
-            Some(key) => new_key_fault(roll, key, is_set(taken, key.key_tag())),
-        }
-    }
-
-    /// The key of a new entry, or what is wrong with the entry. `is_taken`: it was listed before.
-    fn new_key(&self, roll: RollType, reference: &str, is_taken: bool) -> Result<&Key, Error>
-        ensures key { IfOk result (λ key. map.get self.now reference.now ≡ Some key.now) }
-        ensures sound { IfOk result (λ key.
-            new_entry_fault roll (map.get self.now reference.now) is_taken ≡ None) }
-        ensures fault { IfErr result (λ fault.
-            new_entry_fault roll (map.get self.now reference.now) is_taken ≡ Some fault) }
-    {
         let Some(key) = self.get(reference) else {
             return Err(Error::KeyNotFound);
         };
-        match new_key_fault(roll, key, is_taken) {
-            None => Ok(key),
-            Some(fault) => Err(fault),
+        match (roll.column().side, key.keytype()) {
+            (Side::KskSide | Side::BothSides, KeyType::Ksk(_)) => Ok(key),
+            (Side::ZskSide | Side::BothSides, KeyType::Zsk(_)) => Ok(key),
+            (Side::BothSides, KeyType::Csk(_, _)) => Ok(key),
+            _ => Err(Error::WrongKeyType),
         }
     }
 
@@ -150,7 +135,6 @@ impl Keys {
         ensures listed { (listed : List ℕ → Bool) → HasListed tags.old self.now listed
             → HasListed tags.new self.now (λ q. listed q || bytes_eq reference.now q) }
     {
-        self.tags_differ();
         if let Some(key) = self.get(reference) {
             set(tags, key.key_tag());
         }
@@ -165,7 +149,7 @@ impl Keys {
     {
         let mut algorithms = [0; 4];
         for reference in old {
-            let key = self.old_key(roll, reference)?;
+            let key = self.listed_key(roll, reference)?;
             set(&mut algorithms, u16::from(key.algorithm().to_int()));
         }
         Ok(algorithms)
@@ -174,33 +158,22 @@ impl Keys {
     /// Refuses the first new entry that has a fault, or answers what a start asks of the new keys.
     /// Was an entry listed before? Short lists are read, long ones are put into a set of tags: to
     /// clear the set costs more than to read a few entries.
+    #[tactic(auto, using(crate::proofs::Marks::lists))]
     pub fn check_new(&self, roll: RollType, old: &[&str], new: &[&str]) -> Result<NewKeys, Error>
         ensures fault { AnswersExactly
             (new_fault roll (map.get self.now) (texts old.now) [] (texts new.now)) result }
         ensures algorithms { IfOk result (λ keys. (a : ℕ) →
             is_set keys.algorithms a ≡ has_algorithm (map.get self.now) (texts new.now) a) }
-        ensures kinds { IfOk result (λ keys. AreOf (map.get self.now) (texts new.now) keys.kinds) }
+        ensures kinds { IfOk result (AreOf (map.get self.now) (texts new.now)) }
     {
-        if old.len() <= ENTRIES_OF_SHORT_LIST && new.len() <= ENTRIES_OF_SHORT_LIST {
-            self.check_few_new(roll, old, new)
-        } else {
-            self.check_many_new(roll, old, new)
+        if old.len() > ENTRIES_OF_SHORT_LIST || new.len() > ENTRIES_OF_SHORT_LIST {
+            return self.check_many_new(roll, old, new);
         }
-    }
-
-    /// The same for short lists: each new entry is looked for in both.
-    #[tactic(auto, using(crate::proofs::Marks::lists))]
-    fn check_few_new(&self, roll: RollType, old: &[&str], new: &[&str]) -> Result<NewKeys, Error>
-        ensures fault { AnswersExactly
-            (new_fault roll (map.get self.now) (texts old.now) [] (texts new.now)) result }
-        ensures algorithms { IfOk result (λ keys. (a : ℕ) →
-            is_set keys.algorithms a ≡ has_algorithm (map.get self.now) (texts new.now) a) }
-        ensures kinds { IfOk result (λ keys. AreOf (map.get self.now) (texts new.now) keys.kinds) }
-    {
-        let mut keys = NewKeys::none();
+        let mut keys = NO_KEYS;
         for (i, reference) in new.iter().enumerate() {
-            let is_taken = is_taken(old, &new[..i], reference);
-            keys.add(self.new_key(roll, reference, is_taken)?);
+            let key = self.listed_key(roll, reference)?;
+            let is_taken = is_listed(old, reference) || is_listed(&new[..i], reference);
+            keys.add(key, is_taken)?;
         }
         Ok(keys)
     }
@@ -214,65 +187,45 @@ impl Keys {
             (new_fault roll (map.get self.now) (texts old.now) [] (texts new.now)) result }
         ensures algorithms { IfOk result (λ keys. (a : ℕ) →
             is_set keys.algorithms a ≡ has_algorithm (map.get self.now) (texts new.now) a) }
-        ensures kinds { IfOk result (λ keys. AreOf (map.get self.now) (texts new.now) keys.kinds) }
+        ensures kinds { IfOk result (AreOf (map.get self.now) (texts new.now)) }
     {
         let mut taken = [0; 1024];
         for entry in old {
             self.add_tag(&mut taken, entry);
         }
+        let mut keys = NO_KEYS;
         for reference in new {
-            if let Some(fault) = self.new_entry_fault(roll, reference, &taken) {
-                return Err(fault);
-            }
+            let key = self.listed_key(roll, reference)?;
+            keys.add(key, is_set(&taken, key.key_tag()))?;
             self.add_tag(&mut taken, reference);
         }
-        Ok(self.new_keys(new))
+        Ok(keys)
     }
 
-    /// What a start asks of the keys that its new entries name.
-    fn new_keys(&self, new: &[&str]) -> NewKeys
-        ensures algorithms { (a : ℕ) →
-            is_set result.algorithms a ≡ has_algorithm (map.get self.now) (texts new.now) a }
-        ensures kinds { AreOf (map.get self.now) (texts new.now) result.kinds }
-    {
-        let mut keys = NewKeys::none();
-        for reference in new {
-            if let Some(key) = self.get(reference) {
-                keys.add(key);
-            }
-        }
-        keys
-    }
-
-    /// Refuses a start that leaves no key to go on with, by the kinds of its new keys.
-    pub fn check_suitability(&self, roll: RollType, old: &[&str], new: Kinds) -> Result<(), Error>
-        ensures { (news : List (List ℕ)) → AreOf (map.get self.now) news new
+    /// Refuses a start that leaves no key to go on with: for each want a new key has to serve, or a
+    /// key that isn't listed as old.
+    pub fn check_suitability(
+        &self,
+        roll: RollType,
+        old: &[&str],
+        new: &NewKeys,
+    ) -> Result<(), Error>
+        ensures { (news : List (List ℕ)) → AreOf (map.get self.now) news new.now
             → AnswersExactly (suitability_fault roll self.now (texts old.now) news) result }
     {
-        if self.are_met(wants(roll), old, new) {
+        let wants = roll.column().wants;
+        if wants
+            .iter()
+            .all(|want| new.serve(*want) || self.has_kept(*want, old))
+        {
             Ok(())
         } else {
             Err(Error::NoSuitableKeyPresent)
         }
     }
 
-    /// Whether each want is met.
-    fn are_met(&self, wants: &[Want], old: &[&str], new: Kinds) -> bool
-        ensures { result ≡
-            list_all (λ w. is_met_among self.now (texts old.now) new w) wants.now }
-    {
-        wants.iter().all(|want| self.is_met(*want, old, new))
-    }
-
-    /// Whether a new key serves, by the kinds of the new keys, or a key that isn't listed as old.
-    fn is_met(&self, want: Want, old: &[&str], new: Kinds) -> bool
-        ensures { result ≡ is_met_among self.now (texts old.now) new want }
-    {
-        new.meet(want) || self.has_kept(want, old)
-    }
-
     /// Whether a key that isn't listed as old serves: more keys serve than are listed.
-    #[tactic(auto, using(crate::proofs::Counted::Lists::counts))]
+    #[tactic(auto, using(crate::proofs::Counted::counts))]
     fn has_kept(&self, want: Want, old: &[&str]) -> bool
         ensures { result ≡ some_kept (serves_as_kept want) self.now (texts old.now) }
     {
@@ -323,7 +276,6 @@ impl Keys {
     }
 
     /// Whether the key at a reference serves, and isn't listed earlier.
-    #[tactic(auto, using(crate::proofs::Marks::lists))]
     fn serves_but_for(&self, want: Want, reference: &str, earlier: &[&str]) -> bool
         ensures { result ≡ option_map_or (λ k. serves_as_kept want k.keytype
             && not (is_listed (texts earlier.now) reference.now))

@@ -1,35 +1,131 @@
-//! What is derived of the keys of a zone, so that calls needn't walk over them. Each change of the
-//! keys is followed here, and in no other place.
+//! What is derived of the keys of a zone, so that calls needn't walk over them: their tags, how
+//! many of them a start could go on with, and the reported wait. Each change of the keys is
+//! followed here, and in no other place.
 ghost use Rattle.std.specs.Prelude.{◌≡◌, ℕ, None, Some, true, false, nat_eq, IfOk, OnOk, OnErr};
 ghost use Rattle.std.specs.Prelude.{IsOkUnless, if◌then◌else◌, length, ◌≤◌, IsSome};
-ghost use Rattle.std.specs.Option.{option_map};
+ghost use Rattle.std.specs.{List.fold, Option.option_map, String.string_eq};
 ghost use Rattle.std.specs.HashMap as hash;
 ghost use Rattle.dnssec_base.specs.declared.error.Error.TheVariants.{OutOfMemory};
 ghost use Rattle.dnssec_key.specs.RollTable.{which};
 ghost use Rattle.dnssec_key.specs.Setters.{setting_of, set_by};
 ghost use Rattle.dnssec_key.specs.Sides.{wait_moves_kept};
 ghost use Rattle.dnssec_key.specs.Inner.TagIndex.{has};
-ghost use Rattle.dnssec_zone.specs.Inner.Change.{makes};
-ghost use Rattle.dnssec_zone.specs.Inner.Counts.{CountsAgree, moves_counts, no_counts};
-ghost use Rattle.dnssec_zone.specs.Inner.Counts.{with_key, without_key};
+ghost use Rattle.dnssec_zone.specs.Inner.Counts.{CountsAgree, count_after, count_of, counts_after};
+ghost use Rattle.dnssec_zone.specs.Inner.Counts.{moves_counts, no_counts, with_key, without_key};
+ghost use Rattle.dnssec_zone.specs.Inner.Mark.{marked};
 ghost use Rattle.dnssec_zone.specs.Inner.Reported.{IsKnown, known_after};
 ghost use Rattle.dnssec_zone.specs.Inner.Tags.{TagsAgree};
 ghost use Rattle.dnssec_zone.specs.Keys.{has_tag, keys_in_map};
 ghost use Rattle.dnssec_zone.specs.Refusals.{Answers, reference_refusal};
 
-use crate::counts::{Counting, Counts};
-use crate::key_map::count_all;
-use crate::keys::Change;
+use crate::keys::Mark;
 use crate::wait_end::{ReportedWait, over_from, seen};
 use dnssec_key::{
-    Error, Half, Key, KeyType, RollType, Setting, TagIndex, apply_setting, mark_new, mark_old,
-    wait_moves_kept,
+    Error, Half, Key, KeyType, RollType, Setting, TagIndex, Want, apply_setting, is_kept_at_parent,
+    is_kept_present, mark_new, mark_old, wait_moves_kept,
 };
 use std::alloc::Global;
 use std::collections::HashMap;
 
 /// Up to this many keys we read each key's tag; more keys have an index of their tags.
 const KEYS_WITHOUT_INDEX: usize = 16;
+
+/// For each want, how many keys meet it in their state, whether a start lists them as old or not.
+#[derive(Clone, Copy)]
+pub(crate) struct Counts {
+    present_ksk: usize,
+    ksk_at_parent: usize,
+    present_zsk: usize,
+    present_ksk_role: usize,
+    present_zsk_role: usize,
+}
+
+/// Whether a key comes into the counts, or goes out of them.
+#[derive(Clone, Copy)]
+pub(crate) enum Counting {
+    OneMore,
+    OneLess,
+}
+
+impl Counting {
+    /// Changes a count, if the key serves.
+    fn change(self, count: &mut usize, serves: bool)
+        ensures { count.new ≡ count_after serves self count.old }
+    {
+        if serves {
+            *count = match self {
+                Counting::OneMore => count.saturating_add(1),
+                Counting::OneLess => count.saturating_sub(1),
+            };
+        }
+    }
+}
+
+impl Counts {
+    /// The counts of no keys.
+    pub(crate) fn none() -> Counts
+        ensures { result ≡ no_counts }
+    {
+        Counts {
+            present_ksk: 0,
+            ksk_at_parent: 0,
+            present_zsk: 0,
+            present_ksk_role: 0,
+            present_zsk_role: 0,
+        }
+    }
+
+    /// How many keys meet a want.
+    pub(crate) fn of(&self, want: Want) -> usize
+        ensures { result ≡ count_of self.now want }
+    {
+        match want {
+            Want::PresentKsk => self.present_ksk,
+            Want::KskAtParent => self.ksk_at_parent,
+            Want::PresentZsk => self.present_zsk,
+            Want::PresentKskRole => self.present_ksk_role,
+            Want::PresentZskRole => self.present_zsk_role,
+        }
+    }
+
+    /// Counts a key, or counts it no longer.
+    pub(crate) fn count(&mut self, keytype: &KeyType, counting: Counting)
+        ensures { self.new ≡ counts_after counting keytype.now self.old }
+    {
+        match *keytype {
+            KeyType::Ksk(ksk) => {
+                let present = is_kept_present(Some(ksk));
+                counting.change(&mut self.present_ksk, present);
+                counting.change(&mut self.present_ksk_role, present);
+                counting.change(&mut self.ksk_at_parent, is_kept_at_parent(Some(ksk)));
+            }
+            KeyType::Zsk(zsk) => {
+                let present = is_kept_present(Some(zsk));
+                counting.change(&mut self.present_zsk, present);
+                counting.change(&mut self.present_zsk_role, present);
+            }
+            KeyType::Csk(ksk, zsk) => {
+                counting.change(&mut self.present_ksk_role, is_kept_present(Some(ksk)));
+                counting.change(&mut self.present_zsk_role, is_kept_present(Some(zsk)));
+            }
+            KeyType::Include(_) => {}
+        }
+    }
+
+    /// Follows a setter that changed a key. No count asks whether a key signs.
+    pub(crate) fn follow(&mut self, setting: &Setting, before: &KeyType, after: &KeyType)
+        ensures { self.new ≡ (if moves_counts (setting_of setting.now)
+            then with_key after.now (without_key before.now self.old) else self.old) }
+    {
+        if matches!(
+            setting,
+            Setting::Present(_, _) | Setting::AtParent(_) | Setting::Stale
+        ) {
+            self.count(before, Counting::OneLess);
+            self.count(after, Counting::OneMore);
+        }
+    }
+}
 
 /// What is derived of the keys. Others only read it.
 #[derive(Drop)]
@@ -128,9 +224,10 @@ impl Derived {
         ensures key { key.new ≡ set_by (setting_of setting) key.old }
         ensures tags { self.new.tags ≡ self.old.tags }
         ensures counts { self.new.counts ≡ (if moves_counts (setting_of setting)
-            then with_key key.new.keytype (without_key key.old.keytype self.old.counts)
-            else self.old.counts) }
-        ensures reported { self.new.reported ≡ known_after self.old.reported key.old key.new }
+            then with_key (set_by (setting_of setting) key.old).keytype
+            (without_key key.old.keytype self.old.counts) else self.old.counts) }
+        ensures reported { self.new.reported
+            ≡ known_after self.old.reported key.old (set_by (setting_of setting) key.old) }
     {
         let before = key.keytype();
         let seen_before = seen(&self.reported, key);
@@ -141,19 +238,19 @@ impl Derived {
         self.counts.follow(&setting, &before, &key.keytype());
     }
 
-    /// Changes a key as a start does.
-    pub(crate) fn change(&mut self, key: &mut Key, change: Change)
-        ensures key { key.new ≡ makes change key.old }
+    /// Marks a key as a start does.
+    pub(crate) fn mark(&mut self, key: &mut Key, mark: &Mark)
+        ensures key { key.new ≡ marked mark.now key.old }
         ensures tags { self.new.tags ≡ self.old.tags }
-        ensures counts { self.new.counts
-            ≡ with_key key.new.keytype (without_key key.old.keytype self.old.counts) }
+        ensures counts { self.new.counts ≡ with_key (marked mark.now key.old).keytype
+            (without_key key.old.keytype self.old.counts) }
         ensures reported { self.new.reported ≡ None }
     {
         self.reported = None;
         self.counts.count(&key.keytype(), Counting::OneLess);
-        match change {
-            Change::MarkOld => mark_old(key),
-            Change::MarkNew(roll, now) => mark_new(key, roll, now),
+        match *mark {
+            Mark::AsOld => mark_old(key),
+            Mark::AsNew(roll, now) => mark_new(key, roll, now),
         }
         self.counts.count(&key.keytype(), Counting::OneMore);
     }
@@ -217,4 +314,23 @@ fn index_of(alloc: Global, keys: &HashMap<String, Key>) -> Result<TagIndex, Erro
         index.put(key.key_tag());
     }
     Ok(index)
+}
+
+/// The counts of the keys.
+fn count_all(keys: &HashMap<String, Key>) -> Counts
+    ensures { CountsAgree result (keys_in_map keys.now) }
+{
+    count_one_by_one(keys)
+}
+
+/// The counts by a walk over the keys.
+fn count_one_by_one(keys: &HashMap<String, Key>) -> Counts
+    ensures walk { result ≡ fold (λ c k. with_key k.keytype c) no_counts (hash.values keys.now) }
+    ensures unique { hash.IsUnique string_eq keys.now }
+    ensures fits { length keys.now.entries ≤ 18446744073709551615 }
+{
+    keys.values().fold(Counts::none(), |mut counts, key| {
+        counts.count(&key.keytype(), Counting::OneMore);
+        counts
+    })
 }

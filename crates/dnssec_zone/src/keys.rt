@@ -1,31 +1,30 @@
 //! The keys by their public references.
 ghost use Rattle.std.specs.Prelude.{◌≡◌, ℕ, List, None, Some, string_bytes, IfOk, IsOkUnless};
-ghost use Rattle.std.specs.Prelude.{IfSome, IfNone, OnOk, OnErr, if◌then◌else◌};
-ghost use Rattle.std.specs.Option.{option_map};
-ghost use Rattle.std.specs.Str.{bytes_eq};
+ghost use Rattle.std.specs.Prelude.{IfSome, IfNone, OnOk, OnErr, if◌then◌else◌, nat_eq, length};
+ghost use Rattle.std.specs.{Prelude.◌≤◌, List.list_any, Option.option_map, Str.bytes_eq};
+ghost use Rattle.std.specs.String.{string_eq};
 ghost use Rattle.std.specs.FinMap as map;
 ghost use Rattle.std.specs.HashMap as hash;
 ghost use Rattle.dnssec_base.specs.declared.error.Error.TheVariants.{OutOfMemory};
-ghost use Rattle.dnssec_key.specs.RollTable.{which, after_report, after_wait, new_at_start};
-ghost use Rattle.dnssec_key.specs.RollTable.{after_early_end, old_at_start};
+ghost use Rattle.dnssec_key.specs.RollTable.{which, after_report, after_wait, after_early_end};
 ghost use Rattle.dnssec_key.specs.Setters.{setting_of, set_by};
 ghost use Rattle.dnssec_key.specs.Inner.Bits.{is_set};
-ghost use Rattle.dnssec_zone.specs.Inner.Change.{makes};
-ghost use Rattle.dnssec_zone.specs.Inner.Counts.{count_in, passes};
+ghost use Rattle.dnssec_zone.specs.Inner.{Counts.count_in, Counts.passes, Mark.marked};
 ghost use Rattle.dnssec_zone.specs.Keys.{TagsApart, keys_in_map, has_tag};
 ghost use Rattle.dnssec_zone.specs.Start.{is_listed, serves_as_kept, texts};
 ghost use Rattle.dnssec_zone.specs.Refusals.{Answers, AnswersExactly, add_refusal};
-ghost use Rattle.dnssec_zone.specs.Refusals.{deletion_refusal, setting_refusal};
+ghost use Rattle.dnssec_zone.specs.Refusals.{deletion_refusal, reference_refusal, setting_refusal};
 ghost use Rattle.dnssec_zone.specs.Wait.{IsOverFrom, LacksStamp};
 
 use crate::derived::Derived;
-use crate::key_map::{put_new, references_differ, some_has_tag, unmark_key};
 use crate::wait_end::over_from;
 use dnssec_key::{
-    Error, Half, Key, RollType, Setting, TagSet, UnixTime, Want, move_on, stamp_report,
+    Error, Half, Key, RollType, Setting, TagSet, UnixTime, Want, is_set, move_on, stamp_report,
+    unmark_new, unmark_old,
 };
 use std::alloc::Global;
 use std::collections::HashMap;
+use std::collections::hash_map::Entry;
 use std::marker::Model;
 
 /// The keys of a zone by their public references.
@@ -49,11 +48,60 @@ impl Model for Keys {
     ghost invariant = { λ s. IsDerived s.derived (keys_in_map s.map) };
 }
 
-/// What a start does to a key that it lists.
+/// What a start marks the keys as that it lists: as old, or as new by a roll from a moment on.
 #[derive(Clone, Copy)]
-pub(crate) enum Change {
-    MarkOld,
-    MarkNew(RollType, UnixTime),
+pub enum Mark {
+    AsOld,
+    AsNew(RollType, UnixTime),
+}
+
+/// A law of every such map: no reference stands twice, and a `usize` holds their number. It does
+/// nothing: its contract serves the proofs of its callers.
+fn references_differ(keys: &HashMap<String, Key>)
+    ensures unique { hash.IsUnique string_eq keys.now }
+    ensures fits { length keys.now.entries ≤ 18446744073709551615 }
+{
+    keys.len();
+}
+
+/// Whether some key has the tag, by a walk over the keys.
+fn some_has_tag(keys: &HashMap<String, Key>, key_tag: u16) -> bool
+    ensures some { result ≡ list_any (λ k. nat_eq k.key_tag key_tag) (hash.values keys.now) }
+    ensures unique { hash.IsUnique string_eq keys.now }
+{
+    keys.values().any(|key| key.key_tag() == key_tag)
+}
+
+/// Puts a key at a reference that no other key has.
+#[inline(always)]
+fn put_new(map: &mut HashMap<String, Key>, pubref: String, key: Key) -> Result<(), Error>
+    ensures reply { Answers
+        (reference_refusal (hash.get_by_text map.old (string_bytes pubref))) result }
+    ensures ok { OnOk result ((q : List ℕ) → hash.get_by_text map.new q
+        ≡ (if bytes_eq (string_bytes pubref) q then Some key else hash.get_by_text map.old q)) }
+    ensures err { OnErr result (keys_in_map map.new ≡ keys_in_map map.old) }
+{
+    match map.entry(pubref)? {
+        Entry::Vacant(place) => {
+            place.insert(key);
+            Ok(())
+        }
+        Entry::Occupied(_) => Err(Error::KeyExists),
+    }
+}
+
+/// Undoes a start on a key that it listed as old, or as new.
+fn unmark_key(roll: RollType, olds: &TagSet, news: &TagSet, key: &mut Key)
+    ensures { key.new ≡ after_early_end roll
+        (is_set olds.now key.old.key_tag) (is_set news.now key.old.key_tag) key.old }
+{
+    let key_tag = key.key_tag();
+    if is_set(olds, key_tag) {
+        unmark_old(key, roll);
+    }
+    if is_set(news, key_tag) {
+        unmark_new(key, roll);
+    }
 }
 
 impl Keys {
@@ -79,6 +127,7 @@ impl Keys {
     }
 
     /// The map itself, for callers to read.
+    #[tactic(auto, using(crate::proofs::Walks::shown))]
     pub fn as_map(&self) -> &HashMap<String, Key>
         ensures shown { keys_in_map result.now ≡ self.now }
         ensures at { (q : List ℕ) → hash.get_by_text result.now q ≡ map.get self.now q }
@@ -86,20 +135,13 @@ impl Keys {
         &self.map
     }
 
-    /// The key at a reference.
-    #[tactic(auto, using(crate::proofs::Shown::shown))]
+    /// The key at a reference. No two keys have one tag.
+    #[tactic(auto, using(crate::proofs::Walks::shown))]
     pub(crate) fn get(&self, reference: &str) -> Option<&Key>
-        ensures { option_map (λ k. k.now) result ≡ map.get self.now reference.now }
+        ensures key { option_map (λ k. k.now) result ≡ map.get self.now reference.now }
+        ensures apart { TagsApart self.now }
     {
         self.map.get(reference)
-    }
-
-    /// A law of the keys: no two have one tag. It does nothing: its contract serves the proofs of
-    /// its callers.
-    pub(crate) fn tags_differ(&self)
-        ensures { TagsApart self.now }
-    {
-        let _ = &self.map;
     }
 
     /// Whether some key has the tag.
@@ -122,7 +164,7 @@ impl Keys {
     /// Adds a key. Its tag is looked for first, then its reference.
     // Inline, as `put_new` below and the key set's `add`, so that a key is made where it stays.
     #[inline(always)]
-    #[tactic(auto, using(crate::proofs::Shown::shown))]
+    #[tactic(auto, using(crate::proofs::Walks::shown))]
     pub fn add(&mut self, alloc: Global, pubref: String, key: Key) -> Result<(), Error>
         ensures reply { Answers (add_refusal self.old (string_bytes pubref) key.key_tag) result }
         ensures ok { OnOk result ((q : List ℕ) → map.get self.new q
@@ -143,7 +185,7 @@ impl Keys {
 
     /// Takes out the key at a reference, if it is stale: such a key is in no count. Answers its
     /// tag.
-    #[tactic(auto, using(crate::proofs::Shown::shown))]
+    #[tactic(auto, using(crate::proofs::Walks::shown))]
     pub fn delete(&mut self, pubref: &str) -> Result<u16, Error>
         ensures reply { AnswersExactly (deletion_refusal (map.get self.old pubref.now)) result }
         ensures tag { IfOk result (λ tag.
@@ -165,7 +207,7 @@ impl Keys {
     }
 
     /// Changes the key at a reference by hand. Answers its tag.
-    #[tactic(auto, using(crate::proofs::Shown::shown))]
+    #[tactic(auto, using(crate::proofs::Walks::shown))]
     pub fn set(&mut self, pubref: &str, setting: Setting) -> Result<u16, Error>
         ensures reply { AnswersExactly
             (setting_refusal (setting_of setting) (map.get self.old pubref.now)) result }
@@ -188,25 +230,14 @@ impl Keys {
         Ok(key_tag)
     }
 
-    /// Marks the keys that a start lists as old.
-    pub fn mark_old(&mut self, old: &[&str])
+    /// Marks the keys that a start lists.
+    pub fn mark(&mut self, references: &[&str], mark: &Mark)
         ensures { (q : List ℕ) → map.get self.new q
-            ≡ option_map (λ k. if is_listed (texts old.now) q then old_at_start k else k)
+            ≡ option_map (λ k. if is_listed (texts references.now) q then marked mark.now k else k)
             (map.get self.old q) }
     {
-        for reference in old {
-            self.change_at(reference, Change::MarkOld);
-        }
-    }
-
-    /// Marks the keys that a start lists as new.
-    pub fn mark_new(&mut self, roll: RollType, new: &[&str], now: UnixTime)
-        ensures { (q : List ℕ) → map.get self.new q
-            ≡ option_map (λ k. if is_listed (texts new.now) q then new_at_start roll now k else k)
-            (map.get self.old q) }
-    {
-        for reference in new {
-            self.change_at(reference, Change::MarkNew(roll, now));
+        for reference in references {
+            self.mark_at(reference, mark);
         }
     }
 
@@ -222,17 +253,17 @@ impl Keys {
         self.derived.recount(&self.map);
     }
 
-    /// Changes the key at a reference, if there is one. Each caller has one change.
+    /// Marks the key at a reference, if there is one.
     #[inline(always)]
-    #[tactic(auto, using(crate::proofs::Shown::shown))]
-    fn change_at(&mut self, reference: &str, change: Change)
+    #[tactic(auto, using(crate::proofs::Walks::shown))]
+    fn mark_at(&mut self, reference: &str, mark: &Mark)
         ensures { (q : List ℕ) → map.get self.new q ≡ option_map
-            (λ k. if bytes_eq reference.now q then makes change k else k) (map.get self.old q) }
+            (λ k. if bytes_eq reference.now q then marked mark.now k else k) (map.get self.old q) }
     {
         let Some(key) = self.map.get_mut(reference) else {
             return;
         };
-        self.derived.change(key, change);
+        self.derived.mark(key, mark);
         references_differ(&self.map);
     }
 

@@ -1,40 +1,29 @@
 -- Every call on a roll is barred, early or clear alike if the roll sees the same, down to the
 -- longest time that is left.
 use Rattle.std.proofs.Common.{◌≡◌, ℕ, Bool, true, false, not, List, [], ◌∷◌, ◌++◌, Some, None, refl}
-use Rattle.std.proofs.Common.{sym, ap, ◌∙◌, arith}
-use Rattle.std.proofs.lemmas.Bool.{Decides.nat_tests, and_left}
-use Rattle.std.specs.Prelude.{Option, ◌||◌, ◌&&◌, nat_eq, nat_lt}
-use Rattle.std.specs.{List.list_all, List.list_any, Option.option_map_or, Option.option_or}
-use Rattle.std.specs.{Cmp.both_ways, FinMap.get}
-use Rattle.dnssec_key.specs.declared.{kind.KeyType.KeyType, roll.RollType.RollType}
-use Rattle.dnssec_key.specs.{Key.KeyParts, RollTable.Half}
-use Rattle.dnssec_zone.specs.Start.{algorithm_fault, algorithms_within, has_algorithm, is_listed}
-use Rattle.dnssec_zone.specs.Start.{lists_kind, new_entry_fault, new_fault, old_entry_fault}
-use Rattle.dnssec_zone.specs.Start.{old_fault, side_of, some_listed, Want, conflict, is_met}
-use Rattle.dnssec_zone.specs.Start.{serves_as_kept, serves_as_new, wants}
+use Rattle.dnssec_zone.specs.Start.{algorithms_within, has_algorithm, is_listed, lists_kind}
+use Rattle.dnssec_zone.specs.Start.{new_entry_fault, new_fault, old_entry_fault, old_fault, side_of}
+use Rattle.dnssec_zone.specs.Start.{some_listed, Want, conflict, is_met, serves_as_kept}
 use Rattle.dnssec_zone.specs.Wait.{lacks_stamp, time_left, longest_left, ttl_in, barred_by}
-use Rattle.dnssec_zone.specs.Wait.{wait_in_phase}
-use Rattle.dnssec_zone.specs.Refusals.{early_end_refusal, end_refusal, report_refusal}
-use Rattle.dnssec_zone.specs.{Keys.some_entry, Keys.some_key, Rolls.phase_of}
 use Rattle.dnssec_zone.proofs.Quantified.{some_entry-found, some_entry-none, some_key-entry}
+use Rattle.dnssec_keyset.proofs.Exchange.Seen.{Alike, SameFor, alike-found, asked, same-sym}
+use Rattle.std.proofs.{Common.sym, Common.ap, Common.◌∙◌, Common.arith}
+use Rattle.std.proofs.{lemmas.Bool.Decides.nat_tests, lemmas.Bool.and_left}
+use Rattle.dnssec_zone.specs.Refusals.{early_end_refusal, end_refusal, report_refusal}
+use Rattle.dnssec_zone.specs.{Start.serves_as_new, Start.wants, Wait.wait_in_phase, Keys.some_entry}
+use Rattle.dnssec_zone.specs.{Keys.some_key, Rolls.phase_of}
+use Rattle.std.specs.{Prelude.Option, Prelude.◌||◌, Prelude.◌&&◌, Prelude.nat_eq, List.list_all}
+use Rattle.std.specs.{List.list_any, Option.option_map_or, Option.option_or, Cmp.both_ways}
+use Rattle.std.specs.{FinMap.get}
+use Rattle.dnssec_key.specs.{declared.kind.KeyType.KeyType, declared.roll.RollType.RollType}
+use Rattle.dnssec_key.specs.{Key.KeyParts, RollTable.Half}
 use Rattle.dnssec_zone.proofs.Longest.{above, longest-same}
 use Rattle.dnssec_base.specs.declared.error.Error.TheVariants.{WrongKeyType}
-use Rattle.dnssec_keyset.proofs.Exchange.Seen.{Alike, SameFor, alike-found, asked, same-sym}
-use Rattle.dnssec_keyset.specs.Step.{start_refusal, Call, clearance}
+use Rattle.dnssec_keyset.specs.{Step.start_refusal, Step.Call, Step.clearance, KeySet.KeySetParts}
 use Rattle.dnssec_keyset.proofs.Moves.{IsOn, Starts, Reports, Waits, Ends, EndsEarly}
-use Rattle.dnssec_keyset.{specs.KeySet.KeySetParts, proofs.Sides.checks-others}
+use Rattle.dnssec_keyset.proofs.Sides.{checks-others}
 
 -- ---- what is asked about a key, and about the keys of a list or a set
-
--- a key of another kind has no time left
-left-others : (roll : RollType) (half : Half) (ttl now : ℕ) (k : KeyParts)
-    → lists_kind (side_of roll) k.keytype ≡ false → time_left roll half ttl now k ≡ 0
-left-others roll half ttl now k e = grind (arith, checks-others roll half k.keytype e)
-
--- nor does it lack its stamp
-stamp-others : (roll : RollType) (half : Half) (k : KeyParts)
-    → lists_kind (side_of roll) k.keytype ≡ false → lacks_stamp roll half k ≡ false
-stamp-others roll half k e = grind (arith, checks-others roll half k.keytype e)
 
 module _ (b : RollType) where
   old-entry : (o p : Option KeyParts) → Alike b o p → old_entry_fault b o ≡ old_entry_fault b p
@@ -81,10 +70,6 @@ module _ (b : RollType) where
         (by-algorithm (has_algorithm (get s.keys) others) true _ _ (same.keys q)
         ∙ (λ j. option_map_or (λ k. has-same others k.algorithm j) (get t.keys q) true)) i) qs
 
-    algorithms-same : (olds news : List (List ℕ)) → algorithm_fault b (get s.keys) olds news
-        ≡ algorithm_fault b (get t.keys) olds news
-    algorithms-same olds news = rw (within-same olds news, within-same news olds)
-
     listed-same : (f : KeyType → Bool)
         → ((x : KeyType) → lists_kind (side_of b) x ≡ false → f x ≡ false) → (qs : List (List ℕ))
         → some_listed f (get s.keys) qs ≡ some_listed f (get t.keys) qs
@@ -117,11 +102,6 @@ key-same b p off s t same = some_key-entry p s.keys ∙ entry-same b (λ q. p) (
 
 -- ---- a start has to leave the same
 
--- a key that the roll doesn't change serves for nothing that its start asks
-serves-others : (b : RollType) (x : KeyType) → lists_kind (side_of b) x ≡ false
-    → list_all (λ w. not (serves_as_new w x) && not (serves_as_kept w x)) (wants b) ≡ true
-serves-others b x other = grind arith
-
 module _ (s t : KeySetParts) (olds news : List (List ℕ)) (b : RollType) (same : SameFor b s t)
   where
     met : (want : Want) → ((x : KeyType) → lists_kind (side_of b) x ≡ false
@@ -151,8 +131,10 @@ start-same b s t olds news same =
       conflict-same b s t same,
       old-same b s t same olds,
       new-same b s t same olds [] news,
-      algorithms-same b s t same olds news,
-      suits s t olds news b same (wants b) (serves-others b),
+      within-same b s t same olds news,
+      within-same b s t same news olds,
+      -- a key that the roll doesn't change serves for nothing that its start asks
+      suits s t olds news b same (wants b) (λ x other. grind arith),
     )
 
 -- ---- a wait gets the same answer
@@ -161,14 +143,15 @@ longest-alike : (b : RollType) (half : Half) (ttl now : ℕ) (s t : KeySetParts)
     → longest_left b half ttl now s.keys ≡ longest_left b half ttl now t.keys
 longest-alike b half ttl now s t same = longest-same (time_left b half ttl now) _ _ (λ n.
     key-same b (above (time_left b half ttl now) n)
-    (λ k e. ap (nat_lt n) (left-others b half ttl now k e) ∙ (grind (arith, nat_tests))) s t same)
+    (λ k e. grind (arith, nat_tests, checks-others b half k.keytype e)) s t same)
 
 wait-same : (b : RollType) (half : Half) (o : Option ℕ) (now : ℕ) (s t : KeySetParts)
     → SameFor b s t → wait_in_phase b half o now s.keys ≡ wait_in_phase b half o now t.keys
 wait-same b half None now s t same = refl
 wait-same b half (Some ttl) now s t same =
     rw (
-      key-same b (lacks_stamp b half) (stamp-others b half) s t same,
+      key-same b (lacks_stamp b half) (λ k e. grind (arith, checks-others b half k.keytype e)) s t
+          same,
       longest-alike b half ttl now s t same,
     )
 

@@ -1,27 +1,26 @@
 -- Two neighbouring calls of rolls that go together may be exchanged: neither sees what the other
 -- changes.
-use Rattle.dnssec_keyset.proofs.After.{after-changes, changes-after, step-after}
-use Rattle.dnssec_keyset.proofs.Laws.{no_cause, no_first, no_rest, same-is, step-keeps}
 use Rattle.dnssec_keyset.proofs.Moves.{IsOn, Starts, Reports, EndsEarly, is-on, MovesBy, key_after}
-use Rattle.dnssec_keyset.proofs.Moves.{listed_after, moves-back, moves-on, phase_after}
-use Rattle.dnssec_keyset.proofs.Exchange.Kinds.{apart-kinds, apart-rolls, kind-after}
 use Rattle.dnssec_keyset.proofs.Exchange.Seen.{Alike, SameFor, apart-side, same-after, same-itself}
-use Rattle.dnssec_keyset.proofs.Exchange.Seen.{same-sym}
-use Rattle.dnssec_keyset.proofs.{Changes.Changes, Sides.starts-clear, Sides.stays-after}
-use Rattle.dnssec_keyset.proofs.Exchange.Clearances.{clearance-same}
 use Rattle.dnssec_keyset.specs.Step.{Call, Reply, Refused, Step, IsRefusedFor, after, after_reply}
-use Rattle.dnssec_keyset.specs.Step.{clearance}
-use Rattle.dnssec_keyset.specs.{KeySet.KeySetParts, Laws.AreApart, Laws.MayBeExchanged}
 use Rattle.std.proofs.Common.{arith, ◌≡◌, ℕ, true, false, cond, List, [], ◌∷◌, Some, None, refl}
+use Rattle.dnssec_zone.specs.Start.{is_listed, lists_kind, old_entry_fault, old_fault, side_of}
+use Rattle.dnssec_keyset.proofs.Moves.{listed_after, moves-back, moves-on, phase_after}
+use Rattle.dnssec_keyset.proofs.{Exchange.Seen.same-sym, After.after-changes, After.changes-after}
+use Rattle.dnssec_keyset.proofs.{After.step-after, Laws.no_cause, Laws.same-is, Laws.step-keeps}
+use Rattle.dnssec_keyset.proofs.{Exchange.Kinds.apart-kinds, Exchange.Kinds.apart-rolls}
+use Rattle.dnssec_keyset.proofs.{Exchange.Kinds.kind-after, Changes.Changes, Sides.starts-clear}
+use Rattle.dnssec_keyset.proofs.{Sides.stays-after, Exchange.Clearances.clearance-same}
+use Rattle.dnssec_keyset.specs.{Step.clearance, KeySet.KeySetParts, Laws.AreApart}
+use Rattle.dnssec_keyset.specs.{Laws.MayBeExchanged}
 use Rattle.std.proofs.Common.{inl, inr, sym, ap, subst, ◌∙◌}
 use Rattle.std.proofs.lemmas.Bool.{cases_Bool}
-use Rattle.std.specs.Prelude.{Option, filter, if◌then◌else◌}
-use Rattle.std.specs.{Option.option_map, Option.option_map_or, FinMap.get}
+use Rattle.dnssec_zone.specs.{Start.together, Lists.has_kept_key, Rolls.same_roll, Wait.Clear}
+use Rattle.std.specs.{Prelude.Option, Prelude.filter, Prelude.if◌then◌else◌, Option.option_map}
+use Rattle.std.specs.{Option.option_map_or, FinMap.get}
 use Rattle.dnssec_key.specs.{declared.roll.RollType.RollType, State.is_kept, Key.KeyParts}
 use Rattle.dnssec_key.specs.{Key.all_states, RollTable.First, RollTable.after_early_end}
-use Rattle.dnssec_zone.specs.Start.{is_listed, lists_kind, old_entry_fault, old_fault, side_of}
-use Rattle.dnssec_zone.specs.Start.{together}
-use Rattle.dnssec_zone.specs.{Lists.has_kept_key, Rolls.same_roll, Wait.Clear}
+use Rattle.dnssec_zone.proofs.Listing.Starts.{none_of_both}
 
 -- a call gets the same reply in each set that its roll sees the same
 step-elsewhere : (b : RollType) (s t new : KeySetParts) (call : Call) (reply : Reply) → IsOn b call
@@ -62,8 +61,9 @@ module _ (b : RollType) (s t : KeySetParts) (same : SameFor b s t) where
       → filter (has_kept_key s.keys) olds ≡ filter (has_kept_key t.keys) olds
   olds-same [] none = refl
   olds-same (q ∷ qs) none = λ i.
-      cond (kept-same b _ _ (same.keys q) (no_first _ _ none) i)
-      (q ∷ olds-same qs (no_rest _ _ none) i) (olds-same qs (no_rest _ _ none) i)
+      let both = none_of_both _ _ none in
+      cond (kept-same b _ _ (same.keys q) both.0 i) (q ∷ olds-same qs both.1 i)
+      (olds-same qs both.1 i)
 
   listed-alike : (call : Call) → IsOn b call → clearance s call ≡ Clear
       → listed_after s call ≡ listed_after t call
@@ -142,11 +142,6 @@ module _ (a b : RollType) (apart : together a b ≡ true) (s : KeySetParts) (fir
         ∙ sym (ap (key_first q) (stays-after s second b q k second_on second_clear is off))
   ]
 
-  one-option : (q : List ℕ) (o : Option KeyParts) → get s.keys q ≡ o
-      → option_map (key_second q) (option_map (key_first q) o)
-      ≡ option_map (key_first q) (option_map (key_second q) o)
-  one-option q o is = grind (arith, one-key, is)
-
   exchanged : Changes m first (after second s1)
   exchanged = moves-back m (after second s1) first a first_on (record {
     name = m2.name ∙ m1.name ∙ sym mm.name;
@@ -161,7 +156,7 @@ module _ (a b : RollType) (apart : together a b ≡ true) (s : KeySetParts) (fir
     ) (puts-swap a b s.lists (listed_after s first) (listed_after s second)
         (apart-rolls a b apart));
     keys = λ q. rw (m2.keys q, ← second-later, m1.keys q, mm.keys q, ← first-later)
-        (one-option q (get s.keys q) refl);
+        (grind (arith, one-key q));
   })
 
   both : after second s1 ≡ after first m

@@ -1,23 +1,23 @@
 -- The references that the entries mean, as keys come, go and change.
 use Rattle.std.proofs.Common.{◌≡◌, ℕ, Bool, true, false, not, List, [], ◌∷◌, ◌++◌, map, Some, None}
 use Rattle.std.proofs.Common.{refl, sym, ap, ◌∙◌, arith, Bor, ◌+◌, ◌<◌, length, take, get_or}
-use Rattle.std.proofs.lemmas.{Bool.Decides.nat_tests, List.append-nil, List.append_assoc}
-use Rattle.std.specs.Prelude.{T, nat_eq, filter, if◌then◌else◌}
-use Rattle.std.specs.FinMap.{find, entries, get, get-entries, entries_sorted}
-use Rattle.std.specs.{Option.option_map, Str.bytes_eq, Ordering.nat_cmp}
-use Rattle.std.specs.Cmp.Lexicographic.{slice_cmp, bytes_decides}
-use Rattle.std.specs.FinMap.Entries.{is_sorted}
-use Rattle.dnssec_key.specs.{declared.roll.RollType.RollType, Key.KeyParts}
 use Rattle.dnssec_zone.specs.Inner.Entries.{is_of, has_entry, without_tag, entry_of, entries_of}
 use Rattle.dnssec_zone.specs.Inner.Entries.{first_with, reference_of, references_of, lists_of}
+use Rattle.dnssec_zone.proofs.Tags.{apart-mapped, apart-added, apart-removed, there-mapped}
+use Rattle.std.proofs.lemmas.Bool.Decides.{nat_tests}
+use Rattle.std.proofs.lemmas.List.{append-nil, append_assoc}
+use Rattle.std.specs.Prelude.{T, nat_eq, filter, if◌then◌else◌}
+use Rattle.std.specs.FinMap.{find, entries, get, get-entries, entries_sorted}
+use Rattle.std.specs.Cmp.Lexicographic.{slice_cmp, bytes_decides}
+use Rattle.std.specs.{Option.option_map, Str.bytes_eq, Ordering.nat_cmp, FinMap.Entries.is_sorted}
+use Rattle.dnssec_key.specs.{declared.roll.RollType.RollType, Key.KeyParts}
 use Rattle.dnssec_zone.specs.Inner.Entries.{IsThere, AreThere, EntriesAgree}
-use Rattle.dnssec_zone.specs.Keys.{Keys, TagsApart, has_tag}
-use Rattle.dnssec_zone.proofs.Tags.{apart-mapped, apart-added, apart-removed, there-added}
-use Rattle.dnssec_zone.proofs.Tags.{there-before, there-mapped, there-removed}
-use Rattle.dnssec_zone.proofs.Quantified.{here-found, later-found, same_key, second}
-use Rattle.dnssec_zone.specs.declared.listed.{Entry.Entry, Part.Part, Part.TheVariants.Old}
-use Rattle.dnssec_zone.specs.{declared.listed.Part.TheVariants.New, Lists.without, Lists.others}
-use Rattle.dnssec_zone.{specs.Start.is_listed, specs.Start.texts, proofs.Marks.texts-more}
+use Rattle.dnssec_zone.specs.{Keys.Keys, Keys.TagsApart, Keys.has_tag, declared.rolls.Entry.Entry}
+use Rattle.dnssec_zone.specs.{declared.rolls.Part.Part, declared.rolls.Part.TheVariants.Old}
+use Rattle.dnssec_zone.specs.{declared.rolls.Part.TheVariants.New, Lists.without, Lists.others}
+use Rattle.dnssec_zone.specs.{Start.is_listed, Start.texts}
+use Rattle.dnssec_zone.proofs.{Tags.there-removed, Quantified.here-found, Quantified.later-found}
+use Rattle.dnssec_zone.proofs.{Quantified.same_key, Quantified.second, Marks.texts-more}
 
 -- one reference more
 pub entries_of-more : (keys : Keys) (roll : RollType) (part : Part) (qs : List (List ℕ))
@@ -165,7 +165,7 @@ pub means-added : (old new : Keys) (r : List ℕ) (x : KeyParts) → get old r �
     → (es : List Entry) → EntriesAgree old es → MeansTheSame old new es
 means-added old new r x absent free is es agree = means-within old new es agree
     (apart-added old new r x absent is free agree.apart)
-    (λ tag o. (o.1, there-added old new r x absent is o.0 o.1 o.2, o.3))
+    (λ tag o. (o.1, grind (arith, bytes_decides, absent, is o.0, o.2), o.3))
 
 -- the key at r is forgotten
 module _ (keys : Keys) (es : List Entry) (agree : EntriesAgree keys es) (r : List ℕ)
@@ -198,7 +198,7 @@ module _ (keys : Keys) (es : List Entry) (agree : EntriesAgree keys es) (r : Lis
       there-cut keys new (λ e. not (nat_eq e.key_tag x.key_tag)) stays es agree.there in (
         record { apart = apart; there = there },
         sym (lists_of-within new keys apart agree.apart
-            (λ tag o. (o.1, (there-before keys new r is o.0 o.1 o.2).1, o.3)) _ there)
+            (λ tag o. (o.1, grind (arith, is o.0, o.2), o.3)) _ there)
             ∙ lists_of-forgotten,
       )
     where

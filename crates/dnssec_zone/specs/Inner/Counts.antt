@@ -6,9 +6,9 @@ use Rattle.dnssec_key.specs.declared.kind.KeyType.{KeyType}
 use Rattle.dnssec_key.specs.Key.{KeyParts}
 use Rattle.dnssec_key.specs.Setters.{Setting, Present, AtParent, Stale}
 use Rattle.dnssec_zone.specs.Keys.{Keys}
-use Rattle.dnssec_zone.specs.declared.counts.Counts.{Counts}
-use Rattle.dnssec_zone.specs.declared.counts.Counting.{Counting}
-use Rattle.dnssec_zone.specs.declared.counts.Counting.TheVariants.{OneMore, OneLess}
+use Rattle.dnssec_zone.specs.declared.derived.Counts.{Counts}
+use Rattle.dnssec_zone.specs.declared.derived.Counting.{Counting}
+use Rattle.dnssec_zone.specs.declared.derived.Counting.TheVariants.{OneMore, OneLess}
 use Rattle.dnssec_zone.specs.Start.{is_listed, serves_as_kept, Want, PresentKsk, KskAtParent}
 use Rattle.dnssec_zone.specs.Start.{PresentZsk, PresentKskRole, PresentZskRole}
 

@@ -8,9 +8,9 @@ use Rattle.dnssec_key.specs.declared.roll.RollType.{RollType}
 use Rattle.dnssec_key.specs.State.{is_kept}
 use Rattle.dnssec_key.specs.Key.{KeyParts, all_states}
 use Rattle.dnssec_key.specs.RollTable.{Half, First, Second}
-use Rattle.dnssec_zone.specs.declared.listed.Entry.{Entry}
-use Rattle.dnssec_zone.specs.declared.listed.Part.{Part}
-use Rattle.dnssec_zone.specs.declared.listed.Part.TheVariants.{Old, New}
+use Rattle.dnssec_zone.specs.declared.rolls.Entry.{Entry}
+use Rattle.dnssec_zone.specs.declared.rolls.Part.{Part}
+use Rattle.dnssec_zone.specs.declared.rolls.Part.TheVariants.{Old, New}
 use Rattle.dnssec_zone.specs.Keys.{Keys, TagsApart}
 use Rattle.dnssec_zone.specs.Lists.{Lists}
 use Rattle.dnssec_zone.specs.Rolls.{same_roll}

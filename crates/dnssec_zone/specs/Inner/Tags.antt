@@ -1,5 +1,5 @@
 -- Sets of key tags: the tags in use, and those of listed keys.
-use Rattle.std.specs.Prelude.{◌≡◌, ℕ, Bool, false, Option, None, Some, List, IfSome}
+use Rattle.std.specs.Prelude.{◌≡◌, ℕ, Bool, Option, Some, List, IfSome}
 use Rattle.std.specs.FinMap.{get}
 use Rattle.dnssec_key.specs.Key.{KeyParts}
 use Rattle.dnssec_key.specs.Inner.Bits.{is_set}
@@ -14,8 +14,3 @@ pub record TagsAgree (has : ℕ → Option Bool) (keys : Keys) : Type 0 where
 abbrev pub HasListed : List ℕ → Keys → (List ℕ → Bool) → Type 0
 HasListed tags keys listed =
     (q : List ℕ) (k : KeyParts) → get keys q ≡ Some k → is_set tags k.key_tag ≡ listed q
-
--- the tag of a key, if there is one, is in a set
-abbrev pub has_its_tag : List ℕ → Option KeyParts → Bool
-has_its_tag tags None = false
-has_its_tag tags (Some k) = is_set tags k.key_tag

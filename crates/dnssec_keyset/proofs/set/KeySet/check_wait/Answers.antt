@@ -3,7 +3,7 @@ use Rattle.std.proofs.Common.{refl, subst, ◌∙◌, arith}
 use Rattle.std.specs.Prelude.{IfNone}
 use Rattle.dnssec_key.specs.RollTable.{which}
 use Rattle.dnssec_zone.specs.Wait.{LacksStamp}
-use Rattle.dnssec_keyset.proofs.WaitReplies.{ttl-shown, left-now}
+use Rattle.dnssec_keyset.proofs.Replies.{ttl-shown, left-now}
 use Rattle.dnssec_keyset.proofs.set.KeySet.check_wait.Goals as goal
 
 pub returns-then-now-end-clause-reply : goal.returns-then-now-end-clause-reply

@@ -1,6 +1,5 @@
 -- The end of a roll takes it out, and nothing else.
-use Rattle.std.proofs.Common.{refl, ap, sym}
-use Rattle.std.proofs.lemmas.Iterator.Adapters.{option_map_id}
+use Rattle.std.proofs.{Common.refl, Common.ap, Common.sym, lemmas.Iterator.Adapters.option_map_id}
 use Rattle.dnssec_keyset.proofs.Allowed.{accepted-step, cleared}
 use Rattle.dnssec_keyset.specs.{Step.Actions, Step.RollDone, contracts.set.KeySet.the_view}
 use Rattle.dnssec_keyset.proofs.set.KeySet.roll_done.Goals as goal

@@ -3,8 +3,8 @@ use Rattle.std.proofs.Common.{◌≡◌, false, None, Some, string_bytes, rules,
 use Rattle.std.specs.FinMap.{get}
 use Rattle.dnssec_key.specs.Inner.TagIndex.{has}
 use Rattle.dnssec_zone.specs.Keys.{keys_in_map, has_tag}
-use Rattle.dnssec_zone.proofs.{Counted.Kept.counts-added, Counted.Kept.fits-shown, Shown.shown}
-use Rattle.dnssec_zone.proofs.{Shown.get-updated, Tags.TagsAgree-added}
+use Rattle.dnssec_zone.proofs.{Counted.counts-added, Counted.fits-shown, Walks.shown}
+use Rattle.dnssec_zone.proofs.{Walks.get-updated, Tags.TagsAgree-added}
 use Rattle.dnssec_zone.proofs.keys.Keys.add.Goals as goal
 
 pub invariant_of-self-2 : goal.invariant_of-self-2

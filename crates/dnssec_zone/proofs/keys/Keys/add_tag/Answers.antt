@@ -1,7 +1,7 @@
 -- The tag of a key comes into the set with it.
 use Rattle.std.proofs.Common.{◌≡◌, None, Some, rules}
 use Rattle.std.specs.FinMap.{get}
-use Rattle.dnssec_zone.proofs.Entries.{listed-none, listed-put}
+use Rattle.dnssec_zone.proofs.Marks.{listed-none, listed-put}
 use Rattle.dnssec_zone.proofs.keys.Keys.add_tag.Goals as goal
 
 pub returns-in_default-clause-listed : goal.returns-in_default-clause-listed
@@ -12,5 +12,5 @@ returns-in_default-clause-listed c =
 pub returns-in-Some-clause-listed : goal.returns-in-Some-clause-listed
 returns-in-Some-clause-listed c =
     let found : get c.args.self.now c.args.reference.now ≡ Some c.in-Some.key.now = search rules in
-    listed-put c.args.self.now c.tags_differ.ensures c.args.tags.now _ c.args.reference.now
+    listed-put c.args.self.now c.get.ensures.apart c.args.tags.now _ c.args.reference.now
     c.in-Some.key.now found (λ t. search rules)

@@ -1,9 +1,8 @@
 -- Each turn counts one more of the listed keys, if it serves and stood nowhere before.
 use Rattle.std.proofs.Common.{◌≡◌, ◌+◌, refl, rules, arith, sym, ap, ◌∙◌, take}
-use Rattle.dnssec_zone.specs.Inner.Counts.{bit}
-use Rattle.dnssec_zone.specs.Start.{serves_as_kept, texts, is_listed}
-use Rattle.dnssec_zone.proofs.Counted.Lists.{count-listed, none_listed}
-use Rattle.dnssec_zone.proofs.{Entries.first-listed, Entries.low, Marks.listed_more}
+use Rattle.dnssec_zone.specs.{Inner.Counts.bit, Start.serves_as_kept, Start.texts, Start.is_listed}
+use Rattle.dnssec_zone.proofs.Counted.{count-listed, none_listed}
+use Rattle.dnssec_zone.proofs.Marks.{first-listed, listed_more}
 use Rattle.dnssec_zone.proofs.keys.Keys.count_many_listed.Goals.{then-serves_first}
 use Rattle.dnssec_zone.proofs.keys.Keys.count_many_listed.Goals.{else-serves_first}
 use Rattle.dnssec_key.proofs.BitWords.{zeros}
@@ -28,8 +27,7 @@ loop-reference-preserved c =
       | then-serves_first w ↦ omega (arith, w.count-is, ap bit w.if-serves_first.true)
       | else-serves_first w ↦ omega (arith, w.count-is, ap bit w.if-serves_first.false)
     ] in (
-      low l.count c.if-serves_first.count l.reference-index c.serves_first.result l.invariant.0
-          more,
+      grind (arith, l.invariant.0, more),
       more ∙ (λ j. l.invariant.1 j + bit (first j)) ∙ sym (count-listed p _ _ _ c.args.self.now
           (λ q. listed_more c.args.old.now l.reference-index _ q
           c.loop-reference-test.true)),

@@ -1,12 +1,12 @@
 -- The key's tag leaves the index with it; a stale key was in no count, and in no wait.
 use Rattle.std.proofs.Common.{◌≡◌, true, None, Some, rules, ap, ◌∙◌}
-use Rattle.std.{specs.FinMap.get, proofs.lemmas.Map.Text.hash_map_updates_text}
+use Rattle.std.proofs.lemmas.Map.Text.{hash_map_updates_text}
+use Rattle.std.specs.FinMap.{get}
 use Rattle.dnssec_key.specs.{Inner.TagIndex.has, State.is_stale, Key.all_states}
-use Rattle.dnssec_zone.specs.Inner.Counts.{bit, passes, share}
+use Rattle.dnssec_zone.specs.{Inner.Counts.bit, Inner.Counts.passes, Inner.Counts.share}
 use Rattle.dnssec_zone.specs.{Keys.keys_in_map, Start.serves_as_kept}
-use Rattle.dnssec_zone.proofs.{Reported.known-removed, Counted.Kept.counts-alike}
-use Rattle.dnssec_zone.proofs.{Counted.Kept.stale-serves, Shown.shown, Shown.get-updated}
-use Rattle.dnssec_zone.proofs.Tags.{TagsAgree-removed}
+use Rattle.dnssec_zone.proofs.{Longest.known-removed, Counted.counts-alike, Counted.stale-serves}
+use Rattle.dnssec_zone.proofs.{Walks.shown, Walks.get-updated, Tags.TagsAgree-removed}
 use Rattle.dnssec_zone.proofs.keys.Keys.delete.Goals as goal
 
 pub invariant_of-self : goal.invariant_of-self

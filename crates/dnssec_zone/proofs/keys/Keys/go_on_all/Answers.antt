@@ -1,8 +1,8 @@
 -- The walk moves each key as an accepted wait does; if that may change a count, all are counted.
 use Rattle.std.proofs.{Common.refl, Common.rules, lemmas.Map.Made.map_same_pairs}
 use Rattle.dnssec_key.specs.RollTable.{which, after_wait}
-use Rattle.dnssec_zone.proofs.{Counted.Kept.counts-waited, Shown.IsWalked, Shown.get-walked}
-use Rattle.dnssec_zone.proofs.Tags.{tags-walked}
+use Rattle.dnssec_zone.proofs.{Counted.counts-waited, Walks.IsWalked, Walks.get-walked}
+use Rattle.dnssec_zone.proofs.{Tags.tags-walked}
 use Rattle.dnssec_zone.proofs.keys.Keys.go_on_all.Goals as goal
 
 walk : (c : goal.After-go_on) → IsWalked (after_wait c.args.roll (which c.args.half) c.args.now)

@@ -1,7 +1,8 @@
 -- No keys: no tags, and nothing to count.
 use Rattle.std.proofs.Common.{◌≡◌, None, Some, rules, sym, ◌∙◌}
 use Rattle.std.specs.FinMap.{get}
-use Rattle.dnssec_zone.{specs.Keys.keys_in_map, proofs.Counted.Kept.counts-none, proofs.Shown.shown}
+use Rattle.dnssec_zone.specs.Keys.{keys_in_map}
+use Rattle.dnssec_zone.proofs.{Counted.counts-none, Walks.shown}
 use Rattle.dnssec_zone.proofs.keys.Keys.new.Goals as goal
 
 pub invariant_of-result : goal.invariant_of-result

@@ -2,8 +2,8 @@
 -- out about the wait.
 use Rattle.std.proofs.{Common.refl, Common.rules, lemmas.Map.Made.map_same_pairs}
 use Rattle.dnssec_key.specs.RollTable.{which, after_report}
-use Rattle.dnssec_zone.proofs.{Counted.Kept.counts-kept, Shown.IsWalked, Shown.get-walked}
-use Rattle.dnssec_zone.proofs.Tags.{tags-walked}
+use Rattle.dnssec_zone.proofs.{Counted.counts-kept, Walks.IsWalked, Walks.get-walked}
+use Rattle.dnssec_zone.proofs.{Tags.tags-walked}
 use Rattle.dnssec_zone.proofs.keys.Keys.report_all.Goals as goal
 
 walk : (c : goal.After-report) → IsWalked (after_report c.args.roll (which c.args.half) c.args.now)

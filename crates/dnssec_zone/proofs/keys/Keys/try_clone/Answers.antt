@@ -1,7 +1,8 @@
 -- A copy of the map shows the same keys, and what is derived of them is the same.
 use Rattle.std.proofs.Common.{◌≡◌, ap, ◌∙◌}
 use Rattle.std.specs.FinMap.{from_entries}
-use Rattle.dnssec_zone.{specs.Keys.keys_in_map, proofs.Shown.entries_by_bytes-clones}
+use Rattle.dnssec_zone.specs.Keys.{keys_in_map}
+use Rattle.dnssec_zone.proofs.Walks.{entries_by_bytes-clones}
 use Rattle.dnssec_zone.proofs.keys.Keys.try_clone.Goals as goal
 
 pub returns-clause-same : goal.returns-clause-same

@@ -1,7 +1,7 @@
 -- The walk undoes the start on each key that is listed; all are counted again.
 use Rattle.std.proofs.{Common.rules, lemmas.Map.Made.map_same_pairs}
 use Rattle.dnssec_key.specs.{RollTable.after_early_end, Inner.Bits.is_set}
-use Rattle.dnssec_zone.proofs.Shown.{IsWalked, get-walked}
+use Rattle.dnssec_zone.proofs.Walks.{IsWalked, get-walked}
 use Rattle.dnssec_zone.proofs.Tags.{tags-walked, kept_unmarked}
 use Rattle.dnssec_zone.proofs.keys.Keys.unmark.Goals as goal
 
