@@ -8,10 +8,9 @@
 -- | `run`, `sides`            | `leaves-others`               | the key set's Sides          |
 -- | `run`, `exchange`         | `exchange`                    | the key set's Exchange       |
 -- | `Recorder::new`           | `agrees-new`, `published-new` | Next                         |
--- | `Recorder::advance`, `ok` | `entry-of`, `world_more`      | Next, Grow                   |
--- | `advance`, both           | `agrees-accepted`             | Next; the key set's After    |
+-- | `Recorder::advance`, `ok` | `records-more`                | Next; the key set's After    |
 -- | `read_sets`, `ok`         | `reads-all`                   | Positions                    |
--- | `advance`, `leaves`       | `leaves`                      | Asked                        |
+-- | `Recorder::advance`, `ok` | `leaves`                      | Asked                        |
 -- | `renew_key`, `read`       | `renewed`                     | OneKey                       |
 -- | `starts_suffice`          | `starts-suffice`              | Starts                       |
 -- | `whole_runs_stay_safe`    | `chain-holds`, `each-holds`   | Chain                        |

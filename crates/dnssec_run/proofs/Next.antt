@@ -1,6 +1,7 @@
 -- The positions that the recorder keeps go along with each call.
 use Rattle.std.proofs.Common.{◌≡◌, ℕ, true, false, cond, List, Some, refl, sym, ap, ◌∙◌, ◌∷◌, subst}
-use Rattle.std.proofs.Common.{map, [], string_bytes, Global, arith}
+use Rattle.std.proofs.Common.{map, [], ◌++◌, string_bytes, Global, arith, suc, length}
+use Rattle.std.proofs.Common.{length-append}
 use Rattle.std.specs.{Prelude.Option, Prelude.if◌then◌else◌, Option.option_map, Str.bytes_eq}
 use Rattle.std.specs.{FinMap.get, FinMap.get-empty, BTreeMap.BTreeMap, Map.lookup, List.AllZip}
 use Rattle.std.specs.{Ordering.nat_cmp, Ordering.is_eq, Cmp.Lexicographic.slice_cmp}
@@ -14,11 +15,13 @@ use Rattle.dnssec_run.specs.declared.record.{Published.Published, Reply.Reply}
 use Rattle.dnssec_run.specs.declared.record.{Reply.TheVariants.Refused, Mark.TheVariants.Other}
 use Rattle.dnssec_run.specs.Published.{IsPublished, World, id_of, in_ds, in_dnskey, signs_dnskey}
 use Rattle.dnssec_run.specs.Published.{signs_zone}
-use Rattle.dnssec_run.specs.Record.{call_of, reply_of, is_accepted, mark_of, mark_after, IsEntry}
-use Rattle.dnssec_run.specs.Record.{reference_added, with_added, world_after, new_world}
-use Rattle.dnssec_run.specs.Recorder.{Agrees, HasSameKeys, IsOutcome, TellsOutcome, positions_after}
-use Rattle.dnssec_run.specs.Recorder.{ChangesOnly, reference_deleted, reference_set}
-use Rattle.dnssec_run.proofs.{Effects.looked-up, Positions.shown-none}
+use Rattle.dnssec_run.specs.Record.{call_moment, call_of, reply_of, is_accepted, mark_of, world_at}
+use Rattle.dnssec_run.specs.Record.{mark_after, reference_added, with_added, world_after, new_world}
+use Rattle.dnssec_run.specs.Recorder.{Agrees, ChangesOnly, HasSameKeys, Records, TellsOutcome}
+use Rattle.dnssec_run.specs.Recorder.{positions_after, reference_deleted, reference_set}
+use Rattle.dnssec_run.specs.declared.running.Recorder.{Recorder}
+use Rattle.dnssec_run.proofs.{Effects.looked-up, Grow.run_more, Grow.world_more}
+use Rattle.dnssec_run.proofs.Positions.{shown-none}
 use Rattle.std.specs.BTreeMap as tree
 use Rattle.dnssec_keyset.specs.Step as keyset
 
@@ -49,6 +52,11 @@ pub agrees-refused : (n : ℕ) (w : World) (old new : KeySetParts) (at : List �
 agrees-refused n w old new at call (Refused cause) ok agrees step =
     record { same = step ∙ agrees.same; positions = agrees.positions }
 agrees-refused n w old new at call _ ok agrees step = cc
+
+pub published-refused : (n : ℕ) (w : World) (sets : Published) (call : Call) (reply : Reply)
+    → is_accepted reply ≡ false → IsPublished sets w → IsPublished sets (world_after n w call reply)
+published-refused n w sets call (Refused cause) ok shown = shown
+published-refused n w sets call _ ok shown = cc
 
 -- the mark of a call that was accepted, and of one that wasn't
 pub mark-accepted : (call : Call) (reply : Reply) → is_accepted reply ≡ true → mark_of call
@@ -117,17 +125,39 @@ published-same one other w same shown = record {
   zone_signers = same.zone_signers ∙ shown.zone_signers;
 }
 
--- the entry of an outcome, with the sets that are published then
-pub entry-of : (w v : World) (call : Call) (outcome : Outcome) (entry : Entry) (sets : Published)
-    → IsOutcome w v call outcome → TellsOutcome entry outcome → HasSameKeys entry.published sets
-    → IsPublished sets v → IsEntry w v call entry
-entry-of w v call outcome entry sets is tells same shown = record {
-  step = subst (λ (r : Reply). keyset.Step w.set (call_of call) (reply_of r) v.set)
-      (sym tells.reply) is.step;
-  mark = tells.mark ∙ is.mark ∙ ap (mark_after call) (sym tells.reply);
-  moment = tells.moment ∙ is.moment;
-  published = published-same entry.published sets v same shown;
-}
+-- a recorder that made one more call has its entry too
+pub records-more : (name : List ℕ) (calls : List Call) (entries : List Entry) (r s : Recorder)
+    (x : Call) (o : Outcome) (e : Entry) → Records name calls entries r → TellsOutcome e o
+    → HasSameKeys e.published s.published → s.at ≡ suc r.at
+    → keyset.Step r.keyset (call_of x) (reply_of o.reply) s.keyset → o.mark ≡ mark_after x o.reply
+    → o.moment ≡ call_moment x → Agrees s.keyset (tree.get_by_text s.added)
+    (world_after s.at (world_at name calls entries (length calls)) x o.reply)
+    → IsPublished s.published
+    (world_after s.at (world_at name calls entries (length calls)) x o.reply)
+    → Records name (calls ++ x ∷ []) (entries ++ e ∷ []) s
+records-more name calls entries r s x o e so tells same at step mark moment agrees shown =
+    let here : s.at ≡ suc (length calls) = omega (arith, at, so.at, so.run.count) in
+    let before = world_at name calls entries (length calls) in
+    let next : world_after s.at before x o.reply
+    ≡ world_after (suc (length calls)) before x e.reply =
+    (λ i. world_after (here i) before x (sym tells.reply i)) in
+    let count : length (calls ++ x ∷ []) ≡ suc (length calls) =
+    let l = length-append calls (x ∷ []) in omega arith in
+    let ends = next ∙ sym (world_more name calls entries x e so.run.count)
+    ∙ ap (world_at name (calls ++ x ∷ []) (entries ++ e ∷ [])) (sym count) in
+    record {
+      run = run_more name calls entries x e _ so.run next (record {
+        step = subst (λ (t : KeySetParts × KeySetParts × Reply).
+            keyset.Step t.0 (call_of x) (reply_of t.2) t.1)
+            (λ i. (so.agrees.same i, agrees.same i, sym tells.reply i)) step;
+        mark = tells.mark ∙ mark ∙ ap (mark_after x) (sym tells.reply);
+        moment = tells.moment ∙ moment;
+        published = published-same e.published s.published _ same shown;
+      });
+      at = let l = length-append entries (e ∷ []) in omega (arith, here, so.run.count);
+      agrees = rw (← ends) agrees;
+      published = rw (← ends) shown;
+    }
 
 -- before the first call nothing is published
 pub published-new : (name : List ℕ) (sets : Published) → sets.ds.items ≡ [] → sets.dnskey.items ≡ []

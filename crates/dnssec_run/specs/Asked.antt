@@ -55,13 +55,6 @@ report_of Ds = ReportDsPropagated
 report_of Dnskey = ReportDnskeyPropagated
 report_of ZoneSigners = ReportRrsigPropagated
 
--- the action asks to report the sets of this kind
-abbrev pub asks_to_report : SetKind → Action → Bool
-asks_to_report Ds ReportDsPropagated = true
-asks_to_report Dnskey ReportDnskeyPropagated = true
-asks_to_report ZoneSigners ReportRrsigPropagated = true
-asks_to_report _ _ = false
-
 -- ---- what changes
 
 -- a call that sets a flag by hand

@@ -1,8 +1,7 @@
 -- What the recorder of a run keeps besides the key set.
 use denote.Ref.{Bor}
 use Rattle.std.specs.Prelude.{◌≡◌, ℕ, Bool, false, T, List, [], ◌∷◌, length, map, filter, take}
-use Rattle.std.specs.Prelude.{Option, None, Some}
-use Rattle.std.specs.Prelude.{if◌then◌else◌, string_bytes}
+use Rattle.std.specs.Prelude.{Option, None, Some, if◌then◌else◌, string_bytes}
 use Rattle.std.specs.Option.{option_map, option_map_or}
 use Rattle.std.specs.List.{All}
 use Rattle.std.specs.Str.{bytes_eq}
@@ -17,18 +16,19 @@ use Rattle.dnssec_key.specs.Key.{KeyParts}
 use Rattle.dnssec_keyset.specs.KeySet.{KeySetParts}
 use Rattle.dnssec_keyset.specs.Step as keyset
 use Rattle.dnssec_run.specs.declared.call.Call.{Call}
+use Rattle.dnssec_run.specs.declared.call.KeyChange.{KeyChange}
+use Rattle.dnssec_run.specs.declared.call.KeyChange.TheVariants.{Adds, Deletes}
 use Rattle.dnssec_run.specs.declared.record.Entry.{Entry}
 use Rattle.dnssec_run.specs.declared.record.Outcome.{Outcome}
 use Rattle.dnssec_run.specs.declared.record.Published.{Published}
 use Rattle.dnssec_run.specs.declared.record.Touched.{Touched}
-use Rattle.dnssec_run.specs.declared.renewal.Renewal.{Renewal}
+use Rattle.dnssec_run.specs.declared.sets.Renewal.{Renewal}
 use Rattle.dnssec_run.specs.declared.running.Recorder.{Recorder}
 use Rattle.dnssec_run.specs.declared.sets.Shown.{Shown}
-use Rattle.dnssec_run.specs.declared.sets.Shown.TheVariants.{Ds, Dnskey, DnskeySigners}
-use Rattle.dnssec_run.specs.declared.sets.Shown.TheVariants.{ZoneSigners}
+use Rattle.dnssec_run.specs.declared.sets.Shown.TheVariants.{Ds, Dnskey, DnskeySigners, ZoneSigners}
 use Rattle.dnssec_run.specs.Published.{Id, IsPublished, World, id_of, in_ds, in_dnskey, keys_where}
 use Rattle.dnssec_run.specs.Published.{signs_dnskey, signs_zone}
-use Rattle.dnssec_run.specs.Record.{IsRun, call_of, mark_after, call_moment, reply_of, world_at}
+use Rattle.dnssec_run.specs.Record.{IsRun, world_at}
 
 -- the keys that a set shows
 abbrev pub shows : Shown → KeyType → Bool
@@ -46,6 +46,15 @@ reference_deleted _ = None
 abbrev pub reference_set : keyset.Call → Option (List ℕ)
 reference_set (keyset.Set reference setting) = Some reference
 reference_set _ = None
+
+-- the reference of the key that is put in or taken out, if any
+abbrev pub put_by : KeyChange → Option (List ℕ)
+put_by (Adds reference) = Some (string_bytes reference)
+put_by _ = None
+
+abbrev pub taken_by : KeyChange → Option (List ℕ)
+taken_by (Deletes reference) = Some reference.now
+taken_by _ = None
 
 -- the positions of the keys that are there, after one is put in or taken out
 abbrev pub positions_after : ℕ → Option (List ℕ) → Option (List ℕ) → (List ℕ → Option ℕ) → List ℕ
@@ -145,12 +154,6 @@ pub record TellsOutcome (entry : Entry) (outcome : Outcome) : Type 0 where
   pub reply : entry.reply ≡ outcome.reply
   pub mark : entry.mark ≡ outcome.mark
   pub moment : entry.moment ≡ outcome.moment
-
--- an outcome is that of a call that goes from w to v
-pub record IsOutcome (w v : World) (call : Call) (outcome : Outcome) : Type 0 where
-  pub step : keyset.Step w.set (call_of call) (reply_of outcome.reply) v.set
-  pub mark : outcome.mark ≡ mark_after call outcome.reply
-  pub moment : outcome.moment ≡ call_moment call
 
 -- the entries are the record of the calls so far on a new key set of this name, and the recorder
 -- stands after the last of them

@@ -3,7 +3,7 @@ use Rattle.std.specs.Prelude.{◌≡◌, ℕ, suc, List, length, Option, None, g
 use Rattle.dnssec_key.specs.declared.roll.RollType.{RollType}
 use Rattle.dnssec_zone.specs.Rolls.{roll_number}
 use Rattle.dnssec_run.specs.declared.record.Entry.{Entry}
-use Rattle.dnssec_run.specs.declared.steps.Steps.{Steps}
+use Rattle.dnssec_run.specs.declared.record.Steps.{Steps}
 use Rattle.dnssec_run.specs.Safe.{base_below}
 
 -- the position of the last step of a roll

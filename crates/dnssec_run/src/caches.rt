@@ -1,7 +1,6 @@
 //! What caches hold of a record, and what a report retires of it.
 ghost use Rattle.std.specs.Prelude.{◌≡◌};
-ghost use Rattle.std.specs.List.{list_any};
-ghost use Rattle.dnssec_run.specs.Asked.{asks_to_report};
+ghost use Rattle.dnssec_run.specs.Asked.{report_of};
 ghost use Rattle.dnssec_run.specs.Safe.{kind_of, retires};
 
 use dnssec_keyset::{Action, RollState, RollType};
@@ -29,28 +28,21 @@ pub enum SetKind {
 pub fn retires(roll: RollType, second: bool, kind: SetKind) -> bool
     ensures { result ≡ retires roll second (kind_of kind) }
 {
+    let report = report_of(kind);
     if second {
-        ask_to_report(roll.actions_in(RollState::Propagation2), kind)
+        roll.actions_in(RollState::Propagation2).contains(&report)
     } else {
-        ask_to_report(roll.actions_in(RollState::Propagation1), kind)
+        roll.actions_in(RollState::Propagation1).contains(&report)
     }
 }
 
-/// Whether some action asks to report the sets of this kind.
-fn ask_to_report(actions: &[Action], kind: SetKind) -> bool
-    ensures { result ≡ list_any (asks_to_report (kind_of kind)) actions.now }
+/// The action that asks to report the sets of this kind.
+fn report_of(kind: SetKind) -> Action
+    ensures { result ≡ report_of (kind_of kind) }
 {
-    actions.iter().any(|action| asks_to_report(*action, kind))
-}
-
-/// Whether an action asks to report the sets of this kind.
-fn asks_to_report(action: Action, kind: SetKind) -> bool
-    ensures { result ≡ asks_to_report (kind_of kind) action }
-{
-    matches!(
-        (kind, action),
-        (SetKind::Ds, Action::ReportDsPropagated)
-            | (SetKind::Dnskey, Action::ReportDnskeyPropagated)
-            | (SetKind::ZoneSigners, Action::ReportRrsigPropagated)
-    )
+    match kind {
+        SetKind::Ds => Action::ReportDsPropagated,
+        SetKind::Dnskey => Action::ReportDnskeyPropagated,
+        SetKind::ZoneSigners => Action::ReportRrsigPropagated,
+    }
 }

@@ -1,15 +1,14 @@
 //! Calls as values.
-ghost use Rattle.std.specs.Prelude.{◌≡◌};
+ghost use Rattle.std.specs.Prelude.{◌≡◌, IfOk, IfErr};
 ghost use Rattle.std.specs.Option.{option_map};
+ghost use Rattle.dnssec_base.specs.declared.error.Error.TheVariants.{OutOfMemory};
 ghost use Rattle.dnssec_keyset.specs.Step.{Step, reply_done, reply_list};
 ghost use Rattle.dnssec_run.specs.Asked.{sets_shown};
-ghost use Rattle.dnssec_run.specs.Safe.{kind_of};
-ghost use Rattle.dnssec_run.specs.Recorder.{reference_deleted, reference_set};
-ghost use Rattle.dnssec_run.specs.Record.{call_of, mark_of, call_moment, reference_added};
-ghost use Rattle.dnssec_run.specs.Record.{reply_of};
+ghost use Rattle.dnssec_run.specs.Safe.{Ds, Dnskey, ZoneSigners};
+ghost use Rattle.dnssec_run.specs.Recorder.{put_by, reference_deleted, reference_set, taken_by};
+ghost use Rattle.dnssec_run.specs.Record.{call_of, mark_of, call_moment, reference_added, reply_of};
 
-use crate::caches::SetKind;
-use crate::record::{Mark, Reply};
+use crate::record::{Mark, Reply, Touched};
 use dnssec_base::SecurityAlgorithm;
 use dnssec_keyset::{Action, Available, Error, KeySet, RollType, UnixTime};
 
@@ -116,6 +115,17 @@ pub enum Call<'a> {
     },
 }
 
+/// Which key a call adds or deletes, once it is accepted.
+#[derive(Drop)]
+pub(crate) enum KeyChange<'a> {
+    /// It adds the key with this reference.
+    Adds(String),
+    /// It deletes the key with this reference.
+    Deletes(&'a str),
+    /// It neither adds nor deletes a key.
+    Nothing,
+}
+
 impl<'a> Call<'a> {
     /// The moment that the call is given as `now`, if any.
     pub(crate) fn moment(&self) -> Option<UnixTime>
@@ -154,56 +164,55 @@ impl<'a> Call<'a> {
         }
     }
 
-    /// The reference of the key that the call adds, if any.
-    pub(crate) fn reference_added(&self) -> Option<&str>
-        ensures { option_map (λ r. r.now) result ≡ reference_added (call_of self.now) }
+    /// Which key the call adds or deletes, if any.
+    pub(crate) fn key_change(&self) -> Result<KeyChange<'a>, Error>
+        ensures put { IfOk result (λ change. put_by change ≡ reference_added (call_of self.now)) }
+        ensures taken { IfOk result (λ change. taken_by change
+            ≡ reference_deleted (call_of self.now)) }
+        ensures err { IfErr result (λ e. e ≡ OutOfMemory) }
     {
         match self {
             Call::AddKeyKsk { pubref, .. }
             | Call::AddKeyZsk { pubref, .. }
             | Call::AddKeyCsk { pubref, .. }
-            | Call::AddPublicKey { pubref, .. } => Some(pubref.as_str()),
-            _ => None,
+            | Call::AddPublicKey { pubref, .. } => Ok(KeyChange::Adds(pubref.clone()?)),
+            Call::DeleteKey { pubref } => Ok(KeyChange::Deletes(pubref)),
+            _ => Ok(KeyChange::Nothing),
         }
     }
 
-    /// The reference of the key that the call deletes, if any.
-    pub(crate) fn reference_deleted(&self) -> Option<&'a str>
-        ensures { option_map (λ r. r.now) result ≡ reference_deleted (call_of self.now) }
+    /// What the call sets by hand: a key, and the kinds of sets that show what it sets.
+    pub(crate) fn by_hand(&self) -> Touched<'a>
+        ensures ds { result.ds ≡ sets_shown Ds (call_of self.now) }
+        ensures dnskey { result.dnskey ≡ sets_shown Dnskey (call_of self.now) }
+        ensures zone_signers { result.zone_signers ≡ sets_shown ZoneSigners (call_of self.now) }
+        ensures only { option_map (λ r. r.now) result.only ≡ reference_set (call_of self.now) }
     {
         match self {
-            Call::DeleteKey { pubref } => Some(*pubref),
-            _ => None,
-        }
-    }
-
-    /// The reference of the key that the call sets by hand, if any.
-    pub(crate) fn reference_set(&self) -> Option<&'a str>
-        ensures { option_map (λ r. r.now) result ≡ reference_set (call_of self.now) }
-    {
-        match self {
+            Call::SetPresent { pubref, .. } => Touched {
+                dnskey: true,
+                ..Touched::key(pubref)
+            },
+            Call::SetSigner { pubref, .. } => Touched {
+                dnskey: true,
+                zone_signers: true,
+                ..Touched::key(pubref)
+            },
+            Call::SetAtParent { pubref, .. } => Touched {
+                ds: true,
+                ..Touched::key(pubref)
+            },
+            Call::SetStale { pubref } => Touched {
+                ds: true,
+                dnskey: true,
+                zone_signers: true,
+                ..Touched::key(pubref)
+            },
             Call::SetDecoupled { pubref, .. }
-            | Call::SetPresent { pubref, .. }
-            | Call::SetSigner { pubref, .. }
-            | Call::SetAtParent { pubref, .. }
-            | Call::SetStale { pubref }
             | Call::SetVisible { pubref, .. }
             | Call::SetDsVisible { pubref, .. }
-            | Call::SetRrsigVisible { pubref, .. } => Some(*pubref),
-            _ => None,
-        }
-    }
-
-    /// Whether the call sets a flag by hand that the sets of this kind show.
-    pub(crate) fn sets_shown(&self, kind: SetKind) -> bool
-        ensures { result ≡ sets_shown (kind_of kind) (call_of self.now) }
-    {
-        match (self, kind) {
-            (Call::SetPresent { .. }, SetKind::Dnskey)
-            | (Call::SetSigner { .. }, SetKind::Dnskey | SetKind::ZoneSigners)
-            | (Call::SetAtParent { .. }, SetKind::Ds)
-            | (Call::SetStale { .. }, _) => true,
-            _ => false,
+            | Call::SetRrsigVisible { pubref, .. } => Touched::key(pubref),
+            _ => Touched::NOTHING,
         }
     }
 

@@ -9,15 +9,12 @@ mod call;
 mod places;
 mod plain;
 mod record;
-mod renewal;
 mod running;
 mod sets;
-mod steps;
 
 pub use caches::{SetKind, retires};
 pub use call::Call;
 pub use plain::{each_chain_is_one, starts_suffice, whole_runs_stay_safe};
-pub use record::{Entry, Mark, Outcome, Published, PublishedKey, Reply, Run};
+pub use record::{Entry, Mark, Outcome, Published, PublishedKey, Reply, Run, Steps};
 pub use running::{Recorder, run};
 pub use sets::Shown;
-pub use steps::Steps;

@@ -19,11 +19,11 @@ pub(crate) fn renew_key(
     keyset: &KeySet,
     added: &BTreeMap<String, usize>,
     sets: &mut Published,
-    touched: Touched,
+    touched: Touched<'_>,
     reference: &str,
 ) -> Result<bool, Error>
     ensures kept { IfOk result (λ changed. changed ≡ false → sets.new ≡ sets.old) }
-    ensures read { OnOk result ((v w : World) → IsPublished sets.old v → Leaves touched v w →
+    ensures read { OnOk result ((v w : World) → IsPublished sets.old v → Leaves touched.entry v w →
         ChangesAt reference.now v w → Agrees keyset.now (tree.get_by_text added.now) w →
         IsPublished sets.new w) }
     ensures err { IfErr result (λ e. e ≡ OutOfMemory) }
@@ -40,13 +40,7 @@ pub(crate) fn renew_key(
     let to = position(Shown::ZoneSigners, key, at);
     let keys = &mut sets.zone_signers;
     let zone = renew_place(alloc, touched.zone_signers, keys, to, reference)?;
-    Ok(is_any(ds, dnskey, signers, zone))
-}
-
-fn is_any(ds: bool, dnskey: bool, signers: bool, zone: bool) -> bool
-    ensures { result ≡ (ds || dnskey || signers || zone) }
-{
-    ds || dnskey || signers || zone
+    Ok(ds | dnskey | signers | zone)
 }
 
 /// The position of a key, if the set shows it.

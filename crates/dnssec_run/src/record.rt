@@ -1,11 +1,12 @@
-//! What a run leaves: its entries, with what was published at each position.
-ghost use Rattle.std.specs.Prelude.{◌≡◌, ◌||◌, [], true, false};
+//! What a run leaves: its entries, with what was published at each position. And what is read off
+//! them: which sets a call has touched, and what each report counts from.
+ghost use Rattle.std.specs.Prelude.{◌≡◌, ◌||◌, [], None, Some, true, false, if◌then◌else◌};
 ghost use Rattle.std.specs.List.{list_any};
+ghost use Rattle.dnssec_key.specs.declared.roll.RollType.{RollType};
 ghost use Rattle.dnssec_run.specs.Asked.{asked_by, updates};
-ghost use Rattle.dnssec_run.specs.Safe.{kind_of};
-ghost use Rattle.dnssec_run.specs.Record.{is_accepted};
+ghost use Rattle.dnssec_run.specs.Safe.{Ds, Dnskey, ZoneSigners, is_step};
+ghost use Rattle.dnssec_run.specs.Steps.{AreStepsOf, step_of};
 
-use crate::caches::SetKind;
 use dnssec_keyset::{Action, Error, KeySet, RollType, UnixTime};
 use std::alloc::Global;
 
@@ -21,61 +22,57 @@ pub enum Reply {
 }
 
 impl Reply {
-    pub(crate) fn is_accepted(&self) -> bool
-        ensures { result ≡ is_accepted self.now }
+    /// What the call touched: what it set by hand, and the sets that its reply asks to publish.
+    pub(crate) fn touched<'a>(&self, by_hand: Touched<'a>) -> Touched<'a>
+        ensures ds { result.ds ≡ (by_hand.entry.ds || list_any (updates Ds) (asked_by self.now)) }
+        ensures dnskey { result.dnskey
+            ≡ (by_hand.entry.dnskey || list_any (updates Dnskey) (asked_by self.now)) }
+        ensures zone_signers { result.zone_signers
+            ≡ (by_hand.entry.zone_signers || list_any (updates ZoneSigners) (asked_by self.now)) }
+        ensures only { result.only ≡ by_hand.entry.only }
     {
         match self {
-            Reply::Done | Reply::Actions(_) => true,
-            Reply::Refused(_) => false,
-        }
-    }
-
-    /// Whether the call may have changed the sets of this kind: if it was accepted, and has set a
-    /// flag that they show, or asks to publish them.
-    pub(crate) fn touches(&self, kind: SetKind, by_hand: bool) -> bool
-        ensures { result ≡ false → is_accepted self.now ≡ true →
-            (by_hand ≡ false) × (list_any (updates (kind_of kind)) (asked_by self.now) ≡ false) }
-    {
-        match self {
-            Reply::Done => by_hand,
-            Reply::Actions(actions) => by_hand || ask_to_update(actions, kind),
-            Reply::Refused(_) => false,
+            Reply::Actions(actions) => Touched {
+                ds: by_hand.ds || actions.contains(&Action::UpdateDsRrset),
+                dnskey: by_hand.dnskey || actions.contains(&Action::UpdateDnskeyRrset),
+                zone_signers: by_hand.zone_signers || actions.contains(&Action::UpdateRrsig),
+                only: by_hand.only,
+            },
+            _ => by_hand,
         }
     }
 }
 
-fn ask_to_update(actions: &[Action], kind: SetKind) -> bool
-    ensures { result ≡ list_any (updates (kind_of kind)) actions.now }
-{
-    actions.iter().any(|action| updates(kind, *action))
-}
-
-/// Whether the action asks to publish the sets of this kind.
-fn updates(kind: SetKind, action: Action) -> bool
-    ensures { result ≡ updates (kind_of kind) action }
-{
-    match (kind, action) {
-        (SetKind::Ds, Action::UpdateDsRrset)
-        | (SetKind::Dnskey, Action::UpdateDnskeyRrset)
-        | (SetKind::ZoneSigners, Action::UpdateRrsig) => true,
-        _ => false,
-    }
-}
-
-/// The kinds of sets that a call may have changed.
+/// What a call touches: the kinds of sets that it may change.
 #[derive(Clone, Copy)]
-pub(crate) struct Touched {
+pub(crate) struct Touched<'a> {
     pub(crate) ds: bool,
     pub(crate) dnskey: bool,
     pub(crate) zone_signers: bool,
+    /// The reference of the one key that it changes there, if the call sets a key by hand.
+    pub(crate) only: Option<&'a str>,
 }
 
-impl Touched {
-    /// Whether there are any.
-    pub(crate) fn is_any(self) -> bool
-        ensures { result ≡ (self.ds || self.dnskey || self.zone_signers) }
+impl<'a> Touched<'a> {
+    /// The call sets nothing by hand.
+    pub(crate) const NOTHING: Touched<'static> = Touched {
+        ds: false,
+        dnskey: false,
+        zone_signers: false,
+        only: None,
+    };
+
+    /// The call sets this key by hand, in no flag that a set shows.
+    pub(crate) fn key(reference: &'a str) -> Self
+        ensures ds { result.ds ≡ false }
+        ensures dnskey { result.dnskey ≡ false }
+        ensures zone_signers { result.zone_signers ≡ false }
+        ensures only { result.only ≡ Some reference.entry }
     {
-        self.ds || self.dnskey || self.zone_signers
+        Touched {
+            only: Some(reference),
+            ..Touched::NOTHING
+        }
     }
 }
 
@@ -166,4 +163,58 @@ pub struct Outcome {
 pub struct Run {
     pub keyset: KeySet,
     pub entries: Vec<Entry>,
+}
+
+/// The last step of each roll so far, as its position: what the roll's next report counts from.
+///
+/// ```rust
+/// let outcome = recorder.advance(alloc, call)?;
+/// at += 1;
+/// steps = steps.after(outcome.mark, at);
+/// ```
+#[derive(Clone, Copy, Debug)]
+pub struct Steps {
+    /// One for each roll, in their order in `RollType`.
+    by_roll: [Option<usize>; 6],
+}
+
+impl Steps {
+    /// No roll has a step.
+    pub fn new() -> Self
+        ensures { (roll : RollType) → step_of result roll ≡ None }
+    {
+        Steps { by_roll: [None; 6] }
+    }
+
+    /// The last steps of a record.
+    pub fn of_record(entries: &[Entry]) -> Self
+        ensures { AreStepsOf entries.now result }
+    {
+        let mut steps = Steps::new();
+        for (index, entry) in entries.iter().enumerate() {
+            steps = steps.after(entry.mark, index + 1);
+        }
+        steps
+    }
+
+    /// The last step of the roll, if any: its last accepted start or first wait.
+    pub fn of(self, roll: RollType) -> Option<usize>
+        ensures { result ≡ step_of self roll }
+    {
+        self.by_roll[roll as usize]
+    }
+
+    /// The last steps after a call with this mark at the position.
+    pub fn after(mut self, mark: Mark, at: usize) -> Self
+        ensures { (roll : RollType) → step_of result roll
+            ≡ (if is_step roll mark then Some at else step_of self roll) }
+    {
+        match mark {
+            Mark::Step(roll) => {
+                self.by_roll[roll as usize] = Some(at);
+                self
+            }
+            _ => self,
+        }
+    }
 }

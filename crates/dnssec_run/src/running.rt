@@ -3,7 +3,7 @@ ghost use Rattle.std.specs.Prelude.{◌≡◌, ◌++◌, ◌∷◌, ℕ, List, [
 ghost use Rattle.std.specs.BTreeMap as tree;
 ghost use Rattle.std.specs.HashMap as hash;
 ghost use Rattle.std.specs.Option.{option_map};
-ghost use Rattle.std.specs.Prelude.{string_bytes, false, Some, None, if◌then◌else◌};
+ghost use Rattle.std.specs.Prelude.{false, Some, None, if◌then◌else◌};
 ghost use Rattle.dnssec_base.specs.declared.error.Error.TheVariants.{OutOfMemory};
 ghost use Rattle.dnssec_run.specs.Asked.{ChangesAsAsked, RetiresAsAsked};
 ghost use Rattle.dnssec_run.specs.EarlyEnds.{UndoesStarts};
@@ -11,113 +11,44 @@ ghost use Rattle.dnssec_run.specs.WholeRolls.{GoesOn, NeverMissesStamp, RollsFin
 ghost use Rattle.dnssec_run.specs.WholeRolls.{SettlesBetweenRolls, WaitsExactly};
 ghost use Rattle.dnssec_run.specs.Plain.{StaysSafe};
 ghost use Rattle.dnssec_run.specs.ByAlgorithm.{StaysSafeByEach};
-ghost use Rattle.dnssec_run.specs.Published.{World};
 ghost use Rattle.dnssec_run.specs.Record.{IsRun, KeepsSidesApart};
-ghost use Rattle.dnssec_run.specs.Record.{NeighboursMayBeExchanged, StaysSound, call_of};
-ghost use Rattle.dnssec_run.specs.Record.{reference_added, world_after, world_at};
-ghost use Rattle.dnssec_run.specs.Recorder.{Agrees, HasSameKeys, IsCopyOf, IsOutcome, Leaves};
-ghost use Rattle.dnssec_run.specs.Recorder.{Records};
-ghost use Rattle.dnssec_run.specs.Recorder.{TellsOutcome, positions_after};
+ghost use Rattle.dnssec_run.specs.Record.{NeighboursMayBeExchanged, StaysSound, world_at};
+ghost use Rattle.dnssec_run.specs.Recorder.{HasSameKeys, IsCopyOf, Records, TellsOutcome};
+ghost use Rattle.dnssec_run.specs.Recorder.{positions_after, put_by, taken_by};
 ghost use Rattle.dnssec_run.specs.declared.call.Call.{Call};
 ghost use Rattle.dnssec_run.specs.declared.record.Entry.{Entry};
 
-use crate::caches::SetKind;
-use crate::call::Call;
-use crate::record::{Entry, Mark, Outcome, Published, Run, Touched};
+use crate::call::{Call, KeyChange};
+use crate::record::{Entry, Mark, Outcome, Published, Reply, Run};
 use crate::sets::{WalkOrder, copy_sets, renew};
 use dnssec_base::Name;
 use dnssec_keyset::{Error, KeySet};
 use std::alloc::Global;
 use std::collections::BTreeMap;
 
-/// Notes the position of a key that was added, or that a key is gone.
+/// Notes the position of a key that was added, or that a key is gone. Says whether there was one.
 #[tactic(auto, using(std::proofs::lemmas::Map::Text::text_keys))]
 fn note(
     added: &mut BTreeMap<String, usize>,
-    put: Option<String>,
-    taken: Option<&str>,
+    change: KeyChange<'_>,
     at: usize,
-) -> Result<(), Error>
+) -> Result<bool, Error>
     ensures ok { OnOk result ((q : List ℕ) → tree.get_by_text added.new q
-        ≡ positions_after at (option_map string_bytes put) (option_map (λ r. r.now) taken.entry)
+        ≡ positions_after at (put_by change.entry) (taken_by change.entry)
         (tree.get_by_text added.old) q) }
     ensures err { IfErr result (λ e. e ≡ OutOfMemory) }
 {
-    match (put, taken) {
-        (Some(reference), _) => {
+    match change {
+        KeyChange::Adds(reference) => {
             added.insert(reference, at)?;
-            Ok(())
+            Ok(true)
         }
-        (None, Some(reference)) => {
+        KeyChange::Deletes(reference) => {
             added.remove(reference);
-            Ok(())
+            Ok(true)
         }
-        (None, None) => Ok(()),
+        KeyChange::Nothing => Ok(false),
     }
-}
-
-/// A copy of the reference of the key that a call adds, if any.
-fn clone_added(alloc: Global, call: &Call<'_>) -> Result<Option<String>, Error>
-    ensures ok { IfOk result (λ put. option_map string_bytes put ≡ reference_added
-        (call_of call.now)) }
-    ensures err { IfErr result (λ e. e ≡ OutOfMemory) }
-{
-    match call.reference_added() {
-        None => Ok(None),
-        Some(reference) => Ok(Some(String::from_str(alloc, reference)?)),
-    }
-}
-
-/// Makes the call that stands at a position, and notes its key if it adds or deletes one. Says what
-/// the call came to, and which sets it may have changed.
-// Inline, so that no call moves its outcome.
-#[inline(always)]
-fn advance(
-    alloc: Global,
-    keyset: &mut KeySet,
-    added: &mut BTreeMap<String, usize>,
-    call: Call<'_>,
-    at: usize,
-) -> Result<(Outcome, Touched), Error>
-    ensures outcome { IfOk result (λ made. (w : World) → Agrees keyset.old
-        (tree.get_by_text added.old) w →
-        IsOutcome w (world_after at w call.entry made.0.reply) call.entry made.0) }
-    ensures next { IfOk result (λ made. (w : World) → Agrees keyset.old
-        (tree.get_by_text added.old) w → Agrees keyset.new
-        (tree.get_by_text added.new) (world_after at w call.entry made.0.reply)) }
-    ensures leaves { IfOk result (λ made. (w : World) → Agrees keyset.old
-        (tree.get_by_text added.old) w →
-        Leaves made.1 w (world_after at w call.entry made.0.reply)) }
-    ensures err { IfErr result (λ e. e ≡ OutOfMemory) }
-{
-    let moment = call.moment();
-    let mark = call.mark();
-    let by_hand = Touched {
-        ds: call.sets_shown(SetKind::Ds),
-        dnskey: call.sets_shown(SetKind::Dnskey),
-        zone_signers: call.sets_shown(SetKind::ZoneSigners),
-    };
-    let put = clone_added(alloc, &call)?;
-    let taken = call.reference_deleted();
-    let reply = call.make(keyset);
-    let mark = if reply.is_accepted() {
-        note(added, put, taken, at)?;
-        mark
-    } else {
-        Mark::Other
-    };
-    let touched = Touched {
-        ds: reply.touches(SetKind::Ds, by_hand.ds),
-        dnskey: reply.touches(SetKind::Dnskey, by_hand.dnskey),
-        zone_signers: reply.touches(SetKind::ZoneSigners, by_hand.zone_signers),
-    };
-    let outcome = Outcome {
-        reply,
-        moment,
-        mark,
-        may_publish: false,
-    };
-    Ok((outcome, touched))
 }
 
 /// Makes calls one by one on a new key set, and says what each came to, as `run` records it.
@@ -184,22 +115,36 @@ impl Recorder {
         let Some(at) = self.at.checked_add(1) else {
             return Err(Error::OutOfMemory);
         };
-        let set_by_hand = call.reference_set();
-        let moves = call.reference_added().is_some() || call.reference_deleted().is_some();
-        self.order.is_stale |= moves;
-        let made = advance(alloc, &mut self.keyset, &mut self.added, call, at)?;
-        let (mut outcome, touched) = made;
-        outcome.may_publish = renew(
+        let moment = call.moment();
+        let mark = call.mark();
+        let by_hand = call.by_hand();
+        let change = call.key_change()?;
+        let reply = call.make(&mut self.keyset);
+        self.at = at;
+        if let Reply::Refused(_) = &reply {
+            return Ok(Outcome {
+                reply,
+                moment,
+                mark: Mark::Other,
+                may_publish: false,
+            });
+        }
+        self.order.is_stale |= note(&mut self.added, change, at)?;
+        let touched = reply.touched(by_hand);
+        let may_publish = renew(
             alloc,
             &self.keyset,
             &self.added,
             &mut self.order,
             &mut self.published,
             touched,
-            set_by_hand,
         )?;
-        self.at = at;
-        Ok(outcome)
+        Ok(Outcome {
+            reply,
+            moment,
+            mark,
+            may_publish,
+        })
     }
 
     /// Makes the next call, and answers its entry, as a record has it.

@@ -1,17 +1,16 @@
 //! What is published of a key set, read in the order of its references.
-ghost use Rattle.std.specs.Prelude.{◌≡◌, ◌++◌, [], map, IfOk, IfErr, IfSome, OnOk, string_bytes};
-ghost use Rattle.std.specs.Prelude.{true, false};
+ghost use Rattle.std.specs.Prelude.{◌≡◌, ◌≤◌, ◌++◌, ◌∷◌, [], IfOk, IfErr, OnOk, map, true, false};
+ghost use Rattle.std.specs.Prelude.{string_bytes, vec_len};
 ghost use Rattle.std.specs.BTreeMap as tree;
 ghost use Rattle.std.specs.HashMap as hash;
 ghost use Rattle.std.specs.Option.{option_map};
 ghost use Rattle.dnssec_base.specs.declared.error.Error.TheVariants.{OutOfMemory};
 ghost use Rattle.dnssec_run.specs.Published.{IsPublished, World, id_of};
 ghost use Rattle.dnssec_run.specs.Recorder.{Agrees, AreFound, ChangesOnly, HasSameKeys, Leaves};
-ghost use Rattle.dnssec_run.specs.Recorder.{shown_once, shows};
+ghost use Rattle.dnssec_run.specs.Recorder.{ids_read, shown_once, shows};
 
 use crate::places::renew_key;
 use crate::record::{Published, PublishedKey, Touched};
-use crate::renewal::Renewal;
 use dnssec_keyset::{Error, Key, KeySet, KeyType};
 use std::alloc::Global;
 use std::collections::{BTreeMap, HashMap};
@@ -48,7 +47,7 @@ impl Shown {
 }
 
 /// A key of a record, with a copy of its reference.
-pub(crate) fn published_key(reference: &String, added: usize) -> Result<PublishedKey, Error>
+fn published_key(reference: &String, added: usize) -> Result<PublishedKey, Error>
     ensures ok { IfOk result (λ k. id_of k ≡ (string_bytes reference.now, added)) }
     ensures err { IfErr result (λ e. e ≡ OutOfMemory) }
 {
@@ -68,21 +67,137 @@ fn copy_keys(alloc: Global, keys: &[PublishedKey]) -> Result<Vec<PublishedKey>, 
     Ok(copies)
 }
 
+/// Up to this many keys are put in or taken out in place. Each of them moves all keys after it.
+const MANY: usize = 16;
+
+/// A set while it is read anew in place: most keys of before stay where they stand.
+#[derive(Drop)]
+struct Renewal {
+    /// The keys that were read, and after them those of before that weren't met yet.
+    keys: Vec<PublishedKey>,
+    /// How many were read.
+    read: usize,
+    /// How many more changes are made in place.
+    changes_left: usize,
+    /// Whether the set may have changed. If not, nothing is read.
+    is_touched: bool,
+}
+
+impl Renewal {
+    /// Takes the keys of before out of their place. None of them is read yet.
+    fn new(alloc: Global, before: &mut Vec<PublishedKey>, is_touched: bool) -> Self
+        ensures none { ids_read result ≡ [] }
+        ensures fits { result.read ≤ vec_len result.keys }
+        ensures before { result.keys.items ≡ before.old.items }
+        ensures touched { result.is_touched ≡ is_touched }
+    {
+        Renewal {
+            keys: mem::replace(before, Vec::new(alloc)),
+            read: 0,
+            changes_left: MANY,
+            is_touched,
+        }
+    }
+
+    /// Reads the next key of all, and has it in the set if the set shows it. It is called four
+    /// times for each key, and mostly nothing changes.
+    #[inline(always)]
+    fn show(
+        &mut self,
+        shown: Shown,
+        key: Option<&Key>,
+        reference: &String,
+        added: usize,
+    ) -> Result<(), Error>
+        requires { self.old.read ≤ vec_len self.old.keys }
+        ensures ok { OnOk result (self.old.is_touched ≡ true →
+            ids_read self.new ≡ ids_read self.old
+            ++ shown_once (shows shown) (option_map (λ k. k.now) key.entry)
+            (string_bytes reference.now, added)) }
+        ensures left { OnOk result (self.old.is_touched ≡ false → self.new ≡ self.old) }
+        ensures touched { OnOk result (self.new.is_touched ≡ self.old.is_touched) }
+        ensures fits { OnOk result (self.new.read ≤ vec_len self.new.keys) }
+        ensures err { IfErr result (λ e. e ≡ OutOfMemory) }
+    {
+        if !self.is_touched {
+            return Ok(());
+        }
+        let Some(key) = key else {
+            return Ok(());
+        };
+        let is_shown = shown.shows(key.keytype());
+        match self.keys.get(self.read) {
+            Some(next) if next.added == added && next.reference == *reference => {
+                if is_shown {
+                    self.read += 1;
+                } else {
+                    self.take_next();
+                }
+                Ok(())
+            }
+            _ if is_shown => self.put(reference, added),
+            _ => Ok(()),
+        }
+    }
+
+    /// Puts a key in.
+    fn put(&mut self, reference: &String, added: usize) -> Result<(), Error>
+        requires { self.old.read ≤ vec_len self.old.keys }
+        ensures ok { OnOk result (ids_read self.new
+            ≡ ids_read self.old ++ (string_bytes reference.now, added) ∷ []) }
+        ensures fits { OnOk result (self.new.read ≤ vec_len self.new.keys) }
+        ensures touched { OnOk result (self.new.is_touched ≡ self.old.is_touched) }
+        ensures err { IfErr result (λ e. e ≡ OutOfMemory) }
+    {
+        let key = published_key(reference, added)?;
+        self.count_change();
+        self.keys.insert(self.read, key)?;
+        self.read += 1;
+        Ok(())
+    }
+
+    /// Takes the next key of before out.
+    fn take_next(&mut self)
+        requires { self.old.read ≤ vec_len self.old.keys }
+        ensures same { ids_read self.new ≡ ids_read self.old }
+        ensures touched { self.new.is_touched ≡ self.old.is_touched }
+        ensures fits { self.new.read ≤ vec_len self.new.keys }
+    {
+        self.count_change();
+        if self.read < self.keys.len() {
+            self.keys.remove(self.read);
+        }
+    }
+
+    /// After many changes in place drops what is left of before. So a set takes time for its keys,
+    /// and not for their square.
+    fn count_change(&mut self)
+        requires { self.old.read ≤ vec_len self.old.keys }
+        ensures same { ids_read self.new ≡ ids_read self.old }
+        ensures touched { self.new.is_touched ≡ self.old.is_touched }
+        ensures fits { self.new.read ≤ vec_len self.new.keys }
+    {
+        match self.changes_left.checked_sub(1) {
+            Some(left) => self.changes_left = left,
+            None => self.keys.truncate(self.read),
+        }
+    }
+
+    /// The set, after all keys were read.
+    fn into_keys(self) -> Vec<PublishedKey>
+        ensures touched { self.is_touched ≡ true → map id_of result.items ≡ ids_read self }
+        ensures left { self.is_touched ≡ false → result.items ≡ self.keys.items }
+    {
+        let mut keys = self.keys;
+        if self.is_touched {
+            keys.truncate(self.read);
+        }
+        keys
+    }
+}
+
 /// Up to this many keys are looked up, and not walked over.
 const FEW: usize = 8;
-
-/// The keys of a set with their references, as a walk over the map lends them. Of few keys it lends
-/// none.
-fn walk(alloc: Global, keys: &HashMap<String, Key>) -> Result<Vec<(&String, &Key)>, Error>
-    ensures found { IfOk result (λ entries. AreFound (hash.get_by_text keys.now) entries.items) }
-    ensures err { IfErr result (λ e. e ≡ OutOfMemory) }
-{
-    if keys.len() <= FEW {
-        return Ok(Vec::new(alloc));
-    }
-    let entries = keys.iter().collect::<Vec<_>>(alloc)?;
-    Ok(entries)
-}
 
 /// The order of the keys of a set: the places of their references in a walk over the map.
 #[derive(Drop)]
@@ -101,46 +216,53 @@ impl WalkOrder {
         }
     }
 
-    /// Brings the entries into order. Most of them stand where they stood before, so the sort
-    /// begins with the last order.
-    fn renew(&mut self, alloc: Global, entries: &[(&String, &Key)]) -> Result<(), Error>
+    /// The keys of a set with their references, as a walk over the map lends them. Of few keys it
+    /// lends none. After a key came or went it brings them into order. Most of them stand where
+    /// they stood before, so the sort begins with the last order.
+    fn walk<'a>(
+        &mut self,
+        alloc: Global,
+        keys: &'a HashMap<String, Key>,
+    ) -> Result<Vec<(&'a String, &'a Key)>, Error>
+        ensures found { IfOk result (λ entries. AreFound (hash.get_by_text keys.now)
+            entries.items) }
         ensures err { IfErr result (λ e. e ≡ OutOfMemory) }
     {
-        if !self.is_stale {
-            return Ok(());
+        if keys.len() <= FEW {
+            return Ok(Vec::new(alloc));
         }
-        let mut placed = Vec::with_capacity(alloc, entries.len())?;
-        for place in self
-            .places
-            .iter()
-            .copied()
-            .chain(self.places.len()..entries.len())
-        {
-            let Some((reference, _)) = entries.get(place) else {
-                continue;
-            };
-            placed.push((*reference, place))?;
+        let entries = keys.iter().collect::<Vec<_>>(alloc)?;
+        if self.is_stale {
+            let mut placed = Vec::with_capacity(alloc, entries.len())?;
+            for place in &self.places {
+                if let Some((reference, _)) = entries.get(*place) {
+                    placed.push((*reference, *place))?;
+                }
+            }
+            for place in self.places.len()..entries.len() {
+                if let Some((reference, _)) = entries.get(place) {
+                    placed.push((*reference, place))?;
+                }
+            }
+            placed.sort_by(|one, other| one.0.cmp(other.0))?;
+            self.places = placed.iter().map(|(_, place)| *place).collect(alloc)?;
+            self.is_stale = false;
         }
-        placed.sort_by(|one, other| one.0.cmp(other.0))?;
-        self.places = placed.iter().map(|(_, place)| *place).collect(alloc)?;
-        self.is_stale = false;
-        Ok(())
+        Ok(entries)
     }
 }
 
-/// The key at a reference: that of the entry with this rank, if it is there. Else it is looked up.
+/// The key at a reference: that of the entry at this place, if it is there. Else it is looked up.
 fn key_at<'a>(
     keys: &'a HashMap<String, Key>,
     entries: &[(&'a String, &'a Key)],
-    order: &WalkOrder,
-    rank: usize,
+    place: usize,
     reference: &String,
 ) -> Option<&'a Key>
     requires { AreFound (hash.get_by_text keys.now) entries.now }
     ensures { option_map (λ k. k.now) result
         ≡ hash.get_by_text keys.now (string_bytes reference.now) }
 {
-    let place = order.places.get(rank).copied().unwrap_or(rank);
     match entries.get(place) {
         Some((found, key)) if **found == *reference => Some(*key),
         _ => keys.get(reference.as_str()),
@@ -154,35 +276,34 @@ fn read_sets(
     keyset: &KeySet,
     added: &BTreeMap<String, usize>,
     order: &mut WalkOrder,
-    before: Published,
-    touched: Touched,
-) -> Result<Published, Error>
-    ensures ok { IfOk result (λ sets. (v w : World) → IsPublished before v → Leaves touched v w →
-        Agrees keyset.now (tree.get_by_text added.now) w → IsPublished sets w) }
+    sets: &mut Published,
+    touched: Touched<'_>,
+) -> Result<(), Error>
+    ensures ok { OnOk result ((v w : World) → IsPublished sets.old v → Leaves touched.entry v w →
+        Agrees keyset.now (tree.get_by_text added.now) w → IsPublished sets.new w) }
     ensures err { IfErr result (λ e. e ≡ OutOfMemory) }
 {
     let keys = keyset.keys();
-    let mut ds = Renewal::new(before.ds, touched.ds);
-    let mut dnskey = Renewal::new(before.dnskey, touched.dnskey);
-    let mut dnskey_signers = Renewal::new(before.dnskey_signers, touched.dnskey);
-    let mut zone_signers = Renewal::new(before.zone_signers, touched.zone_signers);
-    let entries = walk(alloc, keys)?;
-    order.renew(alloc, &entries)?;
+    let mut ds = Renewal::new(alloc, &mut sets.ds, touched.ds);
+    let mut dnskey = Renewal::new(alloc, &mut sets.dnskey, touched.dnskey);
+    let mut dnskey_signers = Renewal::new(alloc, &mut sets.dnskey_signers, touched.dnskey);
+    let mut zone_signers = Renewal::new(alloc, &mut sets.zone_signers, touched.zone_signers);
+    let entries = order.walk(alloc, keys)?;
     let mut rank = 0usize;
     for (reference, position) in added.iter() {
-        let key = key_at(keys, &entries, order, rank, reference);
+        let place = order.places.get(rank).copied().unwrap_or(rank);
+        let key = key_at(keys, &entries, place, reference);
         rank = rank.saturating_add(1);
         ds.show(Shown::Ds, key, reference, *position)?;
         dnskey.show(Shown::Dnskey, key, reference, *position)?;
         dnskey_signers.show(Shown::DnskeySigners, key, reference, *position)?;
         zone_signers.show(Shown::ZoneSigners, key, reference, *position)?;
     }
-    Ok(Published {
-        ds: ds.into_keys(),
-        dnskey: dnskey.into_keys(),
-        dnskey_signers: dnskey_signers.into_keys(),
-        zone_signers: zone_signers.into_keys(),
-    })
+    sets.ds = ds.into_keys();
+    sets.dnskey = dnskey.into_keys();
+    sets.dnskey_signers = dnskey_signers.into_keys();
+    sets.zone_signers = zone_signers.into_keys();
+    Ok(())
 }
 
 /// Renews the sets that a call has touched, and says whether they may have changed. After a setter
@@ -193,23 +314,27 @@ pub(crate) fn renew(
     added: &BTreeMap<String, usize>,
     order: &mut WalkOrder,
     sets: &mut Published,
-    touched: Touched,
-    set_by_hand: Option<&str>,
+    touched: Touched<'_>,
 ) -> Result<bool, Error>
     ensures kept { IfOk result (λ changed. changed ≡ false → sets.new ≡ sets.old) }
-    ensures read { OnOk result ((v w : World) → IsPublished sets.old v → Leaves touched v w →
-        ChangesOnly (option_map (λ r. r.now) set_by_hand.entry) v w →
+    ensures read { OnOk result ((v w : World) → IsPublished sets.old v → Leaves touched.entry v w →
+        ChangesOnly (option_map (λ r. r.now) touched.entry.only) v w →
         Agrees keyset.now (tree.get_by_text added.now) w → IsPublished sets.new w) }
     ensures err { IfErr result (λ e. e ≡ OutOfMemory) }
 {
-    if !touched.is_any() {
-        return Ok(false);
-    }
-    match set_by_hand {
-        Some(reference) => renew_key(alloc, keyset, added, sets, touched, reference),
-        None => {
-            let before = mem::replace(sets, Published::none(alloc));
-            *sets = read_sets(alloc, keyset, added, order, before, touched)?;
+    match touched {
+        Touched {
+            ds: false,
+            dnskey: false,
+            zone_signers: false,
+            ..
+        } => Ok(false),
+        Touched {
+            only: Some(reference),
+            ..
+        } => renew_key(alloc, keyset, added, sets, touched, reference),
+        Touched { only: None, .. } => {
+            read_sets(alloc, keyset, added, order, sets, touched)?;
             Ok(true)
         }
     }

@@ -1,18 +1,17 @@
 -- What each column asks for, and what it changes, as finite facts: for `changes` and `retires`.
-use Rattle.std.proofs.Common.{◌≡◌, Bool, true, false, not, ◌||◌, List, arith, get_or, refl, subst}
+use Rattle.std.proofs.Common.{◌≡◌, Bool, true, false, ◌||◌, List, arith, get_or, subst}
+use Rattle.std.proofs.lemmas.Bool.{and_parts}
 use Rattle.std.proofs.lemmas.List.Folds.{Any-from_list_any, list_any-from_Any}
 use Rattle.std.specs.{List.Contains, List.list_any, Prelude.if◌then◌else◌}
-use Rattle.dnssec_key.specs.RollTable.{column, half_of, after_expiry, actions_of, Half, First}
-use Rattle.dnssec_key.specs.RollTable.{Second}
+use Rattle.dnssec_key.specs.RollTable.{column, half_of, after_expiry, actions_of, Half}
+use Rattle.dnssec_key.specs.contracts.roll.ActionPartialEq.TheImpl.{eq-value}
 use Rattle.dnssec_key.specs.declared.roll.{Action.Action, RollType.RollType}
 use Rattle.dnssec_key.specs.{declared.kind.KeyType.KeyType, State.is_stale, State.is_future}
 use Rattle.dnssec_key.specs.{Key.all_states, Key.KeyParts, Setters.Setting, Setters.set_by}
-use Rattle.dnssec_run.specs.Asked.{update_of, report_of, updates, asks_to_report, flag_shown}
-use Rattle.dnssec_run.specs.Asked.{sets_flag, sets_shown}
+use Rattle.dnssec_run.specs.Asked.{update_of, report_of, updates, flag_shown, sets_flag, sets_shown}
 use Rattle.dnssec_run.specs.Safe.{SetKind, Ds, Dnskey, ZoneSigners, retires}
 use Rattle.dnssec_run.specs.WholeRolls.{propagation, is_second}
 use Rattle.dnssec_run.specs.{declared.sets.Shown.Shown, Recorder.shows}
-use Rattle.dnssec_run.proofs.Chain.Tables.{Claim, Says, ◌also◌, ◌gives◌, same, of_listed}
 use Rattle.dnssec_zone.proofs.Flags.{started, ended}
 use Rattle.dnssec_run.specs.declared.sets.Shown.TheVariants as lists
 use Rattle.dnssec_keyset.specs.Step as keyset
@@ -29,20 +28,23 @@ pub asks_update : (kind : SetKind) (list : List Action) → list_any (updates ki
     → Contains list (update_of kind)
 asks_update kind = found (updates kind) (update_of kind) (λ a e. grind arith)
 
-pub asks_report : (kind : SetKind) (list : List Action)
-    → list_any (asks_to_report kind) list ≡ true → Contains list (report_of kind)
-asks_report kind = found (asks_to_report kind) (report_of kind) (λ a e. grind arith)
+-- the action is the one that asks to report sets of this kind, as code looks for it
+abbrev pub asks : SetKind → Action → Bool
+asks kind a = eq-value.it a (report_of kind)
+
+pub asks_report : (kind : SetKind) (list : List Action) → list_any (asks kind) list ≡ true
+    → Contains list (report_of kind)
+asks_report kind = found (asks kind) (report_of kind) (λ a e. grind arith)
 
 pub report_asked : (kind : SetKind) (list : List Action) → Contains list (report_of kind)
-    → list_any (asks_to_report kind) list ≡ true
-report_asked kind list c = list_any-from_Any (asks_to_report kind) list
+    → list_any (asks kind) list ≡ true
+report_asked kind list c = list_any-from_Any (asks kind) list
     (c.0, report_of kind, c.1, c.2, grind arith)
 
 -- ---- a report retires what its phase asks to report
 
 pub retires-asked : (r : RollType) (half : Half) (kind : SetKind)
-    → list_any (asks_to_report kind) (actions_of r (propagation half))
-    ≡ retires r (is_second half) kind
+    → list_any (asks kind) (actions_of r (propagation half)) ≡ retires r (is_second half) kind
 unfolding column
 retires-asked r half kind = grind arith
 
@@ -54,31 +56,21 @@ kind_of lists.Ds = Ds
 kind_of lists.ZoneSigners = ZoneSigners
 kind_of _ = Dnskey
 
-abbrev each_list : (Shown → Claim) → Claim
-each_list c = c lists.Ds also c lists.Dnskey also c lists.DnskeySigners also c lists.ZoneSigners
-
-at_list : (c : Shown → Claim) → Says (each_list c) → (s : Shown) → Says (c s)
-at_list c h lists.Ds = h.0
-at_list c h lists.Dnskey = h.1.0
-at_list c h lists.DnskeySigners = h.1.1.0
-at_list c h lists.ZoneSigners = h.1.1.1
-
 -- what a roll's call changes is what it asks to publish
 
 -- j is in the list if k is, unless this asks to publish sets of its kind
-abbrev stays : Shown → List Action → KeyType → KeyType → Claim
-stays s asked j k = not (list_any (updates (kind_of s)) asked) gives same (shows s j) (shows s k)
+abbrev pub Stays : Shown → List Action → KeyType → KeyType → Type 0
+Stays s asked j k = list_any (updates (kind_of s)) asked ≡ false → shows s j ≡ shows s k
 
-abbrev pub asked_claim : Shown → RollType → Bool → Bool → KeyType → Claim
-asked_claim s r o i k = stays s (column r).asks (started r o i k) k
-    also stays s (column r).asks_early (ended r o i k) k
-    also stays s (actions_of r (after_expiry First)) ((half_of r First).moves k) k
-    also stays s (actions_of r (after_expiry Second)) ((half_of r Second).moves k) k
-
-pub roll-asks : (s : Shown) (r : RollType) (o i : Bool) (k : KeyType) → Says (asked_claim s r o i k)
+pub roll-asks : (s : Shown) (r : RollType) (o i : Bool) (k : KeyType)
+    → Stays s (column r).asks (started r o i k) k × Stays s (column r).asks_early (ended r o i k) k
 unfolding column
-roll-asks s r o i k = at_list (λ s. asked_claim s r o i k)
-    (of_listed (λ r o i k. each_list (λ s. asked_claim s r o i k)) (λ a b. refl) r o i k) s
+roll-asks s r o i k = grind (arith, and_parts)
+
+pub wait-asks : (s : Shown) (r : RollType) (half : Half) (k : KeyType)
+    → Stays s (actions_of r (after_expiry half)) ((half_of r half).moves k) k
+unfolding column
+wait-asks s r half k = grind (arith, and_parts)
 
 -- new keys and stale keys are in no list
 pub idle-unseen : (s : Shown) (k : KeyType)

@@ -1,13 +1,12 @@
 -- A call that sets no flag changes only what it asks to publish: for the clause `changes`. The
 -- recorder reads no other sets anew: for `advance`.
 use Rattle.std.proofs.Common.{[], ◌≡◌, ℕ, zero, suc, ◌≤◌, inl, inr, true, false, refl, sym, ◌∙◌, ap}
-use Rattle.std.proofs.Common.{arith, List, length, Option, Some, not}
+use Rattle.std.proofs.Common.{arith, List, length, Option, Some}
 use Rattle.std.proofs.lemmas.Bool.{cases_Bool, or_left, or_right}
 use Rattle.std.proofs.lemmas.Option.{slice_get_within}
 use Rattle.std.specs.{Prelude.slice_get, List.list_any, Option.option_map_or, FinMap.get}
 use Rattle.std.specs.{Str.bytes_eq, Cmp.Lexicographic.bytes_decides}
-use Rattle.dnssec_key.specs.{declared.roll.Action.Action, Key.KeyParts, RollTable.First}
-use Rattle.dnssec_key.specs.RollTable.{Second}
+use Rattle.dnssec_key.specs.{declared.roll.Action.Action, Key.KeyParts}
 use Rattle.dnssec_zone.specs.{Lists.listed_by, Start.is_listed}
 use Rattle.dnssec_keyset.{specs.KeySet.KeySetParts, proofs.Accepted.gone_key, proofs.Laws.no_cause}
 use Rattle.dnssec_run.specs.Asked.{asked_by, updates, sets_shown, SamePublished, ChangesAsAsked}
@@ -16,7 +15,7 @@ use Rattle.dnssec_run.specs.Record.{IsRun, added_by, call_of, reply_of, is_accep
 use Rattle.dnssec_run.specs.Safe.{Position, SetKind, Ds, Dnskey, ZoneSigners, position_at}
 use Rattle.dnssec_run.specs.Safe.{position_of, blank}
 use Rattle.dnssec_run.proofs.Asked.Actions.{asks_update, idle-unseen, kind_of, no-flag, roll-asks}
-use Rattle.dnssec_run.proofs.Asked.Actions.{set-stays}
+use Rattle.dnssec_run.proofs.Asked.Actions.{set-stays, wait-asks}
 use Rattle.dnssec_run.proofs.Effects.{accepted_step, added-free, added-same, end-kind, looked-up}
 use Rattle.dnssec_run.proofs.Effects.{moved_key, passing-moved, put_at, refused_step, start-kind}
 use Rattle.dnssec_run.proofs.Positions.{passing, same-shown, shown-none}
@@ -47,14 +46,11 @@ module _ (s : Shown) (old : KeySetParts) where
   same-moved (keyset.Set r x) calm none q k = set-stays s x calm (bytes_eq r q) k
   same-moved (keyset.StartRoll r olds news now) calm none q k =
       ap (shows s) (start-kind r now _ _ k)
-      ∙ (roll-asks s r (is_listed olds q) (is_listed news q) k.keytype).0 (ap not none)
-  same-moved (keyset.Wait r First now) calm none q k =
-      (roll-asks s r false false k.keytype).1.1.0 (ap not none)
-  same-moved (keyset.Wait r Second now) calm none q k =
-      (roll-asks s r false false k.keytype).1.1.1 (ap not none)
+      ∙ (roll-asks s r (is_listed olds q) (is_listed news q) k.keytype).0 none
+  same-moved (keyset.Wait r half now) calm none q k = wait-asks s r half k.keytype none
   same-moved (keyset.AbortRoll r) calm none q k =
       let l = listed_by old.lists r in ap (shows s) (end-kind r _ _ k)
-      ∙ (roll-asks s r (is_listed l.olds q) (is_listed l.news q) k.keytype).1.0 (ap not none)
+      ∙ (roll-asks s r (is_listed l.olds q) (is_listed l.news q) k.keytype).1 none
   same-moved _ calm none q k = refl
 
   -- what is added and what is deleted is in no set

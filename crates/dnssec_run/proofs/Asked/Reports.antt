@@ -1,6 +1,6 @@
 -- A report counts from a start or a first wait, and retires what that asked: for `retires`.
 use Rattle.dnssec_run.proofs.Effects.{Own, by-phase, is_on}
-use Rattle.dnssec_run.proofs.Asked.Actions.{asks_report, report_asked, retires-asked}
+use Rattle.dnssec_run.proofs.Asked.Actions.{asks, asks_report, report_asked, retires-asked}
 use Rattle.dnssec_run.proofs.{Laws.made-at, Chain.Rolls.same-same, Chain.Rolls.same-sym}
 use Rattle.dnssec_run.proofs.Chain.{Allowed.waits_in_phase, Allowed.spreads, History.base_same}
 use Rattle.dnssec_run.proofs.{Chain.History.base_here, Chain.Trust.mark, WholeRolls.Replies.outcome}
@@ -9,7 +9,7 @@ use Rattle.dnssec_run.proofs.Asked.Changes.{due, due_by}
 use Rattle.dnssec_run.specs.WholeRolls.{is_second, propagation}
 use Rattle.dnssec_run.specs.declared.{call.Call.Call, record.Entry.Entry, record.Mark.Mark}
 use Rattle.dnssec_run.specs.declared.record.Mark.TheVariants.{Other, Report}
-use Rattle.dnssec_run.specs.Asked.{asked_by, asked_at, report_of, RetiresAsAsked, asks_to_report}
+use Rattle.dnssec_run.specs.Asked.{asked_by, asked_at, report_of, RetiresAsAsked}
 use Rattle.dnssec_run.specs.Record.{IsRun, call_of, world_at}
 use Rattle.dnssec_run.specs.Safe.{SetKind, position_at, base_below, is_step, retires}
 use Rattle.std.proofs.Common.{[], ◌≡◌, ℕ, zero, suc, ◌≤◌, ◌↔◌, inl, inr, Bool, true, false, refl}
@@ -111,9 +111,9 @@ module _ {name : List ℕ} {calls : List Call} {entries : List Entry}
     b.1,
     λ kind.
         let opens : opening (propagation half) ≡ propagation half = grind arith in
-        let asked : list_any (asks_to_report kind) (asked_at entries b.0)
+        let asked : list_any (asks kind) (asked_at entries b.0)
         ≡ retires r (is_second half) kind =
-        ap (list_any (asks_to_report kind)) (b.2 ∙ ap (actions_of r) opens)
+        ap (list_any (asks kind)) (b.2 ∙ ap (actions_of r) opens)
         ∙ retires-asked r half kind in (
           λ t. asks_report kind (asked_at entries b.0) (asked ∙ t),
           λ c. sym asked ∙ report_asked kind (asked_at entries b.0) c,

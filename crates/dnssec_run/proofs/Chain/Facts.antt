@@ -10,7 +10,7 @@ use Rattle.dnssec_keyset.proofs.Exchange.Kinds.{apart-kinds}
 use Rattle.dnssec_key.specs.declared.roll.RollType.{RollType, TheVariants.ZskDoubleSignatureRoll}
 use Rattle.dnssec_key.specs.declared.{roll.RollType.TheVariants.CskRoll, kind.KeyType.KeyType}
 use Rattle.dnssec_key.specs.RollTable.{column, First, Second, Half, half_of}
-use Rattle.dnssec_run.proofs.Chain.Tables.{written, Stamp, read, checked, want_on}
+use Rattle.dnssec_run.proofs.Chain.Tables.{written, read, checked, want_on}
 use Rattle.dnssec_run.proofs.Chain.Flags.{SideSet, Shared, switches, is_in, first_set, in_use, live}
 use Rattle.dnssec_run.proofs.Chain.Flags.{second_set, remains, used_in}
 

@@ -1,6 +1,6 @@
 -- What a start makes of a family of keys: of all keys, by what it has to leave; of those of one
 -- algorithm, if it keeps the sets whole.
-use Rattle.std.proofs.lemmas.Bool.{cases_Bool, true≢false, and_parts, eqb-true, eq-eqb}
+use Rattle.std.proofs.lemmas.Bool.{cases_Bool, true≢false, and_from, and_parts, eqb-true, eq-eqb}
 use Rattle.std.proofs.Common.{◌≡◌, ℕ, suc, ◌≤◌, ◌⊎◌, inl, inr, Bool, true, false, ◌&&◌, refl, sym}
 use Rattle.std.proofs.Common.{◌∙◌, ap, arith, List, length, Some, not}
 use Rattle.std.specs.Prelude.{nat_eq}
@@ -8,7 +8,7 @@ use Rattle.dnssec_key.specs.declared.roll.RollType.{RollType, TheVariants.Algori
 use Rattle.dnssec_key.specs.declared.kind.KeyType.{KeyType}
 use Rattle.dnssec_zone.specs.{Keys.some_key, Start.may_change_algorithms, Start.is_listed}
 use Rattle.dnssec_zone.proofs.Quantified.{some_key-found, some_key-none}
-use Rattle.dnssec_zone.proofs.Tests.{and-both, or_second}
+use Rattle.dnssec_zone.proofs.Tests.{or_second}
 use Rattle.dnssec_zone.proofs.Flags.{SideOf, Keys, Zone, affects, Quiet, Early, flags_fit}
 use Rattle.dnssec_run.specs.ByAlgorithm.{KeepsWhole, HasKeyOf, keeps_ksk, keeps_zsk, algorithm_at}
 use Rattle.dnssec_run.specs.ByAlgorithm.{algorithm_of}
@@ -110,7 +110,7 @@ module _ (all : Tale) (a : ℕ) where
             inl (has_of p n le (h.0, h.1, h.2, x.0, eqb-true _ a x.1))
         | inr t ↦ inr (λ id o e.
             let h = of_has p n le (id, e, o) in
-            true≢false (sym (and-both _ _ h.3 (eq-eqb _ a h.4))
+            true≢false (sym (and_from _ _ h.3 (eq-eqb _ a h.4))
             ∙ some_key-none test (real all n).set.keys h.0 h.1 t h.2))
       ]
 

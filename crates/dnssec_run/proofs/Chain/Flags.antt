@@ -1,4 +1,4 @@
--- The finite facts of the tables on both sides of the chain, computed over all kinds and flags.
+-- The finite facts of the tables on both sides of the chain, of all kinds and flags.
 use Rattle.dnssec_zone.proofs.Flags.{SideOf, affects, flags_fit, has_role, may_start, started, Keys}
 use Rattle.dnssec_zone.proofs.Flags.{Zone, Quiet, Early, start-fits}
 use Rattle.dnssec_zone.specs.Start.{serves_as_new, serves_as_kept}
@@ -10,7 +10,7 @@ use Rattle.dnssec_key.specs.declared.{roll.RollType.RollType, kind.KeyType.KeyTy
 use Rattle.dnssec_key.specs.{RollTable.column, Key.ksk_role, Key.zsk_role}
 use Rattle.dnssec_run.specs.Safe.{SetKind, Ds, Dnskey, ZoneSigners}
 use Rattle.dnssec_run.specs.Published.{in_ds, in_dnskey, signs_dnskey as signs_keys, signs_zone}
-use Rattle.dnssec_run.proofs.Chain.Tables.{Claim, ◌also◌, want_on, Says}
+use Rattle.dnssec_run.proofs.Chain.Tables.{want_on}
 
 -- at its first wait the roll changes its second set; else it only leaves the old keys out
 abbrev pub switches : SideOf → RollType → Bool
@@ -27,13 +27,6 @@ pub data SideSet : Type 0 where
 abbrev pub by_set : (P : SideSet → Type 0) → P Shared → P Own → (set : SideSet) → P set
 by_set P shared own Shared = shared
 by_set P shared own Own = own
-
--- a claim of each of them
-abbrev pub on_sets : (SideSet → Claim) → Claim
-on_sets c = c Shared also c Own
-
-pub on_set : (c : SideSet → Claim) → Says (on_sets c) → (set : SideSet) → Says (c set)
-on_set c h = by_set (λ set. Says (c set)) h.0 h.1
 
 -- which set of the zone it is
 abbrev pub kind_on : SideOf → SideSet → SetKind

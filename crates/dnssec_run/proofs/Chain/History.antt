@@ -11,7 +11,6 @@ use Rattle.dnssec_run.specs.{declared.record.Entry.Entry, Published.Id}
 use Rattle.dnssec_run.proofs.Chain.Tale.{Tale}
 use Rattle.dnssec_run.proofs.Chain.Flags.{SideSet, Shared, Own, kind_on, first_set, second_set}
 use Rattle.dnssec_run.proofs.Chain.Flags.{switches}
-use Rattle.dnssec_run.proofs.Chain.Tables.{holds, ◌gives◌, of_side_roll}
 
 pub time_grows : (es : List Entry) (n : ℕ) → time_at es n ≤ time_at es (suc n)
 unfolding time_at
@@ -86,14 +85,12 @@ Serving tale Zone Own q k = Contains (position_at tale.es q).zone k
 
 pub first-retires : (sd : SideOf) (r : RollType) → affects sd r ≡ true
     → retires r false (kind_on sd (first_set r)) ≡ true
-first-retires = of_side_roll
-    (λ sd r. affects sd r gives holds (retires r false (kind_on sd (first_set r)))) refl
+first-retires sd r own = grind arith
 
 -- if the second set changes at the first wait, the second report retires it; else the first does
 pub second-retires : (sd : SideOf) (r : RollType) → affects sd r ≡ true
     → retires r (switches sd r) (kind_on sd (second_set r)) ≡ true
-second-retires = of_side_roll
-    (λ sd r. affects sd r gives holds (retires r (switches sd r) (kind_on sd (second_set r)))) refl
+second-retires sd r own = grind arith
 
 -- the report of a half has retired each set that it counts for, below the roll's base
 abbrev pub Retired : List Entry → ℕ → RollType → Bool → Type 0

@@ -10,7 +10,7 @@ use Rattle.dnssec_run.specs.Safe.{is_step}
 use Rattle.dnssec_run.proofs.Chain.Tale.{key_at, Tale, World, Key, found, world_at, stamp_of}
 use Rattle.dnssec_run.proofs.Chain.Places.{all_ok, real, NoDs}
 use Rattle.dnssec_run.proofs.Chain.Same.{SameKind, SameStamps, AlikeBut, AlikeOn, alike-map}
-use Rattle.dnssec_run.proofs.Chain.Same.{alike-round, found-alike, idle-out}
+use Rattle.dnssec_run.proofs.Chain.Same.{found-alike, idle-out}
 use Rattle.dnssec_run.proofs.Chain.{Tables.Stamp, Facts.sees, Setters.Harmless, Setters.others-idle}
 use Rattle.dnssec_run.proofs.Chain.{Rolls.StageFits, Returns.KeepsLists, Invariant.Gentle}
 use Rattle.dnssec_zone.proofs.Flags.{SideOf, affects, Stage, has_role, is_idle}

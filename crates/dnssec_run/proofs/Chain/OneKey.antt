@@ -14,7 +14,7 @@ use Rattle.dnssec_key.specs.declared.{kind.KeyType.KeyType, roll.RollState.TheVa
 use Rattle.dnssec_key.specs.RollTable.{after_wait, after_expiry, cache_expire, Half, First, Second}
 use Rattle.dnssec_zone.proofs.Flags.{SideOf, affects, may_start, started}
 use Rattle.dnssec_zone.specs.Start.{is_listed, lists_kind, side_of}
-use Rattle.dnssec_zone.{specs.Lists.has_kept_key, proofs.Tags.mapped as mapped_back}
+use Rattle.dnssec_zone.specs.Lists.{has_kept_key}
 use Rattle.dnssec_keyset.proofs.Exchange.Kinds.{kind_number}
 
 -- A roll call: each key is mapped, and one roll's state is put. No key turns into one of another

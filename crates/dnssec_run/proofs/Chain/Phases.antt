@@ -1,7 +1,5 @@
 -- What a roll in progress waits for: its last report, and a key with that report's stamp.
-use Rattle.dnssec_run.proofs.Chain.Tables.{writes, written, Stamp, Visible, stamp_in, read, fails}
-use Rattle.dnssec_run.proofs.Chain.Tables.{of_roll, of_half, at_stamps, Says, DsVisible}
-use Rattle.dnssec_run.proofs.Chain.Tables.{RrsigVisible}
+use Rattle.dnssec_run.proofs.Chain.Tables.{written, Stamp, Visible, read}
 use Rattle.dnssec_run.proofs.Chain.Tale.{Passes, key_at, Tale, Key, if_some, world_at, started_key}
 use Rattle.dnssec_run.proofs.Chain.Tale.{start_key, stamp_of}
 use Rattle.dnssec_run.proofs.Chain.Facts.{stays, stays_facts, timed, timer, timer-affects, other}
@@ -15,19 +13,17 @@ use Rattle.dnssec_run.proofs.Chain.{Kinds.same_list, KeyCalls.Kept, KeyCalls.fou
 use Rattle.dnssec_run.specs.Safe.{position_at, base_below, is_step}
 use Rattle.dnssec_run.specs.declared.record.Mark.TheVariants.{Other, Report}
 use Rattle.dnssec_run.specs.{Published.Id, WholeRolls.is_second}
-use Rattle.std.proofs.Common.{◌≡◌, ℕ, suc, ◌≤◌, ◌&&◌, Bool, true, false, refl, sym, ◌∙◌, ap, subst}
+use Rattle.std.proofs.Common.{◌≡◌, ℕ, suc, ◌≤◌, ◌&&◌, Bool, true, false, sym, ◌∙◌, ap, subst}
 use Rattle.std.proofs.Common.{arith, List, Option, Some, not}
-use Rattle.std.proofs.lemmas.Option.{same_Some}
+use Rattle.std.proofs.lemmas.{Bool.and_from, Option.same_Some}
 use Rattle.std.specs.{Prelude.if◌then◌else◌, Option.option_map}
-use Rattle.dnssec_base.specs.Stamps.{Stamps}
 use Rattle.dnssec_key.specs.declared.roll.RollState.TheVariants.{Propagation1, CacheExpire1, Done}
 use Rattle.dnssec_key.specs.declared.roll.RollState.TheVariants.{Propagation2, CacheExpire2}
 use Rattle.dnssec_key.specs.declared.roll.{RollType.RollType, RollState.RollState}
 use Rattle.dnssec_key.specs.declared.kind.KeyType.{KeyType}
-use Rattle.dnssec_key.specs.RollTable.{column, half_of, after_wait, after_report, cache_expire}
-use Rattle.dnssec_key.specs.RollTable.{Half, First, Second, Writes, stamps_after}
-use Rattle.dnssec_zone.proofs.Flags.{listed_old, Quiet, Early, flags_fit, is_idle}
-use Rattle.dnssec_zone.proofs.Tests.{and-both}
+use Rattle.dnssec_key.specs.RollTable.{column, after_wait, after_report, cache_expire}
+use Rattle.dnssec_key.specs.RollTable.{Half, First, Second}
+use Rattle.dnssec_zone.proofs.Flags.{Quiet, Early, flags_fit, is_idle}
 use Rattle.dnssec_zone.specs.Start.{together, is_listed, lists_kind, side_of}
 
 -- the last report of the half: its position and moment, and a key with that stamp
@@ -89,26 +85,15 @@ gone tale n half r w on last kind goes b base q lt =
     }
 
 -- a start and the waits leave the stamps alone that a wait reads; a report writes its moment
-unwritten : (s : Stamp) (w : Writes) (t : KeyType) (now : ℕ) (x : Stamps)
-    → Says (at_stamps (λ s. fails (writes s w t))) → stamp_in s x
-    ≡ stamp_in s (stamps_after w t now x)
-unwritten Visible w t now x h = ap (λ b. if b then Some now else x.visible) (sym h.0)
-unwritten DsVisible w t now x h = ap (λ b. if b then Some now else x.ds_visible) (sym h.1.0)
-unwritten RrsigVisible w t now x h = ap (λ b. if b then Some now else x.rrsig_visible) (sym h.1.1)
-
 pub start_stamps : (r : RollType) (now : ℕ) (o i : Bool) (k : Key) (s : Stamp) → stamp_of s k
     ≡ stamp_of s (started_key r now o i k)
 unfolding column
-start_stamps r now o false k s = refl
-start_stamps r now o true k s = unwritten s (column r).writes _ now k.timestamps (of_roll
-    (λ r. at_stamps (λ s. fails (writes s (column r).writes (listed_old o k.keytype)))) refl r)
+start_stamps r now o i k s = grind arith
 
 pub wait_stamps : (r : RollType) (half : Half) (now : ℕ) (k : Key) (s : Stamp) → stamp_of s k
     ≡ stamp_of s (after_wait r half now k)
 unfolding column
-wait_stamps r half now k s = unwritten s (half_of r half).writes _ now k.timestamps
-    (of_half (λ r half k. at_stamps (λ s. fails (writes s (half_of r half).writes k)))
-    (λ a b. refl) r half k.keytype)
+wait_stamps r half now k s = grind arith
 
 pub report_stamp : (s : Stamp) (r : RollType) (half : Half) (now : ℕ) (k : Key)
     → written s r half k.keytype ≡ true → stamp_of s (after_report r half now k) ≡ Some now
@@ -140,7 +125,7 @@ module _ (tale : Tale) (n : ℕ) where
         was_there SameStamps (spares q) (key_at tale (suc n) id) (key_at tale n id)
         (alike-round SameStamps (λ k j e. (sym e.0, λ s. sym (e.1 s))) (spares q)
         (key_at tale n id) (key_at tale (suc n) id) (a.keys id)) k e
-        (ap not (and-both _ _ f.touched (ap not f.busy)))
+        (ap not (and_from _ _ f.touched (ap not f.busy)))
 
     reads_aside : (half : Half) → Reads tale q half n → Reads tale q half (suc n)
     reads_aside half h =

@@ -11,7 +11,7 @@ use Rattle.dnssec_run.proofs.Chain.Rolls.{StageFits, is_of, same-same, stage_own
 use Rattle.dnssec_run.proofs.Chain.History.{Retired, Serving, base_here, retired_stays}
 use Rattle.dnssec_run.proofs.Chain.History.{first-retires, second-retires}
 use Rattle.dnssec_run.proofs.Chain.Places.{Fits, side, NoDs, found_key, some_weaker, shows}
-use Rattle.dnssec_run.proofs.Chain.EarlyEnds.{there_and_back, is_tied, back-fits, set_facts}
+use Rattle.dnssec_run.proofs.Chain.EarlyEnds.{there_and_back, is_tied, back-fits, back-less}
 use Rattle.dnssec_run.proofs.Chain.Returns.{Back, LeadsBack, StaysIn, stays-shown, kind_back}
 use Rattle.dnssec_run.proofs.Chain.Returns.{early_end_key}
 use Rattle.dnssec_run.proofs.Chain.Invariant.{At, Based, LateOf, Alive, Holds, Left, Lasts}
@@ -114,7 +114,7 @@ module _ (tale : Tale) (n : ℕ) (here : suc n ≤ length tale.es) (sd : SideOf)
       rest = λ set. cached-on (side tale sd) n here set (In set n) (StaysIn tale sd r (suc n) set)
           (λ id. came s.mapped id (is_in sd set)
           (λ k. is_in sd set (kind_back tale r (suc n) id.0 k))
-          (λ k f e. (set_facts sd set r (is_listed s.old id.0) (is_listed s.new id.0) k.keytype).0
+          (λ k f e. back-less sd set r (is_listed s.old id.0) (is_listed s.new id.0) k.keytype
           (may_found s id k f) (sym (back_key (is_in sd set) id k f) ∙ e)))
           (stays-shown tale sd r (suc n) here set) (h.holds set);
       used = or_map life (λ d. d) (on_to s.mapped (λ _. in_use sd)

@@ -21,9 +21,10 @@ use Rattle.dnssec_run.proofs.Chain.{FirstCalls.start, Waits.wait1, Waits.wait2}
 use Rattle.dnssec_run.proofs.Chain.{SideBySide.end_early, SideBySide.family-safe, Keeping.engaged}
 use Rattle.dnssec_run.proofs.Chain.{History.nothing_in, History.not_in_empty, Life.Law}
 use Rattle.dnssec_run.proofs.Chain.Life.{PassesAt}
+use Rattle.dnssec_run.proofs.{Next.mark-accepted, Next.mark-refused}
 use Rattle.dnssec_run.proofs.Premise.{DoesAt, start_of, first_wait_of, plain-by-sets, sets_nothing}
 use Rattle.dnssec_run.specs.declared.record.Mark.TheVariants.{Other, Step, Report}
-use Rattle.dnssec_run.specs.declared.{call.Call.Call, record.Entry.Entry, record.Reply.Reply}
+use Rattle.dnssec_run.specs.declared.{call.Call.Call, record.Entry.Entry}
 use Rattle.dnssec_run.specs.{declared.record.Mark.Mark, Safe.position_at, Plain.IsPlain}
 use Rattle.dnssec_run.specs.{Plain.StaysSafe, ByAlgorithm.StaysSafeByEach, ByAlgorithm.algorithm_of}
 use Rattle.dnssec_run.specs.{Published.Id, WholeRolls.is_second}
@@ -195,10 +196,6 @@ module _ (tale : Tale) (law : Law tale) (n : ℕ) (here : suc n ≤ length tale.
       (λ s. none-some AlgorithmRoll (a.passes s))
       (λ sd. on.1 sd (λ e own. none-some Propagation1 e)) inv
 
-  marked : (c : Call) (r : Reply) → rec.mark_after c r
-      ≡ (if rec.is_accepted r then mark (rec.call_of c) else Other)
-  marked c r = let p = plainly c in grind (arith, p)
-
   next : Inv tale n → Inv tale (suc n)
   next inv =
       let p = place_at tale n here in
@@ -207,8 +204,7 @@ module _ (tale : Tale) (law : Law tale) (n : ℕ) (here : suc n ≤ length tale.
       let was = (world_at tale n).added in
       let added = λ (b : Bool) (t : rec.is_accepted r ≡ b) (q : List ℕ). ap (λ f. f q) p.added_is
       ∙ ap (λ b. (if b then rec.with_added (suc n) (rec.reference_added c) was else was) q) t in
-      let mark_is = λ (b : Bool) (t : rec.is_accepted r ≡ b). ap (λ q. q.mark) p.position_is
-      ∙ p.ok.mark ∙ marked p.call r ∙ ap (λ b. if b then mark c else Other) t in
+      let mark_is = ap (λ q. q.mark) p.position_is ∙ p.ok.mark in
       let passes = same_call first_wait_of tale n p AlgorithmRoll in
       elim (cases_Bool (rec.is_accepted r)) [
         | inl t ↦ let step = accepted_step before after c r t p.ok.step in accepted c (record {
@@ -218,7 +214,7 @@ module _ (tale : Tale) (law : Law tale) (n : ℕ) (here : suc n ≤ length tale.
           plain = p.plain;
           blank = (plainly p.call).blank;
           added = added true t;
-          mark_is = mark_is true t;
+          mark_is = mark_is ∙ sym (mark-accepted p.call r t) ∙ (plainly p.call).mark_is;
           moment_is = ap (λ q. q.moment) p.position_is ∙ p.ok.moment ∙ (plainly p.call).moment_is;
           passes = λ s. (passes s).1;
           starts = λ q e. record {
@@ -236,9 +232,9 @@ module _ (tale : Tale) (law : Law tale) (n : ℕ) (here : suc n ≤ length tale.
             (λ q. ap (λ (s : KeySetParts). phase_of s.rolls q) same) (λ q k e. harmless-same k)
             (λ q. ap (λ (s : KeySetParts). get s.keys q) same
             ∙ sym (option_map_id (get before.keys q))) (added false t) in
-            calm tale n here kept (mark_is false t) (λ s. true≢false (sym (passes s).0 ∙ t))
-            (keeps-cut tale n false [] kept.rolls (ap (λ (s : KeySetParts). s.lists) same)
-            (λ sd cut j f role. cc)) inv
+            calm tale n here kept (mark_is ∙ sym (mark-refused p.call r t))
+            (λ s. true≢false (sym (passes s).0 ∙ t)) (keeps-cut tale n false [] kept.rolls
+            (ap (λ (s : KeySetParts). s.lists) same) (λ sd cut j f role. cc)) inv
       ]
 
 -- ---- the whole run

@@ -1,22 +1,22 @@
--- What a start and an early end do to the flags of one key, as claims that are computed; that both
--- roles of a CSK are old together at every position; and a roll in its first phase over one call
--- that isn't on it: what is kept of its start, and the keys that it lists.
+-- What a start and an early end do to the flags of one key; that both roles of a CSK are old
+-- together at every position; and a roll in its first phase over one call that isn't on it: what is
+-- kept of its start, and the keys that it lists.
 use Rattle.std.proofs.Common.{◌≡◌, Bool, true, ◌&&◌, ◌||◌, refl, false, ℕ, inl, inr, sym, ◌∙◌}
 use Rattle.std.proofs.Common.{arith, ap, subst, List, Option, None, Some, not}
+use Rattle.std.proofs.lemmas.Bool.{and_parts}
 use Rattle.std.proofs.{Math.Bool.and-true, Math.Bool.and-false, lemmas.Option.none-some}
 use Rattle.std.specs.{Prelude.if◌then◌else◌, Option.option_map_or, Str.bytes_eq, FinMap.get}
 use Rattle.std.specs.{FinMap.get-empty, Cmp.Lexicographic.slice_cmp, Ordering.nat_cmp}
-use Rattle.dnssec_key.specs.RollTable.{column, First, Second, half_of}
+use Rattle.dnssec_key.specs.RollTable.{column, First, Half, half_of}
 use Rattle.dnssec_key.specs.Setters.{Setting, set_by, is_flag_setting}
 use Rattle.dnssec_key.specs.declared.kind.KeyType.{KeyType, TheVariants.Csk}
 use Rattle.dnssec_key.specs.{declared.roll.RollType.RollType, State.is_kept, Key.all_states}
 use Rattle.dnssec_key.specs.{Key.KeyParts, declared.roll.RollState.TheVariants.Propagation1}
 use Rattle.dnssec_zone.proofs.Flags.{ended, may_start, started}
-use Rattle.dnssec_zone.proofs.Tests.{alike, each_listed, same_kind}
+use Rattle.dnssec_zone.proofs.Tests.{alike}
 use Rattle.dnssec_zone.specs.Lists.{Listed, Lists, without, listed_by}
 use Rattle.dnssec_zone.specs.Start.{is_listed, lists_kind, side_of}
 use Rattle.dnssec_zone.specs.Rolls.{same_roll, phase_of}
-use Rattle.dnssec_run.proofs.Chain.Tables.{Claim, Says, ◌also◌, ◌gives◌, holds, test, of_listed}
 use Rattle.dnssec_run.proofs.Effects.{came, deletes, end-kind, goes, is_on, key_added, moved_key}
 use Rattle.dnssec_run.proofs.Effects.{phase-came, phase_put, start-kind}
 use Rattle.dnssec_run.proofs.{Laws.kept-by, Premise.start_of, WholeRolls.Replies.leaves-beside}
@@ -35,30 +35,23 @@ abbrev pub tied : KeyType → Bool
 tied (Csk s t) = alike s.old t.old
 tied _ = true
 
-abbrev tied_claim : RollType → Bool → Bool → KeyType → Claim
-tied_claim r o i k = tied k gives (holds (tied (started r o i k))
-    also holds (tied ((half_of r First).moves k)) also holds (tied ((half_of r Second).moves k))
-    also holds (tied (ended r o i k)))
-
-tied_facts : (r : RollType) (o i : Bool) (k : KeyType) → Says (tied_claim r o i k)
+tied_listed : (r : RollType) (o i : Bool) (k : KeyType) → tied k ≡ true
+    → (tied (started r o i k) ≡ true) × (tied (ended r o i k) ≡ true)
 unfolding column
-tied_facts = of_listed tied_claim (λ a b. refl)
+tied_listed r o i k e = grind arith
+
+tied_waited : (r : RollType) (half : Half) (k : KeyType) → tied k ≡ true
+    → tied ((half_of r half).moves k) ≡ true
+unfolding column
+tied_waited r half k e = grind arith
 
 -- ---- an early end takes back what the start did
 
-abbrev undone_claim : RollType → Bool → Bool → KeyType → Claim
-undone_claim r o i k = (may_start r o i k && tied k)
-    gives (holds (same_kind (ended r (o && all_states is_kept k) i (started r o i k)) k)
-    also ((o || i) gives holds (lists_kind (side_of r) (started r o i k))))
-
-undone_all : (a b : Bool) → each_listed a b (λ r o i k. test (undone_claim r o i k)) ≡ true
+pub undone_facts : (r : RollType) (o i : Bool) (k : KeyType) → (may_start r o i k && tied k) ≡ true
+    → (ended r (o && all_states is_kept k) i (started r o i k) ≡ k)
+    × ((o || i) ≡ true → lists_kind (side_of r) (started r o i k) ≡ true)
 unfolding column
-undone_all true true = refl
-undone_all false true = refl
-undone_all _ _ = refl
-
-pub undone_facts : (r : RollType) (o i : Bool) (k : KeyType) → Says (undone_claim r o i k)
-undone_facts = of_listed undone_claim undone_all
+undone_facts r o i k e = grind (arith, and_parts)
 
 -- ---- every position
 
@@ -82,12 +75,11 @@ module _ (old new : KeySetParts) (all : AllTied old) where
       → tied (moved_key old c q k).keytype ≡ true
   tied-moved (keyset.Set r s) q k h = tied-set (bytes_eq r q) s k h
   tied-moved (keyset.StartRoll r olds news now) q k h = ap tied (start-kind r now _ _ k)
-      ∙ (tied_facts r (is_listed olds q) (is_listed news q) k.keytype h).0
-  tied-moved (keyset.Wait r First now) q k h = (tied_facts r false false k.keytype h).1.0
-  tied-moved (keyset.Wait r Second now) q k h = (tied_facts r false false k.keytype h).1.1.0
+      ∙ (tied_listed r (is_listed olds q) (is_listed news q) k.keytype h).0
+  tied-moved (keyset.Wait r half now) q k h = tied_waited r half k.keytype h
   tied-moved (keyset.AbortRoll r) q k h =
       let l = listed_by old.lists r in ap tied (end-kind r _ _ k)
-      ∙ (tied_facts r (is_listed l.olds q) (is_listed l.news q) k.keytype h).1.1.1
+      ∙ (tied_listed r (is_listed l.olds q) (is_listed l.news q) k.keytype h).1
   tied-moved _ q k h = h
 
   tied-step : (c : keyset.Call) → adds_tied c ≡ true → Changes old c new → AllTied new

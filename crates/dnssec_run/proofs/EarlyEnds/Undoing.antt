@@ -2,7 +2,7 @@
 use Rattle.dnssec_keyset.proofs.{Changes.Changes, Accepted.ends_early, Laws.no_cause}
 use Rattle.dnssec_keyset.specs.KeySet.{KeySetParts}
 use Rattle.std.proofs.lemmas.Bool.{cases_lt, cases_Bool, or_parts, false_from_ne_true, true≢false}
-use Rattle.std.proofs.lemmas.Iterator.Adapters.{option_map_id}
+use Rattle.std.proofs.lemmas.{Bool.and_from, Iterator.Adapters.option_map_id}
 use Rattle.std.proofs.lemmas.Option.{same_Some, slice_get_within}
 use Rattle.std.proofs.Common.{◌≡◌, ℕ, zero, suc, ◌<◌, ◌≤◌, ◌⊎◌, inl, inr, Bool, true, false, ◌&&◌}
 use Rattle.std.proofs.Common.{◌||◌, refl, sym, ◌∙◌, ap, subst, arith, List, length, Some}
@@ -24,7 +24,6 @@ use Rattle.dnssec_key.specs.declared.kind.KeyType.{KeyType}
 use Rattle.dnssec_zone.specs.Start.{is_listed, lists_kind, side_of}
 use Rattle.dnssec_zone.specs.{Lists.has_kept_key, Rolls.phase_of}
 use Rattle.dnssec_zone.proofs.Flags.{ended, may_start, started}
-use Rattle.dnssec_zone.proofs.Tests.{and-both, same_kind-is}
 use Rattle.dnssec_keyset.specs.Step as keyset
 use Rattle.dnssec_zone.specs.Wait as waits
 
@@ -65,7 +64,7 @@ module _ {name : List ℕ} {calls : List Call} {entries : List Entry}
 
         may : (k : KeyParts) → get old.keys q ≡ Some k
             → (may_start roll is_old is_new k.keytype && tied k.keytype) ≡ true
-        may k e = and-both _ _ (may_there roll _ olds news can q k e) (all-tied run s q k e)
+        may k e = and_from _ _ (may_there roll _ olds news can q k e) (all-tied run s q k e)
 
     -- ---- from the start on
 
@@ -207,8 +206,7 @@ module _ {name : List ℕ} {calls : List Call} {entries : List Entry}
           x.1,
           ended_so.1.keys q ∙ ap (option_map (back (was q))) y.1,
           end-kind roll (was q).0 (was q).1 y.0 ∙ (λ i. ended roll (kept i).0 (kept i).1 (y.2 i))
-              ∙ same_kind-is _ _
-              (undone_facts roll (is_listed olds q) (is_listed news q) x.0.keytype x.2).0,
+              ∙ (undone_facts roll (is_listed olds q) (is_listed news q) x.0.keytype x.2).0,
         )
 
     -- a key that isn't its own is listed no more

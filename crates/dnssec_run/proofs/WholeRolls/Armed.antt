@@ -17,8 +17,7 @@ use Rattle.dnssec_run.proofs.Effects.{came, key_added, moved_key}
 use Rattle.dnssec_run.proofs.Chain.Facts.{stays, stamped_in, timer, stays_wait}
 use Rattle.dnssec_run.proofs.Chain.Phases.{Beside, report_stamp, start_stamps, wait_stamps}
 use Rattle.dnssec_run.proofs.Chain.Same.{SameStamps, alike-round, was_there}
-use Rattle.dnssec_run.proofs.Chain.Tables.{written, Stamp, read, checked, Claim, Says, holds}
-use Rattle.dnssec_run.proofs.Chain.Tables.{◌gives◌, ◌also◌, of_half, of_key}
+use Rattle.dnssec_run.proofs.Chain.Tables.{written, Stamp, read, checked}
 use Rattle.dnssec_run.proofs.Chain.Tale.{stamp_of, early-end-parts, start-parts}
 use Rattle.dnssec_run.proofs.Chain.{KeyCalls.put_alike, Setters.harmless, Trust.moment}
 use Rattle.dnssec_run.proofs.WholeRolls.Keys.{Expiring, dates, fits_of, in_order}
@@ -37,7 +36,7 @@ touches q k = lists_kind (side_of q) k && not (is_idle k)
 checked_touches : (r : RollType) (half : Half) (k : KeyType) → checked r half k ≡ true
     → touches r k ≡ true
 unfolding column
-checked_touches = of_half (λ r half k. checked r half k gives holds (touches r k)) (λ a b. refl)
+checked_touches r half k e = grind (arith, and_parts)
 
 stays_touches : (r : RollType) (half : Half) (k : KeyType) → stays r half k ≡ true
     → touches r k ≡ true
@@ -52,15 +51,13 @@ is_zds r = same_roll r zds
 
 -- a Double-Signature ZSK roll waits on the same key in both halves, and reads the stamps of its
 -- first report
-abbrev zds_claim : KeyType → Claim
-zds_claim k = (stays zds First k gives (holds (written (read zds Second) zds First k)
-    also holds (stays zds First ((half_of zds First).moves k))))
-    also (checked zds Second ((half_of zds First).moves k) gives holds (checked zds Second k))
-    also (flags_fit Zone (Late zds) k gives stays zds First k gives holds (checked zds Second k))
-
-pub zds_facts : (k : KeyType) → Says (zds_claim k)
+pub zds_facts : (k : KeyType) → (stays zds First k ≡ true
+    → (written (read zds Second) zds First k ≡ true)
+    × (stays zds First ((half_of zds First).moves k) ≡ true))
+    × (checked zds Second ((half_of zds First).moves k) ≡ true → checked zds Second k ≡ true)
+    × (flags_fit Zone (Late zds) k ≡ true → stays zds First k ≡ true → checked zds Second k ≡ true)
 unfolding column
-zds_facts = of_key zds_claim (λ a b. refl)
+zds_facts k = grind (arith, and_parts)
 
 -- the second report of a Double-Signature ZSK roll does nothing
 silent : (now : ℕ) (k : KeyParts) → after_report zds Second now k ≡ k
@@ -166,7 +163,7 @@ pub armed-between : (now m : ℕ) (old new : KeySetParts) → Goes old new (afte
 armed-between now m old new keys h = record {
   bound = λ q j x e c s.
       let b = mapped _ _ j (sym (keys q) ∙ e) in
-      h.bound q b.0 x b.1 ((zds_facts b.0.keytype).1.0
+      h.bound q b.0 x b.1 ((zds_facts b.0.keytype).1
       (ap (λ (k : KeyParts). checked zds Second k.keytype) b.2 ∙ c))
       (wait_stamps zds First now b.0 (read zds Second) ∙ ap (stamp_of (read zds Second)) b.2 ∙ s);
   key = moved old new (after_wait zds First now) keys zds Second Second h.key

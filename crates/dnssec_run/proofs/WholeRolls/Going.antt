@@ -9,16 +9,14 @@ use Rattle.dnssec_key.specs.RollTable.{column, half_of, Half}
 use Rattle.dnssec_key.specs.declared.roll.{RollType.RollType, RollState.RollState}
 use Rattle.dnssec_key.specs.{declared.kind.KeyType.KeyType, Key.all_states, Key.KeyParts}
 use Rattle.dnssec_zone.specs.{Rolls.same_roll, Start.lists_kind, Start.side_of}
-use Rattle.dnssec_zone.proofs.Flags.{SideOf, affects, started, may_start}
+use Rattle.dnssec_zone.proofs.Flags.{SideOf, Keys, Zone, affects, started, may_start}
 use Rattle.dnssec_zone.proofs.Tests.{some_or_none}
 use Rattle.dnssec_keyset.specs.{KeySet.KeySetParts, Laws.LeavesOthers, Laws.RollsTogether}
 use Rattle.dnssec_keyset.proofs.{Changes.Changes, Laws.same-is}
 use Rattle.dnssec_run.proofs.Effects.{adds, came, deleted-stale, deletes, goes, moved_key, phases}
 use Rattle.dnssec_run.proofs.Chain.Setters.{harmless, harmless-alike, others-unlisted}
-use Rattle.dnssec_run.proofs.Chain.Tables.{Claim, holds, fails, ◌gives◌, ◌also◌, of_half, of_key}
-use Rattle.dnssec_run.proofs.Chain.Tables.{of_listed, of_roll_key, Stamp}
-use Rattle.dnssec_run.proofs.WholeRolls.Keys.{Idle, by_sides, on_dates, on_sides, orderly, roll_now}
-use Rattle.dnssec_run.proofs.WholeRolls.Keys.{with_dates}
+use Rattle.dnssec_run.proofs.{Chain.Tables.Stamp, WholeRolls.Keys.Idle, WholeRolls.Keys.orderly}
+use Rattle.dnssec_run.proofs.WholeRolls.Keys.{roll_now}
 use Rattle.dnssec_run.{specs.WholeRolls.each_role, proofs.Premise.end_of, proofs.Chain.Facts.other}
 use Rattle.dnssec_run.proofs.WholeRolls.{Order.is_calm, Replies.leaves-beside, Replies.start-beside}
 use Rattle.dnssec_zone.specs.Wait as waits
@@ -42,34 +40,24 @@ pub began : (r : RollType) (o i : Bool) (k : KeyType) → may_start r o i k ≡ 
     → (o ≡ true → marked oldly r (started r o i k) ≡ true)
     × (i ≡ true → marked newly r (started r o i k) ≡ true)
 unfolding column
-began = of_listed (λ r o i k. may_start r o i k gives
-    ((o gives holds (marked oldly r (started r o i k)))
-    also (i gives holds (marked newly r (started r o i k))))) (λ a b. refl)
+began r o i k may = grind (arith, and_parts)
 
 wait_facts : (r : RollType) (half : Half) (k : KeyType)
     → (marked oldly r k ≡ true → marked oldly r ((half_of r half).moves k) ≡ true)
     × (marked newly r k ≡ true → marked newly r ((half_of r half).moves k) ≡ true)
 unfolding column
-wait_facts = of_half (λ r half k.
-    (marked oldly r k gives holds (marked oldly r ((half_of r half).moves k)))
-    also (marked newly r k gives holds (marked newly r ((half_of r half).moves k)))) (λ a b. refl)
+wait_facts r half k = grind (arith, and_parts)
 
 new_stays : (k : KeyType) → newly k ≡ true → all_states is_stale k ≡ false
-new_stays = of_key (λ k. newly k gives fails (all_states is_stale k)) (λ a b. refl)
-
-over_claim : RollType → KeyType → (Stamp → Bool) → Claim
-over_claim r k has = on_sides r (λ sd. orderly sd Idle k has) gives
-    ((marked oldly r k gives holds (all_states is_stale k))
-    also (marked newly r k gives holds (each_role is_active_ksk is_active_zsk k)))
+new_stays k e = grind (arith, and_parts)
 
 -- if the roll is over on its sides
 pub over_facts : (r : RollType) (k : KeyType) (has : Stamp → Bool)
     → ((sd : SideOf) → affects sd r ≡ true → orderly sd Idle k has ≡ true)
     → (marked oldly r k ≡ true → all_states is_stale k ≡ true)
     × (marked newly r k ≡ true → each_role is_active_ksk is_active_zsk k ≡ true)
-unfolding over_claim column
-over_facts r k has over = with_dates (over_claim r k)
-    (of_roll_key (λ r k. on_dates (over_claim r k)) (λ a b. refl) r k) has (by_sides r _ over)
+unfolding column
+over_facts r k has over = let keys = over Keys in let zone = over Zone in grind (arith, and_parts)
 
 -- ---- one call while the roll is in progress
 

@@ -1,7 +1,6 @@
 -- What flags and stamps a key may have in each phase, by the tables; the phase of a side and those
 -- of its rolls, before and after a call: for all laws of whole rolls.
-use Rattle.std.proofs.Common.{◌≡◌, Bool, true, false, not, ◌&&◌, ◌||◌, refl, ℕ, Option, None, Some}
-use Rattle.std.proofs.Common.{arith, subst}
+use Rattle.std.proofs.Common.{◌≡◌, Bool, true, false, not, ◌&&◌, ◌||◌, ℕ, Option, None, Some, arith}
 use Rattle.std.{proofs.lemmas.Bool.and_parts, specs.Prelude.is_some}
 use Rattle.dnssec_key.specs.declared.roll.RollState.TheVariants.{Propagation2, CacheExpire2, Done}
 use Rattle.dnssec_key.specs.declared.roll.RollState.TheVariants.{Propagation1, CacheExpire1}
@@ -16,14 +15,11 @@ use Rattle.dnssec_key.specs.declared.roll.{RollState.RollState, RollType.RollTyp
 use Rattle.dnssec_key.specs.{declared.kind.KeyType.KeyType, Key.KeyParts, Key.all_states}
 use Rattle.dnssec_zone.proofs.Flags.{SideOf, Keys, Zone, affects, started, ended, Stage, Quiet}
 use Rattle.dnssec_zone.proofs.Flags.{Early, Late, flags_fit, may_start, idle-fits, unseen-fits}
-use Rattle.dnssec_zone.proofs.Tests.{◌⇒◌, and-both, implies}
+use Rattle.dnssec_zone.proofs.Tests.{◌⇒◌}
 use Rattle.dnssec_zone.specs.Rolls.{phase_of, same_roll}
 use Rattle.dnssec_keyset.specs.KeySet.{KeySetParts}
 use Rattle.dnssec_run.specs.WholeRolls.{each_role, is_settled_ksk, is_settled_zsk, propagation}
-use Rattle.dnssec_run.proofs.Chain.Tables.{written, Stamp, Visible, DsVisible, RrsigVisible, read}
-use Rattle.dnssec_run.proofs.Chain.Tables.{checked, Claim, Says, holds, ◌gives◌, ◌also◌, test}
-use Rattle.dnssec_run.proofs.Chain.Tables.{each_in_half, of_key, of_half, of_side_listed, on_both}
-use Rattle.dnssec_run.proofs.Chain.Tables.{fails, on_side}
+use Rattle.dnssec_run.proofs.Chain.Tables.{written, Stamp, Visible, DsVisible, read, checked}
 use Rattle.dnssec_run.proofs.Chain.{Tale.stamp_of, Facts.sees, Rolls.same-same}
 
 -- how far a side is in its roll, if any
@@ -100,69 +96,16 @@ dates k s = is_some (stamp_of s k)
 abbrev pub in_order : SideOf → Phase → KeyParts → Bool
 in_order sd ph k = orderly sd ph k.keytype (dates k)
 
--- it passes on each side of the roll
-abbrev pub on_sides : RollType → (SideOf → Bool) → Bool
-on_sides r p = (affects Keys r ⇒ p Keys) && (affects Zone r ⇒ p Zone)
-
-pub by_sides : (r : RollType) (p : SideOf → Bool)
-    → ((sd : SideOf) → affects sd r ≡ true → p sd ≡ true) → on_sides r p ≡ true
-by_sides r p h = and-both _ _ (implies _ _ (h Keys)) (implies _ _ (h Zone))
-
--- ---- claims of all stamps
-
-abbrev on_bools : (Bool → Claim) → Claim
-on_bools c = c true also c false
-
-on_bool : (c : Bool → Claim) → Says (on_bools c) → (b : Bool) → Says (c b)
-on_bool c h true = h.0
-on_bool c h false = h.1
-
-abbrev given : Bool → Bool → Bool → Stamp → Bool
-given v d g Visible = v
-given v d g DsVisible = d
-given v d g RrsigVisible = g
-
-abbrev pub on_dates : ((Stamp → Bool) → Claim) → Claim
-on_dates c = on_bools (λ v. on_bools (λ d. on_bools (λ g. c (given v d g))))
-
-pub with_dates : (c : (Stamp → Bool) → Claim) → Says (on_dates c) → (has : Stamp → Bool)
-    → Says (c has)
-with_dates c h has = subst (λ has. Says (c has)) (λ i s. by s i)
-    (on_bool (λ g. c (given (has Visible) (has DsVisible) g))
-    (on_bool (λ d. on_bools (λ g. c (given (has Visible) d g)))
-    (on_bool (λ v. on_bools (λ d. on_bools (λ g. c (given v d g)))) h (has Visible))
-    (has DsVisible)) (has RrsigVisible))
-  where
-    by : (s : Stamp) → given (has Visible) (has DsVisible) (has RrsigVisible) s ≡ has s
-    by s = grind arith
-
-of_side_half : (c : SideOf → RollType → Half → KeyType → Claim)
-    → ((a b : Bool) → each_in_half a b (λ r half k. test (on_both (λ sd. c sd r half k))) ≡ true)
-    → (sd : SideOf) (r : RollType) (half : Half) (k : KeyType) → Says (c sd r half k)
-of_side_half c e sd r half k = on_side (λ sd. c sd r half k)
-    (of_half (λ r half k. on_both (λ sd. c sd r half k)) e r half k) sd
-
 -- ---- each call keeps it
-
-start_claim : SideOf → RollType → Bool → Bool → KeyType → (Stamp → Bool) → Claim
-start_claim sd r o i k has = on_sides r (λ sd. orderly sd Idle k has) gives
-    holds (sound sd (Spreading First r) (o && all_states is_kept k, i) (started r o i k) has)
 
 -- a start; an early end undoes it: what was old already stays so
 pub start_sound : (sd : SideOf) (r : RollType) (o i : Bool) (k : KeyType) (has : Stamp → Bool)
     → affects sd r ≡ true → may_start r o i k ≡ true
     → ((sd : SideOf) → affects sd r ≡ true → orderly sd Idle k has ≡ true)
     → sound sd (Spreading First r) (o && all_states is_kept k, i) (started r o i k) has ≡ true
-unfolding start_claim column
-start_sound sd r o i k has own may fit = with_dates (start_claim sd r o i k)
-    (of_side_listed (λ sd r o i k. affects sd r gives may_start r o i k gives
-    on_dates (start_claim sd r o i k)) (λ a b. refl) sd r o i k own may) has (by_sides r _ fit)
-
-half_claim : SideOf → RollType → Half → KeyType → (Stamp → Bool) → Claim
-half_claim sd r half k has = (orderly sd (Spreading half r) k has gives
-    holds (orderly sd (Expiring half r) k (λ s. written s r half k || has s)))
-    also (orderly sd (Expiring half r) k has gives
-    holds (orderly sd (at_phase r (after_expiry half)) ((half_of r half).moves k) has))
+unfolding column
+start_sound sd r o i k has own may fit =
+    let keys = fit Keys in let zone = fit Zone in grind (arith, and_parts)
 
 -- the reports and the waits
 pub half_orderly : (sd : SideOf) (r : RollType) (half : Half) (k : KeyType) (has : Stamp → Bool)
@@ -170,10 +113,9 @@ pub half_orderly : (sd : SideOf) (r : RollType) (half : Half) (k : KeyType) (has
     → orderly sd (Expiring half r) k (λ s. written s r half k || has s) ≡ true)
     × (orderly sd (Expiring half r) k has ≡ true
     → orderly sd (at_phase r (after_expiry half)) ((half_of r half).moves k) has ≡ true)
-unfolding half_claim column
-half_orderly sd r half k has own = with_dates (half_claim sd r half k)
-    (of_side_half (λ sd r half k. affects sd r gives on_dates (half_claim sd r half k))
-    (λ a b. refl) sd r half k own) has
+unfolding column
+half_orderly Keys r half k has own = (λ e. grind (arith, and_parts), λ e. grind (arith, and_parts))
+half_orderly Zone r half k has own = (λ e. grind (arith, and_parts), λ e. grind (arith, and_parts))
 
 pub ends-expired : (sd : SideOf) (r : RollType) (half : Half) (listed : Bool × Bool) (k : KeyType)
     (has : Stamp → Bool) → can_end sd (at_phase r (after_expiry half)) listed k has ≡ true
@@ -184,8 +126,7 @@ ends-expired sd r half listed k has = grind arith
 unseen_ended : (sd : SideOf) (r : RollType) (o i : Bool) (k : KeyType) → not (sees sd k) ≡ true
     → sees sd (ended r o i k) ≡ false
 unfolding column
-unseen_ended = of_side_listed (λ sd r o i k. not (sees sd k) gives
-    fails (sees sd (ended r o i k))) (λ a b. refl)
+unseen_ended sd r o i k e = grind (arith, and_parts)
 
 pub unseen_sound : (sd : SideOf) (ph : Phase) (listed : Bool × Bool) (k : KeyType)
     (has : Stamp → Bool) → sees sd k ≡ false → sound sd ph listed k has ≡ true
@@ -198,30 +139,20 @@ fits_of sd ph k has e = grind (arith, and_parts, idle-fits, unseen-fits)
 
 -- ---- what it gives
 
-settled_claim : KeyType → (Stamp → Bool) → Claim
-settled_claim k has = orderly Keys Idle k has gives orderly Zone Idle k has gives
-    holds (each_role is_settled_ksk is_settled_zsk k)
-
 -- between the rolls it is settled
 pub settled_by : (k : KeyType) (has : Stamp → Bool) → orderly Keys Idle k has ≡ true
     → orderly Zone Idle k has ≡ true → each_role is_settled_ksk is_settled_zsk k ≡ true
-unfolding settled_claim column
-settled_by k = with_dates (settled_claim k)
-    (of_key (λ k. on_dates (settled_claim k)) (λ a b. refl) k)
-
-stamp_claim : RollType → Half → KeyType → (Stamp → Bool) → Claim
-stamp_claim r half k has = on_sides r (λ sd. orderly sd (Expiring half r) k has) gives
-    holds (has (read r half))
+unfolding column
+settled_by k has keys zone = grind (arith, and_parts)
 
 -- a key that a wait checks is on a side of its roll, and has the stamp
 pub stamp_there : (r : RollType) (half : Half) (k : KeyType) (has : Stamp → Bool)
     → checked r half k ≡ true
     → ((sd : SideOf) → affects sd r ≡ true → orderly sd (Expiring half r) k has ≡ true)
     → has (read r half) ≡ true
-unfolding stamp_claim column
-stamp_there r half k has check fit = with_dates (stamp_claim r half k)
-    (of_half (λ r half k. checked r half k gives on_dates (stamp_claim r half k)) (λ a b. refl)
-    r half k check) has (by_sides r _ fit)
+unfolding column
+stamp_there r half k has check fit =
+    let keys = fit Keys in let zone = fit Zone in grind (arith, and_parts)
 
 -- ---- phases of a side and states of a roll
 

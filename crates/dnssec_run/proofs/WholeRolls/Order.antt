@@ -2,7 +2,7 @@
 -- misses a stamp, and roles settle between the rolls: for `stamps` and `settled`.
 use Rattle.std.proofs.Common.{◌≡◌, ℕ, inl, inr, Bool, true, false, not, ◌&&◌, refl, sym, ◌∙◌, ap}
 use Rattle.std.proofs.Common.{List, Option, None, Some, subst, suc, arith, ◌||◌}
-use Rattle.std.proofs.lemmas.Bool.{cases_Bool, and_parts, false_from_ne_true, true≢false}
+use Rattle.std.proofs.lemmas.Bool.{cases_Bool, and_from, and_parts, false_from_ne_true, true≢false}
 use Rattle.std.proofs.lemmas.Option.{same_Some, none-some}
 use Rattle.std.specs.{Prelude.is_some, Prelude.is_none, Option.option_map, Str.bytes_eq}
 use Rattle.std.specs.{Cmp.Lexicographic.bytes_decides, Cmp.Lexicographic.slice_cmp, FinMap.get}
@@ -20,7 +20,7 @@ use Rattle.dnssec_zone.specs.Wait.{ttl_in, lacks_stamp, longest_left, stamp_read
 use Rattle.dnssec_zone.specs.{Keys.some_key, Lists.listed_by, Lists.has_kept_key, Rolls.phase_of}
 use Rattle.dnssec_zone.proofs.Flags.{SideOf, affects, is_idle, has_role, Keys, Zone, stale-idle}
 use Rattle.dnssec_zone.proofs.Flags.{started as started_kind}
-use Rattle.dnssec_zone.proofs.{Longest.left-unbarred, Quantified.some_key-found, Tests.and-both}
+use Rattle.dnssec_zone.proofs.{Longest.left-unbarred, Quantified.some_key-found}
 use Rattle.dnssec_zone.proofs.Tests.{some_or_none}
 use Rattle.dnssec_keyset.specs.KeySet.{KeySetParts, new_set}
 use Rattle.dnssec_keyset.specs.Laws.{LeavesOthers, RollsTogether, roll_of}
@@ -211,14 +211,14 @@ module _ (old new : KeySetParts) (all : RollsTogether old.rolls) (h : (s : SideO
       λ k s. grind (arith, stamp_reported r half now k s) in
       on_roll (keyset.Report r half ttl now) r refl plain v m leaves (λ own q k at.
       subst (λ ph. keeps_order sd ph new.lists q (after_report r half now k) ≡ true)
-      (sym (expiring-at r half ttl)) (and-both _ _
+      (sym (expiring-at r half ttl)) (and_from _ _
       (ap (orderly sd (Expiring half r) k.keytype) (λ i s. stamps k s i)
       ∙ (half_orderly sd r half k.keytype (dates k) own).0 (in-order-at sd old (h sd) q k at r
       (propagation half) (Spreading half r) (spreading-at r half) own
       (spreads half _ (no_cause _ v)))) refl))
   changed (keyset.Wait r half now) plain leaves v m =
       let w = waits_in_phase r half now (world_of old) v in
-      on_roll (keyset.Wait r half now) r refl plain v m leaves (λ own q k at. and-both _ _
+      on_roll (keyset.Wait r half now) r refl plain v m leaves (λ own q k at. and_from _ _
       (ap (orderly sd (at_phase r (after_expiry half)) ((half_of r half).moves k.keytype))
       (λ i s. is_some (sym (wait_stamps r half now k s) i))
       ∙ (half_orderly sd r half k.keytype (dates k) own).1 (in-order-at sd old (h sd) q k at r
@@ -229,7 +229,7 @@ module _ (old new : KeySetParts) (all : RollsTogether old.rolls) (h : (s : SideO
       on_roll (keyset.AbortRoll r) r refl plain v m leaves (λ own q k at.
       subst (λ j. keeps_order sd Idle new.lists q j ≡ true)
       (sym (early-end-parts r (is_listed l.olds q) (is_listed l.news q) k))
-      (and-both _ _ (and_parts _ _ (order-at sd old (h sd) q k at r Propagation1
+      (and_from _ _ (and_parts _ _ (order-at sd old (h sd) q k at r Propagation1
       (Spreading First r) refl own (ends_early _ (no_cause _ v)))).1 refl))
   changed (keyset.RollDone r) plain leaves v m =
       on_roll (keyset.RollDone r) r refl plain v m leaves (λ own q k at.

@@ -40,7 +40,7 @@ reads : (set : KeySetParts) → ((sd : SideOf) → Order sd set) → (r : RollTy
     (ttl m : ℕ) → roll_now set r ≡ Some (cache_expire half ttl) → (a : Armed r half m set)
     → checked r half a.key.1.keytype ≡ true
 reads set h ZskDoubleSignatureRoll Second ttl m e a =
-    (zds_facts a.key.1.keytype).1.1 (fits_of Zone (Expiring Second zds) a.key.1.keytype
+    (zds_facts a.key.1.keytype).2 (fits_of Zone (Expiring Second zds) a.key.1.keytype
     (dates a.key.1) (in-order-at Zone set (h Zone) a.key.0 a.key.1 a.key.2 zds (CacheExpire2 ttl)
     (Expiring Second zds) refl refl e)) a.key.3
 reads set h r First ttl m e a = (stays_facts r First a.key.1.keytype a.key.3).check (timed_first r)

@@ -6,12 +6,12 @@ use Rattle.dnssec_run.proofs.sets.read_sets.Given as goal
 
 abbrev pub invariant-loop-reference : goal.invariant-loop-reference
 invariant-loop-reference l = record {
-  ds : Reads in_ds (hash.get_by_text l.keys) l.fn.touched.ds l.fn.before.ds.items
+  ds : Reads in_ds (hash.get_by_text l.keys) l.fn.touched.ds l.fn.sets.ds.items
       l.added.entries l.reference-iterator l.ds;
-  dnskey : Reads in_dnskey (hash.get_by_text l.keys) l.fn.touched.dnskey l.fn.before.dnskey.items
+  dnskey : Reads in_dnskey (hash.get_by_text l.keys) l.fn.touched.dnskey l.fn.sets.dnskey.items
       l.added.entries l.reference-iterator l.dnskey;
   dnskey_signers : Reads signs_dnskey (hash.get_by_text l.keys) l.fn.touched.dnskey
-      l.fn.before.dnskey_signers.items l.added.entries l.reference-iterator l.dnskey_signers;
+      l.fn.sets.dnskey_signers.items l.added.entries l.reference-iterator l.dnskey_signers;
   zone_signers : Reads signs_zone (hash.get_by_text l.keys) l.fn.touched.zone_signers
-      l.fn.before.zone_signers.items l.added.entries l.reference-iterator l.zone_signers;
+      l.fn.sets.zone_signers.items l.added.entries l.reference-iterator l.zone_signers;
 }

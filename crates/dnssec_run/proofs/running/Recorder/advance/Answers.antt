@@ -1,41 +1,61 @@
 -- A call that is made adds one call and its entry to the record.
-use Rattle.std.proofs.Common.{◌≡◌, suc, [], ◌∷◌, ◌++◌, length, sym, ap, subst, ◌∙◌, arith}
-use Rattle.std.proofs.Common.{length-append}
-use Rattle.dnssec_run.specs.Published.{IsPublished, World}
-use Rattle.dnssec_run.specs.Record.{IsEntry, world_at, world_after}
-use Rattle.dnssec_run.specs.Recorder.{ChangesOnly, TellsOutcome}
-use Rattle.dnssec_run.proofs.{Grow.run_more, Grow.world_more, Next.changes-only, Next.entry-of}
+use Rattle.std.proofs.Common.{◌≡◌, ◌∙◌, List, Bor, length, ap, refl, rules, subst, sym, true}
+use Rattle.std.proofs.Common.{arith, false, ℕ}
+use Rattle.std.{proofs.lemmas.Bool.or_parts, specs.Option.option_map}
+use Rattle.dnssec_keyset.{proofs.After.step-after, specs.KeySet.KeySetParts}
+use Rattle.dnssec_run.specs.{Published.World, Record.call_of, Record.is_accepted, Record.reply_of}
+use Rattle.dnssec_run.specs.Record.{world_after, world_at}
+use Rattle.dnssec_run.specs.Recorder.{ChangesOnly, positions_after}
+use Rattle.dnssec_run.proofs.Asked.Changes.{leaves}
+use Rattle.dnssec_run.proofs.Next.{agrees-accepted, agrees-refused, changes-only, mark-accepted}
+use Rattle.dnssec_run.proofs.Next.{mark-refused, published-refused, records-more}
+use Rattle.std.specs.BTreeMap as tree
+use Rattle.dnssec_keyset.specs.Step as keyset
 use Rattle.dnssec_run.proofs.running.Recorder.advance.Goals as goal
 
-pub returns-clause-ok : goal.returns-clause-ok
-returns-clause-ok c name calls entries e tells same so =
+pub returns-in-Refused-clause-ok : goal.returns-in-Refused-clause-ok
+returns-in-Refused-clause-ok c name calls entries e tells same so =
     let x = c.args.call in
-    let o = c.in_ok-made.made.0 in
-    let made = c.in_ok-made.ensures in
-    let tells : TellsOutcome e o =
-    record { reply = tells.reply; mark = tells.mark; moment = tells.moment } in
-    let here : c.in-Some.at ≡ suc (length calls) =
-    omega (arith, so.at, so.run.count, c.in-Some.ensures) in
+    let r = c.make-reply.result in
+    let n = c.in-Some.at in
     let before = world_at name calls entries (length calls) in
-    let after : World = world_after c.in-Some.at before x o.reply in
-    let next : after ≡ world_after (suc (length calls)) before x e.reply =
-    (λ i. world_after (here i) before x (sym tells.reply i)) in
-    let agrees = made.next before so.agrees in
-    let shown : IsPublished c.renew.new.sets after =
-    c.in_ok-outcome.ensures.read before after so.published (made.leaves before so.agrees)
-    (subst (λ r. ChangesOnly r before after) (sym c.reference_set-set_by_hand.ensures)
-    (changes-only c.in-Some.at before x o.reply)) agrees in
-    let ok : IsEntry before after x e = entry-of before after x o e c.renew.new.sets
-    (made.outcome before so.agrees) tells same shown in
-    let count : length (calls ++ x ∷ []) ≡ suc (length calls) =
-    let l = length-append calls (x ∷ []) in omega arith in
-    let then : after ≡ world_at name (calls ++ x ∷ []) (entries ++ e ∷ [])
-    (length (calls ++ x ∷ [])) =
-    next ∙ sym (world_more name calls entries x e so.run.count)
-    ∙ ap (world_at name (calls ++ x ∷ []) (entries ++ e ∷ [])) (sym count) in
-    record {
-      run = run_more name calls entries x e after so.run next ok;
-      at = let l = length-append entries (e ∷ []) in omega (arith, here, so.run.count);
-      agrees = rw (← then) agrees;
-      published = rw (← then) shown;
-    }
+    let no : is_accepted r ≡ false = search rules in
+    records-more name calls entries _ _ x _ e so tells same (omega (arith, c.in-Some.ensures))
+    c.make-reply.ensures (mark-refused x r no) c.moment-moment.ensures
+    (agrees-refused n before _ _ _ x r no so.agrees
+    (step-after _ _ (call_of x) (reply_of r) c.make-reply.ensures))
+    (published-refused n before _ x r no so.published)
+
+pub returns : goal.returns
+returns c = record {
+  ok = λ name calls entries e tells same so.
+      let x = c.args.call in
+      let r = c.make-reply.result in
+      let n = c.in-Some.at in
+      let before = world_at name calls entries (length calls) in
+      let after : World = world_after n before x r in
+      let ok : is_accepted r ≡ true = search rules in
+      let at = tree.get_by_text c.args.self.now.added in
+      let agrees = agrees-accepted n before _ c.make-reply.new.set at
+      (tree.get_by_text c.note.new.added) x r ok so.agrees
+      (step-after _ _ (call_of x) (reply_of r) c.make-reply.ensures)
+      (λ q. c.in_ok-self.ensures.ok q ∙ (λ i. positions_after n (c.in_ok-change.ensures.put i)
+      (c.in_ok-change.ensures.taken i) at q)) in
+      let hand = c.by_hand-by_hand.ensures in
+      let touched = c.touched-touched.ensures in
+      let left = leaves n before after x r (subst (λ (t : KeySetParts × KeySetParts).
+      keyset.Step t.0 (call_of x) (reply_of r) t.1) (λ i. (so.agrees.same i, agrees.same i))
+      c.make-reply.ensures) refl c.touched-touched.result
+      (λ no t. let p = or_parts _ _ (sym touched.ds ∙ no) in (sym hand.ds ∙ p.0, p.1))
+      (λ no t. let p = or_parts _ _ (sym touched.dnskey ∙ no) in (sym hand.dnskey ∙ p.0, p.1))
+      (λ no t. let p = or_parts _ _ (sym touched.zone_signers ∙ no) in
+      (sym hand.zone_signers ∙ p.0, p.1)) in
+      let only = ap (option_map (λ (r : Bor (List ℕ)). r.now)) touched.only ∙ hand.only in
+      let shown = c.in_ok-may_publish.ensures.read before after so.published left
+      (subst (λ o. ChangesOnly o before after) (sym only) (changes-only n before x r)) agrees in
+      records-more name calls entries _ _ x _ e so tells same (omega (arith, c.in-Some.ensures))
+      c.make-reply.ensures (c.mark-mark.ensures ∙ mark-accepted x r ok) c.moment-moment.ensures
+      agrees shown;
+  kept = c.in_ok-may_publish.ensures.kept;
+  err = tt;
+}

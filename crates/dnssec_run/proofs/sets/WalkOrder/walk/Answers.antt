@@ -7,7 +7,7 @@ use Rattle.std.specs.{List.All, Global.Global}
 use Rattle.dnssec_key.specs.Key.{KeyParts}
 use Rattle.dnssec_run.specs.Recorder.{entry_lent}
 use Rattle.std.specs.HashMap as hash
-use Rattle.dnssec_run.proofs.sets.walk.Goals as goal
+use Rattle.dnssec_run.proofs.sets.WalkOrder.walk.Goals as goal
 
 -- an entry as it is lent
 abbrev Lent : Type 0

@@ -3,7 +3,7 @@ use Rattle.std.proofs.Common.{◌≡◌, ◌+◌, ◌++◌, ◌∷◌, ◌∙◌
 use Rattle.std.proofs.Common.{string_bytes, take, vec_len}
 use Rattle.dnssec_run.specs.{declared.record.PublishedKey.PublishedKey, Published.Id}
 use Rattle.dnssec_run.{specs.Published.id_of, proofs.Positions.puts-next}
-use Rattle.dnssec_run.proofs.renewal.Renewal.put.Goals as goal
+use Rattle.dnssec_run.proofs.sets.Renewal.put.Goals as goal
 
 pub returns-clause-ok : goal.returns-clause-ok
 returns-clause-ok c =

@@ -6,7 +6,7 @@ use Rattle.std.specs.Prelude.{if◌then◌else◌, slice_get}
 use Rattle.dnssec_key.specs.declared.roll.RollType.{RollType}
 use Rattle.dnssec_run.specs.Safe.{base_below, is_step, position_at}
 use Rattle.dnssec_run.specs.{declared.record.Entry.Entry, Steps.step_of}
-use Rattle.dnssec_run.proofs.steps.Steps.of_record.Goals as goal
+use Rattle.dnssec_run.proofs.record.Steps.of_record.Goals as goal
 
 -- one position more
 more : (entries : List Entry) (roll : RollType) (n at : ℕ) (e : Entry) (here : Option ℕ)
