@@ -1,19 +1,16 @@
 //! A set as a judge holds it.
-ghost use Rattle.std.specs.Prelude.{◌≡◌, ◌∷◌, ◌++◌, [], map, IfOk, IfErr, OnOk, nat_lt, true};
+ghost use Rattle.std.specs.Prelude.{◌≡◌, [], map, IfOk, IfErr, true};
 ghost use Rattle.dnssec_base.specs.declared.error.Error.TheVariants.{OutOfMemory};
 ghost use Rattle.dnssec_run.specs.Published.{id_of};
 ghost use Rattle.dnssec_sets.specs.Chained.{is_none};
 ghost use Rattle.dnssec_sets.specs.Sets.{keys_hold, parts_of, set_of_held, zone_holds};
 
 use crate::list::KeyList;
-use crate::sharing::share_list;
+use crate::shared::share_list;
 use crate::trust::{Found, Trust, test};
 use dnssec_keyset::Error;
 use dnssec_run::PublishedKey;
 use std::alloc::Global;
-
-/// Up to this many sets a window grows by one, since few rolls need more; then twofold.
-const ONE_BY_ONE: usize = 4;
 
 /// A set of keys, with its signers if it is a DNSKEY set. It is held once for all positions of a
 /// window that publish it.
@@ -57,10 +54,13 @@ impl Held {
             × (h.since ≡ at) × (h.last ≡ at)) }
         ensures err { IfErr result (λ e. e ≡ OutOfMemory) }
     {
-        let none = Held::none();
-        let before = before.unwrap_or(&none);
-        let keys = share_list(alloc, keys, &before.keys, &before.keys)?;
-        let signers = share_list(alloc, signers, &before.signers, &keys)?;
+        let empty = KeyList::Empty;
+        let (keys_before, signers_before) = match before {
+            Some(before) => (&before.keys, &before.signers),
+            None => (&empty, &empty),
+        };
+        let keys = share_list(alloc, keys, keys_before, keys_before)?;
+        let signers = share_list(alloc, signers, signers_before, &keys)?;
         Ok(Held {
             keys,
             signers,
@@ -110,20 +110,6 @@ impl Held {
         self.keys.is_empty()
     }
 
-    /// Whether it has left a window that begins at the position.
-    pub fn has_left(&self, begin: usize) -> bool
-        ensures { result ≡ nat_lt self.now.last begin }
-    {
-        self.last < begin
-    }
-
-    /// Whether every set that was tested before this position was tested with it.
-    pub fn is_tested(&self, tested: usize) -> bool
-        ensures { result ≡ nat_lt self.now.since tested }
-    {
-        self.since < tested
-    }
-
     /// Whether it is a DS set with no key, or one of its keys is in the DNSKEY set and signs it.
     /// The key of the test before is tried first.
     #[inline(always)]
@@ -160,16 +146,4 @@ pub fn clone_sets(alloc: Global, sets: &[Held]) -> Result<Vec<Held>, Error>
         copies.push(held.try_clone(alloc)?)?;
     }
     Ok(copies)
-}
-
-/// Adds a set to those of a window.
-pub fn add_set(sets: &mut Vec<Held>, held: Held) -> Result<(), Error>
-    ensures items { OnOk result (sets.new.items ≡ sets.old.items ++ held ∷ []) }
-    ensures err { IfErr result (λ e. e ≡ OutOfMemory) }
-{
-    if sets.len() < ONE_BY_ONE {
-        sets.reserve_exact(1)?;
-    }
-    sets.push(held)?;
-    Ok(())
 }

@@ -8,9 +8,8 @@ mod held;
 mod list;
 mod place;
 mod shared;
-mod sharing;
 mod trust;
 
-pub use held::{Held, add_set, clone_sets};
+pub use held::{Held, clone_sets};
 pub use shared::sum_of;
 pub use trust::{Found, Trust};

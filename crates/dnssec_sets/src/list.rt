@@ -44,6 +44,13 @@ impl Piece {
         self.keys.as_slice()
     }
 
+    /// Whether it has no key.
+    fn is_empty(&self) -> bool
+        ensures { result ≡ is_none (ids_of_piece self.now) }
+    {
+        self.keys.is_empty()
+    }
+
     /// Whether a list that is in order has the key in this piece or in one after it.
     fn is_up_to(&self, key: &PublishedKey) -> bool {
         match self.keys().first() {
@@ -87,7 +94,7 @@ impl KeyList {
         ensures ok { IfOk result (λ list. ids_in list ≡ map shared_id keys.items) }
         ensures err { IfErr result (λ e. e ≡ OutOfMemory) }
     {
-        if has_none(&keys) {
+        if keys.is_empty() {
             return Ok(KeyList::Empty);
         }
         Ok(KeyList::Whole(Box::new(alloc, keys)?))
@@ -134,7 +141,7 @@ impl KeyList {
     {
         match self {
             KeyList::Empty => true,
-            KeyList::Whole(keys) => has_none(keys.as_slice()),
+            KeyList::Whole(keys) => keys.is_empty(),
             KeyList::Pieces(pieces) => are_empty(pieces.as_slice()),
         }
     }
@@ -289,18 +296,11 @@ fn are_empty(pieces: &[Piece]) -> bool
     ensures { result ≡ is_none (flat_map ids_of_piece pieces.now) }
 {
     for piece in pieces {
-        if !has_none(piece.keys()) {
+        if !piece.is_empty() {
             return false;
         }
     }
     true
-}
-
-/// Whether there are no keys.
-fn has_none(keys: &[SharedKey]) -> bool
-    ensures { result ≡ is_none (map shared_id keys.now) }
-{
-    keys.is_empty()
 }
 
 /// Whether a piece has the key.

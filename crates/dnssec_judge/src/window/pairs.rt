@@ -1,9 +1,7 @@
 //! Any two sets of the windows are tested once: each new set with all sets of the other kinds.
 ghost use Rattle.std.specs.Prelude.{◌≡◌, ◌&&◌};
-ghost use Rattle.std.specs.List.{list_all};
 ghost use Rattle.dnssec_sets.specs.Sets.{keys_hold, set_of_held, zone_holds};
-ghost use Rattle.dnssec_sets.specs.Chained.{is_none};
-ghost use Rattle.dnssec_judge.specs.Inner.Window.{begin_of, lasting, newly, pair_holds};
+ghost use Rattle.dnssec_judge.specs.Inner.Window.{all_in, new_in, pair_holds};
 
 use super::Window;
 use dnssec_sets::{Found, Held, Trust};
@@ -37,43 +35,34 @@ impl Pair {
 }
 
 impl Window {
-    /// Whether no set of the window has a key.
-    pub(crate) fn has_no_keys(&self) -> bool
-        ensures { result ≡ list_all (lasting (begin_of self.now.spans.items) (λ p. is_none p.0))
-            self.now.sets.items }
-    {
-        let begin = self.begin();
-        self.sets
-            .iter()
-            .all(|held| held.has_left(begin) || held.has_no_keys())
-    }
-
     /// Whether each set that came at position `tested` or later holds with each set of the other
     /// window.
     #[inline(always)]
     pub(crate) fn new_hold(&self, other: &Window, pair: Pair, tested: usize) -> bool
-        ensures { result ≡ list_all (newly (begin_of self.now.spans.items) tested (λ p. list_all
-            (lasting (begin_of other.now.spans.items) (pair_holds pair p)) other.now.sets.items))
-            self.now.sets.items }
+        ensures { result ≡ new_in self.now tested (λ p. all_in other.now (pair_holds pair p)) }
     {
         let begin = self.begin();
-        self.sets.iter().all(|held| {
-            held.has_left(begin) || held.is_tested(tested) || other.all_hold(pair, held)
-        })
+        for held in &self.sets {
+            if held.last < begin || held.since < tested {
+                continue;
+            }
+            if !other.all_hold(pair, held) {
+                return false;
+            }
+        }
+        true
     }
 
     /// Whether each DNSKEY set that came at position `tested` or later is trusted by each DS set,
     /// and trusts all zone signers.
     pub(crate) fn new_keys_trust(&self, ds: &Window, zone: &Window, tested: usize) -> bool
-        ensures { result ≡ list_all (newly (begin_of self.now.spans.items) tested (λ q.
-            list_all (lasting (begin_of ds.now.spans.items) (λ p. keys_hold p q)) ds.now.sets.items
-            && list_all (lasting (begin_of zone.now.spans.items) (λ z. zone_holds q z))
-            zone.now.sets.items)) self.now.sets.items }
+        ensures { result ≡ new_in self.now tested (λ q. all_in ds.now (λ p. keys_hold p q)
+            && all_in zone.now (λ z. zone_holds q z)) }
     {
         let begin = self.begin();
         self.sets.iter().all(|dnskey| {
-            dnskey.has_left(begin)
-                || dnskey.is_tested(tested)
+            dnskey.last < begin
+                || dnskey.since < tested
                 || ds.all_hold(Pair::DsOfKeys, dnskey) && zone.all_hold(Pair::SignersOfKeys, dnskey)
         })
     }
@@ -82,13 +71,12 @@ impl Window {
     /// which the one before it held.
     #[inline(always)]
     fn all_hold(&self, pair: Pair, other: &Held) -> bool
-        ensures { result ≡ list_all (lasting (begin_of self.now.spans.items)
-            (pair_holds pair (set_of_held other.now))) self.now.sets.items }
+        ensures { result ≡ all_in self.now (pair_holds pair (set_of_held other.now)) }
     {
         let begin = self.begin();
         let mut by = None;
         for held in &self.sets {
-            if !held.has_left(begin) {
+            if begin <= held.last {
                 let trust = pair.test(held, other, by);
                 if !trust.holds {
                     return false;

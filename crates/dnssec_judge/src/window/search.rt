@@ -4,7 +4,7 @@ ghost use Rattle.std.specs.Option.{option_copied};
 ghost use Rattle.dnssec_sets.specs.Sets.{keys_hold, set_of_any, set_of_held, sets_have_chain};
 ghost use Rattle.dnssec_sets.specs.Sets.{zone_holds};
 ghost use Rattle.dnssec_judge.specs.Inner.Window.{all_pass, first_ds, first_failing, first_keys};
-ghost use Rattle.dnssec_judge.specs.Inner.Window.{stretches_of};
+ghost use Rattle.dnssec_judge.specs.Inner.Window.{set_at_place, stretches_of};
 
 use super::{Span, Window};
 use crate::verdict::Broken;
@@ -122,6 +122,14 @@ impl Window {
             }
         }
         None
+    }
+
+    /// The set of a span.
+    fn held_at(&self, span: &Span) -> Option<&Held>
+        ensures { set_of_any (option_copied result)
+            ≡ set_at_place self.now.sets.items span.now.place }
+    {
+        self.sets.get(span.place)
     }
 
     /// The first position of a span that isn't retired.

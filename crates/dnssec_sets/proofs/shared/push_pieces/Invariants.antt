@@ -3,7 +3,7 @@ use Rattle.std.proofs.Common.{◌≡◌, ◌++◌, length, map}
 use Rattle.std.specs.Prelude.{flat_map}
 use Rattle.dnssec_run.specs.Published.{id_of}
 use Rattle.dnssec_sets.specs.Chained.{ids_of_piece}
-use Rattle.dnssec_sets.proofs.sharing.push_pieces.Given as goal
+use Rattle.dnssec_sets.proofs.shared.push_pieces.Given as goal
 
 abbrev pub invariant-loop-group : goal.invariant-loop-group
 invariant-loop-group l =

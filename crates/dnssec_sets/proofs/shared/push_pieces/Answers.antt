@@ -3,7 +3,7 @@ use Rattle.std.proofs.Common.{◌++◌, append_assoc, sym, ◌∙◌, ap, map}
 use Rattle.std.{specs.Prelude.flat_map, proofs.lemmas.List.map-append}
 use Rattle.dnssec_run.specs.Published.{id_of}
 use Rattle.dnssec_sets.{specs.Chained.ids_of_piece, proofs.Lists.joined}
-use Rattle.dnssec_sets.proofs.sharing.push_pieces.Goals as goal
+use Rattle.dnssec_sets.proofs.shared.push_pieces.Goals as goal
 
 pub loop-group-preserved : goal.loop-group-preserved
 loop-group-preserved c =
