@@ -1,6 +1,6 @@
 -- The keys that a session lists, as the code keeps them and as a definition has them.
-use Rattle.std.proofs.Common.{◌≡◌, ◌∙◌, Bool, true, false, List, [], ◌∷◌, map, refl, ap}
-use Rattle.std.specs.{List.filter, Prelude.if◌then◌else◌}
+use Rattle.std.proofs.Common.{◌≡◌, ◌∙◌, Bool, List, [], ◌∷◌, map, refl, ap, arith}
+use Rattle.std.specs.List.{filter}
 use Rattle.dnssec_record.specs.Courses.{Listed, as_listed}
 use Rattle.dnssec_record.specs.declared.courses.Listed as code
 
@@ -10,14 +10,8 @@ pub kept_listed : (passes : Listed → Bool) (kept ls : List code.Listed)
     → map as_listed kept ≡ filter passes (map as_listed ls)
 kept_listed passes kept ls is = ap (map as_listed) is ∙ by ls
   where
-    one : (b : Bool) (l : code.Listed) (ls : List code.Listed) (shown : List Listed)
-        → map as_listed ls ≡ shown → map as_listed (if b then l ∷ ls else ls)
-        ≡ (if b then as_listed l ∷ shown else shown)
-    one true l ls shown rest = ap (λ ls. as_listed l ∷ ls) rest
-    one false l ls shown rest = rest
-
     by : (ls : List code.Listed)
         → map as_listed (filter (λ (l : code.Listed). passes (as_listed l)) ls)
         ≡ filter passes (map as_listed ls)
     by [] = refl
-    by (l ∷ ls) = one (passes (as_listed l)) l _ _ (by ls)
+    by (l ∷ ls) = grind (arith, by ls)

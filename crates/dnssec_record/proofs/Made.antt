@@ -5,7 +5,7 @@ use Rattle.std.proofs.lemmas.List.{nil_from_length}
 use Rattle.dnssec_run.specs.declared.{call.Call.Call, record.Entry.Entry}
 use Rattle.dnssec_script.specs.Inner.{Reading.IsOfStatements, Statement.statement_says}
 use Rattle.dnssec_script.specs.Script.{IsScript, call_says}
-use Rattle.dnssec_script.{specs.declared.statement.Statement.Statement, proofs.EachLine.made_more}
+use Rattle.dnssec_script.{specs.declared.statement.Statement.Statement, proofs.Judging.made_more}
 
 -- of all statements these are left, and they are so many; and this holds of whatever calls the
 -- others make, and of their entries

@@ -22,10 +22,9 @@ turns_more : (calls : List Call) (entries : List Entry) (call : Call) (e : Entry
     → turns (calls ++ call ∷ []) (entries ++ e ∷ [])
     ≡ turns calls entries ++ turn_after (turn_of call) e.reply ∷ []
 turns_more [] [] call e same = refl
-turns_more [] (x ∷ xs) call e same = absurd (omega arith)
-turns_more (c ∷ cs) [] call e same = absurd (omega arith)
 turns_more (c ∷ cs) (x ∷ xs) call e same =
     ap (λ ts. turn_after (turn_of c) x.reply ∷ ts) (turns_more cs xs call e (omega arith))
+turns_more _ _ call e same = absurd (omega arith)
 
 -- what the turns have made, with one more
 folded_more : {A : Type 0} (f : A → Turn → A) (none : A) (calls : List Call) (entries : List Entry)
@@ -79,9 +78,8 @@ lines_more : (lines : List (List ℕ)) (calls : List Call) (line : List ℕ) (ca
     → AreLinesOf lines calls → IsLineOf line call
     → AreLinesOf (lines ++ line ∷ []) (calls ++ call ∷ [])
 lines_more [] [] line call so is = (is, tt)
-lines_more [] (k ∷ ks) line call so is = absurd so
-lines_more (l ∷ ls) [] line call so is = absurd so
 lines_more (l ∷ ls) (k ∷ ks) line call so is = (so.0, lines_more ls ks line call so.1 is)
+lines_more _ _ line call so is = absurd so
 
 pub script_more : (lines : List (List ℕ)) (name : List ℕ) (calls : List Call) (line : List ℕ)
     (call : Call) → AreScript lines name calls → IsLineOf line call

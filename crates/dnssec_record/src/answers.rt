@@ -1,7 +1,6 @@
 //! The answers to a script, as text.
 ghost use Rattle.std.specs.Prelude.{◌≡◌, ◌++◌, OnOk, codes, decimal, string_bytes};
-ghost use Rattle.std.specs.List.{flat_map};
-ghost use Rattle.dnssec_record.specs.Output.{action_name, actions_text, broken_text, chain_line};
+ghost use Rattle.dnssec_record.specs.Output.{action_name, broken_text, chain_line};
 ghost use Rattle.dnssec_record.specs.Output.{published_text, reply_text, set_text};
 
 use dnssec_judge::Broken;
@@ -14,34 +13,18 @@ pub(crate) fn push_answer(text: &mut String, reply: &Reply) -> Result<(), AllocE
     ensures { OnOk result (string_bytes text.new
         ≡ string_bytes text.old ++ reply_text reply.now ++ codes "\n") }
 {
-    push_reply(text, reply)?;
-    text.push_str("\n")
-}
-
-/// Writes what a call answered.
-fn push_reply(text: &mut String, reply: &Reply) -> Result<(), AllocError>
-    ensures { OnOk result (string_bytes text.new ≡ string_bytes text.old ++ reply_text reply.now) }
-{
     match reply {
-        Reply::Done => text.push_str("ok"),
+        Reply::Done => text.push_str("ok\n"),
         Reply::Actions(actions) => {
             text.push_str("ok")?;
-            push_actions(text, actions)
+            for action in actions {
+                text.push_str(" ")?;
+                text.push_str(action_name(*action))?;
+            }
+            text.push_str("\n")
         }
-        Reply::Refused(error) => write!(text, "refused: {error}"),
+        Reply::Refused(error) => write!(text, "refused: {error}\n"),
     }
-}
-
-/// Writes actions, each after a space.
-fn push_actions(text: &mut String, actions: &[Action]) -> Result<(), AllocError>
-    ensures { OnOk result (string_bytes text.new
-        ≡ string_bytes text.old ++ actions_text actions.now) }
-{
-    for action in actions {
-        text.push_str(" ")?;
-        text.push_str(action_name(*action))?;
-    }
-    Ok(())
 }
 
 /// The name of an action, as answers have it.
@@ -81,25 +64,15 @@ pub(crate) fn push_published(text: &mut String, published: &Published) -> Result
     text.push_str("\n")
 }
 
-/// Writes a set: its references, or `-` for none.
+/// Writes a set: its references with commas between them, or `-` for none.
 fn push_set(text: &mut String, keys: &[PublishedKey]) -> Result<(), AllocError>
     ensures { OnOk result (string_bytes text.new ≡ string_bytes text.old ++ set_text keys.now) }
 {
-    match keys.split_first() {
-        None => text.push_str("-"),
-        Some((key, keys)) => {
-            text.push_str(key.reference.as_str())?;
-            push_further(text, keys)
-        }
-    }
-}
-
-/// Writes further references, each after a comma.
-fn push_further(text: &mut String, keys: &[PublishedKey]) -> Result<(), AllocError>
-    ensures { OnOk result (string_bytes text.new
-        ≡ string_bytes text.old ++ flat_map (λ k. codes "," ++ string_bytes k.reference) keys.now) }
-{
-    for key in keys {
+    let Some((first, others)) = keys.split_first() else {
+        return text.push_str("-");
+    };
+    text.push_str(first.reference.as_str())?;
+    for key in others {
         text.push_str(",")?;
         text.push_str(key.reference.as_str())?;
     }

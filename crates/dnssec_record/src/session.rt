@@ -100,6 +100,7 @@ impl Session {
     /// # Errors
     ///
     /// If there is no memory.
+    #[tactic(auto, using(crate::proofs::Running::none_follows))]
     pub fn new(alloc: Global, name: Name<Vec<u8>>) -> Result<Self, AllocError>
         ensures { IfOk result (λ session. StandsAfter name [] [] session) }
     {
@@ -119,6 +120,7 @@ impl Session {
     /// # Errors
     ///
     /// If there is no memory.
+    #[tactic(auto, using(crate::proofs::Running::same_sets))]
     pub fn try_clone(&self, alloc: Global) -> Result<Self, AllocError>
         ensures { IfOk result (λ copy. (name : List ℕ) (calls : List Call) (entries : List Entry) →
             StandsAfter name calls entries self.now → StandsAfter name calls entries copy) }

@@ -1,38 +1,49 @@
--- A text that is cut at a byte: its first part, and the others (for `first_part`).
-use Rattle.std.proofs.Common.{◌≡◌, ℕ, ◌+◌, Bool, true, false, cond, Option, Some, None, List, []}
-use Rattle.std.proofs.Common.{◌∷◌, Bor, take, drop, refl, sym, ap, ◌∙◌, arith}
-use Rattle.std.proofs.lemmas.{Bool.ltb-true, Bool.ltb-false, Option.cond_some}
+-- A text that is cut at a byte: its first part, and the others.
+use Rattle.std.proofs.Common.{◌≡◌, ℕ, ◌+◌, Bool, true, false, Option, Some, None, List, []}
+use Rattle.std.proofs.Common.{◌∷◌, Bor, take, drop, length, refl, sym, ap, ◌∙◌, ◌==◌, arith, subst}
+use Rattle.std.proofs.Common.{if◌then◌else◌}
+use Rattle.std.proofs.lemmas.{Bool.ltb-true, Bool.ltb-false, Iterator.YieldsList}
 use Rattle.std.proofs.lemmas.List.Splits.{slice_split_first, slice_split_none}
 use Rattle.std.proofs.lemmas.List.Sums.{fails_before_first}
-use Rattle.std.specs.{List.slice_split, List.position, Option.option_map_or}
+use Rattle.std.specs.{List.position, List.position_or_len, Option.option_map_or, Prelude.nat_lt}
+use Rattle.dnssec_script.specs.Script.{fields_of, first_field}
 
--- at the first byte that passes there is a cut
-pub cut_at : (p : ℕ → Bool) (xs : List ℕ) (i : ℕ) → position p xs ≡ Some i
-    → slice_split p xs ≡ take i xs ∷ slice_split p (drop (i + 1) xs)
-cut_at p xs i e =
-    let found = cond_some _ _ _ e in
-    let within = ltb-true _ _ found.0 in
-    slice_split_first p xs 0 within
-    ∙ ap (λ n. take n xs ∷ slice_split p (drop (n + 1) xs)) found.1
+-- ---- the fields of a line, one after another
 
-none_before : (b : Bool) (n i : ℕ) → cond b (Some n) None ≡ None → b ≡ false
-none_before true n i e = cc
-none_before false n i e = refl
+-- the fields that are left, if anything is
+abbrev pub fields_left : Option (Bor (List ℕ)) → List (List ℕ)
+fields_left rest = option_map_or (λ r. fields_of r.now) rest []
 
--- if no byte passes, the text is one part
-pub no_cut : (p : ℕ → Bool) (xs : List ℕ) → position p xs ≡ None → slice_split p xs ≡ xs ∷ []
-no_cut p xs e =
-    let past = ltb-false _ _ (none_before _ _ 0 e) in
-    slice_split_none p xs (λ k d within. fails_before_first p xs k d (omega arith))
+-- the first field and the others, by where the first space stands
+abbrev pub field_at : List ℕ → Option ℕ → Option (List ℕ × List (List ℕ))
+field_at xs None = Some (xs, [])
+field_at xs (Some i) = Some (take i xs, fields_of (drop (i + 1) xs))
 
--- ---- a reader of the parts, one after another
+cut : (xs : List ℕ) (b : Bool) → nat_lt (position_or_len (λ b. b == 32) xs) (length xs) ≡ b
+    → field_at xs (if b then Some (position_or_len (λ b. b == 32) xs) else None)
+    ≡ first_field (fields_of xs)
+cut xs true within =
+    sym (ap first_field (slice_split_first (λ b. b == 32) xs 0 (ltb-true _ _ within)))
+cut xs false within =
+    let past = ltb-false _ _ within in
+    sym (ap first_field (slice_split_none (λ b. b == 32) xs
+    (λ k d below. fails_before_first (λ b. b == 32) xs k d (omega arith))))
 
--- the parts that are left, if anything is
-abbrev pub parts_left : (ℕ → Bool) → Option (Bor (List ℕ)) → List (List ℕ)
-parts_left p rest = option_map_or (λ r. slice_split p r.now) rest []
+pub next_field : (rest : Option (Bor (List ℕ))) (r : Bor (List ℕ)) (view : List (List ℕ))
+    (o : Option ℕ) → fields_left rest ≡ view → rest ≡ Some r
+    → o ≡ position (λ b. b == 32) r.now → field_at r.now o ≡ first_field view
+next_field rest r view o shown is found =
+    ap (field_at r.now) found ∙ cut r.now _ refl
+    ∙ ap first_field (ap fields_left (sym is) ∙ shown)
 
--- the parts that the reader sees are those of what is left
-pub parts_seen : (p : ℕ → Bool) (rest : Option (Bor (List ℕ))) (r : Bor (List ℕ))
-    (view parts : List (List ℕ)) → parts_left p rest ≡ view → rest ≡ Some r
-    → parts ≡ slice_split p r.now → parts ≡ view
-parts_seen p rest r view parts shown is cut = cut ∙ (ap (parts_left p) (sym is) ∙ shown)
+-- ---- the lines of a script
+
+-- the first item of an iterator whose list is known, and the others
+pub first_yielded : {S A B : Type 0} {steps : S → Option A → S → Type 0} {v : A → B} {s : S}
+    {all : List B} → YieldsList steps v s all → (r : Option A) (u t : S) (x : A) → r ≡ Some x
+    → steps s r u → t ≡ u → (rest : List B) × (all ≡ v x ∷ rest) × YieldsList steps v t rest
+first_yielded {steps = steps} {s = s} {all = []} e r u t x is step same =
+    absurd (e.runs x u (subst (λ r. steps s r u) is step))
+first_yielded {steps = steps} {s = s} {all = y ∷ ys} e r u t x is step same =
+    let m = e.runs.1 x t (subst (λ r. steps s r t) is (subst (steps s r) (sym same) step)) in
+    (ys, (λ i. sym m.0 i ∷ ys), record { runs = m.1 })

@@ -1,22 +1,20 @@
 -- The reader of scripts. What carries each clause:
 --
--- | Function and clause     | Lemma                         | Files             |
--- |-------------------------|-------------------------------|-------------------|
--- | `first_part`            | `cut_at`, `no_cut`            | Cuts              |
--- | `roll_named`            | `roll_read`                   | Rolls, Ascii      |
--- | `algorithm_named`       | `no_text`                     | Algorithms, Ascii |
--- | `references`            | `kept_more`, `reference_utf8` | Texts, Ascii      |
--- | `read_zone`             | `zone_none`, `spelled_utf8`   | Zone              |
--- | `Fields`, `Lines`       | `parts_seen`                  | Cuts              |
--- | `advance`, `make`       | `makes`                       | Making            |
--- | `read_statements`       | `one_read`, `first_silent`    | EachLine          |
--- | `read_script`           | `whole_reading`, `zone_first` | Judging           |
+-- | Function                | Lemma                          | Files             |
+-- |-------------------------|--------------------------------|-------------------|
+-- | `Fields::next`          | `next_field`                   | Cuts              |
+-- | `Fields::roll`          | `no_text`, `roll_read`         | Rolls, Ascii      |
+-- | `Fields::list`          | `list_first`                   | Lists             |
+-- | `algorithm`             | `no_algorithm`                 | Ascii             |
+-- | `reference`             | `reference_utf8`               | Ascii             |
+-- | `read_zone`             | `zone_none`, `spelled_utf8`    | Zone              |
+-- | `read_script`           | `all_read`, `first_silent`     | Judging           |
+--
+-- `Texts` is for the crates above.
 pub mod Ascii
 pub mod Cuts
 pub mod Zone
 pub mod Rolls
-pub mod Algorithms
+pub mod Lists
 pub mod Texts
-pub mod EachLine
-pub mod Making
 pub mod Judging

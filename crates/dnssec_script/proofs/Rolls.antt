@@ -1,8 +1,9 @@
 -- The roll that a field names, as the key set reads it.
-use Rattle.std.proofs.Common.{◌≡◌, ◌≢◌, ℕ, ◌∙◌, List, [], ◌∷◌, Bool, true, false, refl, ap, sym}
+use Rattle.std.proofs.Common.{◌≡◌, ◌≢◌, ℕ, ◌∙◌, List, [], ◌∷◌, true, false, refl, ap, sym}
 use Rattle.std.proofs.Common.{subst, cond}
 use Rattle.std.specs.Prelude.{Option, Some, None, Result, Ok, Err, find}
 use Rattle.std.specs.{List.list_all, Option.option_map_or, Str.IsUtf8, Str.bytes_eq}
+use Rattle.std.proofs.lemmas.Bool.{false_from_ne_true}
 use Rattle.std.specs.{Cmp.Lexicographic.bytes_decides, Result.result_ok}
 use Rattle.dnssec_base.specs.declared.error.Error.{Error}
 use Rattle.dnssec_key.specs.{Texts.roll_name, Texts.NamesRoll, declared.roll.RollType.RollType}
@@ -24,21 +25,19 @@ name_utf8 : (roll : RollType) → IsUtf8 (roll_name roll)
 name_utf8 roll =
     ascii_utf8 (roll_name roll) (each_roll-at (λ r. list_all is_below (roll_name r)) refl roll)
 
-none_passes : {X : Type 0} (p : X → Bool) (xs : List X) → ((x : X) → p x ≡ false) → find p xs ≡ None
-none_passes p [] fails = refl
-none_passes p (x ∷ xs) fails =
-    ap (λ b. cond b (Some x) (find p xs)) (fails x) ∙ none_passes p xs fails
-
-unnamed : (text : List ℕ) (roll : RollType) (b : Bool) → text ≢ roll_name roll
-    → bytes_eq (roll_name roll) text ≡ b → bytes_eq (roll_name roll) text ≡ false
-unnamed text roll false other e = e
-unnamed text roll true other e = absurd (other (sym ((bytes_decides (roll_name roll) text).0 e)))
+none_named : (text : List ℕ) → ((roll : RollType) → text ≢ roll_name roll) → (rolls : List RollType)
+    → find (λ r. bytes_eq (roll_name r) text) rolls ≡ None
+none_named text other [] = refl
+none_named text other (r ∷ rs) =
+    let differs = false_from_ne_true (bytes_eq (roll_name r) text)
+    (λ e. other r (sym ((bytes_decides (roll_name r) text).0 e))) in
+    ap (λ b. cond b (Some r) (find (λ r. bytes_eq (roll_name r) text) rs)) differs
+    ∙ none_named text other rs
 
 no_name_found : (text : List ℕ) → ((roll : RollType) → text ≢ roll_name roll)
     → roll_named text ≡ None
 unfolding roll_named
-no_name_found text other = none_passes (λ r. bytes_eq (roll_name r) text) all_rolls
-    (λ r. unnamed text r (bytes_eq (roll_name r) text) (other r) refl)
+no_name_found text other = none_named text other all_rolls
 
 -- what the key set reads is the roll of that name
 pub roll_read : (text : List ℕ) (r : Result RollType Error) → NamesRoll text r
@@ -51,3 +50,5 @@ roll_read text (Err e) named = sym (no_name_found text named.1)
 pub no_text : (text : List ℕ) → ¬ IsUtf8 text → None ≡ roll_named text
 no_text text not_utf8 = sym (no_name_found text
     (λ roll same. not_utf8 (subst IsUtf8 (sym same) (name_utf8 roll))))
+
+pub ruleset rolls = (no_text, roll_read)

@@ -1,58 +1,31 @@
-//! The fields of a line of a script: its word, and what each field after it says.
-ghost use Rattle.std.specs.Prelude.{◌≡◌, ◌≤◌, if◌then◌else◌, List, [], length, map, IfOk};
+//! The fields of a line of a script, and what each says.
+ghost use Rattle.std.specs.Prelude.{◌≡◌, ◌≤◌, if◌then◌else◌, List, [], map, IfOk};
 ghost use Rattle.std.specs.Prelude.{Option, Some, None, is_some, IfSome};
 ghost use denote.Bor.{now};
-ghost use Rattle.std.specs.List.{list_all};
 ghost use Rattle.std.specs.Option.{option_map};
-ghost use Rattle.std.specs.Char.{is_ascii_digit};
-ghost use Rattle.dnssec_base.specs.AlgorithmNames.{algorithm_named};
 ghost use Rattle.dnssec_script.specs.Script.{Value, Reference, Private, References, Flag, Roll};
-ghost use Rattle.dnssec_script.specs.Script.{Number, Moment};
-ghost use Rattle.dnssec_script.specs.Script.{is_reference_byte, is_reference, as_reference};
+ghost use Rattle.dnssec_script.specs.Script.{Number, Moment, is_reference, as_reference};
 ghost use Rattle.dnssec_script.specs.Script.{as_private, as_list, as_yes_no, as_roll, as_number};
 ghost use Rattle.dnssec_script.specs.Script.{as_algorithm, as_tag, as_ttl, as_time};
-ghost use Rattle.dnssec_script.specs.Script.{is_number, number_of, roll_named};
-ghost use Rattle.dnssec_script.specs.Script.{value_at, values_of, first_field, fields_of, word_at};
+ghost use Rattle.dnssec_script.specs.Script.{is_number, number_of};
+ghost use Rattle.dnssec_script.specs.Script.{value_at, values_of, first_field, fields_of};
 
-use crate::parts::{first_part, parts};
-use crate::words::Word;
 use dnssec_base::SecurityAlgorithm;
 use dnssec_keyset::{RollType, UnixTime};
 use std::alloc::{AllocError, Global};
 use std::marker::Model;
 use std::time::Duration;
 
-/// The roll with this name.
-#[tactic(auto, using(crate::proofs::Rolls::no_text, crate::proofs::Rolls::roll_read))]
-fn roll_named(name: &[u8]) -> Option<RollType>
-    ensures { result ≡ roll_named name.now }
-{
-    match str::from_utf8(name) {
-        Ok(name) => name.parse().ok(),
-        Err(_) => None,
-    }
-}
-
-/// Whether a text may be the reference of a key.
+/// Whether the text is visible ASCII characters, except the comma, and not a single `-`.
 #[tactic(auto, unfolding(crate::specs::Script::is_reference))]
 fn is_reference(text: &[u8]) -> bool
     ensures { result ≡ is_reference text.now }
 {
-    !text.is_empty() && text != b"-".as_slice() && are_reference_bytes(text)
-}
-
-/// Whether each byte may stand in a reference.
-fn are_reference_bytes(text: &[u8]) -> bool
-    ensures { result ≡ list_all is_reference_byte text.now }
-{
-    text.iter().all(|byte| is_reference_byte(*byte))
-}
-
-/// Whether the byte is a visible ASCII character, except the comma.
-fn is_reference_byte(byte: u8) -> bool
-    ensures { result ≡ is_reference_byte byte }
-{
-    byte.is_ascii_graphic() && byte != b','
+    !text.is_empty()
+        && text != b"-".as_slice()
+        && text
+            .iter()
+            .all(|byte| byte.is_ascii_graphic() && *byte != b',')
 }
 
 /// A flag, from `yes` or `no`.
@@ -69,37 +42,23 @@ fn yes_no(text: &[u8]) -> Option<bool>
     }
 }
 
-/// Whether each byte is a digit.
-fn are_digits(text: &[u8]) -> bool
-    ensures { result ≡ list_all is_ascii_digit text.now }
-{
-    text.iter().all(|byte| byte.is_ascii_digit())
-}
-
-/// The number that digits write.
-fn number_of(digits: &[u8]) -> u128
-    requires { length digits.now ≤ 20 }
-    ensures { result ≡ number_of digits.now }
-{
-    let mut number = 0;
-    for digit in digits {
-        number = number * 10 + u128::from(digit.saturating_sub(b'0'));
-    }
-    number
-}
-
 /// A number up to `most`.
 #[tactic(auto, unfolding(crate::specs::Script::is_number))]
 fn number(most: u64, text: &[u8]) -> Option<u64>
     ensures bound { IfSome result (λ n. n ≤ most) }
     ensures read { result ≡ if is_number most text.now then Some (number_of text.now) else None }
 {
-    if text.is_empty() || text.len() > 20 || !are_digits(text) {
+    if text.is_empty() || text.len() > 20 {
         return None;
     }
-    u64::try_from(number_of(text))
-        .ok()
-        .filter(|number| *number <= most)
+    let mut number = 0;
+    for digit in text {
+        if !digit.is_ascii_digit() {
+            return None;
+        }
+        number = number * 10 + u128::from(*digit - b'0');
+    }
+    u64::try_from(number).ok().filter(|number| *number <= most)
 }
 
 /// A key's reference.
@@ -128,17 +87,6 @@ fn private(text: &[u8]) -> Option<Option<&str>>
     }
 }
 
-/// The algorithm with this name.
-#[tactic(auto, using(crate::proofs::Algorithms::no_text))]
-fn algorithm_named(name: &[u8]) -> Option<SecurityAlgorithm>
-    ensures { result ≡ algorithm_named name.now }
-{
-    match str::from_utf8(name) {
-        Ok(name) => SecurityAlgorithm::from_name(name),
-        Err(_) => None,
-    }
-}
-
 /// An algorithm, by its number or its name.
 #[tactic(auto, using(crate::proofs::Ascii::steps), unfolding(crate::specs::Script::as_algorithm))]
 fn algorithm(text: &[u8]) -> Option<SecurityAlgorithm>
@@ -146,36 +94,8 @@ fn algorithm(text: &[u8]) -> Option<SecurityAlgorithm>
 {
     match number(255, text) {
         Some(number) => Some(SecurityAlgorithm::from_int(number as u8)),
-        None => algorithm_named(text),
+        None => SecurityAlgorithm::from_name(str::from_utf8(text).ok()?),
     }
-}
-
-/// The references of a list.
-#[tactic(auto, unfolding(crate::specs::Script::as_list))]
-fn list(alloc: Global, text: &[u8]) -> Result<Option<Vec<&str>>, AllocError>
-    ensures { IfOk result (λ found.
-        option_map (λ v. References (map now v.items)) found ≡ as_list text.now) }
-{
-    if text == b"-".as_slice() {
-        return Ok(Some(Vec::new(alloc)));
-    }
-    let parts = parts(alloc, text, b',')?;
-    references(alloc, &parts)
-}
-
-/// The texts as references, if each is one.
-fn references<'a>(alloc: Global, texts: &[&'a [u8]]) -> Result<Option<Vec<&'a str>>, AllocError>
-    ensures { IfOk result (λ found. option_map (λ v. map now v.items) found
-        ≡ if list_all is_reference (map now texts.now) then Some (map now texts.now) else None) }
-{
-    let mut references = Vec::new(alloc);
-    for text in texts {
-        match reference(text) {
-            Some(reference) => references.push(reference)?,
-            None => return Ok(None),
-        }
-    }
-    Ok(Some(references))
 }
 
 /// The fields of a line that haven't been read yet, each between single spaces.
@@ -207,9 +127,16 @@ impl<'a> Fields<'a> {
     pub fn next(self) -> Option<(&'a [u8], Fields<'a>)>
         ensures { option_map (λ x. (x.0.now, x.1)) result ≡ first_field self.entry }
     {
-        let rest = self.rest?;
-        let part = first_part(rest, b' ');
-        Some((part.0, Fields { rest: part.1 }))
+        let text = self.rest?;
+        match text.iter().position(|byte| *byte == b' ') {
+            Some(at) => Some((
+                &text[..at],
+                Fields {
+                    rest: Some(&text[at + 1..]),
+                },
+            )),
+            None => Some((text, Fields { rest: None })),
+        }
     }
 
     /// Whether no field is left.
@@ -220,14 +147,6 @@ impl<'a> Fields<'a> {
             Some(_) => None,
             None => Some(()),
         }
-    }
-
-    /// The next field as a word.
-    pub(crate) fn word(self) -> Option<(Word, Fields<'a>)>
-        ensures { option_map (λ x. (x.0, x.1)) result ≡ word_at self.entry }
-    {
-        let (name, fields) = self.next()?;
-        Some((Word::from_name(name)?, fields))
     }
 
     /// The next field as a reference.
@@ -257,12 +176,13 @@ impl<'a> Fields<'a> {
     }
 
     /// The next field as a roll.
-    #[tactic(auto, unfolding(crate::specs::Script::as_roll))]
+    #[tactic(auto, using(crate::proofs::Rolls::rolls), unfolding(crate::specs::Script::as_roll))]
     pub(crate) fn roll(self) -> Option<(RollType, Fields<'a>)>
         ensures { option_map (λ x. (Roll x.0, x.1)) result ≡ value_at as_roll self.entry }
     {
         let (text, fields) = self.next()?;
-        Some((roll_named(text)?, fields))
+        let name = str::from_utf8(text).ok()?;
+        Some((name.parse().ok()?, fields))
     }
 
     /// The next field as an algorithm.
@@ -311,6 +231,7 @@ impl<'a> Fields<'a> {
     }
 
     /// The next field as a list of references.
+    #[tactic(auto, unfolding(crate::specs::Script::as_list))]
     pub(crate) fn list(
         self,
         alloc: Global,
@@ -319,12 +240,19 @@ impl<'a> Fields<'a> {
             option_map (λ x. (References (map now x.0.items), x.1)) found
             ≡ value_at as_list self.entry) }
     {
-        match self.next() {
-            None => Ok(None),
-            Some((text, fields)) => match list(alloc, text)? {
-                None => Ok(None),
-                Some(list) => Ok(Some((list, fields))),
-            },
+        let Some((text, fields)) = self.next() else {
+            return Ok(None);
+        };
+        let mut references = Vec::new(alloc);
+        if text == b"-".as_slice() {
+            return Ok(Some((references, fields)));
         }
+        for part in text.split(|byte| *byte == b',') {
+            let Some(reference) = reference(part) else {
+                return Ok(None);
+            };
+            references.push(reference)?;
+        }
+        Ok(Some((references, fields)))
     }
 }

@@ -174,7 +174,7 @@ pub(crate) fn roll(fields: Fields<'_>) -> Option<RollType>
 }
 
 /// The moment that is the last field.
-pub(crate) fn time(fields: Fields<'_>) -> Option<UnixTime>
+fn time(fields: Fields<'_>) -> Option<UnixTime>
     ensures { option_map (λ t. Moment t ∷ []) result ≡ values_of (as_time ∷ []) fields.entry }
 {
     let (time, fields) = fields.time()?;

@@ -4,9 +4,7 @@
 mod fields;
 mod forms;
 mod lines;
-mod parts;
 mod statement;
-mod words;
 
 pub use fields::Fields;
 pub use lines::{Reading, all_lines, read_script, read_zone};

@@ -1,15 +1,13 @@
 //! The lines of a script.
-ghost use Rattle.std.specs.Prelude.{◌≡◌, ℕ, List, [], ◌∷◌, map, IfOk, IfSome, IfNone};
+ghost use Rattle.std.specs.Prelude.{◌≡◌, ℕ, List, map, IfOk, IfSome, IfNone};
 ghost use denote.Bor.{now};
 ghost use Rattle.dnssec_base.specs.NameText as names;
 ghost use Rattle.dnssec_script.specs.Script.{IsZoneLine, lines_of, without_end};
-ghost use Rattle.dnssec_script.specs.Inner.Reading.{IsReadingAfter, IsReadingOf};
+ghost use Rattle.dnssec_script.specs.Inner.Reading.{IsReadingOf};
 
-use crate::parts::{first_part, parts};
 use crate::statement::{Statement, read_line};
 use dnssec_base::{Name, NameError};
 use std::alloc::{AllocError, Global};
-use std::marker::Model;
 
 /// What came of reading a script.
 #[derive(Drop)]
@@ -18,44 +16,6 @@ pub enum Reading<'a> {
     Script(Name<Vec<u8>>, Vec<Statement<'a>>),
     /// The line of this number, counted from 1, is the first that doesn't have its form.
     Malformed(usize),
-}
-
-/// The lines of a script that haven't been read yet.
-#[derive(Drop)]
-struct Lines<'a> {
-    rest: Option<&'a [u8]>,
-}
-
-impl<'a> Model for Lines<'a> {
-    ghost use Rattle.std.specs.Prelude.{ℕ, List, [], ◌==◌};
-    ghost use Rattle.std.specs.List.{slice_split};
-    ghost use Rattle.std.specs.Option.{option_map_or};
-
-    ghost Value = { List (List ℕ) };
-
-    ghost view = { λ lines. option_map_or (λ rest. slice_split (λ b. b == 10) rest.now) lines.rest
-        [] };
-}
-
-impl<'a> Lines<'a> {
-    /// The lines of a script.
-    fn of(script: &'a [u8]) -> Self
-        ensures { result ≡ lines_of script.now }
-    {
-        Lines {
-            rest: Some(without_end(script)),
-        }
-    }
-
-    /// The next line, and those after it.
-    fn next(self) -> Option<(&'a [u8], Lines<'a>)>
-        ensures some { IfSome result (λ x. self.entry ≡ x.0.now ∷ x.1) }
-        ensures none { IfNone result (self.entry ≡ []) }
-    {
-        let rest = self.rest?;
-        let part = first_part(rest, b'\n');
-        Some((part.0, Lines { rest: part.1 }))
-    }
 }
 
 /// The lines of a text, for a caller who reads other lines than those of a script. A line feed at
@@ -67,11 +27,13 @@ impl<'a> Lines<'a> {
 pub fn all_lines(alloc: Global, text: &[u8]) -> Result<Vec<&[u8]>, AllocError>
     ensures { IfOk result (λ lines. map now lines.items ≡ lines_of text.now) }
 {
-    parts(alloc, without_end(text), b'\n')
+    without_end(text)
+        .split(|byte| *byte == b'\n')
+        .collect(alloc)
 }
 
 /// The script without a line feed at its end.
-#[tactic(auto, using(crate::proofs::EachLine::ends))]
+#[tactic(auto, using(crate::proofs::Judging::ends))]
 fn without_end(script: &[u8]) -> &[u8]
     ensures { result.now ≡ without_end script.now }
 {
@@ -122,31 +84,19 @@ fn zone_name(alloc: Global, text: &[u8]) -> Result<Option<Name<Vec<u8>>>, AllocE
 pub fn read_script<'a>(alloc: Global, script: &'a [u8]) -> Result<Reading<'a>, AllocError>
     ensures { IfOk result (IsReadingOf script.now) }
 {
-    let Some((first, rest)) = Lines::of(script).next() else {
+    let mut lines = without_end(script).split(|byte| *byte == b'\n');
+    let Some(first) = lines.next() else {
         return Ok(Reading::Malformed(1));
     };
     let Some(name) = read_zone(alloc, first)? else {
         return Ok(Reading::Malformed(1));
     };
-    read_statements(alloc, name, rest)
-}
-
-/// The same from line 2 on, after the name.
-fn read_statements<'a>(
-    alloc: Global,
-    name: Name<Vec<u8>>,
-    lines: Lines<'a>,
-) -> Result<Reading<'a>, AllocError>
-    ensures { IfOk result (IsReadingAfter name lines.entry) }
-{
-    let mut lines = lines;
     let mut statements = Vec::new(alloc);
-    while let Some((line, rest)) = lines.next() {
+    for line in lines {
         match read_line(alloc, line)? {
             Some(statement) => statements.push(statement)?,
             None => return Ok(Reading::Malformed(statements.len() + 2)),
         }
-        lines = rest;
     }
     Ok(Reading::Script(name, statements))
 }

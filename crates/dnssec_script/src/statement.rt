@@ -2,18 +2,74 @@
 ghost use Rattle.std.specs.Prelude.{◌≡◌, IfOk, Some};
 ghost use Rattle.std.specs.Option.{option_map};
 ghost use Rattle.dnssec_key.specs.Key.{is_available};
-ghost use Rattle.dnssec_script.specs.Script.{call_says, said_after_word, says};
+ghost use Rattle.dnssec_script.specs.Script.{call_says, said_after_word, says, word_named};
 ghost use Rattle.dnssec_script.specs.Inner.Statement.{Makes, MakesEntry, start_says};
 ghost use Rattle.dnssec_script.specs.Inner.Statement.{statement_says};
 
 use crate::fields::Fields;
-use crate::forms::{
-    flag, key, public_key, report, roll, signing_key, stamp, time, timed_flag, wait,
-};
-use crate::words::Word;
+use crate::forms::{flag, key, public_key, report, roll, signing_key, stamp, timed_flag, wait};
 use dnssec_keyset::{Available, Error, RollType, UnixTime};
 use dnssec_run::{Call, Entry, Outcome, Recorder};
 use std::alloc::{AllocError, Global};
+
+/// The words of a script.
+#[derive(Clone, Copy)]
+pub(crate) enum Word {
+    AddKsk,
+    AddZsk,
+    AddCsk,
+    AddPublic,
+    SetDecoupled,
+    SetPresent,
+    SetSigner,
+    SetAtParent,
+    SetStale,
+    SetVisible,
+    SetDsVisible,
+    SetRrsigVisible,
+    Delete,
+    Start,
+    Report1,
+    Wait1,
+    Report2,
+    Wait2,
+    Done,
+    Abort,
+}
+
+/// Each word with its name.
+const WORDS: [(&str, Word); 20] = [
+    ("add-ksk", Word::AddKsk),
+    ("add-zsk", Word::AddZsk),
+    ("add-csk", Word::AddCsk),
+    ("add-public", Word::AddPublic),
+    ("set-decoupled", Word::SetDecoupled),
+    ("set-present", Word::SetPresent),
+    ("set-signer", Word::SetSigner),
+    ("set-at-parent", Word::SetAtParent),
+    ("set-stale", Word::SetStale),
+    ("set-visible", Word::SetVisible),
+    ("set-ds-visible", Word::SetDsVisible),
+    ("set-rrsig-visible", Word::SetRrsigVisible),
+    ("delete", Word::Delete),
+    ("start", Word::Start),
+    ("report1", Word::Report1),
+    ("wait1", Word::Wait1),
+    ("report2", Word::Report2),
+    ("wait2", Word::Wait2),
+    ("done", Word::Done),
+    ("abort", Word::Abort),
+];
+
+impl Word {
+    /// The word with this name.
+    pub(crate) fn from_name(name: &[u8]) -> Option<Word>
+        ensures { result ≡ word_named name.now }
+    {
+        let row = WORDS.iter().find(|row| row.0.as_bytes() == name)?;
+        Some(row.1)
+    }
+}
 
 /// What a line says: its call. Only the call of a start is made later, since it borrows its lists.
 #[derive(Drop)]
@@ -72,9 +128,12 @@ impl<'a> Statement<'a> {
 pub fn read_line<'a>(alloc: Global, line: &'a [u8]) -> Result<Option<Statement<'a>>, AllocError>
     ensures { IfOk result (λ found. option_map statement_says found ≡ says line.now) }
 {
-    match Fields::of(line).word() {
+    let Some((name, fields)) = Fields::of(line).next() else {
+        return Ok(None);
+    };
+    match Word::from_name(name) {
+        Some(word) => call_of_word(alloc, word, fields),
         None => Ok(None),
-        Some((word, fields)) => call_of_word(alloc, word, fields),
     }
 }
 
@@ -231,7 +290,10 @@ fn read_start<'a>(alloc: Global, fields: Fields<'a>) -> Result<Option<Statement<
     let Some((new, fields)) = fields.list(alloc)? else {
         return Ok(None);
     };
-    let Some(moment) = time(fields) else {
+    let Some((moment, fields)) = fields.time() else {
+        return Ok(None);
+    };
+    let Some(()) = fields.end() else {
         return Ok(None);
     };
     Ok(Some(Statement::Start(Start {

@@ -16,17 +16,13 @@ loop-statement-init c =
 
 pub loop-statement-preserved : goal.loop-statement-preserved
 loop-statement-preserved c =
-    let at = c.loop-statement in
-    one_more (string_bytes at.text) _ at.recorder c.advance.new.recorder at.judge
-    c.note.new.self c.in-Ok-advance.outcome _ at.invariant c.in-Some.ensures.steps.0
+    one_more _ _ _ _ _ _ _ _ c.loop-statement.invariant c.in-Some.ensures.steps.0
     c.in-Some.ensures.steps.1 c.in-Ok-advance.ensures c.news-news.ensures
     c.in-Ok-note.ensures.ok c.in_ok-push_answer.ensures
 
 pub loop-statement-preserved-in_ok-push_answer : goal.loop-statement-preserved-in_ok-push_answer
 loop-statement-preserved-in_ok-push_answer c =
-    let at = c.loop-statement in
-    one_more (string_bytes at.text) _ at.recorder c.advance.new.recorder at.judge
-    c.note.new.self c.in-Ok-advance.outcome _ at.invariant c.in-Some.ensures.steps.0
+    one_more _ _ _ _ _ _ _ _ c.loop-statement.invariant c.in-Some.ensures.steps.0
     c.in-Some.ensures.steps.1 c.in-Ok-advance.ensures c.news-news.ensures
     c.in-Ok-note.ensures.ok c.in_ok-push_answer.ensures
 

@@ -1,23 +1,46 @@
 -- The lines of a script make its calls, or one is the first malformed line.
-use Rattle.std.proofs.Common.{sym, ◌∙◌, subst}
-use Rattle.dnssec_script.specs.Script.{IsFirstOf, IsZoneLine}
-use Rattle.dnssec_script.proofs.Judging.{not_empty, whole_reading, zone_first}
+use Rattle.std.proofs.Common.{◌==◌, ◌∙◌, ap, arith, is_some, refl, rules, subst, sym, tests}
+use Rattle.std.proofs.lemmas.Iterator.Consumers.{YieldsList-end, YieldsList-so_far, YieldsList-turn}
+use Rattle.std.proofs.lemmas.Iterator.Splits.{YieldsList-from_slice_split}
+use Rattle.dnssec_script.specs.Script.{IsFirstOf, without_end}
+use Rattle.dnssec_script.proofs.Cuts.{first_yielded}
+use Rattle.dnssec_script.proofs.Judging.{all_read, first_silent, zone_first}
 use Rattle.dnssec_script.proofs.lines.read_script.Goals as goal
-
-pub returns-in_default : goal.returns-in_default
-returns-in_default c =
-    absurd (not_empty c.args.script.now (sym c.of.ensures ∙ c.in_default.ensures.none))
 
 pub returns-in_default-2 : goal.returns-in_default-2
 returns-in_default-2 c =
+    let split = c.split-lines.ensures in
+    let first = first_yielded (YieldsList-from_slice_split {s = c.split-lines.result} _
+    (λ b. b == 10) (without_end c.args.script.now) (split.rest ∙ c.without_end.ensures)
+    split.done split.closure (λ x b q k. search (rules, tests))) c.next.result _ _ c.in-Some.first
+    c.in-Some.is c.next.ensures.steps refl in
     let unnamed = rw c.in_default-2.is at c.in_ok-name.ensures.none in
-    subst (λ lines. IsFirstOf lines 1) (sym c.in-Some.ensures.some ∙ c.of.ensures)
-    (zone_first _ _ unnamed)
+    subst (λ lines. IsFirstOf lines 1) (sym first.1) (zone_first _ _ unnamed)
+
+pub returns-in-None-2 : goal.returns-in-None-2
+returns-in-None-2 c =
+    let split = c.split-lines.ensures in let at = c.loop-line in
+    let first = first_yielded (YieldsList-from_slice_split {s = c.split-lines.result} _
+    (λ b. b == 10) (without_end c.args.script.now) (split.rest ∙ c.without_end.ensures)
+    split.done split.closure (λ x b q k. search (rules, tests))) c.next.result _ _ c.in-Some.first
+    c.in-Some.is c.next.ensures.steps c.into_iter-line-iterator.ensures.into_iter_gives in
+    let named = rw c.in-Some-2.is at c.in_ok-name.ensures.found in
+    let turn = YieldsList-turn first.2 at.yielded _ at.yielded_by _ _ c.in-Some-line.line
+    c.in-Some-line.is c.next-in-loop-line.ensures.steps in
+    first_silent c.args.script.now _ _ _ at.yielded c.in-Some-line.line at.statements.items _
+    first.1 named at.invariant (YieldsList-so_far first.2 at.yielded _ at.yielded_by) turn
+    (ap is_some (rw c.in-None-2.is at c.in_ok-statement.ensures))
+    (omega (arith, c.len.ensures, at.statements.ok.0))
 
 pub returns : goal.returns
 returns c =
-    let name = c.in-Some-2.name in
-    let named : IsZoneLine c.in-Some.first.now name =
-    rw c.in-Some-2.is at c.in_ok-name.ensures.found in
-    whole_reading c.args.script.now _ _ name _ (sym c.of.ensures ∙ c.in-Some.ensures.some) named
-    c.read_statements.ensures
+    let split = c.split-lines.ensures in let at = c.loop-line in
+    let first = first_yielded (YieldsList-from_slice_split {s = c.split-lines.result} _
+    (λ b. b == 10) (without_end c.args.script.now) (split.rest ∙ c.without_end.ensures)
+    split.done split.closure (λ x b q k. search (rules, tests))) c.next.result _ _ c.in-Some.first
+    c.in-Some.is c.next.ensures.steps c.into_iter-line-iterator.ensures.into_iter_gives in
+    let named = rw c.in-Some-2.is at c.in_ok-name.ensures.found in
+    let end = YieldsList-end first.2 at.yielded _ at.yielded_by _ _ c.in-None.is
+    c.next-in-loop-line.ensures.steps in
+    all_read c.args.script.now _ _ _ at.yielded at.statements.items first.1 named at.invariant
+    end.0
