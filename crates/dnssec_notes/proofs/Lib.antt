@@ -1,3 +1,2 @@
 -- Notes as a text, and the reports that are due by them.
 pub mod Noting
-pub mod Beside

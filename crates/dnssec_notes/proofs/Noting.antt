@@ -1,22 +1,19 @@
 -- Notes, line by line: what is noted after one more line.
-use Rattle.std.proofs.Common.{◌≡◌, ℕ, ◌+◌, ◌<◌, ◌++◌, List, [], ◌∷◌, Bor, map, length, take, Result}
-use Rattle.std.proofs.Common.{Ok, Err, None, Some}
-use Rattle.std.proofs.lemmas.List.{append-nil, append_assoc, map-append, take_more}
-use Rattle.std.specs.Prelude.{IfOk}
-use Rattle.dnssec_network.specs.declared.fact.{Before.Before, Fact.Fact}
+use Rattle.std.proofs.Common.{Err, List, None, Ok, Option, Result, Some, [], ap, refl, sym, ℕ, ◌++◌}
+use Rattle.std.proofs.Common.{◌+◌, ◌∙◌, ◌∷◌, ◌≡◌}
+use Rattle.std.proofs.lemmas.{List.append-nil, List.append_assoc, List.map-append, Option.none-some}
+use Rattle.std.{proofs.lemmas.Option.same_Some, specs.Option.option_map, specs.Prelude.IfOk}
 use Rattle.dnssec_network.specs.Notes.{NotesParts, refusal}
-use Rattle.dnssec_script.proofs.Texts.{shown_at, text_at, within_shown}
+use Rattle.dnssec_network.specs.declared.fact.{Before.Before, Fact.Fact}
 use Rattle.dnssec_script.specs.Script.{lines_of}
 use Rattle.dnssec_notes.specs.Lines.{as_before, before_says}
-use Rattle.dnssec_notes.specs.Reading.{AreFacts, AreNotes, AreTaken, HasLine, IsFactsFault}
-use Rattle.dnssec_notes.specs.Reading.{IsFaultOf, IsLineFault, IsNotesFault}
-use Rattle.dnssec_notes.specs.declared.fault.NotesFault.{NotesFault}
-use Rattle.dnssec_notes.specs.declared.fault.NotesFault.TheVariants.{Malformed, Refused}
-use Rattle.dnssec_notes.specs.declared.fault.NotesFault.TheVariants.{OutOfMemory}
-use denote.Bor.{now}
+use Rattle.dnssec_notes.specs.Reading.{AreFacts, AreNotes, AreTaken, HasLine, HasTaken, IsFaultOf}
+use Rattle.dnssec_notes.specs.Reading.{IsNotesFault}
+use Rattle.dnssec_notes.specs.declared.fault.NotesFault.{NotesFault, TheVariants.Malformed}
+use Rattle.dnssec_notes.specs.declared.fault.NotesFault.TheVariants.{OutOfMemory, Refused}
 
 -- one fact more is taken
-pub taken-more : (calls : ℕ) (old facts : List Fact) (fact : Fact) → AreTaken calls old facts
+taken-more : (calls : ℕ) (old facts : List Fact) (fact : Fact) → AreTaken calls old facts
     → refusal calls (old ++ facts) fact ≡ None → AreTaken calls old (facts ++ fact ∷ [])
 taken-more calls old [] fact taken here = (rw (append-nil old) at here, tt)
 taken-more calls old (f ∷ facts) fact taken here = (
@@ -32,28 +29,6 @@ facts-more calls lines line old new has are = rw has.notes (record {
   said = simp (map-append, has.said, are.said);
   taken = taken-more calls [] old.facts has.fact are.taken has.taken;
 })
-
--- the next line of a slice
-pub facts-next : (calls : ℕ) (xs : List (Bor (List ℕ))) (i : ℕ) (old new : NotesParts)
-    → i < length xs → AreFacts calls (take i (map now xs)) old.facts
-    → HasLine calls old (text_at xs i) new
-    → AreFacts calls (take (i + 1) (map now xs)) new.facts
-facts-next calls xs i old new within are line =
-    rw (take_more (map now xs) i [] (within_shown xs i within), shown_at xs i within)
-    (facts-more calls (take i (map now xs)) (text_at xs i) old new line are)
-
--- a line with a fault is the first one
-pub fault-here : (calls : ℕ) (xs : List (Bor (List ℕ))) (i : ℕ) (facts : List Fact)
-    (fault : NotesFault) → i < length xs → AreFacts calls (take i (map now xs)) facts
-    → IsLineFault calls facts (text_at xs i) (i + 2) fault
-    → IsFactsFault calls (map now xs) fault
-fault-here calls xs i facts fault within are here = record {
-  i = i;
-  within = within_shown xs i within;
-  facts = facts;
-  before = are;
-  here = rw (shown_at xs i within) here;
-}
 
 -- ---- all lines
 
@@ -73,3 +48,28 @@ pub fault-of : (calls : ℕ) (text : List ℕ) (fault : NotesFault)
 fault-of calls text (Malformed n) here = here
 fault-of calls text (Refused n cause) here = here
 fault-of calls text OutOfMemory here = tt
+
+-- ---- beside a session
+
+-- what is taken are the notes
+pub are-notes : (n : ℕ) (lines : List (List ℕ)) (noted : NotesParts)
+    → HasTaken n lines (Some noted) → AreNotes n lines noted.before noted.facts
+are-notes n [] noted taken = absurd (none-some noted (sym taken))
+are-notes n (first ∷ lines) noted taken = rw (same_Some noted taken.0 taken.1) taken.2
+
+pub taken-line : (calls n : ℕ) (lines : List (List ℕ)) (line : List ℕ) (old new : NotesParts)
+    → calls ≡ n → HasLine calls old line new → HasTaken n lines (Some old)
+    → HasTaken n (lines ++ line ∷ []) (Some new)
+taken-line calls n [] line old new same has taken = absurd (none-some old (sym taken))
+taken-line calls n (first ∷ lines) line old new same has taken =
+    let are = are-notes n (first ∷ lines) old taken in (
+      new,
+      refl,
+      (rw has.notes are.0, facts-more n lines line old new (rw same at has) are.1),
+    )
+
+-- the value of the box that is kept
+pub shown : {B : Type 0} (value : B → NotesParts) (kept : Option B) (b : B)
+    (now : Option NotesParts) (noted : NotesParts) → option_map value kept ≡ now → kept ≡ Some b
+    → noted ≡ value b → now ≡ Some noted
+shown value kept b now noted view is same = sym view ∙ ap (option_map value) is ∙ ap Some (sym same)

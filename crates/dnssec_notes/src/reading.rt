@@ -1,5 +1,5 @@
 //! Notes as a text.
-ghost use Rattle.std.specs.Prelude.{◌≡◌, ℕ, List, IfOk, IfErr, OnOk, map};
+ghost use Rattle.std.specs.Prelude.{◌≡◌, IfOk, IfErr, OnOk, map};
 ghost use denote.Bor.{now};
 ghost use Rattle.dnssec_script.specs.Script.{lines_of};
 ghost use Rattle.dnssec_notes.specs.Reading.{AreFacts, AreNotes, HasLine, IsFactFault};
@@ -29,16 +29,6 @@ pub fn read_notes(alloc: Global, calls: usize, text: &[u8]) -> Result<Notes, Not
     ensures err { IfErr result (IsNotesFault calls text.now) }
 {
     let lines = all_lines(alloc, text)?;
-    read_lines(alloc, calls, &lines)
-}
-
-/// Reads the lines of notes.
-fn read_lines(alloc: Global, calls: usize, lines: &[&[u8]]) -> Result<Notes, NotesFault>
-    ensures ok { (text : List ℕ) → map now lines.now ≡ lines_of text →
-        IfOk result (λ notes. AreNotes calls (lines_of text) notes.before notes.facts) }
-    ensures err { (text : List ℕ) → map now lines.now ≡ lines_of text →
-        IfErr result (IsNotesFault calls text) }
-{
     let Some((first, rest)) = lines.split_first() else {
         return Err(NotesFault::Malformed(1));
     };

@@ -1,5 +1,5 @@
-//! Pieces of JSON, written after what is there.
-ghost use Rattle.std.specs.Prelude.{◌≡◌, ◌++◌, ◌<◌, OnOk, decimal};
+//! Pieces of JSON, written after what is there. A value comes with the piece before it.
+ghost use Rattle.std.specs.Prelude.{◌≡◌, ◌++◌, ◌<◌, OnOk, codes, decimal};
 ghost use Rattle.dnssec_status.specs.Json.{escaped, flag_json, hex_digit, text_json};
 
 use std::alloc::{AllocError, Global};
@@ -14,9 +14,10 @@ pub(crate) fn push_bytes(out: &mut Vec<u8>, bytes: &[u8]) -> Result<(), AllocErr
 
 /// Writes a text between quotes.
 #[tactic(auto, unfolding(crate::specs::Json::text_json))]
-pub(crate) fn push_text(out: &mut Vec<u8>, text: &[u8]) -> Result<(), AllocError>
-    ensures { OnOk result (out.new.items ≡ out.old.items ++ text_json text.now) }
+pub(crate) fn push_text(out: &mut Vec<u8>, before: &[u8], text: &[u8]) -> Result<(), AllocError>
+    ensures { OnOk result (out.new.items ≡ (out.old.items ++ before.now) ++ text_json text.now) }
 {
+    push_bytes(out, before)?;
     push_bytes(out, b"\"")?;
     for byte in text {
         push_escaped(out, *byte)?;
@@ -54,18 +55,33 @@ fn hex_digit(number: u8) -> u8
 }
 
 /// Writes a number.
-pub(crate) fn push_number(alloc: Global, out: &mut Vec<u8>, number: u128) -> Result<(), AllocError>
-    ensures { OnOk result (out.new.items ≡ out.old.items ++ decimal number) }
+pub(crate) fn push_number(
+    alloc: Global,
+    out: &mut Vec<u8>,
+    before: &[u8],
+    number: u128,
+) -> Result<(), AllocError>
+    ensures { OnOk result (out.new.items ≡ (out.old.items ++ before.now) ++ decimal number) }
 {
     let digits = format!(in alloc; "{number}")?;
+    push_bytes(out, before)?;
     push_bytes(out, digits.as_bytes())
+}
+
+/// Writes that a value is missing.
+pub(crate) fn push_null(out: &mut Vec<u8>, before: &[u8]) -> Result<(), AllocError>
+    ensures { OnOk result (out.new.items ≡ (out.old.items ++ before.now) ++ codes "null") }
+{
+    push_bytes(out, before)?;
+    push_bytes(out, b"null")
 }
 
 /// Writes a flag.
 #[tactic(auto, unfolding(crate::specs::Json::flag_json))]
-pub(crate) fn push_flag(out: &mut Vec<u8>, flag: bool) -> Result<(), AllocError>
-    ensures { OnOk result (out.new.items ≡ out.old.items ++ flag_json flag) }
+pub(crate) fn push_flag(out: &mut Vec<u8>, before: &[u8], flag: bool) -> Result<(), AllocError>
+    ensures { OnOk result (out.new.items ≡ (out.old.items ++ before.now) ++ flag_json flag) }
 {
+    push_bytes(out, before)?;
     if flag {
         push_bytes(out, b"true")
     } else {

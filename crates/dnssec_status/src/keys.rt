@@ -13,7 +13,7 @@ ghost use Rattle.dnssec_status.specs.Names.{roll_json};
 ghost use Rattle.dnssec_status.specs.Keys.{stamps_json, state_word, traits_json};
 ghost use Rattle.dnssec_zone.specs.Keys.{keys_in_map};
 
-use crate::json::{push_bytes, push_flag, push_number, push_text};
+use crate::json::{push_bytes, push_flag, push_null, push_number, push_text};
 use crate::names::push_roll_names;
 use dnssec_keyset::{Key, KeyState, KeyTimestamps, KeyType, RollType, UnixTime};
 use dnssec_record::{Listed, Part};
@@ -99,12 +99,12 @@ fn push_front(
     ensures { OnOk result (out.new.items ≡ out.old.items
         ++ front_json (string_bytes reference.now) key.now) }
 {
-    push_bytes(out, b"{\"reference\":")?;
-    push_text(out, reference.as_bytes())?;
+    push_text(out, b"{\"reference\":", reference.as_bytes())?;
     push_bytes(out, b",\"kind\":")?;
     push_kind(out, key.keytype())?;
     push_traits(alloc, out, key)?;
-    push_stamps(alloc, out, key.timestamps())
+    push_stamps(alloc, out, key.timestamps())?;
+    Ok(())
 }
 
 /// Writes whether a key may come in or be deleted, and its part in the rolls in progress.
@@ -118,15 +118,14 @@ fn push_end(
     ensures { OnOk result (out.new.items ≡ out.old.items ++ end_json
         (map as_listed listed.now) (string_bytes reference.now) key.now.keytype) }
 {
-    push_bytes(out, b",\"may_come_in\":")?;
-    push_flag(out, key.is_fresh())?;
-    push_bytes(out, b",\"may_be_deleted\":")?;
-    push_flag(out, key.is_stale())?;
+    push_flag(out, b",\"may_come_in\":", key.is_fresh())?;
+    push_flag(out, b",\"may_be_deleted\":", key.is_stale())?;
     push_bytes(out, b",\"old_in\":")?;
     push_rolls_of(alloc, out, listed, Part::Old, reference)?;
     push_bytes(out, b",\"new_in\":")?;
     push_rolls_of(alloc, out, listed, Part::New, reference)?;
-    push_bytes(out, b"}")
+    push_bytes(out, b"}")?;
+    Ok(())
 }
 
 /// Writes the names of the rolls that listed a key as this.
@@ -189,61 +188,58 @@ fn same_part(part: Part, other: Part) -> bool
 }
 
 /// Writes what an add says of the key.
-#[tactic(auto, unfolding(crate::specs::Keys::traits_json))]
 fn push_traits(alloc: Global, out: &mut Vec<u8>, key: &Key) -> Result<(), AllocError>
     ensures { OnOk result (out.new.items ≡ out.old.items ++ traits_json key.now) }
 {
-    push_bytes(out, b",\"algorithm\":")?;
-    push_number(alloc, out, u128::from(key.algorithm().to_int()))?;
-    push_bytes(out, b",\"tag\":")?;
-    push_number(alloc, out, u128::from(key.key_tag()))?;
-    push_bytes(out, b",\"private\":")?;
-    push_private(out, key.privref())?;
-    push_bytes(out, b",\"decoupled\":")?;
-    push_flag(out, key.decoupled())
+    let algorithm = u128::from(key.algorithm().to_int());
+    push_number(alloc, out, b",\"algorithm\":", algorithm)?;
+    push_number(alloc, out, b",\"tag\":", u128::from(key.key_tag()))?;
+    push_private(out, b",\"private\":", key.privref())?;
+    push_flag(out, b",\"decoupled\":", key.decoupled())?;
+    Ok(())
 }
 
 /// Writes the private reference, or null.
 #[tactic(auto, unfolding(crate::specs::Json::option_json))]
-fn push_private(out: &mut Vec<u8>, privref: Option<&str>) -> Result<(), AllocError>
-    ensures { OnOk result (out.new.items ≡ out.old.items
+fn push_private(out: &mut Vec<u8>, before: &[u8], privref: Option<&str>) -> Result<(), AllocError>
+    ensures { OnOk result (out.new.items ≡ (out.old.items ++ before.now)
         ++ option_json text_json (option_map now privref.entry)) }
 {
     match privref {
-        None => push_bytes(out, b"null"),
-        Some(text) => push_text(out, text.as_bytes()),
+        None => push_null(out, before),
+        Some(text) => push_text(out, before, text.as_bytes()),
     }
 }
 
 /// Writes when the key passed the stages of its life.
-#[tactic(auto, unfolding(crate::specs::Keys::stamps_json))]
 fn push_stamps(alloc: Global, out: &mut Vec<u8>, stamps: &KeyTimestamps) -> Result<(), AllocError>
     ensures { OnOk result (out.new.items ≡ out.old.items ++ stamps_json stamps.now) }
 {
-    push_bytes(out, b",\"creation\":")?;
-    push_stamp(alloc, out, stamps.creation())?;
-    push_bytes(out, b",\"published\":")?;
-    push_stamp(alloc, out, stamps.published())?;
-    push_bytes(out, b",\"visible\":")?;
-    push_stamp(alloc, out, stamps.visible())?;
-    push_bytes(out, b",\"ds_visible\":")?;
-    push_stamp(alloc, out, stamps.ds_visible())?;
-    push_bytes(out, b",\"rrsig_visible\":")?;
-    push_stamp(alloc, out, stamps.rrsig_visible())?;
-    push_bytes(out, b",\"withdrawn\":")?;
-    push_stamp(alloc, out, stamps.withdrawn())
+    push_stamp(alloc, out, b",\"creation\":", stamps.creation())?;
+    push_stamp(alloc, out, b",\"published\":", stamps.published())?;
+    push_stamp(alloc, out, b",\"visible\":", stamps.visible())?;
+    push_stamp(alloc, out, b",\"ds_visible\":", stamps.ds_visible())?;
+    push_stamp(alloc, out, b",\"rrsig_visible\":", stamps.rrsig_visible())?;
+    push_stamp(alloc, out, b",\"withdrawn\":", stamps.withdrawn())?;
+    Ok(())
 }
 
 /// Writes a stamp in whole seconds, or null.
 #[tactic(auto, unfolding(crate::specs::Json::option_json))]
-fn push_stamp(alloc: Global, out: &mut Vec<u8>, stamp: Option<UnixTime>) -> Result<(), AllocError>
-    ensures { OnOk result (out.new.items ≡ out.old.items ++ option_json seconds stamp) }
+fn push_stamp(
+    alloc: Global,
+    out: &mut Vec<u8>,
+    before: &[u8],
+    stamp: Option<UnixTime>,
+) -> Result<(), AllocError>
+    ensures { OnOk result (out.new.items ≡ (out.old.items ++ before.now)
+        ++ option_json seconds stamp) }
 {
     match stamp {
-        None => push_bytes(out, b"null"),
+        None => push_null(out, before),
         Some(moment) => {
             let nanos = Duration::from(moment).as_nanos();
-            push_number(alloc, out, nanos / 1_000_000_000)
+            push_number(alloc, out, before, nanos / 1_000_000_000)
         }
     }
 }
@@ -262,6 +258,7 @@ fn push_kind(out: &mut Vec<u8>, keytype: KeyType) -> Result<(), AllocError>
 }
 
 /// Writes the only role of a key.
+#[tactic(auto, using(crate::proofs::Chains::assoc))]
 fn push_only(
     out: &mut Vec<u8>,
     before: &[u8],
@@ -273,7 +270,8 @@ fn push_only(
 {
     push_bytes(out, before)?;
     push_role(out, role, state)?;
-    push_bytes(out, b"]")
+    push_bytes(out, b"]")?;
+    Ok(())
 }
 
 /// Writes the two roles of a CSK.
@@ -284,7 +282,8 @@ fn push_csk(out: &mut Vec<u8>, ksk: KeyState, zsk: KeyState) -> Result<(), Alloc
     push_role(out, "ksk", ksk)?;
     push_bytes(out, b",")?;
     push_role(out, "zsk", zsk)?;
-    push_bytes(out, b"]")
+    push_bytes(out, b"]")?;
+    Ok(())
 }
 
 /// Writes the state of a role.
@@ -321,16 +320,13 @@ fn state_word(old: bool, signer: bool, present: bool) -> &'static str
 }
 
 /// Writes the flags of a role's state.
-#[tactic(auto, unfolding(crate::specs::Keys::flags_json))]
+#[tactic(auto, using(crate::proofs::Chains::assoc), unfolding(crate::specs::Keys::flags_json))]
 fn push_flags(out: &mut Vec<u8>, state: KeyState) -> Result<(), AllocError>
     ensures { OnOk result (out.new.items ≡ out.old.items ++ flags_json state) }
 {
-    push_bytes(out, b",\"old\":")?;
-    push_flag(out, state.old())?;
-    push_bytes(out, b",\"signer\":")?;
-    push_flag(out, state.signer())?;
-    push_bytes(out, b",\"present\":")?;
-    push_flag(out, state.present())?;
-    push_bytes(out, b",\"at_parent\":")?;
-    push_flag(out, state.at_parent())
+    push_flag(out, b",\"old\":", state.old())?;
+    push_flag(out, b",\"signer\":", state.signer())?;
+    push_flag(out, b",\"present\":", state.present())?;
+    push_flag(out, b",\"at_parent\":", state.at_parent())?;
+    Ok(())
 }

@@ -89,12 +89,12 @@ fn push_zone(
         ++ codes ",\"chain\":" ++ chain_json verdict
         ++ codes ",\"published\":" ++ sets_json sets.now)) }
 {
-    push_bytes(out, b"{\"zone\":")?;
-    push_text(out, zone.as_bytes())?;
+    push_text(out, b"{\"zone\":", zone.as_bytes())?;
     push_bytes(out, b",\"chain\":")?;
     push_chain(alloc, out, verdict)?;
     push_bytes(out, b",\"published\":")?;
-    push_sets(out, sets)
+    push_sets(out, sets)?;
+    Ok(())
 }
 
 /// Writes the keys and the rolls.

@@ -1,18 +1,18 @@
 //! The rolls of a status.
-ghost use Rattle.std.specs.Prelude.{◌≡◌, ◌++◌, IfOk, OnOk, Some, decimal, map};
+ghost use Rattle.std.specs.Prelude.{◌≡◌, ◌++◌, IfOk, OnOk, decimal, map};
 ghost use Rattle.std.specs.List.{All, list_any};
 ghost use Rattle.dnssec_keyset.specs.WaitEnd.{TellsEnd};
 ghost use Rattle.dnssec_status.specs.Json.{array_json, further_json};
 ghost use Rattle.dnssec_status.specs.Rolls.{end_json, ended_json, going_json};
-ghost use Rattle.dnssec_status.specs.Rolls.{is_for_parent, next_second, parts_json, phase_json};
+ghost use Rattle.dnssec_status.specs.Rolls.{is_for_parent, parts_json, phase_json};
 ghost use Rattle.dnssec_status.specs.Rolls.{phase_pair, rolls_in_progress, waits_for};
 ghost use Rattle.dnssec_status.specs.Rolls.{with_its_phase};
 ghost use Rattle.dnssec_status.specs.declared.rolls.Going.{Going as GoingRoll};
 ghost use Rattle.dnssec_zone.specs.Rolls.{phase_of};
 
-use crate::json::{push_bytes, push_number};
+use crate::json::{push_bytes, push_null, push_number};
 use crate::names::{push_actions, push_roll_name};
-use dnssec_keyset::{Action, KeySet, RollState, RollType, UnixTime, WaitEnd};
+use dnssec_keyset::{Action, KeySet, RollState, RollType, WaitEnd};
 use dnssec_zone::all_rolls;
 use std::alloc::{AllocError, Global};
 use std::time::Duration;
@@ -118,8 +118,7 @@ fn push_parts(
     push_bytes(out, b"{\"roll\":")?;
     push_roll_name(out, roll)?;
     push_phase(alloc, out, phase)?;
-    push_bytes(out, b",\"not_before\":")?;
-    push_end(alloc, out, end)?;
+    push_end(alloc, out, b",\"not_before\":", &end)?;
     push_bytes(out, b",\"waits_for\":")?;
     push_waits_for(out, phase, due)?;
     push_bytes(out, b",\"due\":")?;
@@ -157,6 +156,7 @@ fn push_phase(alloc: Global, out: &mut Vec<u8>, phase: RollState) -> Result<(), 
 }
 
 /// Writes a TTL between two pieces.
+#[tactic(auto, using(crate::proofs::Chains::assoc))]
 fn push_ttl(
     alloc: Global,
     out: &mut Vec<u8>,
@@ -167,40 +167,29 @@ fn push_ttl(
     ensures { OnOk result (out.new.items
         ≡ out.old.items ++ (before.now ++ decimal ttl ++ after.now)) }
 {
-    push_bytes(out, before)?;
-    push_number(alloc, out, u128::from(ttl))?;
-    push_bytes(out, after)
+    push_number(alloc, out, before, u128::from(ttl))?;
+    push_bytes(out, after)?;
+    Ok(())
 }
 
-/// Writes the first whole second from which a wait is accepted.
-#[tactic(auto, unfolding(crate::specs::Rolls::end_json))]
-fn push_end(alloc: Global, out: &mut Vec<u8>, end: Option<WaitEnd>) -> Result<(), AllocError>
-    ensures { OnOk result (out.new.items ≡ out.old.items ++ end_json end) }
+/// Writes the first whole second from which a wait is accepted, or null if it is past all time.
+#[tactic(auto, unfolding(crate::specs::Rolls::end_json, crate::specs::Rolls::next_second))]
+fn push_end(
+    alloc: Global,
+    out: &mut Vec<u8>,
+    before: &[u8],
+    end: &Option<WaitEnd>,
+) -> Result<(), AllocError>
+    ensures { OnOk result (out.new.items ≡ (out.old.items ++ before.now) ++ end_json end.now) }
 {
     match end {
-        None => push_bytes(out, b"null"),
-        Some(end) => push_wait_end(alloc, out, &end),
+        None | Some(WaitEnd::PastTime) => push_null(out, before),
+        Some(WaitEnd::At(moment)) => {
+            let nanos = Duration::from(*moment).as_nanos();
+            let second = (nanos + 999_999_999) / 1_000_000_000;
+            push_number(alloc, out, before, second)
+        }
     }
-}
-
-/// Writes the end of a wait, or null if it is past all time.
-#[tactic(auto, unfolding(crate::specs::Rolls::end_json))]
-fn push_wait_end(alloc: Global, out: &mut Vec<u8>, end: &WaitEnd) -> Result<(), AllocError>
-    ensures { OnOk result (out.new.items ≡ out.old.items ++ end_json (Some end.now)) }
-{
-    match end {
-        WaitEnd::PastTime => push_bytes(out, b"null"),
-        WaitEnd::At(moment) => push_next_second(alloc, out, moment),
-    }
-}
-
-/// Writes the first whole second that is not before a moment.
-#[tactic(auto, unfolding(crate::specs::Rolls::next_second))]
-fn push_next_second(alloc: Global, out: &mut Vec<u8>, moment: &UnixTime) -> Result<(), AllocError>
-    ensures { OnOk result (out.new.items ≡ out.old.items ++ next_second moment.now) }
-{
-    let nanos = Duration::from(*moment).as_nanos();
-    push_number(alloc, out, (nanos + 999_999_999) / 1_000_000_000)
 }
 
 /// Writes for whom a roll waits.

@@ -30,8 +30,7 @@ fn push_set(out: &mut Vec<u8>, before: &[u8], keys: &[PublishedKey]) -> Result<(
     match keys.split_first() {
         None => push_bytes(out, b"[]"),
         Some((first, rest)) => {
-            push_bytes(out, b"[")?;
-            push_text(out, first.reference.as_bytes())?;
+            push_text(out, b"[", first.reference.as_bytes())?;
             push_further(out, rest)?;
             push_bytes(out, b"]")
         }
@@ -45,8 +44,7 @@ fn push_further(out: &mut Vec<u8>, keys: &[PublishedKey]) -> Result<(), AllocErr
         ++ further_json published_json keys.now) }
 {
     for key in keys {
-        push_bytes(out, b",")?;
-        push_text(out, key.reference.as_bytes())?;
+        push_text(out, b",", key.reference.as_bytes())?;
     }
     Ok(())
 }
@@ -70,17 +68,13 @@ pub(crate) fn push_chain(
 }
 
 /// Writes the positions of the first sets without a chain.
-#[tactic(auto, unfolding(crate::specs::Sets::chain_json))]
 fn push_broken(alloc: Global, out: &mut Vec<u8>, broken: &Broken) -> Result<(), AllocError>
     ensures { OnOk result (out.new.items ≡ out.old.items ++ chain_json (Some broken.now)) }
 {
-    push_bytes(out, b"{\"safe\":false,\"at\":")?;
-    push_number(alloc, out, broken.at as u128)?;
-    push_bytes(out, b",\"ds\":")?;
-    push_number(alloc, out, broken.ds as u128)?;
-    push_bytes(out, b",\"dnskey\":")?;
-    push_number(alloc, out, broken.dnskey as u128)?;
-    push_bytes(out, b",\"zone\":")?;
-    push_number(alloc, out, broken.zone as u128)?;
-    push_bytes(out, b"}")
+    push_number(alloc, out, b"{\"safe\":false,\"at\":", broken.at as u128)?;
+    push_number(alloc, out, b",\"ds\":", broken.ds as u128)?;
+    push_number(alloc, out, b",\"dnskey\":", broken.dnskey as u128)?;
+    push_number(alloc, out, b",\"zone\":", broken.zone as u128)?;
+    push_bytes(out, b"}")?;
+    Ok(())
 }

@@ -1,5 +1,3 @@
--- The library for C: what a vector took is what was written for C (Handed); and a box that goes out
--- as a pointer and comes back (Values, and the five proofs by hand under parts and place).
-mod Handed
-pub mod Called
+-- The library for C: a box that goes out as a pointer and comes back. The five proofs by hand are
+-- under parts and place.
 pub mod Values

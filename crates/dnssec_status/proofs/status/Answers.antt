@@ -17,6 +17,7 @@ returns c name calls entries stands =
     let s = c.args.session.now in
     let set = c.keyset-keyset.ensures in
     let same = stands.records.agrees.same in
+    let ended = c.ended_early.ensures name calls entries stands in
     let named : string_bytes c.in_ok-zone.zone ≡ name_text s.recorder.keyset.name =
     c.in_ok-zone.ensures.ok
     ∙ ap name_text (c.name.ensures ∙ ap (λ (k : KeySetParts). k.name) set) in
@@ -41,14 +42,7 @@ returns c name calls entries stands =
           (sym c.deref-2.ensures.value)
           (subst (λ (k : KeySetParts). AreGoing k c.in_ok-rolls.rolls.items) (set ∙ same)
           (record { all = c.in_ok-rolls.ensures.all; ends = c.in_ok-rolls.ensures.ends }));
-      is_text = simp (
-        c.in_ok-push_rest.ensures,
-        c.in_ok-push_zone.ensures,
-        c.new-out.ensures.items,
-        named,
-        c.published.ensures,
-        keys,
-        c.ended_early.ensures name calls entries stands,
-        same,
-      );
+      is_text =
+          simp (c.in_ok-push_rest.ensures, c.in_ok-push_zone.ensures, c.new-out.ensures.items)
+          (simp (named, c.published.ensures, keys, ended, same));
     }

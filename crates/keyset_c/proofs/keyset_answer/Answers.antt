@@ -1,7 +1,13 @@
 -- What a run of the script promises of the bytes that the vector took, said of the front of `out`.
-use Rattle.std.proofs.Common.{rules, Err, ap, ◌∙◌}
-use Rattle.keyset_c.proofs.Handed.{took}
+use Rattle.std.proofs.Common.{Err, List, Some, [], ap, rules, sym, ℕ, ◌++◌, ◌∙◌, ◌≡◌}
+use Rattle.std.specs.Io.KnownBytes.{Appends}
 use Rattle.keyset_c.proofs.keyset_answer.Goals as goal
+
+-- a vector without bytes took `ys`, which are the bytes of the text
+took : (xs ys bytes text : List ℕ) → xs ≡ [] → bytes ≡ ys → text ≡ bytes →
+    Appends (Some xs) (Some ys) text
+took xs ys bytes text empty same written =
+    sym (written ∙ same) ∙ ap (λ front. front ++ text) (sym empty)
 
 pub returns-in-Ok-clause-safe : goal.returns-in-Ok-clause-safe
 returns-in-Ok-clause-safe c = λ answered a.

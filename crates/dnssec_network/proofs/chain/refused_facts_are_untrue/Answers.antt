@@ -1,6 +1,71 @@
--- What true facts say of the newest version stands against such a fact.
-use Rattle.dnssec_network.proofs.Refused.{refused-facts-are-untrue}
+-- A fact that is refused because it was seen before it was published is true of no network.
+use Rattle.std.proofs.Common.{List, Some, [], arith, refl, subst, suc, ℕ, ◌++◌, ◌<◌, ◌∙◌, ◌∷◌, ◌≡◌}
+use Rattle.std.{proofs.Common.◌≤◌, specs.Prelude.fold}
+use Rattle.dnssec_run.specs.{Safe.SetKind, Safe.kind_of, declared.caches.SetKind.SetKind as Kind}
+use Rattle.dnssec_network.{proofs.Passed.after_fact, proofs.Passed.passed, specs.Facts.AreTrueFrom}
+use Rattle.dnssec_network.specs.{Facts.news_of, Network.Network, Notes.first_progress}
+use Rattle.dnssec_network.specs.Notes.{newest_after, newest_of, news_refusal, progress_after}
+use Rattle.dnssec_network.specs.declared.fact.{Fact.Fact, News.News}
+use Rattle.dnssec_network.specs.declared.fact.News.TheVariants.{Everywhere, Published}
+use Rattle.dnssec_network.specs.declared.fact.NoteFault.TheVariants.{SeenBeforePublished}
+use Rattle.dnssec_network.specs.declared.progress.{Newest.Newest, Progress.Progress}
 use Rattle.dnssec_network.proofs.chain.refused_facts_are_untrue.Goals as goal
 
+-- ---- the newest version of a kind, only by its news
+
+abbrev next : Newest → News → Newest
+next newest news = newest_after news newest
+
+newest-is : (p : Progress) (kind : Kind) (facts : List Fact)
+    → newest_of (fold progress_after p facts) kind
+    ≡ fold (after_fact (kind_of kind) next) (newest_of p kind) facts
+newest-is p kind [] = refl
+newest-is p kind (fact ∷ facts) = grind (arith, newest-is (progress_after p fact) kind facts)
+
+-- ---- what true facts say of it
+
+-- no server gives it before it was published
+abbrev Tells : Network → SetKind → ℕ → Newest → Type 0
+Tells network kind n newest = (server time : ℕ) → server < network.servers kind →
+    n ≤ network.version kind server time → newest.published ≤ time
+
+tells-on : (network : Network) (kind : SetKind) (n : ℕ) (newest : Newest) (news : List News)
+    (last : News) → Tells network kind n newest → AreTrueFrom network kind n (news ++ last ∷ [])
+    → (m : ℕ) × Tells network kind m (fold next newest news)
+    × AreTrueFrom network kind m (last ∷ [])
+tells-on network kind n newest [] last tells are = (n, tells, are)
+tells-on network kind n newest (Published position ttl moment ∷ news) last tells are =
+    tells-on network kind (suc n) _ news last are.2 are.3
+tells-on network kind n newest (Everywhere moment ∷ news) last tells are =
+    tells-on network kind n _ news last tells are.1
+
+-- ---- refusals
+
+-- no publication is refused so, and a sight that is refused so came before the publication
+untrue : (network : Network) (kind : SetKind) (calls n : ℕ) (newest : Newest) (last : News)
+    → 0 < network.servers kind → Tells network kind n newest
+    → AreTrueFrom network kind n (last ∷ [])
+    → news_refusal calls newest last ≡ Some SeenBeforePublished → ⊥
+untrue network kind calls n newest (Published position ttl moment) serves tells are refused =
+    grind arith
+untrue network kind calls n newest (Everywhere moment) serves tells are refused =
+    grind (arith, tells 0 moment serves (are.0 0 serves))
+
+-- the news of a kind, with one more fact of it at the end
+news-after : (facts : List Fact) (fact : Fact)
+    → news_of (kind_of fact.kind) (facts ++ fact ∷ []) ≡ news_of (kind_of fact.kind) facts
+    ++ fact.news ∷ []
+news-after [] fact = grind arith
+news-after (f ∷ facts) fact = grind (arith, news-after facts fact)
+
 pub returns : goal.returns
-returns c = refused-facts-are-untrue
+returns c before facts fact network calls refused serves are =
+    let kind : SetKind = kind_of fact.kind in
+    let first : Newest = newest_of first_progress fact.kind in
+    let last = tells-on network kind 0 first (news_of kind facts) fact.news
+    (λ server time h le. grind arith)
+    (subst (λ news. AreTrueFrom network kind 0 news) (news-after facts fact) (are kind).1) in
+    untrue network kind calls last.0 (fold next first (news_of kind facts)) fact.news serves last.1
+    last.2
+    (subst (λ newest. news_refusal calls newest fact.news ≡ Some SeenBeforePublished)
+    (newest-is first_progress fact.kind facts ∙ passed kind next first facts) refused)

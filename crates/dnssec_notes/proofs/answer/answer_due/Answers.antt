@@ -1,8 +1,7 @@
 -- The lines are due after the run of the script.
-use Rattle.std.proofs.Common.{◌≡◌, suc, ap, ◌∙◌, arith, length, List, subst}
+use Rattle.std.proofs.Common.{List, ap, arith, length, subst, suc, ◌∙◌, ◌≡◌}
 use Rattle.std.specs.Prelude.{vec_len}
-use Rattle.dnssec_keyset.specs.KeySet.{KeySetParts}
-use Rattle.dnssec_run.specs.{declared.record.Entry.Entry, Safe.base_below}
+use Rattle.dnssec_run.specs.{Safe.base_below, declared.record.Entry.Entry}
 use Rattle.dnssec_script.specs.Script.{lines_of}
 use Rattle.dnssec_notes.specs.{Due.due_text, Reading.AreNotes}
 use Rattle.dnssec_notes.proofs.answer.answer_due.Goals as goal
@@ -24,12 +23,7 @@ returns c =
       is_script = ran.is_script;
       is_run = ran.is_run;
       is_text = c.in_ok-lines.ensures
-          ∙ (λ i. due_text c.in_ok-ran.ran.keyset.rolls
-          (λ roll. c.of_record-steps.ensures roll i) noted.before noted.facts c.args.seconds)
-          ∙ ap (λ (es : List Entry). due_text c.in_ok-ran.ran.keyset.rolls
-          (λ roll. base_below es roll (suc (length es))) noted.before noted.facts c.args.seconds)
-          c.deref.ensures.value
-          ∙ ap (λ (set : KeySetParts). due_text set.rolls
-          (λ roll. base_below entries.items roll (suc (length entries.items))) noted.before
-          noted.facts c.args.seconds) ran.is_set;
+          ∙ (λ i. due_text (ran.is_set i).rolls (λ roll. (c.of_record-steps.ensures roll
+          ∙ ap (λ (es : List Entry). base_below es roll (suc (length es))) c.deref.ensures.value) i)
+          noted.before noted.facts c.args.seconds);
     }

@@ -1,8 +1,10 @@
 -- Each turn notes the fact of one line.
-use Rattle.std.proofs.Common.{◌∙◌, ap, arith, map, refl}
-use Rattle.std.proofs.lemmas.{List.length-map, List.take_all, Result.err_from_is_err_and}
+use Rattle.std.proofs.Common.{◌∙◌, [], ap, arith, map, refl}
+use Rattle.std.proofs.lemmas.List.{length-map, take_all, take_more}
+use Rattle.std.proofs.lemmas.Result.{err_from_is_err_and}
 use Rattle.dnssec_network.specs.Notes.{NotesParts}
-use Rattle.dnssec_notes.proofs.Noting.{facts-next, fault-here}
+use Rattle.dnssec_script.proofs.Texts.{shown_at, within_shown}
+use Rattle.dnssec_notes.proofs.Noting.{facts-more}
 use denote.Bor.{now}
 use Rattle.dnssec_notes.proofs.reading.read_facts.Goals as goal
 
@@ -11,10 +13,13 @@ loop-index-init c = rw c.new-notes.ensures (refl, record { said = refl; taken = 
 
 pub loop-index-preserved : goal.loop-index-preserved
 loop-index-preserved c =
-    let inv = c.loop-index.invariant in
+    let xs = c.args.lines.now in
+    let i = c.loop-index.index in
+    let within = c.loop-index-test.true in
     let line = c.in_ok-note_line.ensures.ok in (
-      ap (λ (n : NotesParts). n.before) line.notes ∙ inv.0,
-      facts-next _ _ _ _ _ c.loop-index-test.true inv.1 line,
+      ap (λ (n : NotesParts). n.before) line.notes ∙ c.loop-index.invariant.0,
+      rw (take_more (map now xs) i [] (within_shown xs i within), shown_at xs i within)
+          (facts-more _ _ _ _ _ line c.loop-index.invariant.1),
     )
 
 pub returns-clause-before : goal.returns-clause-before
@@ -30,6 +35,12 @@ pub returns-in_err-note_line-clause-err : goal.returns-in_err-note_line-clause-e
 returns-in_err-note_line-clause-err c =
     let r = c.from_residual.result in
     let p = err_from_is_err_and r c.from_residual.ensures.1 in
-    rw (p.1, p.2)
-    (fault-here _ _ _ _ _ c.loop-index-test.true c.loop-index.invariant.1
-    c.in_err-note_line.ensures.err)
+    let within = c.loop-index-test.true in
+    rw (p.1, p.2) (record {
+      i = c.loop-index.index;
+      within = within_shown _ _ within;
+      facts = _;
+      before = c.loop-index.invariant.1;
+      here = rw (shown_at c.args.lines.now c.loop-index.index within)
+          c.in_err-note_line.ensures.err;
+    })

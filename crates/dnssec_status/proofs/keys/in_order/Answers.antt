@@ -1,17 +1,16 @@
 -- A walk over the map lends its entries, and sorting them leaves them the same.
-use Rattle.std.proofs.Common.{◌++◌, ◌∙◌, ℕ, List, map, sym, ap, subst, Bor, String, string_bytes}
-use Rattle.std.proofs.Common.{rules}
+use Rattle.std.proofs.Common.{Bor, List, String, ap, map, rules, string_bytes, subst, sym, ℕ, ◌++◌}
+use Rattle.std.proofs.{Common.◌∙◌, lemmas.Fn.always_returns_same}
 use Rattle.std.proofs.lemmas.List.Sorted.{IsPermutation-map, IsPermutation-sym, IsPermutation-trans}
-use Rattle.std.proofs.lemmas.List.Sorted.{ranks_by}
-use Rattle.std.proofs.lemmas.{Fn.always_returns_same, List.append-nil, Map.Iter.rest_so_far}
-use Rattle.std.specs.{FinMap.entries_sorted, Global.Global, Prelude.IsPermutation}
-use Rattle.std.specs.Cmp.Lexicographic.{slice_cmp, nat_list_cmp_total}
-use Rattle.std.specs.Ordering.{nat_cmp, is_lt}
+use Rattle.std.proofs.lemmas.{List.Sorted.ranks_by, List.append-nil, Map.Iter.rest_so_far}
+use Rattle.std.specs.Cmp.Lexicographic.{nat_list_cmp_total, slice_cmp}
+use Rattle.std.specs.{FinMap.entries_sorted, Global.Global, Ordering.is_lt, Ordering.nat_cmp}
+use Rattle.std.specs.Prelude.{IsPermutation}
 use Rattle.dnssec_key.specs.Key.{KeyParts}
-use Rattle.dnssec_run.specs.Recorder.{entry_lent}
-use Rattle.dnssec_status.{specs.Inner.Entries.entry_of, proofs.Order.put_in_order}
-use Rattle.dnssec_zone.specs.Keys.{entries_by_bytes, keys_in_map}
 use Rattle.dnssec_zone.proofs.Walks.{apart_by_bytes, entries_permute}
+use Rattle.dnssec_zone.specs.Keys.{entries_by_bytes, keys_in_map}
+use Rattle.dnssec_run.specs.Recorder.{entry_lent}
+use Rattle.dnssec_status.{proofs.Order.put_in_order, specs.Inner.Entries.entry_of}
 use mathlib.Core.List.{map-map}
 use Rattle.std.specs.FinMap as fin
 use Rattle.dnssec_status.proofs.keys.in_order.Goals as goal
@@ -38,8 +37,7 @@ returns c =
     ∙ ap (λ rest. lent ran.0 ++ rest) (ran.1.2 tt).1.0 ∙ append-nil (lent ran.0)
     ∙ ap lent (sym ran.2.0) in
     let all : IsPermutation m.entries (lent sorted) =
-    subst (λ es. IsPermutation es (lent sorted)) (sym walked)
-    (IsPermutation-map entry_lent _ _ c.sort_unstable_by.ensures.permutation) in
+    rw walked (IsPermutation-map entry_lent _ _ c.sort_unstable_by.ensures.permutation) in
     let moved : IsPermutation (entries_by_bytes m) (map entry_of sorted) =
     subst (IsPermutation (entries_by_bytes m)) (map-map by_bytes entry_lent sorted)
     (IsPermutation-map by_bytes m.entries (lent sorted) all) in

@@ -1,11 +1,10 @@
 -- Piece by piece.
 use Rattle.std.proofs.Common.{append_assoc}
-use Rattle.dnssec_status.{specs.Keys.kind_json, proofs.Chains.on_ok}
+use Rattle.dnssec_status.specs.Keys.{kind_json}
 use Rattle.dnssec_status.proofs.keys.push_csk.Goals as goal
 
 pub returns : goal.returns
 unfolding kind_json
-returns c = on_ok _ _ c.push_bytes-3.result c.push_bytes-3.ensures (λ last.
-    rw (last, c.in_ok-push_role-2.ensures, c.in_ok-push_bytes-2.ensures)
-    (rw (c.in_ok-push_role.ensures, c.in_ok-push_bytes.ensures)
-    (simp append_assoc)))
+returns c =
+    rw (c.in_ok-push_bytes-3.ensures, c.in_ok-push_role-2.ensures, c.in_ok-push_bytes-2.ensures)
+    (rw (c.in_ok-push_role.ensures, c.in_ok-push_bytes.ensures) (simp append_assoc))

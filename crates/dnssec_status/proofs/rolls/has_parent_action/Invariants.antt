@@ -1,5 +1,4 @@
-use Rattle.std.proofs.Common.{◌≡◌, false, take}
-use Rattle.std.specs.List.{list_any}
+use Rattle.std.{proofs.Common.false, proofs.Common.take, proofs.Common.◌≡◌, specs.List.list_any}
 use Rattle.dnssec_status.specs.Rolls.{is_for_parent}
 use Rattle.dnssec_status.proofs.rolls.has_parent_action.Given as goal
 

@@ -1,17 +1,16 @@
 -- The lines are due after the calls of the session.
-use Rattle.std.proofs.Common.{ℕ, ap, length, subst, sym, ◌∙◌}
-use Rattle.dnssec_keyset.specs.KeySet.{KeySetParts}
-use Rattle.dnssec_run.specs.{Record.world_at, Steps.step_of}
+use Rattle.std.proofs.Common.{ap, length, subst, sym, ◌∙◌}
+use Rattle.dnssec_run.specs.Record.{world_at}
+use Rattle.dnssec_notes.proofs.Noting.{are-notes, shown}
 use Rattle.dnssec_notes.specs.{Due.due_text, Reading.HasTaken}
-use Rattle.dnssec_notes.proofs.Beside.{are-notes, shown}
 use Rattle.dnssec_notes.proofs.session.SessionNotes.due_now.Goals as goal
 
 pub returns-in_ok-due_lines-in-Some : goal.returns-in_ok-due_lines-in-Some
 returns-in_ok-due_lines-in-Some c = λ lines notes entries stands taken.
     let noted = c.deref.result.now in
-    let of = c.args.seconds in
     let after = stands.stands in
-    let world = λ (k : ℕ). world_at stands.name stands.calls entries k in
+    let set = c.keyset-keyset.ensures ∙ after.records.agrees.same
+    ∙ ap (λ k. (world_at stands.name stands.calls entries k).set) (sym after.records.run.count) in
     let last = c.steps-steps.ensures stands.name stands.calls entries after in
     record {
       name = stands.name;
@@ -26,10 +25,6 @@ returns-in_ok-due_lines-in-Some c = λ lines notes entries stands taken.
           (shown _ c.self.inside.notes c.in-Some.notes c.args.self.now noted c.self.view_is
           c.in-Some.is c.deref.ensures) taken);
       is_text = c.in_ok-due_lines-in-Some.ensures
-          ∙ ap (λ (set : KeySetParts). due_text set.rolls (step_of c.steps-steps.result)
-          noted.before noted.facts of)
-          (c.keyset-keyset.ensures ∙ after.records.agrees.same
-          ∙ ap (λ k. (world k).set) (sym after.records.run.count))
-          ∙ (λ i. due_text (world (length entries)).set.rolls (λ roll. last roll i) noted.before
-          noted.facts of);
+          ∙ (λ i. due_text (set i).rolls (λ roll. last roll i) noted.before noted.facts
+          c.args.seconds);
     }

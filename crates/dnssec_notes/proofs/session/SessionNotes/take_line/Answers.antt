@@ -1,6 +1,6 @@
 -- A further line says a fact.
 use Rattle.std.proofs.{Common.length, Common.subst, lemmas.Result.on_ok_weaker}
-use Rattle.dnssec_notes.{specs.Reading.HasTaken, proofs.Beside.shown, proofs.Beside.taken-line}
+use Rattle.dnssec_notes.{proofs.Noting.shown, proofs.Noting.taken-line, specs.Reading.HasTaken}
 use Rattle.dnssec_notes.proofs.session.SessionNotes.take_line.Goals as goal
 
 pub returns-in-Some-clause-ok : goal.returns-in-Some-clause-ok

@@ -1,34 +1,26 @@
 -- `into_box` hands what the parts own to `from_raw`.
-use mathlib.Core.Path.{◌≡◌, refl, sym, subst, ap}
-use mathlib.Core.List.{List, [], ◌∷◌, ◌++◌}
-use lib.Dec.{T}
-use mir.Syntax.{Fn, Body, place, copy, assign, rv_opd, seq, return}
-use mir.MapTy.{inst_fn}
-use mir.Val.{Val, vptr, has_ty, WT}
-use base.Logic.{SProp, id⊢}
-use base.Fml.{ftrue, fsep, flft}
-use contract.BorrowLft.{◌⊑◌}
-use contract.Monad.{fact}
-use contract.Running.{tables, tables_of}
-use prog.Wp.{WpFn, Tables}
-use sound.WpLaws.{fm_of}
-use types.Kit.{Item, at_ret, ‵, raw, ◌⊛◌, some, later, ◌$◌, ◌∵◌, !, qed, move, drop, use1, join}
-use types.Kit.{split, split3, pick, rewrite, fsplit, fjoin, feq_i, suffices, await, done, prop}
-use types.Kit.{regoal}
-use types.Part.{whole, sub}
-use types.Run.{stop, fld, no_more, and_then, of_opd, returns, enter, first, blocks, exec}
-use types.ByLocal.{alloc_all, pass_all, free_all, look_at, get, get_in, sets, lands_last, env}
-use denote.RattleType.{RattleType}
-use denote.Exit.{no}
-use denote.RawPtr.{block_ptr}
-use denote.Signature.{plain}
-use denote.Steps.{heard, nothing, only}
-use denote.Triple.Walked.{says, Stays, stay_dropped, walk_of, ends_at}
-use denote.Triple.{Call.calls_at_last, Spec.triple_of, Statement.Triple, Statement.Contract}
-use Rattle.std.proofs.BoxSteps.Form.{Bx, D, R, P, B, args, box_ty, word, box_typed}
-use Rattle.std.proofs.{alloc.Calls.Goes-blank, raw_atomic.Walks.proved_at, BoxSteps.Steps.box_out}
-use Rattle.std.proofs.BoxSteps.Steps.{box_in}
+use Rattle.std.proofs.BoxSteps.Form.{B, Bx, D, P, R, args, box_ty, box_typed, word}
+use Rattle.std.proofs.BoxSteps.Steps.{box_in, box_out}
+use Rattle.std.proofs.{alloc.Calls.Goes-blank, raw_atomic.Walks.proved_at}
 use Rattle.keyset_c.specs.contracts.parts.Parts.into_box.Key.{name as #self}
+use base.{Fml.flft, Fml.fsep, Fml.ftrue, Logic.SProp, Logic.id⊢}
+use contract.{BorrowLft.◌⊑◌, Monad.fact, Running.tables, Running.tables_of}
+use denote.{Exit.no, RattleType.RattleType, RawPtr.block_ptr, Signature.plain}
+use denote.Steps.{heard, nothing, only}
+use denote.Triple.{Call.calls_at_last, Spec.triple_of, Statement.Contract, Statement.Triple}
+use denote.Triple.Walked.{Stays, ends_at, says, stay_dropped, walk_of}
+use lib.Dec.{T}
+use mathlib.Core.List.{List, [], ◌++◌, ◌∷◌}
+use mathlib.Core.Path.{ap, refl, subst, sym, ◌≡◌}
+use mir.{MapTy.inst_fn, Syntax.Body, Syntax.Fn, Syntax.assign, Syntax.copy, Syntax.place}
+use mir.{Syntax.return, Syntax.rv_opd, Syntax.seq, Val.Val, Val.WT, Val.has_ty, Val.vptr}
+use prog.Wp.{Tables, WpFn}
+use sound.WpLaws.{fm_of}
+use types.ByLocal.{alloc_all, env, free_all, get, get_in, lands_last, look_at, pass_all, sets}
+use types.Kit.{ !, Item, at_ret, await, done, drop, feq_i, fjoin, fsplit, join, later, move, pick}
+use types.Kit.{prop, qed, raw, regoal, rewrite, some, split, split3, suffices, use1, ‵, ◌$◌, ◌∵◌}
+use types.{Kit.◌⊛◌, Part.sub, Part.whole}
+use types.Run.{and_then, blocks, enter, exec, first, fld, no_more, of_opd, returns, stop}
 use Rattle.keyset_c.specs.contracts.parts.Parts as parts
 use Rattle.std.specs.contracts.boxed.Box.from_raw as Fr
 use Rattle.std.proofs.boxed.Box.from_raw.Symbol as raw_sym

@@ -1,38 +1,26 @@
 -- `of` takes the box apart, and the parts own what it owned.
-use mathlib.Core.Path.{◌≡◌, refl, ap, ◌∙◌}
-use mathlib.Core.List.{List, [], ◌∷◌, ◌++◌}
-use mir.Syntax.{Fn, Args, a_type, dcons, dnil}
-use mir.MapTy.{inst_fn}
-use mir.Raw.{raw as bare}
-use mir.Val.{Val, vstruct, of_list}
-use base.Logic.{SProp, id⊢, never, fst∗}
-use base.Fml.{ftrue, fsep, flft}
-use contract.BorrowLft.{◌⊑◌}
-use contract.Monad.{fact}
-use contract.Running.{tables, tables_of}
-use prog.Wp.{WpFn, Tables}
-use types.Logic.{sem}
-use types.Kit.{Item, ‵, raw, ◌⊛◌, some, later, ◌$◌, ◌∵◌, !, qed, move, drop, use1, join, split}
-use types.Kit.{split3, pick, rewrite, fsplit, fjoin, fpick, feq_l, suffices, await, done, prop}
-use types.Kit.{regoal}
-use types.Part.{whole, sub, agg}
-use types.Run.{stop, fld, no_more, and_then, of_opd, returns, enter}
-use types.ByLocal.{alloc_all, pass_all, free_all, look_at, get, get_in, sets, lands_as}
-use sound.WpLaws.{fm_of}
-use denote.RattleType.{RattleType}
-use denote.Exit.{no}
-use denote.Param.{bounded}
-use denote.RawPtr.{Ptr, RawPtr, block_ptr, null_ptr, ptr_val, in_a_block}
-use denote.Signature.{plain}
-use denote.Steps.{heard, nothing, only}
-use denote.Struct.Tuple.{Tuple}
-use denote.Triple.Walked.{says, Stays, stay_dropped, walk_of, ends_at}
-use denote.Triple.{Call.calls_at, Spec.triple_of, Statement.Triple, Statement.Contract}
-use Rattle.std.proofs.alloc.Calls.{token, handle_tells, Goes-blank}
-use Rattle.std.proofs.BoxSteps.Form.{Bx, D, τ, R, P, B, word, box_typed}
-use Rattle.std.proofs.{raw_atomic.Walks.proved_at, BoxSteps.Steps.box_out, BoxSteps.Steps.box_in}
-use Rattle.std.specs.Box.Ownership.{box_owns}
+use Rattle.std.proofs.BoxSteps.Form.{B, Bx, D, P, R, box_typed, word, τ}
+use Rattle.std.proofs.BoxSteps.Steps.{box_in, box_out}
+use Rattle.std.proofs.alloc.Calls.{Goes-blank, handle_tells, token}
+use Rattle.std.{proofs.raw_atomic.Walks.proved_at, specs.Box.Ownership.box_owns}
 use Rattle.keyset_c.specs.contracts.parts.Parts.of.Key.{name as #self}
+use base.{Fml.flft, Fml.fsep, Fml.ftrue, Logic.SProp, Logic.fst∗, Logic.id⊢, Logic.never}
+use contract.{BorrowLft.◌⊑◌, Monad.fact, Running.tables, Running.tables_of}
+use denote.{Exit.no, Param.bounded, RattleType.RattleType}
+use denote.RawPtr.{Ptr, RawPtr, block_ptr, in_a_block, null_ptr, ptr_val}
+use denote.{Signature.plain, Steps.heard, Steps.nothing, Steps.only, Struct.Tuple.Tuple}
+use denote.Triple.{Call.calls_at, Spec.triple_of, Statement.Contract, Statement.Triple}
+use denote.Triple.Walked.{Stays, ends_at, says, stay_dropped, walk_of}
+use mathlib.Core.{List.List, List.[], List.◌++◌, List.◌∷◌, Path.ap, Path.refl, Path.◌∙◌, Path.◌≡◌}
+use mir.{MapTy.inst_fn, Raw.raw as bare, Syntax.Args, Syntax.Fn, Syntax.a_type, Syntax.dcons}
+use mir.{Syntax.dnil, Val.Val, Val.of_list, Val.vstruct}
+use prog.Wp.{Tables, WpFn}
+use sound.WpLaws.{fm_of}
+use types.ByLocal.{alloc_all, free_all, get, get_in, lands_as, look_at, pass_all, sets}
+use types.Kit.{ !, Item, await, done, drop, feq_l, fjoin, fpick, fsplit, join, later, move, pick}
+use types.Kit.{prop, qed, raw, regoal, rewrite, some, split, split3, suffices, use1, ‵, ◌$◌, ◌∵◌}
+use types.{Kit.◌⊛◌, Logic.sem, Part.agg, Part.sub, Part.whole}
+use types.Run.{and_then, enter, fld, no_more, of_opd, returns, stop}
 use Rattle.keyset_c.specs.contracts.parts.Parts as parts
 use Rattle.std.specs.contracts.boxed.Box.into_raw_with_allocator as Ra
 use Rattle.std.proofs.boxed.Box.into_raw_with_allocator.Symbol as raw_sym

@@ -1,24 +1,18 @@
 -- `none` keeps nothing, and its pointer is null.
-use Rattle.std.proofs.Common.{◌≡◌, [], ◌∷◌, None, Option, refl, lit<}
-use Rattle.std.proofs.raw_atomic.Walks.{proved_at, leaves}
-use Rattle.keyset_c.proofs.Values.{R, one, none_in}
-use Rattle.keyset_c.proofs.place.Place.none.Statement.{statement}
-use Rattle.keyset_c.specs.contracts.place.Place.none.{ended, clauses, Key.name as #self}
-use mir.Syntax.{Fn}
-use mir.Val.{Val}
-use base.Logic.{SProp, emp}
-use base.Fml.{ftrue}
-use contract.Monad.{fact, fact_i}
-use contract.Running.{tables}
-use types.Kit.{‵, raw, ◌⊛◌, ◌$◌, ◌∵◌, !, qed, by, move, keep, drop, use0, split}
-use types.Part.{agg}
-use types.Run.{lit, no_more, and_then, returns, enter}
-use types.ByLocal.{alloc_all, pass_all, free_all, look_at, sets}
-use denote.RattleType.{owns}
-use denote.Signature.{types_at}
-use denote.Steps.{nothing}
+use Rattle.std.proofs.Common.{List, None, Option, [], lit<, refl, ◌∷◌, ◌≡◌}
+use Rattle.std.proofs.raw_atomic.Walks.{leaves, proved_at}
+use Rattle.keyset_c.proofs.{Values.R, Values.one, place.Place.none.Statement.statement}
+use Rattle.keyset_c.specs.contracts.place.Place.none.{Key.name as #self, clauses, ended}
+use base.{Fml.ftrue, Logic.SProp, Logic.emp}
+use contract.{Monad.fact, Monad.fact_i, Running.tables}
+use denote.{Builtin.RawPtr, RattleType.Valss, RattleType.owns, RawPtr.null_ptr, RawPtr.ptr_val}
+use denote.{Signature.types_at, Steps.nothing, Struct.Owning.shape, Struct.Struct.within}
 use denote.Triple.{Entry.alive, Walked.walk_of}
-use denote.RawPtr.{null_ptr, ptr_val}
+use mir.{Syntax.Fn, Val.Val}
+use types.ByLocal.{alloc_all, free_all, look_at, pass_all, sets}
+use types.Kit.{ !, by, drop, feq_i, fjoin, fpack, keep, move, qed, raw, split, use0, ‵, ◌$◌, ◌∵◌}
+use types.{Kit.◌⊛◌, Part.agg, Run.and_then, Run.enter, Run.lit, Run.no_more, Run.returns}
+use Rattle.keyset_c.specs.contracts.place.Place as place
 use Rattle.keyset_c.proofs.place.Place.none.Code as compiled
 
 pub none_spec : {M : Type 1} → statement M
@@ -36,7 +30,12 @@ none_spec 𝓤 𝓛 𝓜 𝓡 wired =
     alloc_all ! (λ l. pass_all ! refl tt $
     sets ! (agg ! (and_then ! (lit ! tt) (no_more !))) refl (tt, (record { fits = lit< tt }, tt)) $
     returns ! (look_at ! 0 refl) $ free_all ! refl $
-    none_in ! $ use0 𝓛 (raw (fact 𝓤 Same)) (fact_i 𝓤 Same (emp 𝓤) refl) $ nothing ! $
+    let v : Val = one (ptr_val null_ptr) in
+    nothing ! $ nothing ! $ feq_i ! (List Val) (ptr_val null_ptr ∷ []) (ptr_val null_ptr ∷ [])
+    refl $ fjoin ! $ feq_i ! (List Val) (v ∷ []) (v ∷ []) refl $ fjoin ! $
+    fpack ! (Valss (RawPtr ∷ [])) (within (shape place.the_type) (null_ptr, tt) (v ∷ []))
+    (ptr_val null_ptr ∷ [], tt) $ fjoin ! $
+    use0 𝓛 (raw (fact 𝓤 Same)) (fact_i 𝓤 Same (emp 𝓤) refl) $ nothing ! $
     keep ! (3 ∷ 0 ∷ 2 ∷ 1 ∷ []) $
-    by ! (leaves 𝓛 En tt c z (one (ptr_val null_ptr)) (record { ptr = null_ptr; value = None }) tt
+    by ! (leaves 𝓛 En tt c z v (record { ptr = null_ptr; value = None }) tt
     tt)))
