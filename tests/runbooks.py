@@ -126,7 +126,7 @@ def main():
             wrong.append(f"runbooks: the guides don't say: {point.words}")
         told = [
             "one signer: " + follow(book, orders, unsaid, wrong),
-            leave_out(book, POINTS, lambda n: random.Random(n).sample([*ROLLS], 6), wrong),
+            leave_out(book, POINTS, lambda n: random.Random(n).sample([*ROLLS], len(ROLLS)), wrong),
             "two signers: " + follow(book, [None] * 40, unsaid, wrong),
             leave_out(book, PAIRS, lambda n: None, wrong),
         ]
