@@ -24,7 +24,7 @@ CALLERS = has-cc has-pkg-config has-cargo has-rustc
 prove = mkdir -p crates/$(1)/out && cd crates/$(1) && \
 	{ rt $(2) >out/build.log 2>&1 || { cat out/build.log >&2; exit 1; }; }
 
-.PHONY: run build notes lib install uninstall check fmt clean test live docs memory test-lib \
+.PHONY: run build notes lib install uninstall check fmt clean test wrong live docs memory test-lib \
 	valgrind asan fuzz help python
 
 # The proved program answers if it is newer than its sources, else one that is built at once.
@@ -70,6 +70,10 @@ clean: ## removes what was built
 # Every proof, wrong body, test and program. It prints when each step was done.
 test: python $(CALLERS) ## the gate: it ends with 'N passed, 0 failed'
 	@tests/gate.py
+
+# Before a release: all of them take some 40 minutes of one processor.
+wrong: python ## tries the wrong bodies that the gate leaves out: make wrong CRATES='NAME ..'
+	@tests/wrong.py $(CRATES)
 
 # It needs the packages that live/README.md names.
 live: build notes ## rolls keys on real name servers, within an hour; LIVE=--short within ten minutes
