@@ -14,12 +14,12 @@ ghost use Rattle.dnssec_zone.specs.Start.{has_conflict, conflict, together, text
 ghost use Rattle.dnssec_zone.specs.Refusals.{AnswersExactly, report_refusal, end_refusal};
 ghost use Rattle.dnssec_zone.specs.{Refusals.early_end_refusal, Wait.ttl_in};
 ghost use Rattle.dnssec_zone.specs.Inner.Entries.{is_of, is_of_roll, entries_after_report};
-ghost use Rattle.dnssec_zone.specs.Inner.Entries.{entries_at_start, entries_of, entry_of};
+ghost use Rattle.dnssec_zone.specs.Inner.Entries.{entries_at_start, entries_of};
 ghost use Rattle.dnssec_zone.specs.Inner.Entries.{has_entry, without_roll, without_tag};
 ghost use Rattle.dnssec_zone.specs.declared.rolls.Part.TheVariants.{Old, New};
 
 use crate::keys::Keys;
-use dnssec_key::{Error, Half, Key, RollState, RollType, Side, TagSet, set};
+use dnssec_key::{Error, Half, RollState, RollType, Side, TagSet, set};
 use std::alloc::Global;
 use std::collections::HashMap;
 use std::marker::Model;
@@ -321,29 +321,19 @@ impl Lists {
         ensures err { IsOkUnless result OutOfMemory }
     {
         for reference in references {
-            self.list_one(roll, part, keys.get(reference))?;
+            match keys.get(reference) {
+                Some(key) if key.is_kept() => {
+                    let key_tag = key.key_tag();
+                    self.entries.push(Entry {
+                        roll,
+                        part,
+                        key_tag,
+                    })?;
+                }
+                _ => {}
+            }
         }
         Ok(())
-    }
-
-    /// Lists a key if there is one, and it isn't old.
-    fn list_one(&mut self, roll: RollType, part: Part, key: Option<&Key>) -> Result<(), Error>
-        ensures ok { OnOk result (self.new.entries.items ≡ self.old.entries.items
-            ++ entry_of roll part (option_map (λ k. k.now) key.entry)) }
-        ensures err { IsOkUnless result OutOfMemory }
-    {
-        match key {
-            Some(key) if key.is_kept() => {
-                let key_tag = key.key_tag();
-                self.entries.push(Entry {
-                    roll,
-                    part,
-                    key_tag,
-                })?;
-                Ok(())
-            }
-            _ => Ok(()),
-        }
     }
 
     /// Drops what is kept for a roll.
