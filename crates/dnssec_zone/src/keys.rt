@@ -1,8 +1,7 @@
 //! The keys by their public references.
 ghost use Rattle.std.specs.Prelude.{◌≡◌, ℕ, List, None, Some, string_bytes, IfOk, IsOkUnless};
-ghost use Rattle.std.specs.Prelude.{IfSome, IfNone, OnOk, OnErr, if◌then◌else◌, nat_eq, length};
-ghost use Rattle.std.specs.{Prelude.◌≤◌, List.list_any, Option.option_map, Str.bytes_eq};
-ghost use Rattle.std.specs.String.{string_eq};
+ghost use Rattle.std.specs.Prelude.{IfSome, IfNone, OnOk, OnErr, if◌then◌else◌, nat_eq};
+ghost use Rattle.std.specs.{List.list_any, Option.option_map, Str.bytes_eq, String.string_eq};
 ghost use Rattle.std.specs.FinMap as map;
 ghost use Rattle.std.specs.HashMap as hash;
 ghost use Rattle.dnssec_base.specs.declared.error.Error.TheVariants.{OutOfMemory};
@@ -53,15 +52,6 @@ impl Model for Keys {
 pub enum Mark {
     AsOld,
     AsNew(RollType, UnixTime),
-}
-
-/// A law of every such map: no reference stands twice, and a `usize` holds their number. It does
-/// nothing: its contract serves the proofs of its callers.
-fn references_differ(keys: &HashMap<String, Key>)
-    ensures unique { hash.IsUnique string_eq keys.now }
-    ensures fits { length keys.now.entries ≤ 18446744073709551615 }
-{
-    keys.len();
 }
 
 /// Whether some key has the tag, by a walk over the keys.
@@ -179,7 +169,8 @@ impl Keys {
         self.derived.index_many(alloc, &self.map, pubref.as_str())?;
         put_new(&mut self.map, pubref, key)?;
         self.derived.add(key_tag, &keytype);
-        references_differ(&self.map);
+        // For the proof: by `len`, no reference stands twice, and a `usize` holds their number.
+        self.map.len();
         Ok(())
     }
 
@@ -226,7 +217,8 @@ impl Keys {
             return Err(Error::WrongKeyType);
         }
         self.derived.set(key, setting);
-        references_differ(&self.map);
+        // For the proof: by `len`, no reference stands twice, and a `usize` holds their number.
+        self.map.len();
         Ok(key_tag)
     }
 
@@ -264,7 +256,8 @@ impl Keys {
             return;
         };
         self.derived.mark(key, mark);
-        references_differ(&self.map);
+        // For the proof: by `len`, no reference stands twice, and a `usize` holds their number.
+        self.map.len();
     }
 
     /// Stamps every key that a report speaks of.

@@ -1,5 +1,6 @@
 -- The new key's tag comes into the index with it, and it is counted.
-use Rattle.std.proofs.Common.{◌≡◌, false, None, Some, string_bytes, rules, refl, ap, ◌∙◌}
+use Rattle.std.proofs.Common.{◌≡◌, false, None, Some, string_bytes, rules, refl, ap, arith}
+use Rattle.std.proofs.Common.{◌∙◌}
 use Rattle.std.specs.FinMap.{get}
 use Rattle.dnssec_key.specs.Inner.TagIndex.{has}
 use Rattle.dnssec_zone.specs.Keys.{keys_in_map, has_tag}
@@ -22,7 +23,7 @@ invariant_of-self-2 c =
           (c.index_many.ensures.agree c.self.invariant.0),
       rw (c.add.ensures.counts, c.keytype-keytype.ensures, c.index_many.ensures.counts)
           (counts-added i.derived.counts (keys_in_map i.map) n r (Some x) is c.self.invariant.1 x
-          refl absent (fits-shown c.put_new.new.map c.references_differ.ensures.unique
-          c.references_differ.ensures.fits)),
+          refl absent (fits-shown c.put_new.new.map c.len.ensures.unique
+          (omega (arith, c.len.ensures.len, c.len.ensures.small)))),
       rw c.add.ensures.reported tt,
     )

@@ -34,6 +34,7 @@ invariant_of-self-2 c =
           (counts-exchanged i.derived.counts (keys_in_map i.map) (keys_in_map n) r (Some (f k))
           (put-changed f (keys_in_map i.map) (keys_in_map n) r k found is) c.self.invariant.1 k
           (f k) found refl
-          (fits-shown n c.references_differ.ensures.unique c.references_differ.ensures.fits)),
+          (fits-shown n c.len.ensures.unique
+          (omega (arith, c.len.ensures.len, c.len.ensures.small)))),
       rw c.mark.ensures.reported tt,
     )

@@ -1,5 +1,5 @@
 -- A key that a setter doesn't suit is written back as it was; else one key is changed.
-use Rattle.std.proofs.Common.{◌≡◌, ℕ, List, Some, rules, sym, subst, ◌∙◌}
+use Rattle.std.proofs.Common.{◌≡◌, ℕ, List, Some, rules, sym, subst, ◌∙◌, arith}
 use Rattle.std.specs.{Prelude.if◌then◌else◌, Str.bytes_eq, Option.option_map}
 use Rattle.dnssec_key.specs.{Inner.TagIndex.has, Setters.setting_of, Setters.set_by}
 use Rattle.dnssec_zone.specs.{Inner.Derived.IsDerived, Keys.keys_in_map}
@@ -45,7 +45,8 @@ invariant_of-self-2 c =
           (kept_set setting) is (has i.derived.tags) c.self.invariant.0),
       rw c.set.ensures.counts
           (counts-set setting i.derived.counts (keys_in_map i.map) (keys_in_map n) r k found put
-          (fits-shown n c.references_differ.ensures.unique c.references_differ.ensures.fits)
+          (fits-shown n c.len.ensures.unique
+          (omega (arith, c.len.ensures.len, c.len.ensures.small)))
           c.self.invariant.1),
       rw c.set.ensures.reported (known-after (keys_in_map i.map) (keys_in_map n) r k (f k) found put
           i.derived.reported c.self.invariant.2),
