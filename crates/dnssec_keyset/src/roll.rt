@@ -56,7 +56,7 @@ impl KeySet {
             return Err(Error::AlgorithmSetsMismatch);
         }
         self.keys.check_suitability(rolltype, old, &of_new)?;
-        let actions = list(self.alloc, rolltype.actions_in(RollState::Propagation1))?;
+        let actions = Vec::from_slice(self.alloc, rolltype.actions_in(RollState::Propagation1))?;
         let lists = self.lists.with_start(&self.keys, rolltype, old, new)?;
         // The last request for memory comes before the first write: nothing after it can fail.
         self.rolls.put_in(rolltype, RollState::Propagation1)?;
@@ -204,7 +204,7 @@ impl KeySet {
         ensures { Step self.old (AbortRoll rolltype) (reply_list result) self.new }
     {
         self.rolls.check_early_end(rolltype)?;
-        let actions = list(self.alloc, rolltype.asks_at_early_end())?;
+        let actions = Vec::from_slice(self.alloc, rolltype.asks_at_early_end())?;
         self.lists.unmark(rolltype, &mut self.keys);
         self.lists.take_out(rolltype);
         self.rolls.take_out(rolltype);
@@ -266,7 +266,7 @@ impl KeySet {
     }
 }
 
-/// A list of the actions. An empty list takes no memory.
+/// A list of actions that may be empty: an empty list takes no memory.
 fn list(alloc: Global, actions: &[Action]) -> Result<Vec<Action>, Error>
     ensures same { IfOk result (λ made. made.items ≡ actions.now) }
     ensures none { actions.now ≡ [] → IsOk result }
@@ -275,5 +275,5 @@ fn list(alloc: Global, actions: &[Action]) -> Result<Vec<Action>, Error>
     if actions.is_empty() {
         return Ok(Vec::new(alloc));
     }
-    Ok(actions.to_vec(alloc)?)
+    Ok(Vec::from_slice(alloc, actions)?)
 }

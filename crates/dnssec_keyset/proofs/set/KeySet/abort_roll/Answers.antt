@@ -12,7 +12,7 @@ invariant_of-self c = rw (c.take_out.ensures) (undone c.self.invariant _
 pub returns : goal.returns
 returns c = rw (← c.self.view_is) (accepted-step (the_view c.self.inside) _
     (AbortRoll c.args.rolltype) _ (cleared _ _ c.in_ok-check_early_end.ensures)
-    (ap Actions (c.in_ok-actions.ensures.same ∙ c.asks_at_early_end.ensures))
+    (ap Actions (c.in_ok-actions.ensures.items ∙ c.asks_at_early_end.ensures))
     (record {
       name = refl;
       rolls = c.take_out-2.ensures;
