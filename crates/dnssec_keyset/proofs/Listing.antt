@@ -18,6 +18,7 @@ use Rattle.dnssec_key.specs.{Setters.Setting, Setters.set_by}
 use Rattle.dnssec_zone.specs.Lists.{nothing_listed, lists_after_report}
 use Rattle.dnssec_zone.specs.declared.rolls.Part.TheVariants.{Old, New}
 use Rattle.dnssec_zone.specs.{Inner.Entries.is_of_roll, declared.rolls.Entry.Entry, Keys.Keys}
+use Rattle.dnssec_zone.specs.Inner.Entries.{is_of}
 use Rattle.dnssec_zone.specs.{Refusals.Answers, Refusals.add_refusal, Start.is_listed}
 use Rattle.dnssec_zone.proofs.Listing.Starts.{lists_of-reported, lists_of-taken_out}
 use Rattle.dnssec_zone.proofs.Tags.{kept_at, kept_set, kept_unmarked}
@@ -126,8 +127,8 @@ module _ {old : Keys} {es : List Entry} (agree : EntriesAgree old es) (new : Key
         → (has_entry roll Old k.key_tag es ≡ is_listed (listed_by (lists_of old es) roll).olds q)
         × (has_entry roll New k.key_tag es ≡ is_listed (listed_by (lists_of old es) roll).news q) =
         λ k f. (
-          has_entry-is old agree.apart q k f roll Old es agree.there,
-          has_entry-is old agree.apart q k f roll New es agree.there,
+          has_entry-is old agree.apart q k f (is_of roll Old) es agree.there,
+          has_entry-is old agree.apart q k f (is_of roll New) es agree.there,
         ) in
         grind (arith, is q, listed)
 

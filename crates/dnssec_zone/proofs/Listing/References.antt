@@ -1,15 +1,16 @@
 -- The references that the entries mean, as keys come, go and change.
 use Rattle.std.proofs.Common.{◌≡◌, ℕ, Bool, true, false, not, List, [], ◌∷◌, ◌++◌, map, Some, None}
 use Rattle.std.proofs.Common.{refl, sym, ap, ◌∙◌, arith, Bor, ◌+◌, ◌<◌, length, take, get_or}
-use Rattle.dnssec_zone.specs.Inner.Entries.{is_of, has_entry, without_tag, entry_of, entries_of}
-use Rattle.dnssec_zone.specs.Inner.Entries.{first_with, reference_of, references_of, lists_of}
+use Rattle.dnssec_zone.specs.Inner.Entries.{is_of, without_tag, entry_of, entries_of}
+use Rattle.dnssec_zone.specs.Inner.Entries.{first_with, reference_of, lists_of}
 use Rattle.dnssec_zone.proofs.Tags.{apart-mapped, apart-added, apart-removed, there-mapped}
 use Rattle.std.proofs.lemmas.Bool.Decides.{nat_tests}
 use Rattle.std.proofs.lemmas.List.{append-nil, append_assoc}
-use Rattle.std.specs.Prelude.{T, nat_eq, filter, if◌then◌else◌}
+use Rattle.std.specs.Prelude.{T, nat_eq, filter, if◌then◌else◌, ◌&&◌}
 use Rattle.std.specs.FinMap.{find, entries, get, get-entries, entries_sorted}
 use Rattle.std.specs.Cmp.Lexicographic.{slice_cmp, bytes_decides}
 use Rattle.std.specs.{Option.option_map, Str.bytes_eq, Ordering.nat_cmp, FinMap.Entries.is_sorted}
+use Rattle.std.specs.List.{list_any}
 use Rattle.dnssec_key.specs.{declared.roll.RollType.RollType, Key.KeyParts}
 use Rattle.dnssec_zone.specs.Inner.Entries.{IsThere, AreThere, EntriesAgree}
 use Rattle.dnssec_zone.specs.{Keys.Keys, Keys.TagsApart, Keys.has_tag, declared.rolls.Entry.Entry}
@@ -80,12 +81,13 @@ module _ (keys : Keys) (differ : TagsApart keys) (q : List ℕ) (k : KeyParts)
       ap (reference_of keys) (sym there.3) ∙ reference_of-is keys differ there.0 there.1 there.2 in
       grind (arith, bytes_decides, nat_tests, is, differ there.0 q there.1 k there.2 found)
 
-  -- an entry has the key's tag if and only if its reference is listed
-  pub has_entry-is : (roll : RollType) (part : Part) (es : List Entry) → AreThere keys es
-      → has_entry roll part k.key_tag es ≡ is_listed (references_of keys roll part es) q
-  has_entry-is roll part [] there = refl
-  has_entry-is roll part (e ∷ es) there =
-      grind (arith, same_tag-is e.key_tag there.0, has_entry-is roll part es there.1)
+  -- an entry that passes has the key's tag if and only if its reference is listed
+  pub has_entry-is : (p : Entry → Bool) (es : List Entry) → AreThere keys es
+      → list_any (λ e. p e && nat_eq e.key_tag k.key_tag) es
+      ≡ is_listed (names keys (filter p es)) q
+  has_entry-is p [] there = refl
+  has_entry-is p (e ∷ es) there =
+      grind (arith, same_tag-is e.key_tag there.0, has_entry-is p es there.1)
 
   -- what is left without its tag are the other references
   pub others-is : (p : Entry → Bool) (es : List Entry) → AreThere keys es
