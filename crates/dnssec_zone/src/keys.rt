@@ -229,7 +229,12 @@ impl Keys {
             (map.get self.old q) }
     {
         for reference in references {
-            self.mark_at(reference, mark);
+            let Some(key) = self.map.get_mut(*reference) else {
+                continue;
+            };
+            self.derived.mark(key, mark);
+            // For the proof: by `len`, no reference stands twice, and a `usize` holds their number.
+            self.map.len();
         }
     }
 
@@ -243,21 +248,6 @@ impl Keys {
             true
         });
         self.derived.recount(&self.map);
-    }
-
-    /// Marks the key at a reference, if there is one.
-    #[inline(always)]
-    #[tactic(auto, using(crate::proofs::Walks::shown))]
-    fn mark_at(&mut self, reference: &str, mark: &Mark)
-        ensures { (q : List ℕ) → map.get self.new q ≡ option_map
-            (λ k. if bytes_eq reference.now q then marked mark.now k else k) (map.get self.old q) }
-    {
-        let Some(key) = self.map.get_mut(reference) else {
-            return;
-        };
-        self.derived.mark(key, mark);
-        // For the proof: by `len`, no reference stands twice, and a `usize` holds their number.
-        self.map.len();
     }
 
     /// Stamps every key that a report speaks of.

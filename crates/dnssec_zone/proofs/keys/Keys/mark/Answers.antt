@@ -1,12 +1,60 @@
--- Each turn of the loop marks one more of the listed keys.
-use Rattle.std.proofs.{Common.arith, lemmas.Grind.common_steps}
-use Rattle.dnssec_zone.{specs.Inner.Mark.marked, proofs.Marks.mark_more, proofs.Marks.marked-twice}
+-- Each turn of the loop marks one more of the listed keys: if no key has the reference, nothing is
+-- changed; else one key is, and is counted anew.
+use Rattle.std.proofs.Common.{◌≡◌, ℕ, List, [], None, Some, rules, refl, arith, Bor, get_or}
+use Rattle.std.specs.{Prelude.if◌then◌else◌, Str.bytes_eq, Option.option_map}
+use Rattle.std.specs.{Cmp.Lexicographic.bytes_decides}
+use Rattle.dnssec_key.specs.Inner.TagIndex.{has}
+use Rattle.dnssec_zone.specs.{Inner.Mark.marked, Keys.keys_in_map}
+use Rattle.dnssec_zone.proofs.{Counted.counts-exchanged, Counted.fits-shown, Walks.shown}
+use Rattle.dnssec_zone.proofs.{Walks.put-changed, Tags.tags-changed}
+use Rattle.dnssec_zone.proofs.{Marks.mark_more, Marks.marked-twice}
+use Rattle.std.specs.FinMap as map
 use Rattle.dnssec_zone.proofs.keys.Keys.mark.Goals as goal
 
-pub loop-reference-preserved : goal.loop-reference-preserved
-loop-reference-preserved c = mark_more (marked c.args.mark.now) (marked-twice c.args.mark.now)
-    c.args.references.now _ _ _ _ _ c.loop-reference-test.true c.loop-reference.invariant
-    c.mark_at.ensures
+-- what a list has past its end
+abbrev past : Bor (List ℕ)
+past = record { ref_ptr = (0, 0); now = [] }
 
-pub returns : goal.returns
-returns c = λ q. grind (arith, common_steps, c.loop-reference.invariant q)
+pub loop-reference-preserved : goal.loop-reference-preserved
+loop-reference-preserved c =
+    let l = c.loop-reference in
+    let i = l.self-inside in
+    let rs = c.args.references.now in
+    let r = (get_or rs l.reference-index past).now in
+    let f = marked c.args.mark.now in
+    let n = c.get_mut.follows.lender c.mark.new.key in
+    let k = c.in-Some.key.now in
+    let found : map.get (keys_in_map i.map) r ≡ Some k = search (rules, shown) in
+    let is : (q : List ℕ) → map.get (keys_in_map n) q
+    ≡ option_map (λ k. if bytes_eq r q then f k else k) (map.get (keys_in_map i.map) q) =
+    λ q. search (rules, shown) in (
+      (
+        rw c.mark.ensures.tags (tags-changed (keys_in_map i.map) (keys_in_map n) r f
+            (λ k. grind arith) is (has i.derived.tags) l.invariant.0.0),
+        rw c.mark.ensures.counts
+            (counts-exchanged i.derived.counts (keys_in_map i.map) (keys_in_map n) r (Some (f k))
+            (put-changed f (keys_in_map i.map) (keys_in_map n) r k found is) l.invariant.0.1 k
+            (f k) found refl
+            (fits-shown n c.len.ensures.unique
+            (omega (arith, c.len.ensures.len, c.len.ensures.small)))),
+        rw c.mark.ensures.reported tt,
+      ),
+      mark_more f (marked-twice c.args.mark.now) rs l.reference-index _ _ _ _
+          c.loop-reference-test.true l.invariant.1 is,
+    )
+
+pub loop-reference-preserved-in_default : goal.loop-reference-preserved-in_default
+loop-reference-preserved-in_default c =
+    let l = c.loop-reference in
+    let i = l.self-inside in
+    let rs = c.args.references.now in
+    let r = (get_or rs l.reference-index past).now in
+    let f = marked c.args.mark.now in
+    let m = c.get_mut.follows.lender-at-none in
+    let same : m ≡ i.map = search rules in
+    let none : map.get (keys_in_map i.map) r ≡ None = search (rules, shown) in (
+      rw same l.invariant.0,
+      mark_more f (marked-twice c.args.mark.now) rs l.reference-index past _ (keys_in_map i.map)
+          (keys_in_map m) c.loop-reference-test.true l.invariant.1
+          (λ q. rw same (grind (arith, bytes_decides, none))),
+    )
