@@ -233,7 +233,7 @@ impl KeyList {
         ensures err { IfErr result (λ e. e ≡ OutOfMemory) }
     {
         match self.part(place.piece).get(place.at) {
-            Some(other) if other.is(key) => other.share(),
+            Some(other) if *other.key == *key => other.share(),
             _ => SharedKey::new(alloc, key),
         }
     }

@@ -3,7 +3,7 @@
 ghost use Rattle.std.specs.Prelude.{◌≡◌, ◌≤◌, ◌<◌, ◌++◌, length, map, flat_map, true, IfOk, IfErr};
 ghost use Rattle.dnssec_base.specs.declared.error.Error.TheVariants.{OutOfMemory};
 ghost use Rattle.dnssec_run.specs.Published.{id_of};
-ghost use Rattle.dnssec_sets.specs.Chained.{ids_in, ids_of_piece, same_id, shared_id};
+ghost use Rattle.dnssec_sets.specs.Chained.{ids_in, ids_of_piece, shared_id};
 
 use crate::list::{KeyList, Piece};
 use dnssec_keyset::Error;
@@ -44,13 +44,6 @@ impl SharedKey {
         let key = self.key.clone()?;
         Ok(SharedKey { key })
     }
-
-    /// Whether it is this key.
-    pub(crate) fn is(&self, key: &PublishedKey) -> bool
-        ensures { result ≡ same_id (shared_id self.now) (id_of key.now) }
-    {
-        *self.key == *key
-    }
 }
 
 /// The keys of a list, each shared with the key of before if that is the same. Both lists should be
@@ -86,7 +79,7 @@ fn share_next<'a>(
 {
     let mut rest = before;
     while let Some((first, others)) = rest.split_first() {
-        if first.is(key) {
+        if *first.key == *key {
             return Ok((first.share()?, others));
         }
         if first.key.added == key.added || key.reference <= first.key.reference {
@@ -131,7 +124,7 @@ pub(crate) fn are_same(shared: &[SharedKey], keys: &[PublishedKey]) -> bool
         let Some((first, others)) = rest.split_first() else {
             return false;
         };
-        if !first.is(key) {
+        if *first.key != *key {
             return false;
         }
         rest = others;
