@@ -1,29 +1,37 @@
 -- The lines of a script make its calls, or one is the first malformed line.
-use Rattle.std.proofs.Common.{◌==◌, ◌∙◌, ap, arith, is_some, refl, rules, subst, sym, tests}
+use Rattle.std.proofs.Common.{◌≡◌, ℕ, ◌==◌, ◌∙◌, List, ◌∷◌, ap, arith, is_some, refl, rules, subst}
+use Rattle.std.proofs.Common.{sym, tests}
+use Rattle.std.proofs.lemmas.Iterator.{YieldsList}
 use Rattle.std.proofs.lemmas.Iterator.Consumers.{YieldsList-end, YieldsList-so_far, YieldsList-turn}
 use Rattle.std.proofs.lemmas.Iterator.Splits.{YieldsList-from_slice_split}
-use Rattle.dnssec_script.specs.Script.{IsFirstOf, without_end}
+use Rattle.dnssec_script.specs.Script.{IsFirstOf, lines_of, without_end}
 use Rattle.dnssec_script.proofs.Cuts.{first_yielded}
 use Rattle.dnssec_script.proofs.Judging.{all_read, first_silent, zone_first}
 use Rattle.dnssec_script.proofs.lines.read_script.Goals as goal
+use Rattle.dnssec_script.proofs.lines.read_script.Given.{iterator-loop-line}
+use Rattle.dnssec_script.proofs.lines.read_script.Goals.{In-Some}
+
+-- the first line, and the others, which an iterator over the lines then gives
+first_line : (c : In-Some) (t : _) → t ≡ c.next.new.self → (rest : List (List ℕ))
+    × (lines_of c.args.script.now ≡ c.in-Some.first.now ∷ rest)
+    × YieldsList iterator-loop-line.next_gives (λ l. l.now) t rest
+first_line c t same =
+    let split = c.split-lines.ensures in
+    first_yielded (YieldsList-from_slice_split {s = c.split-lines.result} _ (λ b. b == 10)
+    (without_end c.args.script.now) (split.rest ∙ c.without_end.ensures) split.done split.closure
+    (λ x b q k. search (rules, tests))) c.next.result _ t c.in-Some.first c.in-Some.is
+    c.next.ensures.steps same
 
 pub returns-in_default-2 : goal.returns-in_default-2
 returns-in_default-2 c =
-    let split = c.split-lines.ensures in
-    let first = first_yielded (YieldsList-from_slice_split {s = c.split-lines.result} _
-    (λ b. b == 10) (without_end c.args.script.now) (split.rest ∙ c.without_end.ensures)
-    split.done split.closure (λ x b q k. search (rules, tests))) c.next.result _ _ c.in-Some.first
-    c.in-Some.is c.next.ensures.steps refl in
+    let first = first_line (goal.at.returns-in_default-2 c).In-Some _ refl in
     let unnamed = rw c.in_default-2.is at c.in_ok-name.ensures.none in
     subst (λ lines. IsFirstOf lines 1) (sym first.1) (zone_first _ _ unnamed)
 
 pub returns-in-None-2 : goal.returns-in-None-2
 returns-in-None-2 c =
-    let split = c.split-lines.ensures in let at = c.loop-line in
-    let first = first_yielded (YieldsList-from_slice_split {s = c.split-lines.result} _
-    (λ b. b == 10) (without_end c.args.script.now) (split.rest ∙ c.without_end.ensures)
-    split.done split.closure (λ x b q k. search (rules, tests))) c.next.result _ _ c.in-Some.first
-    c.in-Some.is c.next.ensures.steps c.into_iter-line-iterator.ensures.into_iter_gives in
+    let at = c.loop-line in let first = first_line (goal.at.returns-in-None-2 c).In-Some _
+    c.into_iter-line-iterator.ensures.into_iter_gives in
     let named = rw c.in-Some-2.is at c.in_ok-name.ensures.found in
     let turn = YieldsList-turn first.2 at.yielded _ at.yielded_by _ _ c.in-Some-line.line
     c.in-Some-line.is c.next-in-loop-line.ensures.steps in
@@ -34,11 +42,8 @@ returns-in-None-2 c =
 
 pub returns : goal.returns
 returns c =
-    let split = c.split-lines.ensures in let at = c.loop-line in
-    let first = first_yielded (YieldsList-from_slice_split {s = c.split-lines.result} _
-    (λ b. b == 10) (without_end c.args.script.now) (split.rest ∙ c.without_end.ensures)
-    split.done split.closure (λ x b q k. search (rules, tests))) c.next.result _ _ c.in-Some.first
-    c.in-Some.is c.next.ensures.steps c.into_iter-line-iterator.ensures.into_iter_gives in
+    let at = c.loop-line in let first = first_line (goal.at.returns c).In-Some _
+    c.into_iter-line-iterator.ensures.into_iter_gives in
     let named = rw c.in-Some-2.is at c.in_ok-name.ensures.found in
     let end = YieldsList-end first.2 at.yielded _ at.yielded_by _ _ c.in-None.is
     c.next-in-loop-line.ensures.steps in
