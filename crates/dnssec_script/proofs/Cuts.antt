@@ -10,6 +10,13 @@ use Rattle.dnssec_script.specs.Script.{fields_of, first_field}
 
 -- ---- the fields of a line, one after another
 
+-- the fields, by the first and those after it
+pub whole : (fields rest : List (List ℕ)) (text : List ℕ) → Some (text, rest) ≡ first_field fields
+    → fields ≡ text ∷ rest
+whole [] rest text first = cc
+whole (field ∷ fields) rest text first =
+    sym (ap (λ o. option_map_or (λ (x : List ℕ × List (List ℕ)). x.0 ∷ x.1) o []) first)
+
 -- the fields that are left, if anything is
 abbrev pub fields_left : Option (Bor (List ℕ)) → List (List ℕ)
 fields_left rest = option_map_or (λ r. fields_of r.now) rest []

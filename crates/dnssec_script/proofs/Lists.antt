@@ -1,18 +1,10 @@
 -- What a field says that has to be a list.
-use Rattle.std.proofs.Common.{◌≡◌, ℕ, ◌==◌, Bool, false, Some, None, List, [], ◌∷◌}
-use Rattle.std.proofs.Common.{codes, sym, ap, ◌∙◌}
+use Rattle.std.proofs.Common.{◌≡◌, ℕ, ◌==◌, Bool, false, Some, None, List, [], codes, ap, ◌∙◌}
 use Rattle.std.specs.List.{list_all, slice_split}
-use Rattle.std.specs.Option.{option_map, option_map_or}
+use Rattle.std.specs.Option.{option_map}
 use Rattle.std.specs.{Str.bytes_eq, Prelude.if◌then◌else◌}
-use Rattle.dnssec_script.specs.Script.{References, as_list, first_field, is_reference}
-use Rattle.dnssec_script.specs.Script.{value_at}
-
--- the fields, by the first and those after it
-whole : (fields rest : List (List ℕ)) (text : List ℕ) → Some (text, rest) ≡ first_field fields
-    → fields ≡ text ∷ rest
-whole [] rest text first = cc
-whole (field ∷ fields) rest text first =
-    sym (ap (λ o. option_map_or (λ (x : List ℕ × List (List ℕ)). x.0 ∷ x.1) o []) first)
+use Rattle.dnssec_script.specs.Script.{References, as_list, first_field, is_reference, value_at}
+use Rattle.dnssec_script.proofs.Cuts.{whole}
 
 -- a text that is not `-`
 pub list_first : (fields rest : List (List ℕ)) (text : List ℕ) (b : Bool)

@@ -2,7 +2,7 @@
 ghost use Rattle.std.specs.Prelude.{◌≡◌, IfOk, Some};
 ghost use Rattle.std.specs.Option.{option_map};
 ghost use Rattle.dnssec_key.specs.Key.{is_available};
-ghost use Rattle.dnssec_script.specs.Script.{call_says, said_after_word, says, word_named};
+ghost use Rattle.dnssec_script.specs.Script.{call_says, said_after_word, says};
 ghost use Rattle.dnssec_script.specs.Inner.Statement.{Makes, MakesEntry, start_says};
 ghost use Rattle.dnssec_script.specs.Inner.Statement.{statement_says};
 
@@ -60,16 +60,6 @@ const WORDS: [(&str, Word); 20] = [
     ("done", Word::Done),
     ("abort", Word::Abort),
 ];
-
-impl Word {
-    /// The word with this name.
-    pub(crate) fn from_name(name: &[u8]) -> Option<Word>
-        ensures { result ≡ word_named name.now }
-    {
-        let row = WORDS.iter().find(|row| row.0.as_bytes() == name)?;
-        Some(row.1)
-    }
-}
 
 /// What a line says: its call. Only the call of a start is made later, since it borrows its lists.
 #[derive(Drop)]
@@ -131,8 +121,8 @@ pub fn read_line<'a>(alloc: Global, line: &'a [u8]) -> Result<Option<Statement<'
     let Some((name, fields)) = Fields::of(line).next() else {
         return Ok(None);
     };
-    match Word::from_name(name) {
-        Some(word) => call_of_word(alloc, word, fields),
+    match WORDS.iter().find(|row| row.0.as_bytes() == name) {
+        Some(row) => call_of_word(alloc, row.1, fields),
         None => Ok(None),
     }
 }

@@ -1,10 +1,15 @@
--- The first row of the table with this name has the word.
-use Rattle.std.proofs.Common.{◌≡◌, ℕ, List, [], ◌∷◌, map, Option, None, ap, ◌∙◌, Bor, rules, sym}
+-- A line says what its fields say after the word of the first row with its name.
+use Rattle.std.proofs.Common.{◌≡◌, ℕ, List, [], ◌∷◌, map, Option, None, ap, ◌∙◌, Bor, rules}
+use Rattle.std.proofs.Common.{sym}
 use Rattle.std.proofs.lemmas.Iterator.{YieldsList, YieldsList-from_slice}
-use Rattle.std.proofs.lemmas.Iterator.Search.{find_from_yields_List}
-use Rattle.std.specs.{List.find, Option.option_map, Str.bytes_eq}
-use Rattle.dnssec_script.specs.{Script.word_named, Script.words, declared.statement.Word.Word}
-use Rattle.dnssec_script.proofs.statement.Word.from_name.Goals as goal
+use Rattle.std.proofs.lemmas.{Iterator.Search.find_from_yields_List, Result.IfOk-weaker}
+use Rattle.std.specs.{Option.option_and_then, Option.option_map, Str.bytes_eq}
+use Rattle.dnssec_script.specs.declared.statement.Word.{Word}
+use Rattle.dnssec_script.specs.Script.{Value, fields_of, first_field, said_after_word, says, word_at}
+use Rattle.dnssec_script.specs.Script.{word_named}
+use Rattle.dnssec_script.proofs.Cuts.{whole}
+use Rattle.dnssec_script.proofs.statement.read_line.Goals as goal
+use Rattle.dnssec_script.proofs.statement.read_line.Goals.{After-find}
 
 abbrev Row : Type 0
 Row = Bor (List ℕ) × Word
@@ -25,26 +30,33 @@ rows_shown {steps = steps} {rows = row ∷ rows} e = record {
   );
 }
 
--- the word of the row that was found
-named : (name : List ℕ) (o row : Option (Bor Row)) → o ≡ row
-    → option_map (λ (x : Bor Row). shown x.now) o ≡ find (λ r. bytes_eq r.0 name) words
-    → option_map (λ (r : List ℕ × Word). r.1) (option_map (λ (x : Bor Row). shown x.now) row)
-    ≡ word_named name
-unfolding word_named
-named name o row is found =
-    ap (option_map (λ (r : List ℕ × Word). r.1))
-    (ap (option_map (λ (x : Bor Row). shown x.now)) (sym is) ∙ found)
+-- what a line says that has this word and these fields
+abbrev said : Option (Word × List (List ℕ)) → Option (Word × List Value)
+said found = option_and_then (λ (x : Word × List (List ℕ)). said_after_word x.0 x.1) found
 
-pub returns-in_err-row : goal.returns-in_err-row
-returns-in_err-row c =
-    c.from_residual.ensures ∙ named c.args.name.now c.find.result None c.in_err-row.was
-    (find_from_yields_List (λ (r : List ℕ × Word). bytes_eq r.0 c.args.name.now) _ _ c.find.result
-    c.find.ensures.ran (rows_shown (YieldsList-from_slice _ c.iter.ensures.rest))
-    (λ x b q k. search rules))
+-- what fields say after the word of a row
+abbrev said_after : List (List ℕ) → Option (List ℕ × Word) → Option (Word × List Value)
+said_after fields row =
+    said (option_map (λ w. (w, fields)) (option_map (λ (r : List ℕ × Word). r.1) row))
 
-pub returns : goal.returns
-returns c =
-    named c.args.name.now c.find.result _ c.in_ok-row.was
-    (find_from_yields_List (λ (r : List ℕ × Word). bytes_eq r.0 c.args.name.now) _ _ c.find.result
-    c.find.ensures.ran (rows_shown (YieldsList-from_slice _ c.iter.ensures.rest))
+-- what the line says, by the row that was found
+says_after : (c : After-find) (row : Option (Bor Row)) → c.find.result ≡ row
+    → said_after c.in-Some.fields (option_map (λ (x : Bor Row). shown x.now) row)
+    ≡ says c.args.line.now
+unfolding says word_named
+says_after c row is =
+    let name = c.in-Some.name.now in let fields = c.in-Some.fields in
+    ap (λ r. said_after fields (option_map (λ (x : Bor Row). shown x.now) r)) (sym is)
+    ∙ ap (said_after fields) (find_from_yields_List (λ (r : List ℕ × Word). bytes_eq r.0 name) _ _
+    c.find.result c.find.ensures.ran (rows_shown (YieldsList-from_slice _ c.iter.ensures.rest))
     (λ x b q k. search rules))
+    ∙ ap (λ all. said (word_at all)) (sym (whole (fields_of c.args.line.now) fields name
+    (c.in-Some.ensures ∙ ap first_field c.of.ensures)))
+
+pub returns-in-Some-find : goal.returns-in-Some-find
+returns-in-Some-find c = IfOk-weaker c.call_of_word.result _ _ (λ found same. same
+    ∙ says_after (goal.at.returns-in-Some-find c).After-find _ c.in-Some-find.is)
+    c.call_of_word.ensures
+
+pub returns-in-None : goal.returns-in-None
+returns-in-None c = says_after (goal.at.returns-in-None c).After-find None c.in-None.is
