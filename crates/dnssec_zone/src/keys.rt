@@ -217,7 +217,7 @@ impl Keys {
             return Err(Error::WrongKeyType);
         }
         self.derived.set(key, setting);
-        // For the proof: by `len`, no reference stands twice, and a `usize` holds their number.
+        // For the proof, as in `add`.
         self.map.len();
         Ok(key_tag)
     }
@@ -233,7 +233,7 @@ impl Keys {
                 continue;
             };
             self.derived.mark(key, mark);
-            // For the proof: by `len`, no reference stands twice, and a `usize` holds their number.
+            // For the proof, as in `add`.
             self.map.len();
         }
     }
