@@ -97,7 +97,7 @@ fn record(rng: &mut SmallRng, alloc: Global) -> Result<Vec<Entry>, AllocError> {
 }
 
 /// What is said of the records.
-#[derive(Clone, Copy, Debug, PartialEq)]
+#[derive(Clone, Copy, Debug)]
 struct Tally {
     /// How many are safe.
     safe: u32,

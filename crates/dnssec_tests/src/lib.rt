@@ -21,8 +21,6 @@ mod names;
 #[cfg(test)]
 mod numbers;
 #[cfg(test)]
-mod runs;
-#[cfg(test)]
 mod texts;
 #[cfg(test)]
 mod values;

@@ -167,12 +167,6 @@ fn is_name_up_to(alloc: Global, text: &str, named: usize, rest: &str) -> Result<
     Ok(letters(alloc, text)? == wanted)
 }
 
-/// Whether the clone of a name has its bytes.
-fn is_cloned(alloc: Global, text: &str) -> Result<bool, NameError> {
-    let name = Name::from_str(alloc, text)?;
-    Ok(name.try_clone()?.as_slice() == name.as_slice())
-}
-
 /// Whether bytes are taken as a name. They are found in it, or come back.
 fn is_taken(alloc: Global, bytes: &[u8]) -> Result<bool, AllocError> {
     match Name::from_octets(Vec::from_slice(alloc, bytes)?) {
@@ -215,9 +209,4 @@ fn takes_wire_names_alone(rt: HostRuntime) {
     for (bytes, is_name) in WIRE {
         assert_eq!(rt; is_taken(rt.alloc(), bytes), Ok(*is_name), "{bytes:?}");
     }
-}
-
-#[test]
-fn clones(rt: HostRuntime) {
-    assert_eq!(rt; is_cloned(rt.alloc(), "example.com"), Ok(true));
 }

@@ -85,11 +85,6 @@ pub fn new_set(alloc: Global, name: &str) -> Option<KeySet> {
     Some(KeySet::new(alloc, name))
 }
 
-/// What a new set prints of its zone.
-fn name_of_new_set(alloc: Global, name: &str) -> Option<String> {
-    new_set(alloc, name)?.name().to_string(alloc).ok()
-}
-
 #[test]
 fn moments(rt: HostRuntime) {
     for (index, (moment, later, wanted)) in SUMS.iter().enumerate() {
@@ -110,13 +105,6 @@ fn moments(rt: HostRuntime) {
 fn the_last_timestamp(rt: HostRuntime) {
     let last = UnixTime::from(Timestamp::from(u32::MAX));
     assert_eq!(rt; Duration::from(last), Duration::from_secs(4_294_967_295));
-}
-
-/// A set has the name that it was made with.
-#[test]
-fn name_of_the_zone(rt: HostRuntime) {
-    let name = name_of_new_set(rt.alloc(), "example.com");
-    assert_eq!(rt; name.as_deref(), Some("example.com"));
 }
 
 #[test]
