@@ -1,5 +1,5 @@
 -- The entry is that of the reference, in this map, and the key is written at it.
-use Rattle.std.proofs.Common.{◌≡◌, Some, string_bytes, sym, ap, subst, ◌∙◌}
+use Rattle.std.proofs.Common.{◌≡◌, Some, string_bytes, sym, ap, subst, ◌∙◌, rules}
 use Rattle.std.proofs.lemmas.Map.Text.{hash_map_updates_text}
 use Rattle.std.specs.HashMap.{get_by_text, Entry.entry_map_ref, Entry.map_with_value}
 use Rattle.dnssec_zone.proofs.keys.put_new.Goals as goal
@@ -16,3 +16,6 @@ returns-in-Vacant-clause-ok c q =
     ap (λ m. get_by_text m q) written
     ∙ hash_map_updates_text (string_bytes c.args.pubref) c.args.map.now (map_with_value entry key)
     (Some key) (c.in_ok-place.ensures.update.0 key) q
+
+pub returns-in-Occupied-clause-err : goal.returns-in-Occupied-clause-err
+returns-in-Occupied-clause-err c = search rules

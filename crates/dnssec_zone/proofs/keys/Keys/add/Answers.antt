@@ -27,3 +27,7 @@ invariant_of-self-2 c =
           (omega (arith, c.len.ensures.len, c.len.ensures.small)))),
       rw c.add.ensures.reported tt,
     )
+
+-- a tag in use is the first cause
+pub returns-then-has_tag-clause-reply : goal.returns-then-has_tag-clause-reply
+returns-then-has_tag-clause-reply c = search rules
