@@ -1,5 +1,5 @@
 -- A wait that is due has an end, and a roll without one has no wait.
-use Rattle.std.proofs.Common.{Some, sym, ◌∙◌, ap, refl}
+use Rattle.std.proofs.Common.{Some, sym, ◌∙◌, ap, refl, rules}
 use Rattle.dnssec_key.specs.RollTable.{First, Second}
 use Rattle.dnssec_keyset.proofs.Replies.{no-end, no-wait-phase}
 use Rattle.dnssec_keyset.proofs.set.KeySet.over_in_phase.Goals as goal
@@ -34,3 +34,6 @@ returns-in-Some-Done-clause-none c =
 pub returns-in-None-clause-none : goal.returns-in-None-clause-none
 returns-in-None-clause-none c =
     no-wait-phase _ c.self.inside _ c.self.view_is _ (sym c.in-None.ensures) refl refl
+
+pub returns-in-Some-CacheExpire2-clause-end : goal.returns-in-Some-CacheExpire2-clause-end
+returns-in-Some-CacheExpire2-clause-end c = search rules

@@ -1,5 +1,5 @@
 -- The move of the roll and the walk over the keys are what an accepted report changes.
-use Rattle.std.proofs.Common.{refl, ap}
+use Rattle.std.proofs.Common.{refl, ap, rules}
 use Rattle.dnssec_key.specs.RollTable.{which}
 use Rattle.dnssec_keyset.proofs.{Listing.reported, Allowed.accepted-step, Allowed.cleared}
 use Rattle.dnssec_keyset.specs.{Step.Actions, Step.Report, contracts.set.KeySet.the_view}
@@ -19,3 +19,7 @@ returns c = rw (← c.self.view_is) (accepted-step (the_view c.self.inside) _
           (which c.args.half) c.args.now.now c.report_all.ensures).1;
       keys = c.report_all.ensures;
     }))
+
+-- the roll refuses for the report's only cause
+pub returns-in_err-take_report : goal.returns-in_err-take_report
+returns-in_err-take_report c = search rules
