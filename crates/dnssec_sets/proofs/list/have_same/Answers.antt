@@ -1,6 +1,7 @@
 -- A piece has the next of the keys.
-use Rattle.std.proofs.Common.{◌≡◌, ◌∷◌, ◌+◌, ◌++◌, sym, ◌∙◌, ap, drop, map}
+use Rattle.std.proofs.Common.{◌≡◌, ◌∷◌, ◌+◌, ◌++◌, sym, ◌∙◌, ap, drop, map, arith}
 use Rattle.std.{specs.Prelude.flat_map, proofs.lemmas.List.drop_more, proofs.lemmas.List.map-append}
+use Rattle.std.proofs.lemmas.Grind.{common_steps}
 use Rattle.dnssec_run.specs.Published.{id_of}
 use Rattle.dnssec_sets.{specs.Chained.ids_of_piece, proofs.Lists.joined}
 use Rattle.dnssec_sets.proofs.list.have_same.Goals as goal
@@ -19,3 +20,6 @@ loop-piece-preserved c rest =
     c.loop-piece.invariant (ap (flat_map ids_of_piece) left
     ∙ (λ k. first k ++ rest k) ∙ sym (map-append id_of group others)
     ∙ ap (map id_of) (sym (joined c.loop-piece.rest.now group others _ split.1 split.2)))
+
+pub returns : goal.returns
+returns c t = c.loop-piece.invariant (grind (arith, common_steps))
