@@ -1,7 +1,11 @@
 -- A session that has only its zone.
-use Rattle.std.proofs.Common.{[]}
+use Rattle.std.proofs.Common.{[], refl}
 use Rattle.dnssec_script.specs.Script.{IsZoneLine}
 use Rattle.dnssec_record.proofs.session.Session.open.Goals as goal
+
+pub returns-in_default-clause-err : goal.returns-in_default-clause-err
+returns-in_default-clause-err c =
+    let unnamed = rw c.in_default.is at c.in_ok-name.ensures.none in (refl, unnamed)
 
 pub returns-clause-ok : goal.returns-clause-ok
 returns-clause-ok c =
