@@ -71,7 +71,7 @@ clean: ## removes what was built
 test: python $(CALLERS) ## the gate: it ends with 'N passed, 0 failed'
 	@tests/gate.py
 
-# Before a release: all of them take about half an hour on four processors.
+# Before a release: CONTRIBUTING says what it takes.
 wrong: python ## tries the wrong bodies that the gate leaves out: make wrong CRATES='NAME ..'
 	@tests/wrong.py $(CRATES)
 
