@@ -49,13 +49,7 @@ impl KeySet {
         ensures { Step self.old (StartRoll rolltype (texts old.now) (texts new.now) now.now)
             (reply_list result) self.new }
     {
-        self.rolls.check_conflict(rolltype)?;
-        let of_old = self.keys.check_old(rolltype, old)?;
-        let of_new = self.keys.check_new(rolltype, old, new)?;
-        if !may_go_over(rolltype, &of_old, &of_new.algorithms) {
-            return Err(Error::AlgorithmSetsMismatch);
-        }
-        self.keys.check_suitability(rolltype, old, &of_new)?;
+        self.check_start(rolltype, old, new)?;
         let actions = Vec::from_slice(self.alloc, rolltype.actions_in(RollState::Propagation1))?;
         let lists = self.lists.with_start(&self.keys, rolltype, old, new)?;
         // The last request for memory comes before the first write: nothing after it can fail.
@@ -229,6 +223,20 @@ impl KeySet {
             None => Ok(Vec::new(self.alloc)),
             Some(phase) => list(self.alloc, rolltype.actions_in(phase)),
         }
+    }
+
+    /// Refuses a start for the first cause that applies, in the order of `start_roll`.
+    fn check_start(&self, rolltype: RollType, old: &[&str], new: &[&str]) -> Result<(), Error>
+        ensures { AnswersExactly (start_refusal rolltype self.now (texts old.now) (texts new.now))
+            result }
+    {
+        self.rolls.check_conflict(rolltype)?;
+        let of_old = self.keys.check_old(rolltype, old)?;
+        let of_new = self.keys.check_new(rolltype, old, new)?;
+        if !may_go_over(rolltype, &of_old, &of_new.algorithms) {
+            return Err(Error::AlgorithmSetsMismatch);
+        }
+        self.keys.check_suitability(rolltype, old, &of_new)
     }
 
     /// A report of the first or the second half.

@@ -1,8 +1,9 @@
 -- The marks, the new phase and what is listed are what a start changes.
-use Rattle.std.proofs.Common.{◌≡◌, None, refl, ap, rules, subst, sym, ◌∙◌}
+use Rattle.std.proofs.Common.{◌≡◌, None, refl, ap, subst, sym, ◌∙◌}
 use Rattle.dnssec_zone.specs.Inner.Entries.{entries_at_start, lists_of}
 use Rattle.dnssec_zone.specs.{Lists.with_listed, Lists.listed_at_start, Start.texts, Wait.barred_by}
 use Rattle.dnssec_keyset.specs.Step.{start_refusal, Actions, StartRoll}
+use Rattle.dnssec_zone.proofs.Starts.{passed}
 use Rattle.dnssec_keyset.proofs.Listing.{Listing, started, started-keys}
 use Rattle.dnssec_keyset.{specs.contracts.set.KeySet.the_view, proofs.Allowed.accepted-step}
 use Rattle.dnssec_keyset.proofs.set.KeySet.start_roll.Goals as goal
@@ -10,9 +11,7 @@ use Rattle.dnssec_keyset.proofs.set.KeySet.start_roll.Goals as goal
 -- no cause stands
 clear : (c : goal.After-mark-2) → start_refusal c.args.rolltype c.args.self.now
     (texts c.args.old.now) (texts c.args.new.now) ≡ None
-clear c =
-    let kept = c.check_suitability.ensures (texts c.args.new.now) c.in_ok-of_new.ensures.kinds in
-    search rules
+clear c = passed _ _ c.in_ok-check_start.ensures
 
 listing : (c : goal.After-mark-2) → Listing c.mark-2.new.self
     (entries_at_start c.self.inside.keys c.args.rolltype (texts c.args.old.now)
@@ -40,9 +39,3 @@ returns c = accepted-step c.args.self.now _
           (texts c.args.old.now) (texts c.args.new.now) c.args.now.now c.mark.ensures
           c.mark-2.ensures;
     })
-
--- the last check refuses for the last cause
-pub returns-in_err-check_suitability : goal.returns-in_err-check_suitability
-returns-in_err-check_suitability c =
-    let kept = c.check_suitability.ensures (texts c.args.new.now) c.in_ok-of_new.ensures.kinds in
-    search rules
