@@ -1,5 +1,6 @@
 -- From what a call found and changed to the allowed step.
 use Rattle.std.proofs.Common.{arith, ◌≡◌, ℕ, Bool, List, Some, None, Ok, Err, refl, ap, sym, ◌∙◌}
+use Rattle.std.proofs.Common.{IsErrAnd}
 use Rattle.dnssec_keyset.specs.Step.{Call, AddKey, Set, Reply, Done, Refused, AnswersWait}
 use Rattle.dnssec_keyset.specs.Step.{accepted_reply, clearance, IsRefusedFor, Step, reply_done}
 use Rattle.std.specs.{Prelude.Option, Prelude.Result, Prelude.OnOk, Prelude.OnErr}
@@ -18,6 +19,21 @@ pub accepted-step : (s new : KeySetParts) (call : Call) (reply : Reply) → clea
     → reply ≡ accepted_reply call → Changes s call new → Step s call reply new
 accepted-step s new call (Refused cause) clear is changes = absurd (grind (arith, is))
 accepted-step s new call _ clear is changes = (clear, is, changes-after s new call changes)
+
+-- what a check answers is why the call is refused
+refused-for : (T : Type 0) (call : Call) (o : Option Error) (e : Error)
+    → AnswersExactly {T = T} o (Err e) → IsRefusedFor (barred_by o) call e
+refused-for T call o e h = grind arith
+
+-- a call that a check refused is an allowed step, if it changed nothing
+module _ (T : Type 0) {A : Type 0} (f : Result A Error → Reply)
+    (shown : (x : Error) → f (Err x) ≡ Refused x) where
+  pub refused-step : (s new : KeySetParts) (call : Call) (o : Option Error) (e : Error)
+      (r : Result A Error) → clearance s call ≡ barred_by o → AnswersExactly {T = T} o (Err e)
+      → new ≡ s → IsErrAnd r (λ x. x ≡ e) → Step s call (f r) new
+  refused-step s new call o e (Err x) bars reply same is = rw (shown x, is, bars)
+      (refused-for T call o e reply, same)
+  refused-step s new call o e (Ok x) bars reply same is = absurd is
 
 -- a check that passed bars nothing
 pub cleared : {T : Type 0} (o : Option Error) (x : T) → AnswersExactly o (Ok x)

@@ -2,8 +2,9 @@
 use Rattle.std.proofs.Common.{◌≡◌, None, refl, ap, subst, sym, ◌∙◌}
 use Rattle.dnssec_zone.specs.Inner.Entries.{entries_at_start, lists_of}
 use Rattle.dnssec_zone.specs.{Lists.with_listed, Lists.listed_at_start, Start.texts, Wait.barred_by}
-use Rattle.dnssec_keyset.specs.Step.{start_refusal, Actions, StartRoll}
+use Rattle.dnssec_keyset.specs.Step.{start_refusal, reply_list, Actions, StartRoll}
 use Rattle.dnssec_zone.proofs.Starts.{passed}
+use Rattle.dnssec_keyset.proofs.{Allowed.refused-step}
 use Rattle.dnssec_keyset.proofs.Listing.{Listing, started, started-keys}
 use Rattle.dnssec_keyset.{specs.contracts.set.KeySet.the_view, proofs.Allowed.accepted-step}
 use Rattle.dnssec_keyset.proofs.set.KeySet.start_roll.Goals as goal
@@ -39,3 +40,10 @@ returns c = accepted-step c.args.self.now _
           (texts c.args.old.now) (texts c.args.new.now) c.args.now.now c.mark.ensures
           c.mark-2.ensures;
     })
+
+pub returns-in_err-check_start : goal.returns-in_err-check_start
+returns-in_err-check_start c =
+    refused-step (Unit {0}) reply_list (λ x. refl) c.args.self.now c.args.self.now
+    (StartRoll c.args.rolltype (texts c.args.old.now) (texts c.args.new.now) c.args.now.now)
+    (start_refusal c.args.rolltype c.args.self.now (texts c.args.old.now) (texts c.args.new.now))
+    _ c.from_residual.result refl c.in_err-check_start.ensures refl c.from_residual.ensures.1
