@@ -13,7 +13,6 @@ pub(crate) fn push_bytes(out: &mut Vec<u8>, bytes: &[u8]) -> Result<(), AllocErr
 }
 
 /// Writes a text between quotes.
-#[tactic(auto, unfolding(crate::specs::Json::text_json))]
 pub(crate) fn push_text(out: &mut Vec<u8>, before: &[u8], text: &[u8]) -> Result<(), AllocError>
     ensures { OnOk result (out.new.items ≡ (out.old.items ++ before.now) ++ text_json text.now) }
 {

@@ -144,7 +144,6 @@ fn push_rolls_of(
 }
 
 /// The rolls that listed a key as this.
-#[tactic(auto, unfolding(crate::specs::Keys::rolls_of))]
 fn rolls_of(
     alloc: Global,
     listed: &[Listed],
@@ -287,7 +286,6 @@ fn push_csk(out: &mut Vec<u8>, ksk: KeyState, zsk: KeyState) -> Result<(), Alloc
 }
 
 /// Writes the state of a role.
-#[tactic(auto, unfolding(crate::specs::Keys::role_json))]
 fn push_role(out: &mut Vec<u8>, role: &str, state: KeyState) -> Result<(), AllocError>
     ensures { OnOk result (out.new.items ≡ out.old.items ++ role_json role.now state) }
 {
