@@ -1,6 +1,6 @@
 -- Each turn of the loop adds the entry of one statement.
-use Rattle.std.proofs.Common.{◌++◌, ◌∷◌, [], ◌∙◌, ap, rules, subst, sym}
-use Rattle.dnssec_run.specs.{Record.world_at, Recorder.Records}
+use Rattle.std.proofs.Common.{List, ◌++◌, ◌∷◌, [], ◌∙◌, ap, rules, subst, sym}
+use Rattle.dnssec_run.specs.{Record.world_at, Recorder.Records, declared.record.Entry.Entry}
 use Rattle.dnssec_record.proofs.Made.{all_made, none_made, one_made}
 use Rattle.dnssec_record.proofs.script.record_script.Goals as goal
 
@@ -16,7 +16,8 @@ loop-statement-preserved c =
     let at = c.loop-statement in let h = at.invariant in let made = c.in-Ok.ensures in
     one_made _ _ h made.call [] c.in-Some.ensures.steps.0 c.in-Some.ensures.steps.1 made.is_call
     (subst (λ es. Records h.name (h.calls ++ made.call ∷ []) es c.make.new.recorder)
-    (sym c.in_ok-push.ensures.items) (made.records h.name h.calls at.entries.items h.so))
+    (sym {A = List Entry} c.in_ok-push.ensures.items)
+    (made.records h.name h.calls at.entries.items h.so))
 
 pub returns-clause-ok : goal.returns-clause-ok
 returns-clause-ok c =
