@@ -1,13 +1,15 @@
 //! What a line of a script says: the call of its word, made from its fields.
-ghost use Rattle.std.specs.Prelude.{◌≡◌, IfOk, Some};
+ghost use Rattle.std.specs.Prelude.{◌≡◌, if◌then◌else◌, IfOk, None};
 ghost use Rattle.std.specs.Option.{option_map};
 ghost use Rattle.dnssec_key.specs.Key.{is_available};
 ghost use Rattle.dnssec_script.specs.Script.{call_says, said_after_word, says};
 ghost use Rattle.dnssec_script.specs.Inner.Statement.{Makes, MakesEntry, start_says};
-ghost use Rattle.dnssec_script.specs.Inner.Statement.{statement_says};
+ghost use Rattle.dnssec_script.specs.Inner.Statement.{adds, is_on_key, is_on_roll, statement_says};
 
 use crate::fields::Fields;
-use crate::forms::{flag, key, public_key, report, roll, signing_key, stamp, timed_flag, wait};
+use crate::forms::{
+    KeyTraits, flag, key, public_key, report, roll, signing_key, stamp, timed_flag, wait,
+};
 use dnssec_keyset::{Available, Error, RollType, UnixTime};
 use dnssec_run::{Call, Entry, Outcome, Recorder};
 use std::alloc::{AllocError, Global};
@@ -137,121 +139,160 @@ fn call_of_word<'a>(
         option_map statement_says found ≡ said_after_word word fields.entry) }
 {
     match word {
-        Word::AddKsk => match signing_key(alloc, fields)? {
-            Some((pubref, privref, traits)) => Ok(said(Call::AddKeyKsk {
-                pubref,
-                privref,
-                algorithm: traits.algorithm,
-                key_tag: traits.key_tag,
-                creation_ts: traits.creation_ts,
-                available: availability(traits.available),
-            })),
-            None => Ok(None),
-        },
-        Word::AddZsk => match signing_key(alloc, fields)? {
-            Some((pubref, privref, traits)) => Ok(said(Call::AddKeyZsk {
-                pubref,
-                privref,
-                algorithm: traits.algorithm,
-                key_tag: traits.key_tag,
-                creation_ts: traits.creation_ts,
-                available: availability(traits.available),
-            })),
-            None => Ok(None),
-        },
-        Word::AddCsk => match signing_key(alloc, fields)? {
-            Some((pubref, privref, traits)) => Ok(said(Call::AddKeyCsk {
-                pubref,
-                privref,
-                algorithm: traits.algorithm,
-                key_tag: traits.key_tag,
-                creation_ts: traits.creation_ts,
-                available: availability(traits.available),
-            })),
-            None => Ok(None),
-        },
-        Word::AddPublic => match public_key(alloc, fields)? {
-            Some((pubref, traits)) => Ok(said(Call::AddPublicKey {
-                pubref,
-                algorithm: traits.algorithm,
-                key_tag: traits.key_tag,
-                creation_ts: traits.creation_ts,
-                available: traits.available,
-            })),
-            None => Ok(None),
-        },
-        Word::SetDecoupled => match flag(fields) {
-            Some((pubref, value)) => Ok(said(Call::SetDecoupled { pubref, value })),
-            None => Ok(None),
-        },
-        Word::SetPresent => match timed_flag(fields) {
-            Some((pubref, value, now)) => Ok(said(Call::SetPresent { pubref, value, now })),
-            None => Ok(None),
-        },
-        Word::SetSigner => match flag(fields) {
-            Some((pubref, value)) => Ok(said(Call::SetSigner { pubref, value })),
-            None => Ok(None),
-        },
-        Word::SetAtParent => match flag(fields) {
-            Some((pubref, value)) => Ok(said(Call::SetAtParent { pubref, value })),
-            None => Ok(None),
-        },
-        Word::SetStale => match key(fields) {
-            Some(pubref) => Ok(said(Call::SetStale { pubref })),
-            None => Ok(None),
-        },
-        Word::SetVisible => match stamp(fields) {
-            Some((pubref, time)) => Ok(said(Call::SetVisible { pubref, time })),
-            None => Ok(None),
-        },
-        Word::SetDsVisible => match stamp(fields) {
-            Some((pubref, time)) => Ok(said(Call::SetDsVisible { pubref, time })),
-            None => Ok(None),
-        },
-        Word::SetRrsigVisible => match stamp(fields) {
-            Some((pubref, time)) => Ok(said(Call::SetRrsigVisible { pubref, time })),
-            None => Ok(None),
-        },
-        Word::Delete => match key(fields) {
-            Some(pubref) => Ok(said(Call::DeleteKey { pubref })),
-            None => Ok(None),
-        },
+        Word::AddKsk | Word::AddZsk | Word::AddCsk | Word::AddPublic => {
+            call_that_adds(alloc, word, fields)
+        }
         Word::Start => read_start(alloc, fields),
-        Word::Report1 => match report(fields) {
-            Some((rolltype, ttl, now)) => {
-                Ok(said(Call::Propagation1Complete { rolltype, ttl, now }))
-            }
-            None => Ok(None),
-        },
-        Word::Wait1 => match wait(fields) {
-            Some((rolltype, now)) => Ok(said(Call::CacheExpired1 { rolltype, now })),
-            None => Ok(None),
-        },
-        Word::Report2 => match report(fields) {
-            Some((rolltype, ttl, now)) => {
-                Ok(said(Call::Propagation2Complete { rolltype, ttl, now }))
-            }
-            None => Ok(None),
-        },
-        Word::Wait2 => match wait(fields) {
-            Some((rolltype, now)) => Ok(said(Call::CacheExpired2 { rolltype, now })),
-            None => Ok(None),
-        },
-        Word::Done => match roll(fields) {
-            Some(rolltype) => Ok(said(Call::RollDone { rolltype })),
-            None => Ok(None),
-        },
-        Word::Abort => match roll(fields) {
-            Some(rolltype) => Ok(said(Call::AbortRoll { rolltype })),
-            None => Ok(None),
-        },
+        Word::Report1 | Word::Wait1 | Word::Report2 | Word::Wait2 | Word::Done | Word::Abort => Ok(
+            call_on_roll(word, fields),
+        ),
+        _ => Ok(call_on_key(word, fields)),
     }
 }
 
-/// A line that makes this call.
-fn said<'a>(call: Call<'a>) -> Option<Statement<'a>>
-    ensures { option_map statement_says result ≡ Some (call_says call.entry) }
+/// The call of a word that adds a key, made from the fields after it. Another word has none.
+fn call_that_adds<'a>(
+    alloc: Global,
+    word: Word,
+    fields: Fields<'_>,
+) -> Result<Option<Statement<'a>>, AllocError>
+    ensures { IfOk result (λ found. option_map statement_says found
+        ≡ if adds word then said_after_word word fields.entry else None) }
 {
+    if let Word::AddPublic = word {
+        let Some((pubref, traits)) = public_key(alloc, fields)? else {
+            return Ok(None);
+        };
+        return Ok(Some(Statement::Call(Call::AddPublicKey {
+            pubref,
+            algorithm: traits.algorithm,
+            key_tag: traits.key_tag,
+            creation_ts: traits.creation_ts,
+            available: traits.available,
+        })));
+    }
+    let Some((pubref, privref, traits)) = signing_key(alloc, fields)? else {
+        return Ok(None);
+    };
+    let KeyTraits {
+        algorithm,
+        key_tag,
+        creation_ts,
+        available,
+    } = traits;
+    let available = availability(available);
+    let call = match word {
+        Word::AddKsk => Call::AddKeyKsk {
+            pubref,
+            privref,
+            algorithm,
+            key_tag,
+            creation_ts,
+            available,
+        },
+        Word::AddZsk => Call::AddKeyZsk {
+            pubref,
+            privref,
+            algorithm,
+            key_tag,
+            creation_ts,
+            available,
+        },
+        Word::AddCsk => Call::AddKeyCsk {
+            pubref,
+            privref,
+            algorithm,
+            key_tag,
+            creation_ts,
+            available,
+        },
+        _ => return Ok(None),
+    };
+    Ok(Some(Statement::Call(call)))
+}
+
+/// The call of a word on a key of the set, made from the fields after it. Another word has none.
+fn call_on_key<'a>(word: Word, fields: Fields<'a>) -> Option<Statement<'a>>
+    ensures { option_map statement_says result
+        ≡ if is_on_key word then said_after_word word fields.entry else None }
+{
+    let call = match word {
+        Word::SetDecoupled | Word::SetSigner | Word::SetAtParent => {
+            let Some((pubref, value)) = flag(fields) else {
+                return None;
+            };
+            match word {
+                Word::SetDecoupled => Call::SetDecoupled { pubref, value },
+                Word::SetSigner => Call::SetSigner { pubref, value },
+                _ => Call::SetAtParent { pubref, value },
+            }
+        }
+        Word::SetPresent => {
+            let Some((pubref, value, now)) = timed_flag(fields) else {
+                return None;
+            };
+            Call::SetPresent { pubref, value, now }
+        }
+        Word::SetVisible | Word::SetDsVisible | Word::SetRrsigVisible => {
+            let Some((pubref, time)) = stamp(fields) else {
+                return None;
+            };
+            match word {
+                Word::SetVisible => Call::SetVisible { pubref, time },
+                Word::SetDsVisible => Call::SetDsVisible { pubref, time },
+                _ => Call::SetRrsigVisible { pubref, time },
+            }
+        }
+        Word::SetStale | Word::Delete => {
+            let Some(pubref) = key(fields) else {
+                return None;
+            };
+            match word {
+                Word::SetStale => Call::SetStale { pubref },
+                _ => Call::DeleteKey { pubref },
+            }
+        }
+        _ => return None,
+    };
+    Some(Statement::Call(call))
+}
+
+/// The call of a word on a roll that goes on, made from the fields after it. Another word has
+/// none.
+fn call_on_roll<'a>(word: Word, fields: Fields<'_>) -> Option<Statement<'a>>
+    ensures { option_map statement_says result
+        ≡ if is_on_roll word then said_after_word word fields.entry else None }
+{
+    let call = match word {
+        Word::Report1 | Word::Report2 => {
+            let Some((rolltype, ttl, now)) = report(fields) else {
+                return None;
+            };
+            match word {
+                Word::Report1 => Call::Propagation1Complete { rolltype, ttl, now },
+                _ => Call::Propagation2Complete { rolltype, ttl, now },
+            }
+        }
+        Word::Wait1 | Word::Wait2 => {
+            let Some((rolltype, now)) = wait(fields) else {
+                return None;
+            };
+            match word {
+                Word::Wait1 => Call::CacheExpired1 { rolltype, now },
+                _ => Call::CacheExpired2 { rolltype, now },
+            }
+        }
+        Word::Done | Word::Abort => {
+            let Some(rolltype) = roll(fields) else {
+                return None;
+            };
+            match word {
+                Word::Done => Call::RollDone { rolltype },
+                _ => Call::AbortRoll { rolltype },
+            }
+        }
+        _ => return None,
+    };
     Some(Statement::Call(call))
 }
 

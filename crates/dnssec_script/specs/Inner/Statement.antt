@@ -1,5 +1,5 @@
 -- What the reader makes of a line, and what a recorder has made of that.
-use Rattle.std.specs.Prelude.{◌≡◌, ℕ, List, [], ◌∷◌, ◌++◌, map, false}
+use Rattle.std.specs.Prelude.{◌≡◌, ℕ, List, [], ◌∷◌, ◌++◌, map, Bool, true, false}
 use denote.Bor.{now}
 use Rattle.dnssec_run.specs.declared.call.Call.{Call}
 use Rattle.dnssec_run.specs.declared.record.Entry.{Entry}
@@ -17,6 +17,37 @@ use Rattle.dnssec_script.specs.declared.statement.Statement.TheVariants as state
 -- what an add says of these traits of its key
 abbrev pub traits_say : KeyTraits → List Value
 traits_say t = trait_values t.algorithm t.key_tag t.creation_ts t.available
+
+-- the words that add a key
+abbrev pub adds : Word → Bool
+adds word.AddKsk = true
+adds word.AddZsk = true
+adds word.AddCsk = true
+adds word.AddPublic = true
+adds _ = false
+
+-- the words on a key of the set
+abbrev pub is_on_key : Word → Bool
+is_on_key word.SetDecoupled = true
+is_on_key word.SetPresent = true
+is_on_key word.SetSigner = true
+is_on_key word.SetAtParent = true
+is_on_key word.SetStale = true
+is_on_key word.SetVisible = true
+is_on_key word.SetDsVisible = true
+is_on_key word.SetRrsigVisible = true
+is_on_key word.Delete = true
+is_on_key _ = false
+
+-- the words on a roll that goes on
+abbrev pub is_on_roll : Word → Bool
+is_on_roll word.Report1 = true
+is_on_roll word.Wait1 = true
+is_on_roll word.Report2 = true
+is_on_roll word.Wait2 = true
+is_on_roll word.Done = true
+is_on_roll word.Abort = true
+is_on_roll _ = false
 
 -- what a start says
 abbrev pub start_says : Start → Word × List Value

@@ -5,8 +5,8 @@ use Rattle.std.proofs.lemmas.Iterator.{YieldsList, YieldsList-from_slice}
 use Rattle.std.proofs.lemmas.{Iterator.Search.find_from_yields_List, Result.IfOk-weaker}
 use Rattle.std.specs.{Option.option_and_then, Option.option_map, Str.bytes_eq}
 use Rattle.dnssec_script.specs.declared.statement.Word.{Word}
-use Rattle.dnssec_script.specs.Script.{Value, fields_of, first_field, said_after_word, says, word_at}
-use Rattle.dnssec_script.specs.Script.{word_named}
+use Rattle.dnssec_script.specs.Script.{Value, fields_of, first_field, said_after_word, says}
+use Rattle.dnssec_script.specs.Script.{word_at, word_named}
 use Rattle.dnssec_script.proofs.Cuts.{whole}
 use Rattle.dnssec_script.proofs.statement.read_line.Goals as goal
 use Rattle.dnssec_script.proofs.statement.read_line.Goals.{After-find}
