@@ -142,7 +142,10 @@ fn call_of_word<'a>(
         Word::AddKsk | Word::AddZsk | Word::AddCsk | Word::AddPublic => {
             call_that_adds(alloc, word, fields)
         }
-        Word::Start => read_start(alloc, fields),
+        Word::Start => match read_start(alloc, fields)? {
+            Some(start) => Ok(Some(Statement::Start(start))),
+            None => Ok(None),
+        },
         Word::Report1 | Word::Wait1 | Word::Report2 | Word::Wait2 | Word::Done | Word::Abort => Ok(
             call_on_roll(word, fields),
         ),
@@ -307,10 +310,10 @@ fn availability(may_come_in: bool) -> Available
     }
 }
 
-/// The fields of a start.
-fn read_start<'a>(alloc: Global, fields: Fields<'a>) -> Result<Option<Statement<'a>>, AllocError>
+/// The start of a roll, made from the fields after its word.
+fn read_start<'a>(alloc: Global, fields: Fields<'a>) -> Result<Option<Start<'a>>, AllocError>
     ensures { IfOk result (λ found.
-        option_map statement_says found ≡ said_after_word Word.Start fields.entry) }
+        option_map start_says found ≡ said_after_word Word.Start fields.entry) }
 {
     let Some((rolltype, fields)) = fields.roll() else {
         return Ok(None);
@@ -327,10 +330,10 @@ fn read_start<'a>(alloc: Global, fields: Fields<'a>) -> Result<Option<Statement<
     let Some(()) = fields.end() else {
         return Ok(None);
     };
-    Ok(Some(Statement::Start(Start {
+    Ok(Some(Start {
         rolltype,
         old,
         new,
         moment,
-    })))
+    }))
 }
