@@ -41,3 +41,21 @@ returns-in-Ok-Answered-clause-needed c = λ short.
           (subst takes c.in-Ok-Answered.field-0-is c.in-Ok-Answered.ensures) refl,
       sym (put.needed short),
     )
+
+pub returns-in-Ok-Answered-clause-malformed : goal.returns-in-Ok-Answered-clause-malformed
+returns-in-Ok-Answered-clause-malformed c = λ malformed.
+    absurd (omega (arith, c.put_next.ensures.status))
+
+pub returns-in-Ok-Answered-clause-kept : goal.returns-in-Ok-Answered-clause-kept
+returns-in-Ok-Answered-clause-kept c = λ malformed.
+    absurd (omega (arith, c.put_next.ensures.status))
+
+pub returns-in-Ok-Answered-clause-closed : goal.returns-in-Ok-Answered-clause-closed
+returns-in-Ok-Answered-clause-closed c = (
+  λ closed. absurd (omega (arith, c.put_next.ensures.status)),
+  λ none. cc (c.in-Some.ensures.taken),
+)
+
+pub returns-in-Ok-Answered-clause-stays_closed : goal.returns-in-Ok-Answered-clause-stays_closed
+returns-in-Ok-Answered-clause-stays_closed c = λ closed.
+    absurd (omega (arith, c.put_next.ensures.status))
