@@ -9,7 +9,7 @@ use Rattle.dnssec_key.specs.RollTable.{cache_expire}
 use Rattle.dnssec_key.specs.declared.roll.RollType.TheVariants.{KskDoubleDsRoll}
 use Rattle.dnssec_key.specs.declared.roll.RollType.TheVariants.{ZskDoubleSignatureRoll}
 use Rattle.dnssec_key.specs.declared.roll.RollType.TheVariants.{AlgorithmRoll}
-use Rattle.dnssec_key.specs.declared.kind.KeyType.TheVariants.{Ksk, Zsk, Csk}
+use Rattle.dnssec_key.specs.declared.kind.KeyType.TheVariants.{Ksk, Zsk, Csk, Include}
 use Rattle.dnssec_key.specs.State.{Flags, kept_present, kept_at_parent, old_present, is_kept}
 use Rattle.dnssec_key.specs.declared.roll.{RollState.RollState, RollType.RollType}
 use Rattle.dnssec_key.specs.{declared.kind.KeyType.KeyType, Key.KeyParts, Key.all_states}
@@ -114,8 +114,13 @@ pub half_orderly : (sd : SideOf) (r : RollType) (half : Half) (k : KeyType) (has
     × (orderly sd (Expiring half r) k has ≡ true
     → orderly sd (at_phase r (after_expiry half)) ((half_of r half).moves k) has ≡ true)
 unfolding column
-half_orderly Keys r half k has own = (λ e. grind (arith, and_parts), λ e. grind (arith, and_parts))
-half_orderly Zone r half k has own = (λ e. grind (arith, and_parts), λ e. grind (arith, and_parts))
+half_orderly sd r half (Ksk s) has own =
+    (λ e. grind (arith, and_parts), λ e. grind (arith, and_parts))
+half_orderly sd r half (Zsk s) has own =
+    (λ e. grind (arith, and_parts), λ e. grind (arith, and_parts))
+half_orderly sd r half (Csk s t) has own =
+    (λ e. grind (arith, and_parts), λ e. grind (arith, and_parts))
+half_orderly sd r half (Include s) has own = (λ e. grind arith, λ e. grind arith)
 
 pub ends-expired : (sd : SideOf) (r : RollType) (half : Half) (listed : Bool × Bool) (k : KeyType)
     (has : Stamp → Bool) → can_end sd (at_phase r (after_expiry half)) listed k has ≡ true
