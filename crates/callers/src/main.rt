@@ -27,9 +27,14 @@ wait1 ksk-roll 70
 fn main(rt: HostRuntime) -> Result<()> {
     let mut scripts = String::new(rt.alloc());
     rt.stdin().read_to_string(&mut scripts)?;
-    if !scripts.is_empty() {
-        return whole_sets::tell(&rt, scripts.as_str());
+    if scripts.is_empty() {
+        tell_callers(&rt)
+    } else {
+        whole_sets::tell(&rt, scripts.as_str())
     }
+}
+
+fn tell_callers(rt: &HostRuntime) -> Result<()> {
     println!(rt; "{}", names::describe(rt.alloc(), "a\\.b.example.com.")?)?;
     println!(rt; "{}", names::describe(rt.alloc(), "a..b")?)?;
     println!(rt; "{:?}", first_keys::bring_in(rt.alloc())?)?;

@@ -26,14 +26,19 @@ pub fn tell(rt: &HostRuntime, scripts: &str) -> Result<()> {
     for script in scripts.split("\n\n") {
         println!(rt; "{}", answers_to(rt.alloc(), script)?)?;
         tell_record(rt, script)?;
-        for (end, byte) in script.bytes().enumerate() {
-            if byte == b'\n' {
-                tell_set_after(rt, script.get(..end).unwrap_or_default())?;
-            }
-        }
-        tell_set_after(rt, script)?;
+        tell_sets(rt, script)?;
     }
     Ok(())
+}
+
+/// The set after each line.
+fn tell_sets(rt: &HostRuntime, script: &str) -> Result<()> {
+    for (end, byte) in script.bytes().enumerate() {
+        if byte == b'\n' {
+            tell_set_after(rt, script.get(..end).unwrap_or_default())?;
+        }
+    }
+    tell_set_after(rt, script)
 }
 
 fn answers_to(alloc: Global, script: &str) -> Result<String>
@@ -65,15 +70,16 @@ fn tell_set_after(rt: &HostRuntime, script: &str) -> Result<()> {
         set.keys().len(),
         set.rollstates().len()
     )?;
+    tell_keys(rt, &set)?;
+    tell_rolls(rt, &set)
+}
+
+fn tell_keys(rt: &HostRuntime, set: &KeySet) -> Result<()> {
     for (reference, key) in set.keys() {
         let copy = key.try_clone()?;
         tell_key(rt, reference.as_str(), &copy)?;
         tell_states(rt, reference.as_str(), copy.keytype())?;
     }
-    for name in ROLLS.split(' ') {
-        tell_roll(rt, &set, RollType::from_str(name)?)?;
-    }
-    println!(rt)?;
     Ok(())
 }
 
@@ -114,6 +120,14 @@ fn tell_states(rt: &HostRuntime, reference: &str, keytype: KeyType) -> Result<()
 
 fn tell_state(rt: &HostRuntime, reference: &str, state: KeyState) -> Result<()> {
     println!(rt; "{reference}: {state}")?;
+    Ok(())
+}
+
+fn tell_rolls(rt: &HostRuntime, set: &KeySet) -> Result<()> {
+    for name in ROLLS.split(' ') {
+        tell_roll(rt, set, RollType::from_str(name)?)?;
+    }
+    println!(rt)?;
     Ok(())
 }
 
