@@ -1,9 +1,10 @@
 #!/usr/bin/env python3
 """The gate: `tests/docs.py` and `tests/release.py`, then `rt ci`. Beside its first proofs runs
 `tests/runbooks.py`, and beside its edits run `tests/memory.py`, `tests/sets.py`, `tests/notes.py`,
-`tests/library.py` and `tests/command.py`. Then `tests/told.py` compares the numbers of
-docs/TESTS.md with what all of them have printed. Before the last line of `rt ci` it prints when
-each step was done, in minutes and seconds since the start, so that a rise is seen."""
+`tests/command.py` and `tests/library.py`, for which `tests/archive.py` builds the library. Then
+`tests/told.py` compares the numbers of docs/TESTS.md with what all of them have printed. Before the
+last line of `rt ci` it prints when each step was done, in minutes and seconds since the start, so
+that a rise is seen."""
 
 import os
 import re
@@ -21,6 +22,8 @@ START = time.monotonic()
 STEPS = []
 # What was printed. Its numbers are compared at the end.
 PRINTED = []
+# What the dearest proof takes of the memory, in bytes.
+MEMORY = 3_500_000_000
 
 
 def say(text):
@@ -71,14 +74,19 @@ class Edits(threading.Thread):
 class Beside(threading.Thread):
     """A script of tests that runs beside `rt ci`."""
 
-    def __init__(self, name, under=()):
+    def __init__(self, name, *words, under=()):
         super().__init__(daemon=True, name=name)
-        self.words = [*under, TOP / "tests" / f"{name}.py"]
+        self.words = [*under, TOP / "tests" / f"{name}.py", *words]
         self.test = None
+        # What waits for it.
+        self.later = []
 
     def run(self):
         self.test = subprocess.run(self.words, stdout=subprocess.PIPE, text=True)
         note(self.name)
+        if not self.test.returncode:
+            for script in self.later:
+                script.note(self.name)
 
     def fault(self):
         """What went wrong with the script, if anything did."""
@@ -91,16 +99,18 @@ class Beside(threading.Thread):
 
 class After(Beside):
     """A script of tests that runs after these crates are proved or kept, on what `rt ci` has built
-    or restored."""
+    or restored, and after these scripts have passed."""
 
-    def __init__(self, name, *crates):
-        super().__init__(name)
-        self.wanted = set(crates)
+    def __init__(self, name, *words, after):
+        super().__init__(name, *words)
+        self.wanted = set(after)
+        self.alone = threading.Lock()
 
-    def note(self, crate):
-        self.wanted.discard(crate)
-        if self.ident is None and not self.wanted:
-            self.start()
+    def note(self, done):
+        with self.alone:
+            self.wanted.discard(done)
+            if self.ident is None and not self.wanted:
+                self.start()
 
 
 # What `rt ci` says of a crate, or of its tests, once it is done with its proof. It proves what no
@@ -111,11 +121,26 @@ DONE = re.compile(
 TRIED = re.compile(r"rt: (?P<crate>\S+): trying its must-fail edits .*\n")
 
 
+def lanes():
+    """Has `rt ci` give each proof one job, on as many processors as there are, if the memory
+    allows. By itself it gives a proof up to four, which together take more of the processors than
+    one: of these every one is wanted for other proofs and edits."""
+    processors = len(os.sched_getaffinity(0))
+    if os.sysconf("SC_PHYS_PAGES") * os.sysconf("SC_PAGE_SIZE") >= processors * MEMORY:
+        return {"RT_JOBS": str(processors), **os.environ}
+    return os.environ
+
+
 def prove(scripts):
     """Runs `rt ci`, and prints all but its last line. Gives its status and that line."""
     last, tried = "", set()
     gate = subprocess.Popen(
-        ["rt", "ci"], cwd=TOP, stdout=subprocess.PIPE, stderr=subprocess.STDOUT, text=True
+        ["rt", "ci"],
+        cwd=TOP,
+        env=lanes(),
+        stdout=subprocess.PIPE,
+        stderr=subprocess.STDOUT,
+        text=True,
     )
     edits = Edits(gate.pid)
     edits.start()
@@ -143,12 +168,24 @@ def main():
     # At low priority: each crate waits for the proofs of those below it.
     runbooks = Beside("runbooks", under=["nice"])
     runbooks.start()
+    with tempfile.TemporaryDirectory() as folder:
+        return prove_and_test(runbooks, Path(folder) / "out")
+
+
+def prove_and_test(runbooks, folder):
+    """Runs `rt ci` and the tests beside it, of which some share the library in a folder."""
+    programs = ["keyset", "keyset_status", "keyset_notes"]
+    # The library takes no proof of `keyset_c`, only of the crates below it.
+    archive = After("archive", folder, after=["dnssec_status", "dnssec_notes"])
+    library = After("library", folder, after=[*programs, "archive"])
+    archive.later.append(library)
     scripts = [
-        After("memory", "memory_of_calls"),
-        After("sets", "callers"),
-        After("notes", "keyset_notes"),
-        After("library", "keyset", "keyset_status", "keyset_notes", "keyset_c"),
-        After("command", "keyset", "keyset_status", "keyset_notes"),
+        After("memory", after=["memory_of_calls"]),
+        After("sets", after=["callers"]),
+        After("notes", after=["keyset_notes"]),
+        After("command", after=programs),
+        archive,
+        library,
     ]
     status, last = prove(scripts)
     for beside in (runbooks, *scripts):

@@ -1,9 +1,7 @@
 #!/usr/bin/env python3
 """Tests the library that `make lib` makes, and its callers in C, Rust and Python.
 
-    tests/library.py            builds it on the libraries that a running `rt ci` has just proved,
-                                or has kept
-    tests/library.py FOLDER     takes the one that `make lib` has left there
+    tests/library.py FOLDER     takes the one that `make lib` or `tests/archive.py` has left there
     tests/library.py FOLDER valgrind|asan     only its tests in C, under a checker of memory
 
 A script and its answers are those of `replay/scripts.txt`. The program `keyset` has to answer them,
@@ -15,7 +13,6 @@ import json
 import os
 import random
 import re
-import shutil
 import subprocess
 import sys
 import tempfile
@@ -27,7 +24,7 @@ import long
 import noted
 import release
 import sessions
-from tools import CRATES, STRICT, TOP, WRAPPED, Wrong, c_flags, run
+from tools import CRATES, STRICT, TOP, WRAPPED, Wrong, c_flags, kit, run
 
 LIBRARY = TOP / "library"
 PROGRAM = CRATES / "keyset" / "out" / "keyset"
@@ -41,40 +38,6 @@ EXPORTS = set(re.findall(r"^\S.* \*?(keyset_\w+)\(", (LIBRARY / "keyset.h").read
 STEP = 61
 # How often each example is damaged.
 DAMAGES = 20
-
-
-def stands_on():
-    """The crates of the repository, lowest first, each with the crates that it names."""
-    rows = (line.partition("#")[0].partition(":") for line in open(TOP / "crates.txt"))
-    named = {name.split()[0]: on.split() for name, _, on in rows if name.strip()}
-    return {crate: [name for name in on if name in named] for crate, on in named.items()}
-
-
-def below(crate, crates):
-    """All crates of the repository below a crate."""
-    return set().union(*({name} | below(name, crates) for name in crates[crate]))
-
-
-def kit():
-    """The folder of the toolchain."""
-    return Path(run("rt", "doc").strip()).parent
-
-
-def build(archive):
-    """Builds the static library on what `rt ci` has proved. This proves the library once more."""
-    top, crates = kit(), stands_on()
-    # A copy of it: at its end `rt ci` puts back what was in its place before.
-    proved = archive.parent / "proved"
-    for name in below("keyset_c", crates):
-        shutil.copytree(CRATES / name / "out" / "rlib", proved, dirs_exist_ok=True)
-    words = ["--crate-name", "keyset_c", "src/lib.rt", "--crate-type", "staticlib"]
-    words += ["--extern", f"std={top}/rlibs/std.rlib", "-L", f"dependency={top}/rlibs"]
-    for name in crates["keyset_c"]:
-        words += ["--extern", f"{name}={proved}/{name}.rlib"]
-    words += ["-L", f"dependency={proved}"]
-    words += ["--antt-project", top / "rattle" / "logic" / "antt-project.json"]
-    words += ["--logic-built", top / "logic_built", "--toolchain", top / "toolchain"]
-    run(top / "bin" / "rattle", "build", *words, "-o", archive, cwd=CRATES / "keyset_c")
 
 
 def expect_exports(folder):
@@ -472,14 +435,11 @@ def main():
     began = time.monotonic()
     with tempfile.TemporaryDirectory() as room:
         room = Path(room)
-        folder = Path(*sys.argv[1:2]).resolve() if sys.argv[1:] else room / "out"
+        folder = Path(sys.argv[1]).resolve()
         try:
             if sys.argv[2:]:
                 print(CHECKERS[sys.argv[2]](folder, room))
                 return 0
-            if not sys.argv[1:]:
-                build(room / "libkeyset_c.a")
-                run(LIBRARY / "pack.sh", room / "libkeyset_c.a", folder)
             for name, line in test(folder, room):
                 print(f"{name}: {line}", flush=True)
         except Wrong as wrong:

@@ -30,3 +30,8 @@ def run(*command, **how):
     if ran.returncode:
         raise Wrong(f"{' '.join(words)}: status {ran.returncode}\n{ran.stderr.decode()}")
     return ran.stdout.decode()
+
+
+def kit():
+    """The folder of the toolchain."""
+    return Path(run("rt", "doc").strip()).parent
