@@ -6,6 +6,7 @@
 last line of `rt ci` it prints when each step was done, in minutes and seconds since the start, so
 that a rise is seen."""
 
+import contextlib
 import os
 import re
 import subprocess
@@ -24,6 +25,8 @@ STEPS = []
 PRINTED = []
 # What the dearest proof takes of the memory, in bytes.
 MEMORY = 3_500_000_000
+# The priority of edits, as that of `nice`.
+LOW = 10
 
 
 def say(text):
@@ -51,8 +54,9 @@ def files(crate):
 
 
 class Edits(threading.Thread):
-    """Sees until when the edits of each crate were tried. Each edit is tried in a copy of its
-    crate."""
+    """Sees until when the edits of each crate were tried, and gives the processors to the proofs
+    first: each crate waits for those of the crates below it. Each edit, and the proof that edits
+    begin with, is checked in a copy of its crate."""
 
     def __init__(self, pid):
         super().__init__(daemon=True)
@@ -62,9 +66,20 @@ class Edits(threading.Thread):
 
     def run(self):
         while True:
-            for copy in Path(tempfile.gettempdir()).glob(self.copies):
+            copies = set(Path(tempfile.gettempdir()).glob(self.copies))
+            for copy in copies:
                 self.last[self.crates.get(files(copy))] = time.monotonic() - START
+            self.lower(copies)
             time.sleep(0.5)
+
+    def lower(self, copies):
+        """Gives a low priority to what runs in these folders."""
+        for process in Path("/proc").glob("[0-9]*"):
+            # (Others end meanwhile, or are not ours.)
+            with contextlib.suppress(OSError):
+                if (process / "cwd").readlink() in copies:
+                    for thread in (process / "task").iterdir():
+                        os.setpriority(os.PRIO_PROCESS, int(thread.name), LOW)
 
     def note(self, crates):
         for crate in crates & self.last.keys():
