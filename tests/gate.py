@@ -137,9 +137,9 @@ TRIED = re.compile(r"rt: (?P<crate>\S+): trying its must-fail edits .*\n")
 
 
 def lanes():
-    """Has `rt ci` give each proof one job, on as many processors as there are, if the memory
-    allows. By itself it gives a proof up to four, which together take more of the processors than
-    one: of these every one is wanted for other proofs and edits."""
+    """Has `rt ci` give each proof one job, and run as many as there are processors, if the memory
+    allows. By itself it gives a proof up to four jobs. These take more of the processors than one
+    does, and other proofs and edits wait for them."""
     processors = len(os.sched_getaffinity(0))
     if os.sysconf("SC_PHYS_PAGES") * os.sysconf("SC_PAGE_SIZE") >= processors * MEMORY:
         return {"RT_JOBS": str(processors), **os.environ}
