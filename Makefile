@@ -83,7 +83,7 @@ docs: python ## compares what the documents print with the examples and the call
 	@tests/docs.py
 
 memory: python has-cc ## lets each request for memory fail in turn
-	@$(call prove,memory_of_calls,run <stdin)
+	@$(call prove,callers,run </dev/null)
 	@tests/memory.py
 
 test-lib: python $(CALLERS) build notes lib ## tests the library, its callers and the install

@@ -28,7 +28,7 @@ from collections import Counter
 from pathlib import Path
 
 # They belong to the gate, and not to the product.
-GATE = {"callers", "courses", "dnssec_tests", "memory_of_calls"}
+GATE = {"callers", "courses", "dnssec_tests"}
 
 COMMENT_OR_TEXT = re.compile(r'//[^\n]*|"(?:\\.|[^"\\])*"', re.DOTALL)
 FUNCTION = re.compile(r"\bfn\s+\w+")

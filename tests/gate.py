@@ -195,7 +195,7 @@ def prove_and_test(runbooks, folder):
     library = After("library", folder, after=[*programs, "archive"])
     archive.later.append(library)
     scripts = [
-        After("memory", after=["memory_of_calls"]),
+        After("memory", after=["callers"]),
         After("sets", after=["callers"]),
         After("notes", after=["keyset_notes"]),
         After("command", after=programs),

@@ -4,8 +4,8 @@ of its keys and its key set, and of a judge. It also checks that the audit by th
 none. (In `tests/library.c` the requests for a script's answers fail, and in `tests/sessions.c`
 those of each call.)
 
-It runs the program `memory_of_calls`, which `rt ci` has made by then, once for each request of each
-of its works, with `tests/memory.c` in place of the C library's allocator.
+It runs the program `callers`, which `rt ci` has made by then, once for each request of each of
+these works, with `tests/memory.c` in place of the C library's allocator.
 """
 
 import os
@@ -19,7 +19,7 @@ from pathlib import Path
 
 from tools import CRATES, STRICT, TOP, Wrong, run
 
-PROGRAM = CRATES / "memory_of_calls" / "out" / "memory_of_calls"
+PROGRAM = CRATES / "callers" / "out" / "callers"
 STORED = TOP / "replay" / "scripts.txt"
 
 # The scripts that the works begin with.

@@ -1,9 +1,11 @@
 //! The callers that the READMEs show: one for each crate that a user names, and one for
-//! `dnssec_run`. If standard input has scripts, the program writes the whole sets after their calls
-//! instead.
+//! `dnssec_run`. If standard input has scripts, which begin with `zone`, the program writes the
+//! whole sets after their calls instead. If it has another letter and then a script, the program
+//! makes the calls of that letter, one of which may get no memory.
 #![tactic(auto)]
 
 mod first_keys;
+mod memory;
 mod names;
 mod noted;
 mod replies;
@@ -25,12 +27,12 @@ wait1 ksk-roll 70
 ";
 
 fn main(rt: HostRuntime) -> Result<()> {
-    let mut scripts = String::new(rt.alloc());
-    rt.stdin().read_to_string(&mut scripts)?;
-    if scripts.is_empty() {
-        tell_callers(&rt)
-    } else {
-        whole_sets::tell(&rt, scripts.as_str())
+    let mut input = String::new(rt.alloc());
+    rt.stdin().read_to_string(&mut input)?;
+    match input.as_bytes() {
+        [] => tell_callers(&rt),
+        [b'z', ..] => whole_sets::tell(&rt, input.as_str()),
+        [letter, script @ ..] => memory::tell(&rt, *letter, script),
     }
 }
 

@@ -1,6 +1,6 @@
 //! Names of zones: their texts, their wire bytes, and copies of them.
-use crate::memory::Memory;
-use crate::wrong::Wrong;
+use super::requests::Memory;
+use super::wrong::Wrong;
 use dnssec_base::{Name, NameError};
 use std::alloc::Global;
 

@@ -1,6 +1,6 @@
 //! The record of a script, and the verdicts on it.
-use crate::memory::Memory;
-use crate::wrong::Wrong;
+use super::requests::Memory;
+use super::wrong::Wrong;
 use dnssec_keyset::Error;
 use dnssec_record::{Entry, Reply, Run, ScriptFault, audit, audit_window, record_script};
 use std::alloc::Global;

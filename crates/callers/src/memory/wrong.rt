@@ -26,3 +26,5 @@ impl fmt::Display for Wrong {
         }
     }
 }
+
+impl std::error::Error for Wrong {}

@@ -1,7 +1,7 @@
 //! Copies of keys and of key sets. If memory runs out there is no copy, and asking again gives one.
-//! (What a copy says, `callers` writes.)
-use crate::memory::Memory;
-use crate::wrong::Wrong;
+//! (What a copy says, `whole_sets` writes.)
+use super::requests::Memory;
+use super::wrong::Wrong;
 use dnssec_keyset::{Error, KeySet};
 
 /// A copy of each key.
