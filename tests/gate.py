@@ -195,7 +195,7 @@ def prove_and_test(runbooks, folder):
     library = After("library", folder, after=[*programs, "archive"])
     archive.later.append(library)
     scripts = [
-        After("memory", after=["callers"]),
+        After("memory", after=["callers", "keyset_status", "keyset_notes"]),
         After("sets", after=["callers"]),
         After("notes", after=["keyset_notes"]),
         After("command", after=programs),

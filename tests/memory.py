@@ -5,7 +5,8 @@ none. (In `tests/library.c` the requests for a script's answers fail, and in `te
 those of each call.)
 
 It runs the program `callers`, which `rt ci` has made by then, once for each request of each of
-these works, with `tests/memory.c` in place of the C library's allocator.
+these works, with `tests/memory.c` in place of the C library's allocator. The requests of the
+programs `keyset_status` and `keyset_notes` fail in the same way.
 """
 
 import os
@@ -39,14 +40,33 @@ WORKS = {
 # Each work begins with one whose requests don't fail: a record, or only its input.
 BEGINNINGS = {NAMES: INPUT, RECORD: INPUT}
 
-MADE = re.compile(r"requests: (?P<made>\d+)\n")
+MADE = re.compile(r"(?P<said>.*)requests: (?P<made>\d+)\n", re.DOTALL)
+
+# A script with a roll that waits for its first reports, and notes.
+BEGUN = """\
+zone example.com
+add-ksk K1 - 13 1 0 yes
+add-zsk Z1 - 13 2 0 yes
+start algorithm-roll - K1,Z1 0
+"""
+NOTED = """
+before 1 1 1
+published dnskey 3 5 9
+everywhere dnskey 10
+due 90
+"""
+# The programs, and what they are asked.
+ASKED = {"keyset_status": BEGUN, "keyset_notes": BEGUN + NOTED}
+# What they say of a request that fails.
+LACKED = re.compile(r"((script|notes): )?out of memory\n")
 
 
 @dataclass
 class Outcome:
-    """What the program wrote, how it ended, and how many requests it made."""
+    """What the program wrote and said, how it ended, and how many requests it made."""
 
     written: str
+    said: str
     status: int
     made: int
 
@@ -58,14 +78,15 @@ def build(folder):
     return allocator
 
 
-def outcome_of(allocator, letter, script, failing):
-    """The outcome of a work in which the request of this number fails, if there is one."""
+def outcome_of(allocator, program, text, failing):
+    """The outcome of a program on this input if its request of this number fails. None does if it
+    is 0."""
     made = {**os.environ, "LD_PRELOAD": str(allocator), "FAILING_REQUEST": str(failing)}
-    ran = subprocess.run([PROGRAM], input=letter + script, capture_output=True, text=True, env=made)
+    ran = subprocess.run([program], input=text, capture_output=True, text=True, env=made)
     told = MADE.fullmatch(ran.stderr)
     if not told:
-        raise Wrong(f"{letter}: request {failing}: status {ran.returncode}\n{ran.stderr}")
-    return Outcome(ran.stdout, ran.returncode, int(told["made"]))
+        raise Wrong(f"{program}: request {failing}: status {ran.returncode}\n{ran.stderr}")
+    return Outcome(ran.stdout, told["said"], ran.returncode, int(told["made"]))
 
 
 def in_turn(allocator, letter, script):
@@ -76,7 +97,7 @@ def in_turn(allocator, letter, script):
     made = range(first + 1, with_ample(allocator, letter, script) + 1)
     refused = 0
     for failing in made:
-        outcome = outcome_of(allocator, letter, script, failing)
+        outcome = outcome_of(allocator, PROGRAM, letter + script, failing)
         if outcome.made < failing:
             raise Wrong(f"{work}: request {failing} was not made: {outcome}")
         refused += is_refused(f"{work}: request {failing}", outcome)
@@ -92,8 +113,8 @@ def in_turn(allocator, letter, script):
 
 def with_ample(allocator, letter, script):
     """How many requests a work makes if none fails."""
-    outcome = outcome_of(allocator, letter, script, 0)
-    if outcome.status or outcome.written != "ample\n":
+    outcome = outcome_of(allocator, PROGRAM, letter + script, 0)
+    if outcome.status or outcome.said or outcome.written != "ample\n":
         raise Wrong(f"{letter}: it doesn't go well with ample memory: {outcome}")
     return outcome.made
 
@@ -101,9 +122,28 @@ def with_ample(allocator, letter, script):
 def is_refused(where, outcome):
     """Whether the program says that a call was refused. It checks by itself that the call is
     accepted when it is made again."""
-    if outcome.status or outcome.written not in ("ample\n", "refused\n"):
+    if outcome.status or outcome.said or outcome.written not in ("ample\n", "refused\n"):
         raise Wrong(f"{where}: {outcome}")
     return outcome.written == "refused\n"
+
+
+def in_turn_of_program(allocator, name):
+    """Lets each request of a program fail. It then says so and answers nothing, or asks for less
+    and answers as with ample memory. Gives how many failed."""
+    program, text = CRATES / name / "out" / name, ASKED[name]
+    ample = outcome_of(allocator, program, text, 0)
+    if ample.status or ample.said or not ample.written or not ample.made:
+        raise Wrong(f"{name}: it doesn't go well with ample memory: {ample}")
+    refused = 0
+    for failing in range(1, ample.made + 1):
+        outcome = outcome_of(allocator, program, text, failing)
+        is_refused = outcome.status == 3 and not outcome.written and LACKED.fullmatch(outcome.said)
+        is_ample = (outcome.status, outcome.written, outcome.said) == (0, ample.written, "")
+        if not (is_refused or is_ample):
+            raise Wrong(f"{name}: request {failing}: {outcome}")
+        refused += bool(is_refused)
+    print(f"{name}: {ample.made} requests for memory failed in turn, {refused} ended it")
+    return ample.made
 
 
 def stored_script(name):
@@ -121,10 +161,15 @@ def main():
             for name in SCRIPTS:
                 for letter in [*WORKS][1:]:
                     total += in_turn(allocator, letter, stored_script(name))
+            programs = sum(in_turn_of_program(allocator, name) for name in ASKED)
     except Wrong as wrong:
         print(wrong)
         return 1
-    print(f"memory: {total} requests of calls failed in turn, {time.monotonic() - began:.0f} s")
+    seconds = time.monotonic() - began
+    print(
+        f"memory: {total} requests of calls and {programs} requests of programs failed in turn,"
+        f" {seconds:.0f} s"
+    )
     return 0
 
 

@@ -5,8 +5,9 @@ ghost use Rattle.dnssec_notes.specs.Due.{IsDueAnswer};
 use crate::fault::DueFault;
 use crate::reading::read_notes;
 use crate::reports::due_lines;
+use dnssec_keyset::Error;
 use dnssec_network::Steps;
-use dnssec_record::record_script;
+use dnssec_record::{Reply, ScriptFault, record_script};
 use std::alloc::Global;
 
 /// Runs a script, reads the notes beside it, and answers which reports are due at this second since
@@ -14,7 +15,7 @@ use std::alloc::Global;
 ///
 /// # Errors
 ///
-/// - `Script` with the fault of the script.
+/// - `Script` with the fault of the script, or if memory runs out, for one of its calls too.
 /// - `Notes` with the fault of the notes, or if memory runs out.
 ///
 /// ```rust
@@ -30,6 +31,13 @@ pub fn answer_due(
         IsDueAnswer script.now notes.now seconds (string_bytes text)) }
 {
     let ran = record_script(alloc, script)?;
+    if ran
+        .entries
+        .iter()
+        .any(|entry| entry.reply == Reply::Refused(Error::OutOfMemory))
+    {
+        return Err(DueFault::Script(ScriptFault::OutOfMemory));
+    }
     let noted = read_notes(alloc, ran.entries.len(), notes)?;
     let steps = Steps::of_record(&ran.entries);
     let lines = due_lines(alloc, &ran.keyset, steps, &noted, seconds)?;

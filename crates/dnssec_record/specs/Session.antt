@@ -1,9 +1,11 @@
 -- What a session knows of its calls so far, and what it says to the next.
 use Rattle.std.specs.Prelude.{◌≡◌, ℕ, List, [], ◌∷◌, ◌++◌, map, codes, string_bytes}
-use Rattle.std.specs.Prelude.{Option, None}
+use Rattle.std.specs.Prelude.{Option, None, ◌≢◌, All}
+use Rattle.dnssec_base.specs.declared.error.Error.TheVariants as no
 use Rattle.dnssec_run.specs.declared.call.Call.{Call}
 use Rattle.dnssec_run.specs.declared.record.Entry.{Entry}
 use Rattle.dnssec_run.specs.declared.record.Reply.{Reply}
+use Rattle.dnssec_run.specs.declared.record.Reply.TheVariants.{Refused}
 use Rattle.dnssec_run.specs.Recorder.{Records}
 use Rattle.dnssec_judge.specs.declared.verdict.Broken.{Broken}
 use Rattle.dnssec_judge.specs.Judge.{Knows}
@@ -47,10 +49,15 @@ pub record Stands (lines : List (List ℕ)) (entries : List Entry) (s : Session)
   pub is_script : AreScript lines name calls
   pub stands : StandsAfter name calls entries s
 
--- the same for the lines of a script
+-- no call was refused for lack of memory
+abbrev pub HadMemory : List Entry → Type 0
+HadMemory = All (λ entry. entry.reply ≢ Refused no.OutOfMemory)
+
+-- the same for the lines of a script, and each of its calls had memory
 pub record Resumes (script : List ℕ) (s : Session) : Type 0 where
   pub entries : List Entry
   pub stands : Stands (lines_of script) entries s
+  pub had_memory : HadMemory entries
 
 -- one more line makes one more call of the same run, and the text is the answer to it
 pub record GoesOn (lines : List (List ℕ)) (entries : List Entry) (line : List ℕ) (next : Session)

@@ -1,6 +1,7 @@
 //! A zone's calls as they come: one at a time, each answered at once.
 ghost use Rattle.std.specs.Prelude.{◌≡◌, ◌∷◌, ℕ, List, [], length, map, IfOk, IfErr};
-ghost use Rattle.std.specs.Prelude.{string_bytes};
+ghost use Rattle.std.specs.Prelude.{string_bytes, ◌≢◌};
+ghost use Rattle.dnssec_base.specs.declared.error.Error.TheVariants.{OutOfMemory};
 ghost use Rattle.dnssec_judge.specs.Verdict.{IsVerdict};
 ghost use Rattle.dnssec_record.specs.Answer.{AnswerFault};
 ghost use Rattle.dnssec_record.specs.Inner.Statement.{TakesOn};
@@ -10,6 +11,7 @@ ghost use Rattle.dnssec_record.specs.Session.{Resumes, Takes};
 ghost use Rattle.dnssec_run.specs.Steps.{AreStepsOf};
 ghost use Rattle.dnssec_run.specs.declared.call.Call.{Call};
 ghost use Rattle.dnssec_run.specs.declared.record.Entry.{Entry};
+ghost use Rattle.dnssec_run.specs.declared.record.Reply.TheVariants.{Refused};
 
 use crate::answers::{push_answer, push_chain_line, push_published};
 use crate::courses::{Courses, Listed, Turn};
@@ -17,7 +19,7 @@ use crate::fault::ScriptFault;
 use crate::script::statements_of;
 use dnssec_base::Name;
 use dnssec_judge::{Broken, Judge};
-use dnssec_keyset::{KeySet, RollType};
+use dnssec_keyset::{Error, KeySet, RollType};
 use dnssec_run::{Call, Published, Recorder, Reply, Steps};
 use dnssec_script::{Statement, read_line, read_zone};
 use std::alloc::{AllocError, Global};
@@ -76,12 +78,12 @@ impl Session {
     }
 
     /// The session after the lines of a script, as `open` and a `call` for each further line leave
-    /// it.
+    /// it. No call of these is left out for lack of memory.
     ///
     /// # Errors
     ///
     /// - `Malformed` with the number of the first malformed line.
-    /// - `OutOfMemory` if there is no memory.
+    /// - `OutOfMemory` if there is no memory, for a call too.
     pub fn resume(alloc: Global, script: &[u8]) -> Result<Self, ScriptFault>
         ensures ok { IfOk result (Resumes script.now) }
         ensures err { IfErr result (AnswerFault script.now) }
@@ -89,7 +91,8 @@ impl Session {
         let (name, statements) = statements_of(alloc, script)?;
         let mut session = Session::new(alloc, name)?;
         for statement in statements {
-            let (next, _) = session.take(alloc, statement)?;
+            let (next, reply) = session.take(alloc, statement)?;
+            had_memory(reply)?;
             session = next;
         }
         Ok(session)
@@ -305,4 +308,14 @@ impl Session {
     {
         self.judge.verdict()
     }
+}
+
+/// An error if a call was refused for lack of memory.
+fn had_memory(reply: Reply) -> Result<(), AllocError>
+    ensures { IfOk result (λ _. reply ≢ Refused OutOfMemory) }
+{
+    if reply == Reply::Refused(Error::OutOfMemory) {
+        return Err(AllocError);
+    }
+    Ok(())
 }

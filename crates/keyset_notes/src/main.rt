@@ -13,16 +13,17 @@
 use dnssec_notes::{DueFault, NotesFault, answer_due};
 use dnssec_record::{Fields, ScriptFault, all_lines};
 use std::alloc::{AllocError, Global};
-use std::io::{Read, Write};
+use std::io::{self, ErrorKind, Read, Write};
 use std::process::ExitCode;
 
 fn main(rt: HostRuntime) -> ExitCode {
     let alloc = rt.alloc();
     let mut input = Vec::new(alloc);
     // The status says a fault too, so its text may be lost.
-    if rt.stdin().read_to_end(&mut input).is_err() {
-        let _ = eprintln!(rt; "{}", ScriptFault::Device);
-        return ExitCode::from(2);
+    if let Err(error) = rt.stdin().read_to_end(&mut input) {
+        let fault = fault_of_input(&error);
+        let _ = eprintln!(rt; "{fault}");
+        return ExitCode::from(fault.status());
     }
     match answers(alloc, &input) {
         Ok(text) => match rt.stdout().write_all(text.as_str().as_bytes()) {
@@ -36,6 +37,14 @@ fn main(rt: HostRuntime) -> ExitCode {
             let _ = eprintln!(rt; "{fault}");
             ExitCode::from(status(&fault))
         }
+    }
+}
+
+/// Why the input was not read.
+fn fault_of_input(error: &io::Error) -> ScriptFault {
+    match error.kind() {
+        ErrorKind::OutOfMemory => ScriptFault::OutOfMemory,
+        _ => ScriptFault::Device,
     }
 }
 

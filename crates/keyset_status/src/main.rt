@@ -8,8 +8,16 @@
 use dnssec_record::{ScriptFault, Session};
 use dnssec_status::status;
 use std::alloc::Global;
-use std::io::{Read, Write};
+use std::io::{self, ErrorKind, Read, Write};
 use std::process::ExitCode;
+
+/// Why the input was not read.
+fn fault_of_input(error: &io::Error) -> ScriptFault {
+    match error.kind() {
+        ErrorKind::OutOfMemory => ScriptFault::OutOfMemory,
+        _ => ScriptFault::Device,
+    }
+}
 
 /// The status after the calls of a script.
 fn status_after(alloc: Global, script: &[u8]) -> Result<Vec<u8>, ScriptFault> {
@@ -22,7 +30,7 @@ fn main(rt: HostRuntime) -> ExitCode {
     let mut script = Vec::new(alloc);
     let told = match rt.stdin().read_to_end(&mut script) {
         Ok(_) => status_after(alloc, &script),
-        Err(_) => Err(ScriptFault::Device),
+        Err(error) => Err(fault_of_input(&error)),
     };
     let written = match told {
         Ok(text) => match rt.stdout().write_all(&text) {

@@ -24,6 +24,6 @@ returns c =
       is_run = ran.is_run;
       is_text = c.in_ok-lines.ensures
           ∙ (λ i. due_text (ran.is_set i).rolls (λ roll. (c.of_record-steps.ensures roll
-          ∙ ap (λ (es : List Entry). base_below es roll (suc (length es))) c.deref.ensures.value) i)
+          ∙ ap (λ (es : List Entry). base_below es roll (suc (length es))) c.deref-2.ensures.value) i)
           noted.before noted.facts c.args.seconds);
     }

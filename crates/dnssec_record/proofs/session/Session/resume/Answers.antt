@@ -1,19 +1,26 @@
 -- Each turn of the loop makes the call of one statement.
-use Rattle.std.proofs.Common.{rules}
+use Rattle.std.proofs.Common.{◌≢◌, rules, subst, sym}
+use Rattle.std.proofs.lemmas.List.Elements.{All-nil, All-push}
+use Rattle.dnssec_base.specs.declared.error.Error.TheVariants.{OutOfMemory}
+use Rattle.dnssec_run.specs.declared.record.Reply.TheVariants.{Refused}
 use Rattle.dnssec_record.proofs.Made.{all_made, none_made, one_made}
 use Rattle.dnssec_record.proofs.session.Session.resume.Goals as goal
 
 pub loop-statement-init : goal.loop-statement-init
 loop-statement-init c =
     none_made _ _ _ _ _ _ c.in_ok-name.ensures.ok
-    c.into_iter-statement-iterator.ensures.into_iter_gives.0 (search rules) c.in_ok-session.ensures
+    c.into_iter-statement-iterator.ensures.into_iter_gives.0 (search rules)
+    (c.in_ok-session.ensures, All-nil (λ entry. entry.reply ≢ Refused OutOfMemory))
 
 pub loop-statement-preserved : goal.loop-statement-preserved
 loop-statement-preserved c =
     let h = c.loop-statement.invariant in let made = c.in_ok-next.ensures in
-    let next = made.advances h.name h.calls h.entries h.so in
-    one_made _ _ h made.call _ c.in-Some.ensures.steps.0 c.in-Some.ensures.steps.1 made.is_call
-    next.stands
+    let next = made.advances h.name h.calls h.entries h.so.0 in
+    one_made _ _ h made.call _ c.in-Some.ensures.steps.0 c.in-Some.ensures.steps.1 made.is_call (
+      next.stands,
+      All-push (λ entry. entry.reply ≢ Refused OutOfMemory) h.entries next.entry h.so.1
+          (subst (λ reply. reply ≢ Refused OutOfMemory) (sym next.is_reply) c.in_ok-had_memory.ensures),
+    )
 
 pub returns-clause-ok : goal.returns-clause-ok
 returns-clause-ok c =
@@ -23,6 +30,7 @@ returns-clause-ok c =
         name = h.name;
         calls = h.calls;
         is_script = all_made _ h c.in-None.ensures.steps.0;
-        stands = h.so;
+        stands = h.so.0;
       };
+      had_memory = h.so.1;
     }
