@@ -21,6 +21,7 @@ from pathlib import Path
 
 import install
 import long
+import malformed
 import noted
 import release
 import sessions
@@ -258,6 +259,27 @@ def test_damaged(keyset):
     return f"{len(scripts)} scripts answered as by the program, {malformed} of them malformed"
 
 
+# What is answered to a script without calls, and what its status is.
+NO_CALLS = "ds=- dnskey=- signers=- zone=-\nchain safe\n"
+
+
+def test_malformed(keyset):
+    """The first malformed line is named. No line before it is run, and nothing is written."""
+    rows = 0
+    for script, line in malformed.scripts():
+        wanted = (1, "", f"line {line}: malformed\n") if line else (0, NO_CALLS, "")
+        for answerer, given in (
+            ("program", as_program(script)),
+            ("library", as_library(keyset, script)),
+        ):
+            if given != wanted:
+                raise Wrong(f"the {answerer} ends with {given}, and {wanted} is right: {script!r}")
+        if line and as_program(script, STATUS) != wanted:
+            raise Wrong(f"keyset_status doesn't end as the program: {script!r}")
+        rows += 1
+    return f"{rows} rows of malformed scripts, and beginnings of zone lines"
+
+
 def as_session(library, script):
     """How a session answers, line by line. Its status has all of the keys."""
     zone, *lines = script.splitlines()
@@ -424,6 +446,7 @@ def test(folder, room):
     yield "sessions", test_in_python(keyset)
     yield "sessions", test_status_program(keyset)
     yield "library", test_resumed(keyset)
+    yield "library", test_malformed(keyset)
     yield "library", test_damaged(keyset)
     yield "library", test_frozen(keyset)
     yield "long", test_long(folder, keyset)

@@ -106,7 +106,7 @@ impl Sink for Output {
 /// How the devices of a script serve it: how many bytes a read and a write move at most, and how
 /// many calls are served before they fail.
 #[derive(Clone, Copy)]
-pub struct Devices {
+struct Devices {
     most_read: usize,
     reads: usize,
     most_written: usize,
@@ -114,7 +114,7 @@ pub struct Devices {
 }
 
 /// Devices that serve a script to its end.
-pub const WHOLE: Devices = Devices {
+const WHOLE: Devices = Devices {
     most_read: ANY,
     reads: ANY,
     most_written: ANY,
@@ -193,7 +193,7 @@ const ROWS: &[(&str, Devices, Result<(), ScriptFault>, &str)] = &[
 ];
 
 /// Whether a run of a script over devices ends in this way, with this written.
-pub fn is_run(
+fn is_run(
     alloc: Global,
     script: &[u8],
     devices: Devices,

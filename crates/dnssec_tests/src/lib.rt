@@ -1,7 +1,6 @@
 //! What no script shows: names that are read and printed, numbers, moments, texts, devices that
-//! fail, malformed scripts and verdicts. The tests make public calls, in a crate of their own, so
-//! that no other crate is proved twice. The proofs say what each call does; the values here come
-//! from worked examples.
+//! fail, and verdicts. The tests make public calls, in a crate of their own, so that no other crate
+//! is proved twice. The proofs say what each call does; the values here come from worked examples.
 #![tactic(auto)]
 
 #[cfg(test)]
@@ -12,8 +11,6 @@ mod audits;
 mod devices;
 #[cfg(test)]
 mod failing;
-#[cfg(test)]
-mod malformed;
 #[cfg(test)]
 mod many;
 #[cfg(test)]

@@ -3,7 +3,6 @@ use crate::values::{MAX, Parts, duration};
 use dnssec_base::NameError;
 use dnssec_keyset::Error;
 use dnssec_network::NoteFault;
-use dnssec_notes::{DueFault, NotesFault};
 use dnssec_record::ScriptFault;
 use std::alloc::Global;
 use std::fmt::{self, Display, Write};
@@ -75,37 +74,14 @@ const FAULTS_OF_SCRIPTS: &[(ScriptFault, &str, u8)] = &[
 ];
 
 /// Faults of notes, and what they print.
-const FAULTS_OF_NOTES: &[(NotesFault, &str)] = &[
-    (NotesFault::Malformed(12), "line 12: malformed"),
+const FAULTS_OF_NOTES: &[(NoteFault, &str)] = &[
+    (NoteFault::CallNotMade, "no such call yet"),
     (
-        NotesFault::Refused(1, NoteFault::CallNotMade),
-        "line 1: no such call yet",
+        NoteFault::SeenBeforePublished,
+        "seen before it was published",
     ),
-    (
-        NotesFault::Refused(2, NoteFault::SeenBeforePublished),
-        "line 2: seen before it was published",
-    ),
-    (
-        NotesFault::Refused(3, NoteFault::MomentFalls),
-        "line 3: moment before the last one",
-    ),
-    (
-        NotesFault::Refused(4, NoteFault::OutOfMemory),
-        "line 4: out of memory",
-    ),
-    (NotesFault::OutOfMemory, "out of memory"),
-];
-
-/// Why no reports are written, and what it prints.
-const FAULTS_OF_REPORTS: &[(DueFault, &str)] = &[
-    (
-        DueFault::Script(ScriptFault::Malformed(2)),
-        "script: line 2: malformed",
-    ),
-    (
-        DueFault::Notes(NotesFault::Malformed(3)),
-        "notes: line 3: malformed",
-    ),
+    (NoteFault::MomentFalls, "moment before the last one"),
+    (NoteFault::OutOfMemory, "out of memory"),
 ];
 
 /// What a value has still to print. Whatever is written is taken, so that an error is the value's
@@ -168,10 +144,6 @@ fn faults_have_their_texts(rt: HostRuntime) -> Result<(), Fail> {
         texts = texts.saturating_add(1);
     }
     for (fault, text) in FAULTS_OF_NOTES {
-        assert!(rt; prints(rt.alloc(), fault, text), "{text}");
-        texts = texts.saturating_add(1);
-    }
-    for (fault, text) in FAULTS_OF_REPORTS {
         assert!(rt; prints(rt.alloc(), fault, text), "{text}");
         texts = texts.saturating_add(1);
     }
