@@ -82,7 +82,7 @@ live: build notes ## rolls keys on real name servers, within an hour; LIVE=--sho
 docs: python ## compares what the documents print with the examples and the callers
 	@tests/docs.py
 
-memory: python has-cc ## lets each request for memory fail in turn
+memory: python has-cc build notes ## lets each request for memory fail in turn
 	@$(call prove,callers,run </dev/null)
 	@tests/memory.py
 

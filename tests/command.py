@@ -20,6 +20,7 @@ import subprocess
 import sys
 import tempfile
 import trace
+from concurrent.futures import ProcessPoolExecutor
 from pathlib import Path
 
 sys.dont_write_bytecode = True
@@ -200,6 +201,17 @@ CRASHES = (
 )
 
 
+def crash(number):
+    """Lets one of these parts crash."""
+    return crash_everywhere(*CRASHES[number])
+
+
+def traced(part, *given):
+    """What a part gives, and which lines ran for it."""
+    tracer = trace.Trace(count=1, trace=0)
+    return tracer.runfunc(part, *given), tracer.results()
+
+
 def coverage(results):
     """How many lines of the command ran, and how many there are."""
     ran = {(name, line) for name, line in results.counts if name.startswith(str(PACKAGE))}
@@ -214,14 +226,17 @@ def coverage(results):
 def main():
     os.environ["PATH"] = f"{STORED / 'bin'}:{os.environ['PATH']}"
     write = "--write" in sys.argv[1:]
-    tracer = trace.Trace(count=1, trace=0)
-    faults, lines = tracer.runfunc(compare, write)
-    faults += tracer.runfunc(facts.faults)
-    crashes = 0
-    for crash in CRASHES:
-        found, count = crash_everywhere(*crash)
-        faults, crashes = faults + found, crashes + count
-    ran, total, unrun = coverage(tracer.results())
+    # Each part has folders of its own, and a process.
+    with ProcessPoolExecutor() as pool:
+        told = pool.submit(traced, facts.faults)
+        compared = pool.submit(traced, compare, write)
+        crashed = [*pool.map(crash, range(len(CRASHES)))]
+    (faults, lines), results = compared.result()
+    more, others = told.result()
+    results.update(others)
+    faults += more + [fault for found, _ in crashed for fault in found]
+    crashes = sum(count for _, count in crashed)
+    ran, total, unrun = coverage(results)
     print(*faults, sep="\n", end="\n" if faults else "")
     print(f"command: {lines} lines played, {crashes} crashes; {ran} of {total} lines of code ran, "
           "by std's trace")

@@ -17,6 +17,7 @@ import subprocess
 import sys
 import tempfile
 import time
+from concurrent.futures import ThreadPoolExecutor
 from pathlib import Path
 
 import install
@@ -429,9 +430,17 @@ def test(folder, room):
     """Gives the name of each test, and what it has done."""
     expect_exports(folder)
     expect_no_links(folder)
-    yield "library", test_in_c(folder, room)
+    # The two that take the longest run beside the others.
+    with ThreadPoolExecutor() as pool:
+        sessions_in_c = pool.submit(test_sessions, folder, room)
+        in_c = pool.submit(test_in_c, folder, room)
+        yield from short_tests(folder, room)
+        yield "library", in_c.result()
+        yield "sessions", sessions_in_c.result()
+
+
+def short_tests(folder, room):
     yield "library", test_static_buffer(folder, room)
-    yield "sessions", test_sessions(folder, room)
     yield "sessions", test_statuses(folder)
     yield "library", test_notes(folder, room)
     yield "library", test_c_caller(room, "C", c_flags(folder))
