@@ -1,6 +1,6 @@
 -- Notes, line by line: what is noted after one more line.
 use Rattle.std.proofs.Common.{Err, List, None, Ok, Option, Result, Some, [], ap, refl, sym, ℕ, ◌++◌}
-use Rattle.std.proofs.Common.{◌+◌, ◌∙◌, ◌∷◌, ◌≡◌}
+use Rattle.std.proofs.Common.{◌∙◌, ◌∷◌, ◌≡◌}
 use Rattle.std.proofs.lemmas.{List.append-nil, List.append_assoc, List.map-append, Option.none-some}
 use Rattle.std.{proofs.lemmas.Option.same_Some, specs.Option.option_map, specs.Prelude.IfOk}
 use Rattle.dnssec_network.specs.Notes.{NotesParts, refusal}

@@ -16,7 +16,7 @@ use Rattle.dnssec_network.specs.declared.fact.Fact.{Fact}
 use Rattle.dnssec_network.specs.Notes.{NotesParts}
 use Rattle.dnssec_network.specs.Reports.{due_report}
 use Rattle.dnssec_script.specs.Script.{AreScript, lines_of}
-use Rattle.dnssec_record.specs.Session.{Stands}
+use Rattle.dnssec_record.specs.Session.{HadMemory, Stands}
 use Rattle.dnssec_record.specs.declared.session.Session.{Session}
 use Rattle.dnssec_notes.specs.Lines.{kind_name}
 use Rattle.dnssec_notes.specs.Reading.{AreNotes, HasTaken}
@@ -70,9 +70,10 @@ pub record IsDueAfter (lines notes : List (List ℕ)) (seconds : ℕ) (text : Li
   pub is_text : text ≡ due_text (world_at name calls entries (length entries)).set.rolls
       (λ roll. base_below entries roll (suc (length entries))) before facts seconds
 
--- the same of two texts
-abbrev pub IsDueAnswer : List ℕ → List ℕ → ℕ → List ℕ → Type 0
-IsDueAnswer script notes = IsDueAfter (lines_of script) (lines_of notes)
+-- the same of two texts, and each of the calls had memory
+pub record IsDueAnswer (script notes : List ℕ) (seconds : ℕ) (text : List ℕ) : Type 0 where
+  pub is_due : IsDueAfter (lines_of script) (lines_of notes) seconds text
+  pub had_memory : HadMemory is_due.entries
 
 -- ---- of a session with its notes
 
