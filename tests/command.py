@@ -202,7 +202,7 @@ CRASHES = (
 
 
 def crash(number):
-    """Lets one of these parts crash."""
+    """Lets the part of this number crash."""
     return crash_everywhere(*CRASHES[number])
 
 
@@ -228,11 +228,11 @@ def main():
     write = "--write" in sys.argv[1:]
     # Each part has folders of its own, and a process.
     with ProcessPoolExecutor() as pool:
-        told = pool.submit(traced, facts.faults)
+        looked_up = pool.submit(traced, facts.faults)
         compared = pool.submit(traced, compare, write)
         crashed = [*pool.map(crash, range(len(CRASHES)))]
     (faults, lines), results = compared.result()
-    more, others = told.result()
+    more, others = looked_up.result()
     results.update(others)
     faults += more + [fault for found, _ in crashed for fault in found]
     crashes = sum(count for _, count in crashed)

@@ -78,7 +78,7 @@ impl Session {
     }
 
     /// The session after the lines of a script, as `open` and a `call` for each further line leave
-    /// it. No call of these is left out for lack of memory.
+    /// it. No call is left out for lack of memory.
     ///
     /// # Errors
     ///
@@ -92,7 +92,7 @@ impl Session {
         let mut session = Session::new(alloc, name)?;
         for statement in statements {
             let (next, reply) = session.take(alloc, statement)?;
-            had_memory(reply)?;
+            check_memory(reply)?;
             session = next;
         }
         Ok(session)
@@ -311,7 +311,7 @@ impl Session {
 }
 
 /// An error if a call was refused for lack of memory.
-fn had_memory(reply: Reply) -> Result<(), AllocError>
+fn check_memory(reply: Reply) -> Result<(), AllocError>
     ensures { IfOk result (λ _. reply ≢ Refused OutOfMemory) }
 {
     if reply == Reply::Refused(Error::OutOfMemory) {

@@ -25,8 +25,8 @@ returns c =
         is_script = ran.is_script;
         is_run = ran.is_run;
         is_text = c.in_ok-lines.ensures
-            ∙ (λ i. due_text (ran.is_set i).rolls (λ roll. (c.of_record-steps.ensures roll
-            ∙ ap (λ (es : List Entry). base_below es roll (suc (length es))) c.deref-2.ensures.value) i)
+            ∙ (λ i. due_text (ran.is_set i).rolls (λ roll. (c.of_record-steps.ensures roll ∙ ap
+            (λ (es : List Entry). base_below es roll (suc (length es))) c.deref-2.ensures.value) i)
             noted.before noted.facts c.args.seconds);
       };
       had_memory = subst HadMemory c.deref.ensures.value
