@@ -84,6 +84,7 @@ def reach(moment, clock):
 def begin(zone, files, path, moment, before, is_csk):
     """Makes the script of a zone with the keys of these files, and its notes with the TTLs before.
     If the zone is signed already, the keys come in at this moment. Gives the lines."""
+    Notes(path)
     for file in files:
         if file.owner.lower() != zone.lower():
             raise Failure(f"{file.path}: a key of {file.owner}, not of {zone}")

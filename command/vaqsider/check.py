@@ -62,10 +62,11 @@ def _findings(lines, path, now):
 def false_claims(history, path, now, since=0):
     """What can't be true in the accepted lines, from this number on."""
     notes = Notes(path)
-    for call in history.calls:
-        if call.number >= since:
-            for text in (*_of_moment(history, call, now), *_of_notes(history, call, notes)):
-                yield Finding(WARNING, text, call.number)
+    if notes.lines and not since:
+        notes.check(history.lines)
+    for number, text in (*_of_moments(history, now), *_of_notes(history, notes, since)):
+        if number >= since:
+            yield Finding(WARNING, text, number)
     for algorithm, number in sorted(_mixed(history).items()):
         text = f"of algorithm {algorithm} a KSK is in use and no ZSK, or a ZSK and no KSK"
         yield Finding(WARNING, f"{text}: validators that ask for every algorithm fail", number)
@@ -74,29 +75,42 @@ def false_claims(history, path, now, since=0):
         yield Finding(BROKEN, history.verdict, int(at) + 1)
 
 
-def _of_moment(history, call, now):
-    line = call.line
-    before = [one for one in history.before(call) if one.line.word in OF_CLOCK]
-    last = max(before, key=lambda one: one.moment if one.moment <= now else 0, default=call)
+def _of_moments(history, now):
+    """What the moments of the lines say against them, each with the number of its line."""
+    latest, is_signed = None, False
+    for call in history.calls:
+        yield from ((call.number, text) for text in _of_moment(history, call, latest, now))
+        line = call.line
+        if line.word == "start" and line.roll in KSK_ROLLS and not is_signed:
+            yield call.number, f"a {line.roll} before the first algorithm-roll breaks a zone"
+        is_signed |= (line.word, line.roll) == ("wait1", "algorithm-roll")
+        if line.word in OF_CLOCK and call.moment <= now:
+            latest = call if latest is None else max(latest, call, key=lambda one: one.moment)
+
+
+def _of_moment(history, call, latest, now):
+    """The latest line is that with the highest moment before the call, and before the clock's."""
+    line, step = call.line, call.line.is_report and history.step_of(call)[0]
     if line.moment is not None and line.moment > now:
         yield f"its moment lies {words.duration(line.moment - int(now))} ahead of the clock"
-    elif line.is_report and call.moment < history.step_of(call)[0].moment:
-        number = history.step_of(call)[0].number
-        yield f"it reports a moment before its step, of line {number}: nothing had spread"
-    elif line.word in OF_CLOCK and call.moment < last.moment <= now:
-        yield f"its moment is before that of line {last.number}"
-    if line.word == "start" and line.roll in KSK_ROLLS:
-        if ("wait1", "algorithm-roll") not in ((one.line.word, one.line.roll) for one in before):
-            yield f"a {line.roll} before the first algorithm-roll breaks a zone"
+    elif step and call.moment < step.moment:
+        yield f"it reports a moment before its step, of line {step.number}: nothing had spread"
+    elif line.word in OF_CLOCK and latest and call.moment < latest.moment:
+        yield f"its moment is before that of line {latest.number}"
 
 
-def _of_notes(history, call, notes):
-    if call.line.is_report and notes.began_before(call.number - 1):
-        due = notes.due(history.lines[: call.number - 1], call.line.roll, call.moment)
+def _of_notes(history, notes, since):
+    """What the notes say against reports from a line on, each with the number of its line. What was
+    reported before the notes began, they can't judge."""
+    first = notes.first
+    calls = [call for call in history.calls if call.line.is_report and call.number >= since]
+    calls = [call for call in calls if first is not None and first < call.number - 1]
+    reports = [(call.number, call.line.roll, call.moment) for call in calls]
+    for call, due in zip(calls, notes.due_then(history.lines, reports)):
         if due is None:
-            yield "by the notes not all servers had yet what it reports"
+            yield call.number, "by the notes not all servers had yet what it reports"
         elif call.line.ttl < due:
-            yield f"its TTL is {call.line.ttl}, and {due} was due by the notes"
+            yield call.number, f"its TTL is {call.line.ttl}, and {due} was due by the notes"
 
 
 def _mixed(history):

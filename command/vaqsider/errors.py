@@ -1,6 +1,6 @@
 """Exit statuses, and which errors end the command with them."""
 
-from keyset import Damaged, Locked, Malformed, Unavailable
+from keyset import Damaged, Locked, Malformed, Misnamed, Unavailable
 
 OK, DUE, WARNING, BROKEN = 0, 1, 2, 3
 USAGE, UNAVAILABLE, LOCKED, INTERRUPTED = 64, 69, 75, 130
@@ -12,7 +12,7 @@ STATUSES = {
     WARNING: ("a line can't be true; call: it was not made for that reason", ()),
     BROKEN: ("the chain of trust is broken, or a file is damaged; check: or it is missing, or a "
              "program is", (Damaged, Malformed)),
-    USAGE: ("the command line, or the line of a call, is wrong", (FileExistsError,)),
+    USAGE: ("the command line, or the line of a call, is wrong", (FileExistsError, Misnamed)),
     UNAVAILABLE: ("a program, a file or a server is missing", (Unavailable, OSError, MemoryError)),
     LOCKED: ("another program is writing the script", (Locked,)),
     INTERRUPTED: ("interrupted from the keyboard", (KeyboardInterrupt,)),

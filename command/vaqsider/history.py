@@ -23,26 +23,24 @@ class History:
     """A script's lines, with the answers of the key set."""
 
     def __init__(self, lines):
-        self.lines, self.refused, self.calls, clock = lines, [], [], 0
+        self.lines, self.refused, self.calls, self._steps = lines, [], [], {}
         *self.replies, sets, self.verdict = keyset.run(lines)
         self.published = vars(keyset.Published.of(sets))
+        clock, last = 0, {}
         for number, (text, reply) in enumerate(zip(lines[1:], self.replies), start=2):
             if reply.startswith(REFUSED):
                 self.refused.append((number, reply[len(REFUSED) :]))
-            else:
-                self.calls.append(Call(number, text, reply, clock))
-                clock = self.calls[-1].moment
-
-    def before(self, call):
-        """The accepted lines before this one."""
-        return self.calls[: self.calls.index(call)]
+                continue
+            call = Call(number, text, reply, clock)
+            self.calls.append(call)
+            clock, last[call.line.roll, call.line.word] = call.moment, call
+            if call.line.is_report:
+                self._steps[number] = last[call.line.roll, REPORTED_FROM[call.line.word]]
 
     def step_of(self, report):
         """The step that an accepted report counts from: the start of its roll, or its first wait.
         With it come the kinds of sets that it asked for."""
-        wanted = (report.line.roll, REPORTED_FROM[report.line.word])
-        before = reversed(self.before(report))
-        step = next(call for call in before if (call.line.roll, call.line.word) == wanted)
+        step = self._steps[report.number]
         return step, words.kinds_of(step.actions, of=["Report"])
 
     def sessions(self):

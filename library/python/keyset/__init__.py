@@ -12,7 +12,7 @@ __version__ = "1.0.0"
 from .engine import answer, due, open_session, run, status
 from .file import Damaged, Lines, Locked, create, locked
 from .keyset import KeySet
-from .notes import Notes
+from .notes import Misnamed, Notes
 from .values import (
     Action,
     Broken,
@@ -39,6 +39,7 @@ __all__ = [
     "Lines",
     "Locked",
     "Malformed",
+    "Misnamed",
     "Notes",
     "Published",
     "Refusal",

@@ -5,6 +5,7 @@ The library is the one that KEYSET_LIBRARY names, or that `make lib` has made, o
 with this package. The programs are those in the folder KEYSET_PROGRAMS, or those that `make build`
 has made, or those that are installed, or those on the path."""
 
+import contextlib
 import ctypes
 import functools
 import json
@@ -269,16 +270,29 @@ def status(lines):
 def due(lines, notes, moment):
     """The reports that are due at a moment, by the notes: for each roll that waits for one its TTL,
     or None if a set isn't everywhere yet."""
+    return next(dues(lines, notes, [(len(lines), len(notes), moment)]))
+
+
+def dues(lines, notes, places):
+    """What is due, as `due` gives it, at places of a script and its notes: after how many lines of
+    each, and at which moment. No place may be before the one before it."""
     if _library() is None:
-        told = _program("keyset_notes", [*lines, "", *notes, f"due {moment}"])
-    else:
-        session = _opened(lines[:1])
-        for line in lines[1:]:
-            session.call(line)
-        for line in notes:
-            session.note(line)
-        told = session.due(moment)
-        session.close()
+        for called, noted, moment in places:
+            text = [*lines[:called], "", *notes[:noted], f"due {moment}"]
+            yield _ttls(_program("keyset_notes", text))
+        return
+    with contextlib.closing(_opened(lines[:1])) as session:
+        calls, facts = 1, 0
+        for called, noted, moment in places:
+            for line in lines[calls:called]:
+                session.call(line)
+            for line in notes[facts:noted]:
+                session.note(line)
+            calls, facts = called, noted
+            yield _ttls(session.due(moment))
+
+
+def _ttls(told):
     return {one.roll.value: one.ttl for one in map(Due.of, told.splitlines())}
 
 

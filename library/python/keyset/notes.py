@@ -3,10 +3,12 @@ it, and when all did. By them a report is true."""
 
 from __future__ import annotations
 
+import contextlib
 import errno
 import math
 import os
 import re
+from collections.abc import Iterable, Iterator
 from pathlib import Path
 
 from . import engine, file
@@ -18,10 +20,17 @@ FORM = re.compile(
 )
 
 
+class Misnamed(ValueError):
+    """The name of a script doesn't end in `.script`: two zones could have the same notes."""
+
+
 class Notes:
-    """The notes as they were when they were read; without a file there are no lines."""
+    """The notes as they were when they were read; without a file there are no lines. Those of
+    `ZONE.script` are in `ZONE.notes`. `Misnamed`: the name of the script ends otherwise."""
 
     def __init__(self, script: str | Path) -> None:
+        if Path(script).suffix != ".script":
+            raise Misnamed(f"{script}: the name of a script has to end in .script")
         self.path = Path(script).with_suffix(".notes")
         self.lines = _checked(file.Lines(self.path)) if self.path.is_file() else []
 
@@ -37,18 +46,46 @@ class Notes:
             file.create(notes.path, lines)
         return cls(script)
 
-    def began_before(self, call: int) -> bool:
-        """Whether something was noted before this call was made. What was reported before is of
-        before the notes: they can't say that it is false."""
-        published = (line.split(" ") for line in self.lines if line.startswith("published"))
-        return any(int(number) < call for _, _, number, *_ in published)
+    @property
+    def first(self) -> int | None:
+        """The first call whose sets were noted. What was reported before is of before the notes:
+        they can't say that it is false."""
+        return min((_call(it) for it in self.lines if it.startswith("published")), default=None)
+
+    def check(self, lines: list[str]) -> None:
+        """`Damaged`: these can't be the notes of a script with these lines."""
+        with self._refusals():
+            engine.due(lines, self.lines, 0)
 
     def due(self, lines: list[str], roll: str, moment: int) -> int | None:
         """The TTL of a roll's report at a moment, by what was noted until then. None if a set isn't
         everywhere yet, or there are no notes."""
         until = [it for it in self.lines if it.startswith("before") or _moment(it) <= moment]
-        try:
+        with self._refusals():
             return engine.due(lines, until, moment).get(roll) if until else None
+
+    def due_then(
+        self, lines: list[str], reports: Iterable[tuple[int, str, int]]
+    ) -> Iterator[int | None]:
+        """For reports of a script, each with the number of its line, its roll and its moment: the
+        TTL that was due, by the notes as they were then. What was noted in the same second of a
+        later call is of after the report."""
+        notes = [*self.lines[:1], *sorted(self.lines[1:], key=_moment)]
+        reports, places, end = list(reports), [], 1
+        for number, _, moment in reports:
+            while end < len(notes) and _is_then(notes[end], number - 2, moment):
+                end += 1
+            places.append((number - 1, end, moment))
+        self.check(lines)
+        with self._refusals():
+            for (_, roll, _), due in zip(reports, engine.dues(lines, notes, places)):
+                yield due.get(roll)
+
+    @contextlib.contextmanager
+    def _refusals(self):
+        """Says of which line of the notes a refusal is."""
+        try:
+            yield
         except Malformed as error:
             raise file.Damaged(self.path, error.line, error.reason) from None
 
@@ -119,6 +156,17 @@ def to_report(due: int, kinds: list[str], roll: str, ttls: dict[str, int]) -> in
 
 def _moment(line):
     return int(line.rpartition(" ")[2])
+
+
+def _call(published):
+    """The call whose sets are published."""
+    return int(published.split(" ")[2])
+
+
+def _is_then(line, calls, moment):
+    """Whether a line can have been noted after so many calls, until this moment."""
+    is_later = line.startswith("published") and _call(line) > calls
+    return _moment(line) <= moment and not is_later
 
 
 def _checked(notes):
