@@ -7,7 +7,7 @@ import time
 import keyset
 from keyset import Malformed, Notes, lines as forms, locked
 
-from . import check, keyfiles, words
+from . import check, keyfiles, status, words
 from .errors import BROKEN, DUE, OK, USAGE, WARNING, Failure
 from .history import REFUSED, History
 
@@ -43,7 +43,7 @@ def call(path, text, clock, although=False, dry_run=False):
     """Makes a call on the script, and keeps its line if it is accepted."""
     with locked(path) as file:
         line = completed(text, clock)
-        lines = [*file.lines, line]
+        lines = [*status.whole(path, file), line]
         try:
             history = History(lines)
         except Malformed as error:

@@ -35,22 +35,28 @@ def findings(path, now):
     """All findings about a script, in the order of its lines."""
     try:
         file = Lines(path)
-        found = list(_findings(file.lines, path, now))
+        found = list(_findings(file, path, now))
     except Exception as error:
         line, text = AT.match(str(failure_of(error)).removeprefix(f"{path}: ")).groups()
         return [Finding(BROKEN, text, int(line) if line else None)]
-    end = len(file.lines) + 1
+    return sorted(found, key=lambda finding: finding.line or len(file.lines) + 2)
+
+
+def _findings(file, path, now):
+    """What comes next isn't said of a script that is torn: it may not be so."""
     if file.torn:
-        found.append(Finding(WARNING, "the last line has no end: it was not written whole", end))
-    return sorted(found, key=lambda finding: finding.line or end + 1)
+        yield Finding(BROKEN, status.torn(path), len(file.lines) + 1)
+    if file.lines or not file.torn:
+        history = History(file.lines)
+        for number, reason in history.refused:
+            yield Finding(WARNING, f"was refused ({reason}): take it out", number)
+        yield from false_claims(history, path, now)
+    if not file.torn:
+        yield from _due(status.read(path, now)[1])
 
 
-def _findings(lines, path, now):
-    history = History(lines)
-    for number, reason in history.refused:
-        yield Finding(WARNING, f"was refused ({reason}): take it out", number)
-    yield from false_claims(history, path, now)
-    told = status.read(path, now)[1]
+def _due(told):
+    """What waits for somebody, and what was ended early."""
     for roll in told["rolls"]:
         if roll["waits_for"] != status.CACHES:
             text = f"{roll['roll']} waits for {roll['waits_for']}: {status.comes_next(roll)}"

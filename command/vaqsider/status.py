@@ -1,5 +1,7 @@
 """One screen for a zone: where each key is, what is due, what comes next, and for whom it waits."""
 
+import shlex
+
 import keyset
 from keyset import Broken, Damaged, Lines, Malformed
 from keyset.lines import FORMS
@@ -11,9 +13,24 @@ WAITING = YOU, PARENT, CACHES = "you", "parent", "caches"
 LABELS = {"ds": "DS", "dnskey": "DNSKEY", "signers": "signers", "zone": "zone"}
 
 
+def torn(path):
+    """What to do about a last line without a line feed. Only its operator knows which is right, so
+    no word goes on from it, or cuts it off."""
+    file = shlex.quote(str(path))
+    mend = f"if it is whole: echo >>{file}; if a crash tore it: sed -i '$d' {file}"
+    return f"its line feed is missing; {mend}"
+
+
+def whole(path, file):
+    """The lines of a file, if the last one has its line feed."""
+    if file.torn:
+        raise Damaged(path, len(file.lines) + 1, torn(path))
+    return file.lines
+
+
 def read(path, now):
     """The lines of a script and its status at this moment. If a wait is over, it waits for you."""
-    lines = Lines(path).lines
+    lines = whole(path, Lines(path))
     try:
         told = keyset.status(lines)
     except Malformed as error:
