@@ -422,7 +422,8 @@ def test_cargo_project(folder, room):
 
 def test_python_caller(folder):
     made = {**os.environ, "KEYSET_LIBRARY": str(folder / "lib" / "libkeyset.so")}
-    run(sys.executable, "-B", LIBRARY / "python" / "test_keyset.py", env=made)
+    for name in ("test_keyset.py", "test_files.py"):
+        run(sys.executable, "-B", LIBRARY / "python" / name, env=made)
     return expect_rolls("Python", [sys.executable, "-B", LIBRARY / "python" / "roll.py"], env=made)
 
 

@@ -18,7 +18,9 @@ class Plan:
     its answer. TTLs, and delays until all servers have a version, are by kind of set."""
 
     def __init__(self, lines, moment, ttls, delays):
-        self.keys = KeySet.resume("".join(f"{line}\n" for line in lines))
+        # (A line that was refused has no part in what comes.)
+        script = "".join(f"{line}\n" for line in lines)
+        self.keys = KeySet.resume(script, allow_refused=True)
         self.moment, self.ttls, self.delays, self.steps = moment, ttls, delays, []
 
     def call(self, text):

@@ -18,6 +18,7 @@ from keyset import (
     Refused,
     RollType,
     Wait,
+    WrongArgument,
 )
 from keyset.notes import Seen
 
@@ -69,14 +70,15 @@ class Calls(unittest.TestCase):
 
     def test_a_malformed_line_is_told(self):
         keys = after(FIRST[:1])
-        for line in ("delete", "delete K1\ndelete K1"):
+        for line in ("delete", "delete K1\ndelete K1", "delete K\ud800"):
             for ask in (keys.call, keys.would):
                 with self.assertRaises(Malformed) as malformed:
                     ask(line)
                 self.assertEqual(malformed.exception.line, 3)
-        for zone in ("a..b", "a\nadd-zsk Z1 - 13 1 0 yes"):
-            with self.assertRaises(Malformed):
+        for zone in ("a..b", "a\nadd-zsk Z1 - 13 1 0 yes", "\ud800"):
+            with self.assertRaises(WrongArgument) as wrong:
                 KeySet(zone)
+            self.assertEqual(wrong.exception.name, "zone")
         with self.assertRaises(Malformed):
             KeySet.resume("")
 
@@ -142,12 +144,11 @@ class Files(unittest.TestCase):
             with self.assertRaises(Locked):
                 KeySet.open(self.path)
         with open(self.path, "a") as file:
-            file.write("delete K9\nadd-zsk Z")
+            file.write("add-zsk Z")
         with KeySet.open(self.path) as keys:
-            self.assertEqual(keys.refused, [(3, "key not found")])
-            keys.call(FIRST[1])
+            self.assertEqual(keys.call(FIRST[1]).number, 2)
             self.assertEqual(sorted(keys.keys()), ["K1", "Z1"])
-        self.assertTrue(self.path.read_text().endswith("delete K9\nadd-zsk Z1 - 13 1 0 yes\n"))
+        self.assertEqual(self.path.read_text().splitlines()[1:], FIRST[:2])
         with self.assertRaises(FileExistsError):
             KeySet.create(self.path, "example.com")
 
@@ -163,8 +164,10 @@ class Files(unittest.TestCase):
     def test_a_line_that_cannot_be_kept_is_not_made(self):
         with KeySet.create(self.path, "example.com") as keys:
             os.unlink(self.path)
-            os.mkdir(self.path)
             with self.assertRaises(OSError):
+                keys.call(FIRST[0])
+            os.mkdir(self.path)
+            with self.assertRaises(Locked):
                 keys.call(FIRST[0])
             self.assertEqual(keys.keys(), {})
             os.rmdir(self.path)

@@ -9,46 +9,71 @@ if sys.version_info < (3, 9):
 # The release that this package is part of.
 __version__ = "1.0.0"
 
-from .engine import answer, due, open_session, run, status
-from .file import Damaged, Lines, Locked, create, locked
+from .engine import Slow, answer, due, open_session, run, status
+from .errors import (
+    Closed,
+    Damaged,
+    Error,
+    Forked,
+    Locked,
+    Malformed,
+    Misnamed,
+    NotKept,
+    OutOfMemory,
+    Refusal,
+    Refused,
+    Unavailable,
+    Wait,
+    WrongArgument,
+)
+from .file import Lines, create, locked
 from .keyset import KeySet
-from .notes import Misnamed, Notes
+from .members import Stamps, Status
+from .notes import Notes
+from .session import Session
 from .values import (
+    Accepted,
     Action,
     Broken,
     Due,
     Key,
-    Malformed,
     Published,
-    Refusal,
-    Refused,
     Role,
     Roll,
     RollType,
-    Unavailable,
-    Wait,
 )
 
 __all__ = [
+    "Accepted",
     "Action",
     "Broken",
+    "Closed",
     "Damaged",
     "Due",
+    "Error",
+    "Forked",
     "Key",
     "KeySet",
     "Lines",
     "Locked",
     "Malformed",
     "Misnamed",
+    "NotKept",
     "Notes",
+    "OutOfMemory",
     "Published",
     "Refusal",
     "Refused",
     "Role",
     "Roll",
     "RollType",
+    "Session",
+    "Slow",
+    "Stamps",
+    "Status",
     "Unavailable",
     "Wait",
+    "WrongArgument",
     "answer",
     "create",
     "due",

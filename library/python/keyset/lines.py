@@ -3,7 +3,10 @@
 The key set reads lines by itself, and more strictly. This module has the words for people, and
 finds the fields of a line that the key set has read."""
 
+from __future__ import annotations
+
 import re
+from typing import Callable, Dict, Optional, Sequence, Tuple
 
 from .values import RollType
 
@@ -41,8 +44,13 @@ ALGORITHMS = {
 NAMES = {number: name for name, number in ALGORITHMS.items()}
 REFERENCE = re.compile(r"(?!-\Z)[!-+\--~]+")
 
+
+def _is_number(text: str, most: int) -> bool:
+    return re.fullmatch(r"[0-9]{1,20}", text) is not None and int(text) <= most
+
+
 # What a field has to be: a test, and the words for people.
-FIELDS = {
+FIELDS: Dict[str, Tuple[Callable[[str], object], str]] = {
     "REF": (REFERENCE.fullmatch, "a reference: visible ASCII without a comma"),
     "PRIV": (re.compile(r"[!-+\--~]+").fullmatch, "a reference of the private key, or - for none"),
     "OLD": (re.compile(r"[!-~]+").fullmatch, "references with commas between them, or -"),
@@ -56,46 +64,42 @@ FIELDS = {
 }
 
 
-def _is_number(text, most):
-    return re.fullmatch(r"[0-9]{1,20}", text) is not None and int(text) <= most
-
-
 class Line:
     """A well-formed line: its word, and its fields by name."""
 
-    def __init__(self, text):
+    def __init__(self, text: str) -> None:
         self.text = text
         self.word, *fields = text.split(" ")
         self._names = FORMS.get(self.word, "").split()
         self.fields = dict(zip(self._names, fields))
 
-    def __getitem__(self, name):
+    def __getitem__(self, name: str) -> Optional[str]:
         return self.fields.get(name)
 
     @property
-    def moment(self):
+    def moment(self) -> Optional[int]:
         """The moment in the line, in seconds, if it has one."""
-        return int(self["TIME"]) if "TIME" in self.fields else None
+        return int(self.fields["TIME"]) if "TIME" in self.fields else None
 
     @property
-    def ttl(self):
-        return int(self["TTL"]) if "TTL" in self.fields else None
+    def ttl(self) -> Optional[int]:
+        return int(self.fields["TTL"]) if "TTL" in self.fields else None
 
     @property
-    def roll(self):
+    def roll(self) -> Optional[str]:
         return self["ROLL"]
 
     @property
-    def is_report(self):
+    def is_report(self) -> bool:
         return self.word.startswith("report")
 
     @property
-    def is_step(self):
+    def is_step(self) -> bool:
         """Whether a report may count from it: a start, or a wait."""
         return self.word == "start" or self.word.startswith("wait")
 
 
-def at(text, clock):
+def at(text: str, clock: float) -> str:
     """The line with the clock's moment instead of `now`. That of a report is rounded up, any other
     down."""
     line = Line(text)
@@ -107,7 +111,7 @@ def at(text, clock):
     return " ".join(words)
 
 
-def why_malformed(text, is_first=False):
+def why_malformed(text: str, is_first: bool = False) -> str:
     """What is wrong with a malformed line, in words."""
     if text.endswith("\r"):
         return "it ends in a carriage return: save the file with line feeds only"
@@ -117,6 +121,10 @@ def why_malformed(text, is_first=False):
         return "the first line has to be 'zone ' and the name of the zone"
     if not text:
         return "the line is empty"
+    if "\n" in text:
+        return "it has a line feed in it"
+    if not text.isascii():
+        return "it has a character that isn't ASCII"
     if "\t" in text:
         return "there is a tab: fields stand one space apart"
     if text != text.strip(" ") or "  " in text:
@@ -124,7 +132,7 @@ def why_malformed(text, is_first=False):
     return _wrong_field(text.split(" "))
 
 
-def _wrong_field(words):
+def _wrong_field(words: Sequence[str]) -> str:
     form = FORMS.get(words[0])
     if form is None:
         return f"'{words[0]}' is no call"

@@ -8,11 +8,11 @@ import errno
 import math
 import os
 import re
-from collections.abc import Iterable, Iterator
 from pathlib import Path
+from typing import Callable, Dict, Iterable, Iterator, List, Mapping, Sequence
 
 from . import engine, file
-from .values import Malformed
+from .errors import Damaged, Locked, Malformed, Misnamed
 
 KINDS = ("ds", "dnskey", "zone")
 FORM = re.compile(
@@ -20,22 +20,17 @@ FORM = re.compile(
 )
 
 
-class Misnamed(ValueError):
-    """The name of a script doesn't end in `.script`: two zones could have the same notes."""
-
-
 class Notes:
     """The notes as they were when they were read; without a file there are no lines. Those of
-    `ZONE.script` are in `ZONE.notes`. `Misnamed`: the name of the script ends otherwise."""
+    `ZONE.script` are in `ZONE.notes`. `Misnamed`: the name of the script ends otherwise. Without a
+    script they are kept only in memory."""
 
-    def __init__(self, script: str | Path) -> None:
-        if Path(script).suffix != ".script":
-            raise Misnamed(f"{script}: the name of a script has to end in .script")
-        self.path = Path(script).with_suffix(".notes")
-        self.lines = _checked(file.Lines(self.path)) if self.path.is_file() else []
+    def __init__(self, script: file.Place | None) -> None:
+        self.path = None if script is None else path_of(script)
+        self.lines = self._read()
 
     @classmethod
-    def create(cls, script: str | Path, before: list[int]) -> Notes:
+    def create(cls, script: file.Place, before: Sequence[int]) -> Notes:
         """Begins the notes of a new script with the highest TTLs before the first call: of DS sets,
         of DNSKEY sets and of the rest of the zone. An answer that there is none counts too. After a
         crash the same call goes on. FileExistsError: the script is there, or notes with others."""
@@ -43,8 +38,33 @@ class Notes:
             raise FileExistsError(errno.EEXIST, os.strerror(errno.EEXIST), str(script))
         notes, lines = cls(script), [f"before {' '.join(map(str, before))}"]
         if notes.lines != lines:
-            file.create(notes.path, lines)
+            file.create(path_of(script), lines)
         return cls(script)
+
+    def _read(self) -> list[str]:
+        if self.path is None or not self.path.is_file():
+            return []
+        return _checked(file.Lines(self.path))
+
+    def more(self) -> list[str]:
+        """The lines that were noted since these were read. `Damaged`: one of these is gone."""
+        if self.path is None:
+            return []
+        lines, known = self._read(), len(self.lines)
+        if lines[:known] != self.lines:
+            raise Damaged(self.path, known + 1, "lines that were read before it are gone")
+        return lines[known:]
+
+    def append(self, line: str) -> None:
+        """Adds a line. Returns once it is on disk."""
+        if self.path is not None and not self.path.is_file():
+            file.create(self.path, [line])
+        elif self.path is not None:
+            with file.locked(self.path) as notes:
+                if notes.lines != self.lines:
+                    raise Locked(f"{self.path}: another program has noted something")
+                notes.append(line)
+        self.lines.append(line)
 
     @property
     def first(self) -> int | None:
@@ -52,12 +72,12 @@ class Notes:
         they can't say that it is false."""
         return min((_call(it) for it in self.lines if it.startswith("published")), default=None)
 
-    def check(self, lines: list[str]) -> None:
+    def check(self, lines: Sequence[str]) -> None:
         """`Damaged`: these can't be the notes of a script with these lines."""
         with self._refusals():
             engine.due(lines, self.lines, 0)
 
-    def due(self, lines: list[str], roll: str, moment: int) -> int | None:
+    def due(self, lines: Sequence[str], roll: str, moment: int) -> int | None:
         """The TTL of a roll's report at a moment, by what was noted until then. None if a set isn't
         everywhere yet, or there are no notes."""
         until = [it for it in self.lines if it.startswith("before") or _moment(it) <= moment]
@@ -65,7 +85,7 @@ class Notes:
             return engine.due(lines, until, moment).get(roll) if until else None
 
     def due_then(
-        self, lines: list[str], reports: Iterable[tuple[int, str, int]]
+        self, lines: Sequence[str], reports: Iterable[tuple[int, str, int]]
     ) -> Iterator[int | None]:
         """For reports of a script, each with the number of its line, its roll and its moment: the
         TTL that was due, by the notes as they were then. What was noted in the same second of a
@@ -82,18 +102,18 @@ class Notes:
                 yield due.get(roll)
 
     @contextlib.contextmanager
-    def _refusals(self):
+    def _refusals(self) -> Iterator[None]:
         """Says of which line of the notes a refusal is."""
         try:
             yield
         except Malformed as error:
-            raise file.Damaged(self.path, error.line, error.reason) from None
+            raise Damaged(self.path, error.line, error.reason) from None
 
-    def publish(self, call: int, ttls: dict[str, int | None], now: float) -> None:
+    def publish(self, call: int, ttls: Mapping[str, int | None], now: float) -> None:
         """Notes versions of these kinds, with the sets after this call, before servers give them.
         Without a TTL they have the present one. New signatures need no line."""
 
-        def lines(seen):
+        def lines(seen: Seen) -> Iterator[str]:
             for kind, ttl in ttls.items():
                 present = seen.ttls[kind][-1]
                 if seen.calls.get(kind) != call or (ttl or 0) > present:
@@ -101,12 +121,12 @@ class Notes:
 
         self._append(lines, now)
 
-    def everywhere(self, ttls: dict[str, int], now: float) -> None:
+    def everywhere(self, ttls: Mapping[str, int], now: float) -> None:
         """Notes, once for each kind, that all servers gave its newest version. Notes nothing if
         something was noted since these notes were read. If a TTL is above the noted one, as of
         another signer's DS set, that TTL is noted first."""
 
-        def lines(seen):
+        def lines(seen: Seen) -> Iterator[str]:
             for kind, ttl in ttls.items() if seen.lines == self.lines else ():
                 is_higher = kind in seen.calls and ttl > seen.ttls[kind][-1]
                 if is_higher:
@@ -116,8 +136,8 @@ class Notes:
 
         self._append(lines, now)
 
-    def _append(self, lines, now):
-        if self.path.is_file():
+    def _append(self, lines: Callable[[Seen], Iterator[str]], now: float) -> None:
+        if self.path is not None and self.path.is_file():
             with file.locked(self.path) as notes:
                 for line in list(lines(Seen(_checked(notes), now))):
                     notes.append(line)
@@ -128,14 +148,17 @@ class Seen:
     present one last; the call whose sets are published; whether they are everywhere; and how long
     that took the last time."""
 
-    def __init__(self, lines: list[str], moment: float) -> None:
-        self.lines, self.ttls, since = list(lines), {}, {}
-        self.calls, self.delays, self.is_everywhere = {}, {}, {}
+    def __init__(self, lines: Sequence[str], moment: float) -> None:
+        self.lines, since = list(lines), {}
+        self.ttls: Dict[str, List[int]] = {}
+        self.calls: Dict[str, int] = {}
+        self.delays: Dict[str, int] = {}
+        self.is_everywhere: Dict[str, bool] = {}
         for word, *rest in map(str.split, lines):
             if word == "before":
                 self.ttls = {kind: [int(ttl)] for kind, ttl in zip(KINDS, rest)}
                 continue
-            kind, *numbers, time = rest[0], *map(int, rest[1:])
+            kind, (*numbers, time) = rest[0], map(int, rest[1:])
             held, self.is_everywhere[kind] = self.ttls[kind], word == "everywhere"
             if word == "published":
                 since[kind], self.calls[kind] = time, numbers[0]
@@ -145,7 +168,7 @@ class Seen:
                 held[:-1] = [ttl for ttl in held[:-1] if time + ttl > moment]
 
 
-def to_report(due: int, kinds: list[str], roll: str, ttls: dict[str, int]) -> int:
+def to_report(due: int, kinds: Sequence[str], roll: str, ttls: Mapping[str, int]) -> int:
     """The TTL to report for sets of these kinds, for which notes give `due`. CDS and CDNSKEY are no
     kind of the notes: they have the zone's TTL. If an old algorithm may leave, a validator can
     check a DNSKEY set by the old DS set once more, so both TTLs are added."""
@@ -154,23 +177,30 @@ def to_report(due: int, kinds: list[str], roll: str, ttls: dict[str, int]) -> in
     return max(due + (ttls["dnskey"] if roll == "algorithm-roll" else 0), ttls["zone"])
 
 
-def _moment(line):
+def path_of(script: file.Place) -> Path:
+    """The notes of a script stand beside it."""
+    if Path(script).suffix != ".script":
+        raise Misnamed(f"{script}: the name of a script has to end in .script")
+    return Path(script).with_suffix(".notes")
+
+
+def _moment(line: str) -> int:
     return int(line.rpartition(" ")[2])
 
 
-def _call(published):
+def _call(published: str) -> int:
     """The call whose sets are published."""
     return int(published.split(" ")[2])
 
 
-def _is_then(line, calls, moment):
+def _is_then(line: str, calls: int, moment: int) -> bool:
     """Whether a line can have been noted after so many calls, until this moment."""
     is_later = line.startswith("published") and _call(line) > calls
     return _moment(line) <= moment and not is_later
 
 
-def _checked(notes):
+def _checked(notes: file.Lines) -> list[str]:
     for number, line in enumerate(notes.lines, start=1):
         if not FORM.fullmatch(line) or (number == 1) != line.startswith("before"):
-            raise file.Damaged(notes.path, number, "it has not the form of a line of notes")
+            raise Damaged(notes.path, number, "it has not the form of a line of notes")
     return notes.lines

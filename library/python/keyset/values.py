@@ -2,11 +2,29 @@
 
 from __future__ import annotations
 
-from dataclasses import dataclass, field
+from dataclasses import dataclass
 from enum import Enum
+from typing import Iterable, List, Optional, Tuple, Union, cast
 
-EARLY = "wait for duration "
-OUT_OF_MEMORY = "out of memory"
+from .errors import EARLY, OUT_OF_MEMORY, OutOfMemory, Refused, Wait
+from .members import (
+    CallWord,
+    KeyKind,
+    KeyMembers,
+    Phase,
+    ReportWord,
+    RoleMembers,
+    RoleName,
+    RollMembers,
+    SetKind,
+    Stamps,
+    State,
+    WaitsFor,
+)
+
+REFUSED, NOT_YET = "refused: ", "not yet: "
+# References of keys. A text isn't a list of them.
+References = Union[List[str], Tuple[str, ...]]
 
 
 class RollType(Enum):
@@ -36,65 +54,30 @@ class Action(Enum):
     WAIT_RRSIG_PROPAGATED = "WaitRrsigPropagated"
 
 
-class Refusal(Enum):
-    """Why a call is refused, as `domain` names it."""
+class Accepted(List[Action]):
+    """The actions that an accepted call asks for. `number` is that of the call: of the line after
+    the zone's it is 1. By it notes name the sets that are due after the call."""
 
-    KEY_EXISTS = "key already exists"
-    KEY_NOT_FOUND = "key not found"
-    KEY_NOT_OLD = "key is still in use, not old"
-    DUPLICATE_KEY_TAG = "Key tag already present"
-    WRONG_KEY_TYPE = "key has the wrong type"
-    WRONG_KEY_STATE = "key is in the wrong state"
-    NO_SUITABLE_KEY_PRESENT = "no suitable key present after key roll"
-    WRONG_STATE_FOR_ROLL_OPERATION = "wrong roll state for operation"
-    CONFLICTING_ROLL_IN_PROGRESS = "conflicting roll is in progress"
-    ALGORITHM_SETS_MISMATCH = "algorithm set mismatch for non-algorithm key roll"
+    number: int
 
+    def __init__(self, actions: Iterable[Action], number: int) -> None:
+        super().__init__(actions)
+        self.number = number
 
-class Refused(Exception):
-    """The call was refused, and changed nothing. `kind` says why; a wait that is too early has
-    none."""
-
-    kind: Refusal | None
-
-    def __init__(self, text: str) -> None:
-        super().__init__(text)
-        self.kind = None if text.startswith(EARLY) else Refusal(text)
+    @classmethod
+    def of(cls, reply: str, number: int) -> Accepted:
+        """Reads a reply that begins with `ok`."""
+        return cls(map(Action, reply.split(" ")[1:]), number)
 
 
-class Wait(Refused):
-    """The wait isn't over: ask again after this many seconds."""
-
-    def __init__(self, text: str) -> None:
-        super().__init__(text)
-        self.seconds = int(text.removeprefix(EARLY).removesuffix("s"))
-
-
-class Malformed(ValueError):
-    """This line of a script, counted from 1, doesn't have the form of a line."""
-
-    def __init__(self, line: int, reason: str = "") -> None:
-        super().__init__(f"line {line}: malformed" + (f": {reason}" if reason else ""))
-        self.line, self.reason = line, reason
-
-
-class Unavailable(Exception):
-    """Neither the library nor the programs are there."""
-
-
-def refusal_of(reply: str) -> Refused | MemoryError | None:
+def refusal_of(reply: str) -> Optional[Union[Refused, OutOfMemory]]:
     """The error that a refused reply is, or None for one that was accepted."""
-    if not reply.startswith("refused: "):
+    if not reply.startswith(REFUSED):
         return None
-    text = reply[len("refused: ") :]
+    text = reply[len(REFUSED) :]
     if text == OUT_OF_MEMORY:
-        return MemoryError(text)
+        return OutOfMemory(text)
     return Wait(text) if text.startswith(EARLY) else Refused(text)
-
-
-def actions_of(reply: str) -> list[Action]:
-    """The actions after an `ok`."""
-    return [Action(name) for name in reply.split(" ")[1:]]
 
 
 @dataclass(frozen=True)
@@ -123,17 +106,18 @@ class Due:
     due yet, it has no TTL, but the first kind whose older sets servers may still give: `ds`,
     `dnskey` or `zone`."""
 
-    call: str
+    call: ReportWord
     roll: RollType
     ttl: int | None
-    waits_for: str | None = None
+    waits_for: SetKind | None = None
 
     @classmethod
     def of(cls, line: str) -> Due:
         """Reads a line of what is due."""
-        call, roll, *rest = line.removeprefix("not yet: ").split(" ")
-        if line.startswith("not yet: "):
-            return cls(call, RollType(roll), None, rest[-1])
+        word, roll, *rest = line.removeprefix(NOT_YET).split(" ")
+        call = cast(ReportWord, word)
+        if line.startswith(NOT_YET):
+            return cls(call, RollType(roll), None, cast(SetKind, rest[-1]))
         return cls(call, RollType(roll), int(rest[0]))
 
 
@@ -155,13 +139,12 @@ class Broken:
 class Role:
     """A role of a key, with the word for its flags."""
 
-    role: str
-    state: str
+    role: RoleName
+    state: State
     old: bool
     signer: bool
     present: bool
     at_parent: bool
-    available: bool | None = None
 
 
 @dataclass(frozen=True)
@@ -169,17 +152,46 @@ class Key:
     """A key of the set. Stamps are seconds since 1970, or None."""
 
     reference: str
-    kind: str
+    kind: KeyKind
     roles: list[Role]
     algorithm: int
     tag: int
     private: str | None
     decoupled: bool
-    stamps: dict[str, int | None] = field(default_factory=dict)
-    may_come_in: bool = False
-    may_be_deleted: bool = False
-    old_in: list[RollType] = field(default_factory=list)
-    new_in: list[RollType] = field(default_factory=list)
+    stamps: Stamps
+    may_come_in: bool
+    may_be_deleted: bool
+    old_in: list[RollType]
+    new_in: list[RollType]
+
+    @classmethod
+    def of(cls, told: KeyMembers) -> Key:
+        """Reads a key of the status."""
+        return cls(
+            told["reference"],
+            told["kind"],
+            [Role(**role) for role in told["roles"]],
+            told["algorithm"],
+            told["tag"],
+            told["private"],
+            told["decoupled"],
+            stamps_of(told),
+            told["may_come_in"],
+            told["may_be_deleted"],
+            list(map(RollType, told["old_in"])),
+            list(map(RollType, told["new_in"])),
+        )
+
+
+def stamps_of(told: KeyMembers) -> Stamps:
+    return {
+        "creation": told["creation"],
+        "published": told["published"],
+        "visible": told["visible"],
+        "ds_visible": told["ds_visible"],
+        "rrsig_visible": told["rrsig_visible"],
+        "withdrawn": told["withdrawn"],
+    }
 
 
 @dataclass(frozen=True)
@@ -188,9 +200,22 @@ class Roll:
     which a wait is accepted, and for whom it waits: `you`, `parent` or `caches`."""
 
     roll: RollType
-    phase: str
+    phase: Phase
     ttl: int | None
-    next: str
+    next: CallWord
     not_before: int | None
-    waits_for: str
+    waits_for: WaitsFor
     due: list[Action]
+
+    @classmethod
+    def of(cls, told: RollMembers) -> Roll:
+        """Reads a roll of the status."""
+        return cls(
+            RollType(told["roll"]),
+            told["phase"],
+            told["ttl"],
+            told["next"],
+            told["not_before"],
+            told["waits_for"],
+            list(map(Action, told["due"])),
+        )

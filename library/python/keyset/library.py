@@ -1,0 +1,275 @@
+"""The shared library, and sessions over it.
+
+It is the one that KEYSET_LIBRARY names. Else it is the first of: the one that `make lib` has made;
+one beside this package, or in the `lib` of the install that this package is part of; the one that
+the system's loader finds."""
+
+from __future__ import annotations
+
+import ctypes
+import ctypes.util
+import functools
+import json
+import os
+import weakref
+from pathlib import Path
+from typing import Callable, Iterator, List, Optional, cast
+
+from .errors import Malformed, Unavailable
+from .lines import why_malformed
+from .members import Status
+from .session import (
+    ANSWERED,
+    CLOSED,
+    MALFORMED,
+    NO_NOTES,
+    NOT_TAKEN,
+    REFUSED,
+    SHORT,
+    Guard,
+    Session,
+    fault,
+)
+from .values import refusal_of
+
+# The version of the library's interface: KEYSET_VERSION of its header.
+INTERFACE = 2
+NAME = f"libkeyset.so.{INTERFACE}"
+PACKAGE = Path(__file__).resolve().parent
+# The top of the repository, or the folder in which `make install` has put this package.
+TREE = PACKAGE.parents[2]
+PLACES = (
+    TREE / "library" / "out" / "lib" / "libkeyset.so",
+    PACKAGE / NAME,
+    TREE / "lib" / NAME,
+)
+
+
+class _Handle(ctypes.Structure):
+    """What C keeps of a session."""
+
+    _fields_ = [("place", ctypes.c_void_p), ("is_open", ctypes.c_bool)]
+
+
+class _Answered(ctypes.Structure):
+    _fields_ = [
+        ("status", ctypes.c_uint32),
+        ("length", ctypes.c_size_t),
+        ("line", ctypes.c_size_t),
+    ]
+
+
+@functools.lru_cache(maxsize=None)
+def library() -> Optional[ctypes.CDLL]:
+    """The shared library. None: there is none, or KEYSET_LIBRARY is empty, which asks for the
+    programs. `Unavailable`: it can't be used."""
+    named = os.environ.get("KEYSET_LIBRARY")
+    if named is not None:
+        return _checked(named, _loaded(named)) if named else None
+    for path in filter(Path.is_file, PLACES):
+        return _checked(str(path), _loaded(str(path)))
+    for name in _of_loader():
+        try:
+            return _checked(name, ctypes.CDLL(name))
+        except OSError:
+            continue
+    return None
+
+
+def needed() -> ctypes.CDLL:
+    """The shared library. `Unavailable`: it isn't there, or can't be used."""
+    found = library()
+    if found is None:
+        raise Unavailable("the library isn't there: 'make lib' makes it, KEYSET_LIBRARY names it")
+    return found
+
+
+def _of_loader() -> Iterator[str]:
+    """The names by which the system's loader may know it."""
+    yield NAME
+    found = ctypes.util.find_library("keyset")
+    if found is not None:
+        yield found
+
+
+def _loaded(path: str) -> ctypes.CDLL:
+    try:
+        return ctypes.CDLL(path)
+    except OSError as error:
+        raise Unavailable(f"the library can't be loaded: {error}") from None
+
+
+def _checked(path: str, made: ctypes.CDLL) -> ctypes.CDLL:
+    """The library with the types of its functions, if it is of this version."""
+    try:
+        made.keyset_version.restype = ctypes.c_uint32
+        version = made.keyset_version()
+        if version == INTERFACE:
+            _declare(made)
+            return made
+    except AttributeError as error:
+        raise Unavailable(f"{path}: it isn't this library, or is an older one: {error}") from None
+    raise Unavailable(f"{path}: the library is of version {version}, and not of {INTERFACE}")
+
+
+def _declare(made: ctypes.CDLL) -> None:
+    text, handle = (ctypes.c_char_p, ctypes.c_size_t), ctypes.POINTER(_Handle)
+    answers = {
+        "answer": [*text, *text],
+        "call": [handle, *text, *text],
+        "told": [handle, *text],
+        "closing": [handle, *text],
+        "status": [handle, *text],
+        "due": [handle, ctypes.c_uint64, *text],
+    }
+    statuses = {"open": [*text, handle], "note": [handle, *text], "copy": [handle, handle]}
+    for names, restype in ((answers, _Answered), (statuses, ctypes.c_uint32)):
+        for name, takes in names.items():
+            function = getattr(made, f"keyset_{name}")
+            function.restype, function.argtypes = restype, takes
+    made.keyset_close.restype, made.keyset_close.argtypes = None, [handle]
+
+
+# Asks the library for a text: with a buffer and its length.
+Ask = Callable[["ctypes.Array[ctypes.c_char]", int], _Answered]
+
+
+class LibrarySession(Session):
+    """A session of the shared library."""
+
+    def __init__(self, line: str) -> None:
+        self._begin(0, 0)
+        data = as_bytes(line)
+        status = self._library.keyset_open(data, len(data), ctypes.byref(self._handle))
+        if status == MALFORMED:
+            raise Malformed(1, why_malformed(line, is_first=True))
+        if status:
+            raise fault(status)
+
+    def _begin(self, calls: int, notes: int) -> None:
+        """Begins with a closed handle, and the numbers of calls and of notes. If nobody closes the
+        session, it is closed when it is no longer in use."""
+        self._library, self._handle, self._guard = needed(), _Handle(), Guard()
+        self._calls, self._notes = calls, notes
+        close = self._library.keyset_close
+        self._close = weakref.finalize(self, _close, close, self._handle, self._guard)
+        self._close.atexit = False
+
+    @property
+    def calls(self) -> int:
+        return self._calls
+
+    def call(self, line: str) -> str:
+        data = as_bytes(line)
+        with self._guard.held():
+            ask = functools.partial(self._library.keyset_call, self._by(), data, len(data))
+            text = self._answer(ask, self._again("told"), line)
+            self._calls += 1
+        return text.rstrip("\n")
+
+    def accept(self, line: str) -> str:
+        with self._guard.held():
+            tried = self.copy()
+            try:
+                reply = tried.call(line)
+                if refusal_of(reply) is None:
+                    self._take_over(tried)
+            finally:
+                tried.close()
+        return reply
+
+    def _take_over(self, tried: LibrarySession) -> None:
+        """Exchanges the sessions of C, which may be moved."""
+        one, other = self._handle, tried._handle
+        one.place, other.place = other.place, one.place
+        one.is_open, other.is_open = other.is_open, one.is_open
+        self._calls = tried._calls
+
+    def closing(self) -> List[str]:
+        return self._asked("closing").splitlines()
+
+    def status(self) -> Status:
+        return cast(Status, json.loads(self._asked("status")))
+
+    def note(self, line: str) -> None:
+        data = as_bytes(line)
+        with self._guard.held():
+            status = self._library.keyset_note(self._by(), data, len(data))
+            if status in NOT_TAKEN:
+                raise Malformed(self._notes + 1, NOT_TAKEN[status])
+            if status:
+                raise fault(status)
+            self._notes += 1
+
+    def due(self, moment: int) -> str:
+        with self._guard.held():
+            if not self._notes and self._handle.is_open:
+                raise Malformed(1, NO_NOTES)
+            return self._asked("due", moment)
+
+    def copy(self) -> LibrarySession:
+        made = LibrarySession.__new__(LibrarySession)
+        with self._guard.held():
+            made._begin(self._calls, self._notes)
+            status = self._library.keyset_copy(self._by(), made._by())
+        if status:
+            raise fault(status)
+        return made
+
+    def close(self) -> None:
+        if self._guard.is_own:
+            with self._guard.held():
+                self._close()
+
+    def _by(self) -> ctypes._Pointer[_Handle]:
+        return cast("ctypes._Pointer[_Handle]", ctypes.byref(self._handle))
+
+    def _asked(self, name: str, *more: int) -> str:
+        """The answer to a question."""
+        with self._guard.held():
+            ask = self._again(name, *more)
+            return self._answer(ask, ask)
+
+    def _again(self, name: str, *more: int) -> Ask:
+        return functools.partial(getattr(self._library, f"keyset_{name}"), self._by(), *more)
+
+    def _answer(self, ask: Ask, again: Ask, line: str = "") -> str:
+        """The answer. If the buffer is too short for it, asks again with one that isn't."""
+        room = 4096
+        while True:
+            out = ctypes.create_string_buffer(room)
+            told = ask(out, room)
+            if told.status == ANSWERED:
+                return out.raw[: told.length].decode()
+            if told.status == MALFORMED:
+                raise Malformed(self._calls + 2, why_malformed(line))
+            if told.status != SHORT:
+                raise fault(told.status)
+            room, ask = told.length, again
+
+
+def _close(close: Callable[[object], None], handle: _Handle, guard: Guard) -> None:
+    """Closes a session of this process. Its memory in a child goes with that."""
+    if guard.is_own:
+        close(ctypes.byref(handle))
+
+
+def as_bytes(line: str) -> bytes:
+    """A line for the library, which takes only ASCII."""
+    return line.encode("utf-8", "surrogatepass")
+
+
+def answer(script: bytes) -> str:
+    """The library's answers to a whole script, in bytes, in the form in which the program `keyset`
+    writes them."""
+    ask, room = needed().keyset_answer, 4096
+    while True:
+        out = ctypes.create_string_buffer(room)
+        told = ask(script, len(script), out, room)
+        if told.status == ANSWERED:
+            return out.raw[: told.length].decode()
+        if told.status == MALFORMED:
+            raise Malformed(told.line)
+        if told.status != SHORT:
+            raise fault(told.status)
+        room = told.length

@@ -1,0 +1,89 @@
+"""The status of a zone, as its JSON is read: docs/STATUS.md says what its members mean."""
+
+from __future__ import annotations
+
+from typing import List, Literal, Optional, TypedDict
+
+SetKind = Literal["ds", "dnskey", "zone"]
+CallWord = Literal["report1", "wait1", "report2", "wait2", "done"]
+ReportWord = Literal["report1", "report2"]
+KeyKind = Literal["ksk", "zsk", "csk", "public"]
+RoleName = Literal["ksk", "zsk", "public"]
+State = Literal["future", "incoming", "active", "leaving", "retired", "stale", "signer"]
+Phase = Literal["propagation1", "cache-expire1", "propagation2", "cache-expire2", "done"]
+WaitsFor = Literal["you", "parent", "caches"]
+
+
+class Stamps(TypedDict):
+    """The stamps of a key: seconds since 1970, or None."""
+
+    creation: Optional[int]
+    published: Optional[int]
+    visible: Optional[int]
+    ds_visible: Optional[int]
+    rrsig_visible: Optional[int]
+    withdrawn: Optional[int]
+
+
+class RoleMembers(TypedDict):
+    role: RoleName
+    state: State
+    old: bool
+    signer: bool
+    present: bool
+    at_parent: bool
+
+
+class KeyMembers(Stamps):
+    reference: str
+    kind: KeyKind
+    roles: List[RoleMembers]
+    algorithm: int
+    tag: int
+    private: Optional[str]
+    decoupled: bool
+    may_come_in: bool
+    may_be_deleted: bool
+    old_in: List[str]
+    new_in: List[str]
+
+
+class RollMembers(TypedDict):
+    roll: str
+    phase: Phase
+    ttl: Optional[int]
+    next: CallWord
+    not_before: Optional[int]
+    waits_for: WaitsFor
+    due: List[str]
+
+
+class EndedMembers(TypedDict):
+    roll: str
+    asked: List[str]
+
+
+class ChainMembers(TypedDict):
+    safe: bool
+    at: Optional[int]
+    ds: Optional[int]
+    dnskey: Optional[int]
+    zone: Optional[int]
+
+
+class PublishedMembers(TypedDict):
+    ds: List[str]
+    dnskey: List[str]
+    signers: List[str]
+    zone: List[str]
+
+
+class Status(TypedDict):
+    """The whole of it."""
+
+    zone: str
+    chain: ChainMembers
+    published: PublishedMembers
+    keys: List[KeyMembers]
+    rolls: List[RollMembers]
+    ended: List[EndedMembers]

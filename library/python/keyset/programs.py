@@ -1,0 +1,135 @@
+"""The programs, and sessions over them: each call runs all lines so far again.
+
+They are those in the folder KEYSET_PROGRAMS, or those that `make build notes` has made, or those
+that are installed, or those on the path."""
+
+from __future__ import annotations
+
+import json
+import os
+import re
+import shutil
+import subprocess
+from pathlib import Path
+from typing import List, Optional, Sequence, cast
+
+from .errors import Closed, Malformed, OutOfMemory, Unavailable
+from .library import TREE
+from .lines import why_malformed
+from .members import Status
+from .session import MALFORMED, NO_NOTES, NOT_TAKEN, OUT_OF_MEMORY, Guard, Session
+from .values import refusal_of
+
+
+class ProgramSession(Session):
+    """A session of the programs."""
+
+    def __init__(self, line: str, *more: str) -> None:
+        self._guard = Guard()
+        self._lines: Optional[List[str]] = [line, *more]
+        self._notes: List[str] = []
+        self._closing = answers(self._lines)[-2:]
+
+    @property
+    def calls(self) -> int:
+        return len(self._lines or [""]) - 1
+
+    def call(self, line: str) -> str:
+        return self._tried(line, keeps_refused=True)
+
+    def accept(self, line: str) -> str:
+        return self._tried(line, keeps_refused=False)
+
+    def _tried(self, line: str, keeps_refused: bool) -> str:
+        with self._guard.held():
+            lines = self._kept()
+            if "\n" in line:
+                raise Malformed(len(lines) + 1, why_malformed(line))
+            *_, reply, sets, verdict = answers([*lines, line])
+            if keeps_refused or refusal_of(reply) is None:
+                lines.append(line)
+                self._closing = [sets, verdict]
+            return reply
+
+    def closing(self) -> List[str]:
+        with self._guard.held():
+            self._kept()
+            return list(self._closing)
+
+    def status(self) -> Status:
+        with self._guard.held():
+            return status(self._kept())
+
+    def note(self, line: str) -> None:
+        with self._guard.held():
+            lines = self._kept()
+            if "\n" in line or not line or line.startswith("due "):
+                raise Malformed(len(self._notes) + 1, NOT_TAKEN[MALFORMED])
+            run("keyset_notes", [*lines, "", *self._notes, line, "due 0"])
+            self._notes.append(line)
+
+    def due(self, moment: int) -> str:
+        with self._guard.held():
+            lines = self._kept()
+            if not self._notes:
+                raise Malformed(1, NO_NOTES)
+            return due(lines, self._notes, moment)
+
+    def copy(self) -> ProgramSession:
+        with self._guard.held():
+            made = ProgramSession.__new__(ProgramSession)
+            made._guard, made._lines = Guard(), list(self._kept())
+            made._notes, made._closing = list(self._notes), list(self._closing)
+            return made
+
+    def close(self) -> None:
+        self._lines = None
+
+    def _kept(self) -> List[str]:
+        if self._lines is None:
+            raise Closed
+        return self._lines
+
+
+def answers(lines: Sequence[str]) -> List[str]:
+    """What `keyset` answers to a script."""
+    return run("keyset", lines).splitlines()
+
+
+def status(lines: Sequence[str]) -> Status:
+    """What `keyset_status` answers to a script."""
+    return cast(Status, json.loads(run("keyset_status", lines)))
+
+
+def due(lines: Sequence[str], notes: Sequence[str], moment: int) -> str:
+    """What `keyset_notes` answers to a question."""
+    return run("keyset_notes", [*lines, "", *notes, f"due {moment}"])
+
+
+def find(name: str) -> str:
+    """The path of a program."""
+    folder = os.environ.get("KEYSET_PROGRAMS")
+    places = [Path(folder)] if folder else [TREE / "crates" / name / "out", TREE / "bin"]
+    made = (str(place / name) for place in places)
+    found = next(filter(os.path.isfile, made), None) or shutil.which(name)
+    if found is None:
+        raise Unavailable(f"the program {name} isn't there: 'make build notes' makes it")
+    return found
+
+
+def run(name: str, lines: Sequence[str]) -> str:
+    """What a program writes for these lines."""
+    text = "".join(f"{line}\n" for line in lines).encode("utf-8", "surrogatepass")
+    done = subprocess.run([find(name)], input=text, capture_output=True)
+    said = done.stderr.decode(errors="replace")
+    if found := re.fullmatch(r"(?:script: )?line (\d+): malformed\n", said):
+        number = int(found[1])
+        line = lines[number - 1] if number <= len(lines) else ""
+        raise Malformed(number, why_malformed(line, is_first=number == 1))
+    if found := re.fullmatch(r"notes: line (\d+): (.*)\n", said):
+        raise Malformed(int(found[1]), found[2])
+    if done.returncode == OUT_OF_MEMORY:
+        raise OutOfMemory("out of memory")
+    if done.returncode:
+        raise Unavailable(f"{name}: status {done.returncode}: {said.strip()}")
+    return done.stdout.decode()
