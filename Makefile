@@ -25,7 +25,7 @@ prove = mkdir -p crates/$(1)/out && cd crates/$(1) && \
 	{ rt $(2) >out/build.log 2>&1 || { cat out/build.log >&2; exit 1; }; }
 
 .PHONY: run build notes lib install uninstall check fmt clean test wrong live docs memory test-lib \
-	valgrind asan fuzz help python
+	valgrind asan fuzz types help python
 
 # The proved program answers if it is newer than its sources, else one that is built at once.
 run: ## answers SCRIPT: make run SCRIPT=FILE
@@ -96,6 +96,10 @@ valgrind: python has-cc has-valgrind lib ## tests the library in C under valgrin
 # The library and a second reader have to agree on each text, and the tables on some.
 fuzz: python has-clang lib ## lets libFuzzer make RUNS texts: it needs clang with its runtime
 	@tests/fuzz.py library/out $(RUNS)
+
+# What mypy has to find stands in the test.
+types: python has-mypy ## checks the types of the Python package by mypy
+	@tests/mistakes.py
 
 help: ## prints these lines
 	@sed -n 's/^\([a-z-]*\):.* ## /\1\t/p' Makefile | \

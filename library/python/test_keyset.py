@@ -1,12 +1,15 @@
 """What a caller relies on, over the library that `make lib` has made, or over the programs."""
 
+import inspect
 import os
 import tempfile
 import threading
 import unittest
 from pathlib import Path
 
+import keyset
 from keyset import (
+    Accepted,
     Action,
     Damaged,
     Due,
@@ -17,8 +20,10 @@ from keyset import (
     Refusal,
     Refused,
     RollType,
+    Session,
     Wait,
     WrongArgument,
+    open_session,
 )
 from keyset.notes import Seen
 
@@ -62,6 +67,65 @@ class Calls(unittest.TestCase):
         self.assertEqual(twice.exception.kind, Refusal.KEY_EXISTS)
         self.assertIn(Action.CREATE_CDS_RRSET, keys.would(FIRST[4]))
         self.assertEqual(keys.script, before)
+
+    def test_a_wrong_argument_is_named(self):
+        keys, ksk = after(FIRST[:2]), RollType.KSK_ROLL
+        one = {"algorithm": 13, "key_tag": 7}
+        asked = {
+            "pubref": [("add_key_ksk", name) for name in ("K 1", "K,1", "", "-", "\ud800", 7)],
+            "privref": [("add_key_zsk", "Z2", name) for name in ("", "-", "a b")],
+            "old": [("start_roll", ksk, old) for old in ("K1", [""], ["-"], ["K1,Z1"], 5, None)],
+            "new": [("start_roll", ksk, (), new) for new in ("KZ", [1], {"K1"})],
+            "roll": [("roll_done", "ksk-roll")],
+            "ttl": [("propagation1_complete", ksk, ttl) for ttl in (-1, 2**32, 1.5, True)],
+            "now": [("cache_expired1", ksk, now) for now in (-1, 2**64, float("nan"))],
+            "value": [("set_signer", "K1", value) for value in (1, "yes")],
+            "moment": [("set_visible", "K1", moment) for moment in (-1, "a")],
+        }
+        asked["now"].append(("set_present", "K1", True, float("inf")))
+        for name, calls in asked.items():
+            for word, *given in calls:
+                with self.assertRaises(WrongArgument, msg=given) as wrong:
+                    getattr(keys, word)(*given, **(one if word.startswith("add") else {}))
+                self.assertEqual(wrong.exception.name, name)
+        for name, value in {"algorithm": 256, "key_tag": 65536, "creation": -1}.items():
+            with self.assertRaises(WrongArgument) as wrong:
+                keys.add_key_csk("C1", **{**one, name: value})
+            self.assertEqual(wrong.exception.name, name)
+        self.assertEqual(len(keys.lines), 3)
+
+    def test_each_public_call_is_typed(self):
+        for made in (KeySet, Session, Notes, Accepted):
+            for name, call in inspect.getmembers(made, inspect.isfunction):
+                if call.__module__.startswith("keyset"):
+                    untyped = [
+                        it for it, of in inspect.signature(call).parameters.items()
+                        if it != "self" and of.annotation is of.empty
+                    ]
+                    self.assertEqual((made, name, untyped), (made, name, []))
+                    self.assertIn("return", call.__annotations__, (made, name))
+        self.assertTrue((Path(keyset.__file__).parent / "py.typed").is_file())
+
+    def test_errors_have_one_base(self):
+        errors = [it for it in vars(keyset).values() if inspect.isclass(it)]
+        errors = [it for it in errors if issubclass(it, Exception) and it is not keyset.Slow]
+        self.assertEqual([it for it in errors if not issubclass(it, keyset.Error)], [])
+        self.assertGreater(len(errors), 10)
+        self.assertTrue(issubclass(keyset.OutOfMemory, MemoryError))
+
+    def test_a_refused_line_counts_only_if_it_is_kept(self):
+        session = open_session("zone example.com")
+        told = [session.accept("delete K9"), session.accept(FIRST[0])]
+        self.assertEqual((told, session.calls), (["refused: key not found", "ok"], 1))
+        self.assertEqual((session.call("delete K9"), session.calls), ("refused: key not found", 2))
+        with self.assertRaises(Malformed) as malformed:
+            session.accept("delete")
+        self.assertEqual((malformed.exception.line, session.calls), (4, 2))
+        keys = after(FIRST[:2])
+        with self.assertRaises(Refused):
+            keys.delete_key("K9")
+        asked = keys.start_roll(ROLL, new=["K1", "Z1"], now=0)
+        self.assertEqual((asked.number, asked[0]), (3, Action.UPDATE_DNSKEY_RRSET))
 
     def test_a_broken_chain_is_told(self):
         keys = after([*FIRST, "report2 algorithm-roll 60 3710", "wait2 algorithm-roll 3770"])

@@ -7,7 +7,6 @@ the system's loader finds."""
 from __future__ import annotations
 
 import ctypes
-import ctypes.util
 import functools
 import json
 import os
@@ -87,6 +86,9 @@ def needed() -> ctypes.CDLL:
 def _of_loader() -> Iterator[str]:
     """The names by which the system's loader may know it."""
     yield NAME
+    # (It starts compilers, so it comes last, and only if it is needed.)
+    import ctypes.util
+
     found = ctypes.util.find_library("keyset")
     if found is not None:
         yield found

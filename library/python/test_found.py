@@ -1,0 +1,96 @@
+"""Which library the package takes, from wherever it stands. It is never in silence replaced by the
+programs. KEYSET_LIBRARY names the library that is tried here."""
+
+import os
+import shutil
+import subprocess
+import sys
+import tempfile
+import unittest
+from pathlib import Path
+
+HERE = Path(__file__).resolve().parent
+LIBRARY = os.environ.get("KEYSET_LIBRARY", "")
+PROGRAMS = os.environ.get("KEYSET_PROGRAMS") or HERE.parents[1] / "crates" / "keyset" / "out"
+NAME = "libkeyset.so.2"
+ASK = "import keyset; print(type(keyset.open_session('zone example.com')).__name__)"
+# As on a system whose loader knows no such library.
+NONE = "import ctypes; from unittest import mock; mock.patch('ctypes.CDLL', side_effect=OSError)"
+UNKNOWN = f"{NONE}.start(); "
+BY_LIBRARY, BY_PROGRAMS = ("LibrarySession\n", ""), ("ProgramSession\n", "")
+
+
+@unittest.skipUnless(LIBRARY, "KEYSET_LIBRARY names none")
+class Found(unittest.TestCase):
+    def setUp(self):
+        folder = tempfile.TemporaryDirectory()
+        self.addCleanup(folder.cleanup)
+        self.top = Path(folder.name)
+        self.package = self.top / "share" / "vaqsider" / "keyset"
+        shutil.copytree(HERE / "keyset", self.package)
+
+    def asked(self, text=ASK, **environment):
+        """What Python writes, and the last line that it says on standard error."""
+        found = {**os.environ, "PATH": f"{PROGRAMS}:{os.environ['PATH']}"}
+        found = {name: of for name, of in found.items() if not name.startswith("KEYSET_")}
+        found.update(PYTHONPATH=str(self.package.parent), **environment)
+        words = [sys.executable, "-B", "-c", text]
+        done = subprocess.run(words, env=found, cwd=self.top, capture_output=True, text=True)
+        return done.stdout, "".join(done.stderr.splitlines()[-1:])
+
+    def expect_unavailable(self, says, *words, **environment):
+        told, last = self.asked(*words, **environment)
+        self.assertEqual(told, "")
+        self.assertRegex(last, rf"^keyset\.errors\.Unavailable: .*{says}")
+
+    def place(self, *folders):
+        place = self.top.joinpath(*folders)
+        place.mkdir(parents=True, exist_ok=True)
+        shutil.copy(LIBRARY, place / NAME)
+        return str(place)
+
+    def test_the_one_that_is_named(self):
+        self.assertEqual(self.asked(KEYSET_LIBRARY=LIBRARY), BY_LIBRARY)
+
+    def test_a_wrong_name_is_an_error(self):
+        self.expect_unavailable("/none.so", KEYSET_LIBRARY="/none.so")
+        self.expect_unavailable("can't be loaded", KEYSET_LIBRARY=__file__)
+        (self.top / "old.c").write_text("unsigned keyset_version(void) { return 1; }\n")
+        (self.top / "other.c").write_text("int other;\n")
+        for name, says in (("old", "of version 1"), ("other", "it isn't this library")):
+            made = str(self.top / f"{name}.so")
+            subprocess.run(["cc", "-shared", "-o", made, self.top / f"{name}.c"], check=True)
+            self.expect_unavailable(says, KEYSET_LIBRARY=made)
+
+    def test_one_of_another_version_is_not_passed_over(self):
+        (self.top / "old.c").write_text("unsigned keyset_version(void) { return 1; }\n")
+        place = self.package / NAME
+        subprocess.run(["cc", "-shared", "-o", place, self.top / "old.c"], check=True)
+        self.expect_unavailable("of version 1")
+
+    def test_the_one_that_is_installed_with_the_package(self):
+        self.place("lib")
+        self.assertEqual(self.asked(), BY_LIBRARY)
+
+    def test_the_one_beside_the_package(self):
+        self.place("share", "vaqsider", "keyset")
+        self.assertEqual(self.asked(), BY_LIBRARY)
+
+    def test_the_one_that_the_loader_finds(self):
+        self.assertEqual(self.asked(LD_LIBRARY_PATH=self.place("other")), BY_LIBRARY)
+
+    def test_programs_answer_and_a_warning_says_so(self):
+        told, last = self.asked(f"{UNKNOWN}import warnings; warnings.simplefilter('error'); {ASK}")
+        self.assertEqual(told, "")
+        self.assertRegex(last, "^keyset.engine.Slow: libkeyset isn't there")
+        self.assertEqual(self.asked(UNKNOWN + ASK)[0], BY_PROGRAMS[0])
+        for asks in ({"KEYSET_LIBRARY": ""}, {"KEYSET_PROGRAMS": str(PROGRAMS)}):
+            self.assertEqual(self.asked(UNKNOWN + ASK, **asks), BY_PROGRAMS)
+
+    def test_one_call_needs_the_library(self):
+        text = f"{UNKNOWN}import keyset; keyset.answer(b'zone example.com')"
+        self.expect_unavailable("the library isn't there", text)
+
+
+if __name__ == "__main__":
+    unittest.main()

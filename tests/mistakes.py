@@ -1,0 +1,122 @@
+#!/usr/bin/env python3
+"""Checks the types of the Python package by mypy, as a caller does who has installed it.
+
+    tests/mistakes.py
+
+The package has no fault under `--strict`, nor have its callers in library/python. In the program
+below each line with a comment has a mistake, and mypy has to name exactly these lines."""
+
+import re
+import shutil
+import subprocess
+import sys
+import tempfile
+import time
+import venv
+from pathlib import Path
+
+from tools import TOP, Wrong, run
+
+PYTHON = TOP / "library" / "python"
+CALLERS = [PYTHON / "roll.py", PYTHON / "due.py"]
+
+PROGRAM = '''\
+from keyset import Due, Error, KeySet, Locked, Role, RollType, Wait, open_session, status
+
+roll = RollType.KSK_ROLL
+with KeySet.open("example.com.script", allow_refused=True) as keys:
+    keys.add_key_ksk("K1", "K1.private", algorithm=13, key_tag=1, creation=0, available=False)
+    keys.add_key_ksk("K1", algorthm=13, key_tag=1)  # a name of an argument
+    keys.add_key_ksk("K1", algorithm=13)  # an argument is missing
+    keys.add_key_zsk("Z1", algorithm=13, key_tag="1")  # a text for a number
+    keys.add_public_key("P1", "P1.private", algorithm=13, key_tag=1)  # it has no private part
+    keys.start_roll(roll, old=["K1"], new=("K2",), now=9)
+    keys.start_roll(roll, old="K1")  # a text for a list
+    keys.start_roll(roll, new=5)  # a number for a list
+    keys.start_roll("ksk-roll")  # a text for a kind of roll
+    number: int = keys.propagation1_complete(roll, 3600).number
+    keys.propagation1_complete(roll, "3600")  # a text for a TTL
+    first = keys.start_roll(roll)[0].value
+    keys.keys()["K1"].stamps["visible"]
+    keys.keys()["K1"].stamps["vizible"]  # a stamp that isn't there
+    keys.rolls()[roll].waits_for == "caches"
+    keys.rolls()[roll].waits_for == "cache"  # nobody is called so
+    keys.status()["keys"][0]["roles"][0]["state"] == "retired"
+    keys.status()["keys"][0]["roles"][0]["state"] == "retried"  # a state that isn't there
+    keys.status()["kyes"]  # a member that isn't there
+    keys.published.ds[0].lower()
+    keys.published.cds  # a set that isn't there
+    due: "list[Due]" = keys.due(1)
+    due[0].ttl + 1  # it may have none
+    keys.verdict().at  # there may be none
+    Role("ksk", "active", False, True, True, True).available  # a member that isn't there
+session = open_session("zone example.com")
+session.call("delete K1").upper()
+session.call(b"delete K1")  # bytes for a text
+session.calls + 1
+session.told()  # a question that isn't there
+status(["zone example.com"])["chain"]["safe"]
+try:
+    pass
+except (Locked, Wait) as error:
+    caught: Error = error
+'''
+
+
+def mypy(*words, **how):
+    """What mypy writes, a line for each fault."""
+    words = ["mypy", "--strict", "--no-error-summary", "--no-pretty", *map(str, words)]
+    done = subprocess.run(words, capture_output=True, text=True, **how)
+    if done.returncode not in (0, 1):
+        raise Wrong(f"mypy ends with {done.returncode}: {done.stdout}{done.stderr}")
+    return done.stdout.splitlines()
+
+
+def installed(room):
+    """The Python of a new environment that has the package in it."""
+    place = room / "environment"
+    venv.create(place, symlinks=True)
+    python = place / "bin" / "python3"
+    words = "import sysconfig; print(sysconfig.get_path('purelib'))"
+    packages = Path(run(python, "-c", words).strip())
+    shutil.copytree(PYTHON / "keyset", packages / "keyset")
+    return python
+
+
+def test_package(cache):
+    faults = mypy("--cache-dir", cache, "keyset", *(path.name for path in CALLERS), cwd=PYTHON)
+    if faults:
+        raise Wrong("\n".join(faults))
+    return f"the package and {len(CALLERS)} callers have no fault under --strict"
+
+
+def test_mistakes(room, cache):
+    """mypy finds each mistake of a caller, and no other."""
+    (room / "program.py").write_text(PROGRAM)
+    python = installed(room)
+    faults = mypy("--cache-dir", cache, "--python-executable", python, "program.py", cwd=room)
+    places = (re.match(r"program\.py:(\d+): error", fault) for fault in faults)
+    found = {int(place[1]) for place in places if place}
+    wanted = {n for n, line in enumerate(PROGRAM.splitlines(), start=1) if "  # " in line}
+    if found != wanted:
+        differ = f"not found: {sorted(wanted - found)}, and found: {sorted(found - wanted)}"
+        raise Wrong("\n".join([differ, *faults]))
+    return f"mypy finds {len(wanted)} mistakes of a caller"
+
+
+def main():
+    began = time.monotonic()
+    with tempfile.TemporaryDirectory() as room:
+        room = Path(room)
+        try:
+            print(f"mistakes: {test_package(room / 'cache')}")
+            print(f"mistakes: {test_mistakes(room, room / 'cache')}")
+        except Wrong as wrong:
+            print(f"mistakes: {wrong}")
+            return 1
+    print(f"mistakes: {time.monotonic() - began:.0f} s")
+    return 0
+
+
+if __name__ == "__main__":
+    sys.exit(main())
