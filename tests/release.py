@@ -34,7 +34,7 @@ NAMED = {
     "library/rust/Cargo.toml": r'version = "(.*)"',
     "library/rust/Cargo.lock": r'name = "keyset"\nversion = "(.*)"',
     "library/python/keyset/__init__.py": r'__version__ = "(.*)"',
-    "command/pyproject.toml": r'version = "(.*)"',
+    "pyproject.toml": r'version = "(.*)"',
 }
 CHANGES = re.compile(r"^## \[?(?P<version>[\w.]+)", re.MULTILINE)
 # A row of the tables of SCRIPTS with words of scripts, and the version that brought them.

@@ -169,7 +169,7 @@ class Files(unittest.TestCase):
             os.waitpid(pid, 0)
             told = len(os.read(reading, 4096)) + 1
             os.close(reading)
-            with KeySet.open(self.path) as keys:
+            with KeySet.open(self.path, cut_torn=True) as keys:
                 tags = [int(line.split(" ")[4]) for line in keys.lines[1:]]
             kept = sum(tag // 1000 == attempt for tag in tags)
             self.assertIn(kept, (told, told + 1))

@@ -21,6 +21,7 @@ from keyset import (
     Refused,
     RollType,
     Session,
+    Torn,
     Wait,
     WrongArgument,
     open_session,
@@ -209,7 +210,10 @@ class Files(unittest.TestCase):
                 KeySet.open(self.path)
         with open(self.path, "a") as file:
             file.write("add-zsk Z")
-        with KeySet.open(self.path) as keys:
+        with self.assertRaises(Torn) as torn:
+            KeySet.open(self.path)
+        self.assertEqual(torn.exception.line, 3)
+        with KeySet.open(self.path, cut_torn=True) as keys:
             self.assertEqual(keys.call(FIRST[1]).number, 2)
             self.assertEqual(sorted(keys.keys()), ["K1", "Z1"])
         self.assertEqual(self.path.read_text().splitlines()[1:], FIRST[:2])

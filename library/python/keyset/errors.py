@@ -82,6 +82,15 @@ class Damaged(Error, ValueError):
         self.line, self.reason = line, reason
 
 
+class Torn(Damaged):
+    """The last line of the file has no line feed. A crash may have torn it, and then nobody acted
+    on it; or it is whole, and comes from an editor."""
+
+    def __init__(self, path: str | os.PathLike[str], line: int) -> None:
+        text = "its line feed is missing: a crash may have torn it, or an editor left that out"
+        super().__init__(path, line, text)
+
+
 class Locked(Error):
     """Another program has the file open for writing, or has changed it meanwhile."""
 

@@ -8,7 +8,7 @@ from typing import Iterator, Sequence
 
 from . import engine, file
 from .calls import Calls, up
-from .errors import Damaged, Malformed, OutOfMemory, WrongArgument
+from .errors import Damaged, Malformed, OutOfMemory, Torn, WrongArgument
 from .file import Place, Writer
 from .members import Status
 from .notes import Notes, path_of
@@ -66,16 +66,22 @@ class KeySet(Calls):
         return cls.open(path)
 
     @classmethod
-    def open(cls, path: Place, *, allow_refused: bool = False) -> KeySet:
-        """The key set of a file, with the notes beside it. It is locked until `close`. A line that
-        was not written to its end is left out.
+    def open(
+        cls, path: Place, *, allow_refused: bool = False, cut_torn: bool = False
+    ) -> KeySet:
+        """The key set of a file, with the notes beside it. It is locked until `close`.
 
         `Damaged`: a line is malformed, or is refused, though only accepted lines are kept. Then a
         line before it may be lost, and what is published isn't what the key set would show.
-        `allow_refused` opens such a file all the same."""
+        `allow_refused` opens such a file all the same.
+
+        `Torn`: the last line has no line feed. If only this package writes the file, a crash has
+        torn it, and nobody acted on it: `cut_torn` leaves it out, and the next call cuts it off."""
         made = cls.__new__(cls)
         with contextlib.ExitStack() as opened:
             lines = opened.enter_context(file.locked(path))
+            if lines.torn and not cut_torn:
+                raise Torn(path, len(lines.lines) + 1)
             made._begin(lines.lines, path, allow_refused)
             opened.callback(made._session.close)
             made._file = lines
