@@ -5,6 +5,14 @@ PREFIX ?= /usr/local
 DESTDIR ?=
 RUNS ?= 1000000
 
+# The Python of the tests: the first that has dnspython and cryptography. A Python that isn't
+# Debian's, as one of pyenv, doesn't see what apt-get installs.
+PYTHON ?= $(shell for python in python3 /usr/bin/python3; do \
+	if $$python -c 'import dns, cryptography' 2>/dev/null; then echo $$python; exit; fi; \
+	done; echo python3)
+# Debian's packages that the gate needs, beside compilers.
+PACKAGES = python3-dnspython python3-cryptography
+
 PROGRAM = crates/keyset/out/keyset
 PARTS = dnssec_base dnssec_key dnssec_zone dnssec_keyset dnssec_run dnssec_sets dnssec_judge \
 	dnssec_script dnssec_record keyset
@@ -25,7 +33,7 @@ prove = mkdir -p crates/$(1)/out && cd crates/$(1) && \
 	{ rt $(2) >out/build.log 2>&1 || { cat out/build.log >&2; exit 1; }; }
 
 .PHONY: run build notes lib install uninstall check fmt clean test wrong live docs memory test-lib \
-	valgrind asan fuzz types help python
+	valgrind asan fuzz types help python modules packages
 
 # The proved program answers if it is newer than its sources, else one that is built at once.
 run: ## answers SCRIPT: make run SCRIPT=FILE
@@ -68,8 +76,8 @@ clean: ## removes what was built
 	@find . -name __pycache__ -prune -exec rm -rf {} +
 
 # Every proof, wrong body, test and program. It prints when each step was done.
-test: python $(CALLERS) ## the gate: it ends with 'N passed, 0 failed'
-	@tests/gate.py
+test: modules $(CALLERS) ## the gate: it ends with 'N passed, 0 failed'
+	@$(PYTHON) tests/gate.py
 
 # Before a release: CONTRIBUTING says what it takes.
 wrong: python ## tries the wrong bodies that the gate leaves out: make wrong CRATES='NAME ..'
@@ -109,5 +117,10 @@ help: ## prints these lines
 python:
 	@python3 -c 'import sys; sys.exit(sys.version_info < (3, 9))' || \
 		{ echo 'python3 is missing here: 3.9 or later is needed' >&2; exit 1; }
+modules: python
+	@$(PYTHON) -c 'import dns, cryptography' 2>/dev/null || \
+		{ echo 'missing here, and needed: apt-get install $(PACKAGES)' >&2; exit 1; }
+packages:
+	@echo $(PACKAGES)
 has-%:
 	@command -v $* >/dev/null || { echo '$* is missing here, and is needed' >&2; exit 1; }

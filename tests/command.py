@@ -1,15 +1,16 @@
 #!/usr/bin/env python3
 """Runs the command of an operator on stored transcripts, without a server.
 
-    tests/command.py            compares what each line prints, asks facts.py, lets the command
-                                crash after each change of its files, and counts the lines of its
-                                code that ran
+    tests/command.py            compares what each line prints, asks facts.py and liars.py, lets the
+                                command crash after each change of its files, and counts the lines
+                                of its code that ran
     tests/command.py --write    writes the transcripts again
     tests/command.py --left     shows which lines of its code did not run
 
 A transcript, `tests/command/NAME.txt`, has lines that begin with `$ `. Below each is what it
 prints, then `? N` if it ends with a status that isn't 0. `NOW=N` in front of a line is the clock.
-Each transcript has a folder of its own, with the examples and the key files in it."""
+Each transcript has a folder of its own, with the examples and the key files in it. It runs under a
+Python that has dnspython and cryptography, as Debian's."""
 
 import itertools
 import os
@@ -19,6 +20,7 @@ import shutil
 import subprocess
 import sys
 import tempfile
+import threading
 import trace
 from concurrent.futures import ProcessPoolExecutor
 from pathlib import Path
@@ -27,7 +29,9 @@ sys.dont_write_bytecode = True
 TOP = Path(__file__).resolve().parent.parent
 sys.path.insert(0, str(TOP / "replay"))
 
+import answering  # noqa: E402
 import facts  # noqa: E402
+import liars  # noqa: E402
 from typed import STORED, folder, typed  # noqa: E402
 
 PACKAGE = TOP / "command" / "vaqsider"
@@ -209,6 +213,7 @@ def crash(number):
 def traced(part, *given):
     """What a part gives, and which lines ran for it."""
     tracer = trace.Trace(count=1, trace=0)
+    threading.settrace(tracer.globaltrace)
     return tracer.runfunc(part, *given), tracer.results()
 
 
@@ -225,21 +230,26 @@ def coverage(results):
 
 def main():
     os.environ["PATH"] = f"{STORED / 'bin'}:{os.environ['PATH']}"
+    os.environ["PYTHON"] = sys.executable
+    answering.install()
     write = "--write" in sys.argv[1:]
     # Each part has folders of its own, and a process.
     with ProcessPoolExecutor() as pool:
         looked_up = pool.submit(traced, facts.faults)
         compared = pool.submit(traced, compare, write)
+        lied_to = pool.submit(traced, liars.faults)
         crashed = [*pool.map(crash, range(len(CRASHES)))]
     (faults, lines), results = compared.result()
-    more, others = looked_up.result()
-    results.update(others)
-    faults += more + [fault for found, _ in crashed for fault in found]
+    for more, others in (looked_up.result(), lied_to.result()):
+        results.update(others)
+        faults += more
+    faults += [fault for found, _ in crashed for fault in found]
     crashes = sum(count for _, count in crashed)
     ran, total, unrun = coverage(results)
     print(*faults, sep="\n", end="\n" if faults else "")
-    print(f"command: {lines} lines played, {crashes} crashes; {ran} of {total} lines of code ran, "
-          "by std's trace")
+    answers = len(liars.ROWS) + len(liars.FOUND)
+    print(f"command: {lines} lines played, {crashes} crashes, {answers} answers of servers; "
+          f"{ran} of {total} lines of code ran, by std's trace")
     if "--left" in sys.argv[1:]:
         print(*(f"{Path(name).name}:{line}" for name, line in unrun), sep="\n")
     return 1 if faults else 0

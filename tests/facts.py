@@ -1,16 +1,15 @@
 """What the command prints, against what it doesn't take from itself: the answers of
 `replay/tables.py`, stored answers, and moments and TTLs that are worked out here by the guides."""
 
-import base64
 import calendar
 import json
 import re
 import shlex
-import struct
 import time
 import xml.dom.minidom
 from pathlib import Path
 
+import testkeys
 from typed import TOP, folder, typed
 
 # The calls of a roll, by the kinds of sets that its start and its two waits ask to watch.
@@ -269,20 +268,11 @@ def places(page, name):
                 yield f"{name}: the box from {first} to {last} stands at {x}, {width} wide"
 
 
-def tag_of(flags, key):
-    """RFC 4034, appendix B, of a key of algorithm 13."""
-    words = struct.unpack("!34H", struct.pack("!HBB", flags, 3, 13) + key)
-    total = sum(words)
-    return (total + (total >> 16)) & 0xFFFF
-
-
-def key_file(flags, seed):
+def key_file(flags, number):
     """A new key file of BIND's form, with its reference and its tag."""
-    key = bytes((seed * 31 + place) % 256 for place in range(64))
-    tag = tag_of(flags, key)
+    tag, data = testkeys.add(number, flags)
     name = f"Kexample.com.+013+{tag:05}.key"
-    text = f"example.com. IN DNSKEY {flags} 3 13 {base64.b64encode(key).decode()}\n"
-    Path(name).write_text(text)
+    Path(name).write_text(f"example.com. IN DNSKEY {data}\n")
     return name, tag
 
 
@@ -293,9 +283,9 @@ class Operator:
     def __init__(self):
         self.now, self.names, self.script = 1000, {}, Path("S.script")
         lines = ["zone example.com"]
-        for seed, key in enumerate(("K1", "K2", "Z1", "Z2", "C1")):
+        for number, key in enumerate(("K1", "K2", "Z1", "Z2", "C1"), start=1):
             word = {"K": "add-ksk", "Z": "add-zsk", "C": "add-csk"}[key[0]]
-            self.names[key], tag = key_file(256 if word == "add-zsk" else 257, seed)
+            self.names[key], tag = key_file(256 if word == "add-zsk" else 257, number)
             lines.append(f"{word} {self.names[key]} - 13 {tag} 0 yes")
         self.script.write_text("".join(f"{line}\n" for line in lines))
         Path("S.notes").write_text("before 30 60 60\n")

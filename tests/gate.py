@@ -91,7 +91,7 @@ class Beside(threading.Thread):
 
     def __init__(self, name, *words, under=()):
         super().__init__(daemon=True, name=name)
-        self.words = [*under, TOP / "tests" / f"{name}.py", *words]
+        self.words = [*under, sys.executable, TOP / "tests" / f"{name}.py", *words]
         self.test = None
         # What waits for it.
         self.later = []
@@ -177,7 +177,7 @@ def prove(scripts):
 
 def main():
     for name in ("docs", "release"):
-        if subprocess.run([TOP / "tests" / f"{name}.py"]).returncode:
+        if subprocess.run([sys.executable, TOP / "tests" / f"{name}.py"]).returncode:
             return 1
         note(name)
     # At low priority: each crate waits for the proofs of those below it.

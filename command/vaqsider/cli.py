@@ -13,7 +13,7 @@ from pathlib import Path
 import keyset
 from keyset.lines import FORMS, ROLLS
 
-from . import act, calling, check, draw, keyfiles, plan, status, timeline, watching, words, zones
+from . import act, calling, check, draw, keyfiles, plan, status, timeline, words, zones
 from .errors import OK, STATUSES, USAGE, failure_of
 
 HELP = Path(__file__).with_name("help.txt")
@@ -104,6 +104,9 @@ def on_act(args):
 
 
 def on_watch(args):
+    # It asks by dnspython, which no other word needs.
+    from . import watching
+
     watcher = watching.Watcher(args, clock, progress)
     watcher.run()
     return watcher.status(), watcher.text(), watcher.as_json()

@@ -37,6 +37,8 @@ class KeyFile:
             raise Failure(f"{self.path}: it is no zone key, or it is revoked")
         self.owner, self.is_sep = record["owner"].rstrip(".") or ".", bool(flags & SEP)
         self.tag = key_tag(flags, int(record["protocol"]), self.algorithm, record["key"])
+        # The data of the DNSKEY record, as a zone file has it.
+        self.data = " ".join(record.group("flags", "protocol", "algorithm", "key"))
         created = CREATED.search(text)
         stamp = time.strptime(created[1], "%Y%m%d%H%M%S") if created else None
         self.creation = calendar.timegm(stamp) if stamp else int(self.path.stat().st_mtime)

@@ -1,13 +1,17 @@
 """Watches the servers until all have what is due, and then makes the line of the report."""
 
+from __future__ import annotations
+
 import math
 import time
+from dataclasses import asdict
 
 from keyset import Notes
 from keyset.notes import Seen, to_report
 
-from . import calling, status, watch, words
+from . import calling, comparing, looking, status, words
 from .errors import DUE, OK, UNAVAILABLE, Failure
+from .looking import Lack, Look, Places
 
 CDS_OUT = "take CDS and CDNSKEY out by 'vaqsider act --no-cds', then 'vaqsider watch --call'"
 
@@ -18,8 +22,10 @@ class Watcher:
 
     def __init__(self, args, clock, progress):
         self.args, self.clock, self.progress, self.made = args, clock, progress, {}
+        self.lacking: list[Lack] = []
+        self.asked: dict[str, list[str]] = {}
 
-    def run(self):
+    def run(self) -> None:
         """Asks until all servers have what is due, or the time is over. With --call a roll goes on
         as soon as it can, after CDS is out. Without --call the loop ends before that."""
         end = time.monotonic() + (vars(self.args)["for"] or 0)
@@ -29,7 +35,7 @@ class Watcher:
                 for roll in filter(self.rolls.get, self.ready()):
                     line = self.line(roll)
                     self.made[roll] = calling.call(self.args.SCRIPT, line, self.clock)
-            awaited = {kind for kind, _, _ in self.lacking if self.args.call or kind != "cds"}
+            awaited = {it.kind for it in self.lacking if self.args.call or it.kind != "cds"}
             is_refused = any(made.status for made in self.made.values())
             if not awaited or is_refused or time.monotonic() >= end:
                 break
@@ -37,40 +43,46 @@ class Watcher:
             time.sleep(self.args.every)
         self.progress("")
 
-    def look(self):
+    def look(self) -> None:
         """Reads the script again, asks the servers, and notes which sets are everywhere."""
         self.notes = Notes(self.args.SCRIPT)
         self.lines, told = status.read(self.args.SCRIPT, self.clock())
-        self.zone, asked = told["zone"], status.asked(told)
+        asked = status.asked(told)
         calls = {roll["roll"]: roll["next"] for roll in told["rolls"]}
         self.rolls = {roll: calls.get(roll) for roll in asked if "wait" not in calls.get(roll, "")}
         self.kinds = {roll: words.kinds_of(asked[roll]) for roll in self.rolls}
         kinds = sorted({kind for of in self.kinds.values() for kind in of})
-        self.lacking, ttls = watch.look(told, kinds, self.servers, self.args.port)
-        there = {kind: ttls[kind] for kind in kinds if not self.lacks([kind])}
+        if kinds:
+            self.judge(self.ask(told, kinds), kinds)
+
+    def ask(self, told: dict, kinds: list[str]) -> Look:
+        """What all servers give of these kinds, and whether CDS is out if the DS set is awaited."""
+        due = comparing.Due.of(told, comparing.folders_of(self.args))
+        asked = [*kinds, *(["cds"] if "ds" in kinds else [])]
+        return looking.look(due, asked, Places.of(due.zone, self.args), self.clock())
+
+    def judge(self, look: Look, kinds: list[str]) -> None:
+        """Says what is lacking, and notes which sets are everywhere."""
+        self.lacking = look.lacking(kinds)
+        there = {kind: look.ttl(kind) for kind in kinds if not self.lacks([kind])}
         if there and self.notes.lines:
             now = math.ceil(self.clock())
             calling.reach(now, self.clock)
             self.notes.everywhere(there, now)
         if "ds" in there:
-            self.lacking += watch.look(told, ["cds"], self.servers, self.args.port)[0]
+            self.lacking += look.lacking(["cds"])
+        self.asked = {"servers": look.servers(["dnskey", "zone", "cds"]),
+                      "parents": look.servers(["ds"])}
 
-    def servers(self, kind):
-        """The servers to ask: those that were given, or all that NS records name."""
-        if kind == "ds":
-            above = self.zone.rstrip(".").partition(".")[2] or "."
-            return self.args.parent_server or watch.addresses(self.args.parent or above)
-        return self.args.server or watch.addresses(self.zone)
-
-    def lacks(self, kinds):
+    def lacks(self, kinds) -> set[str]:
         """What servers lack of these kinds; CDS has to be out after a DS set."""
         of = {*kinds, *(["cds"] if "ds" in kinds else [])}
-        return {kind for kind, _, _ in self.lacking} & of
+        return {it.kind for it in self.lacking} & of
 
-    def ready(self):
+    def ready(self) -> list[str]:
         return [roll for roll in self.rolls if not self.lacks(self.kinds[roll])]
 
-    def line(self, roll):
+    def line(self, roll: str) -> str:
         """The line of the call that a roll can make now, once the clock has reached its moment."""
         word, now = self.rolls[roll], math.ceil(self.clock())
         if word == "done":
@@ -85,12 +97,14 @@ class Watcher:
         calling.reach(now, self.clock)
         return f"{word} {roll} {'TTL' if ttl is None else ttl} {now}"
 
-    def status(self):
+    def status(self) -> int:
         return max([DUE if self.lacking else OK, *(made.status for made in self.made.values())])
 
     def text(self):
         """For people: which server lacks what, and what comes next in each roll."""
-        yield from (f"{server}: {what}" for _, server, what in sorted(self.lacking))
+        yield from map(str, sorted(self.lacking))
+        if self.asked and not self.lacking:
+            yield from (f"all have it: {', '.join(of)}" for of in self.asked.values() if of)
         yield from (line for made in self.made.values() for line in made.text())
         for roll in (roll for roll in self.rolls if roll not in self.made):
             if lacking := self.lacks(self.kinds[roll]):
@@ -102,10 +116,11 @@ class Watcher:
         if not (self.rolls or self.made):
             yield "nothing is to be watched"
 
-    def as_json(self):
+    def as_json(self) -> dict:
         ready = [roll for roll in filter(self.rolls.get, self.ready()) if roll not in self.made]
         return {
-            "lacking": [dict(zip(("kind", "server", "text"), it)) for it in self.lacking],
+            "lacking": list(map(asdict, self.lacking)),
+            "asked": self.asked,
             "next": [self.line(roll) for roll in ready],
             "made": [vars(made) for made in self.made.values()],
         }

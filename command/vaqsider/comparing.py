@@ -1,0 +1,203 @@
+"""Compares whole records: what servers give, with the key files of the keys that are due."""
+
+from __future__ import annotations
+
+from dataclasses import dataclass
+from pathlib import Path
+
+from . import keyfiles, words
+from .asking import Answer, dns
+from .errors import Failure
+
+# The type that has the signatures of each kind, and what else is asked for: CDS has to be out.
+TYPES = {"dnskey": ["DNSKEY"], "zone": ["SOA"], "ds": ["DS"], "cds": ["CDS", "CDNSKEY"]}
+
+
+@dataclass(frozen=True)
+class Key:
+    """A key of the script with its DNSKEY record, or None if it has no file here: it is of another
+    signer."""
+
+    reference: str
+    tag: int
+    algorithm: int
+    record: object = None
+
+    def is_of(self, record) -> bool:
+        """Whether a DNSKEY record is this key, as far as is known of it."""
+        if self.record is None:
+            return (dns.dnssec.key_id(record), record.algorithm) == (self.tag, self.algorithm)
+        return record == self.record
+
+    def ds(self, digest_type: int, zone: str):
+        """Its DS record with a digest of this type, or None if that isn't known."""
+        return ds_of(self.record, digest_type, zone) if self.record else None
+
+
+def dnskey_of(file: keyfiles.KeyFile):
+    """The DNSKEY record of a key file."""
+    return dns.rdata.from_text("IN", "DNSKEY", file.data)
+
+
+def ds_of(record, digest_type: int, zone: str):
+    """The DS record of a DNSKEY record, or None if digests of this type aren't known."""
+    try:
+        return dns.dnssec.make_ds(dns.name.from_text(zone), record, digest_type, validating=True)
+    except (dns.dnssec.UnsupportedAlgorithm, dns.dnssec.DeniedByPolicy):
+        return None
+
+
+@dataclass(frozen=True)
+class Due:
+    """What has to be published: the keys of each set. `faults` are key files that are missing."""
+
+    zone: str
+    published: dict
+    keys: dict
+    known: frozenset
+    is_shared: bool
+    faults: tuple
+
+    @classmethod
+    def of(cls, told: dict, folders: list) -> Due:
+        """What a status says, with the key files in these folders."""
+        names = {name for of in told["published"].values() for name in of}
+        keys, faults = {}, []
+        for key in (key for key in told["keys"] if key["reference"] in names):
+            record = None
+            try:
+                record = dnskey_of(keyfiles.find(key, folders))
+            except Failure as failure:
+                if key["kind"] != "public":
+                    faults.append(str(failure))
+            tag, algorithm, reference = key["tag"], key["algorithm"], key["reference"]
+            keys[reference] = Key(reference, tag, algorithm, record)
+        known = frozenset((key["tag"], key["algorithm"]) for key in told["keys"])
+        is_shared = any(key["kind"] == "public" for key in told["keys"])
+        return cls(told["zone"], told["published"], keys, known, is_shared, tuple(faults))
+
+    def of_set(self, kind: str) -> list[Key]:
+        return [self.keys[name] for name in self.published[kind]]
+
+
+def folders_of(args) -> list:
+    """Where the key files are: as the command line says, or beside the script."""
+    return args.keys or [Path(args.SCRIPT).parent]
+
+
+def lacks(due: Due, type_: str, answer: Answer, now: float) -> list[str]:
+    """What an answer lacks, in words."""
+    if answer.fault:
+        return [answer.fault]
+    return list(COMPARED[type_](due, answer, now))
+
+
+def _of_cds(due, answer, now):
+    if answer.records:
+        yield f"gives {answer.records[0].rdtype.name} still"
+
+
+def _of_dnskey(due, answer, now):
+    wanted, given = due.of_set("dnskey"), answer.records
+    yield from _of_tags("DNSKEY", map(dns.dnssec.key_id, given), (key.tag for key in wanted))
+    if sorted(map(dns.dnssec.key_id, given)) == sorted(key.tag for key in wanted):
+        for key in wanted:
+            if not any(map(key.is_of, given)):
+                yield f"DNSKEY {key.tag} isn't that of {key.reference}"
+    for key in due.of_set("signers"):
+        yield from signed(due.zone, answer, key, now).faults
+
+
+def _of_zone(due, answer, now):
+    wanted = due.of_set("zone")
+    by = {(it.key_tag, it.algorithm) for it in answer.signatures}
+    if by != {(key.tag, key.algorithm) for key in wanted}:
+        tags = {tag for tag, _ in by}
+        yield f"signed by {_listed(tags)}, not {_listed(key.tag for key in wanted)}"
+    else:
+        yield from (fault for key in wanted for fault in signed(due.zone, answer, key, now).faults)
+    if not answer.records:
+        yield "no SOA record"
+
+
+def _of_ds(due, answer, now):
+    wanted, given = due.of_set("ds"), list(answer.records)
+    if due.is_shared:
+        # The other signer's keys with a DS aren't in the script.
+        given = [it for it in given if (it.key_tag, it.algorithm) in due.known
+                 or it.key_tag in {key.tag for key in wanted}]
+    yield from _of_tags("DS", {it.key_tag for it in given}, (key.tag for key in wanted))
+    for record in given:
+        for key in (key for key in wanted if key.tag == record.key_tag):
+            right = key.ds(record.digest_type, due.zone)
+            if key.record and record != right:
+                yield f"DS {_short(record)} isn't that of {key.reference}: {_why(record, right)}"
+
+
+def _short(record):
+    return f"{record.key_tag} {record.algorithm} {record.digest_type}"
+
+
+def _why(record, right):
+    if right is None:
+        return "its digest type isn't known"
+    is_algorithm = record.algorithm != right.algorithm
+    return f"its algorithm isn't {right.algorithm}" if is_algorithm else "another digest"
+
+
+def _of_tags(what, given, wanted):
+    given, wanted = sorted(given), sorted(wanted)
+    if given != wanted:
+        yield f"{what} {_listed(given)}, not {_listed(wanted)}"
+
+
+def _listed(tags):
+    return ",".join(map(str, sorted(tags))) or "none"
+
+
+COMPARED = {"DNSKEY": _of_dnskey, "SOA": _of_zone, "DS": _of_ds, "CDS": _of_cds, "CDNSKEY": _of_cds}
+
+
+@dataclass(frozen=True)
+class Signed:
+    """How a set is signed by a key: from when on and until when, or what is wrong."""
+
+    begin: int = 0
+    end: int = 0
+    faults: tuple = ()
+
+
+def signed(zone: str, answer: Answer, key: Key, now: float) -> Signed:
+    """How an answer's set is signed by a key: by the signature that lasts longest."""
+    of = [it for it in answer.signatures if (it.key_tag, it.algorithm) == (key.tag, key.algorithm)]
+    faults = [f"no signature by {key.tag}"]
+    for signature in sorted(of, key=lambda it: it.expiration, reverse=True):
+        fault = _fault(zone, answer, signature, key, now)
+        if not fault:
+            return Signed(signature.inception, signature.expiration)
+        faults.append(fault)
+    return Signed(faults=tuple(faults[-1:]))
+
+
+def _fault(zone, answer, signature, key, now):
+    """Why a signature isn't valid now, in words."""
+    what = f"the signature of {signature.type_covered.name} by {key.tag}"
+    if signature.expiration < now:
+        return f"{what} has expired at {words.moment(signature.expiration)}"
+    if signature.inception > now:
+        return f"{what} isn't valid before {words.moment(signature.inception)}"
+    if key.record is None:
+        return f"{what} can't be checked: there is no key file"
+    return None if fits(zone, answer.records, signature, key.record, now) else f"{what} is false"
+
+
+def fits(zone: str, records, signature, record, now: float) -> bool:
+    """Whether a signature is one of these records by this DNSKEY record, and valid now."""
+    name = dns.name.from_text(zone)
+    keys = {name: dns.rdataset.from_rdata_list(0, [record])}
+    try:
+        rrset = dns.rrset.from_rdata_list(name, 0, records)
+        dns.dnssec.validate_rrsig(rrset, signature, keys, now=now)
+    except (ValueError, dns.exception.DNSException):
+        return False
+    return True

@@ -1,0 +1,89 @@
+"""One look: what all servers give at this moment, and what each lacks."""
+
+from __future__ import annotations
+
+from dataclasses import dataclass
+
+from . import asking, comparing
+from .asking import Answer, Server
+from .comparing import TYPES, Due
+from .errors import UNAVAILABLE, Failure
+
+
+@dataclass(frozen=True, order=True)
+class Lack:
+    """What a server lacks of a kind of sets, in words. Without a server it is a key file."""
+
+    kind: str
+    server: str
+    text: str
+
+    def __str__(self) -> str:
+        return f"{self.server}: {self.text}" if self.server else self.text
+
+
+@dataclass(frozen=True)
+class Places:
+    """The servers of the zone and of its parent, and their port."""
+
+    zone: list[Server]
+    parent: list[Server]
+    port: int
+
+    @classmethod
+    def of(cls, zone: str, args) -> Places:
+        """Those that the command line names, or all that NS records name."""
+        parents = asking.by_address(args.parent_server or [])
+        if not parents and zone != ".":
+            parents = asking.of_parent(zone, args.parent)
+        servers = asking.by_address(args.server or [])
+        return cls(servers or asking.of_zone(zone, parents, args.port), parents, args.port)
+
+    def of_kind(self, kind: str, zone: str) -> list[Server]:
+        """The servers to ask for this kind of sets."""
+        is_parent = kind == "ds"
+        servers = self.parent if is_parent else self.zone
+        if not servers:
+            of, option = ("the parent of ", "parent-") if is_parent else ("", "")
+            text = f"no servers of {of}{zone} found: name them by --{option}server"
+            raise Failure(text, UNAVAILABLE)
+        return servers
+
+
+@dataclass(frozen=True)
+class Look:
+    """What all servers have answered, by kind, type and server."""
+
+    due: Due
+    now: float
+    answers: dict[tuple[str, str, Server], Answer]
+
+    def lacking(self, kinds) -> list[Lack]:
+        """What they lack of these kinds. If a key file is missing, nothing is right."""
+        lacks = [Lack(kind, "", fault) for kind in kinds for fault in self.due.faults]
+        for (kind, type_, server), answer in self.answers.items():
+            if kind in kinds:
+                texts = comparing.lacks(self.due, type_, answer, self.now)
+                lacks += (Lack(kind, str(server), text) for text in texts)
+        return sorted(lacks)
+
+    def ttl(self, kind: str) -> int:
+        """The highest TTL of this kind that was seen."""
+        return max((it.ttl for (of, _, _), it in self.answers.items() if of == kind), default=0)
+
+    def servers(self, kinds) -> list[str]:
+        """The servers that were asked for these kinds."""
+        asked = {server for of, _, server in self.answers if of in kinds}
+        return list(map(str, sorted(asked)))
+
+
+def look(due: Due, kinds, places: Places, now: float) -> Look:
+    """Asks all servers for the sets of these kinds, side by side."""
+    questions = [
+        (kind, type_, server)
+        for kind in kinds for type_ in TYPES[kind] for server in places.of_kind(kind, due.zone)
+    ]
+    answers = asking.side_by_side(
+        lambda it: asking.ask(it[2], places.port, due.zone, it[1]), questions
+    )
+    return Look(due, now, dict(zip(questions, answers)))

@@ -1,0 +1,412 @@
+"""Name servers that lie, on addresses of the loopback, and what the command says of each. A server
+answers from sets that are signed when it is asked; a lie changes a set, a signature, or the answer.
+"""
+
+from __future__ import annotations
+
+import json
+import socket
+import struct
+import threading
+from contextlib import ExitStack
+from dataclasses import dataclass, replace
+from pathlib import Path
+
+import dns.dnssec
+import dns.flags
+import dns.message
+import dns.name
+import dns.rcode
+import dns.rdata
+import dns.rdataclass
+import dns.rdatatype
+import dns.resolver
+import dns.rrset
+
+import answering
+import testkeys
+from typed import folder, typed
+
+KSK, OLD, NEW, OTHER = 64103, 10133, 46350, 46352
+NOW = 275
+ZONE = "example.com"
+# The addresses of the zone's servers, of the parent's, and of the resolver.
+FIRST, SECOND, PARENT, RESOLVER, SILENT = (f"127.0.9.{number}" for number in range(1, 6))
+
+
+@dataclass(frozen=True)
+class Set:
+    """A set of records as a server gives it, with the tags of those who sign it."""
+
+    records: tuple
+    by: tuple = ()
+    ttl: int = 60
+    begin: int = 0
+    end: int = 2592000
+    owner: str = ZONE
+    rdclass: str = "IN"
+    # What was signed, if it isn't this set.
+    signed: tuple = ()
+
+    def rrsets(self):
+        name, rdclass = dns.name.from_text(self.owner), dns.rdataclass.from_text(self.rdclass)
+        data = [dns.rdata.from_text("IN", *it.split(None, 1)) for it in self.records]
+        made = [data]
+        if self.by:
+            of = [dns.rdata.from_text("IN", *it.split(None, 1)) for it in self.signed] or data
+            made.append([testkeys.sign(ZONE, of, tag, self.begin, self.end, self.ttl)
+                         for tag in self.by])
+        for of in filter(None, made):
+            rrset = dns.rrset.from_rdata_list(name, self.ttl, of)
+            rrset.rdclass = rdclass
+            yield rrset
+
+
+def dnskey(tag: int, flags: int) -> str:
+    return f"DNSKEY {testkeys.dnskey(testkeys.NUMBERS[tag], flags).to_text()}"
+
+
+def ds(tag: int, digest_type: str = "SHA256") -> str:
+    key = testkeys.dnskey(testkeys.NUMBERS[tag], 257)
+    return f"DS {dns.dnssec.make_ds(dns.name.from_text(ZONE), key, digest_type).to_text()}"
+
+
+def soa(serial: int) -> str:
+    return f"SOA ns.{ZONE}. h.{ZONE}. {serial} 3600 600 86400 60"
+
+
+# What servers of the zone give, and those of its parent.
+KEYS = (dnskey(KSK, 257), dnskey(OLD, 256), dnskey(NEW, 256))
+RIGHT = {
+    "DNSKEY": Set(KEYS, (KSK,)), "SOA": Set((soa(7),), (NEW,)),
+    "NS": Set((f"NS ns1.{ZONE}.", f"NS ns2.{ZONE}."), (NEW,)),
+}
+ABOVE = {"DS": Set((ds(KSK),)), "NS": Set((f"NS ns1.{ZONE}.",))}
+
+
+class Server(threading.Thread):
+    """A server on one address, over UDP and TCP."""
+
+    def __init__(self, address: str, port: int):
+        super().__init__(daemon=True)
+        self.answer = honest({})
+        self.udp = socket.socket(socket.AF_INET, socket.SOCK_DGRAM)
+        self.tcp = socket.socket()
+        self.tcp.setsockopt(socket.SOL_SOCKET, socket.SO_REUSEADDR, 1)
+        for it in (self.udp, self.tcp):
+            it.bind((address, port))
+        self.tcp.listen(8)
+
+    def __enter__(self):
+        self.start()
+        threading.Thread(target=self.over_tcp, daemon=True).start()
+        return self
+
+    def __exit__(self, *_):
+        for it in (self.udp, self.tcp):
+            it.close()
+
+    def run(self):
+        while True:
+            try:
+                data, sender = self.udp.recvfrom(4096)
+            except OSError:
+                return
+            for wire in self.answer(dns.message.from_wire(data), False):
+                self.udp.sendto(wire, sender)
+
+    def over_tcp(self):
+        while True:
+            try:
+                connection, _ = self.tcp.accept()
+            except OSError:
+                return
+            with connection:
+                (length,) = struct.unpack("!H", connection.recv(2))
+                query = dns.message.from_wire(connection.recv(length))
+                for wire in self.answer(query, True):
+                    connection.sendall(struct.pack("!H", len(wire)) + wire)
+
+
+def honest(sets, extra=None):
+    """Answers as a server with authority does."""
+
+    def answer(query, is_tcp):
+        response = dns.message.make_response(query)
+        response.flags |= dns.flags.AA
+        kind = dns.rdatatype.to_text(query.question[0].rdtype)
+        if kind in sets:
+            response.answer += sets[kind].rrsets()
+        else:
+            response.authority += Set((soa(7),)).rrsets()
+        if extra:
+            extra(response, is_tcp)
+        return [response.to_wire()]
+
+    return answer
+
+
+def changed(sets=None, **changes):
+    """A server's sets with one of them changed: its name, and what is otherwise."""
+    ((kind, values),) = changes.items()
+    sets = sets or {**RIGHT, **ABOVE}
+    return honest({**sets, kind: replace(sets[kind], **values)})
+
+
+def coded(rcode):
+    """A server that has no answer."""
+
+    def extra(response, is_tcp):
+        response.answer.clear()
+        response.set_rcode(rcode)
+
+    return honest(RIGHT, extra)
+
+
+def no_authority(response, is_tcp):
+    response.flags &= ~dns.flags.AA
+
+
+def other_question(response, is_tcp):
+    response.question[0].rdtype = dns.rdatatype.A
+
+
+def truncated(response, is_tcp):
+    if not is_tcp:
+        response.flags |= dns.flags.TC
+        response.answer.clear()
+
+
+def in_bytes(change):
+    """A server whose answer is changed on the wire."""
+    return lambda query, is_tcp: [change(wire) for wire in honest(RIGHT)(query, is_tcp)]
+
+
+def other_id(wire):
+    return bytes([wire[0] ^ 1]) + wire[1:]
+
+
+def no_tcp(query, is_tcp):
+    """Says that it is truncated, and has no more over TCP."""
+    return [] if is_tcp else honest(RIGHT, truncated)(query, is_tcp)
+
+
+def same_tag(record: str) -> str:
+    """Another key with the same tag: two words of it change places, and the sum stays."""
+    kind, flags, protocol, algorithm, key = record.replace(" ", "|", 4).split("|")
+    data = dns.rdata.from_text("IN", kind, f"{flags} {protocol} {algorithm} {key}")
+    first, second, rest = data.key[:2], data.key[2:4], data.key[4:]
+    return f"{kind} {data.replace(key=second + first + rest).to_text()}"
+
+
+@dataclass(frozen=True)
+class Row:
+    """A lie, in the step that waits for a kind of sets, and what the command has to say of it."""
+
+    name: str
+    step: str
+    answer: object
+    says: tuple = ()
+
+
+NOT_GIVEN = ("DNSKEY none, not 10133,46350,64103", "no signature by 64103")
+ANOTHER = "no answer: what came is of another question"
+WRONG_DS = ds(KSK)[:-4] + "0000"
+ROWS = (
+    Row("honest", "dnskey", honest(RIGHT)),
+    Row("honest", "zone", honest(RIGHT)),
+    Row("honest", "ds", honest(ABOVE)),
+    Row("over TCP", "dnskey", honest(RIGHT, truncated)),
+    Row("other id", "dnskey", in_bytes(other_id), (ANOTHER,)),
+    Row("other question", "dnskey", honest(RIGHT, other_question), (ANOTHER,)),
+    Row("seven bytes", "dnskey", in_bytes(lambda wire: wire[:7]),
+        ("no answer: what came can't be read",)),
+    Row("cut off", "dnskey", in_bytes(lambda wire: wire[:90]),
+        ("no answer: what came can't be read",)),
+    Row("other owner", "dnskey", changed(DNSKEY={"owner": f"a.{ZONE}"}), NOT_GIVEN),
+    Row("other class", "dnskey", changed(DNSKEY={"rdclass": "CH"}), NOT_GIVEN),
+    Row("no authority", "dnskey", honest(RIGHT, no_authority),
+        ("no answer: it has no authority for the zone",)),
+    Row("SERVFAIL", "dnskey", coded(dns.rcode.SERVFAIL), ("no answer: SERVFAIL",)),
+    Row("REFUSED", "dnskey", coded(dns.rcode.REFUSED), ("no answer: REFUSED",)),
+    Row("NXDOMAIN", "dnskey", coded(dns.rcode.NXDOMAIN), ("no answer: NXDOMAIN",)),
+    Row("silent", "dnskey", lambda query, is_tcp: [], ("no answer",)),
+    Row("no TCP", "dnskey", no_tcp, ("no answer: over TCP",)),
+    Row("one key less", "dnskey", changed(DNSKEY={"records": KEYS[:2]}),
+        ("DNSKEY 10133,64103, not 10133,46350,64103",)),
+    Row("a key more", "dnskey", changed(DNSKEY={"records": (*KEYS, dnskey(OTHER, 257))}),
+        ("DNSKEY 10133,46350,46352,64103, not 10133,46350,64103",)),
+    Row("a key of the same tag", "dnskey",
+        changed(DNSKEY={"records": (*KEYS[:2], same_tag(KEYS[2]))}),
+        ("DNSKEY 46350 isn't that of Kexample.com.+013+46350.key",)),
+    Row("both of the same tag", "dnskey", changed(DNSKEY={"records": (*KEYS, same_tag(KEYS[2]))}),
+        ("DNSKEY 10133,46350,46350,64103, not 10133,46350,64103",)),
+    Row("other algorithm and tag", "dnskey",
+        changed(DNSKEY={"records": (*KEYS[:2], KEYS[2].replace(" 13 ", " 14 "))}),
+        ("DNSKEY 10133,46351,64103, not 10133,46350,64103",)),
+    Row("other flags and algorithm", "dnskey",
+        changed(DNSKEY={"records": (*KEYS[:2], KEYS[2].replace("256 3 13", "257 3 12"))}),
+        ("DNSKEY 46350 isn't that of Kexample.com.+013+46350.key",)),
+    Row("expired", "dnskey", changed(DNSKEY={"end": 274}),
+        ("the signature of DNSKEY by 64103 has expired at 274",)),
+    Row("not yet valid", "dnskey", changed(DNSKEY={"begin": 276}),
+        ("the signature of DNSKEY by 64103 isn't valid before 276",)),
+    Row("valid for just now", "dnskey", changed(DNSKEY={"begin": 275, "end": 275})),
+    Row("by another key", "dnskey", changed(DNSKEY={"by": (OLD,)}), ("no signature by 64103",)),
+    Row("of another set", "dnskey", changed(DNSKEY={"signed": KEYS[:2]}),
+        ("the signature of DNSKEY by 64103 is false",)),
+    Row("by the old key", "zone", changed(SOA={"by": (OLD,)}), ("signed by 10133, not 46350",)),
+    Row("by both", "zone", changed(SOA={"by": (OLD, NEW)}),
+        ("signed by 10133,46350, not 46350",)),
+    Row("not signed", "zone", changed(SOA={"by": ()}), ("signed by none, not 46350",)),
+    Row("expired", "zone", changed(SOA={"end": 274}),
+        ("the signature of SOA by 46350 has expired at 274",)),
+    Row("of another serial", "zone", changed(SOA={"signed": (soa(6),)}),
+        ("the signature of SOA by 46350 is false",)),
+    Row("SHA-384", "ds", changed(DS={"records": (ds(KSK, "SHA384"),)})),
+    Row("both digests", "ds", changed(DS={"records": (ds(KSK), ds(KSK, "SHA384"))})),
+    Row("no DS", "ds", honest({}), ("DS none, not 64103",)),
+    Row("wrong digest", "ds", changed(DS={"records": (WRONG_DS,)}),
+        ("DS 64103 13 2 isn't that of Kexample.com.+013+64103.key: another digest",)),
+    Row("a wrong digest more", "ds", changed(DS={"records": (ds(KSK), WRONG_DS)}),
+        ("DS 64103 13 2 isn't that of Kexample.com.+013+64103.key: another digest",)),
+    Row("wrong algorithm", "ds", changed(DS={"records": (ds(KSK).replace(" 13 ", " 8 "),)}),
+        ("DS 64103 8 2 isn't that of Kexample.com.+013+64103.key: its algorithm isn't 13",)),
+    Row("unknown digest type", "ds", changed(DS={"records": (f"DS 64103 13 3 {'00' * 32}",)}),
+        ("DS 64103 13 3 isn't that of Kexample.com.+013+64103.key: "
+         "its digest type isn't known",)),
+    Row("another DS", "ds", changed(DS={"records": (ds(OTHER),)}), ("DS 46352, not 64103",)),
+    Row("a DS more", "ds", changed(DS={"records": (ds(KSK), ds(OTHER))}),
+        ("DS 46352,64103, not 64103",)),
+    Row("no authority", "ds", honest(ABOVE, no_authority),
+        ("no answer: it has no authority for the zone",)),
+)
+REPORT = {"dnskey": "report1 zsk-roll", "zone": "report2 zsk-roll", "ds": "report2 algorithm-roll"}
+
+
+def scripts() -> None:
+    """A script for each step: it waits for the DNSKEY set, for signatures, for the DS set."""
+    start = Path("start.script").read_text()
+    Path("dnskey.script").write_text(start)
+    Path("zone.script").write_text(f"{start}report1 zsk-roll 60 210\nwait1 zsk-roll 270\n")
+    Path("ds.script").write_text("".join(start.splitlines(True)[:6]))
+
+
+def of_rows(servers, port: int):
+    """What the command says of each row, otherwise than it has to."""
+    asked = ["--server", FIRST, "--server", SECOND, "--parent-server", PARENT, "--port", port]
+    for row in ROWS:
+        for server in servers.values():
+            server.answer = honest({**RIGHT, **ABOVE})
+        liar = PARENT if row.step == "ds" else SECOND
+        servers[liar].answer = row.answer
+        text, status = typed(["watch", f"{row.step}.script", *asked, "--json"], NOW)
+        told = json.loads(text) if text.startswith("{") else {"lacking": [], "next": []}
+        wanted = sorted((liar, it) for it in row.says)
+        found = [(it["server"], it["text"]) for it in told["lacking"]]
+        nexts = [it.startswith(REPORT[row.step]) for it in told["next"]]
+        if (found, status, nexts) != (wanted, int(bool(wanted)), [True] * (not wanted)):
+            yield f"liars: {row.step}, {row.name}: {status}: {text}"
+
+
+# What the system's resolver finds, and with which code it answers else.
+ADDRESSES = {
+    ("com.", "SOA"): ("SOA a.up. h.up. 1 1 1 1 1",), ("com.", "NS"): ("NS a.up.",),
+    ("a.up.", "A"): (f"A {PARENT}",), (f"ns1.{ZONE}.", "A"): (f"A {FIRST}",),
+    (f"ns2.{ZONE}.", "A"): (f"A {SECOND}",),
+}
+WELL = (f"ns1.{ZONE} ({FIRST})", f"ns2.{ZONE} ({SECOND})")
+
+
+def resolver(table, rcode=dns.rcode.NOERROR):
+    """A resolver that finds what is in a table. Of other names and types it knows that there are no
+    such records, unless it says otherwise."""
+
+    def answer(query, is_tcp):
+        response = dns.message.make_response(query)
+        response.flags |= dns.flags.RA
+        question = query.question[0]
+        name, kind = question.name.to_text(), dns.rdatatype.to_text(question.rdtype)
+        records = table.get((name, kind), ())
+        if records:
+            response.answer += Set(records, owner=name).rrsets()
+        elif records is None:
+            response.set_rcode(dns.rcode.SERVFAIL)
+        elif name not in (name for name, _ in table):
+            response.set_rcode(rcode)
+        return [response.to_wire()]
+
+    return answer
+
+
+@dataclass(frozen=True)
+class Found:
+    """How servers are found: what the resolver says, what the parent's NS set and the zone's own
+    have, and what lacks; if nothing does, who was asked."""
+
+    name: str
+    resolver: object = resolver(ADDRESSES)
+    above: tuple = ("NS ns1.example.com.",)
+    own: tuple = ("NS ns1.example.com.", "NS ns2.example.com.")
+    says: tuple = ()
+    asked: tuple = WELL
+
+
+LOST = {key: of for key, of in ADDRESSES.items() if key[0] != f"ns2.{ZONE}."}
+FOUND = (
+    Found("the zone names one more"),
+    Found("the parent names one more", above=RIGHT["NS"].records, own=("NS ns1.example.com.",)),
+    Found("the resolver refuses an address", resolver(LOST, dns.rcode.REFUSED),
+          says=((f"ns2.{ZONE}", "no address"),)),
+    Found("the resolver fails at an address", resolver(LOST, dns.rcode.SERVFAIL),
+          says=((f"ns2.{ZONE}", "no address"),)),
+    Found("a name isn't there", resolver(LOST, dns.rcode.NXDOMAIN),
+          says=((f"ns2.{ZONE}", "no address"),)),
+    Found("a second address is silent",
+          resolver({**ADDRESSES, (f"ns2.{ZONE}.", "A"): (f"A {SECOND}", f"A {SILENT}")}),
+          says=((f"ns2.{ZONE} ({SILENT})", "no answer"),)),
+    Found("only the other kind of address fails",
+          resolver({**ADDRESSES, (f"ns2.{ZONE}.", "AAAA"): None}),
+          says=((f"ns2.{ZONE}", "its AAAA records can't be looked up"),)),
+)
+
+
+def of_found(servers, port: int):
+    """Whom the command asks if no server is named to it, otherwise than it has to."""
+    nearest = dns.resolver.Resolver(configure=False)
+    nearest.nameservers, nearest.port = [RESOLVER], port
+    dns.resolver.default_resolver = nearest
+    for row in FOUND:
+        own = {**RIGHT, "NS": Set(row.own, (NEW,))}
+        servers[FIRST].answer = servers[SECOND].answer = honest(own)
+        servers[PARENT].answer = honest({**ABOVE, "NS": Set(row.above)}, as_referral)
+        servers[RESOLVER].answer = row.resolver
+        text, _ = typed(["watch", "dnskey.script", "--port", port, "--json"], NOW)
+        told = json.loads(text)
+        found = tuple((it["server"], it["text"]) for it in told["lacking"])
+        if found != row.says or not row.says and told["asked"]["servers"] != list(row.asked):
+            yield f"liars: {row.name}: {text}"
+
+
+def as_referral(response, is_tcp):
+    """The parent has no authority for the zone's NS set."""
+    if response.question[0].rdtype == dns.rdatatype.NS:
+        response.flags &= ~dns.flags.AA
+        response.authority, response.answer = response.answer, []
+
+
+def free_port() -> int:
+    """A port that is free on all these addresses, as far as one can know."""
+    with socket.socket() as one:
+        one.bind((FIRST, 0))
+        return one.getsockname()[1]
+
+
+def faults():
+    """What the command says otherwise than it has to of servers that lie."""
+    with folder(), answering.network(), ExitStack() as stack:
+        scripts()
+        port = free_port()
+        servers = {address: stack.enter_context(Server(address, port))
+                   for address in (FIRST, SECOND, PARENT, RESOLVER)}
+        return [*of_rows(servers, port), *of_found(servers, port)]
