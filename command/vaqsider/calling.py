@@ -69,7 +69,7 @@ def completed(text, clock):
         raise Failure("a line of a script has no line feed in it")
     word, *fields = text.split(" ")
     if word in ("add", "add-csk") and len(fields) == 1:
-        return keyfiles.KeyFile(fields[0]).line(word == "add-csk")
+        return keyfiles.read(fields[0]).line(word == "add-csk")
     line = forms.at(text, clock())
     if line != text:
         reach(forms.Line(line).moment, clock)

@@ -1,27 +1,16 @@
 """The words of the command line."""
 
 import argparse
-import dataclasses
-import json
 import os
 import re
-import shlex
 import sys
-import time
 from pathlib import Path
 
-import keyset
-from keyset.lines import FORMS, ROLLS
-
-from . import act, calling, check, draw, keyfiles, plan, status, timeline, words, zones
-from .errors import OK, STATUSES, USAGE, failure_of
+from . import arguments
+from .arguments import clock
+from .errors import BROKEN, FAULTY, OK, STATUSES, UNPRINTED, USAGE, failure_of
 
 HELP = Path(__file__).with_name("help.txt")
-
-
-def clock():
-    """The present moment, in seconds. VAQSIDER_NOW stands in for the clock."""
-    return float(os.environ.get("VAQSIDER_NOW") or time.time())
 
 
 def progress(text):
@@ -30,13 +19,18 @@ def progress(text):
         print(f"\r{text}\033[K", end="", file=sys.stderr, flush=True)
 
 
-# Each word gives its exit status, lines for people, and the value that --json prints.
+# Each word gives its exit status, lines for people, and the value that --json prints. It imports
+# what it needs: the command starts at each tick of a timer.
 
 
 def on_init(args):
-    files = [keyfiles.KeyFile(path) for path in args.KEYFILE]
-    zone = args.ZONE.rstrip(".") or "."
-    path = Path(args.script or f"{zone}.script")
+    import shlex
+
+    from . import calling, keyfiles
+
+    files = [keyfiles.read(path) for path in args.KEYFILE]
+    zone = re.sub(r"(?<=[^.])\.$", "", args.ZONE)
+    path = Path(args.script or f"{arguments.file_name(args.ZONE)}.script")
     moment = int(clock()) if args.signed else None
     lines = calling.begin(zone, files, path, moment, args.before, args.csk)
     keys = ",".join(file.path.name for file in files) or "KEYS"
@@ -46,16 +40,29 @@ def on_init(args):
 
 
 def on_call(args):
+    from . import calling
+
     made = calling.call(args.SCRIPT, args.LINE, clock, args.although, args.dry_run)
     return made.status, made.text(), vars(made)
 
 
 def on_status(args):
-    told = [status.read(path, clock())[1] for path in args.SCRIPT]
-    return OK, ["\n\n".join("\n".join(status.screen(zone)) for zone in told)], told
+    from . import status
+
+    told, ends_with = [], [OK]
+    for path in args.SCRIPT:
+        try:
+            told.append(status.read(path, clock())[1])
+        except Exception as error:
+            ends_with.append(_said(error).status)
+    ends_with += [BROKEN for zone in told if not zone["chain"]["safe"]]
+    text = ["\n\n".join("\n".join(status.screen(zone)) for zone in told)] if told else []
+    return max(ends_with), text, told
 
 
 def on_check(args):
+    from . import check
+
     found = [(path, one) for path in args.SCRIPT for one in check.findings(path, clock())]
     text = [f"{path}: {one}" for path, one in found] or ["all is well"]
     value = [{"script": path, **vars(one)} for path, one in found]
@@ -63,6 +70,8 @@ def on_check(args):
 
 
 def on_plan(args):
+    from . import draw, plan, status, timeline
+
     lines, told = status.read(args.SCRIPT, clock())
     begin = int(clock() if args.start is None else args.start)
     made = plan.Plan(lines, begin, *plan.assumed(args.SCRIPT, args.ttls, args.delays, begin))
@@ -75,22 +84,28 @@ def on_plan(args):
         text = plan.as_calendar(told["zone"], made.steps)
     elif args.picture:
         text = draw.picture(told["zone"], timeline.timeline([*lines, *planned]), clock())
-    return OK, text, made.steps
+    return _verdict(told), text, made.steps
 
 
 def on_draw(args):
+    import dataclasses
+
+    from . import draw, status, timeline
+
     lines, told = status.read(args.SCRIPT, clock())
     made = timeline.timeline(lines)
     text = list(draw.picture(told["zone"], made, clock()))
     if args.out:
         Path(args.out).write_text("\n".join([*text, ""]), encoding="utf-8")
-    return OK, [] if args.out else text, dataclasses.asdict(made)
+    return _verdict(told), [] if args.out else text, dataclasses.asdict(made)
 
 
 def on_act(args):
+    from . import act, status, words
+
     lines, told = status.read(args.SCRIPT, clock())
-    folder, name = Path(args.SCRIPT).parent, told["zone"].rstrip(".") or "root"
-    args.zone_file = args.zone_file or str(folder / f"{name}.zone")
+    zone_file = f"{arguments.file_name(told['zone'])}.zone"
+    args.zone_file = args.zone_file or str(Path(args.SCRIPT).with_name(zone_file))
     signer = act.Signer(args, told)
     commands, of_ds = list(signer.commands()), signer.ds()
     if args.dry_run:
@@ -113,9 +128,28 @@ def on_watch(args):
 
 
 def on_zones(args):
+    from . import zones
+
     found = list(zones.zones(args.FOLDER, clock(), lambda done, of: progress(f"{done} of {of}")))
     progress("")
-    return OK, zones.prometheus(found) if args.prometheus else zones.table(found), found
+    is_safe = all(zone["chain_safe"] for zone in found)
+    text = zones.prometheus(found) if args.prometheus else zones.table(found)
+    return OK if is_safe else BROKEN, text, found
+
+
+def _verdict(told):
+    return OK if told["chain"]["safe"] else BROKEN
+
+
+def _said(error):
+    """The failure for an error, which standard error has now."""
+    failure = failure_of(error)
+    if failure.status == FAULTY:
+        import traceback
+
+        traceback.print_exception(type(error), error, error.__traceback__)
+    print(f"vaqsider: {failure}", file=sys.stderr)
+    return failure
 
 
 # A word in help.txt: a line, a paragraph, and its arguments, each as `NAME  what it is`.
@@ -123,45 +157,80 @@ WORD = re.compile(r"(?P<name>\w+): (?P<says>.*)\n\n(?P<about>(?:.+\n)*)\n(?P<arg
 ARGUMENT = re.compile(r"^(\S+)(?: (\S+(?: \S+)*))?  (.*(?:\n .*)*)", re.MULTILINE)
 # How an argument is read, by its name there.
 READ_AS = {
-    "SECONDS": {"type": float},
-    "NUMBER": {"type": int},
-    "ROLL": {"choices": ROLLS},
-    "bind|ldns": {"choices": sorted(act.SIGNERS), "default": "bind"},
-    "DS DNSKEY ZONE": {"type": int, "nargs": 3, "metavar": ("DS", "DNSKEY", "ZONE")},
+    "--start": {"type": arguments.moment},
+    "--port": {"type": arguments.port},
+    "SECONDS": {"type": arguments.span},
+    "NUMBER": {"type": arguments.number},
+    "bind|ldns": {"choices": ("bind", "ldns"), "default": "bind"},
+    "DS DNSKEY ZONE": {
+        "type": arguments.number, "nargs": 3, "metavar": ("DS", "DNSKEY", "ZONE"),
+    },
     "[KEYFILE..]": {"nargs": "*"},
     "SCRIPT..": {"nargs": "+"},
 }
+
+
+class Version(argparse.Action):
+    """Prints the release of the key set."""
+
+    def __call__(self, *_):
+        import keyset
+
+        print(f"vaqsider {keyset.__version__}")
+        sys.exit()
 
 
 class Parser(argparse.ArgumentParser):
     """A parser that ends with the status that the table gives for a wrong command line."""
 
     def error(self, message):
-        self.print_usage(sys.stderr)
-        self.exit(USAGE, f"{self.prog}: {message}\n")
+        self.exit(USAGE, f"{self.prog}: {message}; '{self.prog} --help' shows what it takes\n")
 
 
-def parser():
-    """The parser of the whole command line, as help.txt has it."""
-    statuses = "\n".join(f"  {number:3}  {says}" for number, (says, _) in STATUSES.items())
-    forms = "\n".join(f"  {word} {form}" for word, form in FORMS.items())
+def parser(only=None):
+    """The parser of the command line, as help.txt has it: of one word, or of all."""
     as_it_is = argparse.RawDescriptionHelpFormatter
     top = Parser(
         prog="vaqsider",
         description="Keys and rolls of DNSSEC zones, by a proved key set.",
-        epilog=f"exit statuses:\n{statuses}\n\nlines of a script:\n{forms}",
+        epilog=None if only else _epilog(),
         formatter_class=as_it_is,
     )
-    top.add_argument("--version", action="version", version=f"vaqsider {keyset.__version__}")
+    top.add_argument("--version", action=Version, nargs=0, help="print the version")
     subparsers = top.add_subparsers(dest="word", required=True, metavar="WORD", parser_class=Parser)
     for found in WORD.finditer(HELP.read_text(encoding="ascii")):
-        name, says, about, arguments = found.groups()
+        name, says, about, arguments_of = found.groups()
+        if only not in (None, name):
+            continue
         about = f"{says.capitalize()}.\n\n{about}"
         word = subparsers.add_parser(name, help=says, description=about, formatter_class=as_it_is)
-        for argument in ARGUMENT.finditer(f"{arguments}--json  print JSON"):
+        for argument in ARGUMENT.finditer(f"{arguments_of}--json  print JSON"):
             _add(word, *argument.groups())
         word.set_defaults(does=globals()[f"on_{name}"], port=53, every=10)
     return top
+
+
+def _epilog():
+    from keyset.lines import FORMS
+
+    statuses = "\n".join(f"  {number:3}  {says}" for number, (says, _) in STATUSES.items())
+    forms = "\n".join(f"  {word} {form}" for word, form in FORMS.items())
+    return f"exit statuses:\n{statuses}\n\nlines of a script:\n{forms}"
+
+
+def parsed(given):
+    """The arguments of a command line. Files may stand before and after options."""
+    if (wrong := arguments.not_utf8(given)) is not None:
+        Parser(prog="vaqsider").error(f"an argument isn't UTF-8: {os.fsencode(wrong)}")
+    top = parser(given[0] if given and f"on_{given[0]}" in globals() else None)
+    args, more = top.parse_known_args(given)
+    files = vars(args).get("KEYFILE", vars(args).get("SCRIPT"))
+    options = [it for it in more[: more.index("--") if "--" in more else None] if it[:1] == "-"]
+    if more and (options or not isinstance(files, list)):
+        top.error(f"unrecognized arguments: {' '.join(options or more)}")
+    if more:
+        files += (it for it in more if it != "--")
+    return args
 
 
 def _add(word, name, value, says):
@@ -172,23 +241,36 @@ def _add(word, name, value, says):
         return
     shown = (value or name).strip("[].")
     settings = {"metavar": shown, "help": says, **READ_AS.get(value or name, {})}
+    settings.update(READ_AS.get(name, {}))
+    if name == "ROLL":
+        from keyset.lines import ROLLS
+
+        settings["choices"] = ROLLS
     if is_option:
         settings["action"] = "append" if value.endswith("..") else "store"
     word.add_argument(name if is_option else shown, **settings)
 
 
-def main(words_of_line=None):
+def main(given=None):
     """Runs the command, and gives its exit status."""
-    args = parser().parse_args(words_of_line)
+    args = parsed(sys.argv[1:] if given is None else given)
     try:
         ends_with, text, value = args.does(args)
-        for line in [json.dumps(value, indent=1)] if args.json else text:
-            print(line)
-        return ends_with
-    except BrokenPipeError:
-        os.dup2(os.open(os.devnull, os.O_WRONLY), sys.stdout.fileno())
-        return OK
+        lines = [_json(value)] if args.json else list(text)
     except (Exception, KeyboardInterrupt) as error:
-        failure = failure_of(error)
-        print(f"vaqsider: {failure}", file=sys.stderr)
-        return failure.status
+        return _said(error).status
+    try:
+        print(*lines, sep="\n", end="\n" if lines else "", flush=True)
+    except OSError as error:
+        os.dup2(os.open(os.devnull, os.O_WRONLY), sys.stdout.fileno())
+        if not isinstance(error, BrokenPipeError):
+            print(f"vaqsider: standard output: {error.strerror}. This was done:", file=sys.stderr)
+            print(*lines, sep="\n", file=sys.stderr)
+            return UNPRINTED
+    return ends_with
+
+
+def _json(value):
+    import json
+
+    return json.dumps(value, indent=1)

@@ -1,21 +1,23 @@
 """Exit statuses, and which errors end the command with them."""
 
-from keyset import Damaged, Locked, Malformed, Misnamed, Unavailable
-
 OK, DUE, WARNING, BROKEN = 0, 1, 2, 3
-USAGE, UNAVAILABLE, LOCKED, INTERRUPTED = 64, 69, 75, 130
+USAGE, UNAVAILABLE, FAULTY, UNPRINTED, LOCKED, INTERRUPTED = 64, 69, 70, 74, 75, 130
 
-# What a status means, and which errors end the command with it.
+# What a status means, and which errors of Python and of the key set end the command with it.
 STATUSES = {
     OK: ("done; check, watch: all is well", ()),
-    DUE: ("something is due; call, plan: the key set refused a line", ()),
+    DUE: ("check, watch: something is due; call, plan: the key set refused a line", ()),
     WARNING: ("a line can't be true; call: it was not made for that reason", ()),
-    BROKEN: ("the chain of trust is broken, or a file is damaged; check: or it is missing, or a "
-             "program is", (Damaged, Malformed)),
-    USAGE: ("the command line, or the line of a call, is wrong", (FileExistsError, Misnamed)),
-    UNAVAILABLE: ("a program, a file or a server is missing", (Unavailable, OSError, MemoryError)),
-    LOCKED: ("another program is writing the script", (Locked,)),
-    INTERRUPTED: ("interrupted from the keyboard", (KeyboardInterrupt,)),
+    BROKEN: ("the chain of trust is broken, or a file is damaged; check, zones: or it is missing, "
+             "or a program is", ("Damaged", "Malformed")),
+    USAGE: ("the command line, or the line of a call, is wrong",
+            ("FileExistsError", "Misnamed", "WrongArgument")),
+    UNAVAILABLE: ("a program, a file or a server is missing",
+                  ("Unavailable", "OSError", "MemoryError")),
+    FAULTY: ("a fault of this command", ("Exception",)),
+    UNPRINTED: ("done, and standard output can't take it: standard error has it", ()),
+    LOCKED: ("another program is writing the script", ("Locked",)),
+    INTERRUPTED: ("interrupted from the keyboard", ("KeyboardInterrupt",)),
 }
 
 
@@ -28,13 +30,16 @@ class Failure(Exception):
 
 
 def failure_of(error):
-    """The failure for an error. A fault of the command itself is raised again."""
+    """The failure for an error. The nearest of its classes says which."""
     if isinstance(error, Failure):
         return error
-    text = f"{error.filename}: {error.strerror}" if isinstance(error, OSError) else str(error)
+    text = str(error)
+    if isinstance(error, OSError) and error.filename is not None:
+        text = f"{error.filename}: {error.strerror}"
     if isinstance(error, MemoryError):
         text = "out of memory: make the same call again"
-    for status, (says, errors) in STATUSES.items():
-        if isinstance(error, errors):
-            return Failure(text or says, status)
+    for name in (kind.__name__ for kind in type(error).__mro__):
+        for status, (says, names) in STATUSES.items():
+            if name in names:
+                return Failure(text or says, status)
     raise error

@@ -63,12 +63,20 @@ def key_tag(flags, protocol, algorithm, key):
     return (total + (total >> 16)) & 0xFFFF
 
 
+def read(path):
+    """The key of a file. One with a number that no DNSKEY record has is refused by its name."""
+    try:
+        return KeyFile(path)
+    except (ValueError, struct.error):
+        raise Failure(f"{path or repr(path)}: no key file of BIND or ldns") from None
+
+
 def find(key, folders):
     """The file of a key, which its reference names, with or without `.key`."""
     name = key["reference"].rpartition("/")[2].removesuffix(".key")
     for path in (Path(folder) / f"{name}.key" for folder in folders):
         if path.is_file():
-            file = KeyFile(path)
+            file = read(path)
             if (file.tag, file.algorithm) != (key["tag"], key["algorithm"]):
                 raise Failure(f"{path}: its tag or algorithm isn't that of the script", BROKEN)
             return file

@@ -3,6 +3,8 @@
 import datetime
 import re
 
+from .errors import Failure
+
 # What each action asks, with the sets that have to be published.
 ACTIONS = {
     "UpdateDnskeyRrset": "publish the DNSKEY set {dnskey}, signed by {signers}",
@@ -63,7 +65,10 @@ def refusal(reason):
 
 
 def utc(seconds, form):
-    return datetime.datetime.fromtimestamp(seconds, datetime.timezone.utc).strftime(form)
+    try:
+        return datetime.datetime.fromtimestamp(seconds, datetime.timezone.utc).strftime(form)
+    except (ValueError, OverflowError):
+        raise Failure(f"no calendar has the moment {seconds}") from None
 
 
 def moment(seconds):

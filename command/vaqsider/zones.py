@@ -3,7 +3,7 @@
 from pathlib import Path
 
 from . import status, words
-from .errors import UNAVAILABLE, Failure, failure_of
+from .errors import BROKEN, UNAVAILABLE, Failure, failure_of
 
 METRICS = {
     "chain_safe": "1 if the chain of trust held all the time, else 0",
@@ -23,6 +23,8 @@ def zones(folder, now, progress=lambda done, of: None):
         zone = dict.fromkeys(["script", "zone", "fault", "next", *METRICS])
         zone.update(script=str(path), zone=path.stem)
         try:
+            if not path.is_file():
+                raise Failure(f"{path}: it is no file", BROKEN)
             lines, told = status.read(path, now)
         except Exception as error:
             fault = str(failure_of(error)).removeprefix(f"{path}: ")

@@ -1,0 +1,47 @@
+"""How arguments of the command line are read. What can't be is refused by its name."""
+
+import argparse
+import os
+import time
+
+from .errors import Failure
+
+# The highest TTL of a script, and a moment before the last one of calendars.
+MOST, LAST = 2**32 - 1, 10**11
+
+
+def _between(least, most, kind=int):
+    def read(text):
+        try:
+            if least <= (value := kind(text)) <= most:
+                return value
+        except ValueError:
+            pass
+        raise argparse.ArgumentTypeError(f"it is {text!r}, and has to be from {least} to {most}")
+
+    return read
+
+
+number, port = _between(0, MOST), _between(1, 65535)
+span, moment = _between(0, MOST, float), _between(0, LAST, float)
+
+
+def clock():
+    """The present moment, in seconds. VAQSIDER_NOW stands in for the clock."""
+    try:
+        given = os.environ.get("VAQSIDER_NOW")
+        return moment(given) if given else time.time()
+    except argparse.ArgumentTypeError as error:
+        raise Failure(f"VAQSIDER_NOW: {error}") from None
+
+
+def not_utf8(words):
+    """The first of these words that isn't UTF-8."""
+    return next((word for word in words if any("\udc80" <= it <= "\udcff" for it in word)), None)
+
+
+def file_name(zone):
+    """What files of a zone are called. What BIND's tools don't write into a file name is `%` and
+    the number of the character, as in `0%2F25.2.0.192.in-addr.arpa`."""
+    name = zone.rstrip(".") or "root"
+    return "".join(it if it.isalnum() or it in "-_." else f"%{ord(it):02X}" for it in name)
