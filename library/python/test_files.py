@@ -255,6 +255,35 @@ class Files(unittest.TestCase):
         self.assertEqual(keys.call(COURSE[2]).number, 3)
         self.assertEqual(len(self.path.read_text().splitlines()), 4)
 
+    def test_a_child_that_lives_on_keeps_no_lock(self):
+        keys = self.begin()
+        reading, writing = os.pipe()
+        if (pid := os.fork()) == 0:
+            os.close(writing)
+            os.read(reading, 1)
+            os._exit(0)
+        keys.close()
+        KeySet.open(self.path).close()
+        os.close(writing)
+        os.close(reading)
+        os.waitpid(pid, 0)
+
+    def test_a_key_set_that_nobody_has_any_more_is_unlocked(self):
+        keys = KeySet.create(self.path, "example.com")
+        keys.note("before 1 1 1")
+        keys.call(COURSE[0])
+        del keys
+        KeySet.open(self.path).close()
+
+    def test_a_process_may_go_to_another_folder(self):
+        self.addCleanup(os.chdir, os.getcwd())
+        os.chdir(self.path.parent)
+        with KeySet.create(self.path.name, "example.com") as keys:
+            os.chdir("/")
+            keys.call(COURSE[0])
+            keys.note("before 1 1 1")
+        self.assertEqual(Notes(self.path).lines, ["before 1 1 1"])
+
     def test_a_child_is_refused_while_a_thread_holds_the_lock(self):
         keys = self.begin()
 

@@ -8,6 +8,7 @@ from __future__ import annotations
 import contextlib
 import fcntl
 import os
+import weakref
 from pathlib import Path
 from typing import Iterator, List, Optional, Sequence, Union
 
@@ -35,14 +36,53 @@ class Lines:
             raise Damaged(path, line, "a byte that isn't ASCII") from None
 
 
+class Lock:
+    """A file that this process has open and locked, until `close`."""
+
+    def __init__(self, path: Place) -> None:
+        self.descriptor, self._pid = _lock(path), os.getpid()
+        # (The process may go to another folder.)
+        self._place = os.path.abspath(path)
+        _LOCKS.add(self)
+
+    def close(self) -> None:
+        """Unlocks the file. A child only lets go of it: the lock is its parent's."""
+        descriptor, self.descriptor = self.descriptor, -1
+        if descriptor >= 0:
+            with contextlib.suppress(OSError):
+                if os.getpid() == self._pid:
+                    fcntl.flock(descriptor, fcntl.LOCK_UN)
+            os.close(descriptor)
+
+    def size(self) -> Optional[int]:
+        """The file's size, if the file has its name still."""
+        if os.getpid() != self._pid:
+            raise Forked
+        here = os.fstat(self.descriptor)
+        return here.st_size if _is_at(self._place, here) else None
+
+
+# What this process has locked. A child lets go of it, or the lock would outlive its parent.
+_LOCKS: "weakref.WeakSet[Lock]" = weakref.WeakSet()
+
+
+def _let_go() -> None:
+    for lock in list(_LOCKS):
+        lock.close()
+
+
+os.register_at_fork(after_in_child=_let_go)
+
+
 class Writer(Lines):
     """The lines of a file that this process has locked."""
 
-    def __init__(self, path: Place, descriptor: int) -> None:
-        self._descriptor, self._pid, self._remains = descriptor, os.getpid(), False
-        super().__init__(path, _read(descriptor))
+    def __init__(self, path: Place, lock: Lock) -> None:
+        self._lock, self._remains = lock, False
+        with open(lock.descriptor, "rb", closefd=False) as file:
+            super().__init__(path, file.read())
         # A writer that was killed may not have synced what it wrote.
-        os.fsync(descriptor)
+        os.fsync(lock.descriptor)
         _sync_folder(self.path)
 
     def append(self, line: str) -> None:
@@ -60,19 +100,19 @@ class Writer(Lines):
         self.torn, self._remains = b"", False
 
     def _put(self, data: bytes) -> None:
-        os.ftruncate(self._descriptor, self._length)
+        os.ftruncate(self._lock.descriptor, self._length)
         at = self._length
         while data:
-            written = os.pwrite(self._descriptor, data, at)
+            written = os.pwrite(self._lock.descriptor, data, at)
             data, at = data[written:], at + written
-        os.fsync(self._descriptor)
+        os.fsync(self._lock.descriptor)
 
     def _cut_back(self, error: BaseException) -> None:
         """Cuts off the line for which this error was raised."""
         self.torn, self._remains = b"", False
         try:
-            os.ftruncate(self._descriptor, self._length)
-            os.fsync(self._descriptor)
+            os.ftruncate(self._lock.descriptor, self._length)
+            os.fsync(self._lock.descriptor)
         except OSError as fault:
             self._remains, error = True, error if isinstance(error, OSError) else fault
         if isinstance(error, OSError):
@@ -81,22 +121,16 @@ class Writer(Lines):
 
     def _expect_own(self) -> None:
         """The file is locked by this process, has its name, and is as this process has left it."""
-        if os.getpid() != self._pid:
-            raise Forked
-        here = os.fstat(self._descriptor)
-        is_left = here.st_size == self._length + len(self.torn) or self._remains
-        if not (is_left and _is_at(self.path, here)):
+        size, left = self._lock.size(), self._length + len(self.torn)
+        if size is None or (size != left and not self._remains):
             raise Locked(f"{self.path}: another program has changed or replaced it")
 
 
 @contextlib.contextmanager
 def locked(path: Place) -> Iterator[Writer]:
     """The lines of the file, which no other program writes meanwhile."""
-    descriptor = _lock(path)
-    try:
-        yield Writer(path, descriptor)
-    finally:
-        os.close(descriptor)
+    with contextlib.closing(Lock(path)) as lock:
+        yield Writer(path, lock)
 
 
 def _lock(path: Place) -> int:
@@ -119,11 +153,6 @@ def _lock(path: Place) -> int:
 def _is_at(path: Place, here: os.stat_result) -> bool:
     """Whether the path leads to this file."""
     return os.path.samestat(os.stat(path), here)
-
-
-def _read(descriptor: int) -> bytes:
-    with open(descriptor, "rb", closefd=False) as file:
-        return file.read()
 
 
 def create(path: Place, lines: Sequence[str]) -> None:

@@ -3,6 +3,7 @@
 from __future__ import annotations
 
 import contextlib
+import os
 from pathlib import Path
 from typing import Iterator, Sequence
 
@@ -109,9 +110,7 @@ class KeySet(Calls):
             if path is None:
                 raise
             raise Damaged(path, error.line, error.reason) from None
-        # (Notes have a place only beside a script with the name of one.)
-        has_notes = path is not None and Path(path).suffix == ".script"
-        self.lines, self.notes = list(lines), Notes(path if has_notes else None)
+        self.lines, self.notes = list(lines), _notes_of(path)
         if self.refused and not allow_refused:
             number, reason = self.refused[0]
             self._session.close()
@@ -244,6 +243,13 @@ class KeySet(Calls):
             return None
         parts = (part.split("=") for part in chain.split(" ")[1:])
         return Broken(**{name: int(number) for name, number in parts})
+
+
+def _notes_of(path: Place | None) -> Notes:
+    """Notes have a place only beside a script with the name of one."""
+    if path is None or Path(path).suffix != ".script":
+        return Notes(None)
+    return Notes(os.path.abspath(path))
 
 
 def _first(zone: str) -> str:
