@@ -2,14 +2,11 @@
 
 import sys
 import warnings
+from importlib.util import find_spec
 from pathlib import Path
 
-try:
-    import keyset  # noqa: F401
-except ImportError:
+if find_spec("keyset") is None:
     sys.path.append(str(Path(__file__).resolve().parents[2] / "library" / "python"))
 
-from keyset import Slow  # noqa: E402
-
-# The programs do for an operator, who makes a few calls.
-warnings.simplefilter("ignore", Slow)
+# That the programs answer: they do for an operator, who makes a few calls.
+warnings.filterwarnings("ignore", "libkeyset isn't there", RuntimeWarning)

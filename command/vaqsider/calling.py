@@ -6,6 +6,7 @@ import time
 
 import keyset
 from keyset import Malformed, Notes, lines as forms, locked
+from keyset.errors import OUT_OF_MEMORY
 
 from . import check, keyfiles, status, words
 from .errors import BROKEN, DUE, OK, USAGE, WARNING, Failure
@@ -50,7 +51,7 @@ def call(path, text, clock, although=False, dry_run=False):
             is_own = error.line == len(lines)
             raise Failure(f"{path}: {error}", USAGE if is_own else BROKEN) from None
         made = Made(line, history.replies[-1], history.published)
-        if made.refused == keyset.values.OUT_OF_MEMORY:
+        if made.refused == OUT_OF_MEMORY:
             raise MemoryError
         if not made.refused:
             # A report's moment was rounded up to the next second, which has come by now.

@@ -3,7 +3,7 @@
 import shlex
 
 import keyset
-from keyset import Broken, Damaged, Lines, Malformed
+from keyset import Damaged, Lines, Malformed
 from keyset.lines import FORMS
 
 from . import words
@@ -64,7 +64,7 @@ def is_asked(told, action):
 def screen(told):
     """The lines of the screen."""
     places = {name: place for name, place in told["chain"].items() if name != "safe"}
-    verdict = SAFE if told["chain"]["safe"] else f"chain {Broken(**places)}"
+    verdict = SAFE if told["chain"]["safe"] else f"chain {keyset.Broken(**places)}"
     yield f"{told['zone']}: {verdict}"
     for kind, label in LABELS.items():
         yield f"  {label:8} {words.listed(told['published'][kind])}"

@@ -1,6 +1,5 @@
 """Words for people: actions, refusals, moments."""
 
-import datetime
 import re
 
 from .errors import Failure
@@ -65,6 +64,8 @@ def refusal(reason):
 
 
 def utc(seconds, form):
+    import datetime
+
     try:
         return datetime.datetime.fromtimestamp(seconds, datetime.timezone.utc).strftime(form)
     except (ValueError, OverflowError):

@@ -108,7 +108,7 @@ class Calls(unittest.TestCase):
         self.assertTrue((Path(keyset.__file__).parent / "py.typed").is_file())
 
     def test_errors_have_one_base(self):
-        errors = [it for it in vars(keyset).values() if inspect.isclass(it)]
+        errors = [it for it in (getattr(keyset, name) for name in keyset.__all__) if inspect.isclass(it)]
         errors = [it for it in errors if issubclass(it, Exception) and it is not keyset.Slow]
         self.assertEqual([it for it in errors if not issubclass(it, keyset.Error)], [])
         self.assertGreater(len(errors), 10)

@@ -2,6 +2,8 @@
 that were accepted. If the library isn't there, the programs answer."""
 
 import sys
+from importlib import import_module
+from typing import TYPE_CHECKING
 
 if sys.version_info < (3, 9):
     raise ImportError("keyset wants Python 3.9 or later")
@@ -9,40 +11,41 @@ if sys.version_info < (3, 9):
 # The release that this package is part of.
 __version__ = "1.0.0"
 
-from .engine import Slow, answer, due, open_session, run, status
-from .errors import (
-    Closed,
-    Damaged,
-    Error,
-    Forked,
-    Locked,
-    Malformed,
-    Misnamed,
-    NotKept,
-    OutOfMemory,
-    Refusal,
-    Refused,
-    Torn,
-    Unavailable,
-    Wait,
-    WrongArgument,
-)
-from .file import Lines, create, locked
-from .keyset import KeySet
-from .members import Stamps, Status
-from .notes import Notes
-from .session import Session
-from .values import (
-    Accepted,
-    Action,
-    Broken,
-    Due,
-    Key,
-    Published,
-    Role,
-    Roll,
-    RollType,
-)
+if TYPE_CHECKING:
+    from .engine import Slow, answer, due, open_session, run, status
+    from .errors import (
+        Closed,
+        Damaged,
+        Error,
+        Forked,
+        Locked,
+        Malformed,
+        Misnamed,
+        NotKept,
+        OutOfMemory,
+        Refusal,
+        Refused,
+        Torn,
+        Unavailable,
+        Wait,
+        WrongArgument,
+    )
+    from .file import Lines, create, locked
+    from .keyset import KeySet
+    from .lines import RollType
+    from .members import Stamps, Status
+    from .notes import Notes
+    from .session import Session
+    from .values import (
+        Accepted,
+        Action,
+        Broken,
+        Due,
+        Key,
+        Published,
+        Role,
+        Roll,
+    )
 
 __all__ = [
     "Accepted",
@@ -84,3 +87,14 @@ __all__ = [
     "run",
     "status",
 ]
+
+# Where a name is looked for. Each module is imported once it is needed: a command starts often.
+MODULES = ("errors", "file", "engine", "notes", "session", "lines", "values", "members", "keyset")
+
+
+def __getattr__(name: str) -> object:
+    for module in MODULES if name in __all__ else ():
+        found = vars(import_module(f".{module}", __name__))
+        if name in found:
+            return found[name]
+    raise AttributeError(f"module {__name__!r} has no attribute {name!r}")

@@ -8,8 +8,8 @@ from abc import ABC, abstractmethod
 from typing import Callable
 
 from .errors import WrongArgument
-from .lines import FIELDS
-from .values import Accepted, References, RollType
+from .lines import FIELDS, RollType
+from .values import Accepted, References
 
 
 class Calls(ABC):

@@ -14,7 +14,6 @@ from .library import LibrarySession, answer, library
 from .members import Status
 from .programs import ProgramSession
 from .session import Session
-from .values import Due
 
 __all__ = ["answer", "due", "open_session", "run", "status"]
 
@@ -88,6 +87,8 @@ def dues(
 
 
 def _ttls(told: str) -> Dict[str, Optional[int]]:
+    from .values import Due
+
     return {one.roll.value: one.ttl for one in map(Due.of, told.splitlines())}
 
 

@@ -7,6 +7,7 @@ from enum import Enum
 
 EARLY = "wait for duration "
 OUT_OF_MEMORY = "out of memory"
+REFUSED = "refused: "
 
 
 class Error(Exception):
@@ -125,3 +126,13 @@ class Forked(Error):
 
 class Unavailable(Error):
     """The library, or a program, isn't there or is of another version."""
+
+
+def refusal_of(reply: str) -> Refused | OutOfMemory | None:
+    """The error that a refused reply is, or None for one that was accepted."""
+    if not reply.startswith(REFUSED):
+        return None
+    text = reply[len(REFUSED) :]
+    if text == OUT_OF_MEMORY:
+        return OutOfMemory(text)
+    return Wait(text) if text.startswith(EARLY) else Refused(text)

@@ -9,8 +9,9 @@ from typing import Iterator, Sequence
 
 from . import engine, file
 from .calls import Calls, up
-from .errors import Damaged, Malformed, OutOfMemory, Torn, WrongArgument
+from .errors import Damaged, Malformed, OutOfMemory, Torn, WrongArgument, refusal_of
 from .file import Place, Writer
+from .lines import RollType
 from .members import Status
 from .notes import Notes, path_of
 from .session import Guard, Session
@@ -22,8 +23,6 @@ from .values import (
     Key,
     Published,
     Roll,
-    RollType,
-    refusal_of,
 )
 
 

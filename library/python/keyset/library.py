@@ -14,7 +14,7 @@ import weakref
 from pathlib import Path
 from typing import Callable, Iterator, List, Optional, cast
 
-from .errors import Malformed, Unavailable
+from .errors import Malformed, Unavailable, refusal_of
 from .lines import why_malformed
 from .members import Status
 from .session import (
@@ -29,7 +29,6 @@ from .session import (
     Session,
     fault,
 )
-from .values import refusal_of
 
 # The version of the library's interface: KEYSET_VERSION of its header.
 INTERFACE = 2

@@ -6,9 +6,8 @@ finds the fields of a line that the key set has read."""
 from __future__ import annotations
 
 import re
+from enum import Enum
 from typing import Callable, Dict, Optional, Sequence, Tuple
-
-from .values import RollType
 
 FORMS = {
     "add-ksk": "REF PRIV ALG TAG TIME YN",
@@ -32,6 +31,19 @@ FORMS = {
     "set-ds-visible": "REF TIME",
     "set-rrsig-visible": "REF TIME",
 }
+
+
+class RollType(Enum):
+    """The kinds of rolls, as a script calls them."""
+
+    KSK_ROLL = "ksk-roll"
+    KSK_DOUBLE_DS_ROLL = "ksk-double-ds-roll"
+    ZSK_ROLL = "zsk-roll"
+    ZSK_DOUBLE_SIGNATURE_ROLL = "zsk-double-signature-roll"
+    CSK_ROLL = "csk-roll"
+    ALGORITHM_ROLL = "algorithm-roll"
+
+
 ROLLS = tuple(roll.value for roll in RollType)
 ALGORITHMS = {
     "RSASHA256": 8,

@@ -8,17 +8,14 @@ from __future__ import annotations
 import json
 import os
 import re
-import shutil
-import subprocess
 from pathlib import Path
 from typing import List, Optional, Sequence, cast
 
-from .errors import Closed, Malformed, OutOfMemory, Unavailable
+from .errors import Closed, Malformed, OutOfMemory, Unavailable, refusal_of
 from .library import TREE
 from .lines import why_malformed
 from .members import Status
 from .session import MALFORMED, NO_NOTES, NOT_TAKEN, OUT_OF_MEMORY, Guard, Session
-from .values import refusal_of
 
 
 class ProgramSession(Session):
@@ -108,6 +105,8 @@ def due(lines: Sequence[str], notes: Sequence[str], moment: int) -> str:
 
 def find(name: str) -> str:
     """The path of a program."""
+    import shutil
+
     folder = os.environ.get("KEYSET_PROGRAMS")
     places = [Path(folder)] if folder else [TREE / "crates" / name / "out", TREE / "bin"]
     made = (str(place / name) for place in places)
@@ -119,6 +118,8 @@ def find(name: str) -> str:
 
 def run(name: str, lines: Sequence[str]) -> str:
     """What a program writes for these lines."""
+    import subprocess
+
     text = "".join(f"{line}\n" for line in lines).encode("utf-8", "surrogatepass")
     done = subprocess.run([find(name)], input=text, capture_output=True)
     said = done.stderr.decode(errors="replace")

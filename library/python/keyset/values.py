@@ -6,7 +6,7 @@ from dataclasses import dataclass
 from enum import Enum
 from typing import Iterable, List, Optional, Tuple, Union, cast
 
-from .errors import EARLY, OUT_OF_MEMORY, OutOfMemory, Refused, Wait
+from .lines import RollType
 from .members import (
     CallWord,
     KeyKind,
@@ -22,20 +22,9 @@ from .members import (
     WaitsFor,
 )
 
-REFUSED, NOT_YET = "refused: ", "not yet: "
+NOT_YET = "not yet: "
 # References of keys. A text isn't a list of them.
 References = Union[List[str], Tuple[str, ...]]
-
-
-class RollType(Enum):
-    """The kinds of rolls, as a script calls them."""
-
-    KSK_ROLL = "ksk-roll"
-    KSK_DOUBLE_DS_ROLL = "ksk-double-ds-roll"
-    ZSK_ROLL = "zsk-roll"
-    ZSK_DOUBLE_SIGNATURE_ROLL = "zsk-double-signature-roll"
-    CSK_ROLL = "csk-roll"
-    ALGORITHM_ROLL = "algorithm-roll"
 
 
 class Action(Enum):
@@ -68,16 +57,6 @@ class Accepted(List[Action]):
     def of(cls, reply: str, number: int) -> Accepted:
         """Reads a reply that begins with `ok`."""
         return cls(map(Action, reply.split(" ")[1:]), number)
-
-
-def refusal_of(reply: str) -> Optional[Union[Refused, OutOfMemory]]:
-    """The error that a refused reply is, or None for one that was accepted."""
-    if not reply.startswith(REFUSED):
-        return None
-    text = reply[len(REFUSED) :]
-    if text == OUT_OF_MEMORY:
-        return OutOfMemory(text)
-    return Wait(text) if text.startswith(EARLY) else Refused(text)
 
 
 @dataclass(frozen=True)
