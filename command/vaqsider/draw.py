@@ -1,7 +1,7 @@
 """The timeline of a zone as SVG: in black and white, and as letters for a terminal's browser, which
 draws no shapes."""
 
-from xml.sax.saxutils import escape
+from html import escape
 
 from . import words
 from .timeline import Bar
