@@ -422,8 +422,8 @@ def test_cargo_project(folder, room):
 
 def test_python_caller(folder):
     made = {**os.environ, "KEYSET_LIBRARY": str(folder / "lib" / "libkeyset.so")}
-    for name in ("test_keyset.py", "test_files.py", "test_found.py"):
-        run(sys.executable, "-B", LIBRARY / "python" / name, env=made)
+    for path in sorted((LIBRARY / "python").glob("test_*.py")):
+        run(sys.executable, "-B", path, env=made)
     return expect_rolls("Python", [sys.executable, "-B", LIBRARY / "python" / "roll.py"], env=made)
 
 

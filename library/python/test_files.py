@@ -1,130 +1,32 @@
-"""Files of accepted lines under what goes wrong: processes side by side, one that is killed, one
-that forks, threads, a sync that fails, a full disk, a file that is replaced or has lost a line."""
+"""Files of accepted lines: a sync that fails, a full disk, a file that is replaced, is torn or has
+lost a line, and the notes beside it."""
 
 import errno
 import fcntl
-import multiprocessing
 import os
 import resource
-import signal
-import tempfile
-import threading
-import time
 import unittest
-from pathlib import Path
 from unittest import mock
 
+from cases import COURSE, Kept
 from keyset import (
     Accepted,
     Damaged,
     Error,
-    Forked,
     KeySet,
     Locked,
     NotKept,
     Notes,
     Refused,
     RollType,
+    Torn,
     due,
 )
-from keyset.engine import _has_library
 
-# A course with a report that is too early, which is no line of its file.
-COURSE = (
-    "add-ksk K1 - 13 0 0 yes",
-    "add-zsk Z1 - 13 1 0 yes",
-    "start algorithm-roll - K1,Z1 0",
-    "report1 algorithm-roll 3600 100",
-    "wait1 algorithm-roll 3700",
-    "report2 algorithm-roll 60 3710",
-    "wait2 algorithm-roll 3770",
-    "done algorithm-roll",
-)
 ROLL = RollType.ALGORITHM_ROLL
-PROCESSES, LINES = 4, 25 if _has_library() else 3
-FORK = multiprocessing.get_context("fork")
-# Each sync takes long on a busy disk.
-MEMORY = "/dev/shm" if os.path.isdir("/dev/shm") else None
 
 
-def add(keys, number):
-    return keys.add_key_zsk(f"Z{number}", algorithm=13, key_tag=number, creation=0)
-
-
-def keep(path, number):
-    """Adds a key by this package, once no other process has the file open for writing."""
-    while True:
-        try:
-            with KeySet.open(path) as keys:
-                return add(keys, number)
-        except Locked:
-            time.sleep(0.001)
-
-
-def keep_by_renaming(path, number, opened):
-    """Adds a key as another recipe says: under a lock, a new file takes the place of the old."""
-    with open(path) as file:
-        opened.wait()
-        fcntl.flock(file, fcntl.LOCK_EX)
-        new = path.with_name(f"{number}.new")
-        new.write_text(f"{file.read()}add-zsk Z{number} - 13 {number} 0 yes\n")
-        os.replace(new, path)
-
-
-def child(part):
-    """Whether a part passes in a child of this process."""
-    if (pid := os.fork()) != 0:
-        return os.waitstatus_to_exitcode(os.waitpid(pid, 0)[1]) == 0
-    status = 1
-    try:
-        part()
-        status = 0
-    finally:
-        os._exit(status)
-
-
-class Files(unittest.TestCase):
-    def setUp(self):
-        folder = tempfile.TemporaryDirectory(dir=MEMORY)
-        self.addCleanup(folder.cleanup)
-        self.path = Path(folder.name) / "example.com.script"
-
-    def begin(self, lines=()):
-        """A key set with a file of these lines."""
-        self.path.write_text("".join(f"{line}\n" for line in ("zone example.com", *lines)))
-        keys = KeySet.open(self.path)
-        self.addCleanup(keys.close)
-        return keys
-
-    def side_by_side(self, part, *more):
-        started = [
-            FORK.Process(target=part, args=(number, *more)) for number in range(PROCESSES)
-        ]
-        for process in started:
-            process.start()
-        for process in started:
-            process.join()
-            self.assertEqual(process.exitcode, 0)
-        return self.path.read_text().splitlines()[1:]
-
-    def test_processes_side_by_side_keep_all_lines(self):
-        self.begin().close()
-
-        def part(begin):
-            for number in range(begin, PROCESSES * LINES, PROCESSES):
-                keep(self.path, number)
-
-        self.assertEqual(len(self.side_by_side(part)), PROCESSES * LINES)
-        KeySet.open(self.path).close()
-
-    def test_a_file_in_place_of_the_locked_one_loses_lines(self):
-        self.begin().close()
-
-        def part(number, opened):
-            keep_by_renaming(self.path, number, opened)
-
-        self.assertEqual(len(self.side_by_side(part, FORK.Barrier(PROCESSES))), 1)
-
+class Files(Kept):
     def test_a_file_that_is_replaced_before_the_lock_is_opened_anew(self):
         self.begin().close()
         flock, text = fcntl.flock, self.path.read_text() + COURSE[0] + "\n"
@@ -152,27 +54,6 @@ class Files(unittest.TestCase):
             self.assertEqual(self.path.read_text(), "zone example.com\n")
             self.assertEqual(list(keys.keys()), ["K1"])
             keys.close()
-
-    def test_a_writer_that_is_killed_leaves_each_accepted_line(self):
-        self.begin().close()
-        for attempt in range(5):
-            reading, writing = os.pipe()
-            if (pid := os.fork()) == 0:
-                with KeySet.open(self.path) as keys:
-                    for number in range(attempt * 1000, attempt * 1000 + 1000):
-                        add(keys, number)
-                        os.write(writing, b".")
-            os.close(writing)
-            os.read(reading, 1)
-            time.sleep(attempt / 500)
-            os.kill(pid, signal.SIGKILL)
-            os.waitpid(pid, 0)
-            told = len(os.read(reading, 4096)) + 1
-            os.close(reading)
-            with KeySet.open(self.path, cut_torn=True) as keys:
-                tags = [int(line.split(" ")[4]) for line in keys.lines[1:]]
-            kept = sum(tag // 1000 == attempt for tag in tags)
-            self.assertIn(kept, (told, told + 1))
 
     def test_a_line_that_is_not_synced_is_cut_off_again(self):
         keys = self.begin(COURSE[:2])
@@ -230,44 +111,6 @@ class Files(unittest.TestCase):
                 keys.call(COURSE[2])
         self.assertEqual((self.path.read_bytes(), keys.rolls()), (before, {}))
 
-    def test_a_child_of_the_process_is_refused(self):
-        keys = self.begin(COURSE[:2])
-        asked = (
-            lambda: keys.call(COURSE[2]),
-            lambda: keys.would(COURSE[2]),
-            lambda: keys.note("before 1 1 1"),
-            lambda: keys.due(1),
-            lambda: keys.published,
-            keys.keys,
-            keys._session.copy,
-            keys._session.closing,
-        )
-
-        def part():
-            for ask in asked:
-                with self.assertRaises(Forked):
-                    ask()
-            keys.close()
-            with self.assertRaises(Locked):
-                KeySet.open(self.path)
-
-        self.assertTrue(child(part))
-        self.assertEqual(keys.call(COURSE[2]).number, 3)
-        self.assertEqual(len(self.path.read_text().splitlines()), 4)
-
-    def test_a_child_that_lives_on_keeps_no_lock(self):
-        keys = self.begin()
-        reading, writing = os.pipe()
-        if (pid := os.fork()) == 0:
-            os.close(writing)
-            os.read(reading, 1)
-            os._exit(0)
-        keys.close()
-        KeySet.open(self.path).close()
-        os.close(writing)
-        os.close(reading)
-        os.waitpid(pid, 0)
-
     def test_a_key_set_that_nobody_has_any_more_is_unlocked(self):
         keys = KeySet.create(self.path, "example.com")
         keys.note("before 1 1 1")
@@ -283,53 +126,6 @@ class Files(unittest.TestCase):
             keys.call(COURSE[0])
             keys.note("before 1 1 1")
         self.assertEqual(Notes(self.path).lines, ["before 1 1 1"])
-
-    def test_a_child_is_refused_while_a_thread_holds_the_lock(self):
-        keys = self.begin()
-
-        def part():
-            with self.assertRaises(Forked):
-                keys.keys()
-
-        thread_has, child_is_done = threading.Event(), threading.Event()
-
-        def hold():
-            with keys._guard.held():
-                thread_has.set()
-                child_is_done.wait()
-
-        holder = threading.Thread(target=hold)
-        holder.start()
-        thread_has.wait()
-        self.assertTrue(child(part))
-        child_is_done.set()
-        holder.join()
-
-    def test_threads_share_a_key_set(self):
-        keys, wrong = self.begin(COURSE[:3]), []
-
-        def read():
-            for _ in range(200):
-                try:
-                    if keys.published.dnskey != ["K1", "Z1"] or keys.chain != "safe":
-                        wrong.append("other sets")
-                except Error as error:
-                    wrong.append(error)
-
-        def write(begin):
-            for number in range(begin, begin + 2 * LINES, 2):
-                add(keys, number)
-
-        threads = [threading.Thread(target=read) for _ in range(6)]
-        threads += [threading.Thread(target=write, args=(begin,)) for begin in (2, 3)]
-        for thread in threads:
-            thread.start()
-        for thread in threads:
-            thread.join()
-        self.assertEqual(wrong, [])
-        keys.close()
-        with KeySet.open(self.path) as again:
-            self.assertEqual(len(again.keys()), 2 + 2 * LINES)
 
     def test_a_script_that_lost_a_line_is_damaged(self):
         for lost in range(len(COURSE) - 1):
@@ -387,6 +183,13 @@ class Files(unittest.TestCase):
             again.notes.path.write_text("before 1 1 1\n")
             with self.assertRaises(Damaged):
                 again.due(30)
+        self.path.with_suffix(".notes").write_text("before 1 1 1\npublished dnskey 3 1 1")
+        for part in (KeySet.open, Notes):
+            with self.assertRaises(Torn):
+                part(self.path)
+        with KeySet.open(self.path, cut_torn=True) as again:
+            again.note("published dnskey 3 2 2")
+            self.assertEqual(Notes(self.path).lines, ["before 1 1 1", "published dnskey 3 2 2"])
         self.path.with_suffix(".notes").write_text("before 1 1 1\npublished dnskey 9 1 1\n")
         with self.assertRaisesRegex(Damaged, "notes: line 2: no such call yet"):
             KeySet.open(self.path)

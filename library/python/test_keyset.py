@@ -108,8 +108,9 @@ class Calls(unittest.TestCase):
         self.assertTrue((Path(keyset.__file__).parent / "py.typed").is_file())
 
     def test_errors_have_one_base(self):
-        errors = [it for it in (getattr(keyset, name) for name in keyset.__all__) if inspect.isclass(it)]
-        errors = [it for it in errors if issubclass(it, Exception) and it is not keyset.Slow]
+        errors = [getattr(keyset, name) for name in keyset.__all__]
+        errors = [it for it in errors if inspect.isclass(it) and issubclass(it, Exception)]
+        errors.remove(keyset.Slow)
         self.assertEqual([it for it in errors if not issubclass(it, keyset.Error)], [])
         self.assertGreater(len(errors), 10)
         self.assertTrue(issubclass(keyset.OutOfMemory, MemoryError))

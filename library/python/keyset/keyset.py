@@ -9,7 +9,7 @@ from typing import Iterator, Sequence
 
 from . import engine, file
 from .calls import Calls, up
-from .errors import Damaged, Malformed, OutOfMemory, Torn, WrongArgument, refusal_of
+from .errors import Damaged, Locked, Malformed, OutOfMemory, Torn, WrongArgument, refusal_of
 from .file import Place, Writer
 from .lines import RollType
 from .members import Status
@@ -75,15 +75,16 @@ class KeySet(Calls):
         line before it may be lost, and what is published isn't what the key set would show.
         `allow_refused` opens such a file all the same.
 
-        `Torn`: the last line has no line feed. If only this package writes the file, a crash has
-        torn it, and nobody acted on it: `cut_torn` leaves it out, and the next call cuts it off."""
+        `Torn`: its last line, or that of the notes, has no line feed. If only this package writes
+        the file, a crash has torn it, and nobody acted on it: `cut_torn` leaves it out, and the
+        next call cuts it off."""
         made = cls.__new__(cls)
         with contextlib.ExitStack() as opened:
             lines = opened.enter_context(file.locked(path))
             if lines.torn and not cut_torn:
                 raise Torn(path, len(lines.lines) + 1)
             made._begin(lines.lines, path, allow_refused)
-            opened.callback(made._session.close)
+            made.notes = _notes_of(path, cut_torn)
             made._file = lines
             for line in made.notes.lines:
                 made._take(line)
@@ -103,13 +104,15 @@ class KeySet(Calls):
     ) -> None:
         self._guard, self._open = Guard(), contextlib.ExitStack()
         self._file: Writer | None = None
+        # (A handler of a signal may come in between.)
+        self._is_trying = False
         try:
             self._session, self.refused = _replayed(lines)
         except Malformed as error:
             if path is None:
                 raise
             raise Damaged(path, error.line, error.reason) from None
-        self.lines, self.notes = list(lines), _notes_of(path)
+        self.lines, self.notes = list(lines), Notes(None)
         if self.refused and not allow_refused:
             number, reason = self.refused[0]
             self._session.close()
@@ -153,10 +156,13 @@ class KeySet(Calls):
         """A copy of the session, to try something on. It is closed, unless it takes the session's
         place."""
         with self._guard.held():
-            tried = self._session.copy()
+            if self._is_trying:
+                raise Locked("another call of this key set is being made")
+            tried, self._is_trying = self._session.copy(), True
             try:
                 yield tried
             finally:
+                self._is_trying = False
                 if tried is not self._session:
                     tried.close()
 
@@ -244,11 +250,10 @@ class KeySet(Calls):
         return Broken(**{name: int(number) for name, number in parts})
 
 
-def _notes_of(path: Place | None) -> Notes:
+def _notes_of(path: Place, cut_torn: bool) -> Notes:
     """Notes have a place only beside a script with the name of one."""
-    if path is None or Path(path).suffix != ".script":
-        return Notes(None)
-    return Notes(os.path.abspath(path))
+    is_named = Path(path).suffix == ".script"
+    return Notes(os.path.abspath(path) if is_named else None, cut_torn=cut_torn)
 
 
 def _first(zone: str) -> str:

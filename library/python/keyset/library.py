@@ -6,6 +6,7 @@ the system's loader finds."""
 
 from __future__ import annotations
 
+import contextlib
 import ctypes
 import functools
 import json
@@ -124,6 +125,9 @@ def _declare(made: ctypes.CDLL) -> None:
         "due": [handle, ctypes.c_uint64, *text],
     }
     statuses = {"open": [*text, handle], "note": [handle, *text], "copy": [handle, handle]}
+    # (An older library of this version lacks it.)
+    if hasattr(made, "keyset_accept"):
+        statuses["accept"] = [handle, *text]
     for names, restype in ((answers, _Answered), (statuses, ctypes.c_uint32)):
         for name, takes in names.items():
             function = getattr(made, f"keyset_{name}")
@@ -170,13 +174,22 @@ class LibrarySession(Session):
 
     def accept(self, line: str) -> str:
         with self._guard.held():
-            tried = self.copy()
-            try:
-                reply = tried.call(line)
-                if refusal_of(reply) is None:
-                    self._take_over(tried)
-            finally:
-                tried.close()
+            if not hasattr(self._library, "keyset_accept"):
+                return self._accept_on_copy(line)
+            data = as_bytes(line)
+            status = self._library.keyset_accept(self._by(), data, len(data))
+            if status == MALFORMED:
+                raise Malformed(self._calls + 2, why_malformed(line))
+            if status not in (ANSWERED, REFUSED):
+                raise fault(status)
+            self._calls += status == ANSWERED
+            return self._asked("told").rstrip("\n")
+
+    def _accept_on_copy(self, line: str) -> str:
+        with contextlib.closing(self.copy()) as tried:
+            reply = tried.call(line)
+            if refusal_of(reply) is None:
+                self._take_over(tried)
         return reply
 
     def _take_over(self, tried: LibrarySession) -> None:

@@ -12,7 +12,7 @@ from pathlib import Path
 from typing import Callable, Dict, Iterable, Iterator, List, Mapping, Sequence
 
 from . import engine, file
-from .errors import Damaged, Locked, Malformed, Misnamed
+from .errors import Damaged, Locked, Malformed, Misnamed, Torn
 
 KINDS = ("ds", "dnskey", "zone")
 FORM = re.compile(
@@ -22,11 +22,12 @@ FORM = re.compile(
 
 class Notes:
     """The notes as they were when they were read; without a file there are no lines. Those of
-    `ZONE.script` are in `ZONE.notes`. `Misnamed`: the name of the script ends otherwise. Without a
-    script they are kept only in memory."""
+    `ZONE.script` are in `ZONE.notes`. `Misnamed`: the name of the script ends otherwise. `Torn`:
+    the last line has no line feed; `cut_torn` leaves it out. Without a script they are kept only in
+    memory."""
 
-    def __init__(self, script: file.Place | None) -> None:
-        self.path = None if script is None else path_of(script)
+    def __init__(self, script: file.Place | None, *, cut_torn: bool = False) -> None:
+        self.path, self._cut_torn = None if script is None else path_of(script), cut_torn
         self.lines = self._read()
 
     @classmethod
@@ -44,7 +45,10 @@ class Notes:
     def _read(self) -> list[str]:
         if self.path is None or not self.path.is_file():
             return []
-        return _checked(file.Lines(self.path))
+        notes = file.Lines(self.path)
+        if notes.torn and not self._cut_torn:
+            raise Torn(self.path, len(notes.lines) + 1)
+        return _checked(notes)
 
     def more(self) -> list[str]:
         """The lines that were noted since these were read. `Damaged`: one of these is gone."""
