@@ -109,4 +109,5 @@ async def tour(zone):
         await operator.call(f"add {new}")
         await operator.roll(roll, old, new)
         await operator.call(f"delete {old}")
+    await operator.watch("--state")
     await operator.type("check", operator.script)

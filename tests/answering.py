@@ -58,7 +58,7 @@ def lines_of(address: str, kind: str):
 
 def record_of(kind: str, data: str):
     """A record, with the digest of its key file if it has none."""
-    tag, *_, digest = data.split()
+    tag, digest = data.split()[0], data.split()[-1]
     if kind in ("DS", "CDS") and digest == "00" and tag != "0":
         (path,) = Path().glob(f"K*+{int(tag):05}.key")
         text = next(it for it in path.read_text().splitlines() if not it.startswith(";"))

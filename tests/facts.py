@@ -346,9 +346,11 @@ def by_the_command():
         _, sets, verdict = answers(operator.script.read_text().splitlines())
         if zone["rolls"] or verdict != "chain safe" or "CDS" in Path("signed").read_text():
             yield f"{roll} ends with {told}"
-        found, _ = typed(["check", operator.script], operator.now)
-        if found != "all is well\n":
-            yield f"{roll}: check says {found}"
+        servers = ["--server", "signed", "--parent-server", "up"]
+        state, status = typed(["watch", operator.script, "--state", *servers], operator.now)
+        found, level = typed(["check", operator.script], operator.now)
+        if status or level or not found.endswith("\nall is well\n"):
+            yield f"{roll}: the state is {state}, and check says {found}"
         old = {operator.names[key] for key in re.findall(r"delete (\w+)", " ".join(commands))}
         if not old or set().union(*sets.values()) & old:
             yield f"{roll} leaves {sets}"

@@ -81,6 +81,11 @@ RIGHT = {
     "DNSKEY": Set(KEYS, (KSK,)), "SOA": Set((soa(7),), (NEW,)),
     "NS": Set((f"NS ns1.{ZONE}.", f"NS ns2.{ZONE}."), (NEW,)),
 }
+# What a server gives that comes back with what it had before the roll.
+BEFORE = {
+    "DNSKEY": Set(KEYS[:2], (KSK,)), "SOA": Set((soa(5),), (OLD,)),
+    "NS": replace(RIGHT["NS"], by=(OLD,)),
+}
 ABOVE = {"DS": Set((ds(KSK),)), "NS": Set((f"NS ns1.{ZONE}.",))}
 
 
@@ -149,7 +154,7 @@ def honest(sets, extra=None):
 def changed(sets=None, **changes):
     """A server's sets with one of them changed: its name, and what is otherwise."""
     ((kind, values),) = changes.items()
-    sets = sets or {**RIGHT, **ABOVE}
+    sets = sets or {**ABOVE, **RIGHT}
     return honest({**sets, kind: replace(sets[kind], **values)})
 
 
@@ -201,12 +206,14 @@ def same_tag(record: str) -> str:
 
 @dataclass(frozen=True)
 class Row:
-    """A lie, in the step that waits for a kind of sets, and what the command has to say of it."""
+    """A lie, in the step that waits for a kind of sets, and what the command has to say of it; and
+    how the same servers' state ends: 3 if a resolver may find no chain."""
 
     name: str
     step: str
     answer: object
     says: tuple = ()
+    state: int = None
 
 
 NOT_GIVEN = ("DNSKEY none, not 10133,46350,64103", "no signature by 64103")
@@ -223,8 +230,8 @@ ROWS = (
         ("no answer: what came can't be read",)),
     Row("cut off", "dnskey", in_bytes(lambda wire: wire[:90]),
         ("no answer: what came can't be read",)),
-    Row("other owner", "dnskey", changed(DNSKEY={"owner": f"a.{ZONE}"}), NOT_GIVEN),
-    Row("other class", "dnskey", changed(DNSKEY={"rdclass": "CH"}), NOT_GIVEN),
+    Row("other owner", "dnskey", changed(DNSKEY={"owner": f"a.{ZONE}"}), NOT_GIVEN, 3),
+    Row("other class", "dnskey", changed(DNSKEY={"rdclass": "CH"}), NOT_GIVEN, 3),
     Row("no authority", "dnskey", honest(RIGHT, no_authority),
         ("no answer: it has no authority for the zone",)),
     Row("SERVFAIL", "dnskey", coded(dns.rcode.SERVFAIL), ("no answer: SERVFAIL",)),
@@ -233,53 +240,70 @@ ROWS = (
     Row("silent", "dnskey", lambda query, is_tcp: [], ("no answer",)),
     Row("no TCP", "dnskey", no_tcp, ("no answer: over TCP",)),
     Row("one key less", "dnskey", changed(DNSKEY={"records": KEYS[:2]}),
-        ("DNSKEY 10133,64103, not 10133,46350,64103",)),
+        ("DNSKEY 10133,64103, not 10133,46350,64103",), 3),
     Row("a key more", "dnskey", changed(DNSKEY={"records": (*KEYS, dnskey(OTHER, 257))}),
         ("DNSKEY 10133,46350,46352,64103, not 10133,46350,64103",)),
     Row("a key of the same tag", "dnskey",
         changed(DNSKEY={"records": (*KEYS[:2], same_tag(KEYS[2]))}),
-        ("DNSKEY 46350 isn't that of Kexample.com.+013+46350.key",)),
+        ("DNSKEY 46350 isn't that of Kexample.com.+013+46350.key",), 3),
     Row("both of the same tag", "dnskey", changed(DNSKEY={"records": (*KEYS, same_tag(KEYS[2]))}),
         ("DNSKEY 10133,46350,46350,64103, not 10133,46350,64103",)),
     Row("other algorithm and tag", "dnskey",
         changed(DNSKEY={"records": (*KEYS[:2], KEYS[2].replace(" 13 ", " 14 "))}),
-        ("DNSKEY 10133,46351,64103, not 10133,46350,64103",)),
+        ("DNSKEY 10133,46351,64103, not 10133,46350,64103",), 3),
     Row("other flags and algorithm", "dnskey",
         changed(DNSKEY={"records": (*KEYS[:2], KEYS[2].replace("256 3 13", "257 3 12"))}),
-        ("DNSKEY 46350 isn't that of Kexample.com.+013+46350.key",)),
+        ("DNSKEY 46350 isn't that of Kexample.com.+013+46350.key",), 3),
     Row("expired", "dnskey", changed(DNSKEY={"end": 274}),
-        ("the signature of DNSKEY by 64103 has expired at 274",)),
+        ("the signature of DNSKEY by 64103 has expired at 274",), 3),
     Row("not yet valid", "dnskey", changed(DNSKEY={"begin": 276}),
-        ("the signature of DNSKEY by 64103 isn't valid before 276",)),
+        ("the signature of DNSKEY by 64103 isn't valid before 276",), 3),
     Row("valid for just now", "dnskey", changed(DNSKEY={"begin": 275, "end": 275})),
-    Row("by another key", "dnskey", changed(DNSKEY={"by": (OLD,)}), ("no signature by 64103",)),
+    Row("by another key", "dnskey", changed(DNSKEY={"by": (OLD,)}), ("no signature by 64103",), 3),
     Row("of another set", "dnskey", changed(DNSKEY={"signed": KEYS[:2]}),
-        ("the signature of DNSKEY by 64103 is false",)),
+        ("the signature of DNSKEY by 64103 is false",), 3),
     Row("by the old key", "zone", changed(SOA={"by": (OLD,)}), ("signed by 10133, not 46350",)),
     Row("by both", "zone", changed(SOA={"by": (OLD, NEW)}),
         ("signed by 10133,46350, not 46350",)),
-    Row("not signed", "zone", changed(SOA={"by": ()}), ("signed by none, not 46350",)),
+    Row("not signed", "zone", changed(SOA={"by": ()}), ("signed by none, not 46350",), 3),
     Row("expired", "zone", changed(SOA={"end": 274}),
-        ("the signature of SOA by 46350 has expired at 274",)),
+        ("the signature of SOA by 46350 has expired at 274",), 3),
     Row("of another serial", "zone", changed(SOA={"signed": (soa(6),)}),
-        ("the signature of SOA by 46350 is false",)),
+        ("the signature of SOA by 46350 is false",), 3),
     Row("SHA-384", "ds", changed(DS={"records": (ds(KSK, "SHA384"),)})),
     Row("both digests", "ds", changed(DS={"records": (ds(KSK), ds(KSK, "SHA384"))})),
     Row("no DS", "ds", honest({}), ("DS none, not 64103",)),
     Row("wrong digest", "ds", changed(DS={"records": (WRONG_DS,)}),
-        ("DS 64103 13 2 isn't that of Kexample.com.+013+64103.key: another digest",)),
+        ("DS 64103 13 2 isn't that of Kexample.com.+013+64103.key: another digest",), 3),
     Row("a wrong digest more", "ds", changed(DS={"records": (ds(KSK), WRONG_DS)}),
         ("DS 64103 13 2 isn't that of Kexample.com.+013+64103.key: another digest",)),
     Row("wrong algorithm", "ds", changed(DS={"records": (ds(KSK).replace(" 13 ", " 8 "),)}),
-        ("DS 64103 8 2 isn't that of Kexample.com.+013+64103.key: its algorithm isn't 13",)),
+        ("DS 64103 8 2 isn't that of Kexample.com.+013+64103.key: its algorithm isn't 13",), 3),
     Row("unknown digest type", "ds", changed(DS={"records": (f"DS 64103 13 3 {'00' * 32}",)}),
         ("DS 64103 13 3 isn't that of Kexample.com.+013+64103.key: "
          "its digest type isn't known",)),
-    Row("another DS", "ds", changed(DS={"records": (ds(OTHER),)}), ("DS 46352, not 64103",)),
+    Row("another DS", "ds", changed(DS={"records": (ds(OTHER),)}), ("DS 46352, not 64103",), 3),
     Row("a DS more", "ds", changed(DS={"records": (ds(KSK), ds(OTHER))}),
         ("DS 46352,64103, not 64103",)),
     Row("no authority", "ds", honest(ABOVE, no_authority),
         ("no answer: it has no authority for the zone",)),
+)
+ROWS += (
+    Row("an old serial", "state", changed(SOA={"records": (soa(6),)}),
+        ("serial 6, and another server has 7",)),
+    Row("a serial before 0", "state", changed(SOA={"records": (soa(2**32 - 1),)}),
+        ("serial 4294967295, and another server has 7",)),
+    Row("back with old sets", "state", honest(BEFORE), (
+        "DNSKEY 10133,64103, not 10133,46350,64103", "signed by 10133, not 46350",
+        "NS signed by 10133, not 46350", "serial 5, and another server has 7"), 3),
+    Row("NS has expired", "state", changed(NS={"end": 274}),
+        ("the signature of NS by 46350 has expired at 274",), 3),
+    Row("CDS is in", "state", honest({**RIGHT, "CDS": Set((f"C{ds(KSK)}",), (KSK, NEW))}),
+        ("gives CDS still",)),
+    Row("all is empty", "state", honest({}), (
+        "DNSKEY none, not 10133,46350,64103", "no signature by 64103",
+        "signed by none, not 46350", "no SOA record", "NS signed by none, not 46350",
+        "no NS record"), 3),
 )
 REPORT = {"dnskey": "report1 zsk-roll", "zone": "report2 zsk-roll", "ds": "report2 algorithm-roll"}
 
@@ -296,10 +320,13 @@ def of_rows(servers, port: int):
     """What the command says of each row, otherwise than it has to."""
     asked = ["--server", FIRST, "--server", SECOND, "--parent-server", PARENT, "--port", port]
     for row in ROWS:
-        for server in servers.values():
-            server.answer = honest({**RIGHT, **ABOVE})
+        for address, server in servers.items():
+            server.answer = honest(ABOVE if address == PARENT else RIGHT)
         liar = PARENT if row.step == "ds" else SECOND
         servers[liar].answer = row.answer
+        yield from of_state(row, liar, asked)
+        if row.step == "state":
+            continue
         text, status = typed(["watch", f"{row.step}.script", *asked, "--json"], NOW)
         told = json.loads(text) if text.startswith("{") else {"lacking": [], "next": []}
         wanted = sorted((liar, it) for it in row.says)
@@ -307,6 +334,17 @@ def of_rows(servers, port: int):
         nexts = [it.startswith(REPORT[row.step]) for it in told["next"]]
         if (found, status, nexts) != (wanted, int(bool(wanted)), [True] * (not wanted)):
             yield f"liars: {row.step}, {row.name}: {status}: {text}"
+
+
+def of_state(row: Row, liar: str, asked: list):
+    """The state of these servers, otherwise than it has to be."""
+    text, status = typed(["watch", "zone.script", "--state", *asked, "--json"], NOW)
+    told = json.loads(text) if text.startswith("{") else {"lacking": [], "rows": []}
+    found = {(it["server"], it["text"]) for it in told["lacking"]}
+    wanted = int(bool(row.says)) if row.state is None else row.state
+    servers = [it["server"] for it in told["rows"]]
+    if (found, status) != ({(liar, it) for it in row.says}, wanted) or servers != asked[1:6:2]:
+        yield f"liars: state, {row.step}, {row.name}: {status}: {text}"
 
 
 # What the system's resolver finds, and with which code it answers else.

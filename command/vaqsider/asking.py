@@ -23,6 +23,7 @@ try:
     import dns.rdataclass
     import dns.rdatatype
     import dns.resolver
+    import dns.serial
 except ImportError as error:
     package = PACKAGES.get(str(error.name).partition(".")[0], PACKAGES["dns"])
     text = f"{package} is missing for {sys.executable}: install it to ask servers"

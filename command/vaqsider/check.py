@@ -9,13 +9,15 @@ from dataclasses import dataclass
 import keyset
 from keyset import Lines, Notes
 
-from . import status, words
-from .errors import BROKEN, DUE, WARNING, failure_of
+from . import looks, status, words
+from .errors import BROKEN, DUE, OK, WARNING, failure_of
 from .history import OF_CLOCK, SAFE, History
 
 KSK_ROLLS = ("ksk-roll", "ksk-double-ds-roll", "csk-roll")
+# After this time a look is of the past: with it nobody says that all is well.
+DAY = 86400
 AT = re.compile(r"(?:line (\d+): )?(.*)", re.DOTALL)
-LEVELS = {DUE: "due", WARNING: "warning", BROKEN: "broken"}
+LEVELS = {OK: "note", DUE: "due", WARNING: "warning", BROKEN: "broken"}
 
 
 @dataclass(frozen=True)
@@ -52,7 +54,36 @@ def _findings(file, path, now):
             yield Finding(WARNING, f"was refused ({reason}): take it out", number)
         yield from false_claims(history, path, now)
     if not file.torn:
-        yield from _due(status.read(path, now)[1])
+        told = status.read(path, now)[1]
+        yield from _due(told)
+        if any(told["published"].values()):
+            yield from _of_look(path, len(file.lines), now)
+
+
+def _of_look(path, lines, now):
+    """What the last look at all servers found, and how long ago that was."""
+    kept = looks.read(path)
+    if kept is None:
+        yield Finding(OK, f"its servers were not asked yet: 'vaqsider watch {path} --state'")
+        return
+    was = "" if kept.lines == lines else f", when the script had {kept.lines} lines"
+    found = f"{kept.servers} lacked something" if kept.servers else "all had what was due"
+    yield Finding(OK, f"its servers were asked {words.duration(kept.age(now))} ago{was}: {found}")
+    yield from (Finding(DUE, text) for text in kept.lacking)
+    yield from (Finding(BROKEN, text) for text in kept.broken)
+    if kept.until is not None and kept.until < now:
+        yield Finding(BROKEN, f"by that look signatures expired at {words.moment(kept.until)}")
+    elif kept.until is not None and kept.renew <= now:
+        text = f"by that look signatures expire at {words.moment(kept.until)}"
+        yield Finding(DUE, f"{text}: renew them, then ask again")
+
+
+def is_asked(path, now):
+    """Whether the servers were asked within a day, or there is nothing to ask for."""
+    kept = looks.read(path)
+    if kept is None:
+        return not any(status.read(path, now)[1]["published"].values())
+    return kept.age(now) < DAY
 
 
 def _due(told):

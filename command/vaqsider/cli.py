@@ -64,9 +64,11 @@ def on_check(args):
     from . import check
 
     found = [(path, one) for path in args.SCRIPT for one in check.findings(path, clock())]
-    text = [f"{path}: {one}" for path, one in found] or ["all is well"]
-    value = [{"script": path, **vars(one)} for path, one in found]
-    return max((one.level for _, one in found), default=OK), text, value
+    text = [f"{path}: {one}" for path, one in found]
+    level = max((one.level for _, one in found), default=OK)
+    if level == OK and all(check.is_asked(path, clock()) for path in args.SCRIPT):
+        text.append("all is well")
+    return level, text, [{"script": path, **vars(one)} for path, one in found]
 
 
 def on_plan(args):
@@ -119,7 +121,8 @@ def on_act(args):
 
 
 def on_watch(args):
-    # It asks by dnspython, which no other word needs.
+    if args.state:
+        return _state(args)
     from . import watching
 
     watcher = watching.Watcher(args, clock, progress)
@@ -127,10 +130,22 @@ def on_watch(args):
     return watcher.status(), watcher.text(), watcher.as_json()
 
 
+def _state(args):
+    from . import comparing, looks, state, status
+
+    lines, told = status.read(args.SCRIPT, clock())
+    seen = state.of(told, comparing.folders_of(args), args, clock())
+    looks.keep(args.SCRIPT, seen.kept(len(lines)))
+    return seen.status, seen.text(), seen.as_json()
+
+
 def on_zones(args):
     from . import zones
 
-    found = list(zones.zones(args.FOLDER, clock(), lambda done, of: progress(f"{done} of {of}")))
+    counts = args.prometheus or args.json
+    found = list(zones.zones(
+        args.FOLDER, clock(), lambda done, of: progress(f"{done} of {of}"), counts
+    ))
     progress("")
     is_safe = all(zone["chain_safe"] for zone in found)
     text = zones.prometheus(found) if args.prometheus else zones.table(found)

@@ -10,7 +10,13 @@ from .asking import Answer, dns
 from .errors import Failure
 
 # The type that has the signatures of each kind, and what else is asked for: CDS has to be out.
-TYPES = {"dnskey": ["DNSKEY"], "zone": ["SOA"], "ds": ["DS"], "cds": ["CDS", "CDNSKEY"]}
+TYPES = {
+    "dnskey": ["DNSKEY"], "zone": ["SOA"], "ns": ["NS"], "ds": ["DS"], "cds": ["CDS", "CDNSKEY"],
+}
+# The types of digests that validators know: SHA-1, SHA-256, SHA-384.
+DIGESTS = (1, 2, 4)
+# What CDS and CDNSKEY say if the DS set has to go (RFC 8078).
+DELETION = ("0 0 0 00", "0 3 0 AA==")
 
 
 @dataclass(frozen=True)
@@ -89,15 +95,27 @@ def lacks(due: Due, type_: str, answer: Answer, now: float) -> list[str]:
     """What an answer lacks, in words."""
     if answer.fault:
         return [answer.fault]
-    return list(COMPARED[type_](due, answer, now))
+    return list(COMPARED[type_](due, type_, answer, now))
 
 
-def _of_cds(due, answer, now):
+def _of_cds(due, type_, answer, now):
     if answer.records:
-        yield f"gives {answer.records[0].rdtype.name} still"
+        yield f"gives {type_} still"
 
 
-def _of_dnskey(due, answer, now):
+def cds_lacks(due: Due, type_: str, answer: Answer, now: float) -> list[str]:
+    """What is wrong with CDS or CDNSKEY records while they may be in. Those of another signer
+    aren't known."""
+    keys = [key.record for key in due.of_set("ds") if key.record]
+    right = [it.to_text() for it in keys]
+    if type_ == "CDS":
+        right = [ds_of(it, digest, due.zone).to_text() for it in keys for digest in DIGESTS]
+    given = () if due.is_shared else answer.records
+    wrong = [it for it in given if it.to_text() not in (right or DELETION)]
+    return [answer.fault] if answer.fault else [f"{type_} {it}, which isn't due" for it in wrong]
+
+
+def _of_dnskey(due, type_, answer, now):
     wanted, given = due.of_set("dnskey"), answer.records
     yield from _of_tags("DNSKEY", map(dns.dnssec.key_id, given), (key.tag for key in wanted))
     if sorted(map(dns.dnssec.key_id, given)) == sorted(key.tag for key in wanted):
@@ -108,19 +126,20 @@ def _of_dnskey(due, answer, now):
         yield from signed(due.zone, answer, key, now).faults
 
 
-def _of_zone(due, answer, now):
+def _of_zone(due, type_, answer, now):
     wanted = due.of_set("zone")
     by = {(it.key_tag, it.algorithm) for it in answer.signatures}
     if by != {(key.tag, key.algorithm) for key in wanted}:
         tags = {tag for tag, _ in by}
-        yield f"signed by {_listed(tags)}, not {_listed(key.tag for key in wanted)}"
+        what = "" if type_ == "SOA" else f"{type_} "
+        yield f"{what}signed by {_listed(tags)}, not {_listed(key.tag for key in wanted)}"
     else:
         yield from (fault for key in wanted for fault in signed(due.zone, answer, key, now).faults)
     if not answer.records:
-        yield "no SOA record"
+        yield f"no {type_} record"
 
 
-def _of_ds(due, answer, now):
+def _of_ds(due, type_, answer, now):
     wanted, given = due.of_set("ds"), list(answer.records)
     if due.is_shared:
         # The other signer's keys with a DS aren't in the script.
@@ -155,7 +174,10 @@ def _listed(tags):
     return ",".join(map(str, sorted(tags))) or "none"
 
 
-COMPARED = {"DNSKEY": _of_dnskey, "SOA": _of_zone, "DS": _of_ds, "CDS": _of_cds, "CDNSKEY": _of_cds}
+COMPARED = {
+    "DNSKEY": _of_dnskey, "SOA": _of_zone, "NS": _of_zone, "DS": _of_ds,
+    "CDS": _of_cds, "CDNSKEY": _of_cds,
+}
 
 
 @dataclass(frozen=True)

@@ -2,51 +2,74 @@
 
 from pathlib import Path
 
-from . import status, words
-from .errors import BROKEN, UNAVAILABLE, Failure, failure_of
+from . import check, looks, status, words
+from .errors import BROKEN, OK, UNAVAILABLE, Failure, failure_of
 
 METRICS = {
     "chain_safe": "1 if the chain of trust held all the time, else 0",
     "next_seconds": "seconds until the next wait is accepted",
     "waits_for": "1 for whom the zone waits",
     "lines": "lines of the script",
+    "signatures_seconds": "seconds until the first signature expires, by the last look",
+    "servers_lacking": "servers that lacked something at the last look",
+    "look_age_seconds": "seconds since the last look",
+    "findings": "what check finds wrong or due",
 }
 
 
-def zones(folder, now, progress=lambda done, of: None):
-    """The zones of a folder, by the names of their files: what each asks for, or its fault."""
+def zones(folder, now, progress=lambda done, of: None, counts=False):
+    """The zones of a folder, by the names of their files: what each asks for, or its fault. What
+    `check` finds is counted if that is asked for: it takes longer than all else."""
     paths = sorted(Path(folder).glob("*.script"))
     if not paths:
         raise Failure(f"{folder}: no file ends in .script", UNAVAILABLE)
     for number, path in enumerate(paths):
         progress(number, len(paths))
-        zone = dict.fromkeys(["script", "zone", "fault", "next", *METRICS])
+        zone = dict.fromkeys(["script", "zone", "fault", "next", "servers", "signed", *METRICS])
         zone.update(script=str(path), zone=path.stem)
         try:
             if not path.is_file():
                 raise Failure(f"{path}: it is no file", BROKEN)
+            if counts:
+                zone["findings"] = sum(one.level > OK for one in check.findings(path, now))
             lines, told = status.read(path, now)
         except Exception as error:
             fault = str(failure_of(error)).removeprefix(f"{path}: ")
             yield {**zone, "chain_safe": False, "fault": fault}
             continue
-        waits = [roll for roll in told["rolls"] if roll["waits_for"] == status.CACHES]
-        zone.update(zone=told["zone"], chain_safe=told["chain"]["safe"], lines=len(lines))
-        zone["next"] = min((it["not_before"] for it in waits if it["not_before"]), default=None)
-        zone["next_seconds"] = zone["next"] and zone["next"] - int(now)
-        waiting = {roll["waits_for"] for roll in told["rolls"]}
-        waiting |= {status.YOU for _ in told["ended"]}
-        first = (who for who in status.WAITING if who in waiting)
-        yield {**zone, "waits_for": next(first, "nobody")}
+        yield {**zone, **_of_status(told, now), **_of_look(path, now), "lines": len(lines)}
+
+
+def _of_status(told, now):
+    """The zone's name, its verdict, whom it waits for, and until when."""
+    waits = [roll for roll in told["rolls"] if roll["waits_for"] == status.CACHES]
+    moment = min((it["not_before"] for it in waits if it["not_before"]), default=None)
+    waiting = {roll["waits_for"] for roll in told["rolls"]}
+    waiting |= {status.YOU for _ in told["ended"]}
+    who = next((who for who in status.WAITING if who in waiting), "nobody")
+    return {"zone": told["zone"], "chain_safe": told["chain"]["safe"], "waits_for": who,
+            "next": moment, "next_seconds": moment and moment - int(now)}
+
+
+def _of_look(path, now):
+    """What the last look at the zone's servers found."""
+    kept = looks.read(path)
+    if kept is None:
+        return {}
+    lack = f"{kept.servers} lack" if kept.servers else "right"
+    return {"servers": "no chain" if kept.broken else lack, "signed": kept.until,
+            "signatures_seconds": kept.until and kept.until - int(now),
+            "servers_lacking": kept.servers, "look_age_seconds": kept.age(now)}
 
 
 def table(found):
     """For people: a row for each zone."""
-    rows = [("ZONE", "CHAIN", "WAITS FOR", "NEXT", "LINES")]
+    rows = [("ZONE", "CHAIN", "WAITS FOR", "NEXT", "LINES", "SERVERS", "SIGNED UNTIL")]
     for zone in found:
         chain = "safe" if zone["chain_safe"] else zone["fault"] or "broken"
-        moment = None if zone["next"] is None else words.moment(zone["next"])
-        rows.append((zone["zone"], chain, zone["waits_for"], moment, zone["lines"]))
+        next_, signed = (it and words.moment(it) for it in (zone["next"], zone["signed"]))
+        rows.append((zone["zone"], chain, zone["waits_for"], next_, zone["lines"],
+                     zone["servers"], signed))
     return words.table(rows)
 
 

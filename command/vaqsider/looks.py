@@ -1,0 +1,63 @@
+"""The last look at all servers, one line of JSON in `ZONE.look` beside `ZONE.script`. It is kept so
+that `check` and `zones` can say what it found, and when, without asking anybody."""
+
+from __future__ import annotations
+
+import json
+import os
+import tempfile
+from dataclasses import asdict, dataclass
+from pathlib import Path
+
+
+@dataclass(frozen=True)
+class Kept:
+    """What is kept of a look: its moment, and how many lines the script had; how many servers
+    lacked something, what they lacked, and where there was no chain; until when the first signature
+    to expire is valid, and from when on a quarter of its time is left."""
+
+    moment: int
+    lines: int
+    servers: int
+    lacking: list[str]
+    broken: list[str]
+    until: int | None
+    renew: int | None
+
+    def age(self, now: float) -> int:
+        """For how many seconds it is over."""
+        return max(0, int(now) - self.moment)
+
+
+def path_of(script: str | Path) -> Path:
+    return Path(script).with_suffix(".look")
+
+
+def keep(script: str | Path, kept: Kept) -> None:
+    """Writes it, in the place of an older one: whole, or not at all."""
+    path = path_of(script)
+    with tempfile.NamedTemporaryFile("w", dir=path.parent, prefix=f".{path.name}.",
+                                     delete=False) as draft:
+        try:
+            draft.write(f"{json.dumps(asdict(kept))}\n")
+            draft.flush()
+            os.fsync(draft.fileno())
+            os.chmod(draft.name, 0o644)
+            os.replace(draft.name, path)
+        except BaseException:
+            os.unlink(draft.name)
+            raise
+
+
+def read(script: str | Path) -> Kept | None:
+    """The last look, or None if there was none. A file that isn't one counts as none."""
+    try:
+        kept = Kept(**json.loads(path_of(script).read_text(encoding="utf-8")))
+    except (FileNotFoundError, ValueError, TypeError):
+        return None
+    is_right = (
+        all(isinstance(it, int) for it in (kept.moment, kept.lines, kept.servers))
+        and all(isinstance(it, (int, type(None))) for it in (kept.until, kept.renew))
+        and all(isinstance(it, list) for it in (kept.lacking, kept.broken))
+    )
+    return kept if is_right else None

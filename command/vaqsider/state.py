@@ -1,0 +1,181 @@
+"""What all servers give now, beside what is due: also with no roll in progress. It says whether a
+resolver may find no chain of trust now."""
+
+from __future__ import annotations
+
+from collections.abc import Iterator
+from dataclasses import asdict, dataclass
+
+from . import comparing, looking, looks, status, words
+from .asking import Answer, Server, dns
+from .comparing import Due
+from .errors import BROKEN, DUE, OK
+from .looking import Lack, Look, Places
+
+KINDS = ("cds", "dnskey", "ds", "ns", "zone")
+HEAD = ("SERVER", "DNSKEY", "DS", "SIGNED UNTIL", "SERIAL", "CDS")
+RIGHT, LACKS, OUT, IN = "right", "lacks", "out", "in"
+
+
+@dataclass(frozen=True)
+class Row:
+    """What one server gives: a set is right or lacks something. What isn't asked of it is None."""
+
+    server: str
+    dnskey: str | None = None
+    ds: str | None = None
+    until: int | None = None
+    serial: int | None = None
+    cds: str | None = None
+
+    def cells(self) -> tuple:
+        until = None if self.until is None else words.moment(self.until)
+        return self.server, self.dnskey, self.ds, until, self.serial, self.cds
+
+
+@dataclass(frozen=True)
+class State:
+    """A look at all servers, with its rows, what they lack, and where there is no chain."""
+
+    look: Look
+    rows: list[Row]
+    lacking: list[Lack]
+    broken: list[str]
+
+    @property
+    def status(self) -> int:
+        return BROKEN if self.broken else DUE if self.lacking else OK
+
+    def text(self) -> Iterator[str]:
+        yield from words.table([HEAD, *(row.cells() for row in self.rows)])
+        yield from self.texts()
+        yield from self.broken
+        if not self.status:
+            yield "all servers have what is due"
+
+    def texts(self) -> list[str]:
+        """What is lacking, each once."""
+        return list(dict.fromkeys(map(str, self.lacking)))
+
+    def as_json(self) -> dict:
+        return {"rows": list(map(asdict, self.rows)), "lacking": list(map(asdict, self.lacking)),
+                "broken": self.broken}
+
+    def kept(self, lines: int) -> looks.Kept:
+        """What is kept of it, beside a script of so many lines."""
+        first = min(_signed(self.look), key=lambda it: it.end, default=None)
+        until = first and first.end
+        renew = first and first.end - (first.end - first.begin) // 4
+        servers = len({it.server for it in self.lacking})
+        moment, texts = int(self.look.now), self.texts()
+        return looks.Kept(moment, lines, servers, texts, self.broken, until, renew)
+
+
+def of(told: dict, folders: list, args, now: float) -> State:
+    """The state of a zone's servers, by its status and the key files in these folders."""
+    due = Due.of(told, folders)
+    kinds = [kind for kind in KINDS if kind != "ds" or due.zone.strip(".")]
+    look = looking.look(due, kinds, Places.of(due.zone, args), now)
+    may_have_cds = status.is_asked(told, "CreateCdsRrset")
+    lacking = look.lacking([kind for kind in kinds if kind != "cds"])
+    lacking += _of_cds(look, may_have_cds) + list(_late(look))
+    rows = [_row(look, server, lacking) for server in _servers(look)]
+    return State(look, rows, sorted(set(lacking)), list(_broken(look)))
+
+
+def _servers(look: Look) -> list[Server]:
+    """Those of the zone, then those of the parent."""
+    of_zone = {server for kind, _, server in look.answers if kind == "zone"}
+    return [*sorted(of_zone), *sorted({server for _, _, server in look.answers} - of_zone)]
+
+
+def _row(look: Look, server: Server, lacking: list[Lack]) -> Row:
+    asked = {kind for kind, _, of in look.answers if of == server}
+    lacks = {it.kind for it in lacking if it.server in ("", str(server))}
+    said = {kind: LACKS if kind in lacks else RIGHT for kind in asked}
+    if "zone" not in asked:
+        return Row(str(server), ds=said["ds"])
+    soa = look.answers["zone", "SOA", server]
+    gives = [look.answers["cds", type_, server].records for type_ in ("CDS", "CDNSKEY")]
+    cds = LACKS if "cds" in lacks else IN if any(gives) else OUT
+    until = min((it.end for it in _signed(look, server)), default=None)
+    serial = soa.records[0].serial if soa.records else None
+    return Row(str(server), said["dnskey"], said.get("ds"), until, serial, cds)
+
+
+def _signed(look: Look, only: Server | None = None) -> Iterator[comparing.Signed]:
+    """How the sets of servers are signed by the keys that have to."""
+    of_set = {"dnskey": "signers", "zone": "zone", "ns": "zone"}
+    for (kind, _, server), answer in look.answers.items():
+        if kind in of_set and only in (None, server):
+            found = (comparing.signed(look.due.zone, answer, key, look.now)
+                     for key in look.due.of_set(of_set[kind]))
+            yield from (it for it in found if not it.faults)
+
+
+def _of_cds(look: Look, may_be_in: bool) -> list[Lack]:
+    """CDS and CDNSKEY have to be out, or those of the DS set that is due."""
+    lacks = []
+    for (kind, type_, server), answer in look.answers.items():
+        if kind == "cds":
+            compare = comparing.cds_lacks if may_be_in else comparing.lacks
+            texts = compare(look.due, type_, answer, look.now)
+            lacks += (Lack("cds", str(server), text) for text in texts)
+    return lacks
+
+
+def _late(look: Look) -> Iterator[Lack]:
+    """The servers whose serial is below that of another one (RFC 1982)."""
+    serials = {server: dns.serial.Serial(answer.records[0].serial)
+               for (kind, _, server), answer in look.answers.items()
+               if kind == "zone" and answer.records}
+    for server, serial in serials.items():
+        later = [other for other in serials.values() if other > serial]
+        if later:
+            text = f"serial {serial.value}, and another server has {later[0].value}"
+            yield Lack("zone", str(server), text)
+
+
+def _broken(look: Look) -> Iterator[str]:
+    """Where there is no chain of trust: from a DS set to a DNSKEY set, or from that to the zone."""
+    sets = {kind: _different(look, kind) for kind in ("ds", "dnskey", "zone", "ns")}
+    above = {server: it for server, it in sets["ds"].items() if _usable(look, it)}
+    for parent, ds in above.items():
+        for server, keys in sets["dnskey"].items():
+            if not _is_linked(look, ds, keys):
+                yield f"no chain: DS of {parent}, DNSKEY of {server}"
+    for server, keys in sets["dnskey"].items() if above else ():
+        for kind in ("zone", "ns"):
+            for other, answer in sets[kind].items():
+                if not _is_signed(look, answer, keys.records):
+                    type_ = comparing.TYPES[kind][0]
+                    yield f"no chain: DNSKEY of {server}, {type_} of {other}"
+
+
+def _different(look: Look, kind: str) -> dict[Server, Answer]:
+    """The answers of this kind that differ, each with the first server that gives it."""
+    found = {(frozenset(answer.records), frozenset(answer.signatures)): (server, answer)
+             for (of, _, server), answer in reversed(look.answers.items())
+             if of == kind and not answer.fault and (answer.records or kind != "ns")}
+    return dict(sorted(found.values(), key=lambda it: it[0]))
+
+
+def _usable(look: Look, ds: Answer) -> list:
+    """The DS records that a validator can go by: without one the zone counts as unsigned."""
+    return [it for it in ds.records if it.digest_type in comparing.DIGESTS]
+
+
+def _is_linked(look: Look, ds: Answer, keys: Answer) -> bool:
+    """Whether a key that the DS set names is in the DNSKEY set, and signs it."""
+    named = [key for key in keys.records for it in _usable(look, ds)
+             if comparing.ds_of(key, it.digest_type, look.due.zone) == it]
+    return _is_signed(look, keys, named)
+
+
+def _is_signed(look: Look, answer: Answer, keys) -> bool:
+    """Whether one of these keys has a valid signature in an answer."""
+    return any(
+        comparing.fits(look.due.zone, answer.records, signature, key, look.now)
+        for signature in answer.signatures for key in keys
+        if (signature.key_tag, signature.algorithm) == (dns.dnssec.key_id(key), key.algorithm)
+    )
