@@ -5,7 +5,9 @@ import errno
 import fcntl
 import os
 import resource
+import stat
 import unittest
+from pathlib import Path
 from unittest import mock
 
 from cases import COURSE, Kept
@@ -80,6 +82,31 @@ class Files(Kept):
         # The next call writes over it.
         keys.call("set-decoupled K1 yes")
         self.assertEqual(self.path.read_text().splitlines()[3:], ["set-decoupled K1 yes"])
+
+    def test_what_was_kept_outlives_a_power_cut(self):
+        """Only what was synced is there after one: of a new file its folder too."""
+        folder, names, contents = self.path.parent, {}, {}
+
+        def synced(descriptor):
+            here = os.fstat(descriptor)
+            if stat.S_ISDIR(here.st_mode):
+                names.update((it.name, it.inode()) for it in os.scandir(folder))
+            else:
+                contents[here.st_ino] = Path(f"/proc/self/fd/{descriptor}").read_bytes()
+
+        def expect_all():
+            there = {it.name: it.read_bytes() for it in folder.iterdir()}
+            self.assertEqual({name: contents.get(names.get(name)) for name in there}, there)
+
+        with mock.patch("os.fsync", synced), KeySet.create(self.path, "example.com") as keys:
+            expect_all()
+            keys.note("before 60 60 60")
+            expect_all()
+            for line in COURSE[:3]:
+                keys.call(line)
+                expect_all()
+            keys.note("published dnskey 3 60 1")
+            expect_all()
 
     def test_what_is_opened_is_synced(self):
         """A writer that was killed may have written its line without a sync."""

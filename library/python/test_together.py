@@ -11,7 +11,7 @@ import unittest
 from unittest import mock
 
 from cases import COURSE, Kept, add
-from keyset import Error, Forked, KeySet, Locked
+from keyset import Error, Forked, KeySet, Locked, locked
 from keyset.engine import _has_library
 
 PROCESSES, LINES = 4, 25 if _has_library() else 3
@@ -125,6 +125,32 @@ class Together(Kept):
         self.assertTrue(child(part))
         self.assertEqual(keys.call(COURSE[2]).number, 3)
         self.assertEqual(len(self.path.read_text().splitlines()), 4)
+
+    def test_a_child_writes_nothing_to_a_locked_file(self):
+        self.begin().close()
+        with locked(self.path) as lines:
+
+            def part():
+                with self.assertRaises(Forked):
+                    lines.append(COURSE[0])
+
+            self.assertTrue(child(part))
+
+    def test_a_child_keeps_no_lock_of_a_process_that_has_ended(self):
+        self.begin().close()
+        reading, writing = os.pipe()
+
+        def part():
+            opened = KeySet.open(self.path)
+            if os.fork() == 0:
+                os.write(writing, b".")
+                time.sleep(2)
+                os._exit(0)
+            self.assertEqual(opened.lines, ["zone example.com"])
+
+        self.assertTrue(child(part))
+        os.read(reading, 1)
+        KeySet.open(self.path).close()
 
     def test_a_child_that_lives_on_keeps_no_lock(self):
         keys = self.begin()
