@@ -6,10 +6,11 @@ import json
 import re
 import shlex
 import time
-import xml.dom.minidom
 from pathlib import Path
 
+import drawn
 import testkeys
+from drawn import answers, examples
 from typed import TOP, folder, typed
 
 # The calls of a roll, by the kinds of sets that its start and its two waits ask to watch.
@@ -25,23 +26,6 @@ KEYS = {"K2": "add-ksk K2 - 13", "Z2": "add-zsk Z2 - 13", "C1": "add-csk C1 - 13
 TTLS = {"ds": 300, "dnskey": 60, "zone": 120}
 DELAYS = {"ds": 50, "dnskey": 5, "zone": 7}
 BEGIN = 1795664900
-LABELS = {"ds": "DS", "dnskey": "DNSKEY", "signers": "signs DNSKEY", "zone": "signs zone"}
-
-
-def answers(lines):
-    """The answers of the tables: to each call, the sets, and the verdict."""
-    from tables import answers as told
-
-    *replies, sets, verdict = told(lines)
-    pairs = (part.split("=") for part in sets.split(" "))
-    return replies, {name: set(keys.split(",")) - {"-"} for name, keys in pairs}, verdict
-
-
-def examples():
-    """Each example and each case with its lines."""
-    for path in sorted(TOP.glob("examples/**/*.script")):
-        if path.parent.name != "differences":
-            yield path, path.read_text().splitlines()
 
 
 def screens():
@@ -170,104 +154,6 @@ def events(text, wanted):
         yield f"the calendar has other events: {found}"
 
 
-def bars_of(lines):
-    """Each bar of the picture of a script, as label, begin, end and `gone`: by the sets of the
-    tables. A set of call N is gone once a report is over that counts from call N + 1 or later."""
-    replies, _, _ = answers(lines)
-    moment, shown, made, reports, steps = 0, {}, [], [], {}
-    accepted = [n for n, reply in enumerate(replies, start=1) if reply.startswith("ok")]
-    for number in accepted:
-        word, *fields = lines[number].split(" ")
-        if word in ("start", "report1", "wait1", "report2", "wait2", "set-present"):
-            moment = int(fields[-1])
-        if word in ("start", "wait1"):
-            asked = re.findall(r"Report(\w+)Propagated", replies[number - 1])
-            steps[fields[0]] = number, [{"Rrsig": "zone"}.get(it, it.lower()) for it in asked]
-        if word.startswith("report"):
-            reports.append((*steps[fields[0]], moment + int(fields[1])))
-        sets = answers(lines[: number + 1])[1]
-        now = {(kind, key) for kind, keys in sets.items() for key in keys}
-        for bar in now - shown.keys():
-            shown[bar] = moment
-        for kind, key in shown.keys() - now:
-            made.append((kind, key, shown.pop((kind, key)), moment, number))
-    for kind, key, begin, end, number in made:
-        of = "dnskey" if kind == "signers" else kind
-        over = [until for step, kinds, until in reports if of in kinds and step >= number]
-        yield f"{LABELS[kind]} {key}", begin, end, min(over, default=None)
-    for (kind, key), begin in shown.items():
-        yield f"{LABELS[kind]} {key}", begin, None, None
-
-
-def pictures():
-    """Each bar of a picture begins and ends where the record says, on the page too; and README
-    shows what is drawn."""
-    for path, lines in examples():
-        text = typed(["draw", path])[0]
-        if path.name == "zsk-roll.script" and text != (TOP / "command/zsk-roll.svg").read_text():
-            yield "command/zsk-roll.svg isn't what is drawn"
-        page = xml.dom.minidom.parseString(text)
-        wanted = set()
-        for label, begin, end, gone in bars_of(lines):
-            wanted.add((label, "in", str(begin), "" if end is None else str(end)))
-            if end is not None and (gone is None or gone > end):
-                wanted.add((label, "cached", str(end), "" if gone is None else str(gone)))
-        rows = {
-            it.getAttribute("y"): it.firstChild.data
-            for it in page.getElementsByTagName("text")
-            if it.getAttribute("x") == "8"
-        }
-        found = set()
-        for box in page.getElementsByTagName("rect"):
-            if box.hasAttribute("data-begin") and box.getAttribute("class") != "phase":
-                row = rows[str(int(box.getAttribute("y")) + 11)]
-                data = (box.getAttribute(name) for name in ("class", "data-begin", "data-end"))
-                found.add((row, *data))
-        if found != wanted:
-            yield f"{path.name}: the picture has {found ^ wanted} wrong"
-        yield from places(page, path.name)
-        yield from letters(page, lines, path.name)
-
-
-def letters(page, lines, name):
-    """For a terminal's browser each row shows in letters when the key is in the set, and when
-    caches may hold it."""
-    *rows, axis, _ = page.getElementsByTagName("pre")[0].firstChild.data.strip("\n").split("\n")
-    (begin, end), left = map(int, axis.split()), len(axis) - len(axis.lstrip())
-    found = {row[:left].rstrip(): row[left:] for row in rows if "|" not in row}
-    wanted = {label: [" "] * (len(axis) - left) for label in found}
-
-    def at(moment):
-        part = ((end if moment is None else moment) - begin) / (end - begin)
-        return round(part * (len(axis) - left - 1))
-
-    for label, first, last, gone in bars_of(lines):
-        may_hold = last is not None and (gone is None or gone > last)
-        spans = [("=", at(first), at(last)), *[(".", at(last), at(gone))] * may_hold]
-        for sign, one, other in spans:
-            wanted[label][one : other + 1] = sign * (other + 1 - one)
-    if found != {label: "".join(row).rstrip() for label, row in wanted.items()}:
-        yield f"{name}: in letters the picture is another"
-
-
-def places(page, name):
-    """Each box stands where the axis says."""
-    (axis,) = (it for it in page.getElementsByTagName("line") if not it.getAttribute("class")
-               and it.parentNode.tagName == "svg")
-    left, right = (float(axis.getAttribute(side)) for side in ("x1", "x2"))
-    ends = [it for it in page.getElementsByTagName("text") if it.getAttribute("text-anchor")
-            in ("start", "end")]
-    begin, end = (int(it.firstChild.data) for it in ends)
-    for box in page.getElementsByTagName("rect"):
-        if box.hasAttribute("data-begin"):
-            first, last = (box.getAttribute(side) for side in ("data-begin", "data-end"))
-            x, width = (float(box.getAttribute(side)) for side in ("x", "width"))
-            at = [left + (right - left) * (int(it or end) - begin) / (end - begin)
-                  for it in (first, last)]
-            if abs(x - at[0]) > 0.2 or abs(x + width - max(at[1], x + 1)) > 0.2:
-                yield f"{name}: the box from {first} to {last} stands at {x}, {width} wide"
-
-
 def key_file(flags, number):
     """A new key file of BIND's form, with its reference and its tag."""
     tag, data = testkeys.add(number, flags)
@@ -388,5 +274,5 @@ def metrics():
 def faults():
     """What the command says otherwise than it should."""
     with folder():
-        checks = screens, refusals, plans, pictures, by_the_command, metrics, helps
+        checks = screens, refusals, plans, drawn.pictures, by_the_command, metrics, helps
         return [fault for check in checks for fault in check()]

@@ -72,6 +72,8 @@ def on_check(args):
 
 
 def on_plan(args):
+    from keyset import Notes
+
     from . import draw, plan, status, timeline
 
     lines, told = status.read(args.SCRIPT, clock())
@@ -85,18 +87,21 @@ def on_plan(args):
     if args.calendar:
         text = plan.as_calendar(told["zone"], made.steps)
     elif args.picture:
-        text = draw.picture(told["zone"], timeline.timeline([*lines, *planned]), clock())
+        course = timeline.timeline([*lines, *planned], Notes(args.SCRIPT).lines)
+        text = draw.picture(told["zone"], course, clock())
     return _verdict(told), text, made.steps
 
 
 def on_draw(args):
     import dataclasses
 
+    from keyset import Notes
+
     from . import draw, status, timeline
 
     lines, told = status.read(args.SCRIPT, clock())
-    made = timeline.timeline(lines)
-    text = list(draw.picture(told["zone"], made, clock()))
+    made = timeline.timeline(lines, Notes(args.SCRIPT).lines)
+    text = list(draw.picture(told["zone"], made, clock(), args.since))
     if args.out:
         Path(args.out).write_text("\n".join([*text, ""]), encoding="utf-8")
     return _verdict(told), [] if args.out else text, dataclasses.asdict(made)
@@ -173,6 +178,7 @@ ARGUMENT = re.compile(r"^(\S+)(?: (\S+(?: \S+)*))?  (.*(?:\n .*)*)", re.MULTILIN
 # How an argument is read, by its name there.
 READ_AS = {
     "--start": {"type": arguments.moment},
+    "--since": {"type": arguments.moment},
     "--port": {"type": arguments.port},
     "SECONDS": {"type": arguments.span},
     "NUMBER": {"type": arguments.number},

@@ -4,7 +4,7 @@ draws no shapes."""
 from html import escape
 
 from . import words
-from .timeline import Bar
+from .timeline import PHASES, Bar
 
 WIDTH, ROW, BAR, LETTER = 740, 22, 12, 7
 HATCH = (
@@ -15,31 +15,48 @@ HATCH = (
 FILLS = {"in": "black", "cached": "url(#cached)", "phase": "white"}
 SIGNS = {"in": "=", "cached": ".", "phase": "-"}
 SAYS = {"in": "in the set", "cached": "taken out, caches may hold it"}
-SMALL = 'font-size="10"'
+# The phases by the numbers that stand for them if a box is too small.
+NUMBERS = {word: str(number) for number, word in enumerate(filter(None, PHASES.values()), start=1)}
+SMALL, TINY = 'font-size="10"', 'font-size="9" text-anchor="middle"'
 
 
 class Scale:
-    """Moments as places on the page: from the first moment to the last one or now, and a little
-    beyond. If a script's moments count from 0, it has no now."""
+    """Moments as places on the page. The page begins at a given moment; else it shows the last
+    rolls, what came before them, and what came after them until now, in at least half of its width
+    the rolls. If a script's moments count from 0, it has no now."""
 
-    def __init__(self, made, now):
-        last = max(made.end, now) if made.begin > 0 else made.end
+    def __init__(self, made, now, since=None):
         self.left = 16 + LETTER * max(map(len, [*made.phases, *made.rows]), default=0)
-        self.begin, self.end = made.begin, last + max(1, (last - made.begin) // 20)
+        end = max(made.end, now) if made.begin > 0 else made.end
+        if since is None:
+            last = max(1, made.end - made.last)
+            since, end = max(made.begin, made.last - last // 2), min(end, made.end + last // 2)
+        self.begin, self.end = since, max(end, since) + max(1, (end - since) // 20)
 
-    def __call__(self, moment, left=None, width=WIDTH):
+    def part(self, moment):
+        """Which part of the width lies before a moment."""
         moment = self.end if moment is None else min(max(moment, self.begin), self.end)
-        part = (moment - self.begin) / (self.end - self.begin)
-        return round((self.left if left is None else left) + width * part, 1)
+        return (moment - self.begin) / (self.end - self.begin)
+
+    def __call__(self, moment):
+        return round(self.left + WIDTH * self.part(moment), 1)
+
+    def shows(self, bar):
+        """Whether a part of a bar is on the page."""
+        last = bar.end if bar.end is None or bar.word else bar.gone
+        return bar.begin <= self.end and (last is None or max(last, bar.end) >= self.begin)
 
 
-def picture(zone, made, now):
-    """The lines of an SVG file: a row for each roll, then a row for each key in each set."""
-    at, y, rows = Scale(made, now), ROW, {**made.phases, **made.rows}
+def picture(zone, made, now, since=None):
+    """The lines of an SVG file: a row for each roll, then a row for each key in each set, of those
+    that the page shows."""
+    at, y = Scale(made, now, since), ROW
+    rows = {label: [*filter(at.shows, of)] for label, of in {**made.phases, **made.rows}.items()}
+    rows = {label: of for label, of in rows.items() if of}
     has_now = at.begin <= now <= at.end
     yield (
         f'<svg xmlns="http://www.w3.org/2000/svg" width="{at.left + WIDTH + 20}" '
-        f'height="{ROW * (len(rows) + 4)}" font-family="sans-serif" font-size="12">'
+        f'height="{ROW * (len(rows) + 5)}" font-family="sans-serif" font-size="12">'
     )
     yield f'<title>{escape(zone)}</title><desc><pre xmlns="http://www.w3.org/1999/xhtml">'
     letters = _letters({**rows, "now": [Bar(now, now, word="now")]} if has_now else rows, at)
@@ -49,6 +66,7 @@ def picture(zone, made, now):
     for label, bars in rows.items():
         yield _text(8, y + BAR - 1, label)
         yield from (part for bar in bars for part in _bar(bar, at, y))
+        yield from _names([bar for bar in bars if bar.word], at, y)
         y += ROW
     yield from _axis(at, y)
     if has_now:
@@ -71,14 +89,15 @@ def _letters(rows, at):
     columns = max(30, 78 - width)
     for label, bars in rows.items():
         row = [" "] * (columns + 1)
-        for kind, *span in (span for bar in bars for span in _spans(bar)):
-            first, last = (round(at(moment, 0, columns)) for moment in span)
+        for bar, (kind, *span) in ((bar, span) for bar in bars for span in _spans(bar)):
+            first, last = (round(columns * at.part(moment)) for moment in span)
             row[first : last + 1] = SIGNS[kind] * (last - first + 1)
-            row[first] = "|" if kind == "phase" else row[first]
+            row[first] = NUMBERS.get(bar.word, "|") if kind == "phase" else row[first]
         yield f"{label:{width}}{''.join(row)}".rstrip()
     begin, end = (words.moment(round(moment)) for moment in (at.begin, at.end))
     yield f"{'':{width}}{begin} {end:>{columns - len(begin)}}"
-    yield "=  in the set    .  taken out, caches may hold it    |  here a phase begins"
+    yield f"=  in the set    .  {SAYS['cached']}    |  now"
+    yield "".join(f"{number}  {word}    " for word, number in NUMBERS.items()).rstrip()
 
 
 def _text(x, y, text, how=""):
@@ -86,7 +105,7 @@ def _text(x, y, text, how=""):
 
 
 def _bar(bar, at, y):
-    """The boxes of a bar. In that of a phase is its name, if there is room."""
+    """The boxes of a bar."""
     for kind, begin, end in _spans(bar):
         x, data = at(begin), f'data-begin="{begin}" data-end="{"" if end is None else end}"'
         until = "on" if end is None else f"to {words.moment(end)}"
@@ -95,12 +114,23 @@ def _bar(bar, at, y):
             f'<rect class="{kind}" x="{x}" y="{y}" width="{max(round(at(end) - x, 1), 1)}" '
             f'height="{BAR}" fill="{FILLS[kind]}" stroke="black" {data}>{says}</rect>'
         )
-    if bar.word and at(bar.end) - at(bar.begin) > LETTER * len(bar.word):
-        yield _text(at(bar.begin) + 3, y + BAR - 2, bar.word, SMALL)
+
+
+def _names(phases, at, y):
+    """The names of the phases in their boxes, or below a small box its number. Numbers that would
+    touch stand side by side."""
+    free = 0
+    for bar in phases:
+        x, end = at(bar.begin), at(bar.end)
+        if end - x > LETTER * len(bar.word):
+            yield _text(x + 3, y + BAR - 2, bar.word, SMALL)
+        else:
+            free = max(free + LETTER, (x + end) / 2)
+            yield _text(round(free, 1), y + BAR + 8, NUMBERS[bar.word], TINY)
 
 
 def _axis(at, y):
-    """The axis, and below it what the boxes mean."""
+    """The axis, and below it what the boxes and the numbers mean."""
     yield f'<line x1="{at.left}" y1="{y}" x2="{at.left + WIDTH}" y2="{y}" stroke="black"/>'
     for part, anchor in ((0, "start"), (0.5, "middle"), (1, "end")):
         moment = round(at.begin + part * (at.end - at.begin))
@@ -109,3 +139,5 @@ def _axis(at, y):
         box = f'width="24" height="{BAR}" fill="{FILLS[kind]}" stroke="black"'
         yield f'<rect x="{x}" y="{y + ROW}" {box}/>'
         yield _text(x + 30, y + ROW + BAR - 1, says, SMALL)
+    says = "; ".join(f"{number}: {word}" for word, number in NUMBERS.items())
+    yield _text(at.left, y + 2 * ROW + BAR - 1, says, SMALL)

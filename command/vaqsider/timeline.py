@@ -1,8 +1,11 @@
 """The course of a script as spans of time: which key was in which set, and what caches may hold.
 
-A set that was replaced stays in caches until the TTL of a report is over. The report has to be of
-the set's kind, and to count from a later step."""
+A set that was replaced stays in caches until its TTL is over, counted from the moment at which all
+servers had the next one. The notes say both. Without them a report says it that is of the set's
+kind and counts from a later step; or else, after the roll that replaced it, the last report of the
+kind has the TTL."""
 
+from bisect import bisect_left
 from dataclasses import dataclass, field
 
 from keyset import Published
@@ -30,54 +33,95 @@ PHASES = {
 
 @dataclass
 class Bar:
-    """A key in a set, or a phase of a roll: from when, until when, and until when caches may still
-    hold the key. None means: not yet."""
+    """A key in a set since a line, or a phase of a roll: from when, until when, and until when
+    caches may still hold the key. None means: not yet."""
 
     begin: int
     end: int = None
     gone: int = None
     word: str = None
+    line: int = None
 
 
 @dataclass
 class Timeline:
-    """The span of all moments; the phases by roll; the bars by the label of a set and by key."""
+    """The span of all moments; when the last rolls started that went beside one another; the phases
+    by roll; the bars by the label of a set and by key."""
 
     begin: int
     end: int
+    last: int
     phases: dict = field(default_factory=dict)
     rows: dict = field(default_factory=dict)
 
 
-def timeline(lines):
-    """The timeline of a script."""
+def timeline(lines, notes=()):
+    """The timeline of a script with its notes."""
     history = History(lines)
     moments = [call.moment for call in history.calls if call.line.word in PHASES] or [0]
-    made, bars = Timeline(moments[0], max(moments)), {name: {} for name in SETS}
-    reports, shown = list(_reports(history)), {name: set() for name in SETS}
+    made, bars = Timeline(moments[0], max(moments), moments[0]), {name: {} for name in SETS}
+    held, shown, going = Held(history, notes), {name: set() for name in SETS}, {}
     for call, session in history.sessions():
         published = vars(Published.of(session.closing()[0]))
+        if call.line.word == "start":
+            made.last = made.last if going else call.moment
+            going[call.line.roll] = []
         for name, (_, kind) in SETS.items():
             before, shown[name] = shown[name], set(published[name])
             for key in shown[name] - before:
-                bars[name].setdefault(key, []).append(Bar(call.moment))
-            for key in before - shown[name]:
-                bar = bars[name][key][-1]
-                ends = (end for of, step, end in reports if kind in of and call.number <= step)
-                bar.end, bar.gone = call.moment, min(ends, default=None)
-                made.end = max(made.end, bar.gone or 0)
+                bars[name].setdefault(key, []).append(Bar(call.moment, line=call.number))
+            for bar in (bars[name][key][-1] for key in before - shown[name]):
+                bar.end, bar.gone = call.moment, held.until(kind, bar.line, call)
+                if bar.gone is None and call.line.roll in going:
+                    going[call.line.roll].append((kind, bar))
+                elif bar.gone is None:
+                    bar.gone = held.at_least(kind, call)
+        if call.line.word in ("done", "abort"):
+            for kind, bar in going.pop(call.line.roll, ()):
+                bar.gone = held.at_least(kind, call)
         _phase(made.phases, call)
     for name, (label, _) in SETS.items():
         made.rows.update({f"{label} {key}": of for key, of in sorted(bars[name].items())})
+    known = (bar.gone for of in made.rows.values() for bar in of)
+    made.end = max([made.end, *filter(None, known)])
     return made
 
 
-def _reports(history):
-    """Each accepted report: its kinds, the line of the step that it counts from, and its end."""
-    for call in history.calls:
-        if call.line.is_report:
+class Held:
+    """Until when caches may hold sets that were replaced, by notes or else by reports."""
+
+    def __init__(self, history, notes):
+        self.reports, self.versions, self.seen = {}, {}, {}
+        for call in (call for call in history.calls if call.line.is_report):
             step, kinds = history.step_of(call)
-            yield kinds, step.number, call.moment + call.line.ttl
+            for kind in kinds:
+                report = step.number, call.moment + call.line.ttl, call.number, call.line.ttl
+                self.reports.setdefault(kind, []).append(report)
+        for word, kind, *numbers in (line.split(" ") for line in notes):
+            if word == "published":
+                self.versions.setdefault(kind, []).append((int(numbers[0]) + 1, int(numbers[1])))
+            elif word == "everywhere":
+                version = len(self.versions.get(kind, ()))
+                self.seen.setdefault(kind, []).append((version, int(numbers[0])))
+
+    def until(self, kind, since, call):
+        """The moment until which caches may hold a key that was in sets of a kind since a line, and
+        that a call takes out. None if neither notes nor a report say it."""
+        versions, seen = self.versions.get(kind, ()), self.seen.get(kind, ())
+        first, last = (bisect_left(versions, (number,)) for number in (since, call.number))
+        ends = []
+        for version in range(first, last):
+            at = bisect_left(seen, (version + 2,))
+            ends.append(seen[at][1] + versions[version][1] if at < len(seen) else None)
+        if ends and None not in ends:
+            return max(ends)
+        ends = (end for step, end, *_ in self.reports.get(kind, ()) if step >= call.number)
+        return min(ends, default=None)
+
+    def at_least(self, kind, call):
+        """The same by the TTL of the last report of the kind before a call."""
+        ttls = [ttl for *_, number, ttl in self.reports.get(kind, ()) if number < call.number]
+        return call.moment + ttls[-1] if ttls else call.moment
 
 
 def _phase(phases, call):
@@ -87,4 +131,4 @@ def _phase(phases, call):
         if row and row[-1].end is None:
             row[-1].end = call.moment
         if word := PHASES[call.line.word]:
-            row.append(Bar(call.moment, word=word))
+            row.append(Bar(call.moment, word=word, line=call.number))
