@@ -53,7 +53,8 @@ class Operator:
         records = plain_records(self.zone.name, version, self.zone.letters)
         self.file.write_text(f"$TTL {TTL}\n" + "\n".join(records) + "\n")
         done = json.loads(await self.type(
-            "act", self.script, "--zone-file", self.file, "--out", self.signed, *how, "--json",
+            "act", self.script, "--zone-file", self.file, "--out", self.signed,
+            *self.parents(), *how, "--json",
         ))
         self.zone.world.fleet.publish(
             self.zone.servers, self.zone.name, self.signed.read_text()
@@ -63,11 +64,15 @@ class Operator:
     async def watch(self, *how, ends=(OK,)):
         """Watches until all servers have what is due."""
         servers = [word for server in self.zone.servers for word in ("--server", server)]
-        parents = [word for server in PARENT for word in ("--parent-server", server)]
         await self.type(
-            "watch", self.script, *servers, *parents, "--port", self.zone.world.port,
-            "--every", "0.3", "--for", "30", *how, ends=ends,
+            "watch", self.script, *servers, *self.parents(), "--every", "0.3", "--for", "30", *how,
+            ends=ends,
         )
+
+    def parents(self):
+        """Where the servers of the parent are, and which port all have."""
+        servers = [word for server in PARENT for word in ("--parent-server", server)]
+        return [*servers, "--port", self.zone.world.port]
 
     async def step(self, line):
         """A call, with all that it asks for, up to the report or the end of the roll."""

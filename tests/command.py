@@ -32,6 +32,7 @@ sys.path.insert(0, str(TOP / "replay"))
 import answering  # noqa: E402
 import facts  # noqa: E402
 import liars  # noqa: E402
+import testkeys  # noqa: E402
 from typed import STORED, folder, typed  # noqa: E402
 
 PACKAGE = TOP / "command" / "vaqsider"
@@ -186,6 +187,20 @@ def published():
     typed(["act", "start.script", "--zone-file", "zone", "--out", "signed"], 205)
 
 
+def rising():
+    """A DS set is being changed, and a server of the parent gives the old one with a higher TTL."""
+    key = testkeys.dnskey(testkeys.NUMBERS[46352], 257).to_text()
+    name, old = "Kexample.com.+013+46352.key", "Kexample.com.+013+64103.key"
+    Path(name).write_text(f"example.com. IN DNSKEY {key}\n")
+    first = Path("mid.script").read_text().splitlines(True)[:9]
+    more = (f"add-ksk {name} - 13 46352 150 yes\nstart ksk-roll {old} {name} 200\n"
+            "report1 ksk-roll 60 205\nwait1 ksk-roll 300\n")
+    Path("rise.script").write_text("".join(first) + more)
+    Path("rise.notes").write_text("before 60 60 60\npublished ds 5 60 71\npublished ds 12 60 301\n")
+    Path("raised.DS").write_text("example.com. 600 IN DS 64103 13 2 00\n")
+    Path("signed").write_text("")
+
+
 def begin_to_operate():
     noted()
     Path("number").write_text("0")
@@ -201,6 +216,8 @@ CRASHES = (
      noted, ["signed", "start.notes"]),
     ("watch", lambda: typed(["watch", "start.script", "--server", "signed", "--call"], 210),
      published, ["start.script", "start.notes"]),
+    ("rise", lambda: typed(["watch", "rise.script", "--server", "signed", "--parent-server",
+                            "raised"], 310), rising, ["rise.notes"]),
     ("loop", operate, begin_to_operate, ["start.script", "start.notes", "signed"]),
 )
 

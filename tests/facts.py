@@ -180,7 +180,7 @@ class Operator:
     def type(self, text):
         """Types a command. Gives what was wrong with it."""
         word, *line = shlex.split(re.sub(r"\b[KZC]\d\b", lambda it: self.names[it[0]], text))
-        how = {"act": ["--zone-file", "zone", "--out", "signed"],
+        how = {"act": ["--zone-file", "zone", "--out", "signed", "--parent-server", "up"],
                "watch": ["--server", "signed", "--parent-server", "up"], "call": []}[word]
         if word == "call" and line[0].startswith("wait"):
             told, _ = typed(["status", self.script, "--json"], self.now)

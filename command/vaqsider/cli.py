@@ -118,6 +118,10 @@ def on_act(args):
     if args.dry_run:
         return OK, [*commands, *of_ds], {"commands": commands, "ds": of_ds}
     is_asked = status.is_asked(told, "UpdateDsRrset")
+    if is_asked:
+        from . import parents
+
+        parents.before_step(args, lines, told, clock)
     act.publish(commands, args.SCRIPT, len(lines) - 1, ["ds"] * is_asked, clock())
     records = [record for command in of_ds for record in act.run(command)]
     says = f"the parent's DS set has to be {words.listed(told['published']['ds'])}"
@@ -136,10 +140,14 @@ def on_watch(args):
 
 
 def _state(args):
-    from . import comparing, looks, state, status
+    from keyset import Notes
+
+    from . import comparing, looks, parents, state, status
 
     lines, told = status.read(args.SCRIPT, clock())
-    seen = state.of(told, comparing.folders_of(args), args, clock())
+    seen, notes = state.of(told, comparing.folders_of(args), args, clock()), Notes(args.SCRIPT)
+    if notes.lines:
+        parents.note(notes, lines, told, seen.look)
     looks.keep(args.SCRIPT, seen.kept(len(lines)))
     return seen.status, seen.text(), seen.as_json()
 

@@ -9,7 +9,7 @@ from dataclasses import asdict
 from keyset import Notes
 from keyset.notes import Seen, to_report
 
-from . import calling, comparing, looking, status, words
+from . import calling, comparing, looking, parents, status, words
 from .errors import DUE, OK, UNAVAILABLE, Failure
 from .looking import Lack, Look, Places
 
@@ -53,13 +53,18 @@ class Watcher:
         self.kinds = {roll: words.kinds_of(asked[roll]) for roll in self.rolls}
         kinds = sorted({kind for of in self.kinds.values() for kind in of})
         if kinds:
-            self.judge(self.ask(told, kinds), kinds)
+            look = self.ask(told, kinds)
+            if self.notes.lines:
+                parents.note(self.notes, self.lines, told, look)
+            self.judge(look, kinds)
 
     def ask(self, told: dict, kinds: list[str]) -> Look:
-        """What all servers give of these kinds, and whether CDS is out if the DS set is awaited."""
+        """What all servers give of these kinds; if the DS set is awaited, whether CDS is out; and
+        for the notes the DS set in any case."""
         due = comparing.Due.of(told, comparing.folders_of(self.args))
-        asked = [*kinds, *(["cds"] if "ds" in kinds else [])]
-        return looking.look(due, asked, Places.of(due.zone, self.args), self.clock())
+        places = Places.of(due.zone, self.args)
+        also = ["cds"] if "ds" in kinds else ["ds"] if self.notes.lines and places.parent else []
+        return looking.look(due, [*kinds, *also], places, self.clock())
 
     def judge(self, look: Look, kinds: list[str]) -> None:
         """Says what is lacking, and notes which sets are everywhere."""

@@ -1,0 +1,103 @@
+"""The TTLs of DS sets, which the parent sets. Each that is seen is noted before it counts: of the
+set that is due, and of the one that it replaces."""
+
+from __future__ import annotations
+
+import math
+from collections.abc import Iterator
+from dataclasses import dataclass
+
+from keyset import Notes
+
+from . import comparing, looking, status
+from .errors import UNAVAILABLE, Failure
+from .history import History
+from .looking import Look, Places
+
+ASKED = "UpdateDsRrset"
+
+
+@dataclass(frozen=True)
+class Version:
+    """A DS set that was published, by notes: with the sets after this call."""
+
+    call: int
+    ttl: int
+
+
+@dataclass(frozen=True)
+class Noted:
+    """What notes have of DS sets: the highest TTL before the first call, and the versions."""
+
+    before: int
+    versions: list[Version]
+
+    @classmethod
+    def of(cls, notes: Notes) -> Noted:
+        words = [line.split(" ") for line in notes.lines]
+        of_ds = [it for it in words if it[:2] == ["published", "ds"]]
+        return cls(int(words[0][1]), [Version(int(it[2]), int(it[3])) for it in of_ds])
+
+    def last(self, below: float) -> Version:
+        """The last version of before this call."""
+        of = [it for it in self.versions if it.call < below]
+        return of[-1] if of else Version(0, self.before)
+
+
+def rises(noted: Noted, step: int | None, calls: int, old: int, new: int) -> Iterator[Version]:
+    """The versions to note, if sets were seen with these highest TTLs: those that are due, and
+    others. A step changes the DS set, and counts from this call on; without one nothing changes
+    now, and `calls` have been made."""
+    last = noted.last(math.inf)
+    highest = max(old, new)
+    if step is None or last.call < step:
+        # All that servers give is of before what comes next.
+        if highest > last.ttl:
+            yield Version(last.call or (calls if step is None else step - 1), highest)
+    elif old > noted.last(step).ttl:
+        yield Version(step - 1, old)
+        yield Version(last.call, max(last.ttl, new))
+    elif new > last.ttl:
+        yield Version(last.call, new)
+    published = [it for it in noted.versions if step is not None and it.call >= step]
+    if published and last.call < step:
+        # A crash between the two lines above.
+        yield Version(published[-1].call, max(published[-1].ttl, new))
+
+
+def note(notes: Notes, lines: list[str], told: dict, look: Look) -> None:
+    """Notes the TTLs of the DS sets in a look that are above the noted ones, and whether the
+    present set is everywhere, if it doesn't change."""
+    step = _step(lines) if status.is_asked(told, ASKED) else None
+    old = new = 0
+    for (kind, type_, _), answer in look.answers.items():
+        if kind == "ds" and not answer.fault:
+            is_due = not comparing.lacks(look.due, type_, answer, look.now)
+            old, new = (old, max(new, answer.ttl)) if is_due else (max(old, answer.ttl), new)
+    calls = len(lines) - 1
+    for version in rises(Noted.of(notes), step, calls, old, new) if calls else ():
+        notes.append(f"published ds {version.call} {version.ttl} {int(look.now)}")
+
+
+def _step(lines: list[str]) -> int:
+    """The number of the last call that asked for another DS set."""
+    asked = [call.number - 1 for call in History(lines).calls if ASKED in call.actions]
+    return asked[-1]
+
+
+def before_step(args, lines: list[str], told: dict, clock) -> None:
+    """Before a change of the DS set is published for the first time: notes the TTL of the set that
+    is there. After that caches may keep it for so long, and nobody could see it any more."""
+    notes = Notes(args.SCRIPT)
+    if not notes.lines or not status.is_asked(told, ASKED):
+        return
+    if Noted.of(notes).last(math.inf).call >= _step(lines):
+        return
+    due = comparing.Due.of(told, comparing.folders_of(args))
+    look = looking.look(due, ["ds"], Places.of_parent(due.zone, args), clock())
+    silent = [f"{server}: {answer.fault}" for (_, _, server), answer in look.answers.items()
+              if answer.fault]
+    if silent and not args.although:
+        text = "the TTL of the present DS set has to be noted first, unless you say --although"
+        raise Failure(f"{'; '.join(silent)}: {text}", UNAVAILABLE)
+    note(notes, lines, told, look)
