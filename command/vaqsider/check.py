@@ -3,6 +3,7 @@
 The key set believes what a line says. It accepts a moment ahead of the clock, or a report with too
 low a TTL, and from then on its verdict is about a course that never was."""
 
+import math
 import re
 from dataclasses import dataclass
 
@@ -35,29 +36,28 @@ class Finding:
 
 def findings(path, now):
     """All findings about a script, in the order of its lines."""
+    found, end = [], math.inf
     try:
         file = Lines(path)
-        found = list(_findings(file, path, now))
+        end = len(file.lines) + 2
+        found += _findings(file, path, now)
     except Exception as error:
         line, text = AT.match(str(failure_of(error)).removeprefix(f"{path}: ")).groups()
-        return [Finding(BROKEN, text, int(line) if line else None)]
-    return sorted(found, key=lambda finding: finding.line or len(file.lines) + 2)
+        found.append(Finding(BROKEN, text, int(line) if line else None))
+    return sorted(found, key=lambda finding: finding.line or end)
 
 
 def _findings(file, path, now):
     """What comes next isn't said of a script that is torn: it may not be so."""
-    if file.torn:
-        yield Finding(BROKEN, status.torn(path), len(file.lines) + 1)
     if file.lines or not file.torn:
         history = History(file.lines)
         for number, reason in history.refused:
             yield Finding(WARNING, f"was refused ({reason}): take it out", number)
         yield from false_claims(history, path, now)
-    if not file.torn:
-        told = status.read(path, now)[1]
-        yield from _due(told)
-        if any(told["published"].values()):
-            yield from _of_look(path, len(file.lines), now)
+    told = status.read(path, now)[1]
+    yield from _due(told)
+    if any(told["published"].values()):
+        yield from _of_look(path, len(file.lines), now)
 
 
 def _of_look(path, lines, now):

@@ -38,8 +38,18 @@ def failure_of(error):
         text = f"{error.filename}: {error.strerror}"
     if isinstance(error, MemoryError):
         text = "out of memory: make the same call again"
+    if type(error).__name__ == "Torn":
+        text = mended(text)
     for name in (kind.__name__ for kind in type(error).__mro__):
         for status, (says, names) in STATUSES.items():
             if name in names:
                 return Failure(text or says, status)
     raise error
+
+
+def mended(text):
+    """What to do about a last line without a line feed, for the text of the error."""
+    import shlex
+
+    file = shlex.quote(text.partition(": line ")[0])
+    return f"{text}. If it is whole: echo >>{file}. If it is torn: sed -i '$d' {file}"

@@ -1,9 +1,7 @@
 """One screen for a zone: where each key is, what is due, what comes next, and for whom it waits."""
 
-import shlex
-
 import keyset
-from keyset import Damaged, Lines, Malformed
+from keyset import Damaged, Lines, Malformed, Torn
 from keyset.lines import FORMS
 
 from . import words
@@ -13,18 +11,11 @@ WAITING = YOU, PARENT, CACHES = "you", "parent", "caches"
 LABELS = {"ds": "DS", "dnskey": "DNSKEY", "signers": "signers", "zone": "zone"}
 
 
-def torn(path):
-    """What to do about a last line without a line feed. Only its operator knows which is right, so
-    no word goes on from it, or cuts it off."""
-    file = shlex.quote(str(path))
-    mend = f"if it is whole: echo >>{file}; if a crash tore it: sed -i '$d' {file}"
-    return f"its line feed is missing; {mend}"
-
-
 def whole(path, file):
-    """The lines of a file, if the last one has its line feed."""
+    """The lines of a file, if the last one has its line feed. Only its operator knows whether that
+    was torn, so no word goes on from it, or cuts it off."""
     if file.torn:
-        raise Damaged(path, len(file.lines) + 1, torn(path))
+        raise Torn(path, len(file.lines) + 1)
     return file.lines
 
 

@@ -6,7 +6,7 @@ import math
 import time
 from dataclasses import asdict
 
-from keyset import Notes
+from keyset import Locked, Notes
 from keyset.notes import Seen, to_report
 
 from . import calling, comparing, looking, parents, status, words
@@ -30,18 +30,28 @@ class Watcher:
         as soon as it can, after CDS is out. Without --call the loop ends before that."""
         end = time.monotonic() + (vars(self.args)["for"] or 0)
         while True:
-            self.look()
-            if self.args.call:
-                for roll in filter(self.rolls.get, self.ready()):
-                    line = self.line(roll)
-                    self.made[roll] = calling.call(self.args.SCRIPT, line, self.clock)
+            locked = self.round()
             awaited = {it.kind for it in self.lacking if self.args.call or it.kind != "cds"}
             is_refused = any(made.status for made in self.made.values())
-            if not awaited or is_refused or time.monotonic() >= end:
+            if locked and time.monotonic() >= end:
+                raise locked
+            if not (awaited or locked) or is_refused or time.monotonic() >= end:
                 break
             self.progress(f"{len(self.lacking)} answers are lacking")
             time.sleep(self.args.every)
         self.progress("")
+
+    def round(self) -> Locked | None:
+        """Looks, and with --call makes the calls that can be made. Gives an error if another
+        program is writing the script or the notes: the next round does it anew."""
+        try:
+            self.look()
+            for roll in filter(self.rolls.get, self.ready()) if self.args.call else ():
+                line = self.line(roll)
+                self.made[roll] = calling.call(self.args.SCRIPT, line, self.clock)
+        except Locked as error:
+            return error
+        return None
 
     def look(self) -> None:
         """Reads the script again, asks the servers, and notes which sets are everywhere."""

@@ -66,7 +66,7 @@ def table(found):
     """For people: a row for each zone."""
     rows = [("ZONE", "CHAIN", "WAITS FOR", "NEXT", "LINES", "SERVERS", "SIGNED UNTIL")]
     for zone in found:
-        chain = "safe" if zone["chain_safe"] else zone["fault"] or "broken"
+        chain = "safe" if zone["chain_safe"] else (zone["fault"] or "broken").partition(". ")[0]
         next_, signed = (it and words.moment(it) for it in (zone["next"], zone["signed"]))
         rows.append((zone["zone"], chain, zone["waits_for"], next_, zone["lines"],
                      zone["servers"], signed))
