@@ -42,11 +42,11 @@ class Notes:
 
     def highest(self, kind, moment):
         """The highest TTL of the sets that a cache may hold at this moment, and that servers have
-        ceased to give."""
-        return max(
-            (held.ttl for held in self.held[kind] if held.gone and held.gone + held.ttl > moment),
-            default=0,
+        ceased to give; with the second more that a cache may count."""
+        lasting = (
+            (held.ttl + 1, held.gone) for held in self.held[kind] if held.gone
         )
+        return max((ttl for ttl, gone in lasting if gone + ttl > moment), default=0)
 
 
 @dataclass

@@ -15,8 +15,8 @@ together, or one joins. Each makes rolls, and both change the algorithm. Then on
 unsigned and come back.
 
 Whenever a server gets another version, the game looks at every choice of sets that some cache may
-hold then. A cache may hold a set for its TTL after the last server ceased to give it. A validator
-also keeps a DNSKEY set that it has checked by a DS set for the TTL of the DNSKEY set, whatever
+hold then. A cache may hold a set for its TTL after the last server ceased to give it, in seconds that
+begin at any instant. A validator also keeps a DNSKEY set that it has checked by a DS set for the TTL of the DNSKEY set, whatever
 becomes of the DS set. So the game looks at a DS set, a DNSKEY set checked by it, and signatures of
 the zone together. They have to form a chain of trust, with a signature by each algorithm of the DS
 set. The same goes for CDS. And no cache may hold a set longer than its signatures are valid.

@@ -131,7 +131,7 @@ class Notes:
         for base, newest, older in self.older(roll, second):
             if newest.position < base or any(version.left is None for version in older):
                 return None
-            ttl = max([ttl, *(version.left + version.ttl - moment for version in older)])
+            ttl = max([ttl, *(version.left + version.ttl + 1 - moment for version in older)])
         return ttl
 
     def is_sharp(self, roll, second):

@@ -24,6 +24,10 @@ POINTS = (
         "The highest TTL under which any cache may still hold, from the report's moment on, a set"
         " of that kind older than what the report speaks of",
     ),
+    A_SECOND := Point(
+        "the second that a cache counts more isn't reported",
+        "add a second to the TTL",
+    ),
     UNSIGNED_ONLY := Point(
         "the first report counts what the unsigned zone had, and not the keys before",
         "keys from before the zone went unsigned",

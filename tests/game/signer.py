@@ -6,7 +6,7 @@ from tables import SETS, KeySet
 
 from game.book import ASKS, BOOK, WATCHED, Wrong
 from game.points import (
-    AT_ONCE, BEFORE_START, CDS_BY_ALL, CDS_BY_SIGNERS, CDS_BY_ZONE, CDS_LEFT, CDS_ON_ONE, CDS_STAYS,
+    A_SECOND, AT_ONCE, BEFORE_START, CDS_BY_ALL, CDS_BY_SIGNERS, CDS_BY_ZONE, CDS_LEFT, CDS_ON_ONE, CDS_STAYS,
     CDS_UNCHANGED, CDS_UNCOUNTED, DS_OWN, EARLY, EARLY_ENDS, KEYS_UNSEEN, LOWERED, NOT_KEPT,
     NOT_RENEWED, NO_END, NO_MARGIN, NO_SUM, OTHER_TTL, RAISED, ROUNDED, SKIPPED, TAKEN_OUT,
     TTL_OF_0,
@@ -134,10 +134,16 @@ class Operator:
         return first
 
     def highest(self, kind, since, unsigned_only=False):
-        """The highest TTL under which a cache may still hold one of these sets."""
+        """The highest TTL under which a cache may still hold one of these sets, and the second more
+        that a cache may count."""
         if TTL_OF_0 in self.leaves:
             return 0
-        sets, now, keeps = self.before(kind, since), self.rounded_down(), self.world.keeps
+        sets, now = self.before(kind, since), self.rounded_down()
+        more = 0 if A_SECOND in self.leaves else 1
+
+        def keeps(ttl):
+            return self.world.keeps(ttl) + more
+
         if LOWERED in self.leaves:
             last = (self.world.parent if kind == "ds" else self.zone).versions[-1][kind]
             return keeps(last.ttl) if last else 0

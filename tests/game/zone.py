@@ -132,11 +132,16 @@ class World:
         ttls = self.ttls.get(kind, TTLS)
         ttl = self.dice.choice([ttl for ttl in ttls if ttl <= (most or max(ttls))])
         expires = self.now + self.dice.randint(*VALID) * SECOND
-        return Kept(value, ttl, self.keeps(ttl) * SECOND, expires)
+        return Kept(value, ttl, self.lasts(ttl), expires)
 
     def keeps(self, ttl):
         """How long some cache keeps a set with this TTL."""
         return max(ttl, self.least) + self.more
+
+    def lasts(self, ttl):
+        """For how many instants some cache may hold a set with this TTL after it got it. A cache
+        counts whole seconds, from an instant of its own."""
+        return self.keeps(ttl) * SECOND + SECOND - 1
 
     def delay(self):
         """How long a server takes to get a version. Now and then it takes long."""

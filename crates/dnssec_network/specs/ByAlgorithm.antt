@@ -22,7 +22,7 @@ ResolversFindEachChain =
     IsRun name calls entries →
     IsPlain name calls entries →
     KeepsWhole name calls entries →
-    IsNetworkOf entries network →
+    IsNetworkOf entries network time →
     ReportsAreTrue entries network time →
     NoneLiesAhead entries network time →
     FindChainByEach calls entries network time

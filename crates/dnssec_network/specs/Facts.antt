@@ -31,25 +31,34 @@ news_of kind facts =
     map (λ (fact : Fact). fact.news)
     (filter (λ (fact : Fact). same_kind (kind_of fact.kind) kind) facts)
 
+-- the moment of news
+abbrev pub moment_of : News → ℕ
+moment_of (Published position ttl moment) = moment
+moment_of (Everywhere moment) = moment
+
 -- ---- when it is true
 
--- The news of a kind are true. They go on from the version of this number, the newest so far.
-abbrev pub AreTrueFrom : Network → SetKind → ℕ → List News → Type 0
-AreTrueFrom network kind n [] = Unit {0}
+-- Up to a time the news of a kind are true. They go on from the version of this number, the newest
+-- so far.
+abbrev pub AreTrueFrom : Network → SetKind → ℕ → ℕ → List News → Type 0
+AreTrueFrom network kind time n [] = Unit {0}
 -- the next version has the sets of this position and no higher TTL than this, and no server gives
 -- it before this moment
-AreTrueFrom network kind n (Published position ttl moment ∷ later) =
+AreTrueFrom network kind time n (Published position ttl moment ∷ later) =
     (network.position kind (suc n) ≡ position)
     × (network.ttl kind (suc n) ≤ ttl)
-    × ((server time : ℕ) → server < network.servers kind → n < network.version kind server time →
-    moment ≤ time)
-    × AreTrueFrom network kind (suc n) later
+    × ((server t : ℕ) → server < network.servers kind → t ≤ time →
+    n < network.version kind server t → moment ≤ t)
+    × AreTrueFrom network kind time (suc n) later
 -- at this moment each server gave the newest version, or a later one
-AreTrueFrom network kind n (Everywhere moment ∷ later) =
-    ((server : ℕ) → server < network.servers kind → n ≤ network.version kind server moment)
-    × AreTrueFrom network kind n later
+AreTrueFrom network kind time n (Everywhere moment ∷ later) =
+    ((server : ℕ) → server < network.servers kind → moment ≤ time →
+    n ≤ network.version kind server moment)
+    × AreTrueFrom network kind time n later
 
--- the facts are true of the network, and what was there before the first call had no higher TTLs
-abbrev pub AreTrue : Before → List Fact → Network → Type 0
-AreTrue before facts network = (kind : SetKind) →
-    (network.ttl kind 0 ≤ ttl_before before kind) × AreTrueFrom network kind 0 (news_of kind facts)
+-- up to a time the facts are true of the network, and what was there before the first call had no
+-- higher TTLs
+abbrev pub AreTrue : Before → List Fact → Network → ℕ → Type 0
+AreTrue before facts network time = (kind : SetKind) →
+    (network.ttl kind 0 ≤ ttl_before before kind)
+    × AreTrueFrom network kind time 0 (news_of kind facts)

@@ -1,5 +1,5 @@
 -- That the TTL which is due is the least: with a lower one a report may be false.
-use Rattle.std.specs.Prelude.{◌≡◌, ℕ, ◌<◌, ◌≤◌, Bool, true, List, [], ◌∷◌, Ok}
+use Rattle.std.specs.Prelude.{◌≡◌, ℕ, ◌+◌, ◌*◌, ◌<◌, ◌≤◌, Bool, true, List, [], ◌∷◌, Ok}
 use Rattle.dnssec_key.specs.declared.roll.RollType.{RollType}
 use Rattle.dnssec_run.specs.Safe.{SetKind, retires}
 use Rattle.dnssec_network.specs.declared.fact.Before.{Before}
@@ -8,7 +8,7 @@ use Rattle.dnssec_network.specs.declared.fact.News.{News}
 use Rattle.dnssec_network.specs.declared.fact.News.TheVariants.{Published, Everywhere}
 use Rattle.dnssec_network.specs.declared.progress.Newest.{Newest}
 use Rattle.dnssec_network.specs.Facts.{AreTrue, news_of}
-use Rattle.dnssec_network.specs.Network.{IsTrueReport, Network, NeverGoesBack}
+use Rattle.dnssec_network.specs.Network.{MayBeHeld, Network, NeverGoesBack}
 use Rattle.dnssec_network.specs.Notes.{first_newest, newest_after}
 use Rattle.dnssec_network.specs.Reports.{due}
 
@@ -24,16 +24,21 @@ ComeInOrder base last newest (Everywhere moment ∷ later) =
     (newest.published < moment) × (newest.seen ≤ moment)
     × ComeInOrder base last (newest_after (Everywhere moment) newest) later
 
--- By these facts a report may be false: there is a network of which they are true, in which nothing
--- goes back to before the step, and a cache still holds what the report retires.
+-- By these facts a report may be false: there is a network of which they are true at all times, and
+-- in which nothing ever goes back to before the step; and a cache holds what the report retires,
+-- after its TTL has passed.
 pub record MayBeFalse (before : Before) (facts : List Fact) (roll : RollType) (second : Bool)
     (base moment ttl : ℕ) : Type 0 where
   pub network : Network
-  pub are_true : AreTrue before facts network
+  pub are_true : (time : ℕ) → AreTrue before facts network time
   pub kind : SetKind
   pub speaks : retires roll second kind ≡ true
-  pub back : NeverGoesBack network kind base
-  pub is_false : IsTrueReport network kind base moment ttl → ⊥
+  pub back : (time : ℕ) → NeverGoesBack network kind base time
+  pub v : ℕ
+  pub time : ℕ
+  pub over : moment + ttl * 1_000_000_000 ≤ time
+  pub held : MayBeHeld network kind v time
+  pub older : network.position kind v < base
 
 -- A report with a lower TTL than the one that is due may be false.
 abbrev pub LeastTtlIsDue : Type 0

@@ -7,18 +7,17 @@ use Rattle.dnssec_key.specs.declared.roll.RollState.TheVariants.{Propagation1, P
 use Rattle.dnssec_key.specs.declared.roll.RollType.{RollType}
 use Rattle.dnssec_run.specs.declared.call.Call.{Call}
 use Rattle.dnssec_run.specs.declared.record.Entry.{Entry}
-use Rattle.dnssec_run.specs.declared.record.Mark.TheVariants.{Report}
 use Rattle.dnssec_run.specs.Plain.{IsPlain}
 use Rattle.dnssec_run.specs.Record.{IsRun}
 use Rattle.dnssec_run.specs.declared.caches.SetKind.{SetKind as Kind}
 use Rattle.dnssec_run.specs.declared.caches.SetKind.TheVariants.{Ds, Dnskey, ZoneSigners}
-use Rattle.dnssec_run.specs.Safe.{SetKind, base_below, kind_of, position_at, retires}
+use Rattle.dnssec_run.specs.Safe.{SetKind, kind_of, retires}
 use Rattle.dnssec_network.specs.declared.due.DueReport.{DueReport}
 use Rattle.dnssec_network.specs.declared.fact.Before.{Before}
 use Rattle.dnssec_network.specs.declared.fact.Fact.{Fact}
 use Rattle.dnssec_network.specs.Facts.{AreTrue, news_of, ttl_before}
-use Rattle.dnssec_network.specs.Network.{FindChain, IsNetworkOf, Network, NeverGoesBack}
-use Rattle.dnssec_network.specs.Network.{NoneLiesAhead, ReportsAreTrue}
+use Rattle.dnssec_network.specs.Network.{FindChain, IsNetworkOf, IsTrueReport, Network}
+use Rattle.dnssec_network.specs.Network.{NeverGoesBack, NoneLiesAhead, PastReport}
 use Rattle.dnssec_network.specs.Spread.{due_for, known}
 
 -- ---- which TTL is due
@@ -69,41 +68,38 @@ due_report before facts phase step roll now =
 
 -- ---- reports by notes
 
--- a report of this roll was made with the TTL that is due by facts that are true, or a higher one
-pub record IsByNotes (network : Network) (roll : RollType) (second : Bool) (base moment ttl : ℕ)
-    : Type 0 where
+-- a report of this roll was made with the TTL that is due by facts that are true up to a time, or
+-- with a higher one
+pub record IsByNotes (network : Network) (roll : RollType) (second : Bool)
+    (base moment ttl time : ℕ) : Type 0 where
   pub before : Before
   pub facts : List Fact
-  pub are_true : AreTrue before facts network
+  pub are_true : AreTrue before facts network time
   pub least : ℕ
   pub is_due : due before facts roll second base moment ≡ Ok least
   pub enough : least ≤ ttl
 
 -- each report that was made by this time was made so
 abbrev pub ReportsAreByNotes : List Entry → Network → ℕ → Type 0
-ReportsAreByNotes entries network time =
-    (n moment ttl base : ℕ) (roll : RollType) (second : Bool) →
-    network.made n ≤ time →
-    (position_at entries n).mark ≡ Report roll second ttl →
-    (position_at entries n).moment ≡ Some moment →
-    base_below entries roll n ≡ Some base →
-    IsByNotes network roll second base moment ttl
+ReportsAreByNotes entries network time = (r : PastReport entries network time) →
+    IsByNotes network r.roll r.second r.base r.moment r.ttl time
 
--- Nothing goes back to before a step, of the kinds that reports of its roll speak of. Between two
--- steps versions may: a parent that reads CDS may, after a roll was ended early, give once more
--- what the start of the roll had asked for.
-abbrev pub NoneGoesBack : List Entry → Network → Type 0
-NoneGoesBack entries network =
-    (n base : ℕ) (roll : RollType) (second : Bool) (kind : SetKind) →
-    base_below entries roll n ≡ Some base →
-    retires roll second kind ≡ true →
-    NeverGoesBack network kind base
+-- Of the kinds that a report speaks of nothing goes back to before its step. Between two steps
+-- versions may: a parent that reads CDS may, after a roll was ended early, give once more what the
+-- start of the roll had asked for.
+abbrev pub NoneGoesBack : List Entry → Network → ℕ → Type 0
+NoneGoesBack entries network time = (r : PastReport entries network time) (kind : SetKind) →
+    retires r.roll r.second kind ≡ true →
+    NeverGoesBack network kind r.base time
 
 -- then the reports are true
 abbrev pub NotesMakeReportsTrue : Type 0
 NotesMakeReportsTrue = (entries : List Entry) (network : Network) (time : ℕ) →
-    NoneGoesBack entries network → ReportsAreByNotes entries network time →
-    ReportsAreTrue entries network time
+    NoneGoesBack entries network time →
+    ReportsAreByNotes entries network time →
+    (r : PastReport entries network time) (kind : SetKind) →
+    retires r.roll r.second kind ≡ true →
+    IsTrueReport network kind r.base r.moment r.ttl time
 
 -- So an operator who reports by notes answers only for what can be seen: that servers give what was
 -- published, and nothing goes back to before a step; that the notes are true; and that no moment
@@ -113,8 +109,8 @@ NotedReportsReachResolvers =
     (name : List ℕ) (calls : List Call) (entries : List Entry) (network : Network) (time : ℕ) →
     IsRun name calls entries →
     IsPlain name calls entries →
-    IsNetworkOf entries network →
-    NoneGoesBack entries network →
+    IsNetworkOf entries network time →
+    NoneGoesBack entries network time →
     ReportsAreByNotes entries network time →
     NoneLiesAhead entries network time →
     FindChain entries network time

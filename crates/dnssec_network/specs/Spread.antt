@@ -1,6 +1,6 @@
 -- How far the versions of one kind of sets have spread, by what is noted of them, and the TTL with
 -- which a report is then true.
-use Rattle.std.specs.Prelude.{ℕ, ◌+◌, ◌-◌, ◌/◌, ◌&&◌, Bool, false, true, max, fold, List}
+use Rattle.std.specs.Prelude.{ℕ, ◌+◌, ◌*◌, ◌-◌, ◌/◌, ◌&&◌, Bool, false, true, max, fold, List}
 use Rattle.std.specs.Prelude.{Option, None, Some, if◌then◌else◌, nat_le, nat_lt, unwrap_or}
 use Rattle.dnssec_network.specs.declared.fact.News.{News}
 use Rattle.dnssec_network.specs.declared.fact.News.TheVariants.{Published, Everywhere}
@@ -28,15 +28,15 @@ after_publishing base position ttl s = record {
   expired = s.expired;
 }
 
--- the first whole second that isn't before a moment
-abbrev pub next_second : ℕ → ℕ
-next_second moment = (moment + 999_999_999) / 1_000_000_000
+-- the time from which no cache holds what it got before a moment, with this TTL; caches count whole
+-- seconds, from any part of one
+abbrev pub end_of : ℕ → ℕ → ℕ
+end_of moment ttl = moment + ttl * 1_000_000_000 + 999_999_999
 
--- the second from which no cache holds an older version, after no server gives one any more; caches
--- count whole seconds, so the moment is rounded up
+-- the time from which no cache holds an older version, after no server gives one any more
 abbrev pub expired_after : ℕ → Option ℕ → ℕ → ℕ
 expired_after moment None expired = expired
-expired_after moment (Some ttl) expired = max expired (next_second moment + ttl)
+expired_after moment (Some ttl) expired = max expired (end_of moment ttl)
 
 -- all servers gave the newest version
 abbrev pub after_seeing : ℕ → Spread → Spread
@@ -57,11 +57,14 @@ after base s (Everywhere moment) = after_seeing moment s
 abbrev pub known : ℕ → ℕ → List News → Spread
 known base ttl news = fold (after base) (first_spread ttl) news
 
--- the seconds from a moment to a whole second since 1970, if that number can be a TTL
+-- the seconds from a moment to a time, rounded up
+abbrev pub seconds_left : ℕ → ℕ → ℕ
+seconds_left end now = (end - now + 999_999_999) / 1_000_000_000
+
+-- the same, if that number can be a TTL
 abbrev pub seconds_until : ℕ → ℕ → Option ℕ
 seconds_until end now =
-    if nat_le (end - now / 1_000_000_000) 4_294_967_295 then Some (end - now / 1_000_000_000)
-    else None
+    if nat_le (seconds_left end now) 4_294_967_295 then Some (seconds_left end now) else None
 
 -- no server gives an older version any more
 abbrev pub is_none_older : Option ℕ → Bool

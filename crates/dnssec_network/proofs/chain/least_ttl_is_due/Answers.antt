@@ -14,7 +14,7 @@ use Rattle.dnssec_network.specs.Facts.{AreTrue, AreTrueFrom, news_of, ttl_before
 use Rattle.dnssec_network.specs.Least.{ComeInOrder, MayBeFalse}
 use Rattle.dnssec_network.specs.Network.{Network, NeverGoesBack}
 use Rattle.dnssec_network.specs.{Notes.first_newest, Reports.due_of, Reports.higher, Spread.after}
-use Rattle.dnssec_network.specs.Spread.{due_for, expired_after, first_spread, known, next_second}
+use Rattle.dnssec_network.specs.Spread.{due_for, expired_after, first_spread, known, end_of}
 use Rattle.dnssec_network.specs.declared.fact.{Before.Before, Fact.Fact, News.News}
 use Rattle.dnssec_network.specs.declared.fact.News.TheVariants.{Everywhere, Published}
 use Rattle.dnssec_network.specs.declared.{progress.Newest.Newest, spread.Spread.Spread}
@@ -113,9 +113,9 @@ follows-on whole n published at lives moment later le follows time =
 
 -- the second from which it is expired rises only to the end of the TTL that is noted
 risen : (moment expired : ℕ) (o : Option ℕ) → (expired_after moment o expired ≡ expired)
-    ⊎ ((ttl : ℕ) × (o ≡ Some ttl) × (expired_after moment o expired ≡ next_second moment + ttl))
+    ⊎ ((ttl : ℕ) × (o ≡ Some ttl) × (expired_after moment o expired ≡ end_of moment ttl))
 risen moment expired None = inl refl
-risen moment expired (Some ttl) = elim (cases_lt expired (next_second moment + ttl)) [
+risen moment expired (Some ttl) = elim (cases_lt expired (end_of moment ttl)) [
   | inl more ↦ inr (ttl, refl, omega (arith, more))
   | inr less ↦ inl (omega (arith, less))
 ]
@@ -129,7 +129,7 @@ module _ (version : ℕ → ℕ × ℕ) (whole : ℕ → ℕ) (base : ℕ) where
 
   -- at e all servers had left version v, from which on it expires last
   abbrev ExpiresLast : ℕ → ℕ → ℕ → Type 0
-  ExpiresLast v e expired = ((version v).0 < base) × (expired ≡ next_second e + (version v).1)
+  ExpiresLast v e expired = ((version v).0 < base) × (expired ≡ end_of e (version v).1)
       × (0 < e) × (v ≤ whole (e - 1))
 
   -- so it is if more is expired than before
@@ -168,7 +168,7 @@ module _ (version : ℕ → ℕ × ℕ) (whole : ℕ → ℕ) (base : ℕ) where
               let more = at-least n (Everywhere moment ∷ later) (moment - 1) in
               let is = (follows (moment - 1)).1 (omega (arith, order.0)) in
               let clear = clear-later base s.position moment o.0 n _ later order.2 (omega arith) in
-              let ends = same ∙ rose.2 ∙ ap (λ ttl. next_second moment + ttl) (sym o.3) in (
+              let ends = same ∙ rose.2 ∙ ap (λ ttl. end_of moment ttl) (sym o.3) in (
                 o.0,
                 moment,
                 (λ lt. absurd (omega (arith, lt)), clear),
@@ -193,24 +193,26 @@ module _ (network : Network) (kind : SetKind) (base v e : ℕ) (whole : ℕ → 
     version m = (network.position kind m, network.ttl kind m)
 
     -- the news are true of versions that are given so
-    are-true : (last n : ℕ) (now : ℕ × ℕ) (newest : Newest) (news : List News)
+    are-true : (until last n : ℕ) (now : ℕ × ℕ) (newest : Newest) (news : List News)
         → Has version n now news → ComeInOrder base last newest news
-        → Follows whole n newest.published news → Clear e v n news → AreTrueFrom network kind n news
-    are-true last n now newest [] has order follows clear = tt
-    are-true last n now newest (Published at lives moment ∷ later) has order follows clear =
+        → Follows whole n newest.published news → Clear e v n news
+        → AreTrueFrom network kind until n news
+    are-true until last n now newest [] has order follows clear = tt
+    are-true until last n now newest (Published at lives moment ∷ later) has order follows clear =
         let next = has-next version n at lives moment now later has in
         let ttl = ap (λ (p : ℕ × ℕ). p.1) next.1 in (
           ap (λ (p : ℕ × ℕ). p.0) next.1,
           omega (arith, ttl),
-          (λ server time serves lt. grind (arith, given server time, (follows time).0)),
-          are-true at (suc n) (at, lives) _ later next.0 order.2
+          (λ server time serves by lt. grind (arith, given server time, (follows time).0)),
+          are-true until at (suc n) (at, lives) _ later next.0 order.2
               (follows-on whole n newest.published at lives moment later order.0 follows) clear,
         )
-    are-true last n now newest (Everywhere moment ∷ later) has order follows clear =
+    are-true until last n now newest (Everywhere moment ∷ later) has order follows clear =
         let whole_is = (follows moment).1 in
         let more = at-least n (Everywhere moment ∷ later) moment in (
-          (λ server serves. grind (arith, given server moment, whole_is, order.0, more, clear.0)),
-          are-true last n now _ later has order.2 follows clear.1,
+          (λ server serves by.
+              grind (arith, given server moment, whole_is, order.0, more, clear.0)),
+          are-true until last n now _ later has order.2 follows clear.1,
         )
 
 module _ (before : Before) (facts : List Fact) (base : ℕ)
@@ -241,6 +243,10 @@ module _ (before : Before) (facts : List Fact) (base : ℕ)
   abbrev slowest : Network
   slowest = record {
     made = λ n. 0;
+    start = 0;
+    first = 0;
+    inception = λ kind m. 0;
+    expiration = λ kind m. 0;
     servers = λ kind. 1;
     version = λ kind server time. capped (decides kind).0 (decides kind).1 (whole_of kind time)
         time;
@@ -248,20 +254,20 @@ module _ (before : Before) (facts : List Fact) (base : ℕ)
     ttl = λ kind m. (version_of kind m).1;
   }
 
-  all-true : AreTrue before facts slowest
-  all-true kind = (
+  all-true : (until : ℕ) → AreTrue before facts slowest until
+  all-true until kind = (
     rw (noted-now (0, ttl_before before kind) (news_of kind facts)) (omega arith),
     are-true slowest kind base (decides kind).0 (decides kind).1 (whole_of kind)
-        (λ server time. refl) 0 0 (0, ttl_before before kind) first_newest (news_of kind facts)
-        (has-all kind) (order kind) (follows-all kind) (decides kind).2,
+        (λ server time. refl) until 0 0 (0, ttl_before before kind) first_newest
+        (news_of kind facts) (has-all kind) (order kind) (follows-all kind) (decides kind).2,
   )
 
-  goes-not-back : (kind : SetKind) → NeverGoesBack slowest kind base
-  goes-not-back kind = record {
-    servers = λ server early late serves le.
+  goes-not-back : (kind : SetKind) (until : ℕ) → NeverGoesBack slowest kind base until
+  goes-not-back kind until = record {
+    servers = λ server early late serves le by.
         grind (arith, rises 0 (news_of kind facts) early late le);
-    versions = none-falls base (0, ttl_before before kind) first_newest (news_of kind facts)
-        (order kind);
+    versions = λ v w t le by given. none-falls base (0, ttl_before before kind) first_newest
+        (news_of kind facts) (order kind) v w le;
   }
 
   -- if a report with a TTL of less is too short for a kind
@@ -284,15 +290,16 @@ module _ (before : Before) (facts : List Fact) (base : ℕ)
           kind = of;
           speaks = speaks;
           back = goes-not-back of;
-          is_false = λ is.
-              let newer : base ≤ (version_of of d.0).0 =
-              is.expired d.0 (max (now + less * 1_000_000_000) (d.1 - 1)) (omega arith) (record {
-                since = d.1 - 1;
-                given = (0, omega arith, grind (arith, last.2, last.3));
-                got = omega arith;
-                lasts = omega (arith, left, ttl.2, last.1, last.2);
-              }) in
-              omega (arith, newer, last.0);
+          v = d.0;
+          time = max (now + less * 1_000_000_000) (d.1 - 1);
+          over = omega arith;
+          held = record {
+            since = d.1 - 1;
+            given = (0, omega arith, grind (arith, last.2, last.3));
+            got = omega arith;
+            lasts = omega (arith, left, ttl.2, last.1, last.2);
+          };
+          older = last.0;
         }
       ]
 

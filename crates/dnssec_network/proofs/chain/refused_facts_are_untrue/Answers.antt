@@ -3,7 +3,8 @@ use Rattle.std.proofs.Common.{List, Some, [], arith, refl, subst, suc, ℕ, ◌+
 use Rattle.std.{proofs.Common.◌≤◌, specs.Prelude.fold}
 use Rattle.dnssec_run.specs.{Safe.SetKind, Safe.kind_of, declared.caches.SetKind.SetKind as Kind}
 use Rattle.dnssec_network.{proofs.Passed.after_fact, proofs.Passed.passed, specs.Facts.AreTrueFrom}
-use Rattle.dnssec_network.specs.{Facts.news_of, Network.Network, Notes.first_progress}
+use Rattle.dnssec_network.specs.Facts.{moment_of, news_of}
+use Rattle.dnssec_network.specs.{Network.Network, Notes.first_progress}
 use Rattle.dnssec_network.specs.Notes.{newest_after, newest_of, news_refusal, progress_after}
 use Rattle.dnssec_network.specs.declared.fact.{Fact.Fact, News.News}
 use Rattle.dnssec_network.specs.declared.fact.News.TheVariants.{Everywhere, Published}
@@ -25,31 +26,32 @@ newest-is p kind (fact ∷ facts) = grind (arith, newest-is (progress_after p fa
 -- ---- what true facts say of it
 
 -- no server gives it before it was published
-abbrev Tells : Network → SetKind → ℕ → Newest → Type 0
-Tells network kind n newest = (server time : ℕ) → server < network.servers kind →
-    n ≤ network.version kind server time → newest.published ≤ time
+abbrev Tells : Network → SetKind → ℕ → ℕ → Newest → Type 0
+Tells network kind time n newest = (server t : ℕ) → server < network.servers kind → t ≤ time →
+    n ≤ network.version kind server t → newest.published ≤ t
 
-tells-on : (network : Network) (kind : SetKind) (n : ℕ) (newest : Newest) (news : List News)
-    (last : News) → Tells network kind n newest → AreTrueFrom network kind n (news ++ last ∷ [])
-    → (m : ℕ) × Tells network kind m (fold next newest news)
-    × AreTrueFrom network kind m (last ∷ [])
-tells-on network kind n newest [] last tells are = (n, tells, are)
-tells-on network kind n newest (Published position ttl moment ∷ news) last tells are =
-    tells-on network kind (suc n) _ news last are.2 are.3
-tells-on network kind n newest (Everywhere moment ∷ news) last tells are =
-    tells-on network kind n _ news last tells are.1
+tells-on : (network : Network) (kind : SetKind) (time n : ℕ) (newest : Newest)
+    (news : List News) (last : News) → Tells network kind time n newest
+    → AreTrueFrom network kind time n (news ++ last ∷ [])
+    → (m : ℕ) × Tells network kind time m (fold next newest news)
+    × AreTrueFrom network kind time m (last ∷ [])
+tells-on network kind time n newest [] last tells are = (n, tells, are)
+tells-on network kind time n newest (Published position ttl moment ∷ news) last tells are =
+    tells-on network kind time (suc n) _ news last are.2 are.3
+tells-on network kind time n newest (Everywhere moment ∷ news) last tells are =
+    tells-on network kind time n _ news last tells are.1
 
 -- ---- refusals
 
 -- no publication is refused so, and a sight that is refused so came before the publication
-untrue : (network : Network) (kind : SetKind) (calls n : ℕ) (newest : Newest) (last : News)
-    → 0 < network.servers kind → Tells network kind n newest
-    → AreTrueFrom network kind n (last ∷ [])
+untrue : (network : Network) (kind : SetKind) (calls time n : ℕ) (newest : Newest) (last : News)
+    → 0 < network.servers kind → moment_of last ≤ time → Tells network kind time n newest
+    → AreTrueFrom network kind time n (last ∷ [])
     → news_refusal calls newest last ≡ Some SeenBeforePublished → ⊥
-untrue network kind calls n newest (Published position ttl moment) serves tells are refused =
-    grind arith
-untrue network kind calls n newest (Everywhere moment) serves tells are refused =
-    grind (arith, tells 0 moment serves (are.0 0 serves))
+untrue network kind calls time n newest (Published position ttl moment) serves by tells are
+    refused = grind arith
+untrue network kind calls time n newest (Everywhere moment) serves by tells are refused =
+    grind (arith, tells 0 moment serves by (are.0 0 serves by))
 
 -- the news of a kind, with one more fact of it at the end
 news-after : (facts : List Fact) (fact : Fact)
@@ -59,13 +61,13 @@ news-after [] fact = grind arith
 news-after (f ∷ facts) fact = grind (arith, news-after facts fact)
 
 pub returns : goal.returns
-returns c before facts fact network calls refused serves are =
+returns c before facts fact network calls time refused serves by are =
     let kind : SetKind = kind_of fact.kind in
     let first : Newest = newest_of first_progress fact.kind in
-    let last = tells-on network kind 0 first (news_of kind facts) fact.news
-    (λ server time h le. grind arith)
-    (subst (λ news. AreTrueFrom network kind 0 news) (news-after facts fact) (are kind).1) in
-    untrue network kind calls last.0 (fold next first (news_of kind facts)) fact.news serves last.1
-    last.2
+    let last = tells-on network kind time 0 first (news_of kind facts) fact.news
+    (λ server t h by le. grind arith)
+    (subst (λ news. AreTrueFrom network kind time 0 news) (news-after facts fact) (are kind).1) in
+    untrue network kind calls time last.0 (fold next first (news_of kind facts)) fact.news serves
+    by last.1 last.2
     (subst (λ newest. news_refusal calls newest fact.news ≡ Some SeenBeforePublished)
     (newest-is first_progress fact.kind facts ∙ passed kind next first facts) refused)

@@ -1,0 +1,327 @@
+-- Prompt servers, and notes of what they give, meet all premises.
+use Rattle.std.proofs.Common.{Bool, List, None, Ok, Some, [], arith, false}
+use Rattle.std.proofs.Common.{length, refl, subst, suc, sym, true, zero, ℕ, ◌+◌, ◌<◌, ◌∷◌}
+use Rattle.std.proofs.Common.{◌≡◌, ◌≤◌}
+use Rattle.std.specs.Prelude.{fold, max, ◌-◌}
+use Rattle.dnssec_key.specs.declared.roll.RollType.{RollType}
+use Rattle.dnssec_run.proofs.Chain.History.{base-lies-below}
+use Rattle.dnssec_run.specs.Safe.{Dnskey, Ds, SetKind, ZoneSigners, retires}
+use Rattle.dnssec_run.specs.declared.caches.SetKind.{SetKind as Kind}
+use Rattle.dnssec_run.specs.declared.caches.SetKind.TheVariants as code
+use Rattle.dnssec_run.specs.declared.record.Entry.{Entry}
+use Rattle.dnssec_network.proofs.Held.{held-published, report-within}
+use Rattle.dnssec_network.proofs.Noted.{notes_make_reports_true}
+use Rattle.dnssec_network.specs.Facts.{AreTrueFrom, news_of, ttl_before}
+use Rattle.dnssec_network.specs.Models.{IsByTheClock, IsPromptRun, MeetsPremises, NoTtlBelow}
+use Rattle.dnssec_network.specs.Models.{PremisesCanBeMet, SignersCanBeMet, made_since, prompt}
+use Rattle.dnssec_network.specs.Models.{promptly}
+use Rattle.dnssec_network.specs.Network.{IsNetworkOf, MayBeHeld, Network, NoneLiesAhead}
+use Rattle.dnssec_network.specs.Network.{ReportsAreTrue}
+use Rattle.dnssec_network.specs.Reports.{NoneGoesBack, ReportsAreByNotes, due, due_of}
+use Rattle.dnssec_network.specs.Spread.{after, due_for, end_of, first_spread, known, seconds_left}
+use Rattle.dnssec_network.specs.TwoSigners.{HasZoneKeys, KeepsRules, PublishesKeysOf, Signer}
+use Rattle.dnssec_network.specs.Validity.{IsRenewed}
+use Rattle.dnssec_network.specs.declared.fact.{Before.Before, Fact.Fact, News.News}
+use Rattle.dnssec_network.specs.declared.fact.News.TheVariants.{Everywhere, Published}
+use Rattle.dnssec_network.specs.declared.spread.Spread.{Spread}
+
+module _ (first start ttl : ℕ) where
+  -- ---- what is noted: each position from p on, m of them, is everywhere once it is published
+
+  news_from : ℕ → ℕ → List News
+  news_from p zero = []
+  news_from p (suc m) = Published p ttl (made_since first start p)
+      ∷ Everywhere (made_since first start p) ∷ news_from (suc p) m
+
+  abbrev fact : Kind → News → Fact
+  fact kind news = record { kind = kind; news = news }
+
+  facts_from : ℕ → ℕ → List Fact
+  facts_from p zero = []
+  facts_from p (suc m) = fact code.Ds (Published p ttl (made_since first start p))
+      ∷ fact code.Ds (Everywhere (made_since first start p))
+      ∷ fact code.Dnskey (Published p ttl (made_since first start p))
+      ∷ fact code.Dnskey (Everywhere (made_since first start p))
+      ∷ fact code.ZoneSigners (Published p ttl (made_since first start p))
+      ∷ fact code.ZoneSigners (Everywhere (made_since first start p))
+      ∷ facts_from (suc p) m
+
+  -- of each kind the same
+  news-of : (kind : SetKind) (p m : ℕ) → news_of kind (facts_from p m) ≡ news_from p m
+  unfolding facts_from news_from
+  news-of Ds p zero = refl
+  news-of Ds p (suc m) = grind (arith, news-of Ds (suc p) m)
+  news-of Dnskey p zero = refl
+  news-of Dnskey p (suc m) = grind (arith, news-of Dnskey (suc p) m)
+  news-of ZoneSigners p zero = refl
+  news-of ZoneSigners p (suc m) = grind (arith, news-of ZoneSigners (suc p) m)
+
+  -- ---- that is true
+
+  module _ (time : ℕ) (entries : List Entry) (within : first ≤ length entries) where
+    news-true : (kind : SetKind) (k p m : ℕ) → first + k ≡ p → p + m ≤ suc (length entries)
+        → AreTrueFrom (prompt first start ttl time (length entries)) kind time k (news_from p m)
+    unfolding news_from
+    news-true kind k p zero at fits = tt
+    news-true kind k p (suc m) at fits = (
+      omega (arith, at),
+      omega arith,
+      (λ server t serves by lt. grind (arith, lt, at)),
+      (
+        (λ server serves by. grind (arith, fits, at)),
+        news-true kind (suc k) (suc p) m (omega (arith, at)) (omega (arith, fits)),
+      ),
+    )
+
+  -- ---- what is due by it
+
+  -- before position p is published, what is older than the step at `base` is over with its TTL
+  record Settles (base p : ℕ) (s : Spread) : Type 0 where
+    older : s.older ≡ None
+    ttl_is : s.ttl ≡ ttl
+    early : s.position < base → p ≤ max first base
+    over : s.expired ≤ end_of (made_since first start base) ttl
+    seen : s.seen ≤ made_since first start p
+
+  abbrev next : ℕ → ℕ → Spread → Spread
+  next base p s = after base (after base s (Published p ttl (made_since first start p)))
+      (Everywhere (made_since first start p))
+
+  settles-on : (base p : ℕ) (s : Spread) → Settles base p s → Settles base (suc p) (next base p s)
+  settles-on base p s is = record {
+    older = refl;
+    ttl_is = refl;
+    early = λ lt. omega (arith, lt);
+    over = grind (arith, is.older, is.ttl_is, is.early, is.over);
+    seen = omega arith;
+  }
+
+  settles : (base p m q : ℕ) (s : Spread) → p + m ≡ q → Settles base p s
+      → Settles base q (fold (after base) s (news_from p m))
+  unfolding news_from
+  settles base p zero q s e is = subst (λ q. Settles base q s) (omega (arith, e)) is
+  settles base p (suc m) q s e is =
+      settles base (suc p) m q (next base p s) (omega (arith, e)) (settles-on base p s is)
+
+  last-is : (base p m q : ℕ) (s : Spread) → p + m ≡ q
+      → (fold (after base) s (news_from p (suc m))).position ≡ q
+  unfolding news_from
+  last-is base p zero q s e = omega (arith, e)
+  last-is base p (suc m) q s e = last-is base (suc p) m q (next base p s) (omega (arith, e))
+
+  last-of : (base p k q : ℕ) (s : Spread) → 0 < k → p + k ≡ suc q
+      → (fold (after base) s (news_from p k)).position ≡ q
+  last-of base p zero q s lt e = absurd (omega (arith, lt))
+  last-of base p (suc m) q s lt e = last-is base p m q s (omega (arith, e))
+
+  -- after the step and up to the position before a report
+  due-is : (base at : ℕ) → first < at → base < at → ttl ≤ 4_294_967_295
+      → (least : ℕ) × (least ≤ ttl)
+      × (due_for base (known base ttl (news_from first (at - first))) (made_since first start at)
+      ≡ Some least)
+  due-is base at lt below fits =
+      let is = settles base first (at - first) at (first_spread ttl) (omega (arith, lt)) (record {
+        older = refl;
+        ttl_is = refl;
+        early = λ lt. omega arith;
+        over = omega arith;
+        seen = omega arith;
+      }) in
+      let position = last-of base first (at - first) (at - 1) (first_spread ttl) (omega (arith, lt))
+      (omega (arith, lt)) in
+      let s : Spread = known base ttl (news_from first (at - first)) in
+      let left : ℕ = seconds_left s.expired (made_since first start at) in
+      let little : left ≤ ttl = omega (arith, is.over, lt, below) in (
+        left,
+        little,
+        grind (arith, is.older, is.seen, position, little, fits, below),
+      )
+
+-- ---- all premises
+
+-- the highest of three equal TTLs, or of some of them
+highest-is : (base now least : ℕ) (roll : RollType) (second : Bool) (before : Before)
+    (facts : List Fact) → ((kind : Kind) → due_of before facts kind true base now ≡ Ok least)
+    → (most : ℕ) × (most ≤ least) × (due before facts roll second base now ≡ Ok most)
+highest-is base now least roll second before facts e = by (retires roll second Ds)
+    (retires roll second Dnskey) (retires roll second ZoneSigners) refl refl refl
+  where
+    by : (a b c : Bool) → retires roll second Ds ≡ a → retires roll second Dnskey ≡ b
+        → retires roll second ZoneSigners ≡ c
+        → (most : ℕ) × (most ≤ least) × (due before facts roll second base now ≡ Ok most)
+    by false false false a b c = (0, omega arith, grind (arith, a, b, c))
+    by false false true a b c = (least, omega arith, grind (arith, a, b, c, e code.ZoneSigners))
+    by false true false a b c = (least, omega arith, grind (arith, a, b, c, e code.Dnskey))
+    by false true true a b c = (
+      least,
+      omega arith,
+      grind (arith, a, b, c, e code.Dnskey, e code.ZoneSigners),
+    )
+    by true false false a b c = (least, omega arith, grind (arith, a, b, c, e code.Ds))
+    by true false true a b c = (
+      least,
+      omega arith,
+      grind (arith, a, b, c, e code.Ds, e code.ZoneSigners),
+    )
+    by true true false a b c = (
+      least,
+      omega arith,
+      grind (arith, a, b, c, e code.Ds, e code.Dnskey),
+    )
+    by true true true a b c = (
+      least,
+      omega arith,
+      grind (arith, a, b, c, e code.Ds, e code.Dnskey, e code.ZoneSigners),
+    )
+
+module _ (first start ttl time : ℕ) (entries : List Entry) (within : first ≤ length entries)
+    (late : start ≤ time) (fits : ttl ≤ 4_294_967_295) (clock : IsByTheClock first start entries)
+    (low : NoTtlBelow first ttl entries) where
+  abbrev net : Network
+  net = prompt first start ttl time (length entries)
+
+  is : IsNetworkOf entries net time
+  is = record {
+    in_order = λ m n le here by. omega (arith, le);
+    started = late;
+    before = λ kind v held.
+        let given = held.given in
+        let at : v ≤ 1 = grind (arith, given.2, held.got) in
+        record {
+          begun = omega arith;
+          recorded = omega (arith, within, at);
+          made = omega (arith, at);
+        };
+    since = λ kind server t serves from by. record {
+      begun = omega arith;
+      recorded = grind (arith, within, from);
+      made = grind (arith, within, from);
+    };
+  }
+
+  ahead : NoneLiesAhead entries net time
+  ahead n moment made at = omega (arith, clock n moment at)
+
+  back : NoneGoesBack entries net time
+  back r kind speaks = record {
+    servers = λ server early late serves le by. grind (arith, le);
+    versions = λ v w t le by given h. omega (arith, le, h);
+  }
+
+  renewed : IsRenewed net time
+  renewed kind server t serves by counts = (omega arith, omega (arith, by))
+
+  abbrev noted : ℕ → List Fact
+  noted at = facts_from first start ttl first (at - first)
+
+  abbrev earlier : Before
+  earlier = record { ds = ttl; dnskey = ttl; zone = ttl }
+
+  earlier-is : (kind : SetKind) → ttl ≤ ttl_before earlier kind
+  earlier-is Ds = omega arith
+  earlier-is Dnskey = omega arith
+  earlier-is ZoneSigners = omega arith
+
+  each-due : (base at least : ℕ) (kind : Kind)
+      → due_for base (known base ttl (news_from first start ttl first (at - first)))
+      (made_since first start at) ≡ Some least
+      → due_of earlier (noted at) kind true base (made_since first start at) ≡ Ok least
+  each-due base at least code.Ds e = grind (
+    arith,
+    news-of first start ttl Ds first (at - first),
+    e,
+  )
+  each-due base at least code.Dnskey e = grind (
+    arith,
+    news-of first start ttl Dnskey first (at - first),
+    e,
+  )
+  each-due base at least code.ZoneSigners e = grind (
+    arith,
+    news-of first start ttl ZoneSigners first (at - first),
+    e,
+  )
+
+  notes : ReportsAreByNotes entries net time
+  notes r =
+      let lies = base-lies-below entries r.roll r.at r.base r.base_is in
+      let some = due-is first start ttl r.base r.at r.after lies fits in
+      let here = report-within entries r.at r.ttl r.roll r.second r.mark in
+      let most = highest-is r.base (made_since first start r.at) some.0 r.roll r.second earlier
+      (noted r.at) (λ kind. each-due r.base r.at some.0 kind some.2) in
+      record {
+        before = earlier;
+        facts = noted r.at;
+        are_true = λ kind. (
+          earlier-is kind,
+          subst (λ news. AreTrueFrom net kind time 0 news)
+              (sym (news-of first start ttl kind first (r.at - first)))
+              (news-true first start ttl time entries within kind 0 first (r.at - first)
+              (omega arith) (omega (arith, here))),
+        );
+        least = most.0;
+        is_due = subst (λ now. due earlier (noted r.at) r.roll r.second r.base now ≡ Ok most.0)
+            (sym (clock r.at r.moment r.moment_is)) most.2;
+        enough = omega (arith, most.1, some.1, low r.at r.ttl r.roll r.second r.after r.mark);
+      }
+
+  reports : ReportsAreTrue entries net time
+  reports r kind speaks over v held =
+      (notes_make_reports_true entries net time back notes r kind speaks).expired v time over
+      (omega arith) held
+
+pub premises_can_be_met : PremisesCanBeMet
+premises_can_be_met first start ttl time entries within late fits clock low = record {
+  is = is first start ttl time entries within late fits clock low;
+  reports = reports first start ttl time entries within late fits clock low;
+  notes = notes first start ttl time entries within late fits clock low;
+  back = back first start ttl time entries within late fits clock low;
+  ahead = ahead first start ttl time entries within late fits clock low;
+  renewed = renewed first start ttl time entries within late fits clock low;
+}
+
+-- ---- two signers in step
+
+module _ (first start ttl time : ℕ) (late : start ≤ time) (fits : ttl ≤ 4_294_967_295) where
+  met : (s : Signer) → IsPromptRun first start ttl s
+      → MeetsPremises s.entries (prompt first start ttl time (length s.entries)) time
+  met s is = premises_can_be_met first start ttl time s.entries is.within late fits is.clock
+      is.low
+
+  keeps : (s : Signer) → IsPromptRun first start ttl s
+      → KeepsRules (promptly first start ttl time s) time
+  keeps s is = record {
+    run = is.run;
+    plain = is.plain;
+    network = (met s is).is;
+    reports = (met s is).reports;
+    moments = (met s is).ahead;
+    serves = omega arith;
+  }
+
+  publishes : (one other : Signer) → IsPromptRun first start ttl one
+      → IsPromptRun first start ttl other → length one.entries ≡ length other.entries
+      → ((p : ℕ) → HasZoneKeys one p other p)
+      → PublishesKeysOf (promptly first start ttl time one) (promptly first start ttl time other)
+      time
+  publishes one other mine its same keys = record {
+    set = λ p. p;
+    has = λ v held. keys (first + (v - 1));
+    known = λ v held.
+        let is = held-published one.entries (prompt first start ttl time (length one.entries)) time
+        (met one mine).is (met one mine).ahead Dnskey v held in
+        record {
+          begun = is.begun;
+          recorded = omega (arith, is.recorded, same);
+          made = is.made;
+        };
+    reports = λ r speaks over v held. (met other its).reports r Dnskey speaks over v
+        (subst (λ last. MayBeHeld (prompt first start ttl time last) Dnskey v time) same held);
+  }
+
+pub signers_can_be_met : SignersCanBeMet
+signers_can_be_met first start ttl time one other late fits mine its same keys = (
+  keeps first start ttl time late fits one mine,
+  keeps first start ttl time late fits other its,
+  publishes first start ttl time late fits one other mine its same keys,
+)
