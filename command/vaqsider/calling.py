@@ -82,10 +82,9 @@ def reach(moment, clock):
     time.sleep(max(0, moment - clock()))
 
 
-def begin(zone, files, path, moment, before, is_csk):
-    """Makes the script of a zone with the keys of these files, and its notes with the TTLs before.
-    If the zone is signed already, the keys come in at this moment. Gives the lines."""
-    Notes(path)
+def first_lines(zone, files, moment, is_csk):
+    """The first lines of a zone's script, with the keys of these files. If the zone is signed
+    already, the keys come in at this moment."""
     for file in files:
         if file.owner.lower() != zone.lower():
             raise Failure(f"{file.path}: a key of {file.owner}, not of {zone}")
@@ -100,10 +99,14 @@ def begin(zone, files, path, moment, before, is_csk):
     for line, reply in zip(lines[1:], replies):
         if reply.startswith(REFUSED):
             raise Failure(f"{line}: {reply}", DUE)
+    return lines
+
+
+def begin(path, lines, before):
+    """Makes a script with these lines, and its notes with the TTLs before."""
     if before:
         Notes.create(path, before)
     keyset.create(path, lines)
-    return lines
 
 
 # The lines by which the keys of a signed zone come in: nothing older is in any cache.

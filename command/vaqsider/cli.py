@@ -8,7 +8,7 @@ from pathlib import Path
 
 from . import arguments
 from .arguments import clock
-from .errors import BROKEN, FAULTY, OK, STATUSES, UNPRINTED, USAGE, failure_of
+from .errors import BROKEN, FAULTY, OK, STATUSES, UNPRINTED, USAGE, Failure, failure_of
 
 HELP = Path(__file__).with_name("help.txt")
 
@@ -26,17 +26,41 @@ def progress(text):
 def on_init(args):
     import shlex
 
+    from keyset import Notes
+
     from . import calling, keyfiles
 
     files = [keyfiles.read(path) for path in args.KEYFILE]
     zone = re.sub(r"(?<=[^.])\.$", "", args.ZONE)
     path = Path(args.script or f"{arguments.file_name(args.ZONE)}.script")
+    Notes(path)
     moment = int(clock()) if args.signed else None
-    lines = calling.begin(zone, files, path, moment, args.before, args.csk)
+    lines = calling.first_lines(zone, files, moment, args.csk)
+    seen = _agreed(path, lines, files, args) if args.signed else None
+    calling.begin(path, lines, args.before)
+    if seen:
+        seen.keep(path, lines)
     keys = ",".join(file.path.name for file in files) or "KEYS"
     call = f"vaqsider call {shlex.quote(str(path))} 'start algorithm-roll - {keys} now'"
     text = [f"{path}: {len(lines)} lines", *([] if args.signed else [f"next: {call}"])]
     return OK, text, {"script": str(path), "lines": lines}
+
+
+def _agreed(path, lines, files, args):
+    """The state of a zone that is signed already, if its servers agree with these lines, or the
+    operator goes on although they don't."""
+    if path.exists():
+        return None
+    from . import state
+
+    folders = {file.path.parent for file in files}
+    try:
+        return state.agreed(lines, folders, args, clock())
+    except Failure as failure:
+        if not args.although:
+            raise
+        _said(failure)
+        return None
 
 
 def on_call(args):
@@ -140,15 +164,11 @@ def on_watch(args):
 
 
 def _state(args):
-    from keyset import Notes
-
-    from . import comparing, looks, parents, state, status
+    from . import comparing, state, status
 
     lines, told = status.read(args.SCRIPT, clock())
-    seen, notes = state.of(told, comparing.folders_of(args), args, clock()), Notes(args.SCRIPT)
-    if notes.lines:
-        parents.note(notes, lines, told, seen.look)
-    looks.keep(args.SCRIPT, seen.kept(len(lines)))
+    seen = state.of(told, comparing.folders_of(args), args, clock())
+    seen.keep(args.SCRIPT, lines)
     return seen.status, seen.text(), seen.as_json()
 
 

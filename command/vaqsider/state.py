@@ -5,11 +5,15 @@ from __future__ import annotations
 
 from collections.abc import Iterator
 from dataclasses import asdict, dataclass
+from pathlib import Path
 
-from . import comparing, looking, looks, status, words
+import keyset
+from keyset import Notes
+
+from . import comparing, looking, looks, parents, status, words
 from .asking import Answer, Server, dns
 from .comparing import Due
-from .errors import BROKEN, DUE, OK
+from .errors import BROKEN, DUE, OK, WARNING, Failure
 from .looking import Lack, Look, Places
 
 KINDS = ("cds", "dnskey", "ds", "ns", "zone")
@@ -37,6 +41,7 @@ class Row:
 class State:
     """A look at all servers, with its rows, what they lack, and where there is no chain."""
 
+    told: dict
     look: Look
     rows: list[Row]
     lacking: list[Lack]
@@ -61,8 +66,15 @@ class State:
         return {"rows": list(map(asdict, self.rows)), "lacking": list(map(asdict, self.lacking)),
                 "broken": self.broken}
 
+    def keep(self, script: str | Path, lines: list[str]) -> None:
+        """Notes what it saw of the parent's TTLs, and keeps it beside the script."""
+        notes = Notes(script)
+        if notes.lines:
+            parents.note(notes, lines, self.told, self.look)
+        looks.keep(script, self.kept(len(lines)))
+
     def kept(self, lines: int) -> looks.Kept:
-        """What is kept of it, beside a script of so many lines."""
+        """What is kept of it, if the script has so many lines."""
         first = min(_signed(self.look), key=lambda it: it.end, default=None)
         until = first and first.end
         renew = first and first.end - (first.end - first.begin) // 4
@@ -71,16 +83,32 @@ class State:
         return looks.Kept(moment, lines, servers, texts, self.broken, until, renew)
 
 
-def of(told: dict, folders: list, args, now: float) -> State:
+def of(told: dict, folders: list, args, now: float, may_have_cds: bool = False) -> State:
     """The state of a zone's servers, by its status and the key files in these folders."""
     due = Due.of(told, folders)
     kinds = [kind for kind in KINDS if kind != "ds" or due.zone.strip(".")]
     look = looking.look(due, kinds, Places.of(due.zone, args), now)
-    may_have_cds = status.is_asked(told, "CreateCdsRrset")
+    may_have_cds = may_have_cds or status.is_asked(told, "CreateCdsRrset")
     lacking = look.lacking([kind for kind in kinds if kind != "cds"])
     lacking += _of_cds(look, may_have_cds) + list(_late(look))
     rows = [_row(look, server, lacking) for server in _servers(look)]
-    return State(look, rows, sorted(set(lacking)), list(_broken(look)))
+    return State(told, look, rows, sorted(set(lacking)), list(_broken(look)))
+
+
+def agreed(lines: list[str], folders, args, now: float) -> State:
+    """The state of a zone that is signed already, whose script begins with these lines. If its
+    servers don't agree with them, or gave higher TTLs than the notes would begin with, that is a
+    failure. Some signers always publish CDS: it may be in, if it is of these keys."""
+    seen = of(keyset.status(lines), list(folders), args, now, may_have_cds=True)
+    faults = [*seen.texts(), *seen.broken]
+    for kind, ttl in zip(("ds", "dnskey", "zone"), args.before or ()):
+        if seen.look.ttl(kind) > ttl:
+            given = seen.look.ttl(kind)
+            faults.append(f"--before says {ttl} for {kind}, and servers give a TTL of {given}")
+    if faults:
+        text = "so these keys don't come in, unless you say --although"
+        raise Failure("\n".join([*faults, text]), WARNING)
+    return seen
 
 
 def _servers(look: Look) -> list[Server]:
