@@ -5,7 +5,7 @@ import math
 import time
 
 import keyset
-from keyset import Malformed, Notes, lines as forms, locked
+from keyset import Damaged, Malformed, Notes, lines as forms, locked
 from keyset.errors import OUT_OF_MEMORY
 
 from . import check, keyfiles, status, words
@@ -50,6 +50,9 @@ def call(path, text, clock, although=False, dry_run=False):
         except Malformed as error:
             is_own = error.line == len(lines)
             raise Failure(f"{path}: {error}", USAGE if is_own else BROKEN) from None
+        found = status.lost(it for it in history.refused if it[0] < len(lines))
+        if found:
+            raise Damaged(path, *found)
         made = Made(line, history.replies[-1], history.published)
         if made.refused == OUT_OF_MEMORY:
             raise MemoryError

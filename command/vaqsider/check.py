@@ -51,10 +51,14 @@ def _findings(file, path, now):
     """What comes next isn't said of a script that is torn: it may not be so."""
     if file.lines or not file.torn:
         history = History(file.lines)
+        lost = status.lost(history.refused)
+        if lost:
+            yield Finding(BROKEN, lost[1], lost[0])
         for number, reason in history.refused:
-            yield Finding(WARNING, f"was refused ({reason}): take it out", number)
+            if not lost or number < lost[0]:
+                yield Finding(WARNING, f"was refused ({reason}): take it out", number)
         yield from false_claims(history, path, now)
-    told = status.read(path, now)[1]
+    told = status.read(path, now, allow_refused=True)[1]
     yield from _due(told)
     if any(told["published"].values()):
         yield from _of_look(path, len(file.lines), now)

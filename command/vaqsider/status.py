@@ -2,12 +2,14 @@
 
 import keyset
 from keyset import Damaged, Lines, Malformed, Torn
+from keyset.errors import EARLY
 from keyset.lines import FORMS
 
 from . import words
 from .history import SAFE
 
 WAITING = YOU, PARENT, CACHES = "you", "parent", "caches"
+LOST = "a line before it may be lost; if it never was accepted, take it out"
 LABELS = {"ds": "DS", "dnskey": "DNSKEY", "signers": "signers", "zone": "zone"}
 
 
@@ -19,13 +21,23 @@ def whole(path, file):
     return file.lines
 
 
-def read(path, now):
-    """The lines of a script and its status at this moment. If a wait is over, it waits for you."""
+def lost(refused):
+    """Of refused lines the first that can't be a wait that was too early, with its reason. Only
+    accepted lines are kept, so a line before it may be lost."""
+    found = (it for it in refused if not it[1].startswith(EARLY))
+    return next(((line, f"was refused ({why}): {LOST}") for line, why in found), None)
+
+
+def read(path, now, allow_refused=False):
+    """The lines of a script and its status at this moment. If a wait is over, it waits for you.
+    Nothing is shown of a script that may have lost a line, unless that is allowed."""
     lines = whole(path, Lines(path))
     try:
-        told = keyset.status(lines)
+        told, found = keyset.status(lines), lost(keyset.refused(lines))
     except Malformed as error:
         raise Damaged(path, error.line, f"malformed: {error.reason}") from None
+    if found and not allow_refused:
+        raise Damaged(path, *found)
     for roll in told["rolls"]:
         if roll["not_before"] is not None and roll["not_before"] <= now:
             roll["waits_for"] = YOU

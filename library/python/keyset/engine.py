@@ -10,12 +10,13 @@ import warnings
 from typing import Dict, Iterable, Iterator, List, Optional, Sequence, Tuple
 
 from . import programs
+from .errors import OutOfMemory, refusal_of
 from .library import LibrarySession, answer, library
 from .members import Status
 from .programs import ProgramSession
 from .session import Session
 
-__all__ = ["answer", "due", "open_session", "run", "status"]
+__all__ = ["answer", "due", "open_session", "refused", "run", "status"]
 
 
 class Slow(RuntimeWarning):
@@ -48,6 +49,18 @@ def run(lines: Sequence[str]) -> List[str]:
     told = [*replies, *session.closing()]
     session.close()
     return told
+
+
+def refused(lines: Sequence[str]) -> List[Tuple[int, str]]:
+    """The lines of a script that are refused, each with its number and the reason."""
+    found = []
+    for number, reply in enumerate(run(lines)[:-2], start=2):
+        error = refusal_of(reply)
+        if isinstance(error, OutOfMemory):
+            raise error
+        if error:
+            found.append((number, str(error)))
+    return found
 
 
 def status(lines: Sequence[str]) -> Status:
