@@ -29,15 +29,17 @@ sys.dont_write_bytecode = True
 TOP = Path(__file__).resolve().parent.parent
 sys.path.insert(0, str(TOP / "replay"))
 
+import acts  # noqa: E402
 import answering  # noqa: E402
 import facts  # noqa: E402
 import liars  # noqa: E402
 import testkeys  # noqa: E402
-from typed import STORED, folder, typed  # noqa: E402
+from typed import STORED, folder, private_halves, typed  # noqa: E402
 
 PACKAGE = TOP / "command" / "vaqsider"
 # The files with the code that decides what is on disk, and when.
-WRITERS = ("file.py", "calling.py", "act.py", "watching.py", "notes.py")
+WRITERS = ("file.py", "calling.py", "act.py", "place.py", "zonefile.py", "signing.py",
+           "watching.py", "notes.py")
 
 LINE = re.compile(r"\$ (?:NOW=(?P<now>\S+) )?(?P<words>.*)")
 
@@ -84,16 +86,20 @@ def compare(write):
 
 
 def left(files):
-    return {name: Path(name).read_text() for name in files if Path(name).exists()}
+    """These files, and drafts that nobody removes. A crash may cost a serial number."""
+    texts = {name: Path(name).read_text() for name in files if Path(name).exists()}
+    told = {name: re.sub(r"(SOA\t\S+ \S+) \d+", r"\1 N", text) for name, text in texts.items()}
+    return {**told, "drafts": [path.name for path in Path().glob(".*")]}
 
 
 class Crashes:
     """Runs a part of this program that changes files. After each change it looks what a crash would
     leave: a copy of this process goes on in a copy of the folder, where it runs the part once more.
-    If the part crashed later, but before the next change, it would leave the same files."""
+    If the part crashed later, but before the next change, it would leave the same files. Drafts in
+    folders are looked at if `is_deep`."""
 
-    def __init__(self, part, files, wanted):
-        self.part, self.files, self.wanted = part, files, wanted
+    def __init__(self, part, files, wanted, is_deep):
+        self.part, self.files, self.wanted, self.is_deep = part, files, wanted, is_deep
         self.count, self.wrong = 0, []
 
     def run(self):
@@ -105,7 +111,8 @@ class Crashes:
             sys.settrace(None)
 
     def folder(self):
-        found = ((it.name, it.stat()) for it in os.scandir() if it.is_file())
+        folders = [".", *(map(str, Path().glob(".*.act")) if self.is_deep else ())]
+        found = ((it.path, it.stat()) for of in folders for it in os.scandir(of) if it.is_file())
         return {name: (stat.st_size, stat.st_mtime_ns) for name, stat in found}
 
     def trace(self, frame, event, _):
@@ -142,7 +149,7 @@ def crash_everywhere(name, part, prepare, files):
         wanted = left(files)
     with folder():
         prepare()
-        crashes = Crashes(part, files, wanted)
+        crashes = Crashes(part, files, wanted, name == "act")
         crashes.run()
         faults = [f"{name}: crashed at change {at}, it ends differently" for at in crashes.wrong]
         if left(files) != wanted or crashes.count == 0:
@@ -151,7 +158,8 @@ def crash_everywhere(name, part, prepare, files):
 
 
 def noted():
-    """The notes of start.script, in which a ZSK roll has just begun."""
+    """The notes of start.script, in which a ZSK roll has just begun, and private keys."""
+    private_halves()
     Path("start.notes").write_text(
         "before 60 60 60\npublished dnskey 3 60 0\npublished zone 3 60 0\neverywhere dnskey 9\n"
         "everywhere zone 9\npublished ds 5 60 71\neverywhere ds 80\npublished dnskey 7 60 141\n"
@@ -253,11 +261,12 @@ def main():
     # Each part has folders of its own, and a process.
     with ProcessPoolExecutor() as pool:
         looked_up = pool.submit(traced, facts.faults)
+        acted = pool.submit(traced, acts.faults)
         compared = pool.submit(traced, compare, write)
         lied_to = pool.submit(traced, liars.faults)
         crashed = [*pool.map(crash, range(len(CRASHES)))]
     (faults, lines), results = compared.result()
-    for more, others in (looked_up.result(), lied_to.result()):
+    for more, others in (looked_up.result(), acted.result(), lied_to.result()):
         results.update(others)
         faults += more
     faults += [fault for found, _ in crashed for fault in found]

@@ -159,6 +159,7 @@ def key_file(flags, number):
     tag, data = testkeys.add(number, flags)
     name = f"Kexample.com.+013+{tag:05}.key"
     Path(name).write_text(f"example.com. IN DNSKEY {data}\n")
+    Path(name).with_suffix(".private").touch()
     return name, tag
 
 

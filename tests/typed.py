@@ -41,3 +41,9 @@ def folder():
             yield Path(made)
         finally:
             os.chdir(before)
+
+
+def private_halves():
+    """Makes the files of private keys, empty: stubs sign by the names of files."""
+    for path in Path().glob("K*.key"):
+        path.with_suffix(".private").touch()

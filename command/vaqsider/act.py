@@ -1,139 +1,248 @@
-"""What is due, as commands for a signer: they make a zone file with the keys of the DNSKEY set,
-signed by the keys that have to sign, and the DS records for the parent.
+"""`act`: publishes what is due. It signs the zone by the keys that have to sign, verifies that, and
+puts it in place; and it gives the DS records for the parent.
 
-The commands make what has to be published now, whatever was published before. So they may be run
-again after a crash."""
+What has to be published now is made anew, whatever was published before. So an act may be run again
+after a crash."""
 
-import shlex
+from __future__ import annotations
+
+import os
+import re
+import signal
 import subprocess
+import tempfile
+from argparse import Namespace
+from dataclasses import dataclass
+from itertools import chain
 from pathlib import Path
+from typing import Callable
 
-from keyset import Notes
+from keyset import Damaged, Lines, Notes
+from keyset.notes import Seen
 
-from . import keyfiles, status
+from . import place, serial, signing, status, words, zonefile
+from .arguments import file_name
 from .errors import UNAVAILABLE, Failure
+from .history import Call, History
+from .keysets import KeySets
+from .signing import SIGNERS, Nsec3, Task
+from .zonefile import Due, Row, Zone, parsed
 
-# The commands of each signer. A signer makes more signatures than are due.
-SIGNERS = {
-    "bind": {
-        "sign": "dnssec-signzone -qzP -N unixtime -O full -o {origin} -f {draft} {whole} {keys} "
-        ">/dev/null",
-        "plain": "named-compilezone -q -i none -o {draft} {origin} {whole}",
-        "cds": "dnssec-dsfromkey -C -2 {keys} >>{whole}",
-        "ds": "dnssec-dsfromkey -2 {keys}",
-    },
-    "ldns": {
-        "sign": "ldns-signzone -A -u -o {origin} -f {draft} {whole} {bases}",
-        "plain": "ldns-read-zone {whole} >{draft}",
-        "cds": "ldns-key2ds -n -2 {keys} | sed 's/[[:space:]]DS[[:space:]]/ CDS /' >>{whole}",
-        "ds": "ldns-key2ds -n -2 {keys}",
-    },
-}
-# (awk adds a line feed if the end of a file lacks it.)
-WHOLE = "{{ echo '$ORIGIN' {origin}; awk 1 {file} {keys}; }} >{whole}"
-CDNSKEY = "sed -n 's/[[:space:]]DNSKEY[[:space:]]/ CDNSKEY /p' {keys} >>{whole}"
-DELETE = "printf '%s IN CDS 0 0 0 00\\n%s IN CDNSKEY 0 3 0 AA==\\n' {origin} {origin} >>{whole}"
-# In a line of a signed zone file field 4 is the type. In an RRSIG field 5 is the type that it
-# covers, and field 11 the key's tag. The keys of `signers` sign DNSKEY, one of them and those of
-# `zone` sign CDS and CDNSKEY, and those of `zone` sign the rest.
-FILTER = (
-    "awk '$4 != \"RRSIG\" || ($5 == \"DNSKEY\" ? \" {signers} \" : $5 ~ /^CD/ ? \" {cds} \" : "
-    "\" {zone} \") ~ \" \"$11\" \"' {draft} >{whole}"
-)
-# Without a signer the serial number is the time too, as with `unixtime`.
-SERIAL = "awk -v now=$(date +%s) '$4 == \"SOA\" {{ $7 = now }} 1' {draft} >{whole}"
+# A line of an act's own file: CDS is out in the step of this call and moment, or in again.
+SAID = re.compile(r"(?P<word>cds-out|cds-in) (?P<step>\d+ \d+)")
 
 
-class Signer:
-    """The commands that publish what a status says, for the options of the command line."""
+@dataclass(frozen=True)
+class Plan:
+    """What an act does: what is due, who signs it and how, and which signatures are kept."""
 
-    def __init__(self, args, told):
-        self.args, self.told, self.published = args, told, told["published"]
-        self.tools, self.signed = SIGNERS[args.signer], args.out or f"{args.zone_file}.signed"
-        folders = args.keys or [Path(args.SCRIPT).parent]
-        names = {name for names in self.published.values() for name in names}
-        keys = (key for key in told["keys"] if key["reference"] in names)
-        self.files = {key["reference"]: keyfiles.find(key, folders) for key in keys}
+    unsigned: Path
+    due: Due
+    task: Task
+    kept: dict[str, Row]
 
-    def made(self, form, names=(), **more):
-        """A command, with these names of keys in it."""
-        paths = [str(self.files[name].path) for name in names]
-        words = {
-            "origin": [self.told["zone"].rstrip(".") + "."], "file": [self.args.zone_file],
-            "signed": [self.signed], "draft": [f"{self.signed}.draft"],
-            "whole": [f"{self.signed}.draft.in"], "keys": paths,
-            "bases": [path.removesuffix(".key") for path in paths],
-        }
-        quoted = {name: " ".join(map(shlex.quote, of)) for name, of in words.items()}
-        return form.format(**quoted, **more)
+    def commands(self, signer: str, reload: str | None) -> list[list[str]]:
+        """The programs that it runs."""
+        made = [SIGNERS[signer].signs(self.task), self.verifying()] if self.task.keys else []
+        return [*made, *([["sh", "-c", reload]] if reload else [])]
 
-    def commands(self):
-        """Shell commands. The last ones put the signed zone in its place, and load it."""
-        yield self.made(WHOLE, self.published["dnskey"])
-        if not self.args.no_cds and status.is_asked(self.told, "CreateCdsRrset"):
-            if not self.published["ds"]:
-                yield self.made(DELETE)
-            forms = self.tools["cds"], CDNSKEY
-            yield from (self.made(form, [key]) for form in forms for key in self.published["ds"])
-        if self.published["dnskey"]:
-            yield from self.sign()
-        else:
-            yield from (self.made(self.tools["plain"]), self.made(SERIAL))
-        yield from (self.made("mv {whole} {signed}"), self.made("rm -f {draft}"))
-        if self.args.reload:
-            yield self.args.reload
+    def verifying(self) -> list[str]:
+        has_opt_out = bool(self.task.nsec3 and self.task.nsec3.flags & 1)
+        return signing.verifying(self.due.origin, has_opt_out)
 
-    def sign(self):
-        signers, zone = self.published["signers"], self.published["zone"]
-        names = list(dict.fromkeys([*signers, *zone]))
-        seps, in_zone = ({self.files[name].is_sep for name in of} for of in (names, zone))
-        if self.args.signer == "ldns" and True in in_zone and False in seps:
+    def until(self) -> dict[str, int]:
+        """When each signature that is kept expires."""
+        return {name: parsed("RRSIG", row.data).expiration for name, row in self.kept.items()}
+
+
+class Act:
+    """An act on a script, for the options of the command line. `said` are the lines that earlier
+    acts have left."""
+
+    def __init__(self, args: Namespace, now: float, said: list[str]) -> None:
+        self.args, self.now = args, now
+        self.lines, self.told = status.read(args.SCRIPT, now)
+        told = self.told
+        name, beside = file_name(told["zone"]), Path(args.SCRIPT).parent
+        self.zone_file = Path(args.zone_file or beside / f"{name}.zone")
+        self.signed = Path(args.out or f"{self.zone_file}.signed")
+        self.keys = KeySets(told, args.keys or [beside])
+        self.digests = args.digest or [2]
+        self.changes_ds = status.is_asked(told, "UpdateDsRrset")
+        # The call that asks for CDS, if it is due.
+        self.step = self._step() if status.is_asked(told, "CreateCdsRrset") else None
+        self.has_cds = self.step is not None and not self._is_out(self.step, said)
+
+    def _step(self) -> Call:
+        calls = History(self.lines).calls
+        return next(call for call in reversed(calls) if "CreateCdsRrset" in call.actions)
+
+    def _is_out(self, step: Call, said: list[str]) -> bool:
+        """Whether CDS stays out in this step. It was taken out in it, or by the notes all servers
+        of the parent have the DS set."""
+        if self.args.no_cds or self.args.cds:
+            return self.args.no_cds
+        found = filter(None, map(SAID.fullmatch, said))
+        words_of_step = [it["word"] for it in found if it["step"] == _name(step)]
+        if words_of_step:
+            return words_of_step[-1] == "cds-out"
+        seen = Seen(Notes(self.args.SCRIPT).lines, self.now)
+        return seen.calls.get("ds", 0) >= step.number - 1 and seen.is_everywhere.get("ds") is True
+
+    def says(self, said: list[str]) -> list[str]:
+        """The line that this act leaves for later ones, if it says something new."""
+        if self.step is None or self.has_cds and not self.args.cds:
+            return []
+        line = f"cds-{'in' if self.has_cds else 'out'} {_name(self.step)}"
+        return [] if said[-1:] == [line] else [line]
+
+    def in_full(self, path: Path, folder: Path) -> Zone:
+        """A zone file as its signer's tool writes it."""
+        made = zonefile.in_full(path, self.keys.origin, SIGNERS[self.args.signer], folder)
+        return Zone.of(self.keys.origin, made)
+
+    def last(self, folder: Path) -> Zone | None:
+        """The version that is in place now."""
+        if not self.signed.is_file():
+            return None
+        try:
+            return Zone.of(self.keys.origin, self.signed)
+        except zonefile.NotFull:
+            return self.in_full(self.signed, folder)
+
+    def plan(self, folder: Path) -> Plan:
+        """Reads the zone and its last version, and says what comes next."""
+        unsigned, last = self.in_full(self.zone_file, folder), self.last(folder)
+        kept = self.keys.kept(last, self.now)
+        number = last and last.serial
+        number = serial.following(self.args.serial, unsigned.serial, number, self.now)
+        due = Due(self.keys.origin, number, self.sets(unsigned, kept), self.signers())
+        return Plan(unsigned.path, due, self.task(unsigned, last), kept)
+
+    def sets(self, unsigned: Zone, kept: dict[str, Row]) -> dict[str, list[Row]]:
+        """DNSKEY, and CDS and CDNSKEY with the TTL of the SOA record."""
+        ttl = self.args.dnskey_ttl or self.keys.ttl() or unsigned.soa.ttl
+        signed = {parsed("RRSIG", row.data).original_ttl for row in kept.values()}
+        if signed and self.args.dnskey_ttl and signed != {ttl}:
+            raise Failure(f"the DNSKEY set is signed with the TTL {min(signed)}: it has to stay")
+        sets = {"DNSKEY": self.keys.dnskey(min(signed, default=ttl)), "CDS": [], "CDNSKEY": []}
+        if self.has_cds and self.keys.cds_signer():
+            sets.update(self.keys.cds(unsigned.soa.ttl, self.digests))
+        return sets
+
+    def signers(self) -> dict[str, frozenset]:
+        """Which keys sign DNSKEY, CDS and CDNSKEY, and the rest."""
+        zone = self.keys.published["zone"]
+        cds = self.keys.by([*self.keys.cds_signer(), *zone])
+        signers = self.keys.by(self.keys.published["signers"])
+        return {"DNSKEY": signers, "CDS": cds, "CDNSKEY": cds, "zone": self.keys.by(zone)}
+
+    def task(self, unsigned: Zone, last: Zone | None) -> Task:
+        """Which keys sign, and how. NSEC3 stays as the last version has it."""
+        names = self.keys.here()
+        files = {name: self.keys.files[name] for name in names}
+        in_zone = {files[name].is_sep for name in self.keys.published["zone"]}
+        if self.args.signer == "ldns" and True in in_zone and False in self.seps(names):
             raise Failure("ldns can't sign a zone with a CSK beside a ZSK: use --signer bind")
-        yield self.made(self.tools["sign"], names)
-        by = {"signers": signers, "zone": zone, "cds": [*self.cds_signer(), *zone]}
-        tags = {of: " ".join(str(self.files[name].tag) for name in by[of]) for of in by}
-        yield self.made(FILTER, **tags)
+        paths = tuple(file.path for file in files.values())
+        nsec3 = last and last.nsec3 or unsigned.nsec3
+        if self.args.nsec3:
+            nsec3 = None if self.args.nsec3 == "no" else Nsec3.of(self.args.nsec3)
+        how = self.args.lifetime, self.args.jitter, nsec3
+        return Task(self.keys.origin, paths, int(self.now), *how)
 
-    def cds_signer(self):
-        """The key of `signers=` that signs CDS and CDNSKEY: one that has a DS at the parent now, or
-        before the first DS one that gets it."""
-        signers = self.published["signers"]
-        has_ds = {key["reference"] for key in self.told["keys"] if key["ds_visible"] is not None}
-        able = (has_ds, self.published["ds"], signers)
-        return [name for names in able for name in signers if name in names][:1]
+    def seps(self, names: list[str]) -> set[bool]:
+        return {self.keys.files[name].is_sep for name in names}
 
-    def ds(self):
-        """Commands that print the DS records for the parent, if they have to change."""
-        is_asked = status.is_asked(self.told, "UpdateDsRrset")
-        return [self.made(self.tools["ds"], [key]) for key in self.published["ds"] if is_asked]
+    def ds(self) -> list[str]:
+        """The DS records for the parent, if they have to change."""
+        data = self.keys.ds(self.digests) if self.changes_ds else []
+        return [f"{self.keys.origin} IN DS {text}" for text in data]
 
 
-def publish(commands, script, call, kinds, now):
-    """Runs the commands one after another, up to the first that fails. Notes what they publish,
-    with its TTLs, before servers can give it: before the signed file is in its place."""
-    for command in commands:
-        if command.startswith("mv "):
-            ttls = {**dict.fromkeys(kinds), **ttls_of(shlex.split(command)[1])}
-            Notes(script).publish(call, ttls, now)
-        run(command, stdout=2)
+def _name(step: Call) -> str:
+    """A step by its number among the calls, and its moment: another script has another one."""
+    return f"{step.number - 1} {step.moment}"
 
 
-def ttls_of(file):
-    """The TTL of the DNSKEY set in a zone file, and the highest of all others, with that of answers
-    that there is no such set."""
-    ttls = {True: 0, False: 0}
-    with open(file, encoding="ascii") as lines:
-        for line in lines:
-            _, ttl, _, kind, covered, *_ = [*line.split(), *[""] * 5]
-            if ttl.isdigit() and not line.startswith(";"):
-                is_dnskey = kind == "DNSKEY" or (kind, covered) == ("RRSIG", "DNSKEY")
-                ttls[is_dnskey] = max(ttls[is_dnskey], int(ttl))
-    return {"dnskey": ttls[True] or ttls[False], "zone": ttls[False]}
+def said_by(kept: Lines) -> list[str]:
+    """The lines that earlier acts have left."""
+    for number, line in enumerate(kept.lines, start=1):
+        if not SAID.fullmatch(line):
+            raise Damaged(kept.path, number, "it has not the form of a line of an act")
+    return kept.lines
 
 
-def run(command, stdout=subprocess.PIPE):
-    """Runs a shell command, and gives the lines that it prints."""
-    done = subprocess.run(["sh", "-c", command], stdout=stdout, text=True)
-    if done.returncode:
-        raise Failure(f"status {done.returncode}: {command}", UNAVAILABLE)
-    return (done.stdout or "").splitlines()
+def dry_run(args: Namespace, now: float) -> tuple[Act, Plan]:
+    """What an act would do."""
+    path = place.beside(args.SCRIPT)
+    act = Act(args, now, said_by(Lines(path)) if path.is_file() else [])
+    with tempfile.TemporaryDirectory() as folder:
+        return act, act.plan(Path(folder).resolve())
+
+
+def perform(args: Namespace, clock: Callable[[], float]) -> tuple[Act, Plan]:
+    """Acts, while no other act runs on this script."""
+    with place.alone(args.SCRIPT) as kept:
+        act = Act(args, clock(), said_by(kept))
+        if act.changes_ds:
+            from . import parents
+
+            parents.before_step(args, act.lines, act.told, clock)
+        with place.folder(act.signed) as folder:
+            plan = act.plan(folder)
+            ready = make(plan, args.signer, folder)
+            place.ready(ready, act.signed, act.zone_file)
+            publish(act, ready, kept)
+        if args.reload:
+            reload(args.reload, args.reload_within)
+        return act, plan
+
+
+def make(plan: Plan, signer: str, folder: Path) -> Path:
+    """Makes the next version, `ready`, and verifies it."""
+    whole, ready = folder / "whole", folder / "ready"
+    zonefile.write(whole, plan.due.whole(zonefile.rows(plan.unsigned)))
+    try:
+        if plan.task.keys:
+            sign(plan, signer, folder)
+        else:
+            whole.rename(ready)
+        plan.due.refuse(Zone.of(plan.due.origin, ready))
+    except zonefile.NotFull as error:
+        raise Failure(f"the signed zone is wrong: {error}", UNAVAILABLE) from None
+    if plan.task.keys:
+        signing.run(plan.verifying(), folder)
+    return ready
+
+
+def sign(plan: Plan, signer: str, folder: Path) -> None:
+    """Signs `whole`. What isn't due goes, and signatures that are kept come in."""
+    signing.run(SIGNERS[signer].signs(plan.task.from_anywhere()), folder)
+    signed = plan.due.without_others(zonefile.rows(folder / "draft"))
+    zonefile.write(folder / "ready", chain(signed, plan.kept.values()))
+
+
+def publish(act: Act, ready: Path, kept: Lines) -> None:
+    """Notes what is published, with its TTLs, before servers can give it: before the signed file is
+    in its place. Then puts it there."""
+    ttls = {**dict.fromkeys(["ds"] * act.changes_ds), **zonefile.ttls(zonefile.rows(ready))}
+    Notes(act.args.SCRIPT).publish(len(act.lines) - 1, ttls, act.now)
+    for line in act.says(kept.lines):
+        kept.append(line)
+    place.put(ready, act.signed)
+
+
+def reload(command: str, seconds: float) -> None:
+    """Runs the operator's command. It gets no longer than these seconds."""
+    done = subprocess.Popen(["sh", "-c", command], stdout=2, start_new_session=True)
+    try:
+        ended = done.wait(seconds)
+    except subprocess.TimeoutExpired:
+        os.killpg(done.pid, signal.SIGKILL)
+        done.wait()
+        ended = f"it has not ended within {words.duration(int(seconds))}"
+    if ended:
+        why = ended if isinstance(ended, str) else f"status {ended}"
+        text = f"the signed zone is in place, and isn't loaded: {why}: {command}"
+        raise Failure(text, UNAVAILABLE)

@@ -132,25 +132,11 @@ def on_draw(args):
 
 
 def on_act(args):
-    from . import act, status, words
+    from . import act, acted
 
-    lines, told = status.read(args.SCRIPT, clock())
-    zone_file = f"{arguments.file_name(told['zone'])}.zone"
-    args.zone_file = args.zone_file or str(Path(args.SCRIPT).with_name(zone_file))
-    signer = act.Signer(args, told)
-    commands, of_ds = list(signer.commands()), signer.ds()
     if args.dry_run:
-        return OK, [*commands, *of_ds], {"commands": commands, "ds": of_ds}
-    is_asked = status.is_asked(told, "UpdateDsRrset")
-    if is_asked:
-        from . import parents
-
-        parents.before_step(args, lines, told, clock)
-    act.publish(commands, args.SCRIPT, len(lines) - 1, ["ds"] * is_asked, clock())
-    records = [record for command in of_ds for record in act.run(command)]
-    says = f"the parent's DS set has to be {words.listed(told['published']['ds'])}"
-    text = [f"{signer.signed}: written", *([says, *records] if is_asked else [])]
-    return OK, text, {"commands": commands, "ds": records}
+        return OK, *acted.planned(args, *act.dry_run(args, clock()))
+    return OK, *acted.done(args, *act.perform(args, clock))
 
 
 def on_watch(args):
@@ -210,6 +196,7 @@ READ_AS = {
     "--port": {"type": arguments.port},
     "SECONDS": {"type": arguments.span},
     "NUMBER": {"type": arguments.number},
+    "2|4..": {"type": int, "choices": (2, 4)},
     "bind|ldns": {"choices": ("bind", "ldns"), "default": "bind"},
     "DS DNSKEY ZONE": {
         "type": arguments.number, "nargs": 3, "metavar": ("DS", "DNSKEY", "ZONE"),
@@ -217,6 +204,7 @@ READ_AS = {
     "[KEYFILE..]": {"nargs": "*"},
     "SCRIPT..": {"nargs": "+"},
 }
+DEFAULTS = {"port": 53, "every": 10, "lifetime": 30 * 86400, "reload_within": 60}
 
 
 class Version(argparse.Action):
@@ -255,7 +243,7 @@ def parser(only=None):
         word = subparsers.add_parser(name, help=says, description=about, formatter_class=as_it_is)
         for argument in ARGUMENT.finditer(f"{arguments_of}--json  print JSON"):
             _add(word, *argument.groups())
-        word.set_defaults(does=globals()[f"on_{name}"], port=53, every=10)
+        word.set_defaults(does=globals()[f"on_{name}"], **DEFAULTS)
     return top
 
 
@@ -295,6 +283,10 @@ def _add(word, name, value, says):
         from keyset.lines import ROLLS
 
         settings["choices"] = ROLLS
+    if name == "--serial":
+        from .serial import POLICIES
+
+        settings.update(choices=POLICIES, default=POLICIES[0])
     if is_option:
         settings["action"] = "append" if value.endswith("..") else "store"
     word.add_argument(name if is_option else shown, **settings)

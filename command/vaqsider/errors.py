@@ -12,7 +12,7 @@ STATUSES = {
              "or a program is", ("Damaged", "Malformed")),
     USAGE: ("the command line, or the line of a call, is wrong",
             ("FileExistsError", "Misnamed", "WrongArgument")),
-    UNAVAILABLE: ("a program, a file or a server is missing",
+    UNAVAILABLE: ("a program, a file or a server is missing, or fails",
                   ("Unavailable", "OSError", "MemoryError")),
     FAULTY: ("a fault of this command", ("Exception",)),
     UNPRINTED: ("done, and standard output can't take it: standard error has it", ()),

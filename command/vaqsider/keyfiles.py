@@ -14,7 +14,7 @@ from .errors import BROKEN, UNAVAILABLE, Failure
 
 SEP, ZONE_KEY, REVOKED = 0x0001, 0x0100, 0x0080
 RECORD = re.compile(
-    r"(?P<owner>\S+)\s+(?:\d+\s+)?(?:IN\s+)?(?:\d+\s+)?DNSKEY\s+"
+    r"(?P<owner>\S+)\s+(?:(?P<ttl>\d+)\s+)?(?:IN\s+)?(?:\d+\s+)?DNSKEY\s+"
     r"(?P<flags>\d+)\s+(?P<protocol>\d+)\s+(?P<algorithm>\d+)\s+(?P<key>[^;]+)",
     re.IGNORECASE,
 )
@@ -41,13 +41,19 @@ class KeyFile:
         self.data = " ".join(record.group("flags", "protocol", "algorithm", "key"))
         created = CREATED.search(text)
         stamp = time.strptime(created[1], "%Y%m%d%H%M%S") if created else None
+        # `dnssec-keygen -L` gives a record a TTL.
+        self.ttl = int(record["ttl"] or 0)
         self.creation = calendar.timegm(stamp) if stamp else int(self.path.stat().st_mtime)
+
+    @property
+    def private(self):
+        """The file of the private half. It may be away."""
+        return self.path.with_suffix(".private")
 
     def line(self, is_csk):
         """The line that adds the key: as a CSK, or as what its SEP flag says."""
-        private = self.path.with_suffix(".private")
         word = "add-csk" if is_csk else "add-ksk" if self.is_sep else "add-zsk"
-        reference = private.name if private.is_file() else "-"
+        reference = self.private.name if self.private.is_file() else "-"
         parts = word, self.path.name, reference, self.algorithm, self.tag, self.creation, "yes"
         return " ".join(map(str, parts))
 

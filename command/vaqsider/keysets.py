@@ -1,0 +1,102 @@
+"""The sets that are made of keys, for what a status says: DNSKEY, CDS and CDNSKEY, the DS records
+of the parent; and which keys sign which set."""
+
+from __future__ import annotations
+
+from pathlib import Path
+from typing import Iterable
+
+import dns.dnssec
+import dns.name
+
+from . import keyfiles
+from .errors import UNAVAILABLE, Failure
+from .zonefile import By, Row, Zone, parsed
+
+# The types of a DS record's digest, by their numbers there.
+DIGESTS = {2: "SHA256", 4: "SHA384"}
+# CDS and CDNSKEY that ask the parent to remove the DS set (RFC 8078, section 4).
+DELETE = {"CDS": ["0 0 0 00"], "CDNSKEY": ["0 3 0 AA=="]}
+
+
+class KeySets:
+    """The key files of all sets of a status."""
+
+    def __init__(self, told: dict, folders: list[str | Path]) -> None:
+        self.published = told["published"]
+        self.origin = told["zone"].rstrip(".") + "."
+        names = {name for names in self.published.values() for name in names}
+        keys = [key for key in told["keys"] if key["reference"] in names]
+        self.files = {key["reference"]: keyfiles.find(key, folders) for key in keys}
+        self.has_ds = {key["reference"] for key in keys if key["ds_visible"] is not None}
+
+    def of(self, kind: str) -> list[keyfiles.KeyFile]:
+        return [self.files[name] for name in self.published[kind]]
+
+    def by(self, names: Iterable[str]) -> frozenset[By]:
+        """These keys as signatures name them."""
+        return frozenset(By(self.files[name].algorithm, self.files[name].tag) for name in names)
+
+    def ttl(self) -> int:
+        """The highest TTL in the key files of the DNSKEY set."""
+        return max((file.ttl for file in self.of("dnskey")), default=0)
+
+    def dnskey(self, ttl: int) -> list[Row]:
+        """The DNSKEY set that is due."""
+        return self._rows("DNSKEY", ttl, [file.data for file in self.of("dnskey")])
+
+    def ds(self, digests: Iterable[int]) -> list[str]:
+        """The data of the DS records that are due."""
+        name = dns.name.from_text(self.origin)
+        keys = [parsed("DNSKEY", file.data) for file in self.of("ds")]
+        made = (dns.dnssec.make_ds(name, key, DIGESTS[it]) for key in keys for it in digests)
+        return [data.to_text() for data in made]
+
+    def cds(self, ttl: int, digests: Iterable[int]) -> dict[str, list[Row]]:
+        """CDS and CDNSKEY for the DS set that is due, or those that ask to remove it."""
+        data = {"CDS": self.ds(digests), "CDNSKEY": [file.data for file in self.of("ds")]}
+        of = data if self.published["ds"] else DELETE
+        return {kind: self._rows(kind, ttl, texts) for kind, texts in of.items()}
+
+    def _rows(self, kind: str, ttl: int, data: list[str]) -> list[Row]:
+        return [Row(self.origin, ttl, kind, text) for text in data]
+
+    def is_away(self, name: str) -> bool:
+        """Whether the private half of a key isn't here."""
+        return not self.files[name].private.is_file()
+
+    def here(self) -> list[str]:
+        """The keys that sign now. Those that sign the zone have to be here."""
+        zone = self.published["zone"]
+        for name in filter(self.is_away, zone):
+            text = f"{self.files[name].private} isn't here, and {name} has to sign the zone"
+            raise Failure(text, UNAVAILABLE)
+        names = dict.fromkeys([*self.published["signers"], *zone])
+        return [name for name in names if not self.is_away(name)]
+
+    def cds_signer(self) -> list[str]:
+        """The key of `signers=` that signs CDS and CDNSKEY, if it is here: one that has a DS at the
+        parent now, or before the first DS one that gets it."""
+        signers = self.published["signers"]
+        has_ds = [name for name in signers if name in self.has_ds]
+        gets_it = [name for name in signers if name in self.published["ds"]]
+        able = has_ds or gets_it or signers
+        return [name for name in able if not self.is_away(name)][:1]
+
+    def kept(self, last: Zone | None, now: float) -> dict[str, Row]:
+        """The last signatures of the DNSKEY set by keys that are away. They have to be valid, and
+        of the set that is due."""
+        away = filter(self.is_away, self.published["signers"])
+        return {name: self._last_by(name, last, now) for name in away}
+
+    def _last_by(self, name: str, last: Zone | None, now: float) -> Row:
+        reason = f"{self.files[name].private} isn't here"
+        due = {parsed("DNSKEY", file.data) for file in self.of("dnskey")}
+        if last is None or last.data("DNSKEY") != due:
+            raise Failure(f"{reason}, and {name} has not signed this DNSKEY set", UNAVAILABLE)
+        by = self.by([name])
+        for row in last.signatures("DNSKEY"):
+            data = parsed("RRSIG", row.data)
+            if By(data.algorithm, data.key_tag) in by and now < data.expiration:
+                return row
+        raise Failure(f"{reason}, and no signature of {name} is valid any more", UNAVAILABLE)

@@ -1,0 +1,132 @@
+"""The tools of a signer, each as a list of arguments. No text goes through a shell.
+
+A signer makes more signatures than are due: with every key, of every set."""
+
+from __future__ import annotations
+
+import shlex
+import shutil
+import subprocess
+import sys
+from dataclasses import dataclass, replace
+from pathlib import Path
+from typing import IO, Callable
+
+from .errors import UNAVAILABLE, Failure
+
+# Signatures begin an hour before, for servers whose clocks are slow.
+BEFORE = 3600
+
+
+@dataclass(frozen=True)
+class Nsec3:
+    """The fields of an NSEC3PARAM record (RFC 5155), with the flag for opt-out."""
+
+    algorithm: int
+    flags: int
+    iterations: int
+    salt: str
+
+    @classmethod
+    def of(cls, text: str) -> Nsec3:
+        """Reads `1 0 0 -`: algorithm, flags, iterations and salt."""
+        *numbers, salt = text.split() or [""]
+        is_salt = salt == "-" or len(salt) % 2 == 0 and set(salt.lower()) <= set("0123456789abcdef")
+        if len(numbers) != 3 or not (is_salt and all(map(str.isdecimal, numbers))):
+            raise Failure(f"NSEC3 parameters are as '1 0 0 -', not '{text}'")
+        algorithm, flags, iterations = map(int, numbers)
+        return cls(algorithm, flags, iterations, salt)
+
+
+@dataclass(frozen=True)
+class Task:
+    """What has to be signed, by which keys, and how."""
+
+    origin: str
+    keys: tuple[Path, ...]
+    now: int
+    lifetime: int
+    jitter: int | None
+    nsec3: Nsec3 | None
+
+    def from_anywhere(self) -> Task:
+        """The same, with the keys' whole paths."""
+        return replace(self, keys=tuple(key.resolve() for key in self.keys))
+
+
+def _by_bind(task: Task) -> list[str]:
+    how = ["-e", f"now+{task.lifetime}"]
+    how += [] if task.jitter is None else ["-j", str(task.jitter)]
+    if task.nsec3:
+        how += ["-3", task.nsec3.salt, "-H", str(task.nsec3.iterations)]
+        how += ["-A"] if task.nsec3.flags & 1 else []
+    keys = map(str, task.keys)
+    return ["dnssec-signzone", "-q", "-z", "-P", "-O", "full", "-o", task.origin, *how,
+            "-f", "draft", "whole", *keys]
+
+
+def _by_ldns(task: Task) -> list[str]:
+    if task.jitter is not None:
+        raise Failure("ldns-signzone has no jitter: use --signer bind")
+    how = ["-i", str(max(0, task.now - BEFORE)), "-e", str(task.now + task.lifetime)]
+    if task.nsec3:
+        salt = [] if task.nsec3.salt == "-" else ["-s", task.nsec3.salt]
+        how += ["-n", "-a", str(task.nsec3.algorithm), "-t", str(task.nsec3.iterations), *salt]
+        how += ["-p"] if task.nsec3.flags & 1 else []
+    keys = (str(key.with_suffix("")) for key in task.keys)
+    return ["ldns-signzone", "-A", "-o", task.origin, *how, "-f", "draft", "whole", *keys]
+
+
+@dataclass(frozen=True)
+class Signer:
+    """A signer: what prints a zone file with each record in full, and what signs `whole`, which is
+    such a file, as `draft`. Some readers know the origin only from the file."""
+
+    reads: Callable[[str, Path], list[str]]
+    signs: Callable[[Task], list[str]]
+    knows_origin: bool
+
+
+LAX = [word for check in "kmnrMST" for word in (f"-{check}", "ignore")]
+SIGNERS = {
+    "bind": Signer(
+        lambda origin, file: ["named-compilezone", "-q", "-i", "none", *LAX, "-s", "full",
+                              "-o", "-", origin, str(file)],
+        _by_bind,
+        True,
+    ),
+    "ldns": Signer(lambda origin, file: ["ldns-read-zone", str(file)], _by_ldns, False),
+}
+
+
+def verifying(origin: str, has_opt_out: bool) -> list[str]:
+    """What verifies the signed zone `ready`: it says whether each set that has to be signed is, and
+    whether the signatures are right. ldns can't check opt-out."""
+    if shutil.which("dnssec-verify"):
+        return ["dnssec-verify", "-q", "-z", "-o", origin, "ready"]
+    if shutil.which("ldns-verify-zone") and not has_opt_out:
+        return ["ldns-verify-zone", "-V", "1", "ready"]
+    what = "dnssec-verify" if has_opt_out else "dnssec-verify or ldns-verify-zone"
+    raise Failure(f"no signed zone is put in place unseen: install {what}", UNAVAILABLE)
+
+
+def run(words: list[str], within: Path | None = None, stdout: IO | int = subprocess.PIPE) -> None:
+    """Runs a program. If it fails, its last words are those of the failure; else they are passed
+    on."""
+    try:
+        done = subprocess.run(words, cwd=within, stdin=subprocess.DEVNULL, stdout=stdout,
+                              stderr=subprocess.PIPE)
+    except FileNotFoundError:
+        raise Failure(f"{words[0]} is missing: install it, or use another --signer",
+                      UNAVAILABLE) from None
+    said = b"\n".join(filter(None, (done.stdout, done.stderr))).decode(errors="replace").split("\n")
+    lines = [line.strip() for line in said if line.strip()]
+    if done.returncode:
+        why = "; ".join(lines[:3]) or f"status {done.returncode}"
+        raise Failure(f"{words[0]}: {why}", UNAVAILABLE)
+    print(*lines, sep="\n", end="\n" if lines else "", file=sys.stderr)
+
+
+def shown(words: list[str]) -> str:
+    """The command as one would type it."""
+    return shlex.join(words)
