@@ -84,7 +84,9 @@ wrong: python ## tries the wrong bodies that the gate leaves out: make wrong CRA
 	@tests/wrong.py $(CRATES)
 
 # It needs the packages that live/README.md names.
-live: build notes ## rolls keys on real name servers, within an hour; LIVE=--short within ten minutes
+live: ## rolls keys on real name servers, within an hour; LIVE=--short within ten minutes
+	@echo 'first the programs are proved: half an hour, or seconds if their proofs are kept'
+	@$(MAKE) --no-print-directory build notes
 	@live/run.py $(LIVE)
 
 docs: python ## compares what the documents print with the examples and the callers

@@ -3,14 +3,7 @@
 import asyncio
 import time
 
-import dns.asyncquery
-import dns.dnssec
-import dns.exception
-import dns.flags
-import dns.message
-import dns.rdataset
-import dns.rdatatype
-
+from dnspython import dns
 from processes import Failed
 
 PATIENCE = 40

@@ -105,7 +105,7 @@ async def tour(zone):
     ksk, zsk = await operator.key("-f", "KSK"), await operator.key()
     await operator.type(
         "init", zone.name, ksk, zsk, "--script", operator.script,
-        "--before", NEGATIVE, zone.ttls.zone, zone.ttls.zone,
+        "--before", NEGATIVE, zone.first.longest, zone.first.longest,
     )
     await operator.roll("algorithm-roll", "-", f"{ksk},{zsk}")
     zone.is_secure()

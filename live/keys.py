@@ -4,10 +4,7 @@ import itertools
 from dataclasses import dataclass
 from typing import Optional
 
-import dns.dnssec
-import dns.name
-import dns.rdata
-
+from dnspython import dns
 from places import CHILD
 from processes import Failed, outcome, program
 

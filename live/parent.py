@@ -3,7 +3,7 @@
 import asyncio
 
 from asking import data_of, watch
-from keys import make_key, run
+from keys import covered, make_key, run
 from places import CHILD, PARENT
 
 # The TTLs of "there is no DS", and of all sets except the DS sets.
@@ -12,11 +12,12 @@ NEGATIVE, LONG = 2, 3600
 
 class Parent:
     """The root zone. It is signed again whenever a DS set changes, and its servers get it one by
-    one."""
+    one. Each other DS set keeps its signature."""
 
     def __init__(self, folder, fleet, zones, port):
         self.folder, self.fleet, self.zones, self.port = folder, fleet, zones, port
         self.ds, self.serial, self.lock = {}, 0, asyncio.Lock()
+        self.signatures = []
 
     async def begin(self):
         """Makes its key and its first version."""
@@ -42,12 +43,14 @@ class Parent:
 
     async def text(self):
         source, result = self.folder / "root.zone", self.folder / "root.signed"
-        source.write_text("\n".join(self.records()) + "\n")
+        source.write_text("\n".join([*self.records(), *self.signatures]) + "\n")
         await run(
-            self.folder, "dnssec-signzone", "-q", "-z", "-P", "-o", ".", "-f", str(result),
-            str(source), self.key.path,
+            self.folder, "dnssec-signzone", "-q", "-z", "-P", "-O", "full", "-o", ".",
+            "-f", str(result), str(source), self.key.path,
         )
-        return result.read_text()
+        lines = [line for line in result.read_text().splitlines() if not line.startswith(";")]
+        self.signatures = [line for line in lines if covered(line) == "DS"]
+        return "\n".join(lines) + "\n"
 
     async def change(self, zone, data, ttl):
         """Publishes a DS set of a zone. Without data it is the present one, with another TTL."""

@@ -5,7 +5,7 @@ import time
 from dataclasses import replace
 
 from asking import data_of, tags_of, watch
-from keys import Signing, Version, make_key
+from keys import Signing, make_key
 from script import Script, rounded_down
 from zone import Notes
 
@@ -23,7 +23,7 @@ class Provider:
         self.keys, self.notes = {}, Notes(zone.least)
         self.ttls = zone.ttls_of.get(letter, zone.ttls)
         self.signing = Signing(zone.folder, zone.name, zone.letters, letter)
-        self.version = Version(1, zone.ttls.zone, zone.ttls.zone)
+        self.version = zone.first
         self.versions, self.publishing = {}, asyncio.Lock()
         # Whether the DNSKEY TTL must not rise.
         self.is_steady = False

@@ -170,14 +170,14 @@ async def main_task(run, limit):
 
 def main():
     arguments = given()
-    if wrong := missing_packages() or (None if arguments.list else problem(arguments)):
-        sys.exit(wrong)
     from scenes import chosen
-    from world import World
     scenes = chosen(arguments.scenes, arguments.short, arguments.rounds)
     if arguments.list:
         print(*(scene.name for scene in scenes), sep="\n")
         return 0
+    if wrong := missing_packages() or problem(arguments):
+        sys.exit(wrong)
+    from world import World
     limit = arguments.limit or (SHORT if arguments.short else WHOLE)
     print(f"seed {arguments.seed}")
     with folder_of(arguments) as folder:

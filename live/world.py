@@ -5,7 +5,7 @@ import random
 
 from asking import ask
 from clients import Clients
-from keys import Signing, Version
+from keys import Signing
 from parent import Parent
 from places import ALL, PARENT, SERVERS
 from processes import Failed, Processes
@@ -39,7 +39,7 @@ class World:
         zone = Zone(self, name, self.zones[name], random.Random(f"{self.seed} {name}"))
         zone.clients = Clients(name, random.Random(f"{self.seed} clients {name}"), self.port)
         signing = Signing(zone.folder, name, zone.letters)
-        text = await signing.text(Version(1, zone.ttls.zone, zone.ttls.dnskey))
+        text = await signing.text(zone.first)
         self.fleet.write(zone.servers, name, text)
         return zone
 

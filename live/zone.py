@@ -7,6 +7,7 @@ from dataclasses import dataclass
 from typing import Optional
 
 from asking import PATIENCE, ask, data_of, is_signed_by_ds
+from keys import Version
 from parent import NEGATIVE
 from places import CHILD
 from processes import Failed
@@ -72,6 +73,8 @@ class Zone:
         self.servers = [address for provider in providers for address in CHILD[provider]]
         # Each of two signers chooses TTLs of its own. Those of a single one are the zone's.
         self.ttls = Ttls.any(dice)
+        # The unsigned version that its servers begin with. A scene may change the TTLs after it.
+        self.first = Version(1, self.ttls.zone, self.ttls.dnskey)
         self.ttls_of = {letter: Ttls.any(dice) for letter in providers}
         self.providers, self.letters = [], providers
         self.least, self.serials = 0, itertools.count(2)

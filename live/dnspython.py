@@ -1,0 +1,14 @@
+"""dnspython. Without it the names of the scenes can still be listed."""
+
+try:
+    import dns.asyncquery
+    import dns.dnssec
+    import dns.exception
+    import dns.flags
+    import dns.message
+    import dns.name
+    import dns.rdata
+    import dns.rdataset
+    import dns.rdatatype
+except ModuleNotFoundError:
+    dns = None
