@@ -25,6 +25,7 @@ import long
 import malformed
 import noted
 import release
+import rust
 import sessions
 from tools import CRATES, STRICT, TOP, WRAPPED, Wrong, c_flags, kit, run
 
@@ -375,49 +376,9 @@ def shared_flags(folder):
     return [*told.split(), f"-Wl,-rpath,{folder}/lib"]
 
 
-PROJECT = """\
-[package]
-name = "project"
-version = "0.0.0"
-edition = "2021"
-
-[dependencies]
-keyset = {{ path = "{}" }}
-"""
-PROJECT_MAIN = """\
-fn main() -> Result<(), keyset::Error> {
-    print!("{}", keyset::KeySet::new("example.com")?.script());
-    Ok(())
-}
-"""
-
-
-def cargo_environment(folder, room):
-    return {
-        **os.environ,
-        "KEYSET_LIB": str(folder / "lib"),
-        "CARGO_TARGET_DIR": str(room / "rust"),
-    }
-
-
 def test_rust_caller(folder, room):
-    made = cargo_environment(folder, room)
-    for what in ("test", "build"):
-        run("cargo", what, "--quiet", "--offline", "--locked", cwd=LIBRARY / "rust", env=made)
-    return expect_rolls("Rust", [room / "rust" / "debug" / "keyset"])
-
-
-def test_cargo_project(folder, room):
-    """A cargo project names the crate by its path."""
-    project = room / "project"
-    (project / "src").mkdir(parents=True)
-    (project / "Cargo.toml").write_text(PROJECT.format(LIBRARY / "rust"))
-    (project / "src" / "main.rs").write_text(PROJECT_MAIN)
-    made = cargo_environment(folder, room)
-    told = run("cargo", "run", "--quiet", "--offline", cwd=project, env=made)
-    if told != "zone example.com\n":
-        raise Wrong(f"a cargo project says: {told}")
-    return "a cargo project uses the crate by its path"
+    rust.test(folder, room)
+    return expect_rolls("Rust", [room / "rust" / "debug" / "examples" / "roll"])
 
 
 def test_python_caller(folder):
@@ -447,7 +408,9 @@ def short_tests(folder, room):
     yield "library", test_c_caller(room, "C", c_flags(folder))
     yield "library", test_c_caller(room, "C over the shared object", shared_flags(folder))
     yield "library", test_rust_caller(folder, room)
-    yield "library", test_cargo_project(folder, room)
+    yield "library", rust.test_project(folder, room)
+    yield "library", rust.test_package(folder, room)
+    yield "library", rust.test_build(folder, room)
     yield "library", test_python_caller(folder)
     questions = noted.questions_of_operators()
     yield "library", noted.test_callers(folder, room, questions)

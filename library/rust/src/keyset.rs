@@ -1,374 +1,349 @@
-//! The key set, with the calls of `domain`'s `KeySet`.
+//! The key set, in memory or with a file.
 
-use crate::error::Error;
+use crate::error::{Error, Refusal};
 use crate::file::Lines;
+use crate::names::{Action, RollType};
 use crate::notes::{Due, Note};
+use crate::read;
 use crate::session::Session;
-use crate::status::{Action, Broken, Key, Published, Roll, RollType, Status};
-use std::collections::BTreeMap;
-use std::io;
+use crate::status::{Broken, Key, Published, Roll, Status};
+use crate::text::{append_line, collected, copied, push, text};
 use std::path::Path;
 
-/// The number of a security algorithm.
-#[derive(Clone, Copy, Debug, PartialEq, Eq)]
-pub struct Algorithm(pub u8);
-
-/// What a key is added with.
-#[derive(Clone, Copy, Debug)]
-pub struct NewKey {
-    pub algorithm: Algorithm,
-    pub key_tag: u16,
-    /// In seconds since 1970.
-    pub creation: u64,
-    /// Whether it may come in by a roll.
-    pub available: bool,
+/// What an accepted call says.
+#[derive(Clone, Debug, PartialEq, Eq)]
+#[non_exhaustive]
+pub struct Accepted {
+    /// The number of the call, by which [notes](Note::Published) name it: that of its line in the
+    /// script, less one.
+    pub number: usize,
+    /// What it asks for.
+    pub actions: Vec<Action>,
 }
 
-impl NewKey {
-    fn fields(self) -> String {
-        let available = yes(self.available);
-        format!(
-            "{} {} {} {available}",
-            self.algorithm.0, self.key_tag, self.creation
-        )
-    }
+/// A line that was refused when its script was opened.
+#[derive(Clone, Copy, Debug, PartialEq, Eq, Hash)]
+#[non_exhaustive]
+pub struct RefusedLine {
+    /// The number of the line, counted from 1.
+    pub line: usize,
+    /// Why it was refused.
+    pub refusal: Refusal,
 }
 
 /// The keys of one zone.
 ///
 /// An error leaves it as it was. Moments are whole seconds since 1970: round that of a report up,
-/// and make the call once the clock has reached it; round any other down.
+/// and make the call once the clock has reached it; round any other down. Threads may ask one key
+/// set side by side.
 #[derive(Debug)]
 pub struct KeySet {
     session: Session,
     script: String,
     file: Option<Lines>,
-    refused: Vec<(usize, String)>,
+    refused: Vec<RefusedLine>,
 }
 
 impl KeySet {
     /// A key set of this zone, without keys, in memory.
+    ///
+    /// # Errors
+    ///
+    /// [`Error::NotAZone`]; [`Error::OutOfMemory`].
     pub fn new(zone: &str) -> Result<Self, Error> {
-        KeySet::replayed(&format!("{}\n", first_line(zone)?), None)
+        let first = first_line(zone)?;
+        let mut script = String::new();
+        append_line(&mut script, &first)?;
+        Ok(KeySet {
+            session: opened(&first)?,
+            script,
+            file: None,
+            refused: Vec::new(),
+        })
     }
 
-    /// The same with a file, which must not be there yet.
+    /// The same with a file, which must not be there yet. It is locked as long as this value is
+    /// there. Each accepted line is on disk when its call returns.
+    ///
+    /// # Errors
+    ///
+    /// [`Error::NotAZone`]; [`Error::Io`], also if the file is there; [`Error::OutOfMemory`].
     pub fn create(path: impl AsRef<Path>, zone: &str) -> Result<Self, Error> {
         let line = first_line(zone)?;
-        Session::open(&line)?;
+        opened(&line)?;
         Lines::create(path.as_ref(), &line)?;
         KeySet::open(path)
     }
 
     /// The key set of a file, which is locked as long as this value is there.
+    ///
+    /// # Errors
+    ///
+    /// [`Error::RefusedLine`] if a line is refused, so that the script may have lost one before it,
+    /// and [`Error::Torn`] if the last line has no line feed: [`OpenOptions`] opens such files;
+    /// [`Error::Malformed`]; [`Error::Locked`]; [`Error::Io`]; [`Error::OutOfMemory`].
     pub fn open(path: impl AsRef<Path>) -> Result<Self, Error> {
-        let (file, text) = Lines::open(path.as_ref())?;
-        KeySet::replayed(&text, Some(file))
+        OpenOptions::new().open(path)
     }
 
     /// Goes on in memory with the lines of a script. Text after its last line feed was not written
     /// to its end, and is left out.
+    ///
+    /// # Errors
+    ///
+    /// [`Error::RefusedLine`] if a line is refused, so that the script may have lost one before it:
+    /// [`OpenOptions`] allows that; [`Error::Malformed`]; [`Error::OutOfMemory`].
     pub fn resume(script: &str) -> Result<Self, Error> {
-        let end = script.rfind('\n').map_or(0, |at| at + 1);
-        KeySet::replayed(&script[..end], None)
+        OpenOptions::new().resume(script)
     }
 
-    fn replayed(text: &str, file: Option<Lines>) -> Result<Self, Error> {
-        let (session, script, refused) = replay(text)?;
-        let (session, script) = if refused.is_empty() {
-            (session, script)
-        } else {
-            let (session, script, _) = replay(&script)?;
-            (session, script)
-        };
-        Ok(KeySet {
-            session,
-            script,
-            file,
-            refused,
-        })
-    }
-
-    /// Lines that were refused when the script was opened, with the reason: they are left out.
-    pub fn refused(&self) -> &[(usize, String)] {
+    /// Lines that were refused when the script was opened.
+    pub fn refused(&self) -> &[RefusedLine] {
         &self.refused
     }
 
-    /// The lines that were accepted.
+    /// The lines of the script: those that were accepted, and those of [`KeySet::refused`].
     pub fn script(&self) -> &str {
         &self.script
     }
 
-    /// Makes a call, a line of a script, and gives what it asks for. With a file, the line is on
-    /// disk when this returns.
-    pub fn call(&mut self, line: &str) -> Result<Vec<Action>, Error> {
-        let (tried, asked) = self.tried(line)?;
+    /// How many calls the script has: the number of the last one.
+    pub fn calls(&self) -> usize {
+        self.session.calls()
+    }
+
+    /// Makes a call, a line of a script, and gives its number and what it asks for. With a file,
+    /// the line is on disk when this returns.
+    ///
+    /// # Errors
+    ///
+    /// [`Error::Refused`]; [`Error::Malformed`]; [`Error::OutOfMemory`]; with a file [`Error::Io`],
+    /// [`Error::NotCutOff`] and [`Error::Changed`].
+    pub fn call(&mut self, line: &str) -> Result<Accepted, Error> {
+        let (tried, accepted) = self.tried(line)?;
+        self.script.try_reserve(line.len() + 1)?;
         if let Some(file) = &mut self.file {
             file.append(line)?;
         }
         self.session = tried;
-        self.script.push_str(line);
-        self.script.push('\n');
-        Ok(asked)
+        append_line(&mut self.script, line)?;
+        Ok(accepted)
     }
 
-    /// What a call would ask for, without making it.
-    pub fn would(&mut self, line: &str) -> Result<Vec<Action>, Error> {
+    /// What a call would say, without making it.
+    ///
+    /// # Errors
+    ///
+    /// [`Error::Refused`]; [`Error::Malformed`]; [`Error::OutOfMemory`].
+    pub fn would(&self, line: &str) -> Result<Accepted, Error> {
         Ok(self.tried(line)?.1)
     }
 
-    fn tried(&mut self, line: &str) -> Result<(Session, Vec<Action>), Error> {
+    fn tried(&self, line: &str) -> Result<(Session, Accepted), Error> {
+        let mut tried = self.session.try_clone()?;
         if line.contains('\n') {
-            let line = self.script.lines().count() + 1;
+            let line = tried.calls() + 2;
             return Err(Error::Malformed { line });
         }
-        let mut tried = self.session.try_clone()?;
-        let reply = tried.call(line)?;
-        match reply.strip_prefix("refused: ") {
-            Some(reason) => Err(Error::of_reason(reason)),
-            None => Ok((tried, reply.split(' ').filter_map(Action::named).collect())),
-        }
-    }
-
-    /// Adds a KSK.
-    pub fn add_key_ksk(
-        &mut self,
-        pubref: &str,
-        privref: Option<&str>,
-        key: NewKey,
-    ) -> Result<(), Error> {
-        self.add("add-ksk", pubref, privref, key)
-    }
-
-    /// Adds a ZSK.
-    pub fn add_key_zsk(
-        &mut self,
-        pubref: &str,
-        privref: Option<&str>,
-        key: NewKey,
-    ) -> Result<(), Error> {
-        self.add("add-zsk", pubref, privref, key)
-    }
-
-    /// Adds a CSK.
-    pub fn add_key_csk(
-        &mut self,
-        pubref: &str,
-        privref: Option<&str>,
-        key: NewKey,
-    ) -> Result<(), Error> {
-        self.add("add-csk", pubref, privref, key)
-    }
-
-    /// Adds a key of another signer.
-    pub fn add_public_key(&mut self, pubref: &str, key: NewKey) -> Result<(), Error> {
-        self.done(&format!("add-public {pubref} {}", key.fields()))
-    }
-
-    fn add(
-        &mut self,
-        word: &str,
-        pubref: &str,
-        privref: Option<&str>,
-        key: NewKey,
-    ) -> Result<(), Error> {
-        let privref = privref.unwrap_or("-");
-        self.done(&format!("{word} {pubref} {privref} {}", key.fields()))
-    }
-
-    /// Deletes a key whose roles are all stale.
-    pub fn delete_key(&mut self, pubref: &str) -> Result<(), Error> {
-        self.done(&format!("delete {pubref}"))
-    }
-
-    pub fn set_decoupled(&mut self, pubref: &str, value: bool) -> Result<(), Error> {
-        self.done(&format!("set-decoupled {pubref} {}", yes(value)))
-    }
-
-    pub fn set_present(&mut self, pubref: &str, value: bool, now: u64) -> Result<(), Error> {
-        self.done(&format!("set-present {pubref} {} {now}", yes(value)))
-    }
-
-    pub fn set_signer(&mut self, pubref: &str, value: bool) -> Result<(), Error> {
-        self.done(&format!("set-signer {pubref} {}", yes(value)))
-    }
-
-    pub fn set_at_parent(&mut self, pubref: &str, value: bool) -> Result<(), Error> {
-        self.done(&format!("set-at-parent {pubref} {}", yes(value)))
-    }
-
-    pub fn set_stale(&mut self, pubref: &str) -> Result<(), Error> {
-        self.done(&format!("set-stale {pubref}"))
-    }
-
-    pub fn set_visible(&mut self, pubref: &str, time: u64) -> Result<(), Error> {
-        self.done(&format!("set-visible {pubref} {time}"))
-    }
-
-    pub fn set_ds_visible(&mut self, pubref: &str, time: u64) -> Result<(), Error> {
-        self.done(&format!("set-ds-visible {pubref} {time}"))
-    }
-
-    pub fn set_rrsig_visible(&mut self, pubref: &str, time: u64) -> Result<(), Error> {
-        self.done(&format!("set-rrsig-visible {pubref} {time}"))
-    }
-
-    fn done(&mut self, line: &str) -> Result<(), Error> {
-        self.call(line).map(|_| ())
-    }
-
-    /// Starts a roll from the old keys to the new ones.
-    pub fn start_roll(
-        &mut self,
-        roll: RollType,
-        old: &[&str],
-        new: &[&str],
-        now: u64,
-    ) -> Result<Vec<Action>, Error> {
-        self.call(&format!(
-            "start {roll} {} {} {now}",
-            listed(old),
-            listed(new)
-        ))
-    }
-
-    /// Reports that what the start changed has spread, and that caches may hold older data for
-    /// `ttl` seconds.
-    pub fn propagation1_complete(
-        &mut self,
-        roll: RollType,
-        ttl: u32,
-        now: u64,
-    ) -> Result<Vec<Action>, Error> {
-        self.call(&format!("report1 {roll} {ttl} {now}"))
-    }
-
-    /// Goes on, if old data has left the caches; else the error is [`Error::Wait`].
-    pub fn cache_expired1(&mut self, roll: RollType, now: u64) -> Result<Vec<Action>, Error> {
-        self.call(&format!("wait1 {roll} {now}"))
-    }
-
-    /// The same report for what the first wait changed.
-    pub fn propagation2_complete(
-        &mut self,
-        roll: RollType,
-        ttl: u32,
-        now: u64,
-    ) -> Result<Vec<Action>, Error> {
-        self.call(&format!("report2 {roll} {ttl} {now}"))
-    }
-
-    /// The same wait for the second report.
-    pub fn cache_expired2(&mut self, roll: RollType, now: u64) -> Result<Vec<Action>, Error> {
-        self.call(&format!("wait2 {roll} {now}"))
-    }
-
-    /// Ends the roll, once its last actions are done.
-    pub fn roll_done(&mut self, roll: RollType) -> Result<(), Error> {
-        self.done(&format!("done {roll}"))
-    }
-
-    /// Ends the roll early, before its first report.
-    pub fn abort_roll(&mut self, roll: RollType) -> Result<Vec<Action>, Error> {
-        self.call(&format!("abort {roll}"))
+        let answer = tried.accept(line)?;
+        let named = |name: &str| name.parse().map_err(|_| Error::OtherRelease);
+        let accepted = Accepted {
+            number: tried.calls(),
+            actions: collected(answer.split(' ').skip(1).map(named))?,
+        };
+        Ok((tried, accepted))
     }
 
     /// Takes the next line of the zone's notes. They are kept in memory only: keep their lines in a
     /// file of your own, each before you go on, and hand them in again after you have opened the
     /// key set.
+    ///
+    /// # Errors
+    ///
+    /// [`Error::MalformedNote`] if the first one isn't [`Note::Before`], or another one is;
+    /// [`Error::RefusedNote`]; [`Error::OutOfMemory`].
     pub fn note(&mut self, note: Note) -> Result<(), Error> {
-        self.session.note(&note.to_string())
+        self.session.note(&text(format_args!("{note}"))?)
     }
 
     /// The reports that the rolls wait for, as they would be made at this moment, by the notes.
-    pub fn due(&mut self, now: u64) -> Result<Vec<Due>, Error> {
+    ///
+    /// # Errors
+    ///
+    /// [`Error::NoNotes`]; [`Error::OutOfMemory`].
+    pub fn due(&self, now: u64) -> Result<Vec<Due>, Error> {
         let lines = self.session.due(now)?;
-        Ok(lines.lines().filter_map(Due::read).collect())
+        collected(
+            lines
+                .lines()
+                .map(|it| Due::read(it).ok_or(Error::OtherRelease)),
+        )
     }
 
-    /// The status of the zone, which the questions below read.
-    pub fn status(&mut self) -> Result<Status, Error> {
-        Status::read(&self.session.status()?).ok_or_else(|| {
-            let text = "the library gives a status of another version";
-            Error::Io(io::Error::new(io::ErrorKind::InvalidData, text))
-        })
+    /// The status of the zone, which the questions below read. They have the same errors.
+    ///
+    /// # Errors
+    ///
+    /// [`Error::OutOfMemory`]; [`Error::OtherRelease`] if the library says a word that this crate
+    /// doesn't know.
+    pub fn status(&self) -> Result<Status, Error> {
+        read::status(&self.session.status()?)
     }
 
-    /// The keys by reference.
-    pub fn keys(&mut self) -> Result<BTreeMap<String, Key>, Error> {
+    /// The keys, in the order of the bytes of their references.
+    ///
+    /// # Errors
+    ///
+    /// As of [`KeySet::status`].
+    pub fn keys(&self) -> Result<Vec<Key>, Error> {
         Ok(self.status()?.keys)
     }
 
     /// The rolls in progress.
-    pub fn rolls(&mut self) -> Result<BTreeMap<RollType, Roll>, Error> {
+    ///
+    /// # Errors
+    ///
+    /// As of [`KeySet::status`].
+    pub fn rolls(&self) -> Result<Vec<Roll>, Error> {
         Ok(self.status()?.rolls)
     }
 
     /// What is due in a roll that is in progress; nothing for another.
-    pub fn actions(&mut self, roll: RollType) -> Result<Vec<Action>, Error> {
-        let rolls = self.status()?.rolls;
-        Ok(rolls.get(&roll).map_or(Vec::new(), |it| it.due.clone()))
+    ///
+    /// # Errors
+    ///
+    /// As of [`KeySet::status`].
+    pub fn actions(&self, roll: RollType) -> Result<Vec<Action>, Error> {
+        let found = self.rolls()?.into_iter().find(|it| it.roll == roll);
+        Ok(found.map_or(Vec::new(), |it| it.due))
     }
 
     /// The first second from which the roll's wait is accepted, if it is in one.
-    pub fn wait_end(&mut self, roll: RollType) -> Result<Option<u64>, Error> {
-        Ok(self.status()?.rolls.get(&roll).and_then(|it| it.not_before))
+    ///
+    /// # Errors
+    ///
+    /// As of [`KeySet::status`].
+    pub fn wait_end(&self, roll: RollType) -> Result<Option<u64>, Error> {
+        Ok(self.status()?.roll(roll).and_then(|it| it.not_before))
     }
 
     /// What has to be published now.
-    pub fn published(&mut self) -> Result<Published, Error> {
+    ///
+    /// # Errors
+    ///
+    /// As of [`KeySet::status`].
+    pub fn published(&self) -> Result<Published, Error> {
         Ok(self.status()?.published)
     }
 
     /// None if the chain of trust held all the time; else the first sets without one.
-    pub fn verdict(&mut self) -> Result<Option<Broken>, Error> {
+    ///
+    /// # Errors
+    ///
+    /// As of [`KeySet::status`].
+    pub fn verdict(&self) -> Result<Option<Broken>, Error> {
         Ok(self.status()?.broken)
     }
 }
 
 /// The first line of a script.
 fn first_line(zone: &str) -> Result<String, Error> {
-    if zone.contains('\n') {
-        return Err(Error::Malformed { line: 1 });
+    match zone.contains('\n') {
+        true => Err(Error::NotAZone),
+        false => text(format_args!("zone {zone}")),
     }
-    Ok(format!("zone {zone}"))
 }
 
-/// What a replay of lines gives: a session that has made the calls, the accepted lines, and the
-/// refused ones with their reasons.
-type Replayed = (Session, String, Vec<(usize, String)>);
+/// A session of the zone that a caller has named.
+fn opened(line: &str) -> Result<Session, Error> {
+    Session::open(line).map_err(|error| match error {
+        Error::Malformed { .. } => Error::NotAZone,
+        error => error,
+    })
+}
 
-fn replay(text: &str) -> Result<Replayed, Error> {
-    // (`lines` would drop a carriage return, which makes a line malformed.)
-    let mut lines = text.split_terminator('\n');
-    let first = lines.next().ok_or(Error::Malformed { line: 1 })?;
-    let mut session = Session::open(first)?;
-    let mut script = format!("{first}\n");
-    let mut refused = Vec::new();
-    for (number, line) in (2..).zip(lines) {
-        match session.call(line)?.strip_prefix("refused: ") {
-            Some("out of memory") => return Err(Error::OutOfMemory),
-            Some(reason) => refused.push((number, reason.to_owned())),
-            None => {
-                script.push_str(line);
-                script.push('\n');
-            }
+/// How a script is opened that isn't as it was left.
+#[derive(Clone, Copy, Debug, Default, PartialEq, Eq, Hash)]
+pub struct OpenOptions {
+    allow_refused: bool,
+    cut_torn: bool,
+}
+
+impl OpenOptions {
+    /// Every fault is an error.
+    pub const fn new() -> Self {
+        OpenOptions {
+            allow_refused: false,
+            cut_torn: false,
         }
     }
-    Ok((session, script, refused))
-}
 
-fn yes(value: bool) -> &'static str {
-    if value {
-        "yes"
-    } else {
-        "no"
+    /// Whether lines may be refused. They stay in the script, and keep their numbers;
+    /// [`KeySet::refused`] has them.
+    #[must_use]
+    pub const fn allow_refused(self, allow_refused: bool) -> Self {
+        OpenOptions {
+            allow_refused,
+            ..self
+        }
     }
-}
 
-fn listed(references: &[&str]) -> String {
-    match references {
-        [] => "-".to_owned(),
-        references => references.join(","),
+    /// Whether a last line without a line feed is left out. If only this crate writes the file, a
+    /// crash has torn it, and nobody acted on it. The next call cuts it off.
+    #[must_use]
+    pub const fn cut_torn(self, cut_torn: bool) -> Self {
+        OpenOptions { cut_torn, ..self }
+    }
+
+    /// The key set of a file, which is locked as long as this value is there.
+    ///
+    /// # Errors
+    ///
+    /// As of [`KeySet::open`], except for what is allowed.
+    pub fn open(self, path: impl AsRef<Path>) -> Result<KeySet, Error> {
+        let (file, text) = Lines::open(path.as_ref())?;
+        if file.is_torn() && !self.cut_torn {
+            let line = text.split_terminator('\n').count() + 1;
+            return Err(Error::Torn { line });
+        }
+        self.replayed(text, Some(file))
+    }
+
+    /// Goes on in memory with the lines of a script. Text after its last line feed is left out.
+    ///
+    /// # Errors
+    ///
+    /// As of [`KeySet::resume`], except for what is allowed.
+    pub fn resume(self, script: &str) -> Result<KeySet, Error> {
+        let end = script.rfind('\n').map_or(0, |at| at + 1);
+        self.replayed(copied(&script[..end])?, None)
+    }
+
+    /// The key set after the lines of a script.
+    fn replayed(self, script: String, file: Option<Lines>) -> Result<KeySet, Error> {
+        // (`lines` would drop a carriage return, which makes a line malformed.)
+        let mut lines = script.split_terminator('\n');
+        let mut session = Session::open(lines.next().ok_or(Error::Malformed { line: 1 })?)?;
+        let mut refused = Vec::new();
+        for (line, call) in (2..).zip(lines) {
+            let answer = session.call(call)?;
+            let refusal = match answer.strip_prefix("refused: ").map(Error::of_reason) {
+                None => continue,
+                Some(Error::Refused(refusal)) => refusal,
+                Some(error) => return Err(error),
+            };
+            push(&mut refused, RefusedLine { line, refusal })?;
+        }
+        // (A malformed line after it comes first: then nothing is run.)
+        if let (false, Some(&RefusedLine { line, refusal })) = (self.allow_refused, refused.first())
+        {
+            return Err(Error::RefusedLine { line, refusal });
+        }
+        Ok(KeySet {
+            session,
+            script,
+            file,
+            refused,
+        })
     }
 }

@@ -1,35 +1,43 @@
 //! Notes of a zone, and the reports that are due by them.
 
-use crate::status::{named, RollType};
+use crate::names::{Next, RollType, SetKind, UnknownName};
 use std::fmt;
+use std::str::FromStr;
 
-named!(
-    /// A kind of sets, as notes name it: the DS set; the DNSKEY set; every other set of the zone.
-    SetKind {
-        Ds = "ds",
-        Dnskey = "dnskey",
-        Zone = "zone",
-    }
-);
-
-/// A line of notes. TTLs and moments are whole seconds.
-#[derive(Clone, Copy, Debug, PartialEq, Eq)]
+/// A line of notes. TTLs and moments are whole seconds, moments since 1970. It is written and read
+/// as a line without its line feed.
+#[derive(Clone, Copy, Debug, PartialEq, Eq, Hash)]
 pub enum Note {
     /// The first line: the highest TTLs that servers gave before the first call, or with the answer
     /// that there is none.
-    Before { ds: u32, dnskey: u32, zone: u32 },
-    /// From this moment on servers may give a version that has the sets after the call of this
-    /// number, counted from 1, and no higher TTL. Round the moment down, and note it before a
-    /// server gets the version.
+    Before {
+        /// Of DS sets.
+        ds: u32,
+        /// Of DNSKEY sets.
+        dnskey: u32,
+        /// Of all other sets of the zone.
+        zone: u32,
+    },
+    /// From a moment on servers may give a version that has the sets after a call, and no higher
+    /// TTL. Note it before a server gets the version.
     Published {
+        /// What has a new version.
         kind: SetKind,
+        /// The number of the call: see [`Accepted::number`](crate::Accepted::number).
         call: usize,
+        /// The highest TTL of the version.
         ttl: u32,
+        /// The moment, rounded down.
         moment: u64,
     },
-    /// At this moment all servers gave the version that was published last. Round it up, and note
-    /// it once the clock has reached it.
-    Everywhere { kind: SetKind, moment: u64 },
+    /// At a moment all servers gave the version that was published last. Note it once the clock has
+    /// reached the moment.
+    Everywhere {
+        /// What all servers gave.
+        kind: SetKind,
+        /// The moment, rounded up.
+        moment: u64,
+    },
 }
 
 impl fmt::Display for Note {
@@ -47,27 +55,87 @@ impl fmt::Display for Note {
     }
 }
 
+impl FromStr for Note {
+    type Err = UnknownName;
+
+    fn from_str(line: &str) -> Result<Self, Self::Err> {
+        read_note(line).ok_or(UnknownName(()))
+    }
+}
+
+fn read_note(line: &str) -> Option<Note> {
+    let mut words = line.split(' ');
+    let note = match words.next()? {
+        "before" => Note::Before {
+            ds: number(words.next()?)?,
+            dnskey: number(words.next()?)?,
+            zone: number(words.next()?)?,
+        },
+        "published" => Note::Published {
+            kind: words.next()?.parse().ok()?,
+            call: number(words.next()?)?,
+            ttl: number(words.next()?)?,
+            moment: number(words.next()?)?,
+        },
+        "everywhere" => Note::Everywhere {
+            kind: words.next()?.parse().ok()?,
+            moment: number(words.next()?)?,
+        },
+        _ => return None,
+    };
+    words.next().is_none().then_some(note)
+}
+
+/// A number of a line: 1 to 20 digits, and no sign.
+fn number<T: FromStr>(word: &str) -> Option<T> {
+    let is_number = word.len() <= 20 && word.bytes().all(|it| it.is_ascii_digit());
+    is_number.then(|| word.parse().ok()).flatten()
+}
+
 /// A report that a roll waits for.
-#[derive(Clone, Copy, Debug, PartialEq, Eq)]
+#[derive(Clone, Copy, Debug, PartialEq, Eq, Hash)]
 pub struct Due {
+    /// The roll.
     pub roll: RollType,
-    /// Whether it is the second report of the roll.
-    pub second: bool,
-    /// The TTL to report, in seconds. If the report isn't due yet: the first kind whose older sets
-    /// servers may still give.
-    pub ttl: Result<u32, SetKind>,
+    /// Which report it is: [`Next::Report1`] or [`Next::Report2`].
+    pub call: Next,
+    /// What the notes say of it.
+    pub report: Report,
+}
+
+/// What notes say of a report.
+#[derive(Clone, Copy, Debug, PartialEq, Eq, Hash)]
+pub enum Report {
+    /// It is due.
+    Now {
+        /// The TTL to report, in seconds.
+        ttl: u32,
+    },
+    /// It isn't due yet.
+    NotYet {
+        /// The first kind whose older sets servers may still give.
+        waits_for: SetKind,
+    },
 }
 
 impl Due {
-    /// Reads a line of what is due, as `report1 ksk-roll 3600 130`.
+    /// Reads a line of what is due, as `report1 ksk-roll 3600 130`, or
+    /// `not yet: report1 ksk-roll waits for ds`.
     pub(crate) fn read(line: &str) -> Option<Due> {
-        let mut words = line.trim_start_matches("not yet: ").split(' ');
-        let second = words.next()? == "report2";
-        let roll = RollType::named(words.next()?)?;
-        let ttl = match (words.next()?, words.next()?, words.next()) {
-            ("waits", "for", Some(kind)) => Err(SetKind::named(kind)?),
-            (ttl, _, _) => Ok(ttl.parse().ok()?),
+        let (waiting, line) = match line.strip_prefix("not yet: ") {
+            Some(line) => (true, line),
+            None => (false, line),
         };
-        Some(Due { roll, second, ttl })
+        let mut words = line.split(' ');
+        let call = words.next()?.parse().ok()?;
+        let roll = words.next()?.parse().ok()?;
+        let report = if waiting {
+            let waits_for = words.next_back()?.parse().ok()?;
+            Report::NotYet { waits_for }
+        } else {
+            let ttl = words.next()?.parse().ok()?;
+            Report::Now { ttl }
+        };
+        Some(Due { roll, call, report })
     }
 }

@@ -1,319 +1,204 @@
 //! What the key set says, as values with the names of `domain`'s module `keyset`.
 
-use crate::json::Json;
-use std::collections::BTreeMap;
+use crate::algorithm::Algorithm;
+use crate::names::{Action, KeyKind, Next, Phase, RoleKind, RollType, State, WaitsFor};
 use std::fmt;
 
-/// An enum whose values have names in scripts and in JSON.
-macro_rules! named {
-    ($(#[$doc:meta])* $name:ident { $($value:ident = $text:literal),* $(,)? }) => {
-        $(#[$doc])*
-        #[derive(Clone, Copy, Debug, PartialEq, Eq, PartialOrd, Ord, Hash)]
-        pub enum $name {
-            $($value),*
-        }
-
-        impl $name {
-            /// The value of this name.
-            pub fn named(name: &str) -> Option<Self> {
-                match name {
-                    $($text => Some($name::$value),)*
-                    _ => None,
-                }
-            }
-        }
-
-        impl fmt::Display for $name {
-            fn fmt(&self, f: &mut fmt::Formatter<'_>) -> fmt::Result {
-                f.write_str(match self {
-                    $($name::$value => $text),*
-                })
-            }
-        }
-    };
-}
-pub(crate) use named;
-
-named!(
-    /// The kinds of rolls.
-    RollType {
-        KskRoll = "ksk-roll",
-        KskDoubleDsRoll = "ksk-double-ds-roll",
-        ZskRoll = "zsk-roll",
-        ZskDoubleSignatureRoll = "zsk-double-signature-roll",
-        CskRoll = "csk-roll",
-        AlgorithmRoll = "algorithm-roll",
-    }
-);
-
-named!(
-    /// What has to be done next.
-    Action {
-        UpdateDnskeyRrset = "UpdateDnskeyRrset",
-        CreateCdsRrset = "CreateCdsRrset",
-        RemoveCdsRrset = "RemoveCdsRrset",
-        UpdateDsRrset = "UpdateDsRrset",
-        UpdateRrsig = "UpdateRrsig",
-        ReportDnskeyPropagated = "ReportDnskeyPropagated",
-        WaitDnskeyPropagated = "WaitDnskeyPropagated",
-        ReportDsPropagated = "ReportDsPropagated",
-        WaitDsPropagated = "WaitDsPropagated",
-        ReportRrsigPropagated = "ReportRrsigPropagated",
-        WaitRrsigPropagated = "WaitRrsigPropagated",
-    }
-);
-
-named!(
-    /// The kinds of keys.
-    Kind {
-        Ksk = "ksk",
-        Zsk = "zsk",
-        Csk = "csk",
-        Public = "public",
-    }
-);
-
-named!(
-    /// The phases of a roll.
-    Phase {
-        Propagation1 = "propagation1",
-        CacheExpire1 = "cache-expire1",
-        Propagation2 = "propagation2",
-        CacheExpire2 = "cache-expire2",
-        Done = "done",
-    }
-);
-
-/// The references of the keys to publish, each list in the order of its bytes.
+/// The references of the keys to publish, each list in the order of its bytes. It is written as the
+/// line of the sets, as `ds=K1 dnskey=K1,Z1 signers=K1 zone=Z1`.
 #[derive(Clone, Debug, Default, PartialEq, Eq)]
+#[non_exhaustive]
 pub struct Published {
+    /// The keys with a DS at the parent.
     pub ds: Vec<String>,
+    /// The keys of the DNSKEY set.
     pub dnskey: Vec<String>,
+    /// The keys that sign the DNSKEY set.
     pub signers: Vec<String>,
+    /// The keys that sign the rest of the zone.
     pub zone: Vec<String>,
 }
 
 impl fmt::Display for Published {
-    /// Writes the line of the sets, as `ds=K1 dnskey=K1,Z1 signers=K1 zone=Z1`.
     fn fmt(&self, f: &mut fmt::Formatter<'_>) -> fmt::Result {
-        let sets = [&self.ds, &self.dnskey, &self.signers, &self.zone];
-        let [ds, dnskey, signers, zone] = sets.map(|keys| match keys.as_slice() {
-            [] => "-".to_owned(),
-            keys => keys.join(","),
-        });
-        write!(f, "ds={ds} dnskey={dnskey} signers={signers} zone={zone}")
+        for (name, keys) in [
+            ("ds=", &self.ds),
+            (" dnskey=", &self.dnskey),
+            (" signers=", &self.signers),
+            (" zone=", &self.zone),
+        ] {
+            f.write_str(name)?;
+            listed(keys).fmt(f)?;
+        }
+        Ok(())
+    }
+}
+
+/// References with commas between them, or `-` for none.
+pub(crate) struct Listed<'a, T>(&'a [T]);
+
+pub(crate) fn listed<T: AsRef<str>>(references: &[T]) -> Listed<'_, T> {
+    Listed(references)
+}
+
+impl<T: AsRef<str>> fmt::Display for Listed<'_, T> {
+    fn fmt(&self, f: &mut fmt::Formatter<'_>) -> fmt::Result {
+        match self.0 {
+            [] => f.write_str("-"),
+            [first, others @ ..] => {
+                f.write_str(first.as_ref())?;
+                others
+                    .iter()
+                    .try_for_each(|it| write!(f, ",{}", it.as_ref()))
+            }
+        }
     }
 }
 
 /// The first sets without a chain of trust. They met after call `at`; the other numbers are the
 /// calls that the DS set, the DNSKEY set and the zone signers are of.
-#[derive(Clone, Copy, Debug, PartialEq, Eq)]
+#[derive(Clone, Copy, Debug, PartialEq, Eq, Hash)]
+#[non_exhaustive]
 pub struct Broken {
+    /// After this call they may meet in a cache.
     pub at: u64,
+    /// The call that the DS set is of.
     pub ds: u64,
+    /// The call that the DNSKEY set and its signers are of.
     pub dnskey: u64,
+    /// The call that the zone signers are of.
     pub zone: u64,
 }
 
 impl fmt::Display for Broken {
     fn fmt(&self, f: &mut fmt::Formatter<'_>) -> fmt::Result {
-        let Broken {
-            at,
-            ds,
-            dnskey,
-            zone,
-        } = self;
+        let (at, ds, dnskey, zone) = (self.at, self.ds, self.dnskey, self.zone);
         write!(f, "broken at={at} ds={ds} dnskey={dnskey} zone={zone}")
     }
 }
 
-/// A role of a key, with the word for its flags.
-#[derive(Clone, Debug, PartialEq, Eq)]
+/// A role of a key.
+#[derive(Clone, Copy, Debug, PartialEq, Eq, Hash)]
+#[non_exhaustive]
 pub struct Role {
-    pub role: String,
-    pub state: String,
+    /// Which role it is.
+    pub role: RoleKind,
+    /// What its flags come to.
+    pub state: State,
+    /// It is on its way out.
     pub old: bool,
+    /// It signs: a KSK role the DNSKEY set, a ZSK role the zone.
     pub signer: bool,
+    /// It is in the DNSKEY set.
     pub present: bool,
+    /// It is to have a DS.
     pub at_parent: bool,
 }
 
 /// The moments of a key, in seconds since 1970.
-#[derive(Clone, Debug, Default, PartialEq, Eq)]
+#[derive(Clone, Copy, Debug, Default, PartialEq, Eq, Hash)]
+#[non_exhaustive]
 pub struct Stamps {
+    /// When it was made.
     pub creation: Option<u64>,
+    /// When it was published.
     pub published: Option<u64>,
+    /// When all servers gave it.
     pub visible: Option<u64>,
+    /// When all servers of the parent gave its DS.
     pub ds_visible: Option<u64>,
+    /// When all servers gave its signatures.
     pub rrsig_visible: Option<u64>,
+    /// When it was taken out.
     pub withdrawn: Option<u64>,
 }
 
 /// A key of the set.
 #[derive(Clone, Debug, PartialEq, Eq)]
+#[non_exhaustive]
 pub struct Key {
-    pub kind: Kind,
-    pub roles: Vec<Role>,
-    pub algorithm: u8,
-    pub tag: u16,
+    /// Its public reference.
+    pub reference: String,
+    /// The reference of its private part.
     pub private: Option<String>,
+    /// Its kind.
+    pub kind: KeyKind,
+    /// Its roles: a CSK has two.
+    pub roles: Vec<Role>,
+    /// Its algorithm.
+    pub algorithm: Algorithm,
+    /// Its key tag.
+    pub tag: u16,
+    /// Whether it is kept apart from its private key.
     pub decoupled: bool,
+    /// Its moments.
     pub stamps: Stamps,
+    /// Whether a roll may take it in.
     pub may_come_in: bool,
+    /// Whether a deletion is accepted.
     pub may_be_deleted: bool,
-    /// The rolls in progress that list it as old, and as new.
+    /// The rolls in progress that listed it as old.
     pub old_in: Vec<RollType>,
+    /// The rolls in progress that listed it as new.
     pub new_in: Vec<RollType>,
 }
 
 /// A roll in progress.
 #[derive(Clone, Debug, PartialEq, Eq)]
+#[non_exhaustive]
 pub struct Roll {
+    /// Which roll it is.
+    pub roll: RollType,
+    /// Its phase.
     pub phase: Phase,
     /// The TTL of its report, in a phase that waits for caches.
     pub ttl: Option<u32>,
-    /// The word of the call that comes next.
-    pub next: String,
-    /// The first second in which its wait is accepted.
+    /// The call that comes next.
+    pub next: Next,
+    /// The first second since 1970 in which its wait is accepted.
     pub not_before: Option<u64>,
-    /// For whom it waits: `you`, `parent` or `caches`.
-    pub waits_for: String,
+    /// For whom it waits.
+    pub waits_for: WaitsFor,
     /// What is due.
     pub due: Vec<Action>,
 }
 
+/// A roll that was ended early.
+#[derive(Clone, Debug, PartialEq, Eq)]
+#[non_exhaustive]
+pub struct Ended {
+    /// Which roll it was.
+    pub roll: RollType,
+    /// What its end asked for.
+    pub asked: Vec<Action>,
+}
+
 /// The status of a zone.
 #[derive(Clone, Debug, PartialEq, Eq)]
+#[non_exhaustive]
 pub struct Status {
+    /// The zone's name.
     pub zone: String,
     /// None if the chain of trust held all the time.
     pub broken: Option<Broken>,
+    /// What has to be published now.
     pub published: Published,
-    /// The keys by reference.
-    pub keys: BTreeMap<String, Key>,
-    pub rolls: BTreeMap<RollType, Roll>,
-    /// What is due of rolls that were ended early.
-    pub ended: BTreeMap<RollType, Vec<Action>>,
+    /// The keys, in the order of the bytes of their references.
+    pub keys: Vec<Key>,
+    /// The rolls in progress, in the order of [`RollType`].
+    pub rolls: Vec<Roll>,
+    /// The rolls that were ended early, in the same order.
+    pub ended: Vec<Ended>,
 }
 
 impl Status {
-    /// Reads the JSON that the library writes.
-    pub(crate) fn read(text: &str) -> Option<Status> {
-        let told = Json::read(text)?;
-        let named = |it: &Json| Some((it.get("reference").text()?.to_owned(), key(it)?));
-        let going = |it: &Json| Some((roll_of(it.get("roll"))?, roll(it)?));
-        let ended = |it: &Json| Some((roll_of(it.get("roll"))?, actions(it.get("asked"))));
-        Some(Status {
-            zone: told.get("zone").text()?.to_owned(),
-            broken: broken(told.get("chain")),
-            published: published(told.get("published")),
-            keys: told
-                .get("keys")
-                .list()
-                .iter()
-                .map(named)
-                .collect::<Option<_>>()?,
-            rolls: told
-                .get("rolls")
-                .list()
-                .iter()
-                .map(going)
-                .collect::<Option<_>>()?,
-            ended: told
-                .get("ended")
-                .list()
-                .iter()
-                .map(ended)
-                .collect::<Option<_>>()?,
-        })
+    /// The key of this reference.
+    pub fn key(&self, reference: &str) -> Option<&Key> {
+        self.keys.iter().find(|it| it.reference == reference)
     }
-}
 
-fn broken(told: &Json) -> Option<Broken> {
-    Some(Broken {
-        at: told.get("at").number()?,
-        ds: told.get("ds").number()?,
-        dnskey: told.get("dnskey").number()?,
-        zone: told.get("zone").number()?,
-    })
-}
-
-fn published(told: &Json) -> Published {
-    let references = |name| {
-        let texts = told.get(name).list().iter().filter_map(Json::text);
-        texts.map(str::to_owned).collect()
-    };
-    Published {
-        ds: references("ds"),
-        dnskey: references("dnskey"),
-        signers: references("signers"),
-        zone: references("zone"),
+    /// A roll, if it is in progress.
+    pub fn roll(&self, roll: RollType) -> Option<&Roll> {
+        self.rolls.iter().find(|it| it.roll == roll)
     }
-}
-
-fn key(told: &Json) -> Option<Key> {
-    let rolls = |name| told.get(name).list().iter().filter_map(roll_of).collect();
-    Some(Key {
-        kind: Kind::named(told.get("kind").text()?)?,
-        roles: told
-            .get("roles")
-            .list()
-            .iter()
-            .map(role)
-            .collect::<Option<_>>()?,
-        algorithm: u8::try_from(told.get("algorithm").number()?).ok()?,
-        tag: u16::try_from(told.get("tag").number()?).ok()?,
-        private: told.get("private").text().map(str::to_owned),
-        decoupled: told.get("decoupled").flag(),
-        stamps: stamps(told),
-        may_come_in: told.get("may_come_in").flag(),
-        may_be_deleted: told.get("may_be_deleted").flag(),
-        old_in: rolls("old_in"),
-        new_in: rolls("new_in"),
-    })
-}
-
-fn role(told: &Json) -> Option<Role> {
-    Some(Role {
-        role: told.get("role").text()?.to_owned(),
-        state: told.get("state").text()?.to_owned(),
-        old: told.get("old").flag(),
-        signer: told.get("signer").flag(),
-        present: told.get("present").flag(),
-        at_parent: told.get("at_parent").flag(),
-    })
-}
-
-fn stamps(told: &Json) -> Stamps {
-    Stamps {
-        creation: told.get("creation").number(),
-        published: told.get("published").number(),
-        visible: told.get("visible").number(),
-        ds_visible: told.get("ds_visible").number(),
-        rrsig_visible: told.get("rrsig_visible").number(),
-        withdrawn: told.get("withdrawn").number(),
-    }
-}
-
-fn roll(told: &Json) -> Option<Roll> {
-    Some(Roll {
-        phase: Phase::named(told.get("phase").text()?)?,
-        ttl: told
-            .get("ttl")
-            .number()
-            .and_then(|it| u32::try_from(it).ok()),
-        next: told.get("next").text()?.to_owned(),
-        not_before: told.get("not_before").number(),
-        waits_for: told.get("waits_for").text()?.to_owned(),
-        due: actions(told.get("due")),
-    })
-}
-
-fn roll_of(told: &Json) -> Option<RollType> {
-    told.text().and_then(RollType::named)
-}
-
-fn actions(told: &Json) -> Vec<Action> {
-    let names = told.list().iter().filter_map(Json::text);
-    names.filter_map(Action::named).collect()
 }

@@ -1,12 +1,15 @@
 //! What a caller relies on, over the library that `make lib` has made.
 
 use keyset::{
-    version, Action, Algorithm, Due, Error, KeySet, NewKey, Note, NoteRefusal, Refusal, RollType,
-    SetKind,
+    version, Action, Algorithm, Due, Error, KeySet, NewKey, Next, Note, NoteRefusal, OpenOptions,
+    Phase, Refusal, Report, RoleKind, RollType, Session, SetKind, State, WaitsFor,
 };
-use std::fs;
+use std::error::Error as _;
+use std::fmt::Display;
+use std::str::FromStr;
 use std::thread;
 
+const ROLL: RollType = RollType::AlgorithmRoll;
 const FIRST: [&str; 5] = [
     "add-ksk K1 - 13 0 0 yes",
     "add-zsk Z1 - 13 1 0 yes",
@@ -23,6 +26,10 @@ fn after(lines: &[&str]) -> Result<KeySet, Error> {
     Ok(keys)
 }
 
+fn new_key(key_tag: u16) -> NewKey {
+    NewKey::new(Algorithm::ECDSAP256SHA256, key_tag, 0)
+}
+
 #[test]
 fn the_library_is_of_this_version() {
     assert_eq!(version(), 2);
@@ -32,86 +39,191 @@ fn the_library_is_of_this_version() {
 fn a_roll_goes_on_after_a_crash() -> Result<(), Error> {
     let keys = after(&FIRST[..4])?;
     let mut keys = KeySet::resume(&format!("{}wait1 algorithm-roll 37", keys.script()))?;
-    assert_eq!(keys.actions(RollType::AlgorithmRoll)?, []);
-    assert_eq!(keys.wait_end(RollType::AlgorithmRoll)?, Some(3700));
-    let asked = keys.cache_expired1(RollType::AlgorithmRoll, 3700)?;
-    assert!(asked.contains(&Action::UpdateDsRrset));
-    assert_eq!(keys.actions(RollType::AlgorithmRoll)?, asked);
+    assert_eq!(keys.actions(ROLL)?, []);
+    assert_eq!(keys.wait_end(ROLL)?, Some(3700));
+    let accepted = keys.cache_expired1(ROLL, 3700)?;
+    assert_eq!(accepted.number, 5);
+    assert!(accepted.actions.contains(&Action::UpdateDsRrset));
+    assert_eq!(keys.actions(ROLL)?, accepted.actions);
     assert_eq!(keys.published()?.ds, ["K1"]);
     assert_eq!(keys.verdict()?, None);
     Ok(())
 }
 
 #[test]
-fn a_refused_call_changes_nothing() -> Result<(), Error> {
+fn the_status_has_values() -> Result<(), Error> {
+    let status = after(&FIRST[..3])?.status()?;
+    let key = status.key("K1").expect("K1");
+    assert_eq!(key.algorithm, Algorithm::ECDSAP256SHA256);
+    let roles: Vec<_> = key.roles.iter().map(|it| (it.role, it.state)).collect();
+    assert_eq!(roles, [(RoleKind::Ksk, State::Active)]);
+    let roll = status.roll(ROLL).expect("a roll");
+    assert_eq!(
+        (roll.phase, roll.next, roll.waits_for),
+        (Phase::Propagation1, Next::Report1, WaitsFor::You)
+    );
+    assert!(status.key("K2").is_none() && status.roll(RollType::KskRoll).is_none());
+    Ok(())
+}
+
+#[test]
+fn a_refused_call_changes_nothing_and_has_no_number() -> Result<(), Error> {
     let mut keys = after(&FIRST[..4])?;
     let before = keys.script().to_owned();
-    let early = keys.cache_expired1(RollType::AlgorithmRoll, 3699);
-    assert!(matches!(early, Err(Error::Wait { seconds: 1 })));
-    let twice = keys.add_key_ksk(
-        "K1",
-        None,
-        NewKey {
-            algorithm: Algorithm(13),
-            key_tag: 2,
-            creation: 0,
-            available: true,
-        },
-    );
+    let early = keys.cache_expired1(ROLL, 3699);
+    let seconds = 1;
+    assert!(matches!(early, Err(Error::Refused(it)) if it == Refusal::Wait { seconds }));
+    let twice = keys.add_key_ksk("K1", None, new_key(2));
     assert!(matches!(twice, Err(Error::Refused(Refusal::KeyExists))));
-    assert_eq!(keys.script(), before);
-    assert!(keys.would(FIRST[4])?.contains(&Action::CreateCdsRrset));
-    assert_eq!(keys.script(), before);
+    assert_eq!((keys.script(), keys.calls()), (&before[..], 4));
+    let would = keys.would(FIRST[4])?;
+    assert!(would.actions.contains(&Action::CreateCdsRrset));
+    assert_eq!(
+        (keys.script(), keys.calls(), would.number),
+        (&before[..], 4, 5)
+    );
+    Ok(())
+}
+
+/// Each cause, as a call meets it.
+#[test]
+fn each_refusal_has_its_cause() -> Result<(), Error> {
+    let mut keys = after(&FIRST[..2])?;
+    keys.call("add-ksk K2 - 13 2 0 no")?;
+    keys.call("add-ksk K3 - 8 3 0 yes")?;
+    for (line, wanted) in [
+        ("add-zsk K1 - 13 9 0 yes", Refusal::KeyExists),
+        ("add-zsk Z9 - 13 1 0 yes", Refusal::DuplicateKeyTag),
+        ("delete K9", Refusal::KeyNotFound),
+        ("delete K1", Refusal::KeyNotOld),
+        ("set-at-parent Z1 yes", Refusal::WrongKeyType),
+        ("start algorithm-roll - K2,Z1 0", Refusal::WrongKeyState),
+        ("start algorithm-roll - K1 0", Refusal::NoSuitableKeyPresent),
+        ("start ksk-roll K1 K3 0", Refusal::AlgorithmSetsMismatch),
+        ("report1 zsk-roll 0 0", Refusal::WrongStateForRollOperation),
+    ] {
+        assert!(
+            matches!(keys.call(line), Err(Error::Refused(it)) if it == wanted),
+            "{line}"
+        );
+    }
+    keys.call(FIRST[2])?;
+    let other = keys.start_roll(RollType::ZskRoll, &["Z1"], &[], 0);
+    let wanted = Refusal::ConflictingRollInProgress;
+    assert!(matches!(other, Err(Error::Refused(it)) if it == wanted));
     Ok(())
 }
 
 #[test]
 fn a_malformed_line_is_told() -> Result<(), Error> {
     let mut keys = after(&FIRST[..1])?;
-    for line in ["delete", "delete K1\ndelete K1"] {
+    for line in ["delete", "delete K1\ndelete K1", "delete K1\r"] {
         assert!(matches!(keys.call(line), Err(Error::Malformed { line: 3 })));
     }
-    assert!(KeySet::new("a..b").is_err());
-    assert!(KeySet::new("a\nadd-zsk Z1 - 13 1 0 yes").is_err());
-    assert!(KeySet::resume("").is_err());
+    assert!(matches!(
+        KeySet::resume(""),
+        Err(Error::Malformed { line: 1 })
+    ));
+    Ok(())
+}
+
+#[test]
+fn an_argument_is_told() -> Result<(), Error> {
+    let mut keys = after(&FIRST[..2])?;
+    for text in ["", "-", "K 1", "K1,K2", "K\u{e9}", "K1\n"] {
+        for told in [
+            keys.delete_key(text),
+            keys.start_roll(ROLL, &[], &["K1", text], 0),
+            keys.add_key_csk("C1", Some(text), new_key(2)),
+        ] {
+            assert!(
+                matches!(told, Err(Error::NotAReference)),
+                "{text}: {told:?}"
+            );
+        }
+    }
+    for zone in ["a..b", "", "a\nadd-zsk Z1 - 13 1 0 yes"] {
+        assert!(matches!(KeySet::new(zone), Err(Error::NotAZone)), "{zone}");
+    }
+    assert_eq!(keys.calls(), 2);
+    Ok(())
+}
+
+#[test]
+fn a_refused_line_is_an_error_unless_it_is_allowed() -> Result<(), Error> {
+    let script = format!("zone example.com\n{}\ndelete K9\n{}\n", FIRST[0], FIRST[1]);
+    let refusal = Refusal::KeyNotFound;
+    let error = KeySet::resume(&script).expect_err("a refused line");
+    assert!(matches!(error, Error::RefusedLine { line: 3, refusal: it } if it == refusal));
+    assert_eq!(
+        error.source().map(|it| it.to_string()),
+        Some(refusal.to_string())
+    );
+    let mut keys = OpenOptions::new().allow_refused(true).resume(&script)?;
+    let refused = keys.refused().iter().map(|it| (it.line, it.refusal));
+    assert_eq!(refused.collect::<Vec<_>>(), [(3, refusal)]);
+    // It keeps its line and its number.
+    assert_eq!((keys.script(), keys.calls()), (&script[..], 3));
+    assert_eq!(keys.call(FIRST[2])?.number, 4);
+    Ok(())
+}
+
+/// A script with a refused line is numbered as the session that its lines were handed to.
+#[test]
+fn a_session_counts_as_its_file() -> Result<(), Error> {
+    let mut session = Session::open("zone example.com")?;
+    session.call(FIRST[0])?;
+    assert!(matches!(
+        session.accept("delete K9"),
+        Err(Error::Refused(Refusal::KeyNotFound))
+    ));
+    assert_eq!(session.calls(), 1);
+    assert_eq!(session.call("delete K9")?, "refused: key not found");
+    assert_eq!(session.calls(), 2);
+    assert_eq!(session.accept(FIRST[1])?, "ok");
+    assert!(matches!(
+        session.accept("delete"),
+        Err(Error::Malformed { line: 5 })
+    ));
+    assert_eq!(session.calls(), 3);
     Ok(())
 }
 
 #[test]
 fn notes_say_which_reports_are_due() -> Result<(), Error> {
     let mut keys = after(&FIRST[..2])?;
+    let (call, ttl, moment) = (3, 3600, 10);
     let published = |kind| Note::Published {
         kind,
-        call: 3,
-        ttl: 3600,
-        moment: 10,
+        call,
+        ttl,
+        moment,
     };
     let everywhere = |kind, moment| Note::Everywhere { kind, moment };
-    assert!(matches!(keys.due(9), Err(Error::MalformedNote { line: 1 })));
-    keys.note(Note::Before {
-        ds: 60,
-        dnskey: 7200,
-        zone: 3600,
-    })?;
+    assert!(matches!(keys.due(9), Err(Error::NoNotes)));
+    let early = keys.note(everywhere(SetKind::Ds, 9));
+    assert!(matches!(early, Err(Error::MalformedNote { line: 1 })));
+    keys.note("before 60 7200 3600".parse().expect("a note"))?;
     let early = keys.note(published(SetKind::Zone));
     let refusal = NoteRefusal::NoSuchCall;
-    assert_eq!(
-        early.expect_err("no call 3 yet").to_string(),
-        format!("notes: line 2: {refusal}")
-    );
-    keys.call(FIRST[2])?;
-    let roll = RollType::AlgorithmRoll;
-    for (kind, ttl) in [
-        (SetKind::Dnskey, Err(SetKind::Zone)),
-        (SetKind::Zone, Ok(7190)),
+    assert!(matches!(early, Err(Error::RefusedNote { line: 2, refusal: it }) if it == refusal));
+    assert_eq!(keys.call(FIRST[2])?.number, call);
+    for (kind, report) in [
+        (
+            SetKind::Dnskey,
+            Report::NotYet {
+                waits_for: SetKind::Zone,
+            },
+        ),
+        (SetKind::Zone, Report::Now { ttl: 7190 }),
     ] {
         keys.note(published(kind))?;
         let seen = keys.note(everywhere(kind, 9));
         let refusal = NoteRefusal::SeenEarly;
         assert!(matches!(seen, Err(Error::RefusedNote { refusal: it, .. }) if it == refusal));
         keys.note(everywhere(kind, 30))?;
-        let second = false;
-        assert_eq!(keys.due(40)?, [Due { roll, second, ttl }]);
+        let (roll, call) = (ROLL, Next::Report1);
+        assert_eq!(keys.due(40)?, [Due { roll, call, report }]);
     }
     keys.call("report1 algorithm-roll 7190 40")?;
     assert_eq!(keys.due(40)?, []);
@@ -140,47 +252,61 @@ fn a_session_goes_to_another_thread() -> Result<(), Error> {
     Ok(())
 }
 
+/// Threads ask one key set side by side, and each gets its answer.
 #[test]
-fn a_damaged_file_is_told_by_its_line() -> Result<(), Error> {
-    let path = std::env::temp_dir().join(format!("keyset-{}.damaged", std::process::id()));
-    for (text, wanted) in [
-        (&b""[..], 1),
-        (b"zone a\n\n", 2),
-        (b"zone a\r\n", 1),
-        (b"zone a\nadd-ksk K\xC3\xA9\n", 2),
-        (b"zone a\ndelete K1\ndelete \xFF\n", 3),
-        (b"zone a\ndelete K1\ndelete K1\r\n", 3),
-    ] {
-        fs::write(&path, text)?;
-        let found = KeySet::open(&path);
-        assert!(
-            matches!(found, Err(Error::Malformed { line }) if line == wanted),
-            "{text:?}: {found:?}"
-        );
-    }
-    fs::remove_file(&path)?;
+fn questions_are_shared() -> Result<(), Error> {
+    let mut keys = after(&FIRST)?;
+    keys.note("before 60 60 60".parse().expect("a note"))?;
+    let (status, due) = (keys.status()?, keys.due(3700)?);
+    thread::scope(|scope| {
+        for _ in 0..8 {
+            scope.spawn(|| {
+                for _ in 0..500 {
+                    assert_eq!(keys.status().expect("a status"), status);
+                    assert_eq!(keys.due(3700).expect("what is due"), due);
+                    assert!(keys.would("done algorithm-roll").is_err());
+                }
+            });
+        }
+    });
     Ok(())
 }
 
+fn expect_names<T: FromStr + Display + PartialEq + std::fmt::Debug>(rows: &[(T, &str)]) {
+    for (value, name) in rows {
+        assert_eq!(value.to_string(), *name);
+        assert_eq!(name.parse::<T>().ok().as_ref(), Some(value));
+    }
+    assert!("".parse::<T>().is_err() && "nothing".parse::<T>().is_err());
+}
+
 #[test]
-fn a_file_keeps_the_accepted_lines() -> Result<(), Error> {
-    let path = std::env::temp_dir().join(format!("keyset-{}.script", std::process::id()));
-    let mut keys = KeySet::create(&path, "example.com")?;
-    keys.call(FIRST[0])?;
-    assert!(keys.call("delete K1").is_err());
-    assert!(matches!(KeySet::open(&path), Err(Error::Io(_))));
-    drop(keys);
-    fs::write(
-        &path,
-        format!("{}delete K9\nadd-zsk Z", fs::read_to_string(&path)?),
-    )?;
-    let mut keys = KeySet::open(&path)?;
-    assert_eq!(keys.refused(), [(3, "key not found".to_owned())]);
-    keys.call(FIRST[1])?;
-    assert_eq!(keys.keys()?.len(), 2);
-    drop(keys);
-    assert!(fs::read_to_string(&path)?.ends_with("delete K9\nadd-zsk Z1 - 13 1 0 yes\n"));
-    assert!(KeySet::create(&path, "example.com").is_err());
-    fs::remove_file(&path)?;
-    Ok(())
+fn values_have_names() {
+    expect_names(&[
+        (RollType::KskDoubleDsRoll, "ksk-double-ds-roll"),
+        (RollType::ZskRoll, "zsk-roll"),
+    ]);
+    expect_names(&[
+        (Algorithm::RSASHA256, "RSASHA256"),
+        (Algorithm(10), "RSASHA512"),
+        (Algorithm::from(13), "ECDSAP256SHA256"),
+        (Algorithm(14), "ECDSAP384SHA384"),
+        (Algorithm(15), "ED25519"),
+        (Algorithm(16), "ED448"),
+        (Algorithm(17), "17"),
+    ]);
+    expect_names(&[
+        (Refusal::Wait { seconds: 5 }, "wait for duration 5s"),
+        (Refusal::KeyNotOld, "key is still in use, not old"),
+    ]);
+    let (kind, moment) = (SetKind::Ds, 7);
+    expect_names(&[(Note::Everywhere { kind, moment }, "everywhere ds 7")]);
+    for line in [
+        "everywhere ds 7 ",
+        "everywhere ds +7",
+        "before 1 2",
+        "everywhere soa 7",
+    ] {
+        assert!(line.parse::<Note>().is_err(), "{line}");
+    }
 }

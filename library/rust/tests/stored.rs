@@ -43,10 +43,11 @@ fn a_key_set_answers_each_call() -> Result<(), Error> {
         let mut keys = KeySet::new(&zone["zone ".len()..])?;
         for (line, wanted) in lines.iter().zip(answers) {
             let told = match keys.call(line) {
-                Ok(asked) => asked
+                Ok(accepted) => accepted
+                    .actions
                     .iter()
                     .fold("ok".to_owned(), |told, action| format!("{told} {action}")),
-                Err(error @ (Error::Refused(_) | Error::Wait { .. })) => error.to_string(),
+                Err(error @ Error::Refused(_)) => error.to_string(),
                 Err(error) => return Err(error),
             };
             assert_eq!(told, *wanted, "{name}: {line}");

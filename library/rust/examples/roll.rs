@@ -1,7 +1,7 @@
 //! Plays a script line by line, as a tool does over days: makes each call on the key set that the
 //! calls before it have left, and prints what the program `keyset` prints.
 //!
-//!     cargo run <../../examples/ksk-roll.script
+//!     cargo run --example roll <../../examples/ksk-roll.script
 
 use keyset::{Error, KeySet};
 use std::io::{stdin, Read};
@@ -10,19 +10,17 @@ fn main() -> Result<(), Box<dyn std::error::Error>> {
     let mut script = String::new();
     stdin().read_to_string(&mut script)?;
     let mut lines = script.split_terminator('\n');
-    let zone = lines
-        .next()
-        .and_then(|first| first.strip_prefix("zone "))
-        .ok_or(Error::Malformed { line: 1 })?;
-    let mut keys = KeySet::new(zone)?;
+    let zone = lines.next().and_then(|first| first.strip_prefix("zone "));
+    let mut keys = KeySet::new(zone.ok_or(Error::NotAZone)?)?;
     for line in lines {
         match keys.call(line) {
-            Ok(asked) => {
-                let asked: String = asked.iter().map(|action| format!(" {action}")).collect();
+            Ok(accepted) => {
+                let asked = accepted.actions.iter();
+                let asked: String = asked.map(|action| format!(" {action}")).collect();
                 println!("ok{asked}");
             }
             // Nothing has changed: a wait that is too early may be made again.
-            Err(error @ (Error::Wait { .. } | Error::Refused(_))) => println!("{error}"),
+            Err(error @ Error::Refused(_)) => println!("{error}"),
             Err(error) => return Err(error.into()),
         }
     }

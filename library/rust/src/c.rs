@@ -1,0 +1,67 @@
+//! What keyset.h declares.
+
+use std::ffi::c_void;
+use std::ptr;
+
+/// What C keeps of a session.
+#[repr(C)]
+#[derive(Debug)]
+pub(crate) struct Handle {
+    place: *mut c_void,
+    is_open: bool,
+}
+
+impl Handle {
+    pub(crate) const CLOSED: Handle = Handle {
+        place: ptr::null_mut(),
+        is_open: false,
+    };
+}
+
+// SAFETY: what a session shares with its copies is only read, and its owners are counted
+// atomically, so a thread may take it over.
+unsafe impl Send for Handle {}
+
+#[repr(C)]
+pub(crate) struct Answered {
+    pub(crate) status: u32,
+    pub(crate) length: usize,
+    pub(crate) line: usize,
+}
+
+pub(crate) const ANSWERED: u32 = 0;
+pub(crate) const MALFORMED: u32 = 1;
+pub(crate) const SHORT: u32 = 4;
+pub(crate) const NO_SUCH_CALL: u32 = 7;
+pub(crate) const SEEN_EARLY: u32 = 8;
+pub(crate) const MOMENT_FALLS: u32 = 9;
+
+extern "C" {
+    pub(crate) fn keyset_answer(
+        script: *const u8,
+        len: usize,
+        out: *mut u8,
+        room: usize,
+    ) -> Answered;
+    pub(crate) fn keyset_version() -> u32;
+    pub(crate) fn keyset_open(line: *const u8, len: usize, session: *mut Handle) -> u32;
+    pub(crate) fn keyset_call(
+        session: *mut Handle,
+        line: *const u8,
+        len: usize,
+        out: *mut u8,
+        room: usize,
+    ) -> Answered;
+    pub(crate) fn keyset_told(session: *mut Handle, out: *mut u8, room: usize) -> Answered;
+    pub(crate) fn keyset_closing(session: *mut Handle, out: *mut u8, room: usize) -> Answered;
+    pub(crate) fn keyset_status(session: *mut Handle, out: *mut u8, room: usize) -> Answered;
+    pub(crate) fn keyset_note(session: *mut Handle, line: *const u8, len: usize) -> u32;
+    pub(crate) fn keyset_due(
+        session: *mut Handle,
+        seconds: u64,
+        out: *mut u8,
+        room: usize,
+    ) -> Answered;
+    pub(crate) fn keyset_copy(session: *mut Handle, copy: *mut Handle) -> u32;
+    pub(crate) fn keyset_close(session: *mut Handle);
+}
