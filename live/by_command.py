@@ -1,36 +1,54 @@
-"""A tour only by the command of an operator: from two key files and a zone file to rolled keys."""
+"""An operator who types the command, and a tour only by it: from two key files and a zone file to
+rolled keys."""
 
 import asyncio
 import json
+import os
 import sys
 import time
 from pathlib import Path
 
+from dnspython import dns
 from keys import Version, plain_records, run
 from parent import NEGATIVE
-from places import PARENT
+from places import PARENT, UNBOUND
 from processes import PATHS, Failed, outcome
 
-COMMAND = Path(__file__).resolve().parent.parent / "command"
+HERE = Path(__file__).resolve().parent
+# The command, and what has it look names up at one of the resolvers.
+COMMAND, LOOKING_UP = HERE.parent / "command", HERE / "looking_up"
 TTL, DS_TTL = 3, 2
-# How the command ends: done, or something is due.
-OK, DUE = 0, 1
+# How the command ends: done, something is due, or a resolver may find no chain of trust.
+OK, DUE, BROKEN = 0, 1, 3
+KSK, ZSK = ("-f", "KSK"), ()
 
 
 class Operator:
-    """Types the command. The servers load what `act` has written."""
+    """Types the command. The servers load what `act` has written, as a secondary does: only if its
+    serial is above that of what they have."""
 
-    def __init__(self, zone):
+    def __init__(self, zone, serial=1, by_date=False):
         self.zone, self.folder = zone, zone.folder
         self.script = self.folder / "by-command.script"
         self.file, self.signed = self.folder / "zone", self.folder / "zone.signed"
-        self.serial = 1
+        self.serial, self.by_date, self.served = serial, by_date, 0
+        # The servers that get new versions, and how the registrar types DS records.
+        self.servers, self.typed = zone.servers, list
+
+    def environment(self):
+        """The command finds its programs by what the environment of this run says of them."""
+        said = {name: value for name, value in os.environ.items() if name.startswith("KEYSET_")}
+        port = str(self.zone.world.port)
+        return {
+            **said, "PATH": PATHS, "PYTHONPATH": f"{COMMAND}:{LOOKING_UP}",
+            "LOOKING_UP": UNBOUND, "LOOKING_UP_PORT": port, "PYTHONDONTWRITEBYTECODE": "1",
+        }
 
     async def type(self, *words, ends=(OK,)):
         """Types a word of the command, and gives what that prints."""
         status, out, err = await outcome(
             sys.executable, "-m", "vaqsider", *map(str, words), cwd=self.folder,
-            env={"PATH": PATHS, "PYTHONPATH": str(COMMAND)},
+            env=self.environment(),
         )
         if status not in ends:
             raise Failed(f"vaqsider {' '.join(map(str, words))}: {status}: {out}{err}")
@@ -46,28 +64,42 @@ class Operator:
         """Makes a call, and gives its actions."""
         return json.loads(await self.type("call", self.script, line, "--json"))["actions"]
 
+    def records(self):
+        """The zone without DNSSEC."""
+        version = Version(self.serial, TTL, TTL)
+        return list(plain_records(self.zone.name, version, self.zone.letters))
+
     async def act(self, *how):
         """Signs and publishes. Gives the data of the DS records for the parent."""
-        self.serial += 1
-        version = Version(self.serial, TTL, TTL)
-        records = plain_records(self.zone.name, version, self.zone.letters)
-        self.file.write_text(f"$TTL {TTL}\n" + "\n".join(records) + "\n")
+        if not self.by_date:
+            self.serial += 1
+        self.file.write_text(f"$TTL {TTL}\n" + "\n".join(self.records()) + "\n")
         done = json.loads(await self.type(
             "act", self.script, "--zone-file", self.file, "--out", self.signed,
             *self.parents(), *how, "--json",
         ))
-        self.zone.world.fleet.publish(
-            self.zone.servers, self.zone.name, self.signed.read_text()
-        )
+        self.publish(self.signed.read_text())
         return [record.partition(" DS ")[2].lower() for record in done["ds"]]
 
-    async def watch(self, *how, ends=(OK,)):
+    def publish(self, text):
+        """Gives a version to the servers, if they take it as a newer one (RFC 1982)."""
+        made = dns.zone.from_text(text, self.zone.name, relativize=False)
+        serial = made.get_soa().serial
+        if self.served and not dns.serial.Serial(serial) > dns.serial.Serial(self.served):
+            return
+        self.served = serial
+        self.zone.world.fleet.publish(self.servers, self.zone.name, text)
+
+    async def watch(self, *how, seconds=30, ends=(OK,)):
         """Watches until all servers have what is due."""
-        servers = [word for server in self.zone.servers for word in ("--server", server)]
-        await self.type(
-            "watch", self.script, *servers, *self.parents(), "--every", "0.3", "--for", "30", *how,
-            ends=ends,
+        return await self.type(
+            "watch", self.script, *self.named(), "--every", "0.3", "--for", seconds, *how, ends=ends
         )
+
+    def named(self):
+        """The servers, and the port that all have, as the command line names them."""
+        servers = [word for server in self.zone.servers for word in ("--server", server)]
+        return [*servers, *self.parents()]
 
     def parents(self):
         """Where the servers of the parent are, and which port all have."""
@@ -79,11 +111,14 @@ class Operator:
         actions = await self.call(line)
         records = await self.act()
         if "UpdateDsRrset" in actions:
-            await self.zone.world.parent.change(self.zone.name, records, DS_TTL)
-            # CDS and CDNSKEY are still out when the parent has the DS set.
-            await self.watch(ends=(DUE,))
-            await self.act("--no-cds")
+            await self.change_ds(records)
         await self.watch("--call")
+
+    async def change_ds(self, records):
+        """Has the parent's DS set changed. CDS and CDNSKEY are still out when it is."""
+        await self.zone.world.parent.change(self.zone.name, self.typed(records), DS_TTL)
+        await self.watch(ends=(DUE,))
+        await self.act("--no-cds")
 
     async def wait(self, roll):
         """Returns the call of a roll's wait, once the wait is over."""
@@ -98,21 +133,31 @@ class Operator:
         await self.step(await self.wait(roll))
         await self.step(await self.wait(roll))
 
+    async def replace(self, roll, old, flag, word="add"):
+        """A roll from an old key to a new one, which it gives."""
+        new = await self.key(*flag)
+        await self.call(f"{word} {new}")
+        await self.roll(roll, old, new)
+        await self.call(f"delete {old}")
+        return new
+
+    async def first_keys(self):
+        """A KSK and a ZSK come into the unsigned zone."""
+        ksk, zsk, ttl = await self.key(*KSK), await self.key(), self.zone.first.longest
+        await self.type(
+            "init", self.zone.name, ksk, zsk, "--script", self.script, "--before", NEGATIVE, ttl,
+            ttl,
+        )
+        await self.roll("algorithm-roll", "-", f"{ksk},{zsk}")
+        self.zone.is_secure()
+        return ksk, zsk
+
 
 async def tour(zone):
     """First keys, then another ZSK, then another KSK."""
     operator = Operator(zone)
-    ksk, zsk = await operator.key("-f", "KSK"), await operator.key()
-    await operator.type(
-        "init", zone.name, ksk, zsk, "--script", operator.script,
-        "--before", NEGATIVE, zone.first.longest, zone.first.longest,
-    )
-    await operator.roll("algorithm-roll", "-", f"{ksk},{zsk}")
-    zone.is_secure()
-    for roll, old, flag in (("zsk-roll", zsk, ()), ("ksk-roll", ksk, ("-f", "KSK"))):
-        new = await operator.key(*flag)
-        await operator.call(f"add {new}")
-        await operator.roll(roll, old, new)
-        await operator.call(f"delete {old}")
+    ksk, zsk = await operator.first_keys()
+    await operator.replace("zsk-roll", zsk, ZSK)
+    await operator.replace("ksk-roll", ksk, KSK)
     await operator.watch("--state")
     await operator.type("check", operator.script)

@@ -10,5 +10,7 @@ try:
     import dns.rdata
     import dns.rdataset
     import dns.rdatatype
+    import dns.serial
+    import dns.zone
 except ModuleNotFoundError:
     dns = None

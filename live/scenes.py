@@ -4,7 +4,9 @@ import re
 from typing import Callable, NamedTuple
 
 import by_command
+import commanded
 import emergencies
+import from_bind
 import lost
 import one_signer
 import two_emergencies
@@ -38,6 +40,10 @@ SCENES = [
     *(Scene(name, play, "A", True) for name, play in LYING.items()),
     *(Scene(name, play, "A", False) for name, play in one_signer.HONEST.items()),
     Scene("by-command", by_command.tour, "A", False),
+    *(Scene(name, play, "A", False) for name, play in commanded.HONEST.items()),
+    *(Scene(name, play, "A", False) for name, play in from_bind.HONEST.items()),
+    Scene("server-without-address", commanded.without_address, "AB", False),
+    Scene("secondary-comes-back-old", commanded.comes_back_old, "A", True),
 ]
 
 # The scenes that only the whole run plays, though no other is like them; and the scenes that the
@@ -61,6 +67,14 @@ ONLY_WHOLE = {
     "nsec3",
     "csks",
     "double-ds-beside-double-signature",
+    "command-ds-ttl-raised",
+    "command-serial-by-date",
+    "command-signatures-expired",
+    "from-bind-ksk-zsk",
+    "from-bind-csk",
+    "from-bind-serial-by-date",
+    "server-without-address",
+    "secondary-comes-back-old",
 }
 ALIKE = re.compile(
     r"-(ended-early|stolen-new-\w+|lost|lost-before|lost-later|at-wait|comes-back|in-mid-roll|"

@@ -1,0 +1,156 @@
+"""Scenes of the command: what servers, a registrar or a parent do wrong. The command has to see
+each fault before a resolver fails; in the one with a lie it sees the fault that clients meet."""
+
+import asyncio
+import time
+
+from by_command import BROKEN, DUE, KSK, TTL, ZSK, Operator
+from places import CHILD
+from processes import Failed
+
+# The DS TTL to which the registry raises the present set, and the unsigned zone's serial as a date.
+RAISED, DATE = 25, 2026112701
+# For how many seconds signatures are valid, if they soon expire.
+SHORT = 40
+
+
+def expect(is_so, what):
+    if not is_so:
+        raise Failed(what)
+
+
+async def is_everywhere(zone):
+    """Waits for as long as a server takes at most to give a version."""
+    await asyncio.sleep(zone.world.fleet.SLOWEST + 1)
+
+
+async def ds_ttl_raised(zone):
+    """Between two rolls the registry raises the TTL of the same DS set. The next report of a KSK
+    roll counts it."""
+    operator = Operator(zone)
+    ksk, _ = await operator.first_keys()
+    await zone.world.parent.change(zone.name, None, RAISED)
+    await zone.world.parent.watch(zone.name)
+    await asyncio.sleep(5)
+    await operator.replace("ksk-roll", ksk, KSK)
+    noted = operator.script.with_suffix(".notes").read_text().splitlines()
+    of_ds = [line.split() for line in noted if line.startswith("published ds ")]
+    expect(any(int(ttl) == RAISED for _, _, _, ttl, _ in of_ds), f"the notes lack {RAISED}")
+    await operator.type("check", operator.script)
+
+
+def mistyped(records):
+    """DS records with other last four digits of their digests."""
+    return [record[:-4] + ("0000" if record[-4:] != "0000" else "1111") for record in records]
+
+
+async def wrong_digest(zone):
+    """The registrar types a digest wrong. The command doesn't go on until it is mended."""
+    operator = Operator(zone)
+    ksk, _ = await operator.first_keys()
+    new = await operator.key(*KSK)
+    await operator.call(f"add {new}")
+    await operator.call(f"start ksk-double-ds-roll {ksk} {new} now")
+    right = await operator.act()
+    present = set(zone.world.parent.ds[zone.name][0])
+    wrong = [*present, *mistyped([record for record in right if record not in present])]
+    await zone.world.parent.change(zone.name, wrong, TTL)
+    await zone.world.parent.watch(zone.name)
+    await operator.act("--no-cds")
+    told = await operator.watch("--call", seconds=5, ends=(DUE,))
+    expect("DS" in told, f"the wrong digest isn't said: {told}")
+    await zone.world.parent.change(zone.name, right, TTL)
+    await operator.watch("--call")
+    await operator.step(await operator.wait("ksk-double-ds-roll"))
+    await operator.step(await operator.wait("ksk-double-ds-roll"))
+
+
+async def serial_by_date(zone):
+    """The unsigned zone keeps a serial by date, above the seconds since 1970. Each version still
+    reaches the secondaries."""
+    operator = Operator(zone, serial=DATE, by_date=True)
+    ksk, zsk = await operator.first_keys()
+    await operator.replace("zsk-roll", zsk, ZSK)
+    await operator.replace("ksk-roll", ksk, KSK)
+
+
+async def signatures_expired(zone):
+    """Signatures are renewed late. The command says until when they are valid, and that they soon
+    expire, before they do."""
+    operator = Operator(zone)
+    await operator.first_keys()
+    await operator.act("--lifetime", SHORT)
+    expires = time.time() + SHORT
+    await is_everywhere(zone)
+    await operator.watch("--state")
+    told = await operator.type("check", operator.script, ends=(DUE,))
+    expect("signatures expire at" in told, f"the end of the signatures isn't said: {told}")
+    await operator.act()
+    await is_everywhere(zone)
+    await operator.watch("--state")
+    await operator.type("check", operator.script)
+    await asyncio.sleep(expires + 2 * TTL - time.time())
+    await operator.watch("--state")
+
+
+async def comes_back_old(zone):
+    """A lie: a secondary comes back with its copy of before two rolls. The command says that
+    resolvers may find no chain of trust."""
+    operator = Operator(zone)
+    ksk, zsk = await operator.first_keys()
+    old = operator.signed.read_text()
+    await operator.replace("zsk-roll", zsk, ZSK)
+    await operator.replace("ksk-roll", ksk, KSK)
+    await operator.watch("--state")
+    zone.world.fleet.publish(zone.servers[:1], zone.name, old)
+    await is_everywhere(zone)
+    told = await operator.watch("--state", ends=(BROKEN,))
+    expect(zone.servers[0] in told, f"the server isn't named: {told}")
+    await asyncio.sleep(10)
+
+
+class Forgetful(Operator):
+    """One server gets no new versions, and the zone has no address for its name."""
+
+    is_mended = False
+
+    def records(self):
+        forgotten = f"b1.{self.zone.name} {TTL} IN A "
+        records = super().records()
+        return [it for it in records if self.is_mended or not it.startswith(forgotten)]
+
+    def parents(self):
+        """All servers that NS records name."""
+        return ["--port", self.zone.world.port]
+
+    def named(self):
+        return self.parents()
+
+
+async def without_address(zone):
+    """A server that the NS set names has no address there, and old data. The command doesn't report
+    before it has looked at it."""
+    operator = Forgetful(zone)
+    operator.is_mended = True
+    _, zsk = await operator.first_keys()
+    operator.is_mended = False
+    operator.servers = [server for server in zone.servers if server != CHILD["B"][0]]
+    new = await operator.key(*ZSK)
+    await operator.call(f"add {new}")
+    await operator.call(f"start zsk-roll {zsk} {new} now")
+    await operator.act()
+    told = await operator.watch("--call", seconds=5, ends=(DUE,))
+    expect(f"b1.{zone.name}".rstrip(".") in told, f"the server isn't named: {told}")
+    operator.is_mended, operator.servers = True, zone.servers
+    await operator.act()
+    await operator.watch("--call")
+    await operator.step(await operator.wait("zsk-roll"))
+    await operator.step(await operator.wait("zsk-roll"))
+
+
+HONEST = {
+    "command-ds-ttl-raised": ds_ttl_raised,
+    "command-wrong-digest": wrong_digest,
+    "command-serial-by-date": serial_by_date,
+    "command-signatures-expired": signatures_expired,
+}
