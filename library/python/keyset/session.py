@@ -8,7 +8,7 @@ import threading
 from abc import ABC, abstractmethod
 from typing import Iterator, List
 
-from .errors import Closed, Error, Forked, OutOfMemory
+from .errors import Closed, Error, Forked, OutOfMemory, Unavailable
 from .members import Status
 
 ANSWERED, MALFORMED, OUT_OF_MEMORY, SHORT, CLOSED, REFUSED = 0, 1, 3, 4, 5, 10
@@ -24,7 +24,11 @@ NO_NOTES = "there are no notes yet: the first line is 'before TTL TTL TTL'"
 
 def fault(status: int) -> Error:
     """The error for a status without an answer."""
-    return Closed() if status == CLOSED else OutOfMemory("out of memory")
+    if status == CLOSED:
+        return Closed()
+    if status == OUT_OF_MEMORY:
+        return OutOfMemory("out of memory")
+    return Unavailable(f"the library says status {status}, which this package doesn't know")
 
 
 class Guard:
