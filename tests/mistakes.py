@@ -21,6 +21,7 @@ PYTHON = TOP / "library" / "python"
 CALLERS = [PYTHON / "roll.py", PYTHON / "due.py"]
 
 PROGRAM = '''\
+import keyset
 from keyset import Due, Error, KeySet, Locked, Role, RollType, Wait, open_session, status
 
 roll = RollType.KSK_ROLL
@@ -56,6 +57,8 @@ session.call(b"delete K1")  # bytes for a text
 session.calls + 1
 session.told()  # a question that isn't there
 status(["zone example.com"])["chain"]["safe"]
+keyset.run(["zone example.com"])[0].upper()
+keyset.runs(["zone example.com"])  # a function that isn't there
 try:
     pass
 except (Locked, Wait) as error:

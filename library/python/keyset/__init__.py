@@ -93,9 +93,12 @@ __all__ = [
 MODULES = ("errors", "file", "engine", "notes", "session", "lines", "values", "members", "keyset")
 
 
-def __getattr__(name: str) -> object:
-    for module in MODULES if name in __all__ else ():
-        found = vars(import_module(f".{module}", __name__))
-        if name in found:
-            return found[name]
-    raise AttributeError(f"module {__name__!r} has no attribute {name!r}")
+# (A checker of types would take any name for one of this package.)
+if not TYPE_CHECKING:
+
+    def __getattr__(name: str) -> object:
+        for module in MODULES if name in __all__ else ():
+            found = vars(import_module(f".{module}", __name__))
+            if name in found:
+                return found[name]
+        raise AttributeError(f"module {__name__!r} has no attribute {name!r}")
