@@ -6,6 +6,8 @@
                                 of its code that ran
     tests/command.py --write    writes the transcripts again
     tests/command.py --left     shows which lines of its code did not run
+    tests/command.py --only NAME..
+                                only these: NAME.txt, crash.NAME, or a check as facts.plans
 
 A transcript, `tests/command/NAME.txt`, has lines that begin with `$ `. Below each is what it
 prints, then `? N` if it ends with a status that isn't 0. `NOW=N` in front of a line is the clock.
@@ -24,6 +26,7 @@ import threading
 import trace
 from concurrent.futures import ProcessPoolExecutor
 from pathlib import Path
+from unittest import mock
 
 sys.dont_write_bytecode = True
 TOP = Path(__file__).resolve().parent.parent
@@ -31,6 +34,7 @@ sys.path.insert(0, str(TOP / "replay"))
 
 import acts  # noqa: E402
 import answering  # noqa: E402
+import drawn  # noqa: E402, F401
 import facts  # noqa: E402
 import liars  # noqa: E402
 import testkeys  # noqa: E402
@@ -68,10 +72,10 @@ def played(text):
     return "".join(made)
 
 
-def compare(write):
+def compare(write, names="*.txt"):
     """Plays each transcript. Gives the faults, and how many lines were played."""
     faults, lines = [], 0
-    for path in sorted(STORED.glob("*.txt")):
+    for path in sorted(STORED.glob(names)):
         text = path.read_text()
         made = played(text)
         lines += sum(line.startswith("$ ") for line in text.splitlines())
@@ -90,6 +94,46 @@ def left(files):
     texts = {name: Path(name).read_text() for name in files if Path(name).exists()}
     told = {name: re.sub(r"(SOA\t\S+ \S+) \d+", r"\1 N", text) for name, text in texts.items()}
     return {**told, "drafts": [path.name for path in Path().glob(".*")]}
+
+
+class Disk:
+    """What a machine has that stops: files as they were when they were synced, under the names that
+    their folder had when that was."""
+
+    def __init__(self):
+        self.names = {it.name: it.inode() for it in os.scandir()}
+        self.files = {it.inode(): Path(it).read_bytes() for it in os.scandir() if it.is_file()}
+        self.noted, self.put = None, os.replace
+
+    def replace(self, draft, file):
+        """Remembers what was noted on disk before servers could give the signed zone."""
+        if Path(file).name == "signed":
+            self.noted = self.files.get(self.names.get("start.notes"))
+        self.put(draft, file)
+
+    def fsync(self, descriptor):
+        place = Path(f"/proc/self/fd/{descriptor}")
+        if place.is_dir():
+            self.names = {it.name: it.inode() for it in os.scandir(place)}
+        else:
+            self.files[place.stat().st_ino] = place.read_bytes()
+
+    def has(self, name):
+        return self.files.get(self.names.get(name)) == Path(name).read_bytes()
+
+
+def stop(name, part, prepare, files):
+    """Lets the machine stop after a part has printed what to do: all that it left is on disk, and
+    its notes were before the signed zone was in its place."""
+    with folder():
+        prepare()
+        disk = Disk()
+        with mock.patch.multiple(os, fsync=disk.fsync, replace=disk.replace):
+            part()
+        lost = [file for file in files if Path(file).exists() and not disk.has(file)]
+        if name == "act" and disk.noted != Path("start.notes").read_bytes():
+            lost.append("start.notes")
+        return [f"{name}: the machine stops, and {file} isn't as it was left" for file in lost]
 
 
 class Crashes:
@@ -147,11 +191,12 @@ def crash_everywhere(name, part, prepare, files):
         prepare()
         part()
         wanted = left(files)
+    faults = stop(name, part, prepare, files)
     with folder():
         prepare()
         crashes = Crashes(part, files, wanted, name == "act")
         crashes.run()
-        faults = [f"{name}: crashed at change {at}, it ends differently" for at in crashes.wrong]
+        faults += [f"{name}: crashed at change {at}, it ends differently" for at in crashes.wrong]
         if left(files) != wanted or crashes.count == 0:
             faults.append(f"{name}: it ends differently each time, or changes nothing")
     return faults, crashes.count
@@ -253,11 +298,28 @@ def coverage(results):
     return len(ran & lines), len(lines), sorted(lines - ran)
 
 
+def only(names):
+    """The faults of these transcripts, crashes and checks."""
+    for name in names:
+        module, _, check = name.partition(".")
+        if check == "txt":
+            yield from compare(False, name)[0]
+        elif module == "crash":
+            yield from next(crash_everywhere(*it)[0] for it in CRASHES if it[0] == check)
+        else:
+            with folder():
+                yield from getattr(sys.modules[module], check)()
+
+
 def main():
     os.environ["PATH"] = f"{STORED / 'bin'}:{os.environ['PATH']}"
     os.environ["PYTHON"] = sys.executable
     answering.install()
     write = "--write" in sys.argv[1:]
+    if sys.argv[1:2] == ["--only"]:
+        faults = list(only(sys.argv[2:]))
+        print(*faults, sep="\n")
+        return 1 if faults else 0
     # Each part has folders of its own, and a process.
     with ProcessPoolExecutor() as pool:
         looked_up = pool.submit(traced, facts.faults)

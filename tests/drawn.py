@@ -66,8 +66,10 @@ def bars_of(lines):
 
 def pictures():
     """Each bar of a picture begins and ends where the record says, on the page too; and README
-    shows what is drawn."""
+    shows what is drawn. (A script with a refused line may have lost one, and isn't drawn.)"""
     for path, lines in examples():
+        if any(it.startswith("refused") and "wait for" not in it for it in answers(lines)[0]):
+            continue
         text = typed(["draw", path])[0]
         if path.name == "zsk-roll.script" and text != (TOP / "command/zsk-roll.svg").read_text():
             yield "command/zsk-roll.svg isn't what is drawn"

@@ -1,0 +1,138 @@
+#!/usr/bin/env python3
+"""Changes one line of the command or of a package at a time, and runs the tests that have to
+see it.
+
+    tests/mutants.py [WORD..]    tries the changes of tests/mutants.txt, or those of files whose
+                                 name has one of these words
+
+A change is the lines `file:`, `old:` and `new:`, for a text that the file has once; `\\n` in it is
+a line feed. Then comes `seen by:` with the names of tests, or `survives:` with the reason. The tests
+have to pass without a change, and to fail with it. A test is what `tests/command.py --only` takes,
+a file of Python's tests, or `cargo`.
+"""
+
+import os
+import re
+import shutil
+import subprocess
+import sys
+import tempfile
+from concurrent.futures import ThreadPoolExecutor
+from dataclasses import dataclass
+from pathlib import Path
+
+TOP = Path(__file__).resolve().parent.parent
+TABLE = TOP / "tests" / "mutants.txt"
+COPIED = ("command", "crates/keyset_notes", "docs", "examples", "library", "replay", "tests",
+          "VERSION", "LICENSE")
+NOT_COPIED = shutil.ignore_patterns("__pycache__", "target", "out", "frozen")
+PROGRAMS = ("keyset", "keyset_status", "keyset_notes")
+LIBRARY = TOP / "library" / "out" / "lib"
+SECONDS = 300
+
+
+@dataclass(frozen=True)
+class Mutant:
+    """A change of a line, and the tests that see it, or why none does."""
+
+    file: str
+    old: str
+    new: str
+    seen_by: tuple
+    survives: str
+
+    @classmethod
+    def of(cls, block):
+        parts = dict(re.findall(r"^([a-z ]+): ?(.*)$", block, re.MULTILINE))
+        seen_by = tuple(parts.get("seen by", "").split())
+        if bool(seen_by) == ("survives" in parts):
+            raise SystemExit(f"either tests or a reason:\n{block}")
+        old, new = (parts[name].replace("\\n", "\n") for name in ("old", "new"))
+        return cls(parts["file"], old, new, seen_by, parts.get("survives", ""))
+
+    def put_into(self, tree):
+        path = tree / self.file
+        text = path.read_text()
+        if text.count(self.old) != 1:
+            raise SystemExit(f"{self.file} has {text.count(self.old)} times: {self.old}")
+        path.write_text(text.replace(self.old, self.new))
+
+    def __str__(self):
+        return f"{self.file}: {self.old!r} => {self.new!r}"
+
+
+def copy(folder):
+    """A copy of what the tests read."""
+    for name in COPIED:
+        source = TOP / name
+        if source.is_dir():
+            shutil.copytree(source, folder / name, ignore=NOT_COPIED)
+        else:
+            shutil.copy(source, folder / name)
+    return folder
+
+
+def environment(programs):
+    """The library if it is built, and else the programs."""
+    for name in PROGRAMS:
+        made = TOP / "crates" / name / "out" / name
+        if made.is_file():
+            (programs / name).symlink_to(made)
+    library = LIBRARY / "libkeyset.so"
+    given = {"KEYSET_PROGRAMS": str(programs), "KEYSET_LIB": str(LIBRARY)}
+    given["KEYSET_LIBRARY"] = str(library) if library.is_file() else ""
+    return {**given, **os.environ, "PYTHONDONTWRITEBYTECODE": "1"}
+
+
+def passes(tree, test, variables):
+    """Whether a test passes in a copy."""
+    manifest = tree / "library" / "rust" / "Cargo.toml"
+    commands = {
+        "cargo": ["cargo", "test", "--offline", "--manifest-path", manifest],
+        "py": [sys.executable, tree / test],
+    }
+    only = [sys.executable, tree / "tests/command.py", "--only", test]
+    command = commands.get(test.rpartition(".")[2], only)
+    how = {"cwd": tree, "env": variables, "capture_output": True, "timeout": SECONDS}
+    try:
+        done = subprocess.run(command, **how)
+    except subprocess.TimeoutExpired:
+        return False
+    return done.returncode == 0
+
+
+def tried(mutant, variables):
+    """What is wrong with a row, or None."""
+    with tempfile.TemporaryDirectory(dir=memory()) as folder:
+        tree = copy(Path(folder))
+        mutant.put_into(tree)
+        if mutant.survives or not all(passes(tree, test, variables) for test in mutant.seen_by):
+            return None
+    return f"not seen by {' '.join(mutant.seen_by)}: {mutant}"
+
+
+def memory():
+    """A folder in memory, if there is one."""
+    return next((it for it in ("/dev/shm",) if os.path.isdir(it)), None)
+
+
+def main():
+    words = sys.argv[1:]
+    blocks = (it for it in re.split(r"\n{2,}", TABLE.read_text()) if it.startswith("file:"))
+    mutants = [it for it in map(Mutant.of, blocks) if not words or any(w in it.file for w in words)]
+    with tempfile.TemporaryDirectory(dir=memory()) as room, ThreadPoolExecutor() as pool:
+        (programs := Path(room, "programs")).mkdir()
+        variables, whole = environment(programs), copy(Path(room, "whole"))
+        tests = sorted({test for mutant in mutants for test in mutant.seen_by})
+        faults = [f"{test} fails without a change" for test, is_well in zip(
+            tests, pool.map(lambda test: passes(whole, test, variables), tests)) if not is_well]
+        if not faults:
+            faults += filter(None, pool.map(lambda it: tried(it, variables), mutants))
+    print(*faults, *(f"survives: {it}\n  {it.survives}" for it in mutants if it.survives), sep="\n")
+    lived = sum(bool(it.survives) for it in mutants) + len(faults)
+    print(f"mutants: {len(mutants) - lived} of {len(mutants)} seen")
+    return 1 if faults else 0
+
+
+if __name__ == "__main__":
+    sys.exit(main())
