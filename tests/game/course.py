@@ -60,7 +60,7 @@ class Follower(Operator):
         """Now and then a wait is accepted too early because of a false line, and acted upon. Then
         the line is mended as in docs/EMERGENCY.md. Gives the versions of the step, if it stays."""
         wait = f"wait{half} {roll}"
-        if self.in_step or self.notes or self.dice.random() > 0.1:
+        if self.in_step or self.notes or not self.may_slip or self.dice.random() > 0.1:
             return None
         if not self.keyset.refusal(f"{wait} {self.rounded_down()}"):
             return None
@@ -133,6 +133,7 @@ class Follower(Operator):
 
     def unsigned(self):
         """Goes unsigned, as in docs/EMERGENCY.md."""
+        self.unsigned_from = self.unsigned_from or self.world.now
         roll, old, key = ALGORITHM, sum(self.keys.values(), []), self.add("csk", 13)
         began = self.rounded_down()
         self.start(roll, old, [key])

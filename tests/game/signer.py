@@ -32,6 +32,9 @@ class Operator:
         self.world, self.dice, self.book, self.leaves = world, world.dice, book, leaves
         self.keyset, self.zone, self.other = KeySet(), world.another_zone(is_asked), None
         self.script = []  # the accepted lines
+        self.made = [0]  # when each position of the record was made
+        self.may_slip = True
+        self.unsigned_from = None  # when it first began to go unsigned, by a report that isn't true
         self.done = Counter()
         # How far the clocks of its machines are ahead, and how far they differ at most.
         self.ahead = [self.dice.randint(-SECOND, SECOND) for _ in range(3)]
@@ -169,6 +172,7 @@ class Operator:
         if not answer.startswith("ok"):
             raise Wrong(f"{line}: {answer}")
         self.script.append(line)
+        self.made.append(self.world.now)
         self.idle = 0
         return answer.split()[1:]
 

@@ -46,7 +46,10 @@ class Servers:
 
     def __init__(self, world, number, version, is_asked=True):
         self.world, self.versions, self.at = world, [version], [0] * number
+        # When each version was published, and when each server got which.
+        self.times, self.history = [world.now], [[(world.now, 0)] for _ in self.at]
         self.is_asked = self.was_asked = False
+        self.asked_from = self.asked_to = None
         if is_asked:
             self.name()
 
@@ -56,6 +59,7 @@ class Servers:
     def publish(self, **changed):
         """Publishes a version, and gives its number."""
         self.versions.append({**self.versions[-1], **changed})
+        self.times.append(self.world.now)
         number = len(self.versions) - 1
         for _, kept in self.sets(number):
             kept.last = number
@@ -66,6 +70,7 @@ class Servers:
     def arrive(self, server, number):
         if number > self.at[server]:
             before, self.at[server] = self.at[server], number
+            self.history[server].append((self.world.now, number))
             if self.is_asked:
                 self.gives(number)
                 self.gives_no_more(before)
@@ -84,12 +89,13 @@ class Servers:
     def name(self):
         """From now on they are asked."""
         self.is_asked = self.was_asked = True
+        self.asked_from = self.world.now
         for number in self.at:
             self.gives(number)
 
     def name_no_more(self):
         """From now on nobody asks them."""
-        self.is_asked = False
+        self.is_asked, self.asked_to = False, self.world.now
         for number in self.at:
             self.gives_no_more(number)
 
