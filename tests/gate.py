@@ -1,7 +1,8 @@
 #!/usr/bin/env python3
-"""The gate: `tests/docs.py` and `tests/release.py`, then `rt ci`. Beside its first proofs runs
-`tests/runbooks.py`, and beside its edits run `tests/memory.py`, `tests/sets.py`, `tests/notes.py`,
-`tests/command.py` and `tests/library.py`, for which `tests/archive.py` builds the library. Then
+"""The gate: `tests/docs.py` and `tests/release.py`, then `rt ci`. Beside its first proofs run
+`tests/runbooks.py` and `tests/networks.py`, and beside its edits run `tests/memory.py`,
+`tests/sets.py`, `tests/notes.py`, `tests/command.py` and `tests/library.py`, for which
+`tests/archive.py` builds the library. Then
 `tests/told.py` compares the numbers of docs/TESTS.md with what all of them have printed. Before the
 last line of `rt ci` it prints when each step was done, in minutes and seconds since the start, so
 that a rise is seen."""
@@ -181,13 +182,14 @@ def main():
             return 1
         note(name)
     # At low priority: each crate waits for the proofs of those below it.
-    runbooks = Beside("runbooks", under=["nice"])
-    runbooks.start()
+    games = [Beside(name, under=["nice"]) for name in ("runbooks", "networks")]
+    for game in games:
+        game.start()
     with tempfile.TemporaryDirectory() as folder:
-        return prove_and_test(runbooks, Path(folder) / "out")
+        return prove_and_test(games, Path(folder) / "out")
 
 
-def prove_and_test(runbooks, folder):
+def prove_and_test(games, folder):
     """Runs `rt ci` and the tests beside it, of which some share the library in a folder."""
     programs = ["keyset", "keyset_status", "keyset_notes"]
     # The library takes no proof of `keyset_c`, only of the crates below it.
@@ -203,7 +205,7 @@ def prove_and_test(runbooks, folder):
         library,
     ]
     status, last = prove(scripts)
-    for beside in (runbooks, *scripts):
+    for beside in (*games, *scripts):
         fault = beside.fault()
         # (If a proof that a script needs has failed, the script never begins; `rt ci` says why.)
         if fault and (beside.ident or status == 0):
