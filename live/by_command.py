@@ -32,8 +32,8 @@ class Operator:
         self.script = self.folder / "by-command.script"
         self.file, self.signed = self.folder / "zone", self.folder / "zone.signed"
         self.serial, self.by_date, self.served = serial, by_date, 0
-        # The servers that get new versions, and how the registrar types DS records.
-        self.servers, self.typed = zone.servers, list
+        # The servers that get new versions, and the name that the command's resolver doesn't find.
+        self.servers, self.not_found = zone.servers, ""
 
     def environment(self):
         """The command finds its programs by what the environment of this run says of them."""
@@ -41,7 +41,8 @@ class Operator:
         port = str(self.zone.world.port)
         return {
             **said, "PATH": PATHS, "PYTHONPATH": f"{COMMAND}:{LOOKING_UP}",
-            "LOOKING_UP": UNBOUND, "LOOKING_UP_PORT": port, "PYTHONDONTWRITEBYTECODE": "1",
+            "LOOKING_UP": UNBOUND, "LOOKING_UP_PORT": port, "LOOKING_UP_FAILS": self.not_found,
+            "PYTHONDONTWRITEBYTECODE": "1",
         }
 
     async def type(self, *words, ends=(OK,)):
@@ -116,7 +117,7 @@ class Operator:
 
     async def change_ds(self, records):
         """Has the parent's DS set changed. CDS and CDNSKEY are still out when it is."""
-        await self.zone.world.parent.change(self.zone.name, self.typed(records), DS_TTL)
+        await self.zone.world.parent.change(self.zone.name, records, DS_TTL)
         await self.watch(ends=(DUE,))
         await self.act("--no-cds")
 

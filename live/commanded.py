@@ -109,18 +109,10 @@ async def comes_back_old(zone):
     await asyncio.sleep(10)
 
 
-class Forgetful(Operator):
-    """One server gets no new versions, and the zone has no address for its name."""
-
-    is_mended = False
-
-    def records(self):
-        forgotten = f"b1.{self.zone.name} {TTL} IN A "
-        records = super().records()
-        return [it for it in records if self.is_mended or not it.startswith(forgotten)]
+class LooksUp(Operator):
+    """The command asks all servers that NS records name."""
 
     def parents(self):
-        """All servers that NS records name."""
         return ["--port", self.zone.world.port]
 
     def named(self):
@@ -128,20 +120,19 @@ class Forgetful(Operator):
 
 
 async def without_address(zone):
-    """A server that the NS set names has no address there, and old data. The command doesn't report
-    before it has looked at it."""
-    operator = Forgetful(zone)
-    operator.is_mended = True
+    """One server gets no new version, and the address of its name can't be looked up. The command
+    doesn't report before it has asked that server."""
+    operator = LooksUp(zone)
     _, zsk = await operator.first_keys()
-    operator.is_mended = False
-    operator.servers = [server for server in zone.servers if server != CHILD["B"][0]]
     new = await operator.key(*ZSK)
     await operator.call(f"add {new}")
+    operator.not_found = f"b1.{zone.name}".rstrip(".")
+    operator.servers = [server for server in zone.servers if server != CHILD["B"][0]]
     await operator.call(f"start zsk-roll {zsk} {new} now")
     await operator.act()
     told = await operator.watch("--call", seconds=5, ends=(DUE,))
-    expect(f"b1.{zone.name}".rstrip(".") in told, f"the server isn't named: {told}")
-    operator.is_mended, operator.servers = True, zone.servers
+    expect(f"{operator.not_found}: " in told, f"the server isn't named: {told}")
+    operator.not_found, operator.servers = "", zone.servers
     await operator.act()
     await operator.watch("--call")
     await operator.step(await operator.wait("zsk-roll"))

@@ -1,10 +1,19 @@
-"""The command looks names up at a resolver of the run, on the run's port."""
+"""The command looks names up at a resolver of the run, on the run's port. That resolver may fail
+for one name."""
 
 import os
 
 import dns.resolver
 
-resolver = dns.resolver.Resolver(configure=False)
+
+class Resolver(dns.resolver.Resolver):
+    def resolve(self, qname, *what, **how):
+        if str(qname) == os.environ["LOOKING_UP_FAILS"]:
+            raise dns.resolver.NoNameservers
+        return super().resolve(qname, *what, **how)
+
+
+resolver = Resolver(configure=False)
 resolver.nameservers = [os.environ["LOOKING_UP"]]
 resolver.port = int(os.environ["LOOKING_UP_PORT"])
 dns.resolver.default_resolver = resolver
