@@ -21,7 +21,7 @@ import testkeys
 from typed import STORED  # noqa: F401 (it has the command on the path)
 from vaqsider import asking
 
-REAL, PATIENCE = asking.exchange, 0.4
+REAL, PATIENCE = (asking.exchange, asking.is_address), 0.4
 
 
 def exchange(query, address: str, port: int):
@@ -78,7 +78,7 @@ def signature_of(data: str, records):
 
 def install() -> None:
     """From now on the command asks these servers only, and no resolver."""
-    asking.exchange = exchange
+    asking.exchange, asking.is_address = exchange, lambda name: True
     nobody = dns.resolver.Resolver(configure=False)
     nobody.nameservers = []
     dns.resolver.default_resolver = nobody
@@ -87,9 +87,11 @@ def install() -> None:
 @contextlib.contextmanager
 def network():
     """The command asks over the network, as it does by itself, and soon gives up."""
-    before = asking.exchange, asking.SECONDS, dns.resolver.default_resolver
-    asking.exchange, asking.SECONDS = REAL, PATIENCE
+    before = asking.exchange, asking.is_address, asking.SECONDS
+    resolver = dns.resolver.default_resolver
+    asking.exchange, asking.is_address, asking.SECONDS = *REAL, PATIENCE
     try:
         yield
     finally:
-        asking.exchange, asking.SECONDS, dns.resolver.default_resolver = before
+        asking.exchange, asking.is_address, asking.SECONDS = before
+        dns.resolver.default_resolver = resolver

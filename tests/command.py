@@ -42,8 +42,10 @@ from typed import STORED, folder, private_halves, typed  # noqa: E402
 
 PACKAGE = TOP / "command" / "vaqsider"
 # The files with the code that decides what is on disk, and when.
-WRITERS = ("file.py", "calling.py", "act.py", "place.py", "zonefile.py", "signing.py",
-           "watching.py", "notes.py")
+WRITERS = (
+    "file.py", "calling.py", "act.py", "place.py", "zonefile.py", "signing.py", "watching.py",
+    "notes.py", "looks.py", "parents.py",
+)
 
 LINE = re.compile(r"\$ (?:NOW=(?P<now>\S+) )?(?P<words>.*)")
 
@@ -271,6 +273,9 @@ CRASHES = (
      published, ["start.script", "start.notes"]),
     ("rise", lambda: typed(["watch", "rise.script", "--server", "signed", "--parent-server",
                             "raised"], 310), rising, ["rise.notes"]),
+    ("state", lambda: typed(["watch", "rise.script", "--state", "--server", "signed",
+                             "--parent-server", "raised"], 310), rising,
+     ["rise.notes", "rise.look"]),
     ("loop", operate, begin_to_operate, ["start.script", "start.notes", "signed"]),
 )
 

@@ -388,6 +388,7 @@ class Found:
     own: tuple = ("NS ns1.example.com.", "NS ns2.example.com.")
     says: tuple = ()
     asked: tuple = WELL
+    more: tuple = ()
 
 
 LOST = {key: of for key, of in ADDRESSES.items() if key[0] != f"ns2.{ZONE}."}
@@ -403,6 +404,10 @@ FOUND = (
     Found("a second address is silent",
           resolver({**ADDRESSES, (f"ns2.{ZONE}.", "A"): (f"A {SECOND}", f"A {SILENT}")}),
           says=((f"ns2.{ZONE} ({SILENT})", "no answer"),)),
+    Found("a server that is named", more=("--server", f"ns2.{ZONE}"), asked=WELL[1:]),
+    Found("the parent that is named", resolver({key: of for key, of in ADDRESSES.items()
+                                                if key != ("com.", "SOA")}),
+          more=("--parent", "com")),
     Found("only the other kind of address fails",
           resolver({**ADDRESSES, (f"ns2.{ZONE}.", "AAAA"): None}),
           says=((f"ns2.{ZONE}", "its AAAA records can't be looked up"),)),
@@ -419,7 +424,7 @@ def of_found(servers, port: int):
         servers[FIRST].answer = servers[SECOND].answer = honest(own)
         servers[PARENT].answer = honest({**ABOVE, "NS": Set(row.above)}, as_referral)
         servers[RESOLVER].answer = row.resolver
-        text, _ = typed(["watch", "dnskey.script", "--port", port, "--json"], NOW)
+        text, _ = typed(["watch", "dnskey.script", "--port", port, *row.more, "--json"], NOW)
         told = json.loads(text)
         found = tuple((it["server"], it["text"]) for it in told["lacking"])
         if found != row.says or not row.says and told["asked"]["servers"] != list(row.asked):

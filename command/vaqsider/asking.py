@@ -24,6 +24,7 @@ try:
     import dns.rdatatype
     import dns.resolver
     import dns.serial
+    from dns.inet import is_address
 except ImportError as error:
     package = PACKAGES.get(str(error.name).partition(".")[0], PACKAGES["dns"])
     text = f"{package} is missing for {sys.executable}: install it to ask servers"
@@ -129,9 +130,10 @@ def side_by_side(function, items) -> list:
 # The servers of a zone. They are looked up anew in each round.
 
 
-def by_address(addresses: list[str]) -> list[Server]:
-    """The servers that the command line names."""
-    return [Server(address, address) for address in addresses]
+def by_name(names: list[str]) -> list[Server]:
+    """The servers that the command line names, by an address or by their name."""
+    found = ([Server(it, it)] if is_address(it) else addresses_of(it) for it in names)
+    return [server for servers in found for server in servers]
 
 
 def look_up(name: str, kind: str) -> list | None:

@@ -34,13 +34,13 @@ class Places:
     def of(cls, zone: str, args) -> Places:
         """Those that the command line names, or all that NS records name."""
         parents = cls.of_parent(zone, args).parent
-        servers = asking.by_address(args.server or [])
+        servers = asking.by_name(args.server or [])
         return cls(servers or asking.of_zone(zone, parents, args.port), parents, args.port)
 
     @classmethod
     def of_parent(cls, zone: str, args) -> Places:
         """Only those of the parent."""
-        parents = asking.by_address(args.parent_server or [])
+        parents = asking.by_name(args.parent_server or [])
         if not parents and zone.strip("."):
             parents = asking.of_parent(zone, args.parent)
         return cls([], parents, args.port)

@@ -57,7 +57,7 @@ def read(script: str | Path) -> Kept | None:
         return None
     is_right = (
         all(isinstance(it, int) for it in (kept.moment, kept.lines, kept.servers))
-        and all(isinstance(it, (int, type(None))) for it in (kept.until, kept.renew))
+        and [type(it) for it in (kept.until, kept.renew)] in ([int, int], [type(None)] * 2)
         and all(isinstance(it, list) for it in (kept.lacking, kept.broken))
     )
     return kept if is_right else None
