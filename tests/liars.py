@@ -140,7 +140,9 @@ def honest(sets, extra=None):
         response = dns.message.make_response(query)
         response.flags |= dns.flags.AA
         kind = dns.rdatatype.to_text(query.question[0].rdtype)
-        if kind in sets:
+        if query.flags & dns.flags.RD or not query.ednsflags & dns.flags.DO:
+            response.set_rcode(dns.rcode.NOTIMP)
+        elif kind in sets:
             response.answer += sets[kind].rrsets()
         else:
             response.authority += Set((soa(7),)).rrsets()
