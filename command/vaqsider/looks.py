@@ -3,11 +3,13 @@ that `check` and `zones` can say what it found, and when, without asking anybody
 
 from __future__ import annotations
 
+import contextlib
+import fcntl
 import json
 import os
-import tempfile
 from dataclasses import asdict, dataclass
 from pathlib import Path
+from typing import BinaryIO
 
 
 @dataclass(frozen=True)
@@ -36,17 +38,26 @@ def path_of(script: str | Path) -> Path:
 def keep(script: str | Path, kept: Kept) -> None:
     """Writes it, in the place of an older one: whole, or not at all."""
     path = path_of(script)
-    with tempfile.NamedTemporaryFile("w", dir=path.parent, prefix=f".{path.name}.",
-                                     delete=False) as draft:
-        try:
-            draft.write(f"{json.dumps(asdict(kept))}\n")
-            draft.flush()
-            os.fsync(draft.fileno())
-            os.chmod(draft.name, 0o644)
-            os.replace(draft.name, path)
-        except BaseException:
-            os.unlink(draft.name)
-            raise
+    draft = path.with_name(f".{path.name}.draft")
+    with _alone(draft) as file:
+        file.truncate(0)
+        file.write(f"{json.dumps(asdict(kept))}\n".encode("ascii"))
+        file.flush()
+        os.fsync(file.fileno())
+        os.replace(draft, path)
+
+
+def _alone(draft: Path) -> BinaryIO:
+    """The file of the draft, which no other program writes now."""
+    flags = os.O_RDWR | os.O_CREAT | os.O_NOFOLLOW | os.O_CLOEXEC
+    while True:
+        file = open(os.open(draft, flags, 0o644), "wb")
+        fcntl.flock(file, fcntl.LOCK_EX)
+        # Another program may have put it into its place meanwhile.
+        with contextlib.suppress(FileNotFoundError):
+            if os.path.samestat(os.fstat(file.fileno()), draft.lstat()):
+                return file
+        file.close()
 
 
 def read(script: str | Path) -> Kept | None:
