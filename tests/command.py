@@ -1,9 +1,9 @@
 #!/usr/bin/env python3
 """Runs the command of an operator on stored transcripts, without a server.
 
-    tests/command.py            compares what each line prints, asks facts.py and liars.py, lets the
-                                command crash after each change of its files, and counts the lines
-                                of its code that ran
+    tests/command.py            compares what each line prints, asks facts.py, acts.py and liars.py,
+                                lets the command crash after each change of its files, and counts
+                                the lines of its code that ran
     tests/command.py --write    writes the transcripts again
     tests/command.py --left     shows which lines of its code did not run
     tests/command.py --only NAME..
@@ -341,8 +341,8 @@ def main():
     ran, total, unrun = coverage(results)
     print(*faults, sep="\n", end="\n" if faults else "")
     answers = len(liars.ROWS) + len(liars.FOUND)
-    print(f"command: {lines} lines played, {crashes} crashes, {answers} answers of servers; "
-          f"{ran} of {total} lines of code ran, by std's trace")
+    print(f"command: {lines} lines played, {crashes} crashes, {answers} answers of servers, "
+          f"{acts.COUNT} acts; {ran} of {total} lines of code ran, by std's trace")
     if "--left" in sys.argv[1:]:
         print(*(f"{Path(name).name}:{line}" for name, line in unrun), sep="\n")
     return 1 if faults else 0

@@ -195,7 +195,7 @@ class Operator:
         text, status = typed([word, self.script, *how, *line, "--json"], self.now)
         self.now += 3
         told = json.loads(text)
-        if word == "act" and told["ds"]:
+        if word == "act" and (told["ds"] or told["cds"]):
             records = (f"example.com. 30 IN {it.split(' IN ')[1]}" for it in told["ds"])
             Path("up.DS").write_text("".join(f"{record}\n" for record in records))
         # Before CDS is out something is due.
@@ -245,6 +245,31 @@ def by_the_command():
         old = {operator.names[key] for key in re.findall(r"delete (\w+)", " ".join(commands))}
         if not old or set().union(*sets.values()) & old:
             yield f"{roll} leaves {sets}"
+
+
+def emergencies():
+    """What docs/EMERGENCY.md says to type: for a lost KSK, and then its runbook from the first wait
+    on; and to go unsigned, with the wait that the key set doesn't know."""
+    text = (TOP / "docs" / "EMERGENCY.md").read_text()
+    lost, unsigned = re.findall(r"^```text\n(vaqsider .*?)^```", text, re.MULTILINE | re.DOTALL)
+    books = {name: commands for name, commands, _ in runbooks()}
+    for name, block in (("lost", lost), ("unsigned", unsigned)):
+        operator = Operator()
+        block = re.sub(r" --for \d+", "", block).replace("TAG", "1")
+        commands = re.findall(r"vaqsider (\w+) S(.*?)(?:;|$)", block, re.MULTILINE)
+        after = books["ksk-double-ds-roll"][8:] if name == "lost" else []
+        for command in books["The first keys"]:
+            yield from operator.type(command)
+        if name == "lost":
+            Path(operator.names["K1"]).with_suffix(".private").unlink()
+        for command in (*map("".join, commands), *after):
+            operator.now += 300 if "wait2" in command else 0
+            yield from operator.type(command)
+        _, sets, verdict = answers(operator.script.read_text().splitlines())
+        signers = {operator.names["K2"]} if name == "lost" else set()
+        is_signed = "RRSIG" in Path("signed").read_text()
+        if verdict != "chain safe" or sets["signers"] != signers or is_signed != bool(signers):
+            yield f"EMERGENCY, {name}: it ends with {sets}, {verdict}"
 
 
 def helps():
@@ -300,5 +325,6 @@ def metrics():
 def faults():
     """What the command says otherwise than it should."""
     with folder():
-        checks = screens, refusals, plans, drawn.pictures, by_the_command, metrics, helps, clocks
+        checks = (screens, refusals, plans, drawn.pictures, by_the_command, emergencies, metrics,
+                  helps, clocks)
         return [fault for check in checks for fault in check()]

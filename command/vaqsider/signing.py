@@ -111,20 +111,19 @@ def verifying(origin: str, has_opt_out: bool) -> list[str]:
 
 
 def run(words: list[str], within: Path | None = None, stdout: IO | int = subprocess.PIPE) -> None:
-    """Runs a program. If it fails, its last words are those of the failure; else they are passed
-    on."""
+    """Runs a program. If it fails, the failure has its words; else standard error has them."""
     try:
         done = subprocess.run(words, cwd=within, stdin=subprocess.DEVNULL, stdout=stdout,
                               stderr=subprocess.PIPE)
     except FileNotFoundError:
         raise Failure(f"{words[0]} is missing: install it, or use another --signer",
                       UNAVAILABLE) from None
-    said = b"\n".join(filter(None, (done.stdout, done.stderr))).decode(errors="replace").split("\n")
-    lines = [line.strip() for line in said if line.strip()]
+    said = [text.decode(errors="replace") for text in (done.stderr, done.stdout or b"")]
     if done.returncode:
+        lines = [line.strip() for line in "\n".join(said).split("\n") if line.strip()]
         why = "; ".join(lines[:3]) or f"status {done.returncode}"
         raise Failure(f"{words[0]}: {why}", UNAVAILABLE)
-    print(*lines, sep="\n", end="\n" if lines else "", file=sys.stderr)
+    print(said[0], end="", file=sys.stderr)
 
 
 def shown(words: list[str]) -> str:
