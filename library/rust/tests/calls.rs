@@ -53,10 +53,10 @@ fn a_roll_goes_on_after_a_crash() -> Result<(), Error> {
 #[test]
 fn the_status_has_values() -> Result<(), Error> {
     let status = after(&FIRST[..3])?.status()?;
-    let key = status.key("K1").expect("K1");
+    let key = status.key("Z1").expect("Z1");
     assert_eq!(key.algorithm, Algorithm::ECDSAP256SHA256);
     let roles: Vec<_> = key.roles.iter().map(|it| (it.role, it.state)).collect();
-    assert_eq!(roles, [(RoleKind::Ksk, State::Active)]);
+    assert_eq!(roles, [(RoleKind::Zsk, State::Active)]);
     let roll = status.roll(ROLL).expect("a roll");
     assert_eq!(
         (roll.phase, roll.next, roll.waits_for),
