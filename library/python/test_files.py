@@ -17,6 +17,8 @@ from keyset import (
     Error,
     KeySet,
     Locked,
+    Malformed,
+    Misnamed,
     NotKept,
     Notes,
     Refused,
@@ -186,6 +188,23 @@ class Files(Kept):
             self.assertEqual((made.number, keys.lines[6]), (6, "report1 algorithm-roll 7180 30"))
             self.assertEqual(made, Accepted([], 0))
 
+    def test_notes_that_another_has_written_meanwhile_are_read_first(self):
+        self.begin(COURSE[:3]).note("before 60 60 60")
+        notes, others = Notes(self.path), Notes(self.path)
+        others.append("published dnskey 3 60 10")
+        with self.assertRaises(Locked):
+            notes.append("published dnskey 3 60 9")
+        self.assertEqual(notes.more(), ["published dnskey 3 60 10"])
+
+    def test_notes_have_no_place_beside_a_script_of_another_name(self):
+        self.path = self.path.with_name("example.com")
+        keys = self.begin(COURSE[:3])
+        with self.assertRaises(Misnamed):
+            keys.note("before 60 60 60")
+        with self.assertRaises(Malformed):
+            keys.due(1)
+        self.assertEqual([it.name for it in self.path.parent.iterdir()], ["example.com"])
+
     def test_notes_stand_beside_the_script(self):
         """Notes of a key set are in the file that `Notes` reads, and come back with it."""
         keys = self.begin(COURSE[:3])
@@ -198,6 +217,7 @@ class Files(Kept):
         Notes(self.path).publish(3, {"zone": 60}, 10)
         Notes(self.path).everywhere({"dnskey": 60, "zone": 60}, 20)
         self.assertEqual([one.ttl for one in keys.due(30)], [7190])
+        self.assertEqual(keys.notes.lines, Notes(self.path).lines)
         keys.close()
         with KeySet.open(self.path) as again:
             self.assertEqual([one.ttl for one in again.due(30)], [7190])

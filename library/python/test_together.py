@@ -11,7 +11,7 @@ import unittest
 from unittest import mock
 
 from cases import COURSE, Kept, add
-from keyset import Error, Forked, KeySet, Locked, locked
+from keyset import Accepted, Error, Forked, KeySet, Locked, locked
 from keyset.engine import _has_library
 
 PROCESSES, LINES = 4, 25 if _has_library() else 3
@@ -48,6 +48,8 @@ def child(part):
     if (pid := os.fork()) != 0:
         return os.waitstatus_to_exitcode(os.waitpid(pid, 0)[1]) == 0
     status = 1
+    # (One that waits for ever fails.)
+    signal.alarm(60)
     try:
         part()
         status = 0
@@ -204,6 +206,18 @@ class Together(Kept):
         with mock.patch("os.fsync", interrupted):
             keys.call(COURSE[1])
         self.assertEqual((told, len(keys.lines)), ([["K1"]], 3))
+
+    def test_nor_within_a_call_in_memory(self):
+        keys = KeySet("example.com")
+
+        def interrupted(_, number):
+            with self.assertRaises(Locked):
+                keys.call(COURSE[1])
+            return Accepted([], number)
+
+        with mock.patch("keyset.keyset.Accepted.of", interrupted):
+            self.assertEqual(keys.call(COURSE[0]).number, 1)
+        self.assertEqual(keys.lines[1:], [COURSE[0]])
 
     def test_threads_share_a_key_set(self):
         keys, wrong = self.begin(COURSE[:3]), []
