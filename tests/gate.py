@@ -1,11 +1,10 @@
 #!/usr/bin/env python3
 """The gate: `tests/docs.py` and `tests/release.py`, then `rt ci`. Beside its first proofs run
-`tests/runbooks.py` and `tests/networks.py`, and beside its edits run `tests/memory.py`,
-`tests/sets.py`, `tests/notes.py`, `tests/command.py` and `tests/library.py`, for which
-`tests/archive.py` builds the library. Then
-`tests/told.py` compares the numbers of docs/TESTS.md with what all of them have printed. Before the
-last line of `rt ci` it prints when each step was done, in minutes and seconds since the start, so
-that a rise is seen."""
+`tests/runbooks.py`, `tests/networks.py` and `tests/examples.py`, and beside its edits run
+`tests/memory.py`, `tests/sets.py`, `tests/notes.py`, `tests/command.py` and `tests/library.py`,
+for which `tests/archive.py` builds the library. Then `tests/told.py` compares the numbers of
+docs/TESTS.md with what all of them have printed. Before the last line of `rt ci` it prints when
+each step was done, in minutes and seconds since the start, so that a rise is seen."""
 
 import contextlib
 import os
@@ -26,6 +25,8 @@ STEPS = []
 PRINTED = []
 # What the dearest proof takes of the memory, in bytes.
 MEMORY = 3_500_000_000
+# The tests that need no proof.
+FREE = ("runbooks", "networks", "examples")
 # The priority of edits, as that of `nice`.
 LOW = 10
 
@@ -182,14 +183,14 @@ def main():
             return 1
         note(name)
     # At low priority: each crate waits for the proofs of those below it.
-    games = [Beside(name, under=["nice"]) for name in ("runbooks", "networks")]
-    for game in games:
-        game.start()
+    free = [Beside(name, under=["nice"]) for name in FREE]
+    for test in free:
+        test.start()
     with tempfile.TemporaryDirectory() as folder:
-        return prove_and_test(games, Path(folder) / "out")
+        return prove_and_test(free, Path(folder) / "out")
 
 
-def prove_and_test(games, folder):
+def prove_and_test(free, folder):
     """Runs `rt ci` and the tests beside it, of which some share the library in a folder."""
     programs = ["keyset", "keyset_status", "keyset_notes"]
     # The library takes no proof of `keyset_c`, only of the crates below it.
@@ -205,7 +206,7 @@ def prove_and_test(games, folder):
         library,
     ]
     status, last = prove(scripts)
-    for beside in (*games, *scripts):
+    for beside in (*free, *scripts):
         fault = beside.fault()
         # (If a proof that a script needs has failed, the script never begins; `rt ci` says why.)
         if fault and (beside.ident or status == 0):

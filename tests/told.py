@@ -20,7 +20,7 @@ PAGE = TOP / "docs" / "TESTS.md"
 
 # The tests that print what they have done.
 PARTS = {
-    *("command", "dnssec_tests", "install", "library", "long"),
+    *("command", "dnssec_tests", "examples", "install", "library", "long"),
     *("memory", "networks", "notes", "runbooks", "sessions", "sets"),
 }
 
