@@ -6,8 +6,9 @@ see it.
                                  name has one of these words
 
 A change is the lines `file:`, `old:` and `new:`, for a text that the file has once; `\\n` in it is
-a line feed. Then comes `seen by:` with the names of tests, or `survives:` with the reason. They have
-to pass without a change, and to fail with it. A test is what `tests/command.py --only` takes, a file of Python's tests, or `cargo.NAME`, which is tried if the library is built.
+a line feed. Then comes `seen by:` with the names of tests, or `survives:` with the reason. They
+have to pass without a change, and to fail with it. A test is what `tests/command.py --only` takes, a
+file of Python's tests, or `cargo.NAME`, which is tried if the library is built.
 """
 
 import os

@@ -7,7 +7,6 @@ import math
 import re
 from dataclasses import dataclass
 
-import keyset
 from keyset import Lines, Notes
 
 from . import looks, status, words
@@ -58,7 +57,8 @@ def _findings(file, path, now):
             if not lost or number < lost[0]:
                 yield Finding(WARNING, f"was refused ({reason}): take it out", number)
         yield from false_claims(history, path, now)
-    told = status.read(path, now, allow_refused=True)[1]
+    status.whole(path, file)
+    told = status.at(history.status, now)
     yield from _due(told)
     if any(told["published"].values()):
         yield from _of_look(path, len(file.lines), now)
@@ -102,10 +102,8 @@ def _due(told):
 
 def false_claims(history, path, now, since=0):
     """What can't be true in the accepted lines, from this number on."""
-    notes = Notes(path)
-    if notes.lines and not since:
-        notes.check(history.lines)
-    for number, text in (*_of_moments(history, now), *_of_notes(history, notes, since)):
+    found = *_of_moments(history, now), *_of_notes(history, Notes(path), since)
+    for number, text in found:
         if number >= since:
             yield Finding(WARNING, text, number)
     for algorithm, number in sorted(_mixed(history).items()):
@@ -147,7 +145,9 @@ def _of_notes(history, notes, since):
     calls = [call for call in history.calls if call.line.is_report and call.number >= since]
     calls = [call for call in calls if first is not None and first < call.number - 1]
     reports = [(call.number, call.line.roll, call.moment) for call in calls]
-    for call, due in zip(calls, notes.due_then(history.lines, reports)):
+    if not notes.lines or (since and not reports):
+        return
+    for call, due in zip(calls, list(notes.due_then(history.lines, reports))):
         if due is None:
             yield call.number, "by the notes not all servers had yet what it reports"
         elif call.line.ttl < due:
@@ -157,7 +157,7 @@ def _of_notes(history, notes, since):
 def _mixed(history):
     """The algorithms that have only KSKs or only ZSKs in use, each with the line since when."""
     since = {}
-    if _alone(keyset.status(history.lines)):
+    if _alone(history.status):
         for call, session in history.sessions():
             alone = _alone(session.status())
             since = {algorithm: since.get(algorithm, call.number) for algorithm in alone}

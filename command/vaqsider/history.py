@@ -1,5 +1,7 @@
 """The accepted lines of a script, each with its answer: the course that the zone took."""
 
+from functools import cached_property
+
 import keyset
 from keyset.lines import Line
 
@@ -36,6 +38,11 @@ class History:
             clock, last[call.line.roll, call.line.word] = call.moment, call
             if call.line.is_report:
                 self._steps[number] = last[call.line.roll, REPORTED_FROM[call.line.word]]
+
+    @cached_property
+    def status(self):
+        """The status after the last line."""
+        return keyset.status(self.lines)
 
     def step_of(self, report):
         """The step that an accepted report counts from: the start of its roll, or its first wait.

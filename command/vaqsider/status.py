@@ -28,20 +28,25 @@ def lost(refused):
     return next(((line, f"was refused ({why}): {LOST}") for line, why in found), None)
 
 
-def read(path, now, allow_refused=False):
-    """The lines of a script and its status at this moment. If a wait is over, it waits for you.
-    Nothing is shown of a script that may have lost a line, unless that is allowed."""
+def read(path, now):
+    """The lines of a script and its status at this moment. Nothing is shown of a script that may
+    have lost a line."""
     lines = whole(path, Lines(path))
     try:
         told, found = keyset.status(lines), lost(keyset.refused(lines))
     except Malformed as error:
         raise Damaged(path, error.line, f"malformed: {error.reason}") from None
-    if found and not allow_refused:
+    if found:
         raise Damaged(path, *found)
+    return lines, at(told, now)
+
+
+def at(told, now):
+    """The status at this moment: if a wait is over, it waits for you."""
     for roll in told["rolls"]:
         if roll["not_before"] is not None and roll["not_before"] <= now:
             roll["waits_for"] = YOU
-    return lines, told
+    return told
 
 
 def comes_next(roll):
