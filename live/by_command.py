@@ -18,8 +18,9 @@ HERE = Path(__file__).resolve().parent
 # The command, and what has it look names up at one of the resolvers.
 COMMAND, LOOKING_UP = HERE.parent / "command", HERE / "looking_up"
 TTL, DS_TTL = 3, 2
-# How the command ends: done, something is due, or a resolver may find no chain of trust.
-OK, DUE, BROKEN = 0, 1, 3
+# How the command ends: done, something is due, something can't be true, or a resolver may find no
+# chain of trust.
+OK, DUE, WARNING, BROKEN = 0, 1, 2, 3
 KSK, ZSK = ("-f", "KSK"), ()
 
 

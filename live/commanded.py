@@ -4,7 +4,8 @@ each fault before a resolver fails; in the one with a lie it sees the fault that
 import asyncio
 import time
 
-from by_command import BROKEN, DUE, KSK, TTL, ZSK, Operator
+from by_command import BROKEN, DUE, KSK, OK, TTL, WARNING, ZSK, Operator
+from dnspython import dns
 from places import CHILD
 from processes import Failed
 
@@ -72,6 +73,26 @@ async def serial_by_date(zone):
     ksk, zsk = await operator.first_keys()
     await operator.replace("zsk-roll", zsk, ZSK)
     await operator.replace("ksk-roll", ksk, KSK)
+
+
+async def unsigned(zone):
+    """docs/EMERGENCY.md, "Going unsigned", by the command, in a zone with a serial by date."""
+    operator = Operator(zone, serial=DATE, by_date=True)
+    keys = await operator.first_keys()
+    zone.clients.secure_from = float("inf")
+    used = {int(key.split("+")[2].partition(".")[0]) for key in keys}
+    free = next(tag for tag in range(65536) if tag not in used)
+    await operator.call(f"add-csk none - 13 {free} now yes")
+    await operator.call(f"start algorithm-roll {','.join(keys)} none now")
+    await operator.call("set-stale none")
+    line = "report1 algorithm-roll 0 now"
+    await operator.type("call", operator.script, line, "--although", ends=(OK, WARNING))
+    await operator.step("wait1 algorithm-roll now")
+    *_, ttl, moment = operator.script.read_text().split()
+    await asyncio.sleep(int(moment) + int(ttl) - time.time())
+    await operator.step("wait2 algorithm-roll now")
+    made = dns.zone.from_file(str(operator.signed), zone.name, relativize=False)
+    expect(made.get_rdataset(made.origin, "DNSKEY") is None, "the DNSKEY set is still there")
 
 
 async def signatures_expired(zone):
@@ -143,5 +164,6 @@ HONEST = {
     "command-ds-ttl-raised": ds_ttl_raised,
     "command-wrong-digest": wrong_digest,
     "command-serial-by-date": serial_by_date,
+    "command-unsigned": unsigned,
     "command-signatures-expired": signatures_expired,
 }

@@ -4,7 +4,7 @@ import asyncio
 import shutil
 import socket
 
-from by_command import DS_TTL, KSK, TTL, ZSK, Operator
+from by_command import DS_TTL, KSK, TTL, WARNING, ZSK, Operator
 from commanded import DATE, expect
 from dnspython import dns
 from keys import Version, plain_records
@@ -123,7 +123,7 @@ def from_bind(keys=KSK_ZSK, denial="NSEC", by_date=False):
         made = await bind.signed(denial)
         await publish(operator, made)
         await take_over(operator, bind, "--csk" if keys == CSK else None)
-        for path in sorted(operator.folder.glob("K*.key")):
+        for path in sorted(bind.folder.glob("K*.key")):
             await operator.replace(*roll_of(path, keys))
         made = dns.zone.from_file(str(operator.signed), zone.name, relativize=False)
         expect(is_signed(made, denial), f"the zone isn't signed with {denial}")
@@ -145,15 +145,17 @@ async def publish(operator, made):
 
 
 async def take_over(operator, bind, *how):
-    """The command begins with BIND's keys."""
+    """The command begins with BIND's keys. It doesn't with others."""
     files = sorted(bind.folder.glob("K*.key"))
     for path in files:
         for part in (path, path.with_suffix(".private")):
             shutil.copy(part, operator.folder)
-    await operator.type(
-        "init", operator.zone.name, *(path.name for path in files), "--script", operator.script,
-        "--signed", *filter(None, how), *operator.named(), "--before", DS_TTL, TTL, TTL,
-    )
+    how = ["--signed", *filter(None, how), *operator.named(), "--before", DS_TTL, TTL, TTL]
+    init = ("init", operator.zone.name, "--script", operator.script)
+    others = [await operator.key(*KSK), await operator.key(*ZSK)]
+    await operator.type(*init, *how, *others, ends=(WARNING,))
+    expect(not operator.script.exists(), "keys come in that the zone hasn't got")
+    await operator.type(*init, *(path.name for path in files), *how)
 
 
 def roll_of(path, keys):

@@ -70,6 +70,7 @@ ONLY_WHOLE = {
     "command-ds-ttl-raised",
     "command-serial-by-date",
     "command-signatures-expired",
+    "command-unsigned",
     "from-bind-ksk-zsk",
     "from-bind-csk",
     "from-bind-serial-by-date",

@@ -34,8 +34,9 @@ def environment(folder, room):
 
 
 def test(folder, room):
-    """Its own tests, which build its examples too."""
-    run("cargo", "test", *QUIET, "--locked", cwd=CRATE, env=environment(folder, room))
+    """The test that no package has, since it reads stored scripts; and the examples are built."""
+    for words in (("test", "--test", "stored"), ("build", "--examples")):
+        run("cargo", *words, *QUIET, "--locked", cwd=CRATE, env=environment(folder, room))
 
 
 def test_project(folder, room):
@@ -51,7 +52,7 @@ def test_project(folder, room):
 
 
 def test_package(folder, room):
-    """The tests that a package of the crate has pass in the package."""
+    """All other tests, in a package of the crate."""
     made = environment(folder, room)
     run("cargo", "package", *QUIET, "--allow-dirty", "--no-verify", cwd=CRATE, env=made)
     (package,) = (room / "rust" / "package").glob("keyset-*.crate")
