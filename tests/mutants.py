@@ -129,16 +129,17 @@ def main():
         (programs := Path(room, "programs")).mkdir()
         variables, whole = environment(programs), copy(Path(room, "whole"))
         tests = sorted({test for mutant in mutants for test in mutant.seen_by})
-        faults = [f"{test} fails without a change" for test, is_well in zip(
-            tests, pool.map(lambda test: passes(whole, test, variables), tests)) if not is_well]
-        if not faults:
-            faults += filter(None, pool.map(lambda it: tried(it, variables), mutants))
-    print(*faults, *(f"survives: {it}\n  {it.survives}" for it in mutants if it.survives), sep="\n")
+        passed = dict(zip(tests, pool.map(lambda test: passes(whole, test, variables), tests)))
+        ready = [it for it in mutants if all(map(passed.get, it.seen_by))]
+        faults = [f"{test} fails without a change" for test in tests if not passed[test]]
+        survived = [*filter(None, pool.map(lambda it: tried(it, variables), ready))]
+    told = (f"survives: {it}\n  {it.survives}" for it in mutants if it.survives)
+    print(*faults, *survived, *told, sep="\n")
     if left_out:
         print(f"not tried, as the library isn't built: {len(left_out)} changes of the Rust crate")
-    lived = sum(bool(it.survives) for it in mutants) + len(faults)
-    print(f"mutants: {len(mutants) - lived} of {len(mutants)} seen")
-    return 1 if faults else 0
+    seen = sum(not it.survives for it in ready) - len(survived)
+    print(f"mutants: {seen} of {len(mutants)} seen")
+    return 1 if faults or survived else 0
 
 
 if __name__ == "__main__":
