@@ -58,7 +58,7 @@ class Mutant:
         path = tree / self.file
         text = path.read_text()
         if text.count(self.old) != 1:
-            raise SystemExit(f"{self.file} has {text.count(self.old)} times: {self.old}")
+            raise ValueError(f"{self.file} has {text.count(self.old)} times: {self.old}")
         path.write_text(text.replace(self.old, self.new))
 
     def __str__(self):
@@ -108,7 +108,10 @@ def tried(mutant, variables):
     """What is wrong with a row, or None."""
     with tempfile.TemporaryDirectory(dir=memory()) as folder:
         tree = copy(Path(folder))
-        mutant.put_into(tree)
+        try:
+            mutant.put_into(tree)
+        except ValueError as error:
+            return str(error)
         if mutant.survives or not all(passes(tree, test, variables) for test in mutant.seen_by):
             return None
     return f"not seen by {' '.join(mutant.seen_by)}: {mutant}"

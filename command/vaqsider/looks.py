@@ -9,6 +9,8 @@ import json
 import os
 from dataclasses import asdict, dataclass
 from pathlib import Path
+
+from keyset import notes
 from typing import BinaryIO
 
 
@@ -32,7 +34,7 @@ class Kept:
 
 
 def path_of(script: str | Path) -> Path:
-    return Path(script).with_suffix(".look")
+    return notes.path_of(script).with_suffix(".look")
 
 
 def keep(script: str | Path, kept: Kept) -> None:

@@ -13,6 +13,7 @@ from pathlib import Path
 from typing import Iterator
 
 from keyset import Lines, Locked, locked
+from keyset.notes import path_of
 
 # How long an act waits for another one, in seconds, and how it ends the name of its folder.
 PATIENCE, SUFFIX = 5, ".act"
@@ -22,8 +23,7 @@ MODES = 0o666
 
 def beside(script: str | Path) -> Path:
     """The file that is locked during an act: `example.com.act` for `example.com.script`."""
-    path = Path(script)
-    return path.with_name(path.name.removesuffix(".script") + SUFFIX)
+    return path_of(script).with_suffix(SUFFIX)
 
 
 @contextlib.contextmanager
