@@ -2,7 +2,7 @@
 
 use keyset::{Error, KeySet, OpenOptions, Refusal};
 use std::path::{Path, PathBuf};
-use std::{env, fs, io, process};
+use std::{env, fs, io, process, thread};
 
 const ADDS: [&str; 2] = ["add-ksk K1 - 13 0 0 yes", "add-zsk Z1 - 13 1 0 yes"];
 
@@ -64,6 +64,34 @@ fn a_file_keeps_the_accepted_lines() -> Result<(), Error> {
     assert_eq!(fs::read_to_string(&path)?, format!("{whole}{}\n", ADDS[1]));
     let again = KeySet::create(&path, "example.com");
     assert!(matches!(again, Err(Error::Io(it)) if it.kind() == io::ErrorKind::AlreadyExists));
+    Ok(fs::remove_file(&path)?)
+}
+
+/// Makes a call on the file, as soon as nobody else has it.
+fn add(path: &Path, tag: usize) {
+    loop {
+        match KeySet::open(path) {
+            Ok(mut keys) => {
+                let line = format!("add-zsk Z{tag} - 13 {tag} 0 yes");
+                break drop(keys.call(&line).expect("a call"));
+            }
+            Err(Error::Locked) => thread::yield_now(),
+            Err(error) => panic!("{error:?}"),
+        }
+    }
+}
+
+#[test]
+fn writers_side_by_side_lose_no_line() -> Result<(), Error> {
+    let path = path_of("turns")?;
+    drop(KeySet::create(&path, "example.com")?);
+    thread::scope(|scope| {
+        for writer in 0..4 {
+            let path = &path;
+            scope.spawn(move || (0..10).for_each(|it| add(path, 10 * writer + it)));
+        }
+    });
+    assert_eq!(KeySet::open(&path)?.calls(), 40);
     Ok(fs::remove_file(&path)?)
 }
 
