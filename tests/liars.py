@@ -133,17 +133,32 @@ class Server(threading.Thread):
                     connection.sendall(struct.pack("!H", len(wire)) + wire)
 
 
-def honest(sets, extra=None):
-    """Answers as a server with authority does."""
+def world(step: str) -> dict:
+    """What servers have to give in a step: the zone's and the parent's. Only in the step that waits
+    for signatures the new key signs."""
+    if step in ("zone", "state"):
+        return {**ABOVE, **RIGHT}
+    keys = {"ds": KEYS[:2]}.get(step, KEYS)
+    by_old = {kind: replace(RIGHT[kind], by=(OLD,)) for kind in ("SOA", "NS")}
+    return {**ABOVE, **RIGHT, **by_old, "DNSKEY": Set(keys, (KSK,))}
+
+
+# What servers give that don't lie.
+NOW_RIGHT: dict = {}
+
+
+def honest(sets=None, extra=None):
+    """Answers as a server with authority does: these sets, or those that are right."""
 
     def answer(query, is_tcp):
+        given = NOW_RIGHT if sets is None else sets() if callable(sets) else sets
         response = dns.message.make_response(query)
         response.flags |= dns.flags.AA
         kind = dns.rdatatype.to_text(query.question[0].rdtype)
         if query.flags & dns.flags.RD or not query.ednsflags & dns.flags.DO:
             response.set_rcode(dns.rcode.NOTIMP)
-        elif kind in sets:
-            response.answer += sets[kind].rrsets()
+        elif kind in given:
+            response.answer += given[kind].rrsets()
         else:
             response.authority += Set((soa(7),)).rrsets()
         if extra:
@@ -153,11 +168,10 @@ def honest(sets, extra=None):
     return answer
 
 
-def changed(sets=None, **changes):
+def changed(**changes):
     """A server's sets with one of them changed: its name, and what is otherwise."""
     ((kind, values),) = changes.items()
-    sets = sets or {**ABOVE, **RIGHT}
-    return honest({**sets, kind: replace(sets[kind], **values)})
+    return honest(lambda: {**NOW_RIGHT, kind: replace(NOW_RIGHT[kind], **values)})
 
 
 def coded(rcode):
@@ -167,7 +181,7 @@ def coded(rcode):
         response.answer.clear()
         response.set_rcode(rcode)
 
-    return honest(RIGHT, extra)
+    return honest(extra=extra)
 
 
 def no_authority(response, is_tcp):
@@ -186,7 +200,7 @@ def truncated(response, is_tcp):
 
 def in_bytes(change):
     """A server whose answer is changed on the wire."""
-    return lambda query, is_tcp: [change(wire) for wire in honest(RIGHT)(query, is_tcp)]
+    return lambda query, is_tcp: [change(wire) for wire in honest()(query, is_tcp)]
 
 
 def other_id(wire):
@@ -195,7 +209,7 @@ def other_id(wire):
 
 def no_tcp(query, is_tcp):
     """Says that it is truncated, and has no more over TCP."""
-    return [] if is_tcp else honest(RIGHT, truncated)(query, is_tcp)
+    return [] if is_tcp else honest(extra=truncated)(query, is_tcp)
 
 
 def same_tag(record: str) -> str:
@@ -222,19 +236,19 @@ NOT_GIVEN = ("DNSKEY none, not 10133,46350,64103", "no signature by 64103")
 ANOTHER = "no answer: what came is of another question"
 WRONG_DS = ds(KSK)[:-4] + "0000"
 ROWS = (
-    Row("honest", "dnskey", honest(RIGHT)),
-    Row("honest", "zone", honest(RIGHT)),
-    Row("honest", "ds", honest(ABOVE)),
-    Row("over TCP", "dnskey", honest(RIGHT, truncated)),
+    Row("honest", "dnskey", honest()),
+    Row("honest", "zone", honest()),
+    Row("honest", "ds", honest()),
+    Row("over TCP", "dnskey", honest(extra=truncated)),
     Row("other id", "dnskey", in_bytes(other_id), (ANOTHER,)),
-    Row("other question", "dnskey", honest(RIGHT, other_question), (ANOTHER,)),
+    Row("other question", "dnskey", honest(extra=other_question), (ANOTHER,)),
     Row("seven bytes", "dnskey", in_bytes(lambda wire: wire[:7]),
         ("no answer: what came can't be read",)),
     Row("cut off", "dnskey", in_bytes(lambda wire: wire[:90]),
         ("no answer: what came can't be read",)),
     Row("other owner", "dnskey", changed(DNSKEY={"owner": f"a.{ZONE}"}), NOT_GIVEN, 3),
     Row("other class", "dnskey", changed(DNSKEY={"rdclass": "CH"}), NOT_GIVEN, 3),
-    Row("no authority", "dnskey", honest(RIGHT, no_authority),
+    Row("no authority", "dnskey", honest(extra=no_authority),
         ("no answer: it has no authority for the zone",)),
     Row("SERVFAIL", "dnskey", coded(dns.rcode.SERVFAIL), ("no answer: SERVFAIL",)),
     Row("REFUSED", "dnskey", coded(dns.rcode.REFUSED), ("no answer: REFUSED",)),
@@ -287,7 +301,7 @@ ROWS = (
     Row("another DS", "ds", changed(DS={"records": (ds(OTHER),)}), ("DS 46352, not 64103",), 3),
     Row("a DS more", "ds", changed(DS={"records": (ds(KSK), ds(OTHER))}),
         ("DS 46352,64103, not 64103",)),
-    Row("no authority", "ds", honest(ABOVE, no_authority),
+    Row("no authority", "ds", honest(extra=no_authority),
         ("no answer: it has no authority for the zone",)),
 )
 ROWS += (
@@ -302,6 +316,10 @@ ROWS += (
         ("the signature of NS by 46350 has expired at 274",), 3),
     Row("CDS is in", "state", honest({**RIGHT, "CDS": Set((f"C{ds(KSK)}",), (KSK, NEW))}),
         ("gives CDS still",)),
+    Row("the zone has expired", "beside", changed(SOA={"end": 274}),
+        ("the signature of SOA by 10133 has expired at 274",), 3),
+    Row("the zone by both", "beside", changed(SOA={"by": (OLD, NEW)}),
+        ("signed by 10133,46350, not 10133",)),
     Row("all is empty", "state", honest({}), (
         "DNSKEY none, not 10133,46350,64103", "no signature by 64103",
         "signed by none, not 46350", "no SOA record", "NS signed by none, not 46350",
@@ -322,24 +340,33 @@ def of_rows(servers, port: int):
     """What the command says of each row, otherwise than it has to."""
     asked = ["--server", FIRST, "--server", SECOND, "--parent-server", PARENT, "--port", port]
     for row in ROWS:
-        for address, server in servers.items():
-            server.answer = honest(ABOVE if address == PARENT else RIGHT)
+        for server in servers.values():
+            server.answer = honest()
         liar = PARENT if row.step == "ds" else SECOND
         servers[liar].answer = row.answer
-        yield from of_state(row, liar, asked)
-        if row.step == "state":
-            continue
-        text, status = typed(["watch", f"{row.step}.script", *asked, "--json"], NOW)
-        told = json.loads(text) if text.startswith("{") else {"lacking": [], "next": []}
-        wanted = sorted((liar, it) for it in row.says)
-        found = [(it["server"], it["text"]) for it in told["lacking"]]
-        nexts = [it.startswith(REPORT[row.step]) for it in told["next"]]
-        if (found, status, nexts) != (wanted, int(bool(wanted)), [True] * (not wanted)):
-            yield f"liars: {row.step}, {row.name}: {status}: {text}"
+        if row.step != "beside":
+            yield from of_state(row, liar, asked)
+        if row.step != "state":
+            yield from of_watch(row, liar, asked)
+
+
+def of_watch(row: Row, liar: str, asked: list):
+    """What `watch` says otherwise than it has to: of the kind that is awaited, or of others."""
+    step, is_beside = ("dnskey", True) if row.step == "beside" else (row.step, False)
+    NOW_RIGHT.update(world(step))
+    text, status = typed(["watch", f"{step}.script", *asked, "--json"], NOW)
+    told = json.loads(text) if text.startswith("{") else {"lacking": [], "beside": [], "next": []}
+    found = [(it["server"], it["text"]) for it in told["beside" if is_beside else "lacking"]]
+    is_due = [it.startswith(REPORT[step]) for it in told["next"]]
+    wanted = sorted((liar, it) for it in row.says)
+    is_right = found == wanted and is_due == [True] * (is_beside or not wanted)
+    if not is_right or bool(status) != bool(wanted) or is_beside and status != (row.state or 1):
+        yield f"liars: {row.step}, {row.name}: {status}: {text}"
 
 
 def of_state(row: Row, liar: str, asked: list):
     """The state of these servers, otherwise than it has to be."""
+    NOW_RIGHT.update(world("state"))
     text, status = typed(["watch", "zone.script", "--state", *asked, "--json"], NOW)
     told = json.loads(text) if text.startswith("{") else {"lacking": [], "rows": []}
     found = {(it["server"], it["text"]) for it in told["lacking"]}
@@ -422,7 +449,7 @@ def of_found(servers, port: int):
     nearest.nameservers, nearest.port = [RESOLVER], port
     dns.resolver.default_resolver = nearest
     for row in FOUND:
-        own = {**RIGHT, "NS": Set(row.own, (NEW,))}
+        own = {**world("dnskey"), "NS": Set(row.own, (OLD,))}
         servers[FIRST].answer = servers[SECOND].answer = honest(own)
         servers[PARENT].answer = honest({**ABOVE, "NS": Set(row.above)}, as_referral)
         servers[RESOLVER].answer = row.resolver

@@ -73,6 +73,15 @@ class Look:
                 lacks += (Lack(kind, str(server), text) for text in texts)
         return sorted(lacks)
 
+    def wrong(self, kinds) -> list[Lack]:
+        """What is wrong in the answers of these kinds, of those who have answered."""
+        return sorted(
+            Lack(kind, str(server), text)
+            for (kind, type_, server), answer in self.answers.items()
+            if kind in kinds and not answer.fault
+            for text in comparing.lacks(self.due, type_, answer, self.now)
+        )
+
     def ttl(self, kind: str) -> int:
         """The highest TTL of this kind that was seen."""
         return max((it.ttl for (of, _, _), it in self.answers.items() if of == kind), default=0)

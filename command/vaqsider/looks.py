@@ -9,9 +9,11 @@ import json
 import os
 from dataclasses import asdict, dataclass
 from pathlib import Path
+from typing import BinaryIO
 
 from keyset import notes
-from typing import BinaryIO
+
+from . import place
 
 
 @dataclass(frozen=True)
@@ -46,7 +48,7 @@ def keep(script: str | Path, kept: Kept) -> None:
         file.write(f"{json.dumps(asdict(kept))}\n".encode("ascii"))
         file.flush()
         os.fsync(file.fileno())
-        os.replace(draft, path)
+        place.put(draft, path)
 
 
 def _alone(draft: Path) -> BinaryIO:

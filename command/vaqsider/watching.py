@@ -9,10 +9,12 @@ from dataclasses import asdict
 from keyset import Locked, Notes
 from keyset.notes import Seen, to_report
 
-from . import calling, comparing, looking, parents, status, words
-from .errors import DUE, OK, UNAVAILABLE, Failure
+from . import calling, chains, comparing, looking, parents, status, words
+from .errors import BROKEN, DUE, OK, UNAVAILABLE, Failure
 from .looking import Lack, Look, Places
 
+# What servers of the zone are asked for in any case.
+OF_ZONE = ("dnskey", "ns", "zone")
 CDS_OUT = "take CDS and CDNSKEY out by 'vaqsider act --no-cds', then 'vaqsider watch --call'"
 
 
@@ -23,6 +25,8 @@ class Watcher:
     def __init__(self, args, clock, progress):
         self.args, self.clock, self.progress, self.made = args, clock, progress, {}
         self.lacking: list[Lack] = []
+        self.beside: list[Lack] = []
+        self.broken: list[str] = []
         self.asked: dict[str, list[str]] = {}
 
     def run(self) -> None:
@@ -69,16 +73,19 @@ class Watcher:
             self.judge(look, kinds)
 
     def ask(self, told: dict, kinds: list[str]) -> Look:
-        """What all servers give of these kinds; if the DS set is awaited, whether CDS is out; and
-        for the notes the DS set in any case."""
+        """What all servers give of these kinds and of the others; if the DS set is awaited, also
+        whether CDS is out."""
         due = comparing.Due.of(told, comparing.folders_of(self.args))
         places = Places.of(due.zone, self.args)
-        also = ["cds"] if "ds" in kinds else ["ds"] if self.notes.lines and places.parent else []
-        return looking.look(due, [*kinds, *also], places, self.clock())
+        also = ["cds"] if "ds" in kinds else ["ds"] if places.parent else []
+        asked = dict.fromkeys([*kinds, *also, *OF_ZONE])
+        return looking.look(due, asked, places, self.clock())
 
     def judge(self, look: Look, kinds: list[str]) -> None:
-        """Says what is lacking, and notes which sets are everywhere."""
-        self.lacking = look.lacking(kinds)
+        """Says what is lacking, and what is wrong in sets that nothing waits for, and notes which
+        sets are everywhere."""
+        self.lacking, self.broken = look.lacking(kinds), list(chains.broken(look))
+        self.beside = look.wrong({*OF_ZONE, "ds"} - set(kinds))
         there = {kind: look.ttl(kind) for kind in kinds if not self.lacks([kind])}
         if there and self.notes.lines:
             now = math.ceil(self.clock())
@@ -86,8 +93,8 @@ class Watcher:
             self.notes.everywhere(there, now)
         if "ds" in there:
             self.lacking += look.lacking(["cds"])
-        self.asked = {"servers": look.servers(["dnskey", "zone", "cds"]),
-                      "parents": look.servers(["ds"])}
+        self.asked = {"servers": look.servers({*kinds, "cds"} - {"ds"}),
+                      "parents": look.servers({"ds"} & set(kinds))}
 
     def lacks(self, kinds) -> set[str]:
         """What servers lack of these kinds; CDS has to be out after a DS set."""
@@ -113,11 +120,13 @@ class Watcher:
         return f"{word} {roll} {'TTL' if ttl is None else ttl} {now}"
 
     def status(self) -> int:
-        return max([DUE if self.lacking else OK, *(made.status for made in self.made.values())])
+        seen = BROKEN if self.broken else DUE if self.lacking or self.beside else OK
+        return max([seen, *(made.status for made in self.made.values())])
 
     def text(self):
         """For people: which server lacks what, and what comes next in each roll."""
-        yield from map(str, sorted(self.lacking))
+        yield from dict.fromkeys(map(str, sorted(self.lacking + self.beside)))
+        yield from self.broken
         if self.asked and not self.lacking:
             yield from (f"all have it: {', '.join(of)}" for of in self.asked.values() if of)
         yield from (line for made in self.made.values() for line in made.text())
@@ -129,12 +138,14 @@ class Watcher:
             else:
                 yield f"next: {self.line(roll)}"
         if not (self.rolls or self.made):
-            yield "nothing is to be watched"
+            yield "nothing is to be watched: --state shows what servers give"
 
     def as_json(self) -> dict:
         ready = [roll for roll in filter(self.rolls.get, self.ready()) if roll not in self.made]
         return {
             "lacking": list(map(asdict, self.lacking)),
+            "beside": list(map(asdict, self.beside)),
+            "broken": self.broken,
             "asked": self.asked,
             "next": [self.line(roll) for roll in ready],
             "made": [vars(made) for made in self.made.values()],
