@@ -210,7 +210,7 @@ class Files(unittest.TestCase):
             with self.assertRaises(Locked):
                 KeySet.open(self.path)
         with open(self.path, "a") as file:
-            file.write("add-zsk Z")
+            file.write(f"add-zsk {'Z' * 99}")
         with self.assertRaises(Torn) as torn:
             KeySet.open(self.path)
         self.assertEqual(torn.exception.line, 3)
