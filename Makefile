@@ -5,13 +5,13 @@ PREFIX ?= /usr/local
 DESTDIR ?=
 RUNS ?= 1000000
 
-# The Python of the tests: the first that has dnspython and cryptography. A Python that isn't
-# Debian's, as one of pyenv, doesn't see what apt-get installs.
+# The Python of the tests: the first that has dnspython, cryptography and jsonschema. A Python that
+# isn't Debian's, as one of pyenv, doesn't see what apt-get installs.
 PYTHON ?= $(shell for python in python3 /usr/bin/python3; do \
-	if $$python -c 'import dns, cryptography' 2>/dev/null; then echo $$python; exit; fi; \
+	if $$python -c 'import dns, cryptography, jsonschema' 2>/dev/null; then echo $$python; exit; fi; \
 	done; echo python3)
 # Debian's packages that the gate needs, beside compilers.
-PACKAGES = python3-dnspython python3-cryptography
+PACKAGES = python3-dnspython python3-cryptography python3-jsonschema
 
 PROGRAM = crates/keyset/out/keyset
 PARTS = dnssec_base dnssec_key dnssec_zone dnssec_keyset dnssec_run dnssec_sets dnssec_judge \
@@ -124,7 +124,7 @@ python:
 	@python3 -c 'import sys; sys.exit(sys.version_info < (3, 9))' || \
 		{ echo 'python3 is missing here: 3.9 or later is needed' >&2; exit 1; }
 modules: python
-	@$(PYTHON) -c 'import dns, cryptography' 2>/dev/null || \
+	@$(PYTHON) -c 'import dns, cryptography, jsonschema' 2>/dev/null || \
 		{ echo 'missing here, and needed: apt-get install $(PACKAGES)' >&2; exit 1; }
 packages:
 	@echo $(PACKAGES)

@@ -10,7 +10,7 @@ A fenced block that shows a script, answers or a source names its file after the
 
 This block has the lines from 10 on, each call with its answer after it, and at the end the lines of
 the published sets and of the chain. Without `answered` a block has only the lines, and without a
-range all of them.
+range all of them. A block of `json` has the value of its file, on other lines.
 
 What is compared:
 
@@ -22,6 +22,7 @@ What is compared:
 - each link with the file and the heading that it leads to.
 """
 
+import json
 import re
 import subprocess
 import sys
@@ -127,6 +128,8 @@ class Document:
         if not (TOP / path).is_file():
             self.fault(number, f"there is no {path}")
             return body
+        if match["language"] == "json":
+            return self.value(number, path, body)
         wanted = rendered(path, how)
         if body != wanted:
             self.fault(number, f"the block differs from {path}")
@@ -134,6 +137,12 @@ class Document:
         if path.endswith(".script") and "answered" not in how:
             self.shown = (TOP / path).with_suffix(".answers").read_text().splitlines()
         return wanted
+
+    def value(self, number, path, body):
+        """The lines of a block that shows a value."""
+        if json.loads("\n".join(body)) != json.loads((TOP / path).read_text()):
+            self.fault(number, f"the value differs from that of {path}")
+        return body
 
     def text(self, number, line):
         if line.startswith("#"):

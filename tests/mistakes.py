@@ -42,7 +42,7 @@ with KeySet.open("example.com.script", allow_refused=True) as keys:
     keys.keys()["K1"].stamps["vizible"]  # a stamp that isn't there
     keys.rolls()[roll].waits_for == "caches"
     keys.rolls()[roll].waits_for == "cache"  # nobody is called so
-    keys.status()["keys"][0]["roles"][0]["state"] == "retired"
+    keys.status()["keys"][0]["roles"][0]["state"] == "leaving"
     keys.status()["keys"][0]["roles"][0]["state"] == "retried"  # a state that isn't there
     keys.status()["kyes"]  # a member that isn't there
     keys.published.ds[0].lower()

@@ -3,11 +3,12 @@
 
     tests/sessions.py FOLDER    takes the library that `make lib` has left there
 
-Each status is JSON of one shape. Its sets and its verdict are those of the closing lines. What the
-status says can be done is tried on a copy of the session. A key that may be deleted can be, and no
-other. A wait is accepted at its moment, and refused a second before. The next call of a roll is
-accepted, and no other call of that roll. For listed keys and early ends the status says what the
-lines say.
+Each status is JSON of one shape, and the last one of a script meets the schema. Its sets and its
+verdict are those of the closing lines. What the status says can be done is tried on a copy of the
+session. A key that may be deleted can be, and no other. Between rolls some start takes in a key
+that may come in, and none another. A wait is accepted at its moment, and refused a second before.
+The next call of a roll is accepted, and no other call of that roll. For listed keys and early ends
+the status says what the lines say.
 """
 
 import ctypes
@@ -15,13 +16,19 @@ import json
 import sys
 from pathlib import Path
 
+from jsonschema.validators import validator_for
+
 from tools import TOP, Wrong
 
+SCHEMA = json.loads((TOP / "docs" / "status.schema.json").read_text())
 STORED = TOP / "replay" / "scripts.txt"
 
 ROOM = 1 << 16
-# The latest moment that a script can say.
-LATE = (1 << 64) - 1
+# The latest moment that a script can say, and a moment after all that a script can say.
+LATE, PAST = (1 << 64) - 1, "past-time"
+# A roll of each side, and why none of them takes in a key.
+STARTS = ("ksk-roll", "zsk-roll", "algorithm-roll")
+NOT_TAKEN = ("refused: key has the wrong type\n", "refused: key is in the wrong state\n")
 
 SIDES = {
     "ksk-roll": "k",
@@ -155,8 +162,7 @@ class Lines:
                     keys[:] = [key for key in keys if key != fields[0]]
 
     def rolls_of(self, part, reference):
-        listed = ((roll, key) for roll, parts in self.listed.items() for key in parts[part])
-        return [roll for roll, key in listed if key == reference]
+        return [roll for roll in ORDER if reference in self.listed.get(roll, [[], []])[part]]
 
 
 def is_ok(answer):
@@ -176,24 +182,56 @@ def calls_of(roll, moment):
 def expect_roll(library, handle, roll, counts):
     name, end = roll["roll"], roll["not_before"]
     for word, line in calls_of(name, LATE).items():
-        is_over = end is not None and end <= LATE
+        is_over = end not in (None, PAST)
         accepted = word == roll["next"] and (not word.startswith("wait") or is_over)
         expect(is_ok(library.would(handle, line)) == accepted, f"{line}: next is {roll['next']}")
         counts["next"] += accepted
     if end is not None:
         wait = f"{roll['next']} {name}"
-        if end <= LATE:
+        if end == PAST:
+            end = LATE + 1
+        else:
             expect(is_ok(library.would(handle, f"{wait} {end}")), f"{wait} {end}")
         # (If nothing is waited for, there may be no second before.)
-        if 0 < end <= LATE + 1:
+        if end > 0:
             early = library.would(handle, f"{wait} {end - 1}")
             expect(early.startswith("refused: wait for duration"), f"{wait} {end - 1}: {early}")
         counts["waits"] += 1
+    elif roll["next"].startswith("wait"):
+        # A key lacks its stamp, so no moment is late enough.
+        late = library.would(handle, f"{roll['next']} {name} {LATE}")
+        expect(not late.startswith("refused: wait for duration"), f"{name}: {late}")
     if "UpdateDsRrset" in roll["due"]:
         expect(roll["waits_for"] == "parent", "it waits for the parent")
     else:
         waits = roll["next"].startswith("wait")
         expect(roll["waits_for"] == ("caches" if waits else "you"), "whom it waits for")
+
+
+def state_of(role):
+    """The word for a role: docs/SCRIPTS.md has its table. At work a KSK role has a DS, too."""
+    has_ds = role["at_parent"] or role["role"] != "ksk"
+    if not any(role[flag] for flag in ("signer", "present", "at_parent")):
+        return "stale" if role["old"] else "future"
+    if role["old"]:
+        return "leaving"
+    return "active" if role["signer"] and role["present"] and has_ds else "incoming"
+
+
+def expect_key(library, handle, key, lines, counts):
+    reference = key["reference"]
+    deleted = is_ok(library.would(handle, f"delete {reference}"))
+    expect(deleted == key["may_be_deleted"], f"delete {reference}")
+    counts["deletions"] += deleted
+    for role in key["roles"]:
+        expect(role["state"] == state_of(role), f"{reference}: its state")
+    expect(key["old_in"] == lines.rolls_of(0, reference), f"{reference}: old in")
+    expect(key["new_in"] == lines.rolls_of(1, reference), f"{reference}: new in")
+    if not lines.listed:
+        told = {library.would(handle, f"start {roll} - {reference} {LATE}") for roll in STARTS}
+        taken = bool(told.difference(NOT_TAKEN))
+        expect(taken == key["may_come_in"], f"start of {reference}: {told}")
+        counts["starts"] += taken
 
 
 def expect_status(library, handle, lines, counts):
@@ -203,14 +241,7 @@ def expect_status(library, handle, lines, counts):
     expect_shape(status)
     expect(closing_of(status) == library.text("closing", handle), "the closing lines")
     for key in status["keys"]:
-        reference = key["reference"]
-        deleted = is_ok(library.would(handle, f"delete {reference}"))
-        expect(deleted == key["may_be_deleted"], f"delete {reference}")
-        counts["deletions"] += deleted
-        stale = all(role["state"] == "stale" and not role["at_parent"] for role in key["roles"])
-        expect(stale == key["may_be_deleted"], f"{reference}: its states")
-        expect(key["old_in"] == lines.rolls_of(0, reference), f"{reference}: old in")
-        expect(key["new_in"] == lines.rolls_of(1, reference), f"{reference}: new in")
+        expect_key(library, handle, key, lines, counts)
     expect({roll["roll"] for roll in status["rolls"]} == set(lines.listed), "the rolls")
     for roll in status["rolls"]:
         expect_roll(library, handle, roll, counts)
@@ -241,13 +272,15 @@ def play(library, script, answers, counts):
             expect(one["due"] == due[one["roll"]], f"{line}: what is due")
         for one in status["ended"]:
             expect(one["asked"] == due[one["roll"]], f"{line}: what an early end asked")
+    faults = [fault.message for fault in validator_for(SCHEMA)(SCHEMA).iter_errors(status)]
+    expect(not faults, f"the schema: {faults}")
     library.close(handle)
 
 
 def main():
     folder = Path(sys.argv[1]).resolve()
     library = Library(folder / "lib" / "libkeyset.so")
-    counts = dict.fromkeys(("statuses", "deletions", "waits", "next"), 0)
+    counts = dict.fromkeys(("statuses", "deletions", "starts", "waits", "next"), 0)
     for name, script, answers in stored_scripts():
         try:
             play(library, script, answers, counts)
@@ -259,7 +292,8 @@ def main():
         return 1
     print(
         f"{counts['statuses']} statuses are as the lines say; on copies {counts['deletions']}"
-        f" deletions, {counts['waits']} waits and {counts['next']} next calls went as they say"
+        f" deletions, {counts['starts']} starts, {counts['waits']} waits and {counts['next']} next"
+        " calls went as they say"
     )
     return 0
 

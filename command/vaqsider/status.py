@@ -44,7 +44,7 @@ def read(path, now):
 def at(told, now):
     """The status at this moment: if a wait is over, it waits for you."""
     for roll in told["rolls"]:
-        if roll["not_before"] is not None and roll["not_before"] <= now:
+        if isinstance(roll["not_before"], int) and roll["not_before"] <= now:
             roll["waits_for"] = YOU
     return told
 
@@ -53,8 +53,10 @@ def comes_next(roll):
     """The next call of a roll, in a line's form, with the moment that it waits for."""
     fields = {"ROLL": roll["roll"], "TTL": "TTL", "TIME": "now"}
     call = " ".join([roll["next"], *(fields[name] for name in FORMS[roll["next"]].split())])
-    if roll["not_before"] is not None:
+    if isinstance(roll["not_before"], int):
         return f"{call}, from {words.moment(roll['not_before'])} on"
+    if roll["not_before"] is not None:
+        return f"{call}, at no moment that a call can name"
     lacks_stamp = roll["next"].startswith("wait")
     return f"{call}, once the key that it checks has its stamp" if lacks_stamp else call
 

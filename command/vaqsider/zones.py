@@ -43,7 +43,8 @@ def zones(folder, now, progress=lambda done, of: None, counts=False):
 def _of_status(told, now):
     """The zone's name, its verdict, whom it waits for, and until when."""
     waits = [roll for roll in told["rolls"] if roll["waits_for"] == status.CACHES]
-    moment = min((it["not_before"] for it in waits if it["not_before"]), default=None)
+    ends = [it["not_before"] for it in waits if isinstance(it["not_before"], int)]
+    moment = min((end for end in ends if end), default=None)
     waiting = {roll["waits_for"] for roll in told["rolls"]}
     waiting |= {status.YOU for _ in told["ended"]}
     who = next((who for who in status.WAITING if who in waiting), "nobody")

@@ -1,6 +1,6 @@
 -- The rolls of a status: those in progress, and those that were ended early.
-use Rattle.std.specs.Prelude.{◌≡◌, ℕ, ◌+◌, ◌/◌, Bool, true, false, if◌then◌else◌, List, [], ◌∷◌}
-use Rattle.std.specs.Prelude.{◌++◌, map, Option, Some, None, codes, decimal}
+use Rattle.std.specs.Prelude.{◌≡◌, ℕ, ◌+◌, ◌/◌, Bool, true, false, if◌then◌else◌, List, []}
+use Rattle.std.specs.Prelude.{◌∷◌, ◌++◌, map, Option, Some, None, codes, decimal, nat_le}
 use Rattle.std.specs.List.{All, flat_map, list_any}
 use Rattle.dnssec_key.specs.declared.roll.Action.{Action}
 use Rattle.dnssec_key.specs.declared.roll.Action.TheVariants.{UpdateDsRrset}
@@ -53,14 +53,19 @@ phase_json (CacheExpire2 ttl) =
 phase_json Done = codes ",\"phase\":\"done\",\"ttl\":null,\"next\":\"done\""
 
 -- the first whole second that is not before a moment
-unfoldable pub next_second : ℕ → List ℕ
-next_second moment = decimal ((moment + 999_999_999) / 1_000_000_000)
+abbrev pub second_from : ℕ → ℕ
+second_from moment = (moment + 999_999_999) / 1_000_000_000
+
+-- a second, if a call can name it: the last one is 2 ^ 64 - 1
+unfoldable pub second_json : ℕ → List ℕ
+second_json second =
+    if nat_le second 18_446_744_073_709_551_615 then decimal second else codes "\"past-time\""
 
 -- the first whole second from which its wait is accepted
 unfoldable pub end_json : Option WaitEnd → List ℕ
 end_json None = codes "null"
-end_json (Some (At moment)) = next_second moment
-end_json (Some PastTime) = codes "null"
+end_json (Some (At moment)) = second_json (second_from moment)
+end_json (Some PastTime) = codes "\"past-time\""
 
 -- it is an update of the DS set, which only the parent can publish
 abbrev pub is_for_parent : Action → Bool

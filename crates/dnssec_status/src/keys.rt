@@ -1,22 +1,26 @@
 //! The keys of a status.
 ghost use Rattle.std.specs.Prelude.{◌≡◌, ◌++◌, OnOk, IfOk, codes, map, string_bytes};
 ghost use Rattle.std.specs.FinMap as fin;
+ghost use Rattle.std.specs.List.{list_any};
 ghost use Rattle.std.specs.Option.{option_map};
 ghost use denote.Bor.{now};
 ghost use Rattle.dnssec_key.specs.declared.kind.KeyType.TheVariants as KeyType;
+ghost use Rattle.dnssec_key.specs.State.{is_active_ksk, is_active_zsk, is_future, is_leaving};
+ghost use Rattle.dnssec_key.specs.State.{is_used};
 ghost use Rattle.dnssec_record.specs.Courses.{as_listed};
-ghost use Rattle.dnssec_status.specs.Inner.Entries.{entry_json, entry_of};
+ghost use Rattle.dnssec_status.specs.Inner.Entries.{entry_json, entry_of, lists, roll_if_listed};
 ghost use Rattle.dnssec_status.specs.Json.{array_json, further_json, option_json, text_json};
-ghost use Rattle.dnssec_status.specs.Keys.{end_json, flags_json, front_json, key_json, kind_json};
-ghost use Rattle.dnssec_status.specs.Keys.{role_json, roll_of, rolls_of, same_part, seconds};
+ghost use Rattle.dnssec_status.specs.Keys.{end_json, flags_json, front_json, key_json};
+ghost use Rattle.dnssec_status.specs.Keys.{is_listed_by_some, kind_json, may_come_in, role_json, rolls_of};
+ghost use Rattle.dnssec_status.specs.Keys.{same_part, seconds, stamps_json, state_word, traits_json};
 ghost use Rattle.dnssec_status.specs.Names.{roll_json};
-ghost use Rattle.dnssec_status.specs.Keys.{stamps_json, state_word, traits_json};
 ghost use Rattle.dnssec_zone.specs.Keys.{keys_in_map};
 
 use crate::json::{push_bytes, push_flag, push_null, push_number, push_text};
 use crate::names::push_roll_names;
 use dnssec_keyset::{Key, KeyState, KeyTimestamps, KeyType, RollType, UnixTime};
 use dnssec_record::{Listed, Part};
+use dnssec_zone::all_rolls;
 use std::alloc::{AllocError, Global};
 use std::collections::HashMap;
 use std::time::Duration;
@@ -118,7 +122,7 @@ fn push_end(
     ensures { OnOk result (out.new.items ≡ out.old.items ++ end_json
         (map as_listed listed.now) (string_bytes reference.now) key.now.keytype) }
 {
-    push_flag(out, b",\"may_come_in\":", key.is_fresh())?;
+    push_flag(out, b",\"may_come_in\":", may_come_in(key))?;
     push_flag(out, b",\"may_be_deleted\":", key.is_stale())?;
     push_bytes(out, b",\"old_in\":")?;
     push_rolls_of(alloc, out, listed, Part::Old, reference)?;
@@ -126,6 +130,23 @@ fn push_end(
     push_rolls_of(alloc, out, listed, Part::New, reference)?;
     push_bytes(out, b"}")?;
     Ok(())
+}
+
+/// Whether some roll takes the key in.
+fn may_come_in(key: &Key) -> bool
+    ensures { result ≡ may_come_in key.now.keytype }
+{
+    is_listed_by_some(key.keytype()) && key.is_fresh()
+}
+
+/// Whether some roll may list keys of this kind. None lists those of another signer.
+fn is_listed_by_some(keytype: KeyType) -> bool
+    ensures { result ≡ is_listed_by_some keytype }
+{
+    match keytype {
+        KeyType::Ksk(_) | KeyType::Zsk(_) | KeyType::Csk(_, _) => true,
+        KeyType::Include(_) => false,
+    }
 }
 
 /// Writes the names of the rolls that listed a key as this.
@@ -143,7 +164,7 @@ fn push_rolls_of(
     push_roll_names(out, &rolls)
 }
 
-/// The rolls that listed a key as this.
+/// The rolls that listed a key as this, in the order of their kinds.
 fn rolls_of(
     alloc: Global,
     listed: &[Listed],
@@ -154,26 +175,46 @@ fn rolls_of(
         ≡ rolls_of part (string_bytes reference.now) (map as_listed listed.now)) }
 {
     let mut rolls = Vec::new(alloc);
-    for key in listed {
-        note(&mut rolls, key, part, reference)?;
+    for roll in all_rolls() {
+        note(&mut rolls, listed, *roll, part, reference)?;
     }
     Ok(rolls)
 }
 
-/// Notes the roll, if it lists this key in this part.
+/// Notes the roll, if it listed a key as this.
 fn note(
     rolls: &mut Vec<RollType>,
-    key: &Listed,
+    listed: &[Listed],
+    roll: RollType,
     part: Part,
     reference: &String,
 ) -> Result<(), AllocError>
     ensures { OnOk result (rolls.new.items ≡ rolls.old.items
-        ++ roll_of part (string_bytes reference.now) (as_listed key.now)) }
+        ++ roll_if_listed roll part (string_bytes reference.now) listed.now) }
 {
-    if same_part(part, key.part) && *reference == key.reference {
-        rolls.push(key.roll)?;
+    if is_listed(listed, roll, part, reference) {
+        rolls.push(roll)?;
     }
     Ok(())
+}
+
+/// Whether the roll listed a key as this.
+fn is_listed(listed: &[Listed], roll: RollType, part: Part, reference: &String) -> bool
+    ensures { result ≡ list_any (lists roll part (string_bytes reference.now)) listed.now }
+{
+    for key in listed {
+        if lists(key, roll, part, reference) {
+            return true;
+        }
+    }
+    false
+}
+
+/// Whether this is a listing of the key for the roll and as this part.
+fn lists(listed: &Listed, roll: RollType, part: Part, reference: &String) -> bool
+    ensures { result ≡ lists roll part (string_bytes reference.now) listed.now }
+{
+    roll == listed.roll && same_part(part, listed.part) && *reference == listed.reference
 }
 
 /// Whether the two parts are one.
@@ -249,10 +290,19 @@ fn push_kind(out: &mut Vec<u8>, keytype: KeyType) -> Result<(), AllocError>
     ensures { OnOk result (out.new.items ≡ out.old.items ++ kind_json keytype) }
 {
     match keytype {
-        KeyType::Ksk(state) => push_only(out, b"\"ksk\",\"roles\":[", "ksk", state),
-        KeyType::Zsk(state) => push_only(out, b"\"zsk\",\"roles\":[", "zsk", state),
+        KeyType::Ksk(state) => {
+            let is_active = is_active_ksk(state);
+            push_only(out, b"\"ksk\",\"roles\":[", "ksk", is_active, state)
+        }
+        KeyType::Zsk(state) => {
+            let is_active = is_active_zsk(state);
+            push_only(out, b"\"zsk\",\"roles\":[", "zsk", is_active, state)
+        }
         KeyType::Csk(ksk, zsk) => push_csk(out, ksk, zsk),
-        KeyType::Include(state) => push_only(out, b"\"public\",\"roles\":[", "public", state),
+        KeyType::Include(state) => {
+            let is_active = is_active_zsk(state);
+            push_only(out, b"\"public\",\"roles\":[", "public", is_active, state)
+        }
     }
 }
 
@@ -262,13 +312,14 @@ fn push_only(
     out: &mut Vec<u8>,
     before: &[u8],
     role: &str,
+    is_active: bool,
     state: KeyState,
 ) -> Result<(), AllocError>
     ensures { OnOk result (out.new.items ≡ out.old.items
-        ++ (before.now ++ role_json role.now state ++ codes "]")) }
+        ++ (before.now ++ role_json role.now is_active state ++ codes "]")) }
 {
     push_bytes(out, before)?;
-    push_role(out, role, state)?;
+    push_role(out, role, is_active, state)?;
     push_bytes(out, b"]")?;
     Ok(())
 }
@@ -278,43 +329,82 @@ fn push_csk(out: &mut Vec<u8>, ksk: KeyState, zsk: KeyState) -> Result<(), Alloc
     ensures { OnOk result (out.new.items ≡ out.old.items ++ kind_json (KeyType.Csk ksk zsk)) }
 {
     push_bytes(out, b"\"csk\",\"roles\":[")?;
-    push_role(out, "ksk", ksk)?;
+    push_role(out, "ksk", is_active_ksk(ksk), ksk)?;
     push_bytes(out, b",")?;
-    push_role(out, "zsk", zsk)?;
+    push_role(out, "zsk", is_active_zsk(zsk), zsk)?;
     push_bytes(out, b"]")?;
     Ok(())
 }
 
-/// Writes the state of a role.
-fn push_role(out: &mut Vec<u8>, role: &str, state: KeyState) -> Result<(), AllocError>
-    ensures { OnOk result (out.new.items ≡ out.old.items ++ role_json role.now state) }
+/// Writes a role, given whether it is at work.
+fn push_role(
+    out: &mut Vec<u8>,
+    role: &str,
+    is_active: bool,
+    state: KeyState,
+) -> Result<(), AllocError>
+    ensures { OnOk result (out.new.items ≡ out.old.items ++ role_json role.now is_active state) }
 {
     push_bytes(out, b"{\"role\":\"")?;
     push_bytes(out, role.as_bytes())?;
     push_bytes(out, b"\",\"state\":\"")?;
-    push_bytes(
-        out,
-        state_word(state.old(), state.signer(), state.present()).as_bytes(),
-    )?;
+    push_bytes(out, state_word(is_active, state).as_bytes())?;
     push_bytes(out, b"\"")?;
     push_flags(out, state)?;
     push_bytes(out, b"}")
 }
 
-/// One word for a role's state.
+/// One word for a role's state, given whether it is at work.
 #[tactic(auto, unfolding(crate::specs::Keys::state_word))]
-fn state_word(old: bool, signer: bool, present: bool) -> &'static str
-    ensures { result.now ≡ state_word old signer present }
+fn state_word(is_active: bool, state: KeyState) -> &'static str
+    ensures { result.now ≡ state_word is_active state }
 {
-    match (old, signer, present) {
-        (false, false, false) => "future",
-        (false, false, true) => "incoming",
-        (false, true, true) => "active",
-        (true, true, true) => "leaving",
-        (true, false, true) => "retired",
-        (true, false, false) => "stale",
-        (_, true, false) => "signer",
+    if is_active {
+        "active"
+    } else if is_future(state) {
+        "future"
+    } else if state.stale() {
+        "stale"
+    } else if is_leaving(state) {
+        "leaving"
+    } else {
+        "incoming"
     }
+}
+
+/// Whether a role has not begun to come in.
+fn is_future(state: KeyState) -> bool
+    ensures { result ≡ is_future state }
+{
+    !state.old() && !is_used(state)
+}
+
+/// Whether a role is leaving, and not yet gone.
+fn is_leaving(state: KeyState) -> bool
+    ensures { result ≡ is_leaving state }
+{
+    state.old() && is_used(state)
+}
+
+/// Whether a KSK role is at work.
+fn is_active_ksk(state: KeyState) -> bool
+    ensures { result ≡ is_active_ksk state }
+{
+    is_active_zsk(state) && state.at_parent()
+}
+
+/// Whether a ZSK role is at work.
+fn is_active_zsk(state: KeyState) -> bool
+    ensures { result ≡ is_active_zsk state }
+{
+    !state.old() && state.present() && state.signer()
+}
+
+/// Whether a role signs, is in the DNSKEY set, or has a DS at the parent.
+fn is_used(state: KeyState) -> bool
+    ensures { result ≡ is_used state }
+{
+    state.signer() || state.present() || state.at_parent()
 }
 
 /// Writes the flags of a role's state.

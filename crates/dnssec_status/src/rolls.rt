@@ -1,12 +1,12 @@
 //! The rolls of a status.
-ghost use Rattle.std.specs.Prelude.{◌≡◌, ◌++◌, IfOk, OnOk, decimal, map};
+ghost use Rattle.std.specs.Prelude.{◌≡◌, ◌++◌, IfOk, OnOk, codes, decimal, map};
 ghost use Rattle.std.specs.List.{All, list_any};
 ghost use Rattle.dnssec_keyset.specs.WaitEnd.{TellsEnd};
 ghost use Rattle.dnssec_status.specs.Json.{array_json, further_json};
 ghost use Rattle.dnssec_status.specs.Rolls.{end_json, ended_json, going_json};
 ghost use Rattle.dnssec_status.specs.Rolls.{is_for_parent, parts_json, phase_json};
 ghost use Rattle.dnssec_status.specs.Rolls.{phase_pair, rolls_in_progress, waits_for};
-ghost use Rattle.dnssec_status.specs.Rolls.{with_its_phase};
+ghost use Rattle.dnssec_status.specs.Rolls.{second_json, with_its_phase};
 ghost use Rattle.dnssec_status.specs.declared.rolls.Going.{Going as GoingRoll};
 ghost use Rattle.dnssec_zone.specs.Rolls.{phase_of};
 
@@ -172,8 +172,8 @@ fn push_ttl(
     Ok(())
 }
 
-/// Writes the first whole second from which a wait is accepted, or null if it is past all time.
-#[tactic(auto, unfolding(crate::specs::Rolls::end_json, crate::specs::Rolls::next_second))]
+/// Writes the first whole second from which a wait is accepted.
+#[tactic(auto, unfolding(crate::specs::Rolls::end_json))]
 fn push_end(
     alloc: Global,
     out: &mut Vec<u8>,
@@ -183,13 +183,39 @@ fn push_end(
     ensures { OnOk result (out.new.items ≡ (out.old.items ++ before.now) ++ end_json end.now) }
 {
     match end {
-        None | Some(WaitEnd::PastTime) => push_null(out, before),
+        None => push_null(out, before),
+        Some(WaitEnd::PastTime) => push_past_time(out, before),
         Some(WaitEnd::At(moment)) => {
             let nanos = Duration::from(*moment).as_nanos();
-            let second = (nanos + 999_999_999) / 1_000_000_000;
-            push_number(alloc, out, before, second)
+            push_second(alloc, out, before, (nanos + 999_999_999) / 1_000_000_000)
         }
     }
+}
+
+/// Writes a second, or that no call can name it.
+#[tactic(auto, unfolding(crate::specs::Rolls::second_json))]
+fn push_second(
+    alloc: Global,
+    out: &mut Vec<u8>,
+    before: &[u8],
+    second: u128,
+) -> Result<(), AllocError>
+    ensures { OnOk result (out.new.items ≡ (out.old.items ++ before.now) ++ second_json second) }
+{
+    if second <= 18_446_744_073_709_551_615 {
+        push_number(alloc, out, before, second)
+    } else {
+        push_past_time(out, before)
+    }
+}
+
+/// Writes that no call can name the second.
+fn push_past_time(out: &mut Vec<u8>, before: &[u8]) -> Result<(), AllocError>
+    ensures { OnOk result (out.new.items
+        ≡ (out.old.items ++ before.now) ++ codes "\"past-time\"") }
+{
+    push_bytes(out, before)?;
+    push_bytes(out, b"\"past-time\"")
 }
 
 /// Writes for whom a roll waits.

@@ -12,7 +12,7 @@ from .calls import Calls, up
 from .errors import Damaged, Locked, Malformed, OutOfMemory, Torn, WrongArgument, refusal_of
 from .file import Place, Writer
 from .lines import RollType
-from .members import Status
+from .members import Status, WaitEnd
 from .notes import Notes, path_of
 from .session import Guard, Session
 from .values import (
@@ -222,8 +222,9 @@ class KeySet(Calls):
         made = self.rolls().get(roll)
         return made.due if made else []
 
-    def wait_end(self, roll: RollType) -> int | None:
-        """The first second from which the roll's wait is accepted, if it is in one."""
+    def wait_end(self, roll: RollType) -> WaitEnd | None:
+        """The first second from which the roll's wait is accepted, if it is in one; `past-time` if
+        no call can name it."""
         made = self.rolls().get(roll)
         return made.not_before if made else None
 

@@ -2,16 +2,18 @@
 
 from __future__ import annotations
 
-from typing import List, Literal, Optional, TypedDict
+from typing import List, Literal, Optional, TypedDict, Union
 
 SetKind = Literal["ds", "dnskey", "zone"]
 CallWord = Literal["report1", "wait1", "report2", "wait2", "done"]
 ReportWord = Literal["report1", "report2"]
 KeyKind = Literal["ksk", "zsk", "csk", "public"]
 RoleName = Literal["ksk", "zsk", "public"]
-State = Literal["future", "incoming", "active", "leaving", "retired", "stale", "signer"]
+State = Literal["future", "incoming", "active", "leaving", "stale"]
 Phase = Literal["propagation1", "cache-expire1", "propagation2", "cache-expire2", "done"]
 WaitsFor = Literal["you", "parent", "caches"]
+# The first second in which a wait is accepted: a call can name it, or it comes after all of them.
+WaitEnd = Union[int, Literal["past-time"]]
 
 
 class Stamps(TypedDict):
@@ -53,7 +55,7 @@ class RollMembers(TypedDict):
     phase: Phase
     ttl: Optional[int]
     next: CallWord
-    not_before: Optional[int]
+    not_before: Optional[WaitEnd]
     waits_for: WaitsFor
     due: List[str]
 

@@ -19,6 +19,7 @@ from .members import (
     SetKind,
     Stamps,
     State,
+    WaitEnd,
     WaitsFor,
 )
 
@@ -176,13 +177,14 @@ def stamps_of(told: KeyMembers) -> Stamps:
 @dataclass(frozen=True)
 class Roll:
     """A roll in progress: its phase, what is due, the call that comes next, the first second in
-    which a wait is accepted, and for whom it waits: `you`, `parent` or `caches`."""
+    which a wait is accepted (`past-time` if no call can name it), and for whom it waits: `you`,
+    `parent` or `caches`."""
 
     roll: RollType
     phase: Phase
     ttl: int | None
     next: CallWord
-    not_before: int | None
+    not_before: WaitEnd | None
     waits_for: WaitsFor
     due: list[Action]
 

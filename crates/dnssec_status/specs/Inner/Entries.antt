@@ -1,10 +1,14 @@
--- An entry of a map of keys, as a walk lends it.
+-- An entry of a map of keys, as a walk lends it, and a listing as code has it.
 use denote.Ref.{Bor}
-use Rattle.std.specs.Prelude.{ℕ, List, string_bytes}
+use Rattle.std.specs.Prelude.{ℕ, Bool, List, [], ◌∷◌, if◌then◌else◌, string_bytes}
+use Rattle.std.specs.List.{list_any}
 use Rattle.std.specs.declared.string.String.{String}
 use Rattle.dnssec_key.specs.Key.{KeyParts}
-use Rattle.dnssec_record.specs.Courses.{Listed}
-use Rattle.dnssec_status.specs.Keys.{key_json}
+use Rattle.dnssec_key.specs.declared.roll.RollType.{RollType}
+use Rattle.dnssec_record.specs.Courses.{Listed, as_listed}
+use Rattle.dnssec_record.specs.declared.courses.Listed as code
+use Rattle.dnssec_record.specs.declared.courses.Part.{Part}
+use Rattle.dnssec_status.specs.Keys.{has_listed, key_json}
 
 -- the bytes of its reference, with its key
 abbrev pub entry_of : {Y : Type 0} → Bor (String Y) × Bor KeyParts → List ℕ × KeyParts
@@ -13,3 +17,12 @@ entry_of e = (string_bytes e.0.now, e.1.now)
 -- its text
 abbrev pub entry_json : {Y : Type 0} → List Listed → Bor (String Y) × Bor KeyParts → List ℕ
 entry_json listed e = key_json listed (entry_of e)
+
+-- a listing, as code has it, is of the key at a reference for the roll and as this part
+abbrev pub lists : RollType → Part → List ℕ → code.Listed → Bool
+lists roll part reference l = has_listed roll part reference (as_listed l)
+
+-- the roll, if one of the listings is so
+abbrev pub roll_if_listed : RollType → Part → List ℕ → List code.Listed → List RollType
+roll_if_listed roll part reference ls =
+    if list_any (lists roll part reference) ls then roll ∷ [] else []

@@ -7,4 +7,5 @@ pub returns : goal.returns
 unfolding kind_json
 returns c =
     rw (c.in_ok-push_bytes-3.ensures, c.in_ok-push_role-2.ensures, c.in_ok-push_bytes-2.ensures)
-    (rw (c.in_ok-push_role.ensures, c.in_ok-push_bytes.ensures) (simp append_assoc))
+    (rw (c.in_ok-push_role.ensures, c.in_ok-push_bytes.ensures)
+    (rw (c.is_active_ksk.ensures, c.is_active_zsk.ensures) (simp append_assoc)))

@@ -9,4 +9,4 @@ returns c =
     rw (c.in_ok-push_bytes-3.ensures, c.in_ok-push_rolls_of-2.ensures)
     (rw (c.in_ok-push_bytes-2.ensures, c.in_ok-push_rolls_of.ensures, c.in_ok-push_bytes.ensures)
     (rw (c.in_ok-push_flag-2.ensures, c.in_ok-push_flag.ensures, c.is_stale.ensures)
-    (rw (c.is_fresh.ensures) (simp append_assoc))))
+    (rw (c.may_come_in.ensures) (simp append_assoc))))
