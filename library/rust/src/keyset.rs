@@ -6,7 +6,7 @@ use crate::names::{Action, RollType};
 use crate::notes::{Due, Note};
 use crate::read;
 use crate::session::Session;
-use crate::status::{Broken, Key, Published, Roll, Status};
+use crate::status::{Broken, Key, Published, Roll, Status, WaitEnd};
 use crate::text::{append_line, collected, copied, push, text};
 use std::path::Path;
 
@@ -223,7 +223,7 @@ impl KeySet {
     /// # Errors
     ///
     /// As of [`KeySet::status`].
-    pub fn wait_end(&self, roll: RollType) -> Result<Option<u64>, Error> {
+    pub fn wait_end(&self, roll: RollType) -> Result<Option<WaitEnd>, Error> {
         Ok(self.status()?.roll(roll).and_then(|it| it.not_before))
     }
 

@@ -57,4 +57,4 @@ pub use names::{
 };
 pub use notes::{Due, Note, Report};
 pub use session::{answer, version, Session};
-pub use status::{Broken, Ended, Key, Published, Role, Roll, Stamps, Status};
+pub use status::{Broken, Ended, Key, Published, Role, Roll, Stamps, Status, WaitEnd};

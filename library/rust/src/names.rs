@@ -129,20 +129,16 @@ named!(
     /// What a role's flags come to.
     #[non_exhaustive]
     State {
-        /// Not old, and not in the DNSKEY set.
+        /// Not old, and not used: it doesn't sign, isn't in the DNSKEY set and has no DS.
         Future = "future",
-        /// Not old, and in the DNSKEY set.
+        /// Not old, and used, and not yet active.
         Incoming = "incoming",
-        /// Not old, in the DNSKEY set, and signs.
+        /// Not old, signs and is in the DNSKEY set; a KSK role has its DS too.
         Active = "active",
-        /// Old, in the DNSKEY set, and signs.
+        /// Old, and still used.
         Leaving = "leaving",
-        /// Old, and in the DNSKEY set.
-        Retired = "retired",
-        /// Old, and not in the DNSKEY set.
+        /// Old, and not used.
         Stale = "stale",
-        /// Signs without being in the DNSKEY set.
-        Signer = "signer",
     }
 );
 

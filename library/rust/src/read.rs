@@ -4,7 +4,7 @@
 use crate::algorithm::Algorithm;
 use crate::error::Error;
 use crate::json::Json;
-use crate::status::{Broken, Ended, Key, Published, Role, Roll, Stamps, Status};
+use crate::status::{Broken, Ended, Key, Published, Role, Roll, Stamps, Status, WaitEnd};
 use crate::text::{collected, copied};
 use std::str::FromStr;
 
@@ -108,7 +108,7 @@ fn roll(told: &Json) -> Result<Roll, Error> {
         phase: named(told.get("phase"))?,
         ttl: ttl.number().map(|_| number(ttl)).transpose()?,
         next: named(told.get("next"))?,
-        not_before: told.get("not_before").number(),
+        not_before: wait_end(told.get("not_before"))?,
         waits_for: named(told.get("waits_for"))?,
         due: all_named(told.get("due"))?,
     })
@@ -119,4 +119,12 @@ fn ended(told: &Json) -> Result<Ended, Error> {
         roll: named(told.get("roll"))?,
         asked: all_named(told.get("asked"))?,
     })
+}
+
+fn wait_end(told: &Json) -> Result<Option<WaitEnd>, Error> {
+    match told.text() {
+        None => Ok(told.number().map(WaitEnd::At)),
+        Some("past-time") => Ok(Some(WaitEnd::PastTime)),
+        Some(_) => Err(Error::OtherRelease),
+    }
 }

@@ -143,6 +143,15 @@ pub struct Key {
     pub new_in: Vec<RollType>,
 }
 
+/// When a wait is over.
+#[derive(Clone, Copy, Debug, PartialEq, Eq, Hash)]
+pub enum WaitEnd {
+    /// This is the first second since 1970 in which it is accepted.
+    At(u64),
+    /// It ends after the last second that a call can name.
+    PastTime,
+}
+
 /// A roll in progress.
 #[derive(Clone, Debug, PartialEq, Eq)]
 #[non_exhaustive]
@@ -155,8 +164,8 @@ pub struct Roll {
     pub ttl: Option<u32>,
     /// The call that comes next.
     pub next: Next,
-    /// The first second since 1970 in which its wait is accepted.
-    pub not_before: Option<u64>,
+    /// When its wait is over, in a phase that waits for caches.
+    pub not_before: Option<WaitEnd>,
     /// For whom it waits.
     pub waits_for: WaitsFor,
     /// What is due.

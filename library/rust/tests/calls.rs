@@ -2,7 +2,7 @@
 
 use keyset::{
     version, Action, Algorithm, Due, Error, KeySet, NewKey, Next, Note, NoteRefusal, OpenOptions,
-    Phase, Refusal, Report, RoleKind, RollType, Session, SetKind, State, WaitsFor,
+    Phase, Refusal, Report, RoleKind, RollType, Session, SetKind, State, WaitEnd, WaitsFor,
 };
 use std::error::Error as _;
 use std::fmt::Display;
@@ -40,7 +40,7 @@ fn a_roll_goes_on_after_a_crash() -> Result<(), Error> {
     let keys = after(&FIRST[..4])?;
     let mut keys = KeySet::resume(&format!("{}wait1 algorithm-roll 37", keys.script()))?;
     assert_eq!(keys.actions(ROLL)?, []);
-    assert_eq!(keys.wait_end(ROLL)?, Some(3700));
+    assert_eq!(keys.wait_end(ROLL)?, Some(WaitEnd::At(3700)));
     let accepted = keys.cache_expired1(ROLL, 3700)?;
     assert_eq!(accepted.number, 5);
     assert!(accepted.actions.contains(&Action::UpdateDsRrset));
