@@ -227,21 +227,26 @@ class Files(Kept):
                 with self.assertRaises(NotKept):
                     again.note("published dnskey 3 3600 40")
             self.assertEqual([one.ttl for one in again.due(30)], [7190])
-            again.notes.path.write_text("before 1 1 1\n")
-            with self.assertRaises(Damaged):
-                again.due(30)
-        self.path.with_suffix(".notes").write_text("before 1 1 1\npublished dnskey 3 1 1")
+
+    def test_notes_that_cannot_be_are_not_opened(self):
+        """And the script is unlocked again."""
+        keys, notes = self.begin(COURSE[:3]), self.path.with_suffix(".notes")
+        keys.note("before 60 60 60")
+        notes.write_text("before 1 1 1\n")
+        with self.assertRaises(Damaged):
+            keys.due(30)
+        keys.close()
+        notes.write_text("before 1 1 1\npublished dnskey 3 1 1")
         for part in (KeySet.open, Notes):
             with self.assertRaises(Torn):
                 part(self.path)
         with KeySet.open(self.path, cut_torn=True) as again:
             again.note("published dnskey 3 2 2")
             self.assertEqual(Notes(self.path).lines, ["before 1 1 1", "published dnskey 3 2 2"])
-        self.path.with_suffix(".notes").write_text("before 1 1 1\npublished dnskey 9 1 1\n")
+        notes.write_text("before 1 1 1\npublished dnskey 9 1 1\n")
         with self.assertRaisesRegex(Damaged, "notes: line 2: no such call yet"):
             KeySet.open(self.path)
-        # The script is unlocked again.
-        self.path.with_suffix(".notes").unlink()
+        notes.unlink()
         KeySet.open(self.path).close()
 
 

@@ -20,7 +20,6 @@ from .lines import why_malformed
 from .members import Status
 from .session import (
     ANSWERED,
-    CLOSED,
     MALFORMED,
     NO_NOTES,
     NOT_TAKEN,

@@ -4,7 +4,7 @@ from __future__ import annotations
 
 from dataclasses import dataclass
 from enum import Enum
-from typing import Iterable, List, Optional, Tuple, Union, cast
+from typing import Iterable, List, Tuple, Union, cast
 
 from .lines import RollType
 from .members import (
@@ -13,7 +13,6 @@ from .members import (
     KeyMembers,
     Phase,
     ReportWord,
-    RoleMembers,
     RoleName,
     RollMembers,
     SetKind,
