@@ -1,9 +1,11 @@
 """What a caller relies on, over the library that `make lib` has made, or over the programs."""
 
 import inspect
+import json
 import os
 import tempfile
 import threading
+import typing
 import unittest
 from pathlib import Path
 
@@ -26,6 +28,7 @@ from keyset import (
     WrongArgument,
     open_session,
 )
+from keyset import members
 from keyset.notes import Seen
 
 FIRST = [
@@ -106,6 +109,20 @@ class Calls(unittest.TestCase):
                     self.assertEqual((made, name, untyped), (made, name, []))
                     self.assertIn("return", call.__annotations__, (made, name))
         self.assertTrue((Path(keyset.__file__).parent / "py.typed").is_file())
+
+    def test_the_types_of_a_status_are_those_of_its_schema(self):
+        schema = json.loads((Path(__file__).parents[2] / "docs/status.schema.json").read_text())
+        types = {"key": members.KeyMembers, "role": members.RoleMembers}
+        types.update(roll=members.RollMembers, ended=members.EndedMembers)
+        for name, made in types.items():
+            told = schema["$defs"][name]["properties"]
+            self.assertEqual(sorted(made.__annotations__), sorted(told))
+            for member, kind in typing.get_type_hints(made).items():
+                if typing.get_origin(kind) is typing.Literal:
+                    self.assertEqual([*typing.get_args(kind)], told[member]["enum"], member)
+        self.assertEqual(list(members.Status.__annotations__), schema["required"])
+        published = schema["properties"]["published"]["required"]
+        self.assertEqual(list(members.PublishedMembers.__annotations__), published)
 
     def test_errors_have_one_base(self):
         errors = [getattr(keyset, name) for name in keyset.__all__]
