@@ -7,6 +7,7 @@ kind has the TTL."""
 
 from bisect import bisect_left
 from dataclasses import dataclass, field
+from itertools import accumulate
 
 from keyset import Published
 
@@ -91,12 +92,16 @@ class Held:
     """Until when caches may hold sets that were replaced, by notes or else by reports."""
 
     def __init__(self, history, notes):
-        self.reports, self.versions, self.seen = {}, {}, {}
+        self.ends, self.ttls, self.versions, self.seen = {}, {}, {}, {}
         for call in (call for call in history.calls if call.line.is_report):
             step, kinds = history.step_of(call)
             for kind in kinds:
-                report = step.number, call.moment + call.line.ttl, call.number, call.line.ttl
-                self.reports.setdefault(kind, []).append(report)
+                end = call.moment + call.line.ttl
+                self.ends.setdefault(kind, []).append((step.number, end))
+                self.ttls.setdefault(kind, []).append((call.number, call.line.ttl))
+        # Each end is the first of all that count from that step or a later one.
+        for kind, ends in self.ends.items():
+            self.ends[kind] = [*accumulate(sorted(ends, reverse=True), _first)][::-1]
         for word, kind, *numbers in (line.split(" ") for line in notes):
             if word == "published":
                 self.versions.setdefault(kind, []).append((int(numbers[0]) + 1, int(numbers[1])))
@@ -115,13 +120,20 @@ class Held:
             ends.append(seen[at][1] + versions[version][1] if at < len(seen) else None)
         if ends and None not in ends:
             return max(ends)
-        ends = (end for step, end, *_ in self.reports.get(kind, ()) if step >= call.number)
-        return min(ends, default=None)
+        ends = self.ends.get(kind, ())
+        at = bisect_left(ends, (call.number,))
+        return ends[at][1] if at < len(ends) else None
 
     def at_least(self, kind, call):
         """The same by the TTL of the last report of the kind before a call."""
-        ttls = [ttl for *_, number, ttl in self.reports.get(kind, ()) if number < call.number]
-        return call.moment + ttls[-1] if ttls else call.moment
+        ttls = self.ttls.get(kind, ())
+        at = bisect_left(ttls, (call.number,))
+        return call.moment + (ttls[at - 1][1] if at else 0)
+
+
+def _first(later, report):
+    """The step of a report, and the first end of it and of those that count from a later step."""
+    return report[0], min(later[1], report[1])
 
 
 def _phase(phases, call):
