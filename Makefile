@@ -33,7 +33,7 @@ prove = mkdir -p crates/$(1)/out && cd crates/$(1) && \
 	{ rt $(2) >out/build.log 2>&1 || { cat out/build.log >&2; exit 1; }; }
 
 .PHONY: run build notes lib install uninstall check fmt clean test wrong live docs memory test-lib \
-	valgrind asan fuzz types mutants help python modules packages
+	valgrind asan fuzz types mutants signers help python modules packages
 
 # The proved program answers if it is newer than its sources, else one that is built at once.
 run: ## answers SCRIPT: make run SCRIPT=FILE
@@ -86,6 +86,9 @@ wrong: python ## tries the wrong bodies that the gate leaves out: make wrong CRA
 # The table of changes is tests/mutants.txt.
 mutants: modules build notes ## changes a line of the command at a time: a test has to see it
 	@$(PYTHON) tests/mutants.py
+
+signers: modules build notes ## signs by the real tools of BIND and ldns, and verifies each zone
+	@$(PYTHON) tests/signers.py
 
 # It needs the packages that live/README.md names.
 live: ## rolls keys on real name servers, within an hour; LIVE=--short within ten minutes
