@@ -9,11 +9,22 @@
    called, and keeps no pointer. What it allocates it frees before it returns, except what a session
    keeps until `keyset_close`.
 
-   Reentrant: it has no data of its own, takes no lock, opens no file and reads no clock, so threads
-   may call it side by side, each with sessions and an `out` of its own. It calls malloc, realloc
-   and free, and so is not for signal handlers, nor for the forked child of a process with threads.
+   Where it runs: on Linux with an x86-64 processor. It links against the C library, and nothing
+   else: `cc caller.c -lkeyset`.
 
-   Links against the C library, and nothing else: `cc caller.c -lkeyset`.
+   Threads: the library has no data of its own, takes no lock, opens no file and reads no clock. So
+   threads may call it side by side, each with sessions and an `out` of its own. A session may go
+   from one thread to another, but only one thread at a time may use it, also to ask a question.
+
+   Signals and forks: it calls malloc, realloc and free. So it is not for signal handlers, nor for
+   the forked child of a process with threads. A forked child has a copy of each session, and parent
+   and child then go on by themselves: only one of them may keep the lines.
+
+   Numbers of calls: the number of a call is that of its line in the kept script, less one. The
+   zone's line has none, and the line after it is call 1. Only accepted lines are kept, so a refused
+   call has no number. `keyset_call` makes a refused call one of the session's, too. So make a new
+   call on a `keyset_copy` that takes the session's place if it is accepted: then session, script and
+   notes count alike.
 
    The contract of each function is proved, in crates/keyset_c/src/lib.rt: the clauses whose names
    are in parentheses below. They take for granted what C asks of every caller: each pointer has as

@@ -27,7 +27,7 @@ import noted
 import release
 import rust
 import sessions
-from tools import CRATES, STRICT, TOP, WRAPPED, Wrong, c_flags, kit, run
+from tools import C99, CRATES, STRICT, TOP, WRAPPED, Wrong, c_flags, kit, run
 
 LIBRARY = TOP / "library"
 PROGRAM = CRATES / "keyset" / "out" / "keyset"
@@ -365,7 +365,7 @@ def expect_rolls(caller, command, **how):
 
 
 def test_c_caller(room, caller, flags):
-    run("cc", *STRICT, "-o", room / "roll", LIBRARY / "c" / "roll.c", *flags)
+    run("cc", *STRICT, *C99, "-o", room / "roll", LIBRARY / "c" / "roll.c", *flags)
     return expect_rolls(caller, [room / "roll"])
 
 

@@ -8,6 +8,8 @@ CRATES = TOP / "crates"
 
 # How C is compiled, by `cc`.
 STRICT = ["-std=gnu11", "-O2", "-Wall", "-Wextra", "-Werror", "-pthread"]
+# The callers are in plain C.
+C99 = ["-std=c99", "-pedantic"]
 WRAPPED = [f"-Wl,--wrap={name}" for name in ("malloc", "realloc", "free")]
 
 

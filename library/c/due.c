@@ -27,7 +27,8 @@ static void give_up(const char *line, uint32_t status)
         [KEYSET_SEEN_EARLY] = "seen before it was published",
         [KEYSET_MOMENT_FALLS] = "moment before the last one",
     };
-    fprintf(stderr, "%s: %s\n", line, causes[status]);
+    bool is_known = status < sizeof causes / sizeof *causes && causes[status] != NULL;
+    fprintf(stderr, "%s: %s\n", line, is_known ? causes[status] : "no such status");
     exit(EXIT_FAILURE);
 }
 
@@ -66,13 +67,14 @@ static void take_note(const char *line, bool *has_answered)
 
 int main(void)
 {
-    char *line = NULL;
-    size_t room = 0;
-    ssize_t length;
+    char line[ROOM];
     bool is_in_notes = false, has_answered = false;
 
-    while ((length = getline(&line, &room, stdin)) > 0) {
-        line[strcspn(line, "\n")] = '\0';
+    while (fgets(line, sizeof line, stdin) != NULL) {
+        size_t length = strcspn(line, "\n");
+        if (line[length] == '\0' && !feof(stdin))
+            give_up("a longer line than expected", KEYSET_MALFORMED);
+        line[length] = '\0';
         if (*line == '\0') {
             if (is_in_notes)
                 keyset_close(&session);
@@ -84,6 +86,5 @@ int main(void)
         }
     }
     keyset_close(&session);
-    free(line);
     return EXIT_SUCCESS;
 }

@@ -39,6 +39,20 @@ static void append(struct text *text, const char *bytes, size_t length)
     text->length += length;
 }
 
+/* Reads a line with its line feed, if there is one more. */
+static int read_line(FILE *from, struct text *line)
+{
+    int byte;
+    line->length = 0;
+    while ((byte = getc(from)) != EOF) {
+        char one = (char)byte;
+        append(line, &one, 1);
+        if (byte == '\n')
+            break;
+    }
+    return line->length > 0;
+}
+
 /* Asks with the room that the answer needs. */
 static void ask(const struct text *script, struct text *answer)
 {
@@ -74,18 +88,16 @@ static int is_accepted(const char *line)
 
 int main(void)
 {
-    struct text script = {0}, answer = {0};
-    char *line = NULL;
-    size_t room = 0, calls = 0;
-    ssize_t length;
+    struct text script = {0}, answer = {0}, line = {0};
+    size_t calls = 0;
 
     if (keyset_version() != KEYSET_VERSION)
         give_up("the library is of another version");
     reserve(&script, 1024);
     reserve(&answer, 1024);
-    while ((length = getline(&line, &room, stdin)) > 0) {
+    while (read_line(stdin, &line)) {
         size_t accepted = script.length;
-        append(&script, line, (size_t)length);
+        append(&script, (const char *)line.bytes, line.length);
         ask(&script, &answer);
         append(&answer, "", 1);
         if (accepted == 0)
@@ -109,7 +121,7 @@ int main(void)
     for (size_t i = 0; i < calls; i++)
         end = next_line(end);
     fputs(end, stdout);
-    free(line);
+    free(line.bytes);
     free(script.bytes);
     free(answer.bytes);
     return EXIT_SUCCESS;
