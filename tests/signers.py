@@ -116,6 +116,20 @@ def changes(script: str):
             yield f"{change}: {told.returncode} {told.stdout}"
 
 
+def raw(script: str):
+    """The last version is in BIND's own form, as a zone that BIND has signed: its serial and its
+    NSEC3 count."""
+    act(script, "--nsec3 '1 0 0 -'")
+    words = ["named-compilezone", "-q", "-F", "raw", "-o", "raw", "example.com.", "signed"]
+    subprocess.run(words, check=True)
+    before = int(Path("signed").read_text().split()[6])
+    Path("raw").replace("signed")
+    text, status = act(script, "")
+    found = Path("signed").read_text(errors="replace")
+    if status or f" {before + 1} 3600" not in found or "NSEC3PARAM" not in found:
+        yield f"after a raw version: {status} {text}"
+
+
 def main() -> int:
     if sys.argv[1:2] == ["--act"]:
         text, status = act(sys.argv[2], "")
@@ -132,7 +146,7 @@ def main() -> int:
         for script, signer in itertools.product(scripts, ("bind", "ldns")):
             faults += ways(script, signer)
             count += len(WAYS)
-        faults += changes(scripts[0])
+        faults += [*changes(scripts[0]), *raw(scripts[0])]
     print(*faults, f"signers: {count} versions, {len(CHANGES)} changes", sep="\n")
     return 1 if faults else 0
 

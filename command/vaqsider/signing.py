@@ -16,6 +16,8 @@ from .errors import UNAVAILABLE, Failure
 
 # Signatures begin an hour before, for servers whose clocks are slow.
 BEFORE = 3600
+# How a zone file begins that isn't text: BIND keeps the zones so that it signs itself.
+RAW = b"\0\0\0\2"
 
 
 @dataclass(frozen=True)
@@ -87,14 +89,16 @@ class Signer:
     knows_origin: bool
 
 
+def _full_by_bind(origin: str, file: Path) -> list[str]:
+    with open(file, "rb") as begin:
+        form = ["-f", "raw"] if begin.read(len(RAW)) == RAW else []
+    return ["named-compilezone", "-q", "-i", "none", *LAX, *form, "-s", "full", "-o", "-", origin,
+            str(file)]
+
+
 LAX = [word for check in "kmnrMST" for word in (f"-{check}", "ignore")]
 SIGNERS = {
-    "bind": Signer(
-        lambda origin, file: ["named-compilezone", "-q", "-i", "none", *LAX, "-s", "full",
-                              "-o", "-", origin, str(file)],
-        _by_bind,
-        True,
-    ),
+    "bind": Signer(_full_by_bind, _by_bind, True),
     "ldns": Signer(lambda origin, file: ["ldns-read-zone", str(file)], _by_ldns, False),
 }
 
