@@ -183,9 +183,21 @@ def serials():
             yield f"serial {policy} of {unsigned} after {signed}: {made}, not {wanted}"
 
 
+@contextlib.contextmanager
+def patient(seconds):
+    """An act waits so long for another one, also on a busy machine."""
+    from vaqsider import place
+
+    place.PATIENCE, before = seconds, place.PATIENCE
+    try:
+        yield
+    finally:
+        place.PATIENCE = before
+
+
 def at_once():
     """Of two acts that begin at once, one waits for the other."""
-    with folder():
+    with folder(), patient(60):
         prepare(Row("", signer("sleep 0.3"), "", 0, "", NEW))
         with limited(ROWS[0]):
             children = [fork() for _ in range(2)]
@@ -210,14 +222,10 @@ def held():
     """An act waits only a little for another one."""
     from vaqsider import place
 
-    with folder():
+    with folder(), patient(0.1):
         prepare(ROWS[0])
-        place.PATIENCE, patience = 0.1, place.PATIENCE
-        try:
-            with place.alone("double.script"):
-                said, status = typed(shlex.split(ACT))
-        finally:
-            place.PATIENCE = patience
+        with place.alone("double.script"):
+            said, status = typed(shlex.split(ACT))
         if status != 75 or "another program is writing it" not in said:
             yield f"an act beside another one ends with {status}: {said}"
 
