@@ -208,8 +208,8 @@ def noted():
     """The notes of start.script, in which a ZSK roll has just begun, and private keys."""
     private_halves()
     Path("start.notes").write_text(
-        "before 60 60 60\npublished dnskey 3 60 0\npublished zone 3 60 0\neverywhere dnskey 9\n"
-        "everywhere zone 9\npublished ds 5 60 71\neverywhere ds 80\npublished dnskey 7 60 141\n"
+        "before 59 59 59\npublished dnskey 3 59 0\npublished zone 3 59 0\neverywhere dnskey 9\n"
+        "everywhere zone 9\npublished ds 5 59 71\neverywhere ds 80\npublished dnskey 7 59 141\n"
         "everywhere dnskey 145\n"
     )
 

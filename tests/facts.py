@@ -86,10 +86,11 @@ def course(roll):
         return max((DELAYS[it] for it in kinds), default=0) + DELAYS["zone"] * ("ds" in kinds)
 
     def ttl(kinds):
+        # A cache's seconds begin at any time.
         if roll == "algorithm-roll" and "ds" in kinds:
-            return TTLS["ds"] + TTLS["dnskey"]
+            return TTLS["ds"] + 1 + TTLS["dnskey"] + 1
         # CDS has the zone's TTL.
-        return max(TTLS[it] for it in [*kinds, *(["zone"] if "ds" in kinds else [])])
+        return 1 + max(TTLS[it] for it in [*kinds, *(["zone"] if "ds" in kinds else [])])
 
     report1 = BEGIN + spread(first)
     wait1 = report1 + ttl(first)

@@ -4,7 +4,7 @@ The key set answers the calls. How long servers and the parent take is assumed h
 
 from keyset import KeySet, Malformed, Notes, Published, Refused, RollType
 from keyset.lines import Line
-from keyset.notes import KINDS, Seen, to_report
+from keyset.notes import KINDS, Seen, lasts, to_report
 
 from . import calling, words
 from .errors import DUE, USAGE, Failure
@@ -51,7 +51,7 @@ class Plan:
         kinds = self.call(f"start {roll} {old} {new} {self.moment}")
         for half in (1, 2):
             self.spread(kinds)
-            due = max((self.ttls[kind] for kind in kinds), default=0)
+            due = max((lasts(self.ttls[kind]) for kind in kinds), default=0)
             self.call(f"report{half} {roll} {to_report(due, kinds, roll, self.ttls)} {self.moment}")
             end = self.keys.wait_end(RollType(roll))
             self.moment = max(self.moment, end if isinstance(end, int) else 0)

@@ -169,7 +169,12 @@ class Seen:
                 held.append(numbers[1])
             else:
                 self.delays[kind] = time - since.get(kind, time)
-                held[:-1] = [ttl for ttl in held[:-1] if time + ttl > moment]
+                held[:-1] = [ttl for ttl in held[:-1] if time + lasts(ttl) > moment]
+
+
+def lasts(ttl: int) -> int:
+    """For how many seconds a cache may hold a set with a TTL: its seconds may begin at any time."""
+    return ttl + 1
 
 
 def to_report(due: int, kinds: Sequence[str], roll: str, ttls: Mapping[str, int]) -> int:
@@ -178,7 +183,8 @@ def to_report(due: int, kinds: Sequence[str], roll: str, ttls: Mapping[str, int]
     check a DNSKEY set by the old DS set once more, so both TTLs are added."""
     if "ds" not in kinds:
         return due
-    return max(due + (ttls["dnskey"] if roll == "algorithm-roll" else 0), ttls["zone"])
+    again = lasts(ttls["dnskey"]) if roll == "algorithm-roll" else 0
+    return max(due + again, lasts(ttls["zone"]))
 
 
 def path_of(script: file.Place) -> Path:
