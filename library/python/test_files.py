@@ -216,17 +216,17 @@ class Files(Kept):
         # Another program notes more: a question takes that too.
         Notes(self.path).publish(3, {"zone": 60}, 10)
         Notes(self.path).everywhere({"dnskey": 60, "zone": 60}, 20)
-        self.assertEqual([one.ttl for one in keys.due(30)], [7190])
+        self.assertEqual([one.ttl for one in keys.due(30)], [7191])
         self.assertEqual(keys.notes.lines, Notes(self.path).lines)
         keys.close()
         with KeySet.open(self.path) as again:
-            self.assertEqual([one.ttl for one in again.due(30)], [7190])
+            self.assertEqual([one.ttl for one in again.due(30)], [7191])
             self.assertEqual(again.notes.lines, Notes(self.path).lines)
             fault = OSError(errno.EIO, "Input/output error")
             with mock.patch("os.fsync", side_effect=[None, None, fault, None]):
                 with self.assertRaises(NotKept):
                     again.note("published dnskey 3 3600 40")
-            self.assertEqual([one.ttl for one in again.due(30)], [7190])
+            self.assertEqual([one.ttl for one in again.due(30)], [7191])
 
     def test_notes_that_cannot_be_are_not_opened(self):
         """And the script is unlocked again."""

@@ -182,7 +182,7 @@ class Calls(unittest.TestCase):
                 keys.note(f"everywhere {kind} 9")
             self.assertEqual(early.exception.reason, "seen before it was published")
             keys.note(f"everywhere {kind} 30")
-            self.assertEqual(keys.due(40), [due or Due("report1", ROLL, 7190)])
+            self.assertEqual(keys.due(40), [due or Due("report1", ROLL, 7191)])
         keys.call("report1 algorithm-roll 7190 40")
         self.assertEqual(keys.due(40), [])
 
@@ -276,7 +276,7 @@ class Files(unittest.TestCase):
         Notes(self.path).everywhere({"dnskey": 7200}, 47060)
         self.assertEqual(Notes(self.path).lines, wanted)
         # At 47060 caches may hold the set with 12 hours until 46950 + 43200.
-        held = [Seen(wanted, moment).ttls["dnskey"] for moment in (90149, 90150)]
+        held = [Seen(wanted, moment).ttls["dnskey"] for moment in (90150, 90151)]
         self.assertEqual([max(ttls) for ttls in held], [43200, 7200])
         Notes(self.path).everywhere({"ds": 90000}, 47070)
         more = ["published ds 5 90000 47070", "everywhere ds 47070"]

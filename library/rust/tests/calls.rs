@@ -215,7 +215,7 @@ fn notes_say_which_reports_are_due() -> Result<(), Error> {
                 waits_for: SetKind::Zone,
             },
         ),
-        (SetKind::Zone, Report::Now { ttl: 7190 }),
+        (SetKind::Zone, Report::Now { ttl: 7191 }),
     ] {
         keys.note(published(kind))?;
         let seen = keys.note(everywhere(kind, 9));
