@@ -57,11 +57,11 @@ def test_in_python(keyset, questions):
         for one in (session, session.copy()):
             if one.due(question.moment).rstrip("\n") != wanted.rstrip("\n"):
                 raise Wrong(f"a session in Python doesn't answer {wanted}")
-    for text, fault in notes.FAULTS.items():
+    for text, fault in notes.ANSWERS.items():
         expect_fault(keyset, text.splitlines(), fault)
     return (
         f"{zones} sessions in Python go on with their notes, and answer {len(questions)} questions"
-        f" and {len(notes.FAULTS)} faults as keyset_notes"
+        f" and {len(notes.ANSWERS)} notes as keyset_notes"
     )
 
 
@@ -74,7 +74,7 @@ def expect_fault(keyset, lines, fault):
     try:
         for line in lines:
             session.note(line)
-        told = session.due(9)
+        told = session.due(9).rstrip("\n")
     except keyset.Malformed as malformed:
         told = f"notes: line {malformed.line}: {malformed.reason}"
     if told != fault:

@@ -21,9 +21,13 @@ from tables import ROLLS
 
 PROGRAM = runbooks.TOP / "crates" / "keyset_notes" / "out" / "keyset_notes"
 
-# A script of one call, and notes that are refused with it, with the text that says why.
-SCRIPT = "zone example.com\nadd-ksk K1 - 13 1 0 yes"
-FAULTS = {
+# A script of three calls, and what is answered to notes beside it and a question.
+SCRIPT = """zone example.com
+add-ksk K1 - 13 1 9 yes
+add-zsk Z1 - 13 2 9 yes
+start algorithm-roll - K1,Z1 7"""
+NOT_YET = "not yet: report1 algorithm-roll waits for dnskey"
+ANSWERS = {
     "before 1 1": "notes: line 1: malformed",
     "before 1 1 4294967296": "notes: line 1: malformed",
     "published ds 1 5 9": "notes: line 1: malformed",
@@ -32,7 +36,8 @@ FAULTS = {
     "before 1 1 1\npublished ds 1 5 9 ": "notes: line 2: malformed",
     "before 1 1 1\neverywhere ds": "notes: line 2: malformed",
     "before 1 1 1\neverywhere ds 9\nbefore 1 1 1": "notes: line 3: malformed",
-    "before 1 1 1\npublished ds 2 5 9": "notes: line 2: no such call yet",
+    "before 1 1 1\npublished ds 4 5 9": "notes: line 2: no such call yet",
+    "before 1 1 1\npublished ds 0 5 9": "notes: line 2: no such call yet",
     "before 1 1 1\npublished ds 1 5 9\neverywhere ds 8":
         "notes: line 3: seen before it was published",
     "before 1 1 1\npublished ds 1 5 9\npublished ds 1 5 8":
@@ -40,7 +45,35 @@ FAULTS = {
     "before 1 1 1\neverywhere ds 9\neverywhere ds 8": "notes: line 3: moment before the last one",
     # Each kind goes by itself. In one second a publication comes after a sight. A version may have
     # the sets of an earlier call.
-    "before 1 1 1\neverywhere ds 9\neverywhere zone 8\npublished ds 1 5 8\npublished ds 0 5 8": "",
+    "before 1 1 1\neverywhere ds 9\neverywhere zone 8\npublished ds 3 5 8\npublished ds 1 5 8":
+        NOT_YET,
+}
+# What is answered to whole inputs that aren't a script, an empty line, notes and a question.
+NOTED = f"{SCRIPT}\n\nbefore 1 1 1"
+INPUTS = {
+    "": "script: line 1: malformed",
+    "zone\n\nbefore 1 1 1\ndue 9": "script: line 1: malformed",
+    f"\n{NOTED}\ndue 9": "script: line 1: malformed",
+    f"{NOTED}\ndue 9\n\n\nbefore 1 1 1\ndue 9": "script: line 1: malformed",
+    f"{SCRIPT}\nrubbish\n\nbefore 1 1 1\ndue 9": "script: line 5: malformed",
+    f"{SCRIPT}\nrubbish": "script: line 5: malformed",
+    SCRIPT: "notes: line 1: malformed",
+    f"{SCRIPT}\n\ndue 9": "notes: line 1: malformed",
+    NOTED: "notes: line 2: malformed",
+    f"{NOTED}\n\n{NOTED}\ndue 9": "notes: line 2: malformed",
+    f"{NOTED}\nrubbish": "notes: line 2: malformed",
+    f"{NOTED}\ndue 5x": "notes: line 2: malformed",
+    f"{NOTED}\ndue 5 ": "notes: line 2: malformed",
+    f"{NOTED}\ndue": "notes: line 2: malformed",
+    f"{NOTED}\ndue 18446744073709551616": "notes: line 2: malformed",
+    # A line is counted with the questions above it, and read after the last question too.
+    f"{NOTED}\ndue 9\ndue 9\nrubbish": "notes: line 4: malformed",
+    f"{NOTED}\ndue 9\ndue 9\npublished ds 4 5 9\ndue 9": "notes: line 4: no such call yet",
+    f"{NOTED}\ndue 9\neverywhere ds 9\neverywhere ds 8":
+        "notes: line 4: moment before the last one",
+    f"{NOTED}\ndue 9\neverywhere ds 9": NOT_YET,
+    f"{NOTED}\ndue 9\n\n": NOT_YET,
+    f"{NOTED}\ndue 18446744073709551615": NOT_YET,
 }
 
 
@@ -84,15 +117,22 @@ def asked(text):
     return subprocess.run([PROGRAM], input=text, capture_output=True, text=True)
 
 
+def check(text, wanted, wrong):
+    """An input has this answer, or is refused with this text, and nothing is answered."""
+    done = asked(text)
+    is_fault = wanted.startswith(("script: ", "notes: "))
+    told = (done.returncode, (done.stderr if is_fault else done.stdout).rstrip())
+    if told != (is_fault, wanted) or (is_fault and done.stdout):
+        wrong.append(f"notes: {wanted!r} is to be said of {text!r}, and {told} was")
+
+
 def refuse(wrong):
-    """Malformed notes are refused at their first line with a fault, and nothing is answered."""
-    faults = {f"{SCRIPT}\n\n{notes}\ndue 9\n": fault for notes, fault in FAULTS.items()}
-    faults["zone\n\nbefore 1 1 1\ndue 9"] = "script: line 1: malformed"
-    for text, fault in faults.items():
-        done = asked(text)
-        told = (done.returncode, done.stdout, done.stderr.rstrip())
-        if told != (1 if fault else 0, "", fault):
-            wrong.append(f"notes: {fault!r} is to be said of {text!r}, and {told} was")
+    """Malformed notes are refused at their first line with a fault, and each question is answered
+    or malformed."""
+    for notes, wanted in ANSWERS.items():
+        check(f"{SCRIPT}\n\n{notes}\ndue 9\n", wanted, wrong)
+    for text, wanted in INPUTS.items():
+        check(text, wanted, wrong)
 
 
 def text_of(questions):
@@ -141,8 +181,8 @@ def main():
     print(
         f"notes: {len(orders)} zones, {len(questions)} answers, of which {waits} say not yet, are"
         f" those of the rule, and {sharp} of them no more than rule 1; {back} times a parent went"
-        f" back, over no step; with one second less 3 of {zones} zones break; {len(FAULTS)} notes"
-        f" with and without faults;"
+        f" back, over no step; with one second less 3 of {zones} zones break; {len(ANSWERS)} notes"
+        f" and {len(INPUTS)} inputs with and without faults;"
         f" {time.monotonic() - began:.0f} s"
     )
     return 0

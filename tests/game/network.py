@@ -118,9 +118,10 @@ class Network:
         the first call."""
         if not versions:
             return 0
-        if self.value(kind, number - 1) == value:
-            return versions[-1].position
         by_then = self.servers[kind].times[number] + self.ahead
+        if self.value(kind, number - 1) == value:
+            # (Call 1 publishes nothing: its sets are those of before, which have no call in notes.)
+            return versions[-1].position or int(self.made[1] <= by_then)
         fits = {
             n for n, position in enumerate(self.record)
             if self.made[n] <= by_then and due(kind, position) == value

@@ -86,6 +86,8 @@ class Notes:
         if value != self.value(kind, number - 1):
             record = self.operator.keyset.record
             at = next(n for n in reversed(range(len(record))) if due(kind, record[n]) == value)
+        # (Nothing is published before call 2, so what was there before call 1 is that of call 1.)
+        at = max(1, at)
         ttl, sets = self.ttl(kind, number), self.sets(kind, number)
         self.versions[kind].append(Version(at, ttl, sets))
         self.waits[kind] = number

@@ -46,7 +46,7 @@ pub struct Before {
 /// Why a fact was not noted.
 #[derive(Clone, Copy, Debug, PartialEq)]
 pub enum NoteFault {
-    /// A version has the sets of a call that wasn't made yet.
+    /// A version has the sets of a call that wasn't made yet, or of none: calls count from 1.
     CallNotMade,
     /// All servers are said to have given a version before it was published.
     SeenBeforePublished,

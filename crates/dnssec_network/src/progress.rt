@@ -1,6 +1,7 @@
 //! How far notes have come: the newest version of each kind.
 ghost use Rattle.std.specs.Prelude.{◌≡◌};
-ghost use Rattle.dnssec_network.specs.Notes.{fall, first_newest, first_progress, newest_after};
+ghost use Rattle.dnssec_network.specs.Notes.{fall, first_newest, first_progress, is_call};
+ghost use Rattle.dnssec_network.specs.Notes.{newest_after};
 ghost use Rattle.dnssec_network.specs.Notes.{newest_of, news_refusal, progress_after};
 
 use crate::fact::{News, NoteFault};
@@ -68,10 +69,10 @@ impl Newest {
                 moment,
                 ..
             } => {
-                if calls < position {
-                    Some(NoteFault::CallNotMade)
-                } else {
+                if is_call(calls, position) {
                     fall(self.published, moment)
+                } else {
+                    Some(NoteFault::CallNotMade)
                 }
             }
             News::Everywhere { moment } => {
@@ -83,6 +84,13 @@ impl Newest {
             }
         }
     }
+}
+
+/// Whether a call at this position was made. Calls count from 1.
+fn is_call(calls: usize, position: usize) -> bool
+    ensures { result ≡ is_call calls position }
+{
+    0 < position && position <= calls
 }
 
 /// A moment must not lie before the last one.
