@@ -21,7 +21,8 @@ import testkeys
 from typed import STORED  # noqa: F401 (it has the command on the path)
 from vaqsider import asking
 
-REAL, PATIENCE = (asking.exchange, asking.is_address), 0.4
+# In seconds: the machine may be busy with proofs.
+REAL, PATIENCE = (asking.exchange, asking.is_address), 1.2
 
 
 def exchange(query, address: str, port: int):
