@@ -1,5 +1,5 @@
-"""Name servers on addresses of the loopback, whose sets are signed when they are asked, and the lies
-that they can tell."""
+"""Name servers on addresses of the loopback, whose sets are signed when they are asked, and how
+they can lie."""
 
 from __future__ import annotations
 
