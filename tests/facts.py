@@ -37,7 +37,10 @@ def screens():
         lines = path.read_text().splitlines()
         for count in range(1, len(lines) + 1):
             Path("some.script").write_text("".join(f"{line}\n" for line in lines[:count]))
-            _, sets, verdict = answers(lines[:count])
+            replies, sets, verdict = answers(lines[:count])
+            if any(it.startswith("refused") and "wait for" not in it for it in replies):
+                # A line may be lost: nothing is shown from here on.
+                break
             text, _ = typed(["status", "some.script"])
             wanted = [f"example.com: {verdict}"]
             wanted += [
