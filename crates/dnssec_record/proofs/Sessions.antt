@@ -4,14 +4,19 @@ use Rattle.std.proofs.Common.{length, map, fold, arith}
 use Rattle.std.{proofs.lemmas.List.Sums.fold-append, specs.Prelude.if◌then◌else◌}
 use Rattle.dnssec_run.specs.declared.call.Call.{Call}
 use Rattle.dnssec_run.specs.declared.record.{Entry.Entry, Outcome.Outcome, Published.Published}
+use Rattle.dnssec_run.specs.declared.record.Reply.{Reply}
+use Rattle.std.specs.Prelude.{codes}
 use Rattle.dnssec_judge.specs.Judge.{ComesNext, Knows}
 use Rattle.dnssec_record.specs.Courses.{Listed, as_listed, ended_after, ended_by, listed_after}
 use Rattle.dnssec_record.specs.Courses.{listed_by, turn_after, turn_of, turns}
-use Rattle.dnssec_record.specs.Session.{Advances, StandsAfter}
+use Rattle.dnssec_record.specs.Inner.Statement.{TakesOn}
+use Rattle.dnssec_record.specs.Output.{reply_text}
+use Rattle.dnssec_record.specs.Session.{Advances, GoesOn, Stands, StandsAfter}
 use Rattle.dnssec_record.specs.declared.{courses.Turn.Turn, session.Session.Session}
 use Rattle.dnssec_record.proofs.Running.{Follows, entry_of, one_follows}
-use Rattle.dnssec_script.specs.Script.{AreLinesOf, AreScript, IsLineOf}
-use Rattle.dnssec_script.specs.Inner.Statement.{Makes}
+use Rattle.dnssec_script.specs.Script.{AreLinesOf, AreScript, IsLineOf, says}
+use Rattle.dnssec_script.specs.Inner.Statement.{Makes, statement_says}
+use Rattle.dnssec_script.specs.declared.statement.Statement.{Statement}
 use Rattle.dnssec_key.specs.declared.roll.RollType.{RollType}
 
 -- ---- turns
@@ -87,3 +92,42 @@ pub script_more : (lines : List (List ℕ)) (name : List ℕ) (calls : List Call
 script_more [] name calls line call so is = absurd so
 script_more (zone ∷ lines) name calls line call so is =
     (so.0, lines_more lines calls line call so.1 is)
+
+-- a line whose statement made a call of a session that stands after the same calls: the text is the
+-- answer by its reply
+pub record Answered (lines : List (List ℕ)) (entries : List Entry) (line : List ℕ) (next : Session)
+    (reply : Reply) (text : List ℕ) : Type 0 where
+  pub goes_on : GoesOn lines entries line next text
+  pub is_reply : goes_on.entry.reply ≡ reply
+
+pub answered : (lines : List (List ℕ)) (entries : List Entry) (line : List ℕ) (s next : Session)
+    (reply : Reply) (statement : Statement) (text : List ℕ) → (so : Stands lines entries s)
+    → says line ≡ Some (statement_says statement) → (made : TakesOn statement s next reply)
+    → text ≡ reply_text reply ++ codes "\n" → Answered lines entries line next reply text
+answered lines entries line s next reply statement text so said made is =
+    let after = made.advances so.name so.calls entries so.stands in
+    record {
+      goes_on = record {
+        entry = after.entry;
+        stands = record {
+          name = so.name;
+          calls = so.calls ++ made.call ∷ [];
+          is_script = script_more lines so.name so.calls line made.call so.is_script
+              (said ∙ ap Some (sym made.is_call));
+          stands = after.stands;
+        };
+        is_answer = is ∙ ap (λ (r : Reply). reply_text r ++ codes "\n") (sym after.is_reply);
+      };
+      is_reply = after.is_reply;
+    }
+
+-- a copy stands after the same lines
+pub copied : (lines : List (List ℕ)) (entries : List Entry) (s copy : Session)
+    → ((name : List ℕ) (calls : List Call) (entries : List Entry) → StandsAfter name calls entries s
+    → StandsAfter name calls entries copy) → Stands lines entries s → Stands lines entries copy
+copied lines entries s copy same so = record {
+  name = so.name;
+  calls = so.calls;
+  is_script = so.is_script;
+  stands = same so.name so.calls entries so.stands;
+}

@@ -1,11 +1,12 @@
 -- What a session knows of its calls so far, and what it says to the next.
-use Rattle.std.specs.Prelude.{◌≡◌, ℕ, List, [], ◌∷◌, ◌++◌, map, codes, string_bytes}
-use Rattle.std.specs.Prelude.{Option, None, ◌≢◌, All}
+use Rattle.std.specs.Prelude.{◌≡◌, ℕ, ◌+◌, List, [], ◌∷◌, ◌++◌, length, map, codes, string_bytes}
+use Rattle.std.specs.Prelude.{Option, None, ◌≢◌, All, true, false}
 use Rattle.dnssec_base.specs.declared.error.Error.TheVariants as no
 use Rattle.dnssec_run.specs.declared.call.Call.{Call}
 use Rattle.dnssec_run.specs.declared.record.Entry.{Entry}
 use Rattle.dnssec_run.specs.declared.record.Reply.{Reply}
 use Rattle.dnssec_run.specs.declared.record.Reply.TheVariants.{Refused}
+use Rattle.dnssec_run.specs.Record.{is_accepted}
 use Rattle.dnssec_run.specs.Recorder.{Records}
 use Rattle.dnssec_judge.specs.declared.verdict.Broken.{Broken}
 use Rattle.dnssec_judge.specs.Judge.{Knows}
@@ -19,6 +20,8 @@ use Rattle.dnssec_record.specs.declared.fault.ScriptFault.TheVariants.{OutOfMemo
 use Rattle.dnssec_record.specs.declared.session.Session.{Session}
 use Rattle.dnssec_record.specs.declared.session.Told.{Told}
 use Rattle.dnssec_record.specs.declared.session.Told.TheVariants as told
+use Rattle.dnssec_record.specs.declared.session.Tried.{Tried}
+use Rattle.dnssec_record.specs.declared.session.Tried.TheVariants as tried
 
 -- ---- calls
 
@@ -66,6 +69,19 @@ pub record GoesOn (lines : List (List ℕ)) (entries : List Entry) (line : List 
   pub stands : Stands (lines ++ line ∷ []) (entries ++ entry ∷ []) next
   pub is_answer : text ≡ reply_text entry.reply ++ codes "\n"
 
+-- the same, and the call was accepted
+pub record Accepts (lines : List (List ℕ)) (entries : List Entry) (line : List ℕ) (next : Session)
+    (text : List ℕ) : Type 0 where
+  pub goes_on : GoesOn lines entries line next text
+  pub accepted : is_accepted goes_on.entry.reply ≡ true
+
+-- a session that makes the call of one more line refuses it, and the text is the answer
+pub record Refuses (lines : List (List ℕ)) (entries : List Entry) (line text : List ℕ)
+    : Type 0 where
+  pub next : Session
+  pub goes_on : GoesOn lines entries line next text
+  pub refused : is_accepted goes_on.entry.reply ≡ false
+
 -- the fault of a first line
 abbrev pub FaultOfZone : List ℕ → ScriptFault → Type 0
 FaultOfZone line (Malformed n) = (n ≡ 1) × ((name : List ℕ) → ¬ IsZoneLine line name)
@@ -78,6 +94,16 @@ Takes s line (told.Answered next text) =
     (lines : List (List ℕ)) (entries : List Entry) → Stands lines entries s →
     GoesOn lines entries line next (string_bytes text)
 Takes s line (told.Malformed same) = (same ≡ s) × (says line ≡ None)
+
+-- what comes of a line whose call is made only if it is accepted
+abbrev pub Tries : Session → List ℕ → Session → Tried → Type 0
+Tries old line new (tried.Accepted number text) =
+    (lines : List (List ℕ)) (entries : List Entry) → Stands lines entries old →
+    (number ≡ length entries + 1) × Accepts lines entries line new (string_bytes text)
+Tries old line new (tried.Refused text) = (new ≡ old) ×
+    ((lines : List (List ℕ)) (entries : List Entry) → Stands lines entries old →
+    Refuses lines entries line (string_bytes text))
+Tries old line new tried.Malformed = (new ≡ old) × (says line ≡ None)
 
 -- ---- the end
 

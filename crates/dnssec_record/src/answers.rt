@@ -1,12 +1,13 @@
 //! The answers to a script, as text.
-ghost use Rattle.std.specs.Prelude.{◌≡◌, ◌++◌, OnOk, codes, decimal, string_bytes};
+ghost use Rattle.std.specs.Prelude.{◌≡◌, ◌++◌, IfOk, OnOk, codes, decimal, string_bytes};
+ghost use Rattle.dnssec_run.specs.Record.{is_accepted};
 ghost use Rattle.dnssec_record.specs.Output.{action_name, broken_text, chain_line};
 ghost use Rattle.dnssec_record.specs.Output.{published_text, reply_text, set_text};
 
 use dnssec_judge::Broken;
 use dnssec_keyset::Action;
 use dnssec_run::{Published, PublishedKey, Reply};
-use std::alloc::AllocError;
+use std::alloc::{AllocError, Global};
 
 /// Writes the line of an answer.
 pub(crate) fn push_answer(text: &mut String, reply: &Reply) -> Result<(), AllocError>
@@ -24,6 +25,25 @@ pub(crate) fn push_answer(text: &mut String, reply: &Reply) -> Result<(), AllocE
             text.push_str("\n")
         }
         Reply::Refused(error) => write!(text, "refused: {error}\n"),
+    }
+}
+
+/// The line of the answer to a call with this reply.
+pub(crate) fn answer_line(alloc: Global, reply: &Reply) -> Result<String, AllocError>
+    ensures { IfOk result (λ text. string_bytes text ≡ reply_text reply.now ++ codes "\n") }
+{
+    let mut answer = String::new(alloc);
+    push_answer(&mut answer, reply)?;
+    Ok(answer)
+}
+
+/// Whether a call with this reply was accepted.
+pub(crate) fn is_accepted(reply: &Reply) -> bool
+    ensures { result ≡ is_accepted reply.now }
+{
+    match reply {
+        Reply::Done | Reply::Actions(_) => true,
+        Reply::Refused(_) => false,
     }
 }
 

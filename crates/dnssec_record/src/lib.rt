@@ -22,4 +22,4 @@ pub use dnssec_run::{
 pub use dnssec_script::{Fields, all_lines};
 pub use fault::ScriptFault;
 pub use script::{record_script, run_script};
-pub use session::{Session, Told};
+pub use session::{Session, Told, Tried};

@@ -7,13 +7,14 @@ ghost use Rattle.dnssec_record.specs.Answer.{AnswerFault};
 ghost use Rattle.dnssec_record.specs.Inner.Statement.{TakesOn};
 ghost use Rattle.dnssec_record.specs.Courses.{as_listed, ended_by, listed_by};
 ghost use Rattle.dnssec_record.specs.Session.{Advances, Closes, FaultOfZone, Stands, StandsAfter};
-ghost use Rattle.dnssec_record.specs.Session.{Resumes, Takes};
+ghost use Rattle.dnssec_record.specs.Session.{Resumes, Takes, Tries};
+ghost use Rattle.dnssec_run.specs.Recorder.{HasSameKeys, Records};
 ghost use Rattle.dnssec_run.specs.Steps.{AreStepsOf};
 ghost use Rattle.dnssec_run.specs.declared.call.Call.{Call};
 ghost use Rattle.dnssec_run.specs.declared.record.Entry.{Entry};
 ghost use Rattle.dnssec_run.specs.declared.record.Reply.TheVariants.{Refused};
 
-use crate::answers::{push_answer, push_chain_line, push_published};
+use crate::answers::{answer_line, is_accepted, push_chain_line, push_published};
 use crate::courses::{Courses, Listed, Turn};
 use crate::fault::ScriptFault;
 use crate::script::statements_of;
@@ -35,6 +36,18 @@ pub enum Told {
     Answered(Session, String),
     /// It makes no call. The session is as it was.
     Malformed(Session),
+}
+
+/// What came of a line whose call is made only if it is accepted. A text is the line of the answer
+/// with its line feed.
+#[derive(Drop)]
+pub enum Tried {
+    /// The call is made, and this is its number: how many calls the session has made.
+    Accepted { number: usize, answer: String },
+    /// The call is refused. The session is as it was, so the call has no number.
+    Refused(String),
+    /// The line makes no call. The session is as it was.
+    Malformed,
 }
 
 /// A zone whose calls come one at a time, as a daemon makes them. It keeps the key set, what is
@@ -155,9 +168,38 @@ impl Session {
             return Ok(Told::Malformed(self));
         };
         let (session, reply) = self.take(alloc, statement)?;
-        let mut answer = String::new(alloc);
-        push_answer(&mut answer, &reply)?;
+        let answer = answer_line(alloc, &reply)?;
         Ok(Told::Answered(session, answer))
+    }
+
+    /// Makes the call of the line if it is accepted, and answers it with a line. So the calls that
+    /// the session has made are those of the lines that a caller keeps, and their numbers those of
+    /// these lines. It takes as long as a copy of the session, and a call of it.
+    ///
+    /// # Errors
+    ///
+    /// `AllocError` if there is no memory, for the call too. The session is then as it was.
+    pub fn accept(&mut self, alloc: Global, line: &[u8]) -> Result<Tried, AllocError>
+        ensures ok { IfOk result (Tries self.old line.now self.new) }
+        ensures kept { IfErr result (λ _. self.new ≡ self.old) }
+    {
+        let Some(statement) = read_line(alloc, line)? else {
+            return Ok(Tried::Malformed);
+        };
+        let copy = self.try_clone(alloc)?;
+        let (next, reply) = copy.take(alloc, statement)?;
+        if let Reply::Refused(Error::OutOfMemory) = &reply {
+            return Err(AllocError);
+        }
+        let answer = answer_line(alloc, &reply)?;
+        if !is_accepted(&reply) {
+            return Ok(Tried::Refused(answer));
+        }
+        *self = next;
+        Ok(Tried::Accepted {
+            number: self.calls(),
+            answer,
+        })
     }
 
     /// Makes the call of a statement.
@@ -205,8 +247,8 @@ impl Session {
     }
 
     /// The same session, which lets go of room to spare: a map takes its first room for nine keys,
-    /// a roll leaves room, and most zones at rest have two keys or three.
-    #[tactic(auto, using(std::proofs::lemmas::Grind::common_steps))]
+    /// a roll leaves room, and most zones at rest have two keys or three. What the judge keeps stays
+    /// in its place: that may be much.
     fn fitted(self, alloc: Global) -> Self
         ensures { (name : List ℕ) (calls : List Call) (entries : List Entry) →
             StandsAfter name calls entries self → StandsAfter name calls entries result }
@@ -214,9 +256,15 @@ impl Session {
         if !self.has_room_to_spare() {
             return self;
         }
-        match self.try_clone(alloc) {
-            Ok(fitted) => fitted,
-            Err(_) => self,
+        let Session {
+            recorder,
+            judge,
+            courses,
+        } = self;
+        Session {
+            recorder: fitted(alloc, recorder),
+            judge,
+            courses,
         }
     }
 
@@ -307,6 +355,18 @@ impl Session {
             StandsAfter name calls entries self.now → IsVerdict entries result }
     {
         self.judge.verdict()
+    }
+}
+
+/// A copy of the recorder in place of it, if there is memory for one.
+fn fitted(alloc: Global, recorder: Recorder) -> Recorder
+    ensures records { (name : List ℕ) (calls : List Call) (entries : List Entry) →
+        Records name calls entries recorder → Records name calls entries result }
+    ensures published { HasSameKeys result.published recorder.published }
+{
+    match recorder.try_clone(alloc) {
+        Ok(fitted) => fitted,
+        Err(_) => recorder,
     }
 }
 

@@ -1,0 +1,36 @@
+-- A copy makes the call, and takes the place of the session if the call is accepted.
+use Rattle.std.proofs.Common.{[], ap, false, length-append, refl, rules, sym, true}
+use Rattle.std.proofs.Common.{◌++◌, ◌∙◌, ◌∷◌, ◌≡◌}
+use Rattle.dnssec_run.specs.Record.{is_accepted}
+use Rattle.dnssec_record.proofs.Sessions.{answered, copied}
+use Rattle.dnssec_record.proofs.session.Session.accept.Goals as goal
+
+pub returns-then-not-is_accepted-clause-ok : goal.returns-then-not-is_accepted-clause-ok
+returns-then-not-is_accepted-clause-ok c = (
+  refl,
+  λ lines entries so.
+      let said = rw c.in-Some.is at c.in_ok-statement.ensures in
+      let refused : is_accepted c.in_ok-next.reply ≡ false = search rules in
+      let here = copied lines entries c.args.self.now c.in_ok-copy.copy c.in_ok-copy.ensures so in
+      let told = answered lines entries c.args.line.now _ _ _ _ _ here (sym said)
+      c.in_ok-next.ensures c.in_ok-answer.ensures in
+      record {
+        next = c.in_ok-next.next;
+        goes_on = told.goes_on;
+        refused = ap is_accepted told.is_reply ∙ refused;
+      },
+)
+
+pub returns-clause-ok : goal.returns-clause-ok
+returns-clause-ok c = λ lines entries so.
+    let said = rw c.in-Some.is at c.in_ok-statement.ensures in
+    let accepted : is_accepted c.in_ok-next.reply ≡ true = search rules in
+    let here = copied lines entries c.args.self.now c.in_ok-copy.copy c.in_ok-copy.ensures so in
+    let told = answered lines entries c.args.line.now _ _ _ _ _ here (sym said)
+    c.in_ok-next.ensures c.in_ok-answer.ensures in
+    let after = told.goes_on.stands in
+    let entry = told.goes_on.entry in
+    let number = c.calls.ensures after.name after.calls (entries ++ entry ∷ []) after.stands in (
+      number ∙ length-append entries (entry ∷ []),
+      record { goes_on = told.goes_on; accepted = ap is_accepted told.is_reply ∙ accepted },
+    )
