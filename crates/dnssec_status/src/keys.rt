@@ -1,26 +1,25 @@
 //! The keys of a status.
 ghost use Rattle.std.specs.Prelude.{◌≡◌, ◌++◌, OnOk, IfOk, codes, map, string_bytes};
 ghost use Rattle.std.specs.FinMap as fin;
-ghost use Rattle.std.specs.List.{list_any};
 ghost use Rattle.std.specs.Option.{option_map};
 ghost use denote.Bor.{now};
 ghost use Rattle.dnssec_key.specs.declared.kind.KeyType.TheVariants as KeyType;
 ghost use Rattle.dnssec_key.specs.State.{is_active_ksk, is_active_zsk, is_future, is_leaving};
 ghost use Rattle.dnssec_key.specs.State.{is_used};
 ghost use Rattle.dnssec_record.specs.Courses.{as_listed};
-ghost use Rattle.dnssec_status.specs.Inner.Entries.{entry_json, entry_of, lists, roll_if_listed};
+ghost use Rattle.dnssec_status.specs.Inner.Entries.{entry_json, entry_of};
 ghost use Rattle.dnssec_status.specs.Json.{array_json, further_json, option_json, text_json};
 ghost use Rattle.dnssec_status.specs.Keys.{end_json, flags_json, front_json, key_json};
-ghost use Rattle.dnssec_status.specs.Keys.{is_listed_by_some, kind_json, may_come_in, role_json, rolls_of};
-ghost use Rattle.dnssec_status.specs.Keys.{same_part, seconds, stamps_json, state_word, traits_json};
+ghost use Rattle.dnssec_status.specs.Keys.{is_listed_by_some, kind_json, may_come_in, role_json};
+ghost use Rattle.dnssec_status.specs.Keys.{rolls_of, seconds, stamps_json, state_word, traits_json};
 ghost use Rattle.dnssec_status.specs.Names.{roll_json};
 ghost use Rattle.dnssec_zone.specs.Keys.{keys_in_map};
 
 use crate::json::{push_bytes, push_flag, push_null, push_number, push_text};
+use crate::listed::rolls_of;
 use crate::names::push_roll_names;
-use dnssec_keyset::{Key, KeyState, KeyTimestamps, KeyType, RollType, UnixTime};
+use dnssec_keyset::{Key, KeyState, KeyTimestamps, KeyType, UnixTime};
 use dnssec_record::{Listed, Part};
-use dnssec_zone::all_rolls;
 use std::alloc::{AllocError, Global};
 use std::collections::HashMap;
 use std::time::Duration;
@@ -162,69 +161,6 @@ fn push_rolls_of(
 {
     let rolls = rolls_of(alloc, listed, part, reference)?;
     push_roll_names(out, &rolls)
-}
-
-/// The rolls that listed a key as this, in the order of their kinds.
-fn rolls_of(
-    alloc: Global,
-    listed: &[Listed],
-    part: Part,
-    reference: &String,
-) -> Result<Vec<RollType>, AllocError>
-    ensures { IfOk result (λ rolls. rolls.items
-        ≡ rolls_of part (string_bytes reference.now) (map as_listed listed.now)) }
-{
-    let mut rolls = Vec::new(alloc);
-    for roll in all_rolls() {
-        note(&mut rolls, listed, *roll, part, reference)?;
-    }
-    Ok(rolls)
-}
-
-/// Notes the roll, if it listed a key as this.
-fn note(
-    rolls: &mut Vec<RollType>,
-    listed: &[Listed],
-    roll: RollType,
-    part: Part,
-    reference: &String,
-) -> Result<(), AllocError>
-    ensures { OnOk result (rolls.new.items ≡ rolls.old.items
-        ++ roll_if_listed roll part (string_bytes reference.now) listed.now) }
-{
-    if is_listed(listed, roll, part, reference) {
-        rolls.push(roll)?;
-    }
-    Ok(())
-}
-
-/// Whether the roll listed a key as this.
-fn is_listed(listed: &[Listed], roll: RollType, part: Part, reference: &String) -> bool
-    ensures { result ≡ list_any (lists roll part (string_bytes reference.now)) listed.now }
-{
-    for key in listed {
-        if lists(key, roll, part, reference) {
-            return true;
-        }
-    }
-    false
-}
-
-/// Whether this is a listing of the key for the roll and as this part.
-fn lists(listed: &Listed, roll: RollType, part: Part, reference: &String) -> bool
-    ensures { result ≡ lists roll part (string_bytes reference.now) listed.now }
-{
-    roll == listed.roll && same_part(part, listed.part) && *reference == listed.reference
-}
-
-/// Whether the two parts are one.
-fn same_part(part: Part, other: Part) -> bool
-    ensures { result ≡ same_part part other }
-{
-    match (part, other) {
-        (Part::Old, Part::Old) | (Part::New, Part::New) => true,
-        (Part::Old, Part::New) | (Part::New, Part::Old) => false,
-    }
 }
 
 /// Writes what an add says of the key.

@@ -14,6 +14,7 @@ ghost use Rattle.dnssec_status.specs.Status.{IsStatus};
 
 mod json;
 mod keys;
+mod listed;
 mod names;
 mod rolls;
 mod sets;

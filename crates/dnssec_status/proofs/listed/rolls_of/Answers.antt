@@ -6,7 +6,7 @@ use Rattle.dnssec_record.specs.Courses.{as_listed}
 use Rattle.dnssec_status.specs.Keys.{has_listed, rolls_of}
 use Rattle.dnssec_status.proofs.Chains.{filter_one_more}
 use Rattle.dnssec_zone.{proofs.Quantified.list_any-map, specs.Rolls.all_rolls}
-use Rattle.dnssec_status.proofs.keys.rolls_of.Goals as goal
+use Rattle.dnssec_status.proofs.listed.rolls_of.Goals as goal
 
 pub loop-roll-init : goal.loop-roll-init
 loop-roll-init c = c.new-rolls.ensures.items
