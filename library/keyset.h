@@ -2,8 +2,8 @@
 
    There are two ways to use it. `keyset_answer` takes a script and writes its answers; it keeps
    nothing, and the script is the whole state. A session keeps a zone between two calls: a line goes
-   in, and its answer comes out. A call costs no more if many calls came before it. docs/CALLERS.md
-   is the page for callers, and docs/SCRIPTS.md has the form of scripts and of answers.
+   in, and its answer comes out. docs/CALLERS.md is the page for callers, and docs/SCRIPTS.md has
+   the form of scripts and of answers.
 
    Who owns what: all buffers are the caller's. The library reads and writes them while it is
    called, and keeps no pointer. What it allocates it frees before it returns, except what a session
@@ -14,17 +14,18 @@
 
    Threads: the library has no data of its own, takes no lock, opens no file and reads no clock. So
    threads may call it side by side, each with sessions and an `out` of its own. A session may go
-   from one thread to another, but only one thread at a time may use it, also to ask a question.
+   from one thread to another. Functions that take a `const struct keyset_session *` only read it:
+   threads may ask one session side by side as long as none makes a call or takes a note on it,
+   opens or closes it, or copies into it. That is tested; the proofs speak of one call at a time.
 
    Signals and forks: it calls malloc, realloc and free. So it is not for signal handlers, nor for
-   the forked child of a process with threads. A forked child has a copy of each session, and parent
-   and child then go on by themselves: only one of them may keep the lines.
+   the forked child of a process with threads. A forked child has a copy of each session. Parent and
+   child then go on by themselves, so only one of them may keep the lines.
 
    Numbers of calls: the number of a call is that of its line in the kept script, less one. The
-   zone's line has none, and the line after it is call 1. Only accepted lines are kept, so a refused
-   call has no number. `keyset_call` makes a refused call one of the session's, too. So make a new
-   call on a `keyset_copy` that takes the session's place if it is accepted: then session, script and
-   notes count alike.
+   zone's line has none, and the line after it is call 1. `keyset_accept` leaves a refused call out
+   of the session. So keep the lines that it accepts, and only these: then session, script and notes
+   count alike. `keyset_call` counts a refused line too, as it stands in a script.
 
    The contract of each function is proved, in crates/keyset_c/src/lib.rt: the clauses whose names
    are in parentheses below. They take for granted what C asks of every caller: each pointer has as
@@ -60,7 +61,8 @@ enum {
     KEYSET_IS_OPEN = 6,       /* the session is open */
     KEYSET_NO_SUCH_CALL = 7,  /* a line of notes has the sets of a call that wasn't made yet */
     KEYSET_SEEN_EARLY = 8,    /* a line of notes: seen everywhere before it was published */
-    KEYSET_MOMENT_FALLS = 9   /* a line of notes: its moment lies before the last one */
+    KEYSET_MOMENT_FALLS = 9,  /* a line of notes: its moment lies before the last one */
+    KEYSET_REFUSED = 10       /* the key set refuses the call */
 };
 
 struct keyset_answered {
@@ -90,8 +92,8 @@ struct keyset_answered keyset_answer(const uint8_t *script, size_t script_length
 
    The proofs take for granted that a session is used as one value: it may be moved, but a copy of
    its bytes is no second session (`keyset_copy` makes one); it is all zeros before it is opened;
-   nobody else writes to it; and only one thread at a time uses it. If a session is closed, each
-   call says so, and leaves it closed. */
+   nobody else writes to it; and one call at a time uses it. If a session is closed, each call says
+   so, and leaves it closed. */
 struct keyset_session {
     void *place;
     bool is_open;
@@ -108,33 +110,53 @@ struct keyset_session {
    Unless it is answered, the session is as it was (unchanged). */
 uint32_t keyset_open(const uint8_t *line, size_t line_length, struct keyset_session *session);
 
+/* Makes the call of the line if the key set accepts it. `keyset_told` then writes the answer, of a
+   refused call too. So no buffer can be too short.
+
+   answered       the call is made (accepted), and `keyset_calls` is its number
+   refused        the call isn't made, and has no number (refused)
+   malformed      the line doesn't have the form of a script's line (malformed)
+   out of memory  asking again may help
+   closed         the session is closed (closed)
+
+   Unless it was answered, the calls and the notes are as they were (refused, unchanged). A session
+   is never lost. It takes as long as `keyset_copy`, and the call. */
+uint32_t keyset_accept(struct keyset_session *session, const uint8_t *line, size_t line_length);
+
 /* Makes the call of the line, and answers it as in a script of all lines so far. A refused call is
-   answered too, and its line is one of them.
+   answered too, and its line is one of them. It is for the lines of a script as they stand. A call
+   costs no more if many calls came before it.
 
    answered       `out` begins with the answer and its line feed (answered, fits, rest)
    malformed      no call is made, and the session is as it was (malformed, kept)
-   short          the call is made, and its answer has `length` bytes (short, needed): `keyset_told`
-                  writes it
+   short          the call is made, and its answer has `length` bytes (short, needed). Don't make it
+                  again: `keyset_told` writes its answer
    out of memory  the session is closed (lost): open it again with its lines
    closed         it was closed (closed)
 
-   Unless it was answered, `out` is as it was (silent). */
+   Unless it was answered, `out` is as it was (silent). `line` is 0 (no_line), and so is `length`
+   unless it was answered or short (no_length). */
 struct keyset_answered keyset_call(struct keyset_session *session, const uint8_t *line,
                                    size_t line_length, uint8_t *out, size_t out_length);
 
-/* These write into the front of `out`, and leave the session as it was (same), whatever the status:
-   answered (told, fits, rest), short (short), out of memory, closed (closed). Unless it was
-   answered, `out` is as it was (silent).
+/* How many calls the session has made: the number of the last one (made). 0 of a closed session. */
+size_t keyset_calls(const struct keyset_session *session);
 
-   keyset_told     the answer to the last line again; before the first one nothing
+/* These write into the front of `out`, and leave the session as it was (same), whatever the status:
+   answered (told, handed), short (needed, handed), out of memory, closed (closed). Unless it was
+   answered, `out` is as it was. `line` is 0, and so is `length` unless it was answered or short
+   (handed). There is no other status (status).
+
+   keyset_told     the answer to the last line again; before the first one nothing. It is never out
+                   of memory
    keyset_closing  the last two lines of the answers to all lines so far: the published sets, and
                    the verdict on the record
    keyset_status   the status of the zone: one line of JSON, in the form that docs/STATUS.md has */
-struct keyset_answered keyset_told(struct keyset_session *session, uint8_t *out,
+struct keyset_answered keyset_told(const struct keyset_session *session, uint8_t *out,
                                    size_t out_length);
-struct keyset_answered keyset_closing(struct keyset_session *session, uint8_t *out,
+struct keyset_answered keyset_closing(const struct keyset_session *session, uint8_t *out,
                                       size_t out_length);
-struct keyset_answered keyset_status(struct keyset_session *session, uint8_t *out,
+struct keyset_answered keyset_status(const struct keyset_session *session, uint8_t *out,
                                      size_t out_length);
 
 /* Takes the next line of the zone's notes, after the calls that the session has made so far: what
@@ -154,10 +176,10 @@ uint32_t keyset_note(struct keyset_session *session, const uint8_t *line, size_t
 
 /* Writes the reports that the rolls wait for, as they would be made at this second since 1970: a
    line for each, in the form that docs/NOTES.md has. They are those that the program keyset_notes
-   answers for the lines of the session and of its notes (told). A session without notes is
-   malformed (no_notes). Else it is as the three functions above. */
-struct keyset_answered keyset_due(struct keyset_session *session, uint64_t seconds, uint8_t *out,
-                                  size_t out_length);
+   answers for the lines of the session and of its notes (told). It is malformed if and only if the
+   session has no notes (no_notes). Else it is as the three functions above. */
+struct keyset_answered keyset_due(const struct keyset_session *session, uint64_t seconds,
+                                  uint8_t *out, size_t out_length);
 
 /* Opens another session after the same calls, with the same last answer and the same notes
    (copied). So you can try a call on it. The first session stays as it is (same). Each may go to
@@ -165,11 +187,11 @@ struct keyset_answered keyset_due(struct keyset_session *session, uint64_t secon
 
    answered       the other session is open
    out of memory  asking again may help
-   closed         the first session is closed
+   closed         the first session is closed (closed)
    is open        the other session was open (is_open)
 
    Unless it is answered, the other session is as it was (unchanged). */
-uint32_t keyset_copy(struct keyset_session *session, struct keyset_session *copy);
+uint32_t keyset_copy(const struct keyset_session *session, struct keyset_session *copy);
 
 /* Closes a session, and frees what it keeps. A closed one stays closed. */
 void keyset_close(struct keyset_session *session);
@@ -177,6 +199,15 @@ void keyset_close(struct keyset_session *session);
 /* The version of the interface of the linked library: of its functions, structs and statuses. It is
    KEYSET_VERSION if header and library belong together. */
 uint32_t keyset_version(void);
+
+/* KEYSET_TEXT_ROOM bytes always suffice for these two (room). They take no memory, and write no line
+   feed (told).
+
+   keyset_status_text   what a status means, as `out of memory`; of another number `no such status`
+   keyset_version_text  the release of the linked library, as `1.0.0` */
+#define KEYSET_TEXT_ROOM 64
+struct keyset_answered keyset_status_text(uint32_t status, uint8_t *out, size_t out_length);
+struct keyset_answered keyset_version_text(uint8_t *out, size_t out_length);
 
 #ifdef __cplusplus
 }

@@ -69,8 +69,8 @@ def build_in_c(folder, program, *flags, more=()):
 
 
 def build_sessions(folder, program, *flags):
-    """Builds the tests of sessions in C as a program."""
-    source = TOP / "tests" / "sessions.c"
+    """Builds the tests of sessions in C as a program: those of the file of its name."""
+    source = TOP / "tests" / f"{program.name}.c"
     run("cc", *STRICT, *WRAPPED, *flags, "-o", program, source, *c_flags(folder))
     return program
 
@@ -81,6 +81,10 @@ def test_in_c(folder, room):
 
 def test_sessions(folder, room):
     return run(build_sessions(folder, room / "sessions"), STORED).strip()
+
+
+def test_accepted(folder, room):
+    return run(build_sessions(folder, room / "accepted"), STORED).strip()
 
 
 def test_notes(folder, room):
@@ -95,7 +99,8 @@ def under_valgrind(folder, room):
     before = ["valgrind", "--error-exitcode=9", "--leak-check=full"]
     before += ["--errors-for-leak-kinds=all"]
     library = build_in_c(folder, room / "library", "-g")
-    programs = library, build_sessions(folder, room / "sessions", "-g")
+    names = "sessions", "accepted"
+    programs = library, *(build_sessions(folder, room / name, "-g") for name in names)
     told = [run(*before, program, STORED, STEP) for program in programs]
     told.append(run(*before, noted.build(folder, room / "notes", "-g"), *noted.EXAMPLE, STEP))
     return "".join(told).strip()
@@ -105,7 +110,8 @@ def under_asan(folder, room):
     flags = ["-g", "-fsanitize=address,undefined"]
     try:
         library = build_in_c(folder, room / "library", *flags)
-        programs = library, build_sessions(folder, room / "sessions", *flags)
+        names = "sessions", "accepted"
+        programs = library, *(build_sessions(folder, room / name, *flags) for name in names)
         notes = noted.build(folder, room / "notes", *flags)
     except Wrong as wrong:
         text = f"{wrong}\nthe C compiler wants its runtime libraries of {flags[1]} here"
@@ -404,6 +410,7 @@ def test(folder, room):
 def short_tests(folder, room):
     yield "library", test_static_buffer(folder, room)
     yield "sessions", test_statuses(folder)
+    yield "library", test_accepted(folder, room)
     yield "library", test_notes(folder, room)
     yield "library", test_c_caller(room, "C", c_flags(folder))
     yield "library", test_c_caller(room, "C over the shared object", shared_flags(folder))

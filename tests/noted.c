@@ -95,11 +95,17 @@ static struct keyset_answered due(struct keyset_session *session, const char *li
     return told;
 }
 
+/* Each member has its value: no answer of a session has a line. */
+static bool is_answer(struct keyset_answered told, uint32_t status, size_t length)
+{
+    return told.status == status && told.length == length && told.line == 0;
+}
+
 static void expect_due(struct keyset_session *session, const char *line, const char *wanted)
 {
     uint8_t *out = filled(ROOM);
     struct keyset_answered told = due(session, line, out, ROOM);
-    expect(told.status == KEYSET_ANSWERED && told.length == strlen(wanted), "answered", line);
+    expect(is_answer(told, KEYSET_ANSWERED, strlen(wanted)), "answered", line);
     expect(memcmp(out, wanted, told.length) == 0, "the answer", line);
     expect(is_filled(out + told.length, ROOM - told.length), "what comes after it", line);
     free(out);
@@ -112,7 +118,7 @@ static void expect_short(struct keyset_session *session, const char *line, const
     for (size_t room = 0; room < needed; room += step) {
         uint8_t *out = filled(room);
         struct keyset_answered told = due(session, line, room > 0 ? out : NULL, room);
-        expect(told.status == KEYSET_SHORT && told.length == needed, "short", line);
+        expect(is_answer(told, KEYSET_SHORT, needed), "short", line);
         expect(is_filled(out, room), "nothing is written if it is short", line);
         free(out);
     }
@@ -144,12 +150,13 @@ static size_t fail_due(struct keyset_session *session, const char *line, const c
     uint8_t *out = filled(ROOM);
     for (requests.failing = 1;; requests.failing++) {
         requests.made = 0;
-        uint32_t status = due(session, line, out, ROOM).status;
+        struct keyset_answered told = due(session, line, out, ROOM);
         if (requests.made < requests.failing) {
-            expect(status == KEYSET_ANSWERED, "answered in the end", line);
+            expect(told.status == KEYSET_ANSWERED, "answered in the end", line);
             break;
         }
-        expect(status == KEYSET_OUT_OF_MEMORY && is_filled(out, ROOM), "out of memory", line);
+        expect(is_answer(told, KEYSET_OUT_OF_MEMORY, 0), "out of memory", line);
+        expect(is_filled(out, ROOM), "nothing is written", line);
     }
     size_t failed = requests.failing - 1;
     requests.failing = 0;
@@ -190,9 +197,11 @@ static size_t play(void)
     size_t failed = 0, asked = 0;
     uint8_t out[1];
     expect(note(&session, "before 1 1 1") == KEYSET_CLOSED, "a note", "closed");
-    expect(due(&session, "due 1", out, 1).status == KEYSET_CLOSED, "a question", "closed");
+    expect(is_answer(due(&session, "due 1", out, 1), KEYSET_CLOSED, 0), "a question", "closed");
     open_with(&session, calls);
-    expect(due(&session, "due 1", out, 1).status == KEYSET_MALFORMED, "no notes", "due");
+    requests.failing = 1;
+    expect(is_answer(due(&session, "due 1", out, 1), KEYSET_MALFORMED, 0), "no notes", "due");
+    requests.failing = 0;
     expect(note(&session, "everywhere ds 1") == KEYSET_MALFORMED, "no first line", "a note");
     for (size_t i = calls; i < all; i++) {
         if (!is_question(lines[i])) {

@@ -58,7 +58,7 @@ static struct keyset_answered call(struct keyset_session *session, const char *l
     return told;
 }
 
-typedef struct keyset_answered (*question)(struct keyset_session *, uint8_t *, size_t);
+typedef struct keyset_answered (*question)(const struct keyset_session *, uint8_t *, size_t);
 static const question QUESTIONS[] = {keyset_told, keyset_closing, keyset_status};
 
 static struct keyset_answered ask(question asked, struct keyset_session *session, uint8_t *out,
@@ -87,6 +87,12 @@ static void close_session(struct keyset_session *session)
 }
 
 /* ---- what is expected */
+
+/* Each member has its value: no answer of a session has a line. */
+static bool is_answer(struct keyset_answered told, uint32_t status, size_t length)
+{
+    return told.status == status && told.length == length && told.line == 0;
+}
 
 /* The answer to a question, as a new text. */
 static char *answer_of(question asked, struct keyset_session *session)
@@ -118,13 +124,14 @@ static void expect_short(question asked, struct keyset_session *session)
     for (size_t room = 0; room < needed; room += step) {
         uint8_t *out = filled(room);
         struct keyset_answered told = ask(asked, session, room > 0 ? out : NULL, room);
-        expect(told.status == KEYSET_SHORT && told.length == needed, "short", text);
+        expect(is_answer(told, KEYSET_SHORT, needed), "short", text);
         expect(is_filled(out, room), "nothing is written if it is short", text);
         free(out);
     }
     uint8_t *out = filled(needed);
     struct keyset_answered told = ask(asked, session, out, needed);
-    expect(told.status == KEYSET_ANSWERED && memcmp(out, text, needed) == 0, "exact room", text);
+    expect(is_answer(told, KEYSET_ANSWERED, needed), "exact room", text);
+    expect(memcmp(out, text, needed) == 0, "the answer in exact room", text);
     free(out);
     free(text);
 }
@@ -137,10 +144,10 @@ static void expect_closed(struct keyset_session *session)
     struct keyset_session other = {0};
     requests.made = requests.held = requests.failing = 0;
     struct keyset_answered told = call(session, "delete K1", 9, out, sizeof out);
-    expect(told.status == KEYSET_CLOSED && told.length == 0, "a call", "closed");
+    expect(is_answer(told, KEYSET_CLOSED, 0), "a call", "closed");
     for (size_t i = 0; i < 3; i++) {
         told = ask(QUESTIONS[i], session, out, sizeof out);
-        expect(told.status == KEYSET_CLOSED && told.length == 0, "a question", "closed");
+        expect(is_answer(told, KEYSET_CLOSED, 0), "a question", "closed");
     }
     expect(copy(session, &other) == KEYSET_CLOSED, "copied", "closed");
     expect(!other.is_open && is_filled(out, sizeof out), "nothing is done", "closed");
@@ -172,7 +179,7 @@ static void expect_malformed(struct keyset_session *session)
         size_t length = strlen(MALFORMED[i]);
         struct keyset_answered told =
             call(session, length > 0 ? MALFORMED[i] : NULL, length, out, sizeof out);
-        expect(told.status == KEYSET_MALFORMED && told.length == 0, "malformed", MALFORMED[i]);
+        expect(is_answer(told, KEYSET_MALFORMED, 0), "malformed", MALFORMED[i]);
         expect(is_filled(out, sizeof out), "nothing is written", MALFORMED[i]);
     }
     expect_told(keyset_closing, session, closing, "after malformed lines");
@@ -191,7 +198,7 @@ static void expect_short_call(struct keyset_session *session, const char *line, 
         expect(copy(session, &tried) == KEYSET_ANSWERED, "a copy", line);
         uint8_t *out = filled(room);
         struct keyset_answered told = call(&tried, line, length, room > 0 ? out : NULL, room);
-        expect(told.status == KEYSET_SHORT && told.length == needed, "a short call", line);
+        expect(is_answer(told, KEYSET_SHORT, needed), "a short call", line);
         expect(is_filled(out, room), "nothing is written if it is short", line);
         char *again = answer_of(keyset_told, &tried);
         expect(strncmp(again, wanted, needed) == 0 && strlen(again) == needed, "it again", line);
@@ -230,7 +237,7 @@ static void next(struct play *play)
     uint8_t *out = filled(LINE_ROOM);
     size_t length = length_of_line(play->line), needed = length_of_line(play->wanted) + 1;
     struct keyset_answered told = call(&play->session, play->line, length, out, LINE_ROOM);
-    expect(told.status == KEYSET_ANSWERED && told.length == needed, "a line", play->it->name);
+    expect(is_answer(told, KEYSET_ANSWERED, needed), "a line", play->it->name);
     expect(memcmp(out, play->wanted, needed) == 0, "its answer", play->it->name);
     expect(is_filled(out + needed, LINE_ROOM - needed), "what comes after it", play->it->name);
     free(out);
@@ -337,7 +344,9 @@ static bool play_failing(const struct stored *it, size_t failing, size_t *closed
         if (fails_now)
             requests.failing = 0;
         if (told.status == KEYSET_OUT_OF_MEMORY) {
-            expect(fails_now && is_filled(out, LINE_ROOM), "out of memory", it->name);
+            expect(fails_now, "a request failed", it->name);
+            expect(is_answer(told, KEYSET_OUT_OF_MEMORY, 0), "out of memory", it->name);
+            expect(is_filled(out, LINE_ROOM), "nothing is written", it->name);
             open_anew(&play);
             (*closed)++;
         } else if (told.length == strlen(REFUSED) && memcmp(out, REFUSED, told.length) == 0) {
@@ -376,12 +385,15 @@ static bool fail_one(size_t kind, struct keyset_session *session, size_t failing
     uint8_t *out = filled(ROOM);
     requests.made = requests.held = 0;
     requests.failing = failing;
-    uint32_t status = kind < 3 ? ask(QUESTIONS[kind], session, out, ROOM).status
-                               : copy(session, &other);
+    struct keyset_answered told = {.status = 0};
+    if (kind < 3)
+        told = ask(QUESTIONS[kind], session, out, ROOM);
+    uint32_t status = kind < 3 ? told.status : copy(session, &other);
     bool has_failed = requests.made >= failing;
     requests.failing = 0;
     if (status == KEYSET_OUT_OF_MEMORY) {
-        expect(has_failed, "out of memory", "a question");
+        expect(has_failed && told.length == 0 && told.line == 0, "out of memory", "a question");
+        expect(kind != 0, "it takes no memory", "keyset_told");
         expect(is_filled(out, ROOM) && !other.is_open, "nothing is done", "a question");
     } else {
         expect(status == KEYSET_ANSWERED, "answered, or out of memory", "a question");

@@ -17,18 +17,9 @@ static struct keyset_session session;
 
 static void give_up(const char *line, uint32_t status)
 {
-    static const char *const causes[] = {
-        [KEYSET_MALFORMED] = "malformed",
-        [KEYSET_OUT_OF_MEMORY] = "out of memory",
-        [KEYSET_SHORT] = "a longer answer than expected",
-        [KEYSET_CLOSED] = "closed",
-        [KEYSET_IS_OPEN] = "open",
-        [KEYSET_NO_SUCH_CALL] = "no such call yet",
-        [KEYSET_SEEN_EARLY] = "seen before it was published",
-        [KEYSET_MOMENT_FALLS] = "moment before the last one",
-    };
-    bool is_known = status < sizeof causes / sizeof *causes && causes[status] != NULL;
-    fprintf(stderr, "%s: %s\n", line, is_known ? causes[status] : "no such status");
+    uint8_t text[KEYSET_TEXT_ROOM];
+    struct keyset_answered told = keyset_status_text(status, text, sizeof text);
+    fprintf(stderr, "%s: %.*s\n", line, (int)told.length, (const char *)text);
     exit(EXIT_FAILURE);
 }
 

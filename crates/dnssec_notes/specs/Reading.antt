@@ -99,11 +99,12 @@ abbrev pub IsFirstLine : List ℕ → Option NotesParts → Type 0
 IsFirstLine line noted = (before : Before) × (as_before line ≡ Some (before_says before))
     × (noted ≡ Some (record { before = before; facts = [] }))
 
--- why a line can't be the first
+-- why a line can't be the first; memory is missing only for one that could be
 abbrev pub IsFirstFault : List ℕ → LineFault → Type 0
 IsFirstFault line why.Malformed = as_before line ≡ None
 IsFirstFault line (why.Refused cause) = ⊥
-IsFirstFault line why.OutOfMemory = Unit {0}
+IsFirstFault line why.OutOfMemory =
+    (before : Before) × (as_before line ≡ Some (before_says before))
 
 -- why a line is not taken
 abbrev pub IsTakeFault : ℕ → Option NotesParts → List ℕ → LineFault → Type 0

@@ -1,5 +1,5 @@
 //! Notes beside a session.
-ghost use Rattle.std.specs.Prelude.{◌≡◌, ◌∷◌, ◌++◌, ℕ, List, [], None, Some, IfOk, IfErr, OnOk};
+ghost use Rattle.std.specs.Prelude.{◌≡◌, ◌∷◌, ◌++◌, ℕ, List, [], None, Some, IfOk, IfErr, Ok, OnOk};
 ghost use Rattle.std.specs.Option.{option_map};
 ghost use Rattle.std.specs.Prelude.{length, string_bytes};
 ghost use Rattle.dnssec_record.specs.Session.{Stands, StandsAfter};
@@ -137,8 +137,9 @@ impl SessionNotes {
         session: &Session,
         seconds: u64,
     ) -> Result<Option<String>, AllocError>
-        ensures { IfOk result (λ text.
+        ensures text { IfOk result (λ text.
             AnswersDue session.now self.now seconds (option_map string_bytes text)) }
+        ensures none { self.now ≡ None → result ≡ Ok None }
     {
         match &self.notes {
             None => Ok(None),

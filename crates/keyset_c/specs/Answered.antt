@@ -13,14 +13,17 @@ TextEndsSafe script text =
     (a : IsAnswerOf script text) → IsPlain a.name a.calls a.entries →
     (front : List ℕ) × (text ≡ front ++ codes "\nchain safe\n")
 
--- an answer to the script has this length
-abbrev pub IsAnswerOfLength : List ℕ → ℕ → Type 0
-IsAnswerOfLength script n = (text : List ℕ) × IsAnswerOf script text × (length text ≡ n)
+-- a text of which this is so has this length
+abbrev pub AtLength : (List ℕ → Type 0) → ℕ → Type 0
+AtLength IsText n = (text : List ℕ) × IsText text × (length text ≡ n)
 
--- `out` after an answer of this status and length. Answered: it fits, and what stands after it is
--- as it was. Short of room: it is longer. Without an answer nothing is written.
-pub record Hands (status n : ℕ) (old new : List ℕ) : Type 0 where
+-- `out` after an answer of this status, length and line. Answered: it fits, and what stands after it
+-- is as it was. Short of room: it is longer. Without an answer nothing is written. A number that a
+-- status has no use for is 0.
+pub record Hands (status n line : ℕ) (old new : List ℕ) : Type 0 where
   pub fits : status ≡ 0 → n ≤ length new
   pub rest : status ≡ 0 → drop n new ≡ drop n old
   pub short : status ≡ 4 → length old < n
   pub silent : status ≢ 0 → new ≡ old
+  pub no_length : status ≢ 0 → status ≢ 4 → n ≡ 0
+  pub no_line : line ≡ 0

@@ -1,4 +1,6 @@
 pub mod Answered
 pub mod Handles
+pub mod Lent
 pub mod Owned
 pub mod Sessions
+pub mod Texts

@@ -9,11 +9,11 @@ use Rattle.dnssec_notes.specs.declared.fault.LineFault.{LineFault}
 use Rattle.dnssec_notes.specs.declared.fault.LineFault.TheVariants.{Malformed, Refused, OutOfMemory}
 use Rattle.dnssec_run.specs.declared.call.Call.{Call}
 use Rattle.dnssec_run.specs.declared.record.Entry.{Entry}
-use Rattle.dnssec_record.specs.Session.{Closes, GoesOn, Stands, StandsAfter}
+use Rattle.dnssec_record.specs.Session.{Accepts, Closes, GoesOn, Refuses}
+use Rattle.dnssec_record.specs.Session.{Stands, StandsAfter}
+use Rattle.dnssec_record.specs.declared.session.Session.{Session}
 use Rattle.dnssec_status.specs.Status.{IsStatus}
 use Rattle.keyset_c.specs.declared.kept.Kept.{Kept}
-use Rattle.keyset_c.specs.declared.sessions.Question.{Question}
-use Rattle.keyset_c.specs.declared.sessions.Question.TheVariants.{Last, Closing, Status, Due}
 
 -- it was opened with this line, and has made no call yet
 pub record Opens (new : Option Kept) (line : List ℕ) : Type 0 where
@@ -35,9 +35,39 @@ pub record Calls (old new : Option Kept) (line text : List ℕ) : Type 0 where
       Stands lines entries before.session → GoesOn lines entries line after.session text
   pub notes : after.notes ≡ before.notes
 
--- the same with a text of this length
-abbrev pub CallsAtLength : Option Kept → Option Kept → List ℕ → ℕ → Type 0
-CallsAtLength old new line n = (text : List ℕ) × Calls old new line text × (length text ≡ n)
+-- ---- a call that is made only if it is accepted
+
+-- whatever lines it had, it has this one too, whose call was accepted; the text that is given when
+-- it is asked for is the answer, and the notes stay
+pub record AcceptsLine (before : Kept) (line : List ℕ) (after : Kept) : Type 0 where
+  pub accepts : (lines : List (List ℕ)) (entries : List Entry) → Stands lines entries before.session
+      → Accepts lines entries line after.session (string_bytes after.answer)
+  pub notes : after.notes ≡ before.notes
+
+-- the call of this line would be refused, and is not made: the text that is given when it is asked
+-- for is the answer to it, and all else is as it was
+pub record RefusesCall (before : Kept) (line : List ℕ) (after : Kept) : Type 0 where
+  pub session : after.session ≡ before.session
+  pub refuses : (lines : List (List ℕ)) (entries : List Entry) → Stands lines entries before.session
+      → Refuses lines entries line (string_bytes after.answer)
+  pub notes : after.notes ≡ before.notes
+
+-- what comes of a line, of a session that is open
+pub record IfOpen (Comes : Kept → List ℕ → Kept → Type 0) (old : Option Kept) (line : List ℕ)
+    (new : Option Kept) : Type 0 where
+  pub before : Kept
+  pub is_before : old ≡ Some before
+  pub after : Kept
+  pub is_after : new ≡ Some after
+  pub comes : Comes before line after
+
+-- ---- questions
+
+-- how many calls it has made
+abbrev pub HasMade : Option Kept → ℕ → Type 0
+HasMade None n = n ≡ 0
+HasMade (Some kept) n = (lines : List (List ℕ)) (entries : List Entry) →
+    Stands lines entries kept.session → n ≡ length entries
 
 -- the text is the last answer that it gave
 pub record Repeats (old : Option Kept) (text : List ℕ) : Type 0 where
@@ -45,19 +75,25 @@ pub record Repeats (old : Option Kept) (text : List ℕ) : Type 0 where
   pub is : old ≡ Some kept
   pub tells : string_bytes kept.answer ≡ text
 
--- the text is the last two lines of the answers to its calls so far
+-- the text is the last two lines of the answers to the calls of this session so far
+abbrev pub IsClosingOf : Session → List ℕ → Type 0
+IsClosingOf session text = (name : List ℕ) (calls : List Call) (entries : List Entry) →
+    StandsAfter name calls entries session → Closes entries text
+
 pub record ClosesWith (old : Option Kept) (text : List ℕ) : Type 0 where
   pub kept : Kept
   pub is : old ≡ Some kept
-  pub closes : (name : List ℕ) (calls : List Call) (entries : List Entry) →
-      StandsAfter name calls entries kept.session → Closes entries text
+  pub closes : IsClosingOf kept.session text
 
--- the text is the status after its calls so far
+-- the text is the status after the calls of this session so far
+abbrev pub IsStatusOf : Session → List ℕ → Type 0
+IsStatusOf session text = (name : List ℕ) (calls : List Call) (entries : List Entry) →
+    StandsAfter name calls entries session → IsStatus name calls entries text
+
 pub record ShowsStatus (old : Option Kept) (text : List ℕ) : Type 0 where
   pub kept : Kept
   pub is : old ≡ Some kept
-  pub shows : (name : List ℕ) (calls : List Call) (entries : List Entry) →
-      StandsAfter name calls entries kept.session → IsStatus name calls entries text
+  pub shows : IsStatusOf kept.session text
 
 -- ---- notes
 
@@ -69,14 +105,6 @@ pub record NotesLine (before : Kept) (line : List ℕ) (after : Kept) : Type 0 w
   pub takes : (lines notes : List (List ℕ)) (entries : List Entry) →
       Stands lines entries before.session → HasTaken (length entries) notes before.notes →
       HasTaken (length entries) (notes ++ line ∷ []) after.notes
-
--- the same of a session that is open
-pub record Notes (old : Option Kept) (line : List ℕ) (new : Option Kept) : Type 0 where
-  pub before : Kept
-  pub is_before : old ≡ Some before
-  pub after : Kept
-  pub is_after : new ≡ Some after
-  pub takes : NotesLine before line after
 
 -- the status for a line that notes don't take
 abbrev pub status_of : LineFault → ℕ
@@ -117,20 +145,6 @@ pub record LacksNotes (old : Option Kept) : Type 0 where
   pub kept : Kept
   pub is : old ≡ Some kept
   pub none : kept.notes ≡ None
-
--- ---- questions
-
--- what a question is answered
-abbrev pub Tells : Question → Option Kept → List ℕ → Type 0
-Tells Last = Repeats
-Tells Closing = ClosesWith
-Tells Status = ShowsStatus
-Tells (Due seconds) = ShowsDue seconds
-
--- what is missing if a question has no answer
-abbrev pub Lacks : Question → Option Kept → Type 0
-Lacks (Due seconds) old = LacksNotes old
-Lacks _ old = ⊥
 
 -- the other one stands after the same calls, gives the same answer to the last, and has the same
 -- notes

@@ -23,6 +23,9 @@ pub(crate) const SEEN_EARLY: u32 = 8;
 /// A line of notes has a moment before the last one.
 pub(crate) const MOMENT_FALLS: u32 = 9;
 
+/// The key set refuses the call.
+pub(crate) const REFUSED: u32 = 10;
+
 /// How a call of the library was answered.
 #[repr(C)]
 #[derive(Drop)]

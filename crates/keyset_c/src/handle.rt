@@ -12,7 +12,7 @@ use std::mem;
 #[repr(C)]
 #[derive(Drop)]
 pub struct Handle {
-    place: Place,
+    pub(crate) place: Place,
     is_open: bool,
 }
 

@@ -9,24 +9,29 @@ ghost use Rattle.std.specs.Prelude.{None, IsSome};
 ghost use Rattle.dnssec_record.specs.Answer.{IsAnswerOf};
 ghost use Rattle.dnssec_script.specs.Script.{IsFirstMalformed, IsScript, IsZoneLine, says};
 ghost use Rattle.dnssec_run.specs.declared.call.Call.{Call};
-ghost use Rattle.keyset_c.specs.Answered.{TextEndsSafe, IsAnswerOfLength, StaysSafeIfPlain};
+ghost use Rattle.keyset_c.specs.Answered.{AtLength, StaysSafeIfPlain, TextEndsSafe};
 ghost use Rattle.keyset_c.specs.Handles.{IsWhole, kept_by};
-ghost use Rattle.keyset_c.specs.Sessions.{Calls, CallsAtLength, ClosesWith, Copies, LacksNotes};
-ghost use Rattle.keyset_c.specs.Sessions.{Notes, Opens, RefusesNote, Repeats, ShowsDue};
-ghost use Rattle.keyset_c.specs.Sessions.{ShowsStatus};
+ghost use Rattle.keyset_c.specs.Sessions.{AcceptsLine, Calls, IfOpen, NotesLine, Opens};
+ghost use Rattle.keyset_c.specs.Sessions.{RefusesCall, RefusesNote};
 
 mod answered;
 mod handle;
 mod kept;
 mod parts;
 mod place;
+mod questions;
 mod sessions;
+mod texts;
 
 pub use crate::answered::Answered;
 use crate::answered::{ANSWERED, CLOSED, IS_OPEN, MALFORMED, OUT_OF_MEMORY, fault, hand_out};
 pub use crate::handle::Handle;
 use crate::kept::Kept;
-use crate::sessions::{Question, ask, copy_of, note, put_back, put_next};
+pub use crate::questions::{
+    keyset_calls, keyset_closing, keyset_copy, keyset_due, keyset_status, keyset_told,
+};
+use crate::sessions::{accept, note, put_back, put_next};
+pub use crate::texts::{keyset_status_text, keyset_version_text};
 use dnssec_notes::SessionNotes;
 use dnssec_record::{ScriptFault, Session, Std, Told, run_script};
 use std::alloc::Global;
@@ -59,7 +64,7 @@ pub extern "C" fn keyset_answer(alloc: Global, script: &[u8], out: &mut [u8]) ->
 
     // Short of room is said only if it is so, with the length of an answer.
     ensures short { result.status ≡ 4 → length out.old < result.length }
-    ensures needed { result.status ≡ 4 → IsAnswerOfLength script.now result.length }
+    ensures needed { result.status ≡ 4 → AtLength (IsAnswerOf script.now) result.length }
 
     // Without an answer nothing is written.
     ensures silent { result.status ≢ 0 → out.new ≡ out.old }
@@ -154,7 +159,7 @@ pub extern "C" fn keyset_call(
     // Short of room: the call is made, and its answer has this length.
     ensures short { result.status ≡ 4 → length out.old < result.length }
     ensures needed { result.status ≡ 4 →
-        CallsAtLength (kept_by session.old) (kept_by session.new) line.now result.length }
+        AtLength (Calls (kept_by session.old) (kept_by session.new) line.now) result.length }
 
     // A malformed line makes no call.
     ensures malformed { result.status ≡ 1 → says line.now ≡ None }
@@ -169,6 +174,8 @@ pub extern "C" fn keyset_call(
     ensures silent { result.status ≢ 0 → out.new ≡ out.old }
     ensures status { (result.status ≡ 0) ⊎ (result.status ≡ 1) ⊎ (result.status ≡ 3)
         ⊎ (result.status ≡ 4) ⊎ (result.status ≡ 5) }
+    ensures no_length { result.status ≢ 0 → result.status ≢ 4 → result.length ≡ 0 }
+    ensures no_line { result.line ≡ 0 }
 {
     let Some(kept) = session.take(alloc) else {
         return fault(CLOSED);
@@ -199,55 +206,33 @@ pub extern "C" fn keyset_call(
     }
 }
 
-/// Writes the answer to the last line again.
+/// Makes the call of the line if the key set accepts it. `keyset_told` writes the answer, of a
+/// refused call too.
+///
+/// 0 if the call is made. Else calls and notes are as they were: 1 for a malformed line, 3 for lack
+/// of memory, 5 if the session is closed, 10 for a refused call.
 #[unsafe(no_mangle)]
-pub extern "C" fn keyset_told(alloc: Global, session: &mut Handle, out: &mut [u8]) -> Answered
+pub extern "C" fn keyset_accept(alloc: Global, session: &mut Handle, line: &[u8]) -> u32
     requires { IsWhole session.old }
     ensures whole { IsWhole session.new }
-    ensures same { kept_by session.new ≡ kept_by session.old }
-    ensures told { result.status ≡ 0 → Repeats (kept_by session.old) (take result.length out.new) }
-    ensures fits { result.status ≡ 0 → result.length ≤ length out.new }
-    ensures rest { result.status ≡ 0 → drop result.length out.new ≡ drop result.length out.old }
-    ensures short { result.status ≡ 4 → length out.old < result.length }
-    ensures closed { (result.status ≡ 5) ↔ (kept_by session.old ≡ None) }
-    ensures silent { result.status ≢ 0 → out.new ≡ out.old }
-{
-    ask(alloc, Question::Last, session, out)
-}
 
-/// Writes the last two lines of the answers so far: the sets that are published after the last
-/// call, and the verdict on the record.
-#[unsafe(no_mangle)]
-pub extern "C" fn keyset_closing(alloc: Global, session: &mut Handle, out: &mut [u8]) -> Answered
-    requires { IsWhole session.old }
-    ensures whole { IsWhole session.new }
-    ensures same { kept_by session.new ≡ kept_by session.old }
-    ensures told { result.status ≡ 0 →
-        ClosesWith (kept_by session.old) (take result.length out.new) }
-    ensures fits { result.status ≡ 0 → result.length ≤ length out.new }
-    ensures rest { result.status ≡ 0 → drop result.length out.new ≡ drop result.length out.old }
-    ensures short { result.status ≡ 4 → length out.old < result.length }
-    ensures closed { (result.status ≡ 5) ↔ (kept_by session.old ≡ None) }
-    ensures silent { result.status ≢ 0 → out.new ≡ out.old }
+    // Accepted: whatever record the run of its lines has, it has one entry more. Refused: no call is
+    // made, and only the answer that `keyset_told` writes is another.
+    ensures accepted { result ≡ 0 →
+        IfOpen AcceptsLine (kept_by session.old) line.now (kept_by session.new) }
+    ensures refused { result ≡ 10 →
+        IfOpen RefusesCall (kept_by session.old) line.now (kept_by session.new) }
+    ensures malformed { result ≡ 1 → says line.now ≡ None }
+    ensures closed { (result ≡ 5) ↔ (kept_by session.old ≡ None) }
+    ensures unchanged { result ≢ 0 → result ≢ 10 → kept_by session.new ≡ kept_by session.old }
+    ensures status { (result ≡ 0) ⊎ (result ≡ 1) ⊎ (result ≡ 3) ⊎ (result ≡ 5) ⊎ (result ≡ 10) }
 {
-    ask(alloc, Question::Closing, session, out)
-}
-
-/// Writes the status of the zone after the calls so far, as one line of JSON.
-#[unsafe(no_mangle)]
-pub extern "C" fn keyset_status(alloc: Global, session: &mut Handle, out: &mut [u8]) -> Answered
-    requires { IsWhole session.old }
-    ensures whole { IsWhole session.new }
-    ensures same { kept_by session.new ≡ kept_by session.old }
-    ensures told { result.status ≡ 0 →
-        ShowsStatus (kept_by session.old) (take result.length out.new) }
-    ensures fits { result.status ≡ 0 → result.length ≤ length out.new }
-    ensures rest { result.status ≡ 0 → drop result.length out.new ≡ drop result.length out.old }
-    ensures short { result.status ≡ 4 → length out.old < result.length }
-    ensures closed { (result.status ≡ 5) ↔ (kept_by session.old ≡ None) }
-    ensures silent { result.status ≢ 0 → out.new ≡ out.old }
-{
-    ask(alloc, Question::Status, session, out)
+    let Some(mut kept) = session.take(alloc) else {
+        return CLOSED;
+    };
+    let status = accept(alloc, &mut *kept, line);
+    session.put(kept);
+    status
 }
 
 /// Takes the next line of the notes beside a session, after the calls that it has made so far.
@@ -259,7 +244,8 @@ pub extern "C" fn keyset_status(alloc: Global, session: &mut Handle, out: &mut [
 pub extern "C" fn keyset_note(alloc: Global, session: &mut Handle, line: &[u8]) -> u32
     requires { IsWhole session.old }
     ensures whole { IsWhole session.new }
-    ensures noted { result ≡ 0 → Notes (kept_by session.old) line.now (kept_by session.new) }
+    ensures noted { result ≡ 0 →
+        IfOpen NotesLine (kept_by session.old) line.now (kept_by session.new) }
     ensures refused { result ≢ 0 → result ≢ 5 →
         RefusesNote (kept_by session.old) line.now result }
     ensures closed { (result ≡ 5) ↔ (kept_by session.old ≡ None) }
@@ -271,61 +257,6 @@ pub extern "C" fn keyset_note(alloc: Global, session: &mut Handle, line: &[u8]) 
     let status = note(alloc, &mut *kept, line);
     session.put(kept);
     status
-}
-
-/// Writes the reports that are due at this second since 1970, by the notes beside the session. 1 if
-/// there are none.
-#[unsafe(no_mangle)]
-pub extern "C" fn keyset_due(
-    alloc: Global,
-    session: &mut Handle,
-    seconds: u64,
-    out: &mut [u8],
-) -> Answered
-    requires { IsWhole session.old }
-    ensures whole { IsWhole session.new }
-    ensures same { kept_by session.new ≡ kept_by session.old }
-    ensures told { result.status ≡ 0 →
-        ShowsDue seconds (kept_by session.old) (take result.length out.new) }
-    ensures no_notes { result.status ≡ 1 → LacksNotes (kept_by session.old) }
-    ensures fits { result.status ≡ 0 → result.length ≤ length out.new }
-    ensures rest { result.status ≡ 0 → drop result.length out.new ≡ drop result.length out.old }
-    ensures short { result.status ≡ 4 → length out.old < result.length }
-    ensures closed { (result.status ≡ 5) ↔ (kept_by session.old ≡ None) }
-    ensures silent { result.status ≢ 0 → out.new ≡ out.old }
-{
-    ask(alloc, Question::Due(seconds), session, out)
-}
-
-/// Opens another session after the same calls, to try one: 0, or 3 for lack of memory, 5 if the
-/// session is closed, 6 if the other is open. Unless it is 0, both are as they were.
-#[unsafe(no_mangle)]
-pub extern "C" fn keyset_copy(alloc: Global, session: &mut Handle, copy: &mut Handle) -> u32
-    requires session { IsWhole session.old }
-    requires copy { IsWhole copy.old }
-    ensures whole { IsWhole session.new }
-    ensures whole_copy { IsWhole copy.new }
-    ensures copied { result ≡ 0 → Copies (kept_by session.old) (kept_by copy.new) }
-    ensures same { kept_by session.new ≡ kept_by session.old }
-    ensures unchanged { result ≢ 0 → kept_by copy.new ≡ kept_by copy.old }
-    ensures is_open { (result ≡ 6) ↔ IsSome (kept_by copy.old) }
-    ensures status { (result ≡ 0) ⊎ (result ≡ 3) ⊎ (result ≡ 5) ⊎ (result ≡ 6) }
-{
-    if copy.is_open() {
-        return IS_OPEN;
-    }
-    let Some(kept) = session.take(alloc) else {
-        return CLOSED;
-    };
-    let made = copy_of(alloc, &kept);
-    session.put(kept);
-    match made {
-        Ok(made) => {
-            copy.put(made);
-            ANSWERED
-        }
-        Err(_) => OUT_OF_MEMORY,
-    }
 }
 
 /// Closes a session, and frees what it keeps. A closed session stays closed.

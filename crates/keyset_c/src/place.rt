@@ -1,5 +1,6 @@
 //! A box as a pointer to bytes.
 ghost use Rattle.std.specs.Prelude.{◌≡◌, Option, Some, None, IsSome};
+ghost use Rattle.std.specs.Borrow.{sem};
 ghost use Rattle.std.specs.Coded.{coded_option};
 ghost use Rattle.keyset_c.specs.declared.kept.Kept.{Kept as Value};
 ghost use Rattle.keyset_c.specs.contracts.kept.Kept.{the_row};
@@ -27,6 +28,8 @@ impl Model for Place {
 }
 
 impl Place {
+    ghost use Rattle.keyset_c.specs.Lent.{lends_kept};
+
     /// Keeps nothing.
     pub(crate) fn none() -> Place
         ensures { result.value ≡ None }
@@ -42,6 +45,15 @@ impl Place {
         Place {
             ptr: ptr as *mut u8,
         }
+    }
+
+    /// What is in the box, lent.
+    pub(crate) fn look(&mut self) -> &mut Kept
+        requires { IsSome self.old.value }
+        ensures* writes_back { sem 𝓛 (lends_kept self.entry result) }
+        ensures value { Some result.now ≡ self.old.value }
+    {
+        unsafe { &mut *(self.ptr as *mut Kept) }
     }
 
     /// The box again, by its parts.

@@ -1,76 +1,23 @@
 //! The parts of the calls of a session.
 ghost use Rattle.std.specs.Prelude.{◌≡◌, ◌≢◌, ◌⊎◌, ◌↔◌, ℕ, List, length, take, None, Some, IfOk};
 ghost use Rattle.std.specs.Prelude.{string_bytes};
-ghost use Rattle.dnssec_record.specs.Session.{Closes, StandsAfter};
+ghost use Rattle.dnssec_script.specs.Script.{says};
+ghost use Rattle.dnssec_record.specs.Session.{StandsAfter};
 ghost use Rattle.dnssec_run.specs.declared.call.Call.{Call};
 ghost use Rattle.dnssec_run.specs.declared.record.Entry.{Entry};
-ghost use Rattle.dnssec_status.specs.Status.{IsStatus};
-ghost use Rattle.keyset_c.specs.Answered.{Hands};
+ghost use Rattle.keyset_c.specs.Answered.{AtLength, Hands};
 ghost use Rattle.keyset_c.specs.Handles.{IsWhole, kept_by};
-ghost use Rattle.keyset_c.specs.Sessions.{IsDueOf, Lacks, NotesLine, RefusesLine, Tells};
+ghost use Rattle.keyset_c.specs.Sessions.{AcceptsLine, IsClosingOf, IsDueOf, IsStatusOf, NotesLine};
+ghost use Rattle.keyset_c.specs.Sessions.{RefusesCall, RefusesLine};
 
 use crate::answered::{
-    ANSWERED, Answered, CLOSED, MALFORMED, OUT_OF_MEMORY, fault, hand_out, refused,
+    ANSWERED, Answered, MALFORMED, OUT_OF_MEMORY, REFUSED, fault, hand_out, refused,
 };
 use crate::handle::Handle;
 use crate::kept::Kept;
-use dnssec_record::Session;
+use dnssec_record::{Session, Tried};
 use dnssec_status::status;
 use std::alloc::{AllocError, Global};
-
-/// What C asks of a session.
-#[derive(Clone, Copy)]
-pub(crate) enum Question {
-    /// The answer to its last line.
-    Last,
-    /// The last two lines of the answers so far.
-    Closing,
-    /// The status of the zone.
-    Status,
-    /// The reports that are due at this second since 1970.
-    Due(u64),
-}
-
-/// Answers a question, and leaves the session as it was.
-pub(crate) fn ask(
-    alloc: Global,
-    question: Question,
-    session: &mut Handle,
-    out: &mut [u8],
-) -> Answered
-    requires { IsWhole session.old }
-    ensures whole { IsWhole session.new }
-    ensures same { kept_by session.new ≡ kept_by session.old }
-    ensures closed { (result.status ≡ 5) ↔ (kept_by session.old ≡ None) }
-    ensures told { result.status ≡ 0 →
-        Tells question (kept_by session.old) (take result.length out.new) }
-    ensures missing { result.status ≡ 1 → Lacks question (kept_by session.old) }
-    ensures handed { Hands result.status result.length out.old out.new }
-{
-    let Some(kept) = session.take(alloc) else {
-        return fault(CLOSED);
-    };
-    let answered = tell(alloc, question, &kept, out);
-    session.put(kept);
-    answered
-}
-
-/// Writes what is asked of what a session keeps.
-fn tell(alloc: Global, question: Question, kept: &Kept, out: &mut [u8]) -> Answered
-    ensures told { result.status ≡ 0 →
-        Tells question (Some kept.now) (take result.length out.new) }
-    ensures missing { result.status ≡ 1 → Lacks question (Some kept.now) }
-    ensures status { (result.status ≡ 0) ⊎ (result.status ≡ 1) ⊎ (result.status ≡ 3)
-        ⊎ (result.status ≡ 4) }
-    ensures handed { Hands result.status result.length out.old out.new }
-{
-    match question {
-        Question::Last => hand_out(kept.answer.as_bytes(), out),
-        Question::Closing => tell_closing(alloc, &kept.session, out),
-        Question::Status => tell_status(alloc, &kept.session, out),
-        Question::Due(seconds) => tell_due(alloc, kept, seconds, out),
-    }
-}
 
 /// Lets a session keep this after a call, and writes the answer.
 pub(crate) fn put_next(alloc: Global, session: &mut Handle, kept: Kept, out: &mut [u8]) -> Answered
@@ -81,7 +28,7 @@ pub(crate) fn put_next(alloc: Global, session: &mut Handle, kept: Kept, out: &mu
     ensures kept { result.status ≢ 3 → kept_by session.new ≡ Some kept }
     ensures lost { result.status ≡ 3 → kept_by session.new ≡ None }
     ensures written { result.status ≡ 0 → take result.length out.new ≡ string_bytes kept.answer }
-    ensures handed { Hands result.status result.length out.old out.new }
+    ensures handed { Hands result.status result.length result.line out.old out.new }
     ensures needed { result.status ≡ 4 → result.length ≡ length (string_bytes kept.answer) }
 {
     match Box::new(alloc, kept) {
@@ -102,6 +49,8 @@ pub(crate) fn put_back(alloc: Global, session: &mut Handle, kept: Kept) -> Answe
     ensures status { (result.status ≡ 1) ⊎ (result.status ≡ 3) }
     ensures kept { result.status ≡ 1 → kept_by session.new ≡ Some kept }
     ensures lost { result.status ≡ 3 → kept_by session.new ≡ None }
+    ensures no_length { result.length ≡ 0 }
+    ensures no_line { result.line ≡ 0 }
 {
     match Box::new(alloc, kept) {
         Ok(kept) => {
@@ -113,12 +62,11 @@ pub(crate) fn put_back(alloc: Global, session: &mut Handle, kept: Kept) -> Answe
 }
 
 /// Writes the last two lines of the answers so far.
-fn tell_closing(alloc: Global, session: &Session, out: &mut [u8]) -> Answered
-    ensures told { result.status ≡ 0 →
-        (name : List ℕ) (calls : List Call) (entries : List Entry) →
-        StandsAfter name calls entries session.now → Closes entries (take result.length out.new) }
+pub(crate) fn tell_closing(alloc: Global, session: &Session, out: &mut [u8]) -> Answered
+    ensures told { result.status ≡ 0 → IsClosingOf session.now (take result.length out.new) }
+    ensures needed { result.status ≡ 4 → AtLength (IsClosingOf session.now) result.length }
     ensures status { (result.status ≡ 0) ⊎ (result.status ≡ 3) ⊎ (result.status ≡ 4) }
-    ensures handed { Hands result.status result.length out.old out.new }
+    ensures handed { Hands result.status result.length result.line out.old out.new }
 {
     match session.closing(alloc) {
         Ok(text) => hand_out(text.as_bytes(), out),
@@ -127,13 +75,11 @@ fn tell_closing(alloc: Global, session: &Session, out: &mut [u8]) -> Answered
 }
 
 /// Writes the status of the zone.
-fn tell_status(alloc: Global, session: &Session, out: &mut [u8]) -> Answered
-    ensures told { result.status ≡ 0 →
-        (name : List ℕ) (calls : List Call) (entries : List Entry) →
-        StandsAfter name calls entries session.now →
-        IsStatus name calls entries (take result.length out.new) }
+pub(crate) fn tell_status(alloc: Global, session: &Session, out: &mut [u8]) -> Answered
+    ensures told { result.status ≡ 0 → IsStatusOf session.now (take result.length out.new) }
+    ensures needed { result.status ≡ 4 → AtLength (IsStatusOf session.now) result.length }
     ensures status { (result.status ≡ 0) ⊎ (result.status ≡ 3) ⊎ (result.status ≡ 4) }
-    ensures handed { Hands result.status result.length out.old out.new }
+    ensures handed { Hands result.status result.length result.line out.old out.new }
 {
     match status(alloc, session) {
         Ok(text) => hand_out(&text, out),
@@ -142,18 +88,42 @@ fn tell_status(alloc: Global, session: &Session, out: &mut [u8]) -> Answered
 }
 
 /// Writes the reports that are due at a second since 1970.
-fn tell_due(alloc: Global, kept: &Kept, seconds: u64, out: &mut [u8]) -> Answered
+pub(crate) fn tell_due(alloc: Global, kept: &Kept, seconds: u64, out: &mut [u8]) -> Answered
     ensures told { result.status ≡ 0 →
         IsDueOf seconds kept.now (take result.length out.new) }
-    ensures missing { result.status ≡ 1 → kept.now.notes ≡ None }
+    ensures needed { result.status ≡ 4 → AtLength (IsDueOf seconds kept.now) result.length }
+    ensures missing { (result.status ≡ 1) ↔ (kept.now.notes ≡ None) }
     ensures status { (result.status ≡ 0) ⊎ (result.status ≡ 1) ⊎ (result.status ≡ 3)
         ⊎ (result.status ≡ 4) }
-    ensures handed { Hands result.status result.length out.old out.new }
+    ensures handed { Hands result.status result.length result.line out.old out.new }
 {
     match kept.notes.due_now(alloc, &kept.session, seconds) {
         Ok(Some(text)) => hand_out(text.as_bytes(), out),
         Ok(None) => fault(MALFORMED),
         Err(_) => fault(OUT_OF_MEMORY),
+    }
+}
+
+/// Makes the call of a line if it is accepted: its status.
+pub(crate) fn accept(alloc: Global, kept: &mut Kept, line: &[u8]) -> u32
+    ensures accepted { result ≡ 0 → AcceptsLine kept.old line.now kept.new }
+    ensures refused { result ≡ 10 → RefusesCall kept.old line.now kept.new }
+    ensures malformed { result ≡ 1 → says line.now ≡ None }
+    ensures unchanged { result ≢ 0 → result ≢ 10 → kept.new ≡ kept.old }
+    ensures status { (result ≡ 0) ⊎ (result ≡ 1) ⊎ (result ≡ 3) ⊎ (result ≡ 10) }
+    ensures open { result ≢ 5 }
+{
+    match kept.session.accept(alloc, line) {
+        Ok(Tried::Accepted { answer, .. }) => {
+            kept.answer = answer;
+            ANSWERED
+        }
+        Ok(Tried::Refused(answer)) => {
+            kept.answer = answer;
+            REFUSED
+        }
+        Ok(Tried::Malformed) => MALFORMED,
+        Err(_) => OUT_OF_MEMORY,
     }
 }
 

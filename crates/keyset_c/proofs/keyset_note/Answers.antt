@@ -7,7 +7,7 @@ returns-clause-noted c = λ noted. record {
   is_before = c.in-Some.ensures.taken;
   after = c.note-status.new.kept;
   is_after = c.put.ensures.kept;
-  takes = rw (← c.deref_mut.ensures.value) (c.note-status.ensures.noted noted);
+  comes = rw (← c.deref_mut.ensures.value) (c.note-status.ensures.noted noted);
 }
 
 pub returns-clause-refused : goal.returns-clause-refused

@@ -1,6 +1,6 @@
--- What was handed out are the lines that are due.
-use Rattle.std.proofs.Common.{Option, sym, subst, ◌∙◌}
-use Rattle.std.specs.{Option.option_map, Prelude.string_bytes, declared.alloc.Global.Global}
+-- What was handed out, or is too long, are the lines that are due.
+use Rattle.std.proofs.Common.{Option, ap, length, string_bytes, sym, subst, ◌∙◌}
+use Rattle.std.specs.{Option.option_map, declared.alloc.Global.Global}
 use Rattle.std.specs.declared.string.String.{String}
 use Rattle.dnssec_notes.specs.Due.{AnswersDue, IsDueAfter}
 use Rattle.keyset_c.proofs.sessions.tell_due.Goals as goal
@@ -12,4 +12,15 @@ returns-in-Ok-Some-clause-told c = λ written lines notes entries stands taken.
     (sym (c.hand_out.ensures.written written ∙ c.as_bytes.ensures.value))
     (subst (λ (o : Option (String Global)).
     AnswersDue kept.session kept.notes c.args.seconds (option_map string_bytes o))
-    c.in-Ok-Some.field-0-is c.in-Ok-Some.ensures lines notes entries stands taken)
+    c.in-Ok-Some.field-0-is c.in-Ok-Some.ensures.text lines notes entries stands taken)
+
+pub returns-in-Ok-Some-clause-needed : goal.returns-in-Ok-Some-clause-needed
+returns-in-Ok-Some-clause-needed c = λ short. (
+  string_bytes c.in-Ok-Some.text,
+  (λ lines notes entries stands taken.
+      let kept = c.args.kept.now in
+      subst (λ (o : Option (String Global)).
+      AnswersDue kept.session kept.notes c.args.seconds (option_map string_bytes o))
+      c.in-Ok-Some.field-0-is c.in-Ok-Some.ensures.text lines notes entries stands taken),
+  ap length (sym c.as_bytes.ensures.value) ∙ sym c.hand_out.ensures.length,
+)

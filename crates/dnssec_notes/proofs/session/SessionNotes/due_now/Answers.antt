@@ -5,8 +5,8 @@ use Rattle.dnssec_notes.proofs.Noting.{are-notes, shown}
 use Rattle.dnssec_notes.specs.{Due.due_text, Reading.HasTaken}
 use Rattle.dnssec_notes.proofs.session.SessionNotes.due_now.Goals as goal
 
-pub returns-in_ok-due_lines-in-Some : goal.returns-in_ok-due_lines-in-Some
-returns-in_ok-due_lines-in-Some c = λ lines notes entries stands taken.
+pub returns-in_ok-due_lines-in-Some-clause-text : goal.returns-in_ok-due_lines-in-Some-clause-text
+returns-in_ok-due_lines-in-Some-clause-text c = λ lines notes entries stands taken.
     let noted = c.deref.result.now in
     let after = stands.stands in
     let set = c.keyset-keyset.ensures ∙ after.records.agrees.same

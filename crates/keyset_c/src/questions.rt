@@ -1,0 +1,152 @@
+//! What C asks of a session. A question reads it in its place, and writes nothing into it: so
+//! questions may be asked side by side.
+ghost use Rattle.std.specs.Prelude.{◌≡◌, ◌≢◌, ◌⊎◌, ◌↔◌, take, None, IsSome};
+ghost use Rattle.keyset_c.specs.Answered.{AtLength, Hands};
+ghost use Rattle.keyset_c.specs.Handles.{IsWhole, kept_by};
+ghost use Rattle.keyset_c.specs.Sessions.{ClosesWith, Copies, HasMade, LacksNotes, Repeats};
+ghost use Rattle.keyset_c.specs.Sessions.{ShowsDue, ShowsStatus};
+
+use crate::answered::{ANSWERED, Answered, CLOSED, IS_OPEN, OUT_OF_MEMORY, fault, hand_out};
+use crate::handle::Handle;
+use crate::sessions::{copy_of, tell_closing, tell_due, tell_status};
+use std::alloc::Global;
+
+/// How many calls a session has made: the number of the last one. 0 of a closed session.
+#[unsafe(no_mangle)]
+pub extern "C" fn keyset_calls(session: &mut Handle) -> usize
+    requires { IsWhole session.old }
+    ensures whole { IsWhole session.new }
+    ensures same { kept_by session.new ≡ kept_by session.old }
+    ensures made { HasMade (kept_by session.old) result }
+{
+    if !session.is_open() {
+        return 0;
+    }
+    let kept = session.place.look();
+    kept.session.calls()
+}
+
+/// Writes the answer to the last line again.
+#[unsafe(no_mangle)]
+pub extern "C" fn keyset_told(session: &mut Handle, out: &mut [u8]) -> Answered
+    requires { IsWhole session.old }
+    ensures whole { IsWhole session.new }
+    ensures same { kept_by session.new ≡ kept_by session.old }
+    ensures told { result.status ≡ 0 → Repeats (kept_by session.old) (take result.length out.new) }
+    ensures needed { result.status ≡ 4 → AtLength (Repeats (kept_by session.old)) result.length }
+    ensures closed { (result.status ≡ 5) ↔ (kept_by session.old ≡ None) }
+    ensures status { (result.status ≡ 0) ⊎ (result.status ≡ 4) ⊎ (result.status ≡ 5) }
+    ensures handed { Hands result.status result.length result.line out.old out.new }
+{
+    if !session.is_open() {
+        return fault(CLOSED);
+    }
+    let kept = session.place.look();
+    hand_out(kept.answer.as_bytes(), out)
+}
+
+/// Writes the last two lines of the answers so far: the sets that are published after the last
+/// call, and the verdict on the record.
+#[unsafe(no_mangle)]
+pub extern "C" fn keyset_closing(alloc: Global, session: &mut Handle, out: &mut [u8]) -> Answered
+    requires { IsWhole session.old }
+    ensures whole { IsWhole session.new }
+    ensures same { kept_by session.new ≡ kept_by session.old }
+    ensures told { result.status ≡ 0 →
+        ClosesWith (kept_by session.old) (take result.length out.new) }
+    ensures needed { result.status ≡ 4 →
+        AtLength (ClosesWith (kept_by session.old)) result.length }
+    ensures closed { (result.status ≡ 5) ↔ (kept_by session.old ≡ None) }
+    ensures status { (result.status ≡ 0) ⊎ (result.status ≡ 3) ⊎ (result.status ≡ 4)
+        ⊎ (result.status ≡ 5) }
+    ensures handed { Hands result.status result.length result.line out.old out.new }
+{
+    if !session.is_open() {
+        return fault(CLOSED);
+    }
+    let kept = session.place.look();
+    tell_closing(alloc, &kept.session, out)
+}
+
+/// Writes the status of the zone after the calls so far, as one line of JSON.
+#[unsafe(no_mangle)]
+pub extern "C" fn keyset_status(alloc: Global, session: &mut Handle, out: &mut [u8]) -> Answered
+    requires { IsWhole session.old }
+    ensures whole { IsWhole session.new }
+    ensures same { kept_by session.new ≡ kept_by session.old }
+    ensures told { result.status ≡ 0 →
+        ShowsStatus (kept_by session.old) (take result.length out.new) }
+    ensures needed { result.status ≡ 4 →
+        AtLength (ShowsStatus (kept_by session.old)) result.length }
+    ensures closed { (result.status ≡ 5) ↔ (kept_by session.old ≡ None) }
+    ensures status { (result.status ≡ 0) ⊎ (result.status ≡ 3) ⊎ (result.status ≡ 4)
+        ⊎ (result.status ≡ 5) }
+    ensures handed { Hands result.status result.length result.line out.old out.new }
+{
+    if !session.is_open() {
+        return fault(CLOSED);
+    }
+    let kept = session.place.look();
+    tell_status(alloc, &kept.session, out)
+}
+
+/// Writes the reports that are due at this second since 1970, by the notes beside the session. 1 if
+/// there are none.
+#[unsafe(no_mangle)]
+pub extern "C" fn keyset_due(
+    alloc: Global,
+    session: &mut Handle,
+    seconds: u64,
+    out: &mut [u8],
+) -> Answered
+    requires { IsWhole session.old }
+    ensures whole { IsWhole session.new }
+    ensures same { kept_by session.new ≡ kept_by session.old }
+    ensures told { result.status ≡ 0 →
+        ShowsDue seconds (kept_by session.old) (take result.length out.new) }
+    ensures needed { result.status ≡ 4 →
+        AtLength (ShowsDue seconds (kept_by session.old)) result.length }
+    // Without notes no other status is said.
+    ensures no_notes { (result.status ≡ 1) ↔ LacksNotes (kept_by session.old) }
+    ensures closed { (result.status ≡ 5) ↔ (kept_by session.old ≡ None) }
+    ensures status { (result.status ≡ 0) ⊎ (result.status ≡ 1) ⊎ (result.status ≡ 3)
+        ⊎ (result.status ≡ 4) ⊎ (result.status ≡ 5) }
+    ensures handed { Hands result.status result.length result.line out.old out.new }
+{
+    if !session.is_open() {
+        return fault(CLOSED);
+    }
+    let kept = session.place.look();
+    tell_due(alloc, kept, seconds, out)
+}
+
+/// Opens another session after the same calls, to try one: 0, or 3 for lack of memory, 5 if the
+/// session is closed, 6 if the other is open. Unless it is 0, the other is as it was.
+#[unsafe(no_mangle)]
+pub extern "C" fn keyset_copy(alloc: Global, session: &mut Handle, copy: &mut Handle) -> u32
+    requires session { IsWhole session.old }
+    requires copy { IsWhole copy.old }
+    ensures whole { IsWhole session.new }
+    ensures whole_copy { IsWhole copy.new }
+    ensures same { kept_by session.new ≡ kept_by session.old }
+    ensures copied { result ≡ 0 → Copies (kept_by session.old) (kept_by copy.new) }
+    ensures unchanged { result ≢ 0 → kept_by copy.new ≡ kept_by copy.old }
+    ensures is_open { (result ≡ 6) ↔ IsSome (kept_by copy.old) }
+    ensures closed { result ≡ 5 → kept_by session.old ≡ None }
+    ensures status { (result ≡ 0) ⊎ (result ≡ 3) ⊎ (result ≡ 5) ⊎ (result ≡ 6) }
+{
+    if copy.is_open() {
+        return IS_OPEN;
+    }
+    if !session.is_open() {
+        return CLOSED;
+    }
+    let kept = session.place.look();
+    match copy_of(alloc, kept) {
+        Ok(made) => {
+            copy.put(made);
+            ANSWERED
+        }
+        Err(_) => OUT_OF_MEMORY,
+    }
+}
