@@ -21,6 +21,8 @@ impl Handle {
 // SAFETY: what a session shares with its copies is only read, and its owners are counted
 // atomically, so a thread may take it over.
 unsafe impl Send for Handle {}
+// SAFETY: who has a shared reference only asks, and a question writes nothing into the session.
+unsafe impl Sync for Handle {}
 
 #[repr(C)]
 pub(crate) struct Answered {
@@ -35,6 +37,7 @@ pub(crate) const SHORT: u32 = 4;
 pub(crate) const NO_SUCH_CALL: u32 = 7;
 pub(crate) const SEEN_EARLY: u32 = 8;
 pub(crate) const MOMENT_FALLS: u32 = 9;
+pub(crate) const REFUSED: u32 = 10;
 
 extern "C" {
     pub(crate) fn keyset_answer(
@@ -52,16 +55,18 @@ extern "C" {
         out: *mut u8,
         room: usize,
     ) -> Answered;
-    pub(crate) fn keyset_told(session: *mut Handle, out: *mut u8, room: usize) -> Answered;
-    pub(crate) fn keyset_closing(session: *mut Handle, out: *mut u8, room: usize) -> Answered;
-    pub(crate) fn keyset_status(session: *mut Handle, out: *mut u8, room: usize) -> Answered;
+    pub(crate) fn keyset_told(session: *const Handle, out: *mut u8, room: usize) -> Answered;
+    pub(crate) fn keyset_closing(session: *const Handle, out: *mut u8, room: usize) -> Answered;
+    pub(crate) fn keyset_status(session: *const Handle, out: *mut u8, room: usize) -> Answered;
     pub(crate) fn keyset_note(session: *mut Handle, line: *const u8, len: usize) -> u32;
     pub(crate) fn keyset_due(
-        session: *mut Handle,
+        session: *const Handle,
         seconds: u64,
         out: *mut u8,
         room: usize,
     ) -> Answered;
-    pub(crate) fn keyset_copy(session: *mut Handle, copy: *mut Handle) -> u32;
+    pub(crate) fn keyset_copy(session: *const Handle, copy: *mut Handle) -> u32;
+    pub(crate) fn keyset_accept(session: *mut Handle, line: *const u8, len: usize) -> u32;
+    pub(crate) fn keyset_calls(session: *const Handle) -> usize;
     pub(crate) fn keyset_close(session: *mut Handle);
 }

@@ -4,7 +4,6 @@ use crate::c;
 use crate::error::{Error, NoteRefusal};
 use crate::interface::INTERFACE;
 use crate::text::room;
-use std::sync::{Mutex, MutexGuard, PoisonError};
 
 const ROOM: usize = 4096;
 
@@ -13,9 +12,7 @@ const ROOM: usize = 4096;
 /// Threads may ask one session side by side.
 #[derive(Debug)]
 pub struct Session {
-    /// (A question of this library writes into its session.)
-    handle: Mutex<c::Handle>,
-    calls: usize,
+    handle: c::Handle,
     notes: usize,
 }
 
@@ -33,11 +30,7 @@ impl Session {
         let mut handle = c::Handle::CLOSED;
         // SAFETY: the pointer is that of the text with its length, and the handle is a closed one.
         match unsafe { c::keyset_open(line.as_ptr(), line.len(), &mut handle) } {
-            c::ANSWERED => Ok(Session {
-                handle: Mutex::new(handle),
-                calls: 0,
-                notes: 0,
-            }),
+            c::ANSWERED => Ok(Session { handle, notes: 0 }),
             c::MALFORMED => Err(Error::Malformed { line: 1 }),
             _ => Err(Error::OutOfMemory),
         }
@@ -55,22 +48,13 @@ impl Session {
         // SAFETY: each pointer is that of a slice with its length; only we use the handle.
         let told = unsafe {
             let (text, room) = (out.as_mut_ptr(), out.len());
-            c::keyset_call(self.own(), line.as_ptr(), line.len(), text, room)
+            c::keyset_call(&mut self.handle, line.as_ptr(), line.len(), text, room)
         };
-        let mut answer = match told.status {
-            c::ANSWERED => text(out, told.length)?,
-            c::SHORT => {
-                self.ask(|handle, out, room| unsafe { c::keyset_told(handle, out, room) })?
-            }
-            c::MALFORMED => {
-                let line = self.calls + 2;
-                return Err(Error::Malformed { line });
-            }
-            _ => return Err(Error::OutOfMemory),
-        };
-        self.calls += 1;
-        answer.truncate(answer.trim_end_matches('\n').len());
-        Ok(answer)
+        match told.status {
+            c::ANSWERED | c::SHORT => self.told(out),
+            c::MALFORMED => Err(self.malformed()),
+            _ => Err(Error::OutOfMemory),
+        }
     }
 
     /// Makes the call of a line if the key set accepts it, and gives its answer, which begins with
@@ -81,18 +65,36 @@ impl Session {
     ///
     /// [`Error::Refused`]; [`Error::Malformed`]; [`Error::OutOfMemory`].
     pub fn accept(&mut self, line: &str) -> Result<String, Error> {
-        let mut tried = self.try_clone()?;
-        let answer = tried.call(line)?;
-        if let Some(reason) = answer.strip_prefix("refused: ") {
-            return Err(Error::of_reason(reason));
+        let out = room(ROOM)?;
+        // SAFETY: the pointer is that of the line with its length; only we use the handle.
+        match unsafe { c::keyset_accept(&mut self.handle, line.as_ptr(), line.len()) } {
+            c::ANSWERED => self.told(out),
+            c::REFUSED => match self.told(out)?.strip_prefix("refused: ") {
+                Some(reason) => Err(Error::of_reason(reason)),
+                None => Err(Error::OtherRelease),
+            },
+            c::MALFORMED => Err(self.malformed()),
+            _ => Err(Error::OutOfMemory),
         }
-        *self = tried;
-        Ok(answer)
     }
 
     /// How many calls were made: the number of the last one.
     pub fn calls(&self) -> usize {
-        self.calls
+        // SAFETY: a question writes nothing into the session.
+        unsafe { c::keyset_calls(&self.handle) }
+    }
+
+    /// The answer to the last call. A buffer that is there before the call has room for it.
+    fn told(&self, out: Vec<u8>) -> Answer {
+        let told = |handle: *const _, out, room| unsafe { c::keyset_told(handle, out, room) };
+        let mut answer = self.ask_into(out, told)?;
+        answer.truncate(answer.trim_end_matches('\n').len());
+        Ok(answer)
+    }
+
+    fn malformed(&self) -> Error {
+        let line = self.calls() + 2;
+        Error::Malformed { line }
     }
 
     /// The line of the published sets, and the verdict, after the calls so far.
@@ -123,7 +125,7 @@ impl Session {
     pub fn note(&mut self, line: &str) -> Result<(), Error> {
         let number = self.notes + 1;
         // SAFETY: the pointer is that of the text with its length; only we use the handle.
-        let refusal = match unsafe { c::keyset_note(self.own(), line.as_ptr(), line.len()) } {
+        let refusal = match unsafe { c::keyset_note(&mut self.handle, line.as_ptr(), line.len()) } {
             c::ANSWERED => {
                 self.notes = number;
                 return Ok(());
@@ -161,32 +163,25 @@ impl Session {
     pub fn try_clone(&self) -> Result<Self, Error> {
         let mut handle = c::Handle::CLOSED;
         // SAFETY: only we use the two handles, and the second is a closed one.
-        match unsafe { c::keyset_copy(&mut *self.shared(), &mut handle) } {
+        match unsafe { c::keyset_copy(&self.handle, &mut handle) } {
             c::ANSWERED => Ok(Session {
-                handle: Mutex::new(handle),
-                calls: self.calls,
+                handle,
                 notes: self.notes,
             }),
             _ => Err(Error::OutOfMemory),
         }
     }
 
-    fn own(&mut self) -> &mut c::Handle {
-        self.handle
-            .get_mut()
-            .unwrap_or_else(PoisonError::into_inner)
+    /// Asks a question.
+    fn ask(&self, question: impl Question) -> Answer {
+        self.ask_into(room(ROOM)?, question)
     }
 
-    fn shared(&self) -> MutexGuard<'_, c::Handle> {
-        self.handle.lock().unwrap_or_else(PoisonError::into_inner)
-    }
-
-    /// Asks a question, and once more if its answer is longer than the room for it. A question gets
-    /// a handle that it has to itself, and as many bytes as it is told.
-    fn ask(&self, question: impl Fn(*mut c::Handle, *mut u8, usize) -> c::Answered) -> Answer {
-        let mut out = room(ROOM)?;
+    /// Asks a question, and once more if its answer is longer than the room for it. A question
+    /// writes nothing into the session, and gets as many bytes as it is told.
+    fn ask_into(&self, mut out: Vec<u8>, question: impl Question) -> Answer {
         loop {
-            let told = question(&mut *self.shared(), out.as_mut_ptr(), out.len());
+            let told = question(&self.handle, out.as_mut_ptr(), out.len());
             match told.status {
                 c::ANSWERED => return text(out, told.length),
                 c::SHORT => out = room(told.length)?,
@@ -195,6 +190,10 @@ impl Session {
         }
     }
 }
+
+trait Question: Fn(*const c::Handle, *mut u8, usize) -> c::Answered {}
+
+impl<T: Fn(*const c::Handle, *mut u8, usize) -> c::Answered> Question for T {}
 
 type Answer = Result<String, Error>;
 
@@ -207,7 +206,7 @@ fn text(mut out: Vec<u8>, length: usize) -> Answer {
 impl Drop for Session {
     fn drop(&mut self) {
         // SAFETY: only we use the handle, and nobody uses it again.
-        unsafe { c::keyset_close(self.own()) }
+        unsafe { c::keyset_close(&mut self.handle) }
     }
 }
 
