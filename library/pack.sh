@@ -22,7 +22,7 @@ cd "$folder/lib"
     "$kit/c/liblibc_c.a" "$libraries/libgcc.a"
 # (its programs are one file, which does what its name says)
 ln -s "$tools/clang" llvm-objcopy
-declared=$(sed -n 's/^[a-z].* \(keyset_[a-z]*\)(.*/--keep-global-symbol=\1/p' "$here/keyset.h")
+declared=$(sed -n 's/^[a-z].* \(keyset_[a-z_]*\)(.*/--keep-global-symbol=\1/p' "$here/keyset.h")
 printf 'keyset %s\0' "$release" >release
 ./llvm-objcopy $declared --add-section .keyset=release keyset.o
 "$tools/llvm-ar" rcs libkeyset.a keyset.o

@@ -259,7 +259,7 @@ def stored_scripts():
 
 def play(library, script, answers, counts):
     handle, lines = library.open(script[0].encode()), Lines()
-    due = {}
+    due, status = {}, expect_status(library, handle, lines, counts)
     for line, wanted in zip(script[1:], answers):
         answer = library.call(handle, line)
         expect(answer == wanted, f"{line}: {answer}")
