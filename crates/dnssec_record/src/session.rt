@@ -247,8 +247,8 @@ impl Session {
     }
 
     /// The same session, which lets go of room to spare: a map takes its first room for nine keys,
-    /// a roll leaves room, and most zones at rest have two keys or three. What the judge keeps stays
-    /// in its place: that may be much.
+    /// a roll leaves room, and most zones at rest have two keys or three. What the judge keeps may
+    /// be much, and stays in its place.
     fn fitted(self, alloc: Global) -> Self
         ensures { (name : List ℕ) (calls : List Call) (entries : List Entry) →
             StandsAfter name calls entries self → StandsAfter name calls entries result }

@@ -17,9 +17,9 @@ TextEndsSafe script text =
 abbrev pub AtLength : (List ℕ → Type 0) → ℕ → Type 0
 AtLength IsText n = (text : List ℕ) × IsText text × (length text ≡ n)
 
--- `out` after an answer of this status, length and line. Answered: it fits, and what stands after it
--- is as it was. Short of room: it is longer. Without an answer nothing is written. A number that a
--- status has no use for is 0.
+-- `out` after an answer of this status, length and line. Answered: it fits, and what stands after
+-- it is as it was. Short of room: it is longer. Without an answer nothing is written. A number that
+-- a status has no use for is 0.
 pub record Hands (status n line : ℕ) (old new : List ℕ) : Type 0 where
   pub fits : status ≡ 0 → n ≤ length new
   pub rest : status ≡ 0 → drop n new ≡ drop n old

@@ -216,8 +216,8 @@ pub extern "C" fn keyset_accept(alloc: Global, session: &mut Handle, line: &[u8]
     requires { IsWhole session.old }
     ensures whole { IsWhole session.new }
 
-    // Accepted: whatever record the run of its lines has, it has one entry more. Refused: no call is
-    // made, and only the answer that `keyset_told` writes is another.
+    // Accepted: whatever record the run of its lines has, it has one entry more. Refused: no call
+    // is made, and only the answer that `keyset_told` writes is another.
     ensures accepted { result ≡ 0 →
         IfOpen AcceptsLine (kept_by session.old) line.now (kept_by session.new) }
     ensures refused { result ≡ 10 →
