@@ -117,9 +117,10 @@ class Operator:
         await self.watch("--call")
 
     async def change_ds(self, records):
-        """Has the parent's DS set changed. CDS and CDNSKEY are still out when it is."""
+        """Has the parent's DS set changed. CDS and CDNSKEY are still out when it is, or still on their
+        way to the servers."""
         await self.zone.world.parent.change(self.zone.name, records, DS_TTL)
-        await self.watch(ends=(DUE,))
+        await self.watch(ends=(OK, DUE))
         await self.act("--no-cds")
 
     async def wait(self, roll):
