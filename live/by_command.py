@@ -18,9 +18,9 @@ HERE = Path(__file__).resolve().parent
 # The command, and what has it look names up at one of the resolvers.
 COMMAND, LOOKING_UP = HERE.parent / "command", HERE / "looking_up"
 TTL, DS_TTL = 3, 2
-# How the command ends: done, something is due, something can't be true, or a resolver may find no
-# chain of trust.
-OK, DUE, WARNING, BROKEN = 0, 1, 2, 3
+# How the command ends: done, something is due, something can't be true, a resolver may find no
+# chain of trust, or another program writes the same script.
+OK, DUE, WARNING, BROKEN, LOCKED = 0, 1, 2, 3, 75
 KSK, ZSK = ("-f", "KSK"), ()
 
 
@@ -76,12 +76,14 @@ class Operator:
         if not self.by_date:
             self.serial += 1
         self.file.write_text(f"$TTL {TTL}\n" + "\n".join(self.records()) + "\n")
-        done = json.loads(await self.type(
-            "act", self.script, "--zone-file", self.file, "--out", self.signed,
-            *self.parents(), *how, "--json",
-        ))
+        done = json.loads(await self.type(*self.words_of_act(), *how))
         self.publish(self.signed.read_text())
         return [record.partition(" DS ")[2].lower() for record in done["ds"]]
+
+    def words_of_act(self):
+        """An act on the zone file as it is."""
+        files = ["--zone-file", self.file, "--out", self.signed]
+        return ["act", self.script, *files, *self.parents(), "--json"]
 
     def publish(self, text):
         """Gives a version to the servers, if they take it as a newer one (RFC 1982)."""
@@ -117,8 +119,8 @@ class Operator:
         await self.watch("--call")
 
     async def change_ds(self, records):
-        """Has the parent's DS set changed. CDS and CDNSKEY are still out when it is, or still on their
-        way to the servers."""
+        """Has the parent's DS set changed. CDS and CDNSKEY are still out when it is, or still on
+        their way to the servers."""
         await self.zone.world.parent.change(self.zone.name, records, DS_TTL)
         await self.watch(ends=(OK, DUE))
         await self.act("--no-cds")

@@ -2,10 +2,12 @@
 each fault before a resolver fails; in the one with a lie it sees the fault that clients meet."""
 
 import asyncio
+import json
 import time
 
-from by_command import BROKEN, DUE, KSK, OK, TTL, WARNING, ZSK, Operator
+from by_command import BROKEN, DUE, KSK, LOCKED, OK, TTL, WARNING, ZSK, Operator
 from dnspython import dns
+from keys import private_key, run, zsks_of_one_tag
 from places import CHILD
 from processes import Failed
 
@@ -13,6 +15,8 @@ from processes import Failed
 RAISED, DATE = 25, 2026112701
 # For how many seconds signatures are valid, if they soon expire.
 SHORT = 40
+# So often two acts run at once.
+TIMES = 5
 
 
 def expect(is_so, what):
@@ -160,9 +164,85 @@ async def without_address(zone):
     await operator.step(await operator.wait("zsk-roll"))
 
 
+def with_wrong_key(operator, ksk, wrong):
+    """The zone as it is signed, with another key in the place of that with its tag. The KSK has
+    signed that set too."""
+    made = dns.zone.from_file(str(operator.signed), operator.zone.name, relativize=False)
+    keys = made.get_rdataset(made.origin, "DNSKEY")
+    tag = dns.dnssec.key_id(wrong)
+    given = [wrong if dns.dnssec.key_id(it) == tag else it for it in keys]
+    (by,) = [it for it in keys if dns.dnssec.key_id(it) == tag_of(ksk)]
+    rrset = dns.rrset.from_rdata_list(made.origin, keys.ttl, given)
+    private, now = private_key(operator.folder / ksk), time.time()
+    signature = dns.dnssec.sign(rrset, private, made.origin, by, now - 3600, now + 3600)
+    for records in (given, [signature]):
+        made.replace_rdataset(made.origin, dns.rdataset.from_rdata_list(keys.ttl, records))
+    return made.to_text(relativize=False)
+
+
+def tag_of(file):
+    """The tag of a key by the name of its file."""
+    return int(file.partition(".key")[0].rpartition("+")[2])
+
+
+async def wrong_key(zone):
+    """One server gives a DNSKEY record with the right tag and another key. The command doesn't
+    report before that server has the right one."""
+    operator = Operator(zone)
+    ksk, zsk = await operator.first_keys()
+    new, other = zsks_of_one_tag(operator.folder, zone.name)
+    await operator.call(f"add {new}")
+    await operator.call(f"start zsk-roll {zsk} {new} now")
+    await operator.act()
+    await is_everywhere(zone)
+    liar = zone.servers[1]
+    zone.world.fleet.publish([liar], zone.name, with_wrong_key(operator, ksk, other))
+    await is_everywhere(zone)
+    says = f"{liar}: DNSKEY {tag_of(new)} isn't that of {new}"
+    for how in (["--call"], ["--state"]):
+        told = await operator.watch(*how, seconds=3, ends=(DUE,))
+        expect(says in told, f"the wrong key isn't said: {told}")
+    await operator.act()
+    await operator.watch("--call")
+    await operator.step(await operator.wait("zsk-roll"))
+    await operator.step(await operator.wait("zsk-roll"))
+
+
+async def both(operator):
+    """Acts twice at once, on the zone as it is. One waits for the other, or ends. Each version has
+    a serial of its own, and that with the last one is in place, whole."""
+    act = [*operator.words_of_act(), "--serial", "increment"]
+    told = await asyncio.gather(*(operator.type(*act, ends=(OK, LOCKED)) for _ in range(2)))
+    serials = [json.loads(text)["serial"] for text in told if text]
+    await run(operator.folder, "dnssec-verify", "-q", "-o", operator.zone.name, operator.signed)
+    text = operator.signed.read_text()
+    made = dns.zone.from_text(text, operator.zone.name, relativize=False)
+    is_last = serials and made.get_soa().serial == max(serials)
+    expect(is_last and len(set(serials)) == len(serials), f"two acts have made {serials}")
+    operator.publish(text)
+
+
+async def acts_at_once(zone):
+    """Two acts run at once, as one of an operator and one of a timer."""
+    operator = Operator(zone)
+    _, zsk = await operator.first_keys()
+    new = await operator.key(*ZSK)
+    await operator.call(f"add {new}")
+    await operator.call(f"start zsk-roll {zsk} {new} now")
+    for _ in range(TIMES):
+        await both(operator)
+    await operator.watch("--call")
+    await operator.step(await operator.wait("zsk-roll"))
+    await operator.step(await operator.wait("zsk-roll"))
+    await operator.watch("--state")
+    await operator.type("check", operator.script)
+
+
 HONEST = {
     "command-ds-ttl-raised": ds_ttl_raised,
     "command-wrong-digest": wrong_digest,
+    "command-wrong-key": wrong_key,
+    "command-acts-at-once": acts_at_once,
     "command-serial-by-date": serial_by_date,
     "command-unsigned": unsigned,
     "command-signatures-expired": signatures_expired,

@@ -1,4 +1,4 @@
-"""dnspython. Without it the names of the scenes can still be listed."""
+"""Debian's modules. Without them the names of the scenes can still be listed."""
 
 try:
     import dns.asyncquery
@@ -10,7 +10,9 @@ try:
     import dns.rdata
     import dns.rdataset
     import dns.rdatatype
+    import dns.rrset
     import dns.serial
     import dns.zone
+    from cryptography.hazmat.primitives.asymmetric import ec
 except ModuleNotFoundError:
-    dns = None
+    dns = ec = None

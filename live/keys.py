@@ -1,14 +1,16 @@
 """Keys by `dnssec-keygen`, and zones signed by `dnssec-signzone`."""
 
+import base64
 import itertools
+import re
 from dataclasses import dataclass
 from typing import Optional
 
-from dnspython import dns
+from dnspython import dns, ec
 from places import CHILD
 from processes import Failed, outcome, program
 
-RSA = 8
+RSA, ECDSA = 8, 13
 HOSTS = 12
 
 
@@ -109,6 +111,37 @@ def key_records(zone, version):
     for key in version.cds or ():
         yield f"{zone} {version.ttl} IN CDS {key.ds}"
         yield f"{zone} {version.ttl} IN CDNSKEY {key.dnskey}"
+
+
+def private_key(path):
+    """The private half of an ECDSA key of P-256, from the file beside that of its record."""
+    text = path.with_suffix(".private").read_text()
+    number = base64.b64decode(re.search(r"^PrivateKey: (.*)$", text, re.MULTILINE)[1])
+    return ec.derive_private_key(int.from_bytes(number, "big"), ec.SECP256R1())
+
+
+def zsks_of_one_tag(folder, zone):
+    """Two ZSKs with the same tag: the name of the one's file, and the other's record."""
+    found = {}
+    while True:
+        key = ec.generate_private_key(ec.SECP256R1())
+        record = dns.dnssec.make_dnskey(key.public_key(), ECDSA)
+        tag = dns.dnssec.key_id(record)
+        if tag in found:
+            path = folder / f"K{zone}+{ECDSA:03}+{tag:05}.key"
+            return write_key(path, zone, key, record), found[tag]
+        found[tag] = record
+
+
+def write_key(path, zone, key, record):
+    """Makes the files of a key, as BIND has them. Gives the name of that with its record."""
+    path.write_text(f"{zone} IN DNSKEY {record.to_text()}\n")
+    number = key.private_numbers().private_value.to_bytes(32, "big")
+    path.with_suffix(".private").write_text(
+        f"Private-key-format: v1.3\nAlgorithm: {ECDSA} (ECDSAP256SHA256)\n"
+        f"PrivateKey: {base64.b64encode(number).decode()}\n"
+    )
+    return path.name
 
 
 def covered(line):

@@ -19,6 +19,7 @@ PACKAGES = {
     "named": "bind9",
     "dnssec-keygen": "bind9-utils",
     "dnssec-signzone": "bind9-utils",
+    "dnssec-verify": "bind9-utils",
     "pdns_recursor": "pdns-recursor",
     "setpriv": "util-linux",
 }
