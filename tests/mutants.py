@@ -2,21 +2,24 @@
 """Changes one line of the command or of a package at a time, and runs the tests that have to
 see it.
 
-    tests/mutants.py [WORD..]    tries the changes of tests/mutants.txt, or those of files whose
-                                 name has one of these words
+    tests/mutants.py [--jobs N] [WORD..]
+                     tries the changes of tests/mutants.txt, or those of files whose name has one
+                     of these words; so many tests run at once
 
 A change is the lines `file:`, `old:` and `new:`, for a text that the file has once; `\\n` in it is
-a line feed. Then comes `seen by:` with the names of tests, or `survives:` with the reason. They
-have to pass without a change, and to fail with it. A test is what `tests/command.py --only` takes, a
+a line feed. Then comes `seen by:` with the names of tests, or `survives:` with the reason. Each has
+to pass without a change, and to fail with it. A test is what `tests/command.py --only` takes, a
 file of Python's tests, or `cargo.NAME`, which is tried if the library is built.
 """
 
+import argparse
 import os
 import re
 import shutil
 import subprocess
 import sys
 import tempfile
+import time
 from concurrent.futures import ThreadPoolExecutor
 from dataclasses import dataclass
 from pathlib import Path
@@ -112,9 +115,8 @@ def tried(mutant, variables):
             mutant.put_into(tree)
         except ValueError as error:
             return str(error)
-        if mutant.survives or not all(passes(tree, test, variables) for test in mutant.seen_by):
-            return None
-    return f"not seen by {' '.join(mutant.seen_by)}: {mutant}"
+        blind = [test for test in mutant.seen_by if passes(tree, test, variables)]
+    return f"not seen by {' '.join(blind)}: {mutant}" if blind else None
 
 
 def memory():
@@ -122,13 +124,26 @@ def memory():
     return next((it for it in ("/dev/shm",) if os.path.isdir(it)), None)
 
 
-def main():
-    words = sys.argv[1:]
+def chosen(words):
+    """The changes of the table in files whose name has one of these words, or all."""
     blocks = (it for it in re.split(r"\n{2,}", TABLE.read_text()) if it.startswith("file:"))
-    mutants = [it for it in map(Mutant.of, blocks) if not words or any(w in it.file for w in words)]
+    return [it for it in map(Mutant.of, blocks) if not words or any(w in it.file for w in words)]
+
+
+def given():
+    parser = argparse.ArgumentParser(description=__doc__.splitlines()[0])
+    parser.add_argument("words", nargs="*", metavar="WORD", help="a part of a file's name")
+    parser.add_argument("--jobs", type=int, default=os.cpu_count(), help="so many tests at once")
+    return parser.parse_args()
+
+
+def main():
+    arguments, began = given(), time.monotonic()
+    mutants = chosen(arguments.words)
     left_out = [] if (LIBRARY / "libkeyset.a").is_file() else [it for it in mutants if it.is_rust]
     mutants = [it for it in mutants if it not in left_out]
-    with tempfile.TemporaryDirectory(dir=memory()) as room, ThreadPoolExecutor() as pool:
+    pool = ThreadPoolExecutor(arguments.jobs)
+    with tempfile.TemporaryDirectory(dir=memory()) as room, pool:
         (programs := Path(room, "programs")).mkdir()
         variables, whole = environment(programs), copy(Path(room, "whole"))
         tests = sorted({test for mutant in mutants for test in mutant.seen_by})
@@ -141,7 +156,8 @@ def main():
     if left_out:
         print(f"not tried, as the library isn't built: {len(left_out)} changes of the Rust crate")
     seen = sum(not it.survives for it in ready) - len(survived)
-    print(f"mutants: {seen} of {len(mutants)} seen")
+    seconds = int(time.monotonic() - began)
+    print(f"mutants: {seen} of {len(mutants)} seen, in {seconds // 60}:{seconds % 60:02}")
     return 1 if faults or survived else 0
 
 
