@@ -7,8 +7,10 @@ import resource
 import shlex
 import stat
 import subprocess
+import time
 from dataclasses import dataclass
 from pathlib import Path
+from unittest import mock
 
 from typed import STORED, folder, private_halves, typed
 
@@ -71,12 +73,12 @@ ROWS = (
     Row("a full disk, for the signer", signer("cat draft >/dev/full"), "",
         69, "dnssec-signzone: ", OLD),
     Row("a full disk, for a draft", "true", "", 69, "too large", OLD, most=500),
-    Row("links in the place of drafts", "echo kept >precious; ln -s . .signed.x.act;"
+    Row("links in the place of drafts", "echo kept >precious; ln -s . .signed.abcd_123.act;"
         " for name in draft draft.in; do ln -s precious signed.$name; done", "",
         0, "signed: written", NEW, "[ $(cat precious) = kept ]"),
     Row("a link in the place of the signed zone", "cp signed target; ln -sf target signed", "",
         0, "signed: written", NEW, "[ ! -L signed ] && cmp -s target old"),
-    Row("what a killed act has left", "mkdir .signed.x.act; touch .signed.x.act/draft", "",
+    Row("what a killed act has left", "mkdir .signed.abcd_123.act; touch .signed.abcd_123.act/draft", "",
         0, "signed: written", NEW),
     Row("a mode", "chmod 640 signed; umask 077", "", 0, "signed: written", NEW,
         "[ $(stat -c %a signed) = 640 ]"),
@@ -130,7 +132,7 @@ def rows():
                 said, status = typed(shlex.split(f"{ACT} {row.words}"))
             if status != row.status or row.says not in said:
                 yield f"{row.name}: it ends with {status}: {said}"
-            if (Path("signed").read_text() != Path("old").read_text()) != row.is_new:
+            if is_old() == row.is_new:
                 yield f"{row.name}: the signed zone is {Path('signed').read_text()}"
             drafts = [path for path in Path().glob(".*") if not path.is_symlink()]
             if drafts or list(Path().glob("dsset*")):
@@ -256,7 +258,65 @@ def synced():
         yield f"an act does this on disk: {done}"
 
 
-CHECKS = rows, serials, at_once, held, synced
+def in_order():
+    """What is noted while an act runs, comes before what that notes: the notes stay in order."""
+    with folder():
+        noting = "echo everywhere zone $(date +%s) >>../double.notes"
+        prepare(Row("", signer(f"sleep 1.1; {noting}"), "", 0, "", NEW))
+        Path("double.notes").write_text("before 60 60 60\npublished zone 5 60 9\n")
+        with limited(ROWS[0]), mock.patch("vaqsider.cli.clock", time.time):
+            said, status = typed(shlex.split(ACT))
+        found = Path("double.notes").read_text()
+        moments = [int(line.split()[-1]) for line in found.splitlines()[1:] if " zone " in line]
+        if status or len(moments) != 3 or moments != sorted(moments):
+            yield f"an act beside a watch ends with {status}: {said}{found}"
+
+
+def set_back():
+    """If the clock was set back, nothing is noted that can't follow, and nothing is put in
+    place."""
+    with folder():
+        prepare(ROWS[0])
+        Path("double.notes").write_text("before 60 60 60\npublished zone 5 60 1001\n")
+        said, status = typed(shlex.split(ACT))
+        found = Path("double.notes").read_text(), Path("signed").read_text()
+        if status != 64 or "now is 1000, and has to be 1001 or later" not in said \
+                or "published zone 10" in found[0] or found[1] != Path("old").read_text():
+            yield f"an act whose clock was set back ends with {status}: {said}{found}"
+
+
+def of_others():
+    """An act leaves the folder of another zone's act, whose name begins like its own."""
+    from vaqsider import place
+
+    with folder() as here, place.folder(here / "signed.com") as other:
+        prepare(ROWS[0])
+        said, status = typed(shlex.split(ACT))
+        if status or not other.is_dir():
+            yield f"an act beside that of signed.com ends with {status}: {said}"
+
+
+def of_group():
+    """Who isn't root keeps the signed zone's group, and goes on if it may not give files to
+    that."""
+    given = []
+
+    def fchown(_, *ids):
+        given.append(ids)
+        raise PermissionError
+
+    with folder(), mock.patch.multiple(os, geteuid=lambda: 1, fchown=fchown):
+        prepare(ROWS[0])
+        said, status = typed(shlex.split(ACT))
+        if status or given != [(-1, Path("old").stat().st_gid)] or is_old():
+            yield f"an operator's act gives {given}, and ends with {status}: {said}"
+
+
+def is_old():
+    return Path("signed").read_text() == Path("old").read_text()
+
+
+CHECKS = rows, serials, at_once, held, synced, in_order, set_back, of_others, of_group
 COUNT = len(ROWS) + len(SERIALS) + len(CHECKS) - 2
 
 

@@ -214,7 +214,7 @@ def resolver(table, rcode=dns.rcode.NOERROR):
 @dataclass(frozen=True)
 class Found:
     """How servers are found: what the resolver says, what the parent's NS set and the zone's own
-    have, and what lacks; if nothing does, who was asked."""
+    have, and what lacks; if nothing does, who was asked. The parent may answer in another way."""
 
     name: str
     resolver: object = resolver(ADDRESSES)
@@ -223,8 +223,11 @@ class Found:
     says: tuple = ()
     asked: tuple = WELL
     more: tuple = ()
+    parent: object = None
 
 
+KNOWN = {**ADDRESSES, (f"{ZONE}.", "NS"): (f"NS ns1.{ZONE}.",)}
+NAMES_NONE = ((f"a.up ({PARENT})", "it names no server of the zone"),)
 LOST = {key: of for key, of in ADDRESSES.items() if key[0] != f"ns2.{ZONE}."}
 FOUND = (
     Found("the zone names one more"),
@@ -245,6 +248,13 @@ FOUND = (
     Found("only the other kind of address fails",
           resolver({**ADDRESSES, (f"ns2.{ZONE}.", "AAAA"): None}),
           says=((f"ns2.{ZONE}", "its AAAA records can't be looked up"),)),
+    Found("the parent is silent", resolver(KNOWN), says=NAMES_NONE,
+          parent=lambda query, is_tcp: []),
+    Found("the parent refuses", resolver(KNOWN), parent=coded(dns.rcode.REFUSED), says=NAMES_NONE),
+    Found("the parent has no NS record", resolver(KNOWN), above=(), says=NAMES_NONE),
+    Found("the parent isn't found",
+          resolver({key: of for key, of in KNOWN.items() if key != ("com.", "NS")}),
+          says=((f"the parent of {ZONE}", "none of its servers is found"),)),
 )
 
 
@@ -256,7 +266,8 @@ def of_found(servers, port: int):
     for row in FOUND:
         own = {**world("dnskey"), "NS": Set(row.own, (OLD,))}
         servers[FIRST].answer = servers[SECOND].answer = honest(own)
-        servers[PARENT].answer = honest({**ABOVE, "NS": Set(row.above)}, as_referral)
+        above = {"DS": ABOVE["DS"], **({"NS": Set(row.above)} if row.above else {})}
+        servers[PARENT].answer = row.parent or honest(above, as_referral)
         servers[RESOLVER].answer = row.resolver
         text, _ = typed(["watch", "dnskey.script", "--port", port, *row.more, "--json"], NOW)
         told = json.loads(text)

@@ -193,7 +193,7 @@ def perform(args: Namespace, clock: Callable[[], float]) -> tuple[Act, Plan]:
             plan = act.plan(folder)
             ready = make(plan, args.signer, folder)
             place.ready(ready, act.signed, act.zone_file)
-            publish(act, ready, kept)
+            publish(act, ready, kept, clock())
         if args.reload:
             reload(args.reload, args.reload_within)
         return act, plan
@@ -223,11 +223,11 @@ def sign(plan: Plan, signer: str, folder: Path) -> None:
     zonefile.write(folder / "ready", chain(signed, plan.kept.values()))
 
 
-def publish(act: Act, ready: Path, kept: Lines) -> None:
+def publish(act: Act, ready: Path, kept: Lines, now: float) -> None:
     """Notes what is published, with its TTLs, before servers can give it: before the signed file is
-    in its place. Then puts it there."""
+    in its place. Then puts it there. Something may have been noted since the act began."""
     ttls = {**dict.fromkeys(["ds"] * act.changes_ds), **zonefile.ttls(zonefile.rows(ready))}
-    Notes(act.args.SCRIPT).publish(len(act.lines) - 1, ttls, act.now)
+    Notes(act.args.SCRIPT).publish(len(act.lines) - 1, ttls, now)
     for line in act.says(kept.lines):
         kept.append(line)
     place.put(ready, act.signed)

@@ -5,7 +5,7 @@ from __future__ import annotations
 
 import sys
 from concurrent.futures import ThreadPoolExecutor
-from dataclasses import dataclass
+from dataclasses import dataclass, replace
 
 from .errors import UNAVAILABLE, Failure
 
@@ -179,18 +179,28 @@ def of_parent(zone: str, parent: str | None) -> list[Server]:
 
 def of_zone(zone: str, parents: list[Server], port: int) -> list[Server]:
     """The servers of a zone: those that the servers of the parent name, and those that the zone's
-    own servers name. If the parent isn't there, it begins with what the resolver finds."""
+    own servers name. If the parent names none, it begins with what the resolver finds, and says
+    that the parent's are lacking."""
     def named(servers):
         found = side_by_side(lambda server: named_by(server, port, zone), sorted(servers))
         return set().union(*found)
 
-    names = named(parents) or set(map(_target, look_up(zone, "NS") or ()))
+    names = named(parents)
+    lacking = [] if names or not zone.strip(".") else _naming_none(zone, parents)
+    names = names or set(map(_target, look_up(zone, "NS") or ()))
     found, asked = set(with_addresses(names)), set()
     while new := found - asked:
         asked |= new
         found |= set(with_addresses(named(new) - names))
         names = {server.name for server in found}
-    return sorted(found)
+    return [*sorted(found), *lacking] if found else []
+
+
+def _naming_none(zone: str, parents: list[Server]) -> list[Server]:
+    """The servers of the parent, none of which names a server of the zone."""
+    missing = [Server(f"the parent of {zone}", "", "none of its servers is found")]
+    return [replace(it, fault=it.fault or "it names no server of the zone")
+            for it in parents] or missing
 
 
 def named_by(server: Server, port: int, zone: str) -> set[str]:

@@ -50,7 +50,8 @@ def _locked(stack: contextlib.ExitStack, path: Path) -> Lines:
 def folder(signed: Path) -> Iterator[Path]:
     """A private folder beside the signed file. What an act that was killed has left goes."""
     start = f".{signed.name[:200]}."
-    for left in signed.parent.glob(f"{glob.escape(start)}*{SUFFIX}"):
+    # A name of tempfile has eight characters more: `.a.*` would be folders of `a.b` too.
+    for left in signed.parent.glob(f"{glob.escape(start)}{'?' * 8}{SUFFIX}"):
         if left.lstat().st_uid == os.geteuid():
             shutil.rmtree(left, ignore_errors=True)
     with tempfile.TemporaryDirectory(prefix=start, suffix=SUFFIX, dir=signed.parent) as made:
@@ -63,12 +64,20 @@ def ready(draft: Path, signed: Path, unsigned: Path) -> None:
     like = _regular(signed) or unsigned.stat()
     file = os.open(draft, os.O_RDONLY | os.O_NOFOLLOW | os.O_CLOEXEC)
     try:
-        if os.geteuid() == 0:
-            os.fchown(file, like.st_uid, like.st_gid)
+        _give(file, like)
         os.fchmod(file, like.st_mode & MODES)
         os.fsync(file)
     finally:
         os.close(file)
+
+
+def _give(file: int, like: os.stat_result) -> None:
+    """Gives a file the owner of another one, or the group if only root may do more."""
+    if os.geteuid() == 0:
+        os.fchown(file, like.st_uid, like.st_gid)
+        return
+    with contextlib.suppress(PermissionError):
+        os.fchown(file, -1, like.st_gid)
 
 
 def _regular(path: Path) -> os.stat_result | None:

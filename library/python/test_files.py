@@ -24,6 +24,7 @@ from keyset import (
     Refused,
     RollType,
     Torn,
+    WrongArgument,
     due,
 )
 
@@ -195,6 +196,23 @@ class Files(Kept):
         with self.assertRaises(Locked):
             notes.append("published dnskey 3 60 9")
         self.assertEqual(notes.more(), ["published dnskey 3 60 10"])
+
+    def test_notes_take_no_moment_before_the_last_one_of_a_kind(self):
+        """A clock that was set back doesn't damage them."""
+        self.begin(COURSE[:3]).note("before 60 60 60")
+        notes = Notes(self.path)
+        notes.publish(3, {"dnskey": 60}, 10)
+        notes = Notes(self.path)
+        with self.assertRaises(WrongArgument):
+            notes.append("published dnskey 3 70 9")
+        with self.assertRaises(WrongArgument):
+            notes.publish(3, {"dnskey": 70}, 9.9)
+        with self.assertRaises(WrongArgument):
+            notes.everywhere({"dnskey": 60}, 8.5)
+        notes.publish(3, {"zone": 60}, 9)
+        Notes(self.path).append("published dnskey 3 60 10")
+        self.assertEqual(len(Notes(self.path).lines), 4)
+        Notes(self.path).check(["zone example.com", *COURSE[:3]])
 
     def test_notes_have_no_place_beside_a_script_of_another_name(self):
         self.path = self.path.with_name("example.com")

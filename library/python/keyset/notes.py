@@ -12,7 +12,7 @@ from pathlib import Path
 from typing import Callable, Dict, Iterable, Iterator, List, Mapping, Sequence
 
 from . import engine, file
-from .errors import Damaged, Locked, Malformed, Misnamed, Torn
+from .errors import Damaged, Locked, Malformed, Misnamed, Torn, WrongArgument
 
 KINDS = ("ds", "dnskey", "zone")
 FORM = re.compile(
@@ -60,7 +60,9 @@ class Notes:
         return lines[known:]
 
     def append(self, line: str) -> None:
-        """Adds a line. Returns once it is on disk."""
+        """Adds a line. Returns once it is on disk. `WrongArgument`: its moment is before that of
+        another one, so the clock was set back."""
+        _expect_later(self.lines, line)
         if self.path is not None and not self.path.is_file():
             file.create(self.path, [line])
         elif self.path is not None:
@@ -115,7 +117,8 @@ class Notes:
 
     def publish(self, call: int, ttls: Mapping[str, int | None], now: float) -> None:
         """Notes versions of these kinds, with the sets after this call, before servers give them.
-        Without a TTL they have the present one. New signatures need no line."""
+        Without a TTL they have the present one. New signatures need no line. `WrongArgument`: `now`
+        is before the last moment of a kind, so the clock was set back."""
 
         def lines(seen: Seen) -> Iterator[str]:
             for kind, ttl in ttls.items():
@@ -144,6 +147,7 @@ class Notes:
         if self.path is not None and self.path.is_file():
             with file.locked(self.path) as notes:
                 for line in list(lines(Seen(_checked(notes), now))):
+                    _expect_later(notes.lines, line)
                     notes.append(line)
 
 
@@ -196,6 +200,14 @@ def path_of(script: file.Place) -> Path:
 
 def _moment(line: str) -> int:
     return int(line.rpartition(" ")[2])
+
+
+def _expect_later(lines: Sequence[str], line: str) -> None:
+    """A moment before the last one of its kind would damage the notes."""
+    word, kind, *_ = line.split(" ")
+    last = max((_moment(it) for it in lines if it.split(" ")[1] == kind), default=0)
+    if word != "before" and _moment(line) < last:
+        raise WrongArgument("now", _moment(line), f"{last} or later: the notes of {kind} say so")
 
 
 def _call(published: str) -> int:
