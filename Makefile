@@ -3,6 +3,9 @@
 SCRIPT ?= examples/algorithm-roll.script
 PREFIX ?= /usr/local
 DESTDIR ?=
+# Where libraries go below PREFIX, and the parts to leave out: programs, library, command.
+LIBDIR ?= lib
+WITHOUT ?=
 RUNS ?= 1000000
 
 # The Python of the tests: the first that has dnspython, cryptography and jsonschema. A Python that
@@ -19,12 +22,6 @@ PARTS = dnssec_base dnssec_key dnssec_zone dnssec_keyset dnssec_run dnssec_sets 
 SOURCES = crates.txt \
 	$(wildcard $(foreach part,$(PARTS),$(addprefix crates/$(part)/,src specs proofs)))
 
-# What `make install` takes: it is made if it is missing, or older than the sources.
-MADE = $(foreach program,keyset keyset_status keyset_notes,crates/$(program)/out/$(program)) \
-	library/out/lib/libkeyset.so
-ALL_SOURCES = crates.txt VERSION $(wildcard library/*.*) \
-	$(shell find crates -path '*/out' -prune -o -name '*.rt' -print -o -name '*.antt' -print)
-
 # What the library is called by in the tests.
 CALLERS = has-cc has-pkg-config has-cargo has-rustc
 
@@ -32,8 +29,9 @@ CALLERS = has-cc has-pkg-config has-cargo has-rustc
 prove = mkdir -p crates/$(1)/out && cd crates/$(1) && \
 	{ rt $(2) >out/build.log 2>&1 || { cat out/build.log >&2; exit 1; }; }
 
-.PHONY: run build notes lib install uninstall check fmt clean test wrong live docs memory test-lib \
-	valgrind asan fuzz types mutants signers help python modules packages
+.PHONY: run build notes lib install uninstall made noted arm dist try-dist check fmt clean test \
+	wrong live docs memory test-lib valgrind asan fuzz types mutants signers help python modules \
+	packages
 
 # The proved program answers if it is newer than its sources, else one that is built at once.
 run: ## answers SCRIPT: make run SCRIPT=FILE
@@ -55,15 +53,28 @@ lib: ## proves and builds the library for C, Rust and Python: library/out
 	@$(call prove,keyset_c,lib)
 	@library/pack.sh crates/keyset_c/out/libkeyset_c.a library/out
 
-install: python $(MADE) ## installs programs, library, command and manual: PREFIX=/usr/local DESTDIR=
-	@packaging/install.py install "$(PREFIX)" --destdir "$(DESTDIR)"
+install: python made ## installs programs, library, command and manual: PREFIX=/usr/local DESTDIR=
+	@packaging/install.py install "$(PREFIX)" --destdir "$(DESTDIR)" --libdir "$(LIBDIR)" \
+		$(addprefix --without ,$(WITHOUT))
 
 uninstall: python ## removes what make install has installed
 	@packaging/install.py uninstall "$(PREFIX)" --destdir "$(DESTDIR)"
 
-$(MADE): $(ALL_SOURCES)
-	@$(MAKE) build notes lib
-	@touch $(MADE)
+# By what is in the sources, not by their times. One after the other: these share proofs.
+made: python
+	@packaging/built.py || $(MAKE) -j1 build notes lib noted
+noted:
+	@packaging/built.py --keep
+
+arm: made has-aarch64-linux-gnu-gcc ## builds the library for ARM: library/out-aarch64
+	@tests/archive.py library/out-aarch64 aarch64
+
+# CONTRIBUTING says how a release is made, and what it wants.
+dist: made arm has-dpkg-deb has-cargo ## makes a release in dist; DIST=--untagged of any clean tree
+	@packaging/dist.py dist $(DIST)
+
+try-dist: python has-debootstrap ## installs each artefact of dist in a bare Debian, and uses it
+	@packaging/try_dist.py dist
 
 check: ## proves every crate, and tries no edits and runs no tests
 	@rt all check
@@ -72,7 +83,7 @@ fmt: ## lays out the .rt files of every crate
 	@for crate in crates/*/; do (cd $$crate && rt fmt) || exit 1; done
 
 clean: ## removes what was built
-	@rm -rf crates/*/out library/out library/rust/target
+	@rm -rf crates/*/out library/out library/out-aarch64 library/rust/target dist
 	@find . -name __pycache__ -prune -exec rm -rf {} +
 
 # Every proof, wrong body, test and program. It prints when each step was done.

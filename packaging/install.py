@@ -1,17 +1,19 @@
 #!/usr/bin/env python3
 """Installs what `make build notes lib` has made, and removes it again.
 
-    packaging/install.py install PREFIX [--destdir FOLDER] [--library FOLDER]
+    packaging/install.py install PREFIX [--destdir FOLDER] [--libdir FOLDER] [--without PART]
     packaging/install.py uninstall PREFIX [--destdir FOLDER]
 
 With --destdir the files go below that folder, as packagers want them. The folder PREFIX may be
 moved as a whole: nothing in it says where it is. `share/vaqsider/installed` lists what was
 installed. `uninstall` removes that, and then the folders that `install` made, if they are empty.
+A shared object of an older interface stays, since programs may be linked to it.
 """
 
 import argparse
 import os
 import shutil
+import subprocess
 import sys
 import tempfile
 from pathlib import Path
@@ -19,55 +21,29 @@ from pathlib import Path
 sys.dont_write_bytecode = True
 
 import man  # noqa: E402
-
-TOP = Path(__file__).resolve().parent.parent
-LIBRARY = TOP / "library" / "out"
-PROGRAMS = ("keyset", "keyset_status", "keyset_notes")
-# The parts of the command.
-PACKAGES = (TOP / "library" / "python" / "keyset", TOP / "command" / "vaqsider")
-# The licence of all that is installed.
-LICENCE = TOP / "LICENSE"
-
-SHARE = Path("share/vaqsider")
-LIST = SHARE / "installed"
-
-LAUNCHER = '''\
-#!/usr/bin/env python3
-"""The command vaqsider, as it is installed."""
-
-import sys
-from pathlib import Path
-
-sys.path.insert(0, str(Path(__file__).resolve().parents[1] / "share" / "vaqsider"))
-
-from vaqsider.cli import main  # noqa: E402
-
-sys.exit(main())
-'''
+from layout import (  # noqa: E402
+    BUILT,
+    LAUNCHER,
+    LIST,
+    PARTS,
+    SHARED,
+    TOP,
+    Layout,
+    description,
+)
 
 
 class Missing(Exception):
     pass
 
 
-def contents(pages, library):
-    """What is installed: the place of each file below PREFIX, with its source and its mode. A link
-    has no mode, and leads to the file of the source's name beside it."""
-    for name in PROGRAMS:
-        yield Path("bin") / name, TOP / "crates" / name / "out" / name, 0o755
-    yield Path("bin/vaqsider"), pages / "vaqsider", 0o755
-    for source in (library / "include" / "keyset.h", library / "lib" / "pkgconfig" / "keyset.pc"):
-        yield source.relative_to(library), source, 0o644
-    yield Path("lib/libkeyset.a"), library / "lib" / "libkeyset.a", 0o644
-    for source in (library / "lib").glob("libkeyset.so.*"):
-        yield Path("lib") / source.name, source, 0o644
-        yield Path("lib/libkeyset.so"), source, None
-    for package in PACKAGES:
-        for source in filter(Path.is_file, sorted(package.iterdir())):
-            yield SHARE / package.name / source.name, source, 0o644
-    for page in sorted(pages.glob("*.1")):
-        yield Path("share/man/man1") / page.name, page, 0o644
-    yield Path("share/doc/vaqsider/LICENSE"), LICENCE, 0o644
+def make_pages(folder, layout):
+    """Writes what an install has that isn't a file of the repository."""
+    man.write(folder)
+    (folder / "vaqsider").write_text(LAUNCHER, encoding="utf-8")
+    version = (TOP / "VERSION").read_text().strip()
+    text = description(layout.libraries, version)
+    (folder / "keyset.pc").write_text(text, encoding="utf-8")
 
 
 def make_folder(folder):
@@ -82,15 +58,16 @@ def make_folder(folder):
     return made
 
 
-def put(source, place, mode):
+def put(file, root):
     """Puts a file in its place in one step: whoever uses the old one goes on with it."""
+    place = root / file.place
     new = place.with_name(f".{place.name}.new")
     new.unlink(missing_ok=True)
-    if mode is None:
-        new.symlink_to(source.name)
+    if file.mode is None:
+        new.symlink_to(file.source.name)
     else:
-        shutil.copyfile(source, new)
-        new.chmod(mode)
+        shutil.copyfile(file.source, new)
+        new.chmod(file.mode)
     new.replace(place)
 
 
@@ -114,35 +91,39 @@ def remove_file(root, name):
 
 
 def keep(root, names, folders):
-    """Writes the list of what was installed."""
+    """Writes the list of what was installed, which anybody may read."""
     rows = [*sorted(names), *sorted(folders)]
     (root / LIST).write_text("".join(f"{row}\n" for row in rows), encoding="utf-8")
+    (root / LIST).chmod(0o644)
 
 
-def install(root, library):
+def is_older_library(name):
+    return bool(SHARED.fullmatch(Path(name).name))
+
+
+def install(root, layout):
     """Installs all, and removes what an earlier install has left and this one lacks. The list has
     each file before the file is there. So `uninstall` finds all files of an install that broke
     off."""
     with tempfile.TemporaryDirectory() as pages:
-        pages = Path(pages)
-        man.write(pages)
-        (pages / "vaqsider").write_text(LAUNCHER, encoding="utf-8")
-        files = list(contents(pages, library))
-        for _, source, _ in files:
-            if not source.exists():
-                raise Missing(f"{source} isn't there: 'make build notes lib' makes it")
+        make_pages(Path(pages), layout)
+        files = list(layout.files(Path(pages)))
+        for file in files:
+            if not file.source.exists():
+                raise Missing(f"{file.source} isn't there: 'make build notes lib' makes it")
         before, folders = map(set, listed(root))
-        names = {str(LIST), *(str(place) for place, _, _ in files)}
+        names = {str(LIST), *(str(file.place) for file in files)}
         for name in names:
             made = make_folder((root / name).parent)
             ours = (path for path in made if path == root or root in path.parents)
             folders.update(f"{path.relative_to(root)}/" for path in ours)
         keep(root, before | names, folders)
-        for place, source, mode in files:
-            put(source, root / place, mode)
-    for name in before - names:
+        for file in files:
+            put(file, root)
+    stay = set(filter(is_older_library, before))
+    for name in before - names - stay:
         remove_file(root, name)
-    keep(root, names, folders)
+    keep(root, names | stay, folders)
     return names
 
 
@@ -160,23 +141,65 @@ def uninstall(root):
     return files
 
 
-def main():
+def loader_folders():
+    """Where the loader looks for shared objects, beside those that a program names."""
+    words = ["ldconfig", "-N", "-X", "-v"]
+    environment = {**os.environ, "PATH": f"{os.environ.get('PATH', '')}:/sbin:/usr/sbin"}
+    shown = subprocess.run(words, env=environment, capture_output=True, text=True, check=False)
+    return {line.partition(":")[0] for line in shown.stdout.splitlines() if line.startswith("/")}
+
+
+def tell_loader(folder):
+    """Lets the loader see a new library in this folder, or says what is left to do."""
+    if str(folder) not in loader_folders():
+        return f"the loader doesn't look in {folder}: set LD_LIBRARY_PATH, or name it by -rpath"
+    if os.geteuid():
+        return "run ldconfig as root: the loader then finds the library"
+    subprocess.run(["ldconfig"], check=True)
+    return None
+
+
+def arguments():
     parser = argparse.ArgumentParser(description=__doc__.partition("\n")[0])
     parser.add_argument("word", choices=("install", "uninstall"))
     parser.add_argument("prefix", metavar="PREFIX", help="the folder for bin, lib and share")
     parser.add_argument("--destdir", metavar="FOLDER", default="", help="put PREFIX below this")
-    parser.add_argument("--library", metavar="FOLDER", type=Path, default=LIBRARY,
+    parser.add_argument("--libdir", metavar="FOLDER", type=Path, default=Path("lib"),
+                        help="where libraries lie below PREFIX, as lib/x86_64-linux-gnu (lib)")
+    parser.add_argument("--without", metavar="PART", action="append", choices=PARTS, default=[],
+                        help=f"leave a part out: {', '.join(PARTS)}")
+    parser.add_argument("--library", metavar="FOLDER", type=Path, default=BUILT,
                         help="where the library is (library/out)")
     given = parser.parse_args()
     if not os.path.isabs(given.prefix):
         parser.error(f"PREFIX is {given.prefix!r}, and has to begin with a slash")
+    if given.libdir.is_absolute() or ".." in given.libdir.parts:
+        parser.error(f"--libdir is {str(given.libdir)!r}, and has to lie below PREFIX")
+    return given
+
+
+def do(given):
+    """Does what the word says, and gives the lines to print."""
     root = Path(given.destdir + given.prefix)
+    if given.word == "uninstall":
+        yield f"uninstalled {len(uninstall(root))} files below {root}"
+        return
+    parts = tuple(part for part in PARTS if part not in given.without)
+    names = install(root, Layout(parts, given.libdir, given.library))
+    yield f"installed {len(names)} files below {root}"
+    if "library" in parts and not given.destdir:
+        if left := tell_loader(root / given.libdir):
+            yield left
+
+
+def main():
+    given = arguments()
     try:
-        names = install(root, given.library) if given.word == "install" else uninstall(root)
-    except (Missing, OSError) as fault:
+        for line in do(given):
+            print(line)
+    except (Missing, OSError, subprocess.CalledProcessError) as fault:
         print(f"{given.word}: {fault}", file=sys.stderr)
         return 1
-    print(f"{given.word}ed {len(names)} files below {root}")
     return 0
 
 

@@ -1,10 +1,12 @@
 #!/usr/bin/env python3
 """Makes the manual pages from the documents.
 
-    packaging/man.py FOLDER    writes keyset.1, keyset_status.1, keyset_notes.1 and vaqsider.1
+    packaging/man.py FOLDER    writes keyset.1, keyset_status.1, keyset_notes.1, vaqsider.1 and
+                               keyset.3
 
-A page has the documents that are named below, without the sections that only a reader of the
-repository needs. It reads only the Markdown that these documents use, and stops at any other.
+A page of section 1 has the documents that are named below, without the sections that only a reader
+of the repository needs. It reads only the Markdown that these documents use, and stops at any
+other. keyset.3 has the comments and the declarations of the header.
 """
 
 import argparse
@@ -56,6 +58,16 @@ WORD = re.compile(r"^\| `(\w+) [A-Z]", re.MULTILINE)
 ITEM = re.compile(r"(?P<mark>-|\d+\.) +(?P<text>.*)")
 # An item of a table of contents.
 CONTENTS = re.compile(r"\[[^]]*\]\(#")
+
+# A part of the header: a comment, and what is declared below it.
+PART = re.compile(r"(/\*)(.*?)\*/\n(.*?)(?=\n/\*|\Z)", re.DOTALL)
+FUNCTION = re.compile(r"\b(keyset_\w+)\(")
+TYPE = re.compile(r"^struct (\w+) \{", re.MULTILINE)
+# What stands round the declarations for the preprocessor.
+BORDER = re.compile(r'^#(?:ifn?def|endif|include)\b.*\n?|^#define KEYSET_H\n|^extern "C" \{\n|^\}$',
+                    re.MULTILINE)
+# A row of a table in a comment.
+TABULAR = re.compile(r"^\w[\w ,]*? {2,}\S", re.MULTILINE)
 
 
 class Unreadable(Exception):
@@ -194,17 +206,22 @@ def words():
         yield from verbatim(printed.getvalue().splitlines())
 
 
-def page(name):
-    """A page as a text."""
-    does, called, documents = PAGES[name]
+def head(name, section, does, called):
+    """How a page begins: its title, its name, and how it is called."""
     version = (TOP / "VERSION").read_text().strip()
     dates = {m["version"]: m["date"] for m in RELEASED.finditer((TOP / "CHANGELOG.md").read_text())}
-    lines = [
-        f'.TH {name.upper()} 1 {dates[version]} "vaqsider {version}"',
-        *(".SH NAME", f"{plain(name)} \\- {plain(does)}"),
-        *(".SH SYNOPSIS", *verbatim([called])),
-        ".SH DESCRIPTION",
-    ]
+    yield f'.TH {name.upper()} {section} {dates[version]} "vaqsider {version}"'
+    yield ".SH NAME"
+    yield f"{plain(name)} \\- {plain(does)}"
+    yield ".SH SYNOPSIS"
+    yield from verbatim(called)
+    yield ".SH DESCRIPTION"
+
+
+def page(name):
+    """A page of section 1 as a text."""
+    does, called, documents = PAGES[name]
+    lines = [*head(name, 1, does, [called])]
     for number, document in enumerate(documents):
         lines += body(document, number == 0)
     if name == "vaqsider":
@@ -213,13 +230,51 @@ def page(name):
     return "\n".join([*lines, ".SH SEE ALSO", others]) + "\n"
 
 
+# ---- the page of the library
+
+
+def comment(text):
+    """A comment of the header: tables as they stand, and its other paragraphs filled."""
+    lines = [line.removeprefix("   ").rstrip() for line in text.strip().splitlines()]
+    for paragraph in "\n".join(lines).split("\n\n"):
+        if TABULAR.search(paragraph):
+            yield from verbatim(paragraph.splitlines())
+        else:
+            yield ".PP"
+            yield filled(paragraph)
+
+
+def declared(code):
+    """What the header declares below a comment, under the names of its functions."""
+    names = FUNCTION.findall(code) or TYPE.findall(code)
+    if names:
+        yield f".SS {plain(', '.join(names))}"
+    yield from verbatim(code.strip().splitlines())
+
+
+def library_page():
+    """keyset.3 as a text."""
+    header = (TOP / "library" / "keyset.h").read_text(encoding="utf-8")
+    (_, first, _), *others = PART.findall(header)
+    called = ["#include <keyset.h>", "", "cc CALLER.c -lkeyset"]
+    lines = [*head("keyset", 3, "a proved DNSSEC key set for C", called), *comment(first)]
+    lines.append(".SH INTERFACE")
+    for _, text, code in others:
+        code = BORDER.sub("", code)
+        if code.strip():
+            lines += declared(code)
+        lines += comment(text)
+    see = ", ".join(f"\\fB{plain(name)}\\fR(1)" for name in PAGES)
+    return "\n".join([*lines, ".SH SEE ALSO", see]) + "\n"
+
+
 def write(folder):
     """Writes all pages, and gives their paths."""
     folder.mkdir(parents=True, exist_ok=True)
-    paths = [folder / f"{name}.1" for name in PAGES]
-    for path in paths:
-        path.write_text(page(path.stem), encoding="ascii")
-    return paths
+    texts = {f"{name}.1": page(name) for name in PAGES} | {"keyset.3": library_page()}
+    for name, text in texts.items():
+        (folder / name).write_text(text, encoding="ascii")
+    return [folder / name for name in texts]
 
 
 if __name__ == "__main__":

@@ -2,9 +2,9 @@
 """Builds the library for C in FOLDER, on the crates below it that a running `rt ci` has proved or
 has kept.
 
-    tests/archive.py FOLDER
+    tests/archive.py FOLDER [aarch64]
 
-This proves `keyset_c` once more: `rt ci` keeps nothing of its proof that a build could take.
+The second word names another architecture than this machine's. This proves `keyset_c` once more: `rt ci` keeps nothing of its proof that a build could take.
 """
 
 import shutil
@@ -14,6 +14,8 @@ import time
 from pathlib import Path
 
 from tools import CRATES, TOP, Wrong, kit, run
+
+HERE = "x86_64"
 
 
 def stands_on():
@@ -28,14 +30,15 @@ def below(crate, crates):
     return set().union(*({name} | below(name, crates) for name in crates[crate]))
 
 
-def build(archive):
-    """Builds the static library on what `rt ci` has proved."""
+def build(archive, machine):
+    """Builds the static library for an architecture on what `rt ci` has proved."""
     top, crates = kit(), stands_on()
     # A copy of it: at its end `rt ci` puts back what was in its place before.
     proved = archive.parent / "proved"
     for name in below("keyset_c", crates):
         shutil.copytree(CRATES / name / "out" / "rlib", proved, dirs_exist_ok=True)
     words = ["--crate-name", "keyset_c", "src/lib.rt", "--crate-type", "staticlib"]
+    words += ["--target", f"{machine}-unknown-linux-gnu"] if machine != HERE else []
     words += ["--extern", f"std={top}/rlibs/std.rlib", "-L", f"dependency={top}/rlibs"]
     for name in crates["keyset_c"]:
         words += ["--extern", f"{name}={proved}/{name}.rlib"]
@@ -47,11 +50,12 @@ def build(archive):
 
 def main():
     began = time.monotonic()
+    folder, machine = Path(sys.argv[1]).resolve(), (*sys.argv[2:], HERE)[0]
     with tempfile.TemporaryDirectory() as room:
         archive = Path(room) / "libkeyset_c.a"
         try:
-            build(archive)
-            run(TOP / "library" / "pack.sh", archive, Path(sys.argv[1]).resolve())
+            build(archive, machine)
+            run(TOP / "library" / "pack.sh", archive, folder, machine)
         except Wrong as wrong:
             print(f"archive: {wrong}")
             return 1

@@ -7,7 +7,9 @@ A caller in C is built by `pkg-config`, the folder is moved, and the caller is b
 programs and the command answer from the new place, without the repository. Each file that names a
 version names that of the file VERSION. Each manual page has the form that `man` reads. A second
 install changes nothing. An install over an older list removes the files that only the old list has.
-After `uninstall` only the files of others are left.
+An install below another folder of libraries is found by `pkg-config` there, one without a part lacks
+just its files, and a shared object of an older interface stays. After `uninstall` only the files of
+others are left.
 """
 
 import json
@@ -18,6 +20,11 @@ import tempfile
 from pathlib import Path
 
 from tools import CRATES, STRICT, TOP, Wrong, run
+
+sys.path.insert(0, str(TOP / "packaging"))
+
+from release import X86_64, Built  # noqa: E402
+from tarballs import pack_built  # noqa: E402
 
 INSTALL = TOP / "packaging" / "install.py"
 VERSION = (TOP / "VERSION").read_text().strip()
@@ -32,7 +39,13 @@ ESCAPE = re.compile(r"\\(fB|fR|e|-|&|\((aq|ga|ha|ti|bu)|\[u[0-9A-F]{4,5}\])")
 
 
 def packaging(word, prefix, *more):
-    return run(sys.executable, "-B", INSTALL, word, prefix, *more)
+    """Installs or uninstalls under a mask that hides new files from others: what is installed is
+    for all the same."""
+    mask = os.umask(0o077)
+    try:
+        return run(sys.executable, "-B", INSTALL, word, prefix, *more)
+    finally:
+        os.umask(mask)
 
 
 def tree(folder):
@@ -54,18 +67,18 @@ def expect(is_so, fault):
         raise Wrong(fault)
 
 
-def apart(prefix, **more):
+def apart(prefix, libraries="lib", **more):
     """An environment in which only `pkg-config` finds what is installed."""
-    found = {"PATH": os.environ["PATH"], "PKG_CONFIG_PATH": f"{prefix}/lib/pkgconfig"}
+    found = {"PATH": os.environ["PATH"], "PKG_CONFIG_PATH": f"{prefix}/{libraries}/pkgconfig"}
     return {**found, "PYTHONDONTWRITEBYTECODE": "1", **more}
 
 
-def build_in_c(prefix, program):
+def build_in_c(prefix, program, libraries="lib"):
     """A caller of the library, built with what `pkg-config` prints, answers the example."""
-    environment = apart(prefix)
+    environment = apart(prefix, libraries)
     told = run("pkg-config", "--cflags", "--libs", "keyset", env=environment).split()
     source = TOP / "library" / "c" / "roll.c"
-    run("cc", *STRICT, "-o", program, source, *told, f"-Wl,-rpath,{prefix}/lib")
+    run("cc", *STRICT, "-o", program, source, *told, f"-Wl,-rpath,{prefix}/{libraries}")
     answered = run(program, input=EXAMPLE.read_bytes(), env=environment)
     expect(answered == ANSWERS, f"a caller in C answers something else: {answered}")
 
@@ -111,7 +124,8 @@ def expect_page(path):
     closes each font and each block that it opens."""
     text = path.read_text(encoding="ascii")
     title, name, line, *rest = text.splitlines()
-    expect(title.startswith(f".TH {path.stem.upper()} 1 2"), f"{path.name}: no title")
+    section = path.suffix[1:]
+    expect(title.startswith(f".TH {path.stem.upper()} {section} 2"), f"{path.name}: no title")
     expect(name == ".SH NAME", f"{path.name}: the first section isn't NAME")
     shown = line.replace("\\", "")
     expect(shown.startswith(f"{path.stem} - "), f"{path.name}: NAME doesn't say what it is for")
@@ -153,6 +167,74 @@ def expect_contents(folder):
         expect(used in text, f"vaqsider.1 doesn't have the options of {word}")
 
 
+def expect_functions(page):
+    """Each function of the header is on the page of the library, with its declaration."""
+    text = page.read_text().replace("\\", "")
+    header = (TOP / "library" / "keyset.h").read_text()
+    names = re.findall(r"^[a-z].* (keyset_\w+)\(", header, re.M)
+    expect(len(names) > 10, "the functions aren't found in keyset.h")
+    for name in names:
+        expect(re.search(rf"^[a-z].* {name}\(", text, re.M), f"keyset.3 doesn't declare {name}")
+
+
+def expect_other_folder(room, library):
+    """Libraries may go to the folder of an architecture: pkg-config finds them there."""
+    prefix, libraries = room / "other", "lib/x86_64-linux-gnu"
+    packaging("install", prefix, "--library", library, "--libdir", libraries)
+    build_in_c(prefix, room / "roll", libraries)
+    expect(list((prefix / "lib").iterdir()) == [prefix / libraries], "libraries are in two places")
+
+
+def expect_parts(room, library, whole):
+    """What each part has, taken together, is the whole; and none has a file of another."""
+    parts, of_parts = ("programs", "library", "command"), {}
+    for part in parts:
+        prefix = room / part
+        without = [word for other in parts if other != part for word in ("--without", other)]
+        packaging("install", prefix, "--library", library, *without)
+        of_parts[part] = {name: file for name, file in tree(prefix).items() if file[1] is not None}
+        shared = (LIST, *(name for name in of_parts[part] if name.startswith("share/doc/")))
+        for name in shared:
+            of_parts[part].pop(name)
+    found = {name: file for files in of_parts.values() for name, file in files.items()}
+    expect(sum(map(len, of_parts.values())) == len(found), "two parts have the same file")
+    lacking = {name for name, file in whole.items() if file[1] is not None} - found.keys()
+    others = {name for name in lacking if name != LIST and not name.startswith("share/doc/")}
+    expect(not others, f"no part has {sorted(others)}")
+
+
+def expect_older(prefix, library):
+    """An install removes a file that it lacks, and leaves a shared object of an older interface, to
+    which programs may be linked. Gives the path of that."""
+    older, shared = prefix / "share/vaqsider/older.py", prefix / "lib/libkeyset.so.1"
+    for path in (older, shared):
+        path.write_text("")
+    with open(prefix / LIST, "a") as names:
+        names.writelines(f"{path.relative_to(prefix)}\n" for path in (older, shared))
+    packaging("install", prefix, "--library", library)
+    expect(not older.exists(), "an install leaves a file of an older one")
+    expect(shared.exists(), "an install removes the library of an older interface")
+
+
+def expect_tarball(room, library, whole):
+    """The tarball of a release installs the same files by `install.sh`, over older ones too, and
+    removes them. It has the same bytes when it is made again."""
+    made = [room / "dist" / name for name in ("one", "two")]
+    for folder in made:
+        folder.mkdir(parents=True)
+        pack_built(folder, Built(X86_64, library, CRATES))
+    (first,), (second,) = (list(folder.iterdir()) for folder in made)
+    expect(first.read_bytes() == second.read_bytes(), f"{first.name} has other bytes each time")
+    run("tar", "-xzf", first, "-C", room)
+    script, prefix = room / first.name.removesuffix(".tar.gz") / "install.sh", room / "by tarball"
+    for _ in range(2):
+        run(script, prefix)
+        expect(tree(prefix) == whole, "install.sh installs other files")
+    run(prefix / "bin" / "vaqsider", "--version", env={"PATH": os.environ["PATH"]})
+    run(script, "--uninstall", prefix)
+    expect(list(tree(prefix)) == [], f"install.sh --uninstall leaves {list(tree(prefix))}")
+
+
 def test(library):
     """Tests an install of this library, and of the programs that `rt ci` has made. Gives a line."""
     with tempfile.TemporaryDirectory() as room:
@@ -170,20 +252,23 @@ def test(library):
         expect_programs(moved, room)
         for name in PAGES:
             expect_page(moved / "share" / "man" / "man1" / f"{name}.1")
+        expect_page(moved / "share" / "man" / "man3" / "keyset.3")
+        expect_functions(moved / "share" / "man" / "man3" / "keyset.3")
         expect_contents(moved / "share" / "man" / "man1")
+        modes = {mode for mode, content in whole.values() if content is not None}
+        expect(modes - {"link"} == {0o644, 0o755}, f"files have the modes {modes}")
+        expect_other_folder(room, library)
+        expect_parts(room, library, whole)
+        expect_tarball(room, library, whole)
         expect(tree(moved) == whole, "the use of what is installed changes it")
 
         below = room / "below"
         packaging("install", "/usr", "--destdir", below, "--library", library)
         expect(tree(below / "usr") == whole, "an install below a folder has other files")
 
-        older, other = moved / "share" / "vaqsider" / "older.py", moved / "bin" / "other"
-        older.write_text("")
+        other = moved / "bin" / "other"
         other.write_text("")
-        with open(moved / LIST, "a") as names:
-            names.write("share/vaqsider/older.py\n")
-        packaging("install", moved, "--library", library)
-        expect(not older.exists(), "an install leaves a file of an older one")
+        expect_older(moved, library)
         environment = apart(moved)
         del environment["PYTHONDONTWRITEBYTECODE"]
         run(moved / "bin" / "vaqsider", "--version", env=environment)

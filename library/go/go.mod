@@ -1,0 +1,3 @@
+module keyset
+
+go 1.19

@@ -1,0 +1,204 @@
+"""The packages for Debian: `vaqsider` with programs and command, `libkeyset2`, `libkeyset-dev`."""
+
+import gzip
+import hashlib
+import os
+import re
+import shutil
+import tempfile
+from dataclasses import dataclass
+from email.utils import format_datetime
+from pathlib import Path
+
+from install import install
+from layout import LIST, TOP, Layout
+from release import Built, entries, releases, run, seconds, version
+
+# A change of these packages alone raises it.
+REVISION = 1
+MAINTAINER = "Vaqsider maintainers <maintainers@users.noreply.vaqsider.example>"
+SHARED = "libkeyset.so.2"
+COPYRIGHT = """\
+Format: https://www.debian.org/doc/packaging-manuals/copyright-format/1.0/
+Upstream-Name: vaqsider
+
+Files: *
+Copyright: {holder}
+License: BSD-3-clause
+
+License: BSD-3-clause
+{text}
+"""
+CHANGES = """\
+vaqsider ({release}-{revision}) unstable; urgency=medium
+
+  * Release {release}; changelog.gz has its changes.
+
+ -- {maintainer}  {date}
+"""
+
+
+@dataclass(frozen=True)
+class Package:
+    """A package: which parts of an install it has, which of their files, and what it says."""
+
+    name: str
+    section: str
+    parts: "tuple[str, ...]"
+    # Which files, by their places below /usr.
+    files: "re.Pattern[str]"
+    relations: "dict[str, str]"
+    short: str
+    long: str
+
+
+PACKAGES = (
+    Package(
+        "vaqsider", "net", ("programs", "command"), re.compile("bin/|share/(vaqsider|man|doc)/"),
+        {
+            "Depends": "python3 (>= 3.9), libkeyset2 (= {version}), libc6 (>= 2.34)",
+            "Recommends": "python3-dnspython (>= 2.3), python3-cryptography, "
+                          "bind9-utils | ldnsutils",
+        },
+        "keys and rolls of DNSSEC zones, by a proved key set",
+        "It keeps the keys that sign a zone, and says which action is due and when a\n"
+        "step of a roll may be made. No list of calls that keeps its rules leaves\n"
+        "resolvers without a chain of trust: that is proved.",
+    ),
+    Package(
+        "libkeyset2", "libs", ("library",), re.compile(rf".*/{re.escape(SHARED)}$"),
+        {"Depends": "libc6 (>= 2.14)", "Multi-Arch": "same"},
+        "proved DNSSEC key set (shared library)",
+        "Scripts of calls and their answers, sessions of zones and their status, for C\n"
+        "and for languages that call C.",
+    ),
+    Package(
+        "libkeyset-dev", "libdevel", ("library",),
+        re.compile(rf"(?!.*/{re.escape(SHARED)}$)(include|lib|share/man|share/doc)/"),
+        {"Depends": "libkeyset2 (= {version})", "Multi-Arch": "same"},
+        "proved DNSSEC key set (development files)",
+        "The header, the static library, the pages of the library, and examples.",
+    ),
+)
+
+
+def full_version():
+    return f"{version()}-{REVISION}"
+
+
+def strip(path, built: Built):
+    """Takes names that the linker alone needs out of a program or a shared object."""
+    prefix = "" if built.architecture.machine == os.uname().machine else (
+        f"{built.architecture.folder}-")
+    run(f"{prefix}strip", "--strip-unneeded", "--remove-section=.comment", path)
+
+
+def compress(path, text):
+    """Writes a text as gzip does, without its time."""
+    path.parent.mkdir(parents=True, exist_ok=True)
+    with open(path, "wb") as raw, gzip.GzipFile("", "wb", 9, raw, mtime=0) as packed:
+        packed.write(text)
+
+
+def documents(folder, name):
+    """What Debian's rules want of each package: its licence and its changes."""
+    place = folder / "usr/share/doc" / name
+    place.mkdir(parents=True, exist_ok=True)
+    licence = (TOP / "LICENSE").read_text(encoding="utf-8").strip()
+    holder = re.search(r"Copyright (?:\(c\) )?(.*)", licence)[1].rstrip(".")
+    text = "\n".join(f" {line}" if line.strip() else " ." for line in licence.splitlines())
+    (place / "copyright").write_text(COPYRIGHT.format(holder=holder, text=text))
+    compress(place / "changelog.gz", (TOP / "CHANGELOG.md").read_bytes())
+    said = "\n".join(
+        CHANGES.format(release=release, revision=REVISION, maintainer=MAINTAINER,
+                       date=format_datetime(date))
+        for release, date in releases()
+    )
+    compress(place / "changelog.Debian.gz", said.encode())
+
+
+def take(whole, folder, package, built: Built):
+    """Puts the files of a package into its folder, as Debian has them."""
+    for source in entries(whole):
+        place = source.relative_to(whole)
+        if source.is_dir() or place == LIST or not package.files.match(str(place)):
+            continue
+        target = folder / "usr" / rename(place, package.name)
+        target.parent.mkdir(parents=True, exist_ok=True)
+        if source.is_symlink():
+            target.symlink_to(os.readlink(source))
+        elif "share/man" in str(place):
+            compress(target.with_name(f"{target.name}.gz"), source.read_bytes())
+        else:
+            shutil.copy2(source, target)
+            if source.name.startswith(SHARED) or place.parts[0] == "bin" and is_elf(source):
+                strip(target, built)
+
+
+def rename(place, name):
+    """The place of a page of documents: below the folder of its package."""
+    parts = place.parts
+    return Path("share/doc", name, *parts[3:]) if parts[:2] == ("share", "doc") else place
+
+
+def is_elf(path):
+    return path.read_bytes()[:4] == b"\x7fELF"
+
+
+def control(folder, package, built: Built):
+    """Writes what dpkg reads of a package."""
+    kilobytes = sum(-(-path.stat().st_size // 1024) for path in entries(folder) if path.is_file())
+    fields = {
+        "Package": package.name,
+        "Source": "vaqsider" if package.name != "vaqsider" else None,
+        "Version": full_version(),
+        "Architecture": built.architecture.debian,
+        "Maintainer": MAINTAINER,
+        "Installed-Size": kilobytes,
+        "Section": package.section,
+        "Priority": "optional",
+        **{key: text.format(version=full_version()) for key, text in package.relations.items()},
+        "Description": "\n ".join([package.short, *package.long.splitlines()]),
+    }
+    about = folder / "DEBIAN"
+    about.mkdir()
+    lines = [f"{key}: {text}\n" for key, text in fields.items() if text is not None]
+    (about / "control").write_text("".join(lines))
+    if package.name == "libkeyset2":
+        (about / "shlibs").write_text(f"libkeyset 2 libkeyset2 (>= {version()})\n")
+        (about / "triggers").write_text("activate-noawait ldconfig\n")
+    inside = (path for path in entries(folder) if path.is_file() and not path.is_symlink())
+    sums = (
+        f"{hashlib.md5(path.read_bytes()).hexdigest()}  {path.relative_to(folder)}\n"
+        for path in inside if about not in path.parents
+    )
+    (about / "md5sums").write_text("".join(sums))
+
+
+def set_times(folder):
+    """All files are as new as the last change, and theirs are the usual modes."""
+    for path in [folder, *entries(folder)]:
+        if not path.is_symlink():
+            path.chmod(0o755 if path.is_dir() or path.stat().st_mode & 0o100 else 0o644)
+        os.utime(path, (seconds(), seconds()), follow_symlinks=False)
+
+
+def build_deb(folder, package, built: Built):
+    """Builds one package, and gives its path."""
+    name = f"{package.name}_{full_version()}_{built.architecture.debian}.deb"
+    with tempfile.TemporaryDirectory() as room:
+        whole, made = Path(room) / "whole", Path(room) / "made"
+        libraries = Path("lib") / built.architecture.folder
+        install(whole, Layout(package.parts, libraries, built.library, built.programs))
+        take(whole, made, package, built)
+        documents(made, package.name)
+        control(made, package, built)
+        set_times(made)
+        environment = {**os.environ, "SOURCE_DATE_EPOCH": str(seconds())}
+        words = ["dpkg-deb", "--root-owner-group", "-Zxz", "--build", made, folder / name]
+        run(*words, env=environment)
+    return folder / name
+
+
+def build_debs(folder, built: Built):
+    return [build_deb(folder, package, built) for package in PACKAGES]

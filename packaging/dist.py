@@ -1,0 +1,84 @@
+#!/usr/bin/env python3
+"""Makes a release: all that others install, in a folder.
+
+    packaging/dist.py FOLDER [--untagged]
+
+It wants a clean tree whose commit has the tag of the release, what `make build notes lib arm` has
+made of it, and the tools of Python, Rust and Debian. --untagged makes it of any clean tree, to try
+it. Each file has the same bytes wherever it is made.
+"""
+
+import argparse
+import hashlib
+import shutil
+import sys
+from pathlib import Path
+
+sys.dont_write_bytecode = True
+
+from built import is_built  # noqa: E402
+from debs import build_debs  # noqa: E402
+from layout import BUILT, TOP  # noqa: E402
+from modules import build_crate, build_module  # noqa: E402
+from proof import write as write_proof  # noqa: E402
+from release import AARCH64, X86_64, Built, Fault, is_clean, run, version  # noqa: E402
+from tarballs import pack_built, pack_sources  # noqa: E402
+from wheels import build_sources, build_wheel  # noqa: E402
+
+ARM = TOP / "library" / "out-aarch64"
+BUILDS = [Built(X86_64, BUILT, TOP / "crates"), Built(AARCH64, ARM, ARM / "programs")]
+
+
+def check(untagged):
+    """Fails unless what is here is the release."""
+    if not is_clean():
+        raise Fault("the tree has changes that are in no commit")
+    tags = run("git", "-C", TOP, "tag", "--points-at", "HEAD").split()
+    if not untagged and f"v{version()}" not in tags:
+        raise Fault(f"this commit isn't tagged v{version()}")
+    if not is_built():
+        raise Fault("what is built isn't of these sources: 'make build notes lib' makes it")
+    if not ARM.is_dir():
+        raise Fault(f"{ARM} isn't there: 'make arm' makes it")
+
+
+def artefacts(folder):
+    """Makes each artefact, and gives its path."""
+    yield pack_sources(folder)
+    yield build_sources(folder)
+    yield build_crate(folder, BUILDS)
+    yield build_module(folder, BUILDS)
+    for built in BUILDS:
+        yield pack_built(folder, built)
+        yield build_wheel(folder, built)
+        yield from build_debs(folder, built)
+    yield write_proof(folder, BUILDS)
+
+
+def make(folder, untagged):
+    check(untagged)
+    shutil.rmtree(folder, ignore_errors=True)
+    folder.mkdir(parents=True)
+    rows = []
+    for path in artefacts(folder):
+        digest = hashlib.sha256(path.read_bytes()).hexdigest()
+        rows.append(f"{digest}  {path.name}\n")
+        print(f"{path.stat().st_size:>10} {path.name}", flush=True)
+    (folder / "SHA256SUMS").write_text("".join(sorted(rows, key=lambda row: row.split()[1])))
+
+
+def main():
+    parser = argparse.ArgumentParser(description=__doc__.partition("\n")[0])
+    parser.add_argument("folder", metavar="FOLDER", type=Path, help="where the release goes")
+    parser.add_argument("--untagged", action="store_true", help="make it of any clean tree")
+    given = parser.parse_args()
+    try:
+        make(given.folder, given.untagged)
+    except (Fault, OSError) as fault:
+        print(f"dist: {fault}", file=sys.stderr)
+        return 1
+    return 0
+
+
+if __name__ == "__main__":
+    sys.exit(main())

@@ -1,0 +1,109 @@
+"""What an install has: the programs, the library and the command, each file with its place."""
+
+import os
+import re
+from dataclasses import dataclass
+from pathlib import Path
+
+TOP = Path(__file__).resolve().parent.parent
+BUILT = TOP / "library" / "out"
+PROGRAMS = ("keyset", "keyset_status", "keyset_notes")
+PARTS = ("programs", "library", "command")
+
+SHARE = Path("share/vaqsider")
+# What was installed.
+LIST = SHARE / "installed"
+DOCUMENTS = Path("share/doc/vaqsider")
+# The manual pages of a part.
+PAGES = {"programs": PROGRAMS, "command": ("vaqsider",)}
+# The folders of Python that the command consists of.
+PACKAGES = (TOP / "library" / "python" / "keyset", TOP / "command" / "vaqsider")
+
+LAUNCHER = '''\
+#!/usr/bin/env python3
+"""The command vaqsider, as it is installed."""
+
+import sys
+from pathlib import Path
+
+sys.path.insert(0, str(Path(__file__).resolve().parents[1] / "share" / "vaqsider"))
+
+from vaqsider.cli import main  # noqa: E402
+
+sys.exit(main())
+'''
+# A shared object is named by its interface.
+SHARED = re.compile(r"libkeyset\.so\.\d+")
+
+
+@dataclass(frozen=True)
+class File:
+    """A file of an install: its place below PREFIX, and where its bytes are. A link has no mode,
+    and leads to the file of the source's name beside it."""
+
+    place: Path
+    source: Path
+    mode: "int | None" = 0o644
+
+
+@dataclass(frozen=True)
+class Layout:
+    """Which parts are installed, from which builds, and in which folder below PREFIX libraries
+    lie: `lib`, or that of an architecture, as `lib/x86_64-linux-gnu`."""
+
+    parts: "tuple[str, ...]" = PARTS
+    libraries: Path = Path("lib")
+    built: Path = BUILT
+    programs: Path = TOP / "crates"
+
+    def files(self, made):
+        """All files. `made` is a folder with the pages, the launcher and what pkg-config reads."""
+        if "programs" in self.parts:
+            yield from self._programs(made)
+        if "library" in self.parts:
+            yield from self._library(made)
+        if "command" in self.parts:
+            yield from self._command(made)
+        yield from self._documents()
+
+    def _programs(self, made):
+        for name in PROGRAMS:
+            yield File(Path("bin") / name, self.programs / name / "out" / name, 0o755)
+        yield from self._pages(made, "programs")
+
+    def _library(self, made):
+        yield File(Path("include/keyset.h"), self.built / "include" / "keyset.h")
+        yield File(self.libraries / "pkgconfig" / "keyset.pc", made / "keyset.pc")
+        yield File(self.libraries / "libkeyset.a", self.built / "lib" / "libkeyset.a")
+        for source in sorted((self.built / "lib").glob("libkeyset.so.*")):
+            yield File(self.libraries / source.name, source)
+            yield File(self.libraries / "libkeyset.so", source, None)
+        yield File(Path("share/man/man3/keyset.3"), made / "keyset.3")
+
+    def _command(self, made):
+        yield File(Path("bin/vaqsider"), made / "vaqsider", 0o755)
+        for package in PACKAGES:
+            for source in filter(Path.is_file, sorted(package.iterdir())):
+                yield File(SHARE / package.name / source.name, source)
+        yield from self._pages(made, "command")
+
+    def _pages(self, made, part):
+        for name in PAGES[part]:
+            yield File(Path("share/man/man1") / f"{name}.1", made / f"{name}.1")
+
+    def _documents(self):
+        """The licence, and the pages that the header and the manual name, with the examples."""
+        yield File(DOCUMENTS / "LICENSE", TOP / "LICENSE")
+        for source in sorted((TOP / "docs").iterdir()):
+            yield File(DOCUMENTS / "docs" / source.name, source)
+        for folder in ("examples", "examples/cases", "library/c"):
+            for source in filter(Path.is_file, sorted((TOP / folder).iterdir())):
+                yield File(DOCUMENTS / folder / source.name, source)
+
+
+def description(libraries, version):
+    """What pkg-config reads. No file of an install says where it is, so PREFIX may be moved."""
+    up = os.path.relpath(".", libraries / "pkgconfig")
+    text = (TOP / "library" / "keyset.pc.in").read_text(encoding="utf-8")
+    text = text.replace("@UP@", up).replace("@LIBRARIES@", str(libraries))
+    return text.replace("@VERSION@", version)
