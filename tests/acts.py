@@ -73,12 +73,12 @@ ROWS = (
     Row("a full disk, for the signer", signer("cat draft >/dev/full"), "",
         69, "dnssec-signzone: ", OLD),
     Row("a full disk, for a draft", "true", "", 69, "too large", OLD, most=500),
-    Row("links in the place of drafts", "echo kept >precious; ln -s . .signed.abcd_123.act;"
+    Row("links in the place of drafts", "echo kept >precious; ln -s . .signed.a_12345z.act;"
         " for name in draft draft.in; do ln -s precious signed.$name; done", "",
         0, "signed: written", NEW, "[ $(cat precious) = kept ]"),
     Row("a link in the place of the signed zone", "cp signed target; ln -sf target signed", "",
         0, "signed: written", NEW, "[ ! -L signed ] && cmp -s target old"),
-    Row("what a killed act has left", "mkdir .signed.abcd_123.act; touch .signed.abcd_123.act/draft", "",
+    Row("what a killed act has left", "mkdir .signed.a_12345z.act; touch .signed.*.act/draft", "",
         0, "signed: written", NEW),
     Row("a mode", "chmod 640 signed; umask 077", "", 0, "signed: written", NEW,
         "[ $(stat -c %a signed) = 640 ]"),

@@ -110,8 +110,14 @@ class Act:
         except zonefile.NotFull:
             return self.in_full(self.signed, folder)
 
+    def expect_two_files(self) -> None:
+        """The signed zone may not take the place of the unsigned one."""
+        if self.signed.exists() and self.signed.samefile(self.zone_file):
+            raise Failure(f"{self.signed} is the unsigned zone: choose another --out")
+
     def plan(self, folder: Path) -> Plan:
         """Reads the zone and its last version, and says what comes next."""
+        self.expect_two_files()
         unsigned, last = self.in_full(self.zone_file, folder), self.last(folder)
         kept = self.keys.kept(last, self.now)
         number = last and last.serial
@@ -121,9 +127,10 @@ class Act:
 
     def sets(self, unsigned: Zone, kept: dict[str, Row]) -> dict[str, list[Row]]:
         """DNSKEY, and CDS and CDNSKEY with the TTL of the SOA record."""
-        ttl = self.args.dnskey_ttl or self.keys.ttl() or unsigned.soa.ttl
+        given, ttl = self.args.dnskey_ttl, self.keys.ttl() or unsigned.soa.ttl
+        ttl = ttl if given is None else given
         signed = {parsed("RRSIG", row.data).original_ttl for row in kept.values()}
-        if signed and self.args.dnskey_ttl and signed != {ttl}:
+        if signed and given is not None and signed != {ttl}:
             raise Failure(f"the DNSKEY set is signed with the TTL {min(signed)}: it has to stay")
         sets = {"DNSKEY": self.keys.dnskey(min(signed, default=ttl)), "CDS": [], "CDNSKEY": []}
         if self.has_cds and self.keys.cds_signer():

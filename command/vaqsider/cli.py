@@ -1,6 +1,7 @@
 """The words of the command line."""
 
 import argparse
+import errno
 import os
 import re
 import sys
@@ -10,6 +11,7 @@ from . import arguments
 from .arguments import clock
 from .errors import BROKEN, FAULTY, OK, STATUSES, UNPRINTED, USAGE, Failure, failure_of
 
+STDERR = 2
 HELP = Path(__file__).with_name("help.txt")
 
 
@@ -294,21 +296,41 @@ def _add(word, name, value, says):
 
 def main(given=None):
     """Runs the command, and gives its exit status."""
+    _open_standard()
     args = parsed(sys.argv[1:] if given is None else given)
     try:
         ends_with, text, value = args.does(args)
         lines = [_json(value)] if args.json else list(text)
     except (Exception, KeyboardInterrupt) as error:
         return _said(error).status
+    return ends_with if _printed(lines) else UNPRINTED
+
+
+def _open_standard():
+    """Opens what is closed of standard input, output and error: else the next file would be in its
+    place, and a program that is run would write into that."""
+    while (file := os.open(os.devnull, os.O_RDWR)) <= STDERR:
+        os.set_inheritable(file, True)
+    os.close(file)
+    sys.stderr = sys.stderr or open(os.devnull, "w", encoding="ascii")
+    if hasattr(sys.stdout, "reconfigure"):
+        sys.stdout.reconfigure(errors="backslashreplace")
+
+
+def _printed(lines):
+    """Prints lines. If standard output can't take them, standard error has them."""
     try:
+        if lines and sys.stdout is None:
+            raise OSError(errno.EBADF, os.strerror(errno.EBADF))
         print(*lines, sep="\n", end="\n" if lines else "", flush=True)
     except OSError as error:
-        os.dup2(os.open(os.devnull, os.O_WRONLY), sys.stdout.fileno())
+        if sys.stdout is not None:
+            os.dup2(os.open(os.devnull, os.O_WRONLY), sys.stdout.fileno())
         if not isinstance(error, BrokenPipeError):
             print(f"vaqsider: standard output: {error.strerror}. This was done:", file=sys.stderr)
             print(*lines, sep="\n", file=sys.stderr)
-            return UNPRINTED
-    return ends_with
+            return False
+    return True
 
 
 def _json(value):

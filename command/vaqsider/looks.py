@@ -68,7 +68,7 @@ def read(script: str | Path) -> Kept | None:
     """The last look, or None if there was none. A file that isn't one counts as none."""
     try:
         kept = Kept(**json.loads(path_of(script).read_text(encoding="utf-8")))
-    except (FileNotFoundError, ValueError, TypeError):
+    except (FileNotFoundError, ValueError, TypeError, RecursionError):
         return None
     is_right = (
         all(isinstance(it, int) for it in (kept.moment, kept.lines, kept.servers))

@@ -33,11 +33,12 @@ def zones(folder, now, progress=lambda done, of: None, counts=False):
             if counts:
                 zone["findings"] = sum(one.level > OK for one in check.findings(path, now))
             lines, told = status.read(path, now)
+            look = _of_look(path, now)
         except Exception as error:
             fault = str(failure_of(error)).removeprefix(f"{path}: ")
             yield {**zone, "chain_safe": False, "fault": fault}
             continue
-        yield {**zone, **_of_status(told, now), **_of_look(path, now), "lines": len(lines)}
+        yield {**zone, **_of_status(told, now), **look, "lines": len(lines)}
 
 
 def _of_status(told, now):
@@ -86,4 +87,6 @@ def prometheus(found):
 
 
 def _quoted(text):
-    return text.replace("\\", "\\\\").replace('"', '\\"')
+    """A text as the value of a label. A byte that isn't UTF-8 has no form there."""
+    text = text.encode("utf-8", "surrogateescape").decode("utf-8", "replace")
+    return text.replace("\\", "\\\\").replace('"', '\\"').replace("\n", "\\n")
