@@ -78,7 +78,7 @@ ROWS = (
         0, "signed: written", NEW, "[ $(cat precious) = kept ]"),
     Row("a link in the place of the signed zone", "cp signed target; ln -sf target signed", "",
         0, "signed: written", NEW, "[ ! -L signed ] && cmp -s target old"),
-    Row("what a killed act has left", "mkdir .signed.a_12345z.act; touch .signed.*.act/draft", "",
+    Row("what a killed act has left", "mkdir -p .signed.a_12345z.act/draft", "",
         0, "signed: written", NEW),
     Row("a mode", "chmod 640 signed; umask 077", "", 0, "signed: written", NEW,
         "[ $(stat -c %a signed) = 640 ]"),
