@@ -190,9 +190,10 @@ class Together(Kept):
         holder = threading.Thread(target=hold)
         holder.start()
         thread_has.wait()
-        self.assertTrue(child(part))
+        is_refused = child(part)
         child_is_done.set()
         holder.join()
+        self.assertTrue(is_refused)
 
     def test_a_handler_of_a_signal_makes_no_call_within_a_call(self):
         keys, told, sync = self.begin(COURSE[:1]), [], os.fsync
