@@ -116,6 +116,17 @@ def changes(script: str):
             yield f"{change}: {told.returncode} {told.stdout}"
 
 
+def mistake(script: str):
+    """A mistake in the unsigned zone is said."""
+    before = Path("zone").read_text()
+    Path("zone").write_text(f"{before}last IN A 127.0.0.1.5\n")
+    for signer, says in (("bind", "bad dotted quad"), ("ldns", "could not parse")):
+        text, status = act(script, f"--signer {signer}")
+        if status != 69 or says not in text:
+            yield f"a mistake, by {signer}: {status} {text}"
+    Path("zone").write_text(before)
+
+
 def raw(script: str):
     """The last version is in BIND's own form, as a zone that BIND has signed: its serial and its
     NSEC3 count."""
@@ -146,7 +157,7 @@ def main() -> int:
         for script, signer in itertools.product(scripts, ("bind", "ldns")):
             faults += ways(script, signer)
             count += len(WAYS)
-        faults += [*changes(scripts[0]), *raw(scripts[0])]
+        faults += [*changes(scripts[0]), *raw(scripts[0]), *mistake(scripts[0])]
     print(*faults, f"signers: {count} versions, {len(CHANGES)} changes", sep="\n")
     return 1 if faults else 0
 

@@ -92,7 +92,7 @@ class Signer:
 def _full_by_bind(origin: str, file: Path) -> list[str]:
     with open(file, "rb") as begin:
         form = ["-f", "raw"] if begin.read(len(RAW)) == RAW else []
-    return ["named-compilezone", "-q", "-i", "none", *LAX, *form, "-s", "full", "-o", "-", origin,
+    return ["named-compilezone", "-i", "none", *LAX, *form, "-s", "full", "-o", "-", origin,
             str(file)]
 
 
@@ -115,7 +115,8 @@ def verifying(origin: str, has_opt_out: bool) -> list[str]:
 
 
 def run(words: list[str], within: Path | None = None, stdout: IO | int = subprocess.PIPE) -> None:
-    """Runs a program. If it fails, the failure has its words; else standard error has them."""
+    """Runs a program. If it fails, the failure has its words; else standard error has them, unless
+    its output goes into a file: what reads a zone then tells how it went."""
     try:
         done = subprocess.run(words, cwd=within, stdin=subprocess.DEVNULL, stdout=stdout,
                               stderr=subprocess.PIPE)
@@ -127,7 +128,8 @@ def run(words: list[str], within: Path | None = None, stdout: IO | int = subproc
         lines = [line.strip() for line in "\n".join(said).split("\n") if line.strip()]
         why = "; ".join(lines[:3]) or f"status {done.returncode}"
         raise Failure(f"{words[0]}: {why}", UNAVAILABLE)
-    print(said[0], end="", file=sys.stderr)
+    if stdout == subprocess.PIPE:
+        print(said[0], end="", file=sys.stderr)
 
 
 def shown(words: list[str]) -> str:
