@@ -99,6 +99,24 @@ async def unsigned(zone):
     expect(made.get_rdataset(made.origin, "DNSKEY") is None, "the DNSKEY set is still there")
 
 
+async def lost_ksk(zone):
+    """docs/EMERGENCY.md, "A lost KSK by the command": its last signature stays until the new KSK
+    has its DS, and the command says until when it is valid."""
+    operator = Operator(zone)
+    ksk, _ = await operator.first_keys()
+    (operator.folder / ksk).with_suffix(".private").unlink()
+    new = await operator.key(*KSK)
+    await operator.call(f"add {new}")
+    await operator.call(f"start ksk-double-ds-roll {ksk} {new} now")
+    done = json.loads(await operator.type(*operator.words_of_act()))
+    expect(done["valid_until"].keys() == {ksk} and not done["cds"], f"an act says {done}")
+    await operator.change_ds(await operator.act())
+    await operator.watch("--call")
+    await operator.step(await operator.wait("ksk-double-ds-roll"))
+    await operator.step(await operator.wait("ksk-double-ds-roll"))
+    await operator.watch("--state")
+
+
 async def signatures_expired(zone):
     """Signatures are renewed late. The command says until when they are valid, and that they soon
     expire, before they do."""
@@ -245,5 +263,6 @@ HONEST = {
     "command-acts-at-once": acts_at_once,
     "command-serial-by-date": serial_by_date,
     "command-unsigned": unsigned,
+    "command-lost-ksk": lost_ksk,
     "command-signatures-expired": signatures_expired,
 }
