@@ -30,8 +30,8 @@ prove = mkdir -p crates/$(1)/out && cd crates/$(1) && \
 	{ rt $(2) >out/build.log 2>&1 || { cat out/build.log >&2; exit 1; }; }
 
 .PHONY: run build notes lib install uninstall made noted arm dist try-dist check fmt clean test \
-	wrong live docs memory test-lib valgrind asan fuzz types mutants signers help python modules \
-	packages
+	wrong live docs memory test-lib test-arm valgrind asan fuzz types mutants signers help python \
+	modules packages
 
 # The proved program answers if it is newer than its sources, else one that is built at once.
 run: ## answers SCRIPT: make run SCRIPT=FILE
@@ -120,6 +120,10 @@ asan: python has-cc lib ## tests the library in C under the address sanitizer
 	@tests/library.py library/out $@
 valgrind: python has-cc has-valgrind lib ## tests the library in C under valgrind
 	@tests/library.py library/out $@
+
+test-arm: arm has-qemu-aarch64 ## tests the library for ARM in C, under qemu
+	@CC=aarch64-linux-gnu-gcc RUNNER='qemu-aarch64 -L /usr/aarch64-linux-gnu' \
+		tests/library.py library/out-aarch64 elsewhere
 
 # The library and a second reader have to agree on each text, and the tables on some.
 fuzz: python has-clang lib ## lets libFuzzer make RUNS texts: it needs clang with its runtime

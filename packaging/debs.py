@@ -10,9 +10,9 @@ from dataclasses import dataclass
 from email.utils import format_datetime
 from pathlib import Path
 
-from install import install
+from artefact import Built, entries, releases, run, seconds, version
 from layout import LIST, TOP, Layout
-from release import Built, entries, releases, run, seconds, version
+from trees import install
 
 # A change of these packages alone raises it.
 REVISION = 1

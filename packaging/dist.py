@@ -16,12 +16,12 @@ from pathlib import Path
 
 sys.dont_write_bytecode = True
 
+from artefact import AARCH64, X86_64, Built, Fault, is_clean, run, version  # noqa: E402
 from built import is_built  # noqa: E402
 from debs import build_debs  # noqa: E402
 from layout import BUILT, TOP  # noqa: E402
 from modules import build_crate, build_module  # noqa: E402
 from proof import write as write_proof  # noqa: E402
-from release import AARCH64, X86_64, Built, Fault, is_clean, run, version  # noqa: E402
 from tarballs import pack_built, pack_sources  # noqa: E402
 from wheels import build_sources, build_wheel  # noqa: E402
 

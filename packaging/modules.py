@@ -4,8 +4,8 @@ import shutil
 import tempfile
 from pathlib import Path
 
+from artefact import pack, run, version
 from layout import TOP
-from release import pack, run, version
 
 CRATE, MODULE = TOP / "library" / "rust", TOP / "library" / "go"
 

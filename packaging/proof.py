@@ -7,9 +7,9 @@ import hashlib
 import re
 import subprocess
 
+from artefact import Built, Fault, run, version
 from built import sources
 from layout import PROGRAMS, TOP
-from release import Built, Fault, run, version
 
 # How a check ends, if all is proved.
 PROVED = re.compile(r"^logic=proved functions=\d+ sum=\w+.*$", re.MULTILINE)

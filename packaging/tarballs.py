@@ -4,9 +4,9 @@ import shutil
 import tempfile
 from pathlib import Path
 
-from install import install
+from artefact import Built, pack, sources, version
 from layout import TOP, Layout
-from release import Built, pack, sources, version
+from trees import install
 
 
 def pack_sources(folder):

@@ -22,8 +22,8 @@ from pathlib import Path
 
 sys.dont_write_bytecode = True
 
+from artefact import Fault, run  # noqa: E402
 from layout import TOP  # noqa: E402
-from release import Fault, run  # noqa: E402
 
 SUITE = "bookworm"
 MIRROR = os.environ.get("MIRROR", "http://deb.debian.org/debian")
@@ -35,17 +35,18 @@ cd "$(mktemp -d)"
 cp {{examples}}/{EXAMPLE}.script example.com.script
 vaqsider --version
 vaqsider status example.com.script
-vaqsider call example.com.script add-zsk Z9 - 13 9 0 yes
-! vaqsider call example.com.script add-zsk Z9 - 13 9 0 yes
+vaqsider call example.com.script 'add-zsk Z9 - 13 9 0 yes'
+! vaqsider call example.com.script 'add-zsk Z9 - 13 9 0 yes'
 grep -q Z9 example.com.script
 """
 # The first example of README: the answers are those that are stored.
 BY_PROGRAM = f"keyset <{{examples}}/{EXAMPLE}.script | cmp - {{examples}}/{EXAMPLE}.answers\n"
 IN_PYTHON = """
-import keyset
-zone = keyset.KeySet.new("example.com")
-print(zone.script)
-assert keyset.library() is not None
+import keyset, keyset.library
+keys = keyset.KeySet("example.com")
+keys.call("add-ksk K1 - 13 2 0 yes")
+print(keys.script, keys.published)
+assert keyset.library.library() is not None
 """
 
 
@@ -142,9 +143,13 @@ def root_of(trial, room, dist):
         if trial.packages:
             inside(root, "apt-get update -qq && DEBIAN_FRONTEND=noninteractive "
                          f"apt-get install -qq -y --no-install-recommends {' '.join(trial.packages)}")
+        # (rustc looks for itself there.)
+        run("mount", "-t", "proc", "proc", root / "proc")
         yield root
     finally:
-        shutil.rmtree(root, ignore_errors=True)
+        subprocess.run(["umount", root / "proc"], stderr=subprocess.DEVNULL, check=False)
+        if not os.path.ismount(root / "proc"):
+            shutil.rmtree(root, ignore_errors=True)
 
 
 def inside(root, script):

@@ -6,9 +6,9 @@ import shutil
 import tempfile
 from pathlib import Path
 
+from artefact import Built, run, seconds
 from layout import TOP
 from modules import repack
-from release import Built, run, seconds
 
 # What the package consists of, in the folders of the repository.
 FILES = ("pyproject.toml", "README.md", "LICENSE", "command/README.md")

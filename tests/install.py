@@ -21,9 +21,9 @@ from pathlib import Path
 
 from tools import CRATES, STRICT, TOP, Wrong, run
 
-sys.path.insert(0, str(TOP / "packaging"))
+sys.path.append(str(TOP / "packaging"))
 
-from release import X86_64, Built  # noqa: E402
+from artefact import X86_64, Built  # noqa: E402
 from tarballs import pack_built  # noqa: E402
 
 INSTALL = TOP / "packaging" / "install.py"

@@ -3,6 +3,8 @@
 
     tests/library.py FOLDER     takes the one that `make lib` or `tests/archive.py` has left there
     tests/library.py FOLDER valgrind|asan     only its tests in C, under a checker of memory
+    tests/library.py FOLDER elsewhere         only its tests in C: those of another architecture, by
+                                              the compiler CC, run under RUNNER
 
 A script and its answers are those of `replay/scripts.txt`. The program `keyset` has to answer them,
 damaged scripts and long ones as the library does, and `keyset_status` has to show what sessions
@@ -27,7 +29,7 @@ import noted
 import release
 import rust
 import sessions
-from tools import C99, CRATES, STRICT, TOP, WRAPPED, Wrong, c_flags, kit, run
+from tools import C99, CC, CRATES, RUNNER, STRICT, TOP, WRAPPED, Wrong, c_flags, kit, run
 
 LIBRARY = TOP / "library"
 PROGRAM = CRATES / "keyset" / "out" / "keyset"
@@ -64,14 +66,14 @@ def expect_no_links(folder):
 def build_in_c(folder, program, *flags, more=()):
     """Builds the tests in C as a program."""
     sources = [TOP / "tests" / name for name in ("library.c", "reader.c", *more)]
-    run("cc", *STRICT, *WRAPPED, *flags, "-o", program, *sources, *c_flags(folder))
+    run(CC, *STRICT, *WRAPPED, *flags, "-o", program, *sources, *c_flags(folder))
     return program
 
 
 def build_sessions(folder, program, *flags):
     """Builds the tests of sessions in C as a program: those of the file of its name."""
     source = TOP / "tests" / f"{program.name}.c"
-    run("cc", *STRICT, *WRAPPED, *flags, "-o", program, source, *c_flags(folder))
+    run(CC, *STRICT, *WRAPPED, *flags, "-o", program, source, *c_flags(folder))
     return program
 
 
@@ -120,7 +122,21 @@ def under_asan(folder, room):
     return "".join([*told, run(notes, *noted.EXAMPLE, STEP)]).strip()
 
 
-CHECKERS = {"valgrind": under_valgrind, "asan": under_asan}
+def elsewhere(folder, room):
+    """The tests and the callers in C, for the architecture of `CC`. Scripts are answered there as
+    by the program here."""
+    names = "sessions", "accepted"
+    programs = [build_in_c(folder, room / "library"),
+                *(build_sessions(folder, room / name) for name in names)]
+    told = [run(*RUNNER, program, STORED, STEP) for program in programs]
+    notes = noted.build(folder, room / "notes")
+    told.append(run(*RUNNER, notes, *noted.EXAMPLE, STEP))
+    for caller, flags in (("C", c_flags(folder)), ("C by the shared object", shared_flags(folder))):
+        told.append(test_c_caller(room, caller, flags) + "\n")
+    return "".join(told).strip()
+
+
+CHECKERS = {"valgrind": under_valgrind, "asan": under_asan, "elsewhere": elsewhere}
 
 
 def test_static_buffer(folder, room):
@@ -371,8 +387,8 @@ def expect_rolls(caller, command, **how):
 
 
 def test_c_caller(room, caller, flags):
-    run("cc", *STRICT, *C99, "-o", room / "roll", LIBRARY / "c" / "roll.c", *flags)
-    return expect_rolls(caller, [room / "roll"])
+    run(CC, *STRICT, *C99, "-o", room / "roll", LIBRARY / "c" / "roll.c", *flags)
+    return expect_rolls(caller, [*RUNNER, room / "roll"])
 
 
 def shared_flags(folder):

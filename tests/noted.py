@@ -6,7 +6,7 @@ import os
 import sys
 
 import notes
-from tools import C99, CRATES, STRICT, TOP, WRAPPED, Wrong, c_flags, run
+from tools import CC, C99, CRATES, STRICT, TOP, WRAPPED, Wrong, c_flags, run
 
 LIBRARY = TOP / "library"
 # A script with its notes and questions, and what keyset_notes answers.
@@ -16,7 +16,7 @@ ZONES = 12
 
 def build(folder, program, *flags):
     """Builds the tests in C as a program."""
-    run("cc", *STRICT, *WRAPPED, *flags, "-o", program, TOP / "tests" / "noted.c", *c_flags(folder))
+    run(CC, *STRICT, *WRAPPED, *flags, "-o", program, TOP / "tests" / "noted.c", *c_flags(folder))
     return program
 
 
@@ -83,7 +83,7 @@ def expect_fault(keyset, lines, fault):
 
 def test_callers(folder, room, questions):
     """The three callers that say which reports are due. (cargo builds its own with its tests.)"""
-    run("cc", *STRICT, *C99, "-o", room / "due", LIBRARY / "c" / "due.c", *c_flags(folder))
+    run(CC, *STRICT, *C99, "-o", room / "due", LIBRARY / "c" / "due.c", *c_flags(folder))
     made = {**os.environ, "KEYSET_LIBRARY": str(folder / "lib" / "libkeyset.so")}
     callers = {
         "C": [room / "due"],

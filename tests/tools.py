@@ -1,12 +1,16 @@
 """What the scripts of tests share. (The Makefile checks that the tools they run are there.)"""
 
+import os
 import subprocess
 from pathlib import Path
 
 TOP = Path(__file__).resolve().parent.parent
 CRATES = TOP / "crates"
 
-# How C is compiled, by `cc`.
+# The compiler of C, and what its programs run under: for another architecture than this one.
+CC = os.environ.get("CC", "cc")
+RUNNER = os.environ.get("RUNNER", "").split()
+# How C is compiled.
 STRICT = ["-std=gnu11", "-O2", "-Wall", "-Wextra", "-Werror", "-pthread"]
 # The callers are in plain C.
 C99 = ["-std=c99", "-pedantic"]
