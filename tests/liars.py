@@ -283,6 +283,23 @@ def as_referral(response, is_tcp):
         response.authority, response.answer = response.answer, []
 
 
+def of_meanwhile(servers, port: int):
+    """If a line is written while the servers are asked, no call is made by their answers."""
+    lines, right = Path("dnskey.script").read_text(), honest()
+    Path("meanwhile.script").write_text(lines)
+
+    def answer(query, is_tcp):
+        Path("meanwhile.script").write_text(f"{lines}abort zsk-roll\n{lines.splitlines()[-1]}\n")
+        return right(query, is_tcp)
+
+    servers[FIRST].answer, servers[SECOND].answer = answer, right
+    NOW_RIGHT.update(world("dnskey"))
+    asked = ["--server", FIRST, "--server", SECOND, "--parent-server", PARENT, "--port", port]
+    said, status = typed(["watch", "meanwhile.script", *asked, "--ttl", 60, "--call"], NOW)
+    if status != 75 or "report1 zsk-roll" in Path("meanwhile.script").read_text():
+        yield f"liars: a line that was written meanwhile: {status}: {said}"
+
+
 def free_port() -> int:
     """A port that is free on all these addresses, as far as one can know."""
     with socket.socket() as one:
@@ -297,4 +314,5 @@ def faults():
         port = free_port()
         servers = {address: stack.enter_context(Server(address, port))
                    for address in (FIRST, SECOND, PARENT, RESOLVER)}
-        return [*of_rows(servers, port), *of_found(servers, port)]
+        found = [*of_rows(servers, port), *of_meanwhile(servers, port)]
+        return [*found, *of_found(servers, port)]

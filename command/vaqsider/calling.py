@@ -5,7 +5,7 @@ import math
 import time
 
 import keyset
-from keyset import Damaged, Malformed, Notes, lines as forms, locked
+from keyset import Damaged, Locked, Malformed, Notes, lines as forms, locked
 from keyset.errors import OUT_OF_MEMORY
 
 from . import check, keyfiles, status, words
@@ -40,19 +40,15 @@ class Made:
             yield f"  the line was not kept{although}"
 
 
-def call(path, text, clock, although=False, dry_run=False):
-    """Makes a call on the script, and keeps its line if it is accepted."""
+def call(path, text, clock, although=False, dry_run=False, known=None):
+    """Makes a call on the script, and keeps its line if it is accepted. Who made the line by what
+    the script had, says which lines it knows: with others it may be false."""
     with locked(path) as file:
+        if known not in (None, file.lines):
+            raise Locked(f"{path}: another program has written a line")
         line = completed(text, clock)
         lines = [*status.whole(path, file), line]
-        try:
-            history = History(lines)
-        except Malformed as error:
-            is_own = error.line == len(lines)
-            raise Failure(f"{path}: {error}", USAGE if is_own else BROKEN) from None
-        found = status.lost(it for it in history.refused if it[0] < len(lines))
-        if found:
-            raise Damaged(path, *found)
+        history = _history(path, lines)
         made = Made(line, history.replies[-1], history.published)
         if made.refused == OUT_OF_MEMORY:
             raise MemoryError
@@ -64,6 +60,19 @@ def call(path, text, clock, although=False, dry_run=False):
                 file.append(line)
                 made.kept = True
         return made
+
+
+def _history(path, lines):
+    """The history of a script and of the line of a call, which is the last one."""
+    try:
+        history = History(lines)
+    except Malformed as error:
+        is_own = error.line == len(lines)
+        raise Failure(f"{path}: {error}", USAGE if is_own else BROKEN) from None
+    found = status.lost(it for it in history.refused if it[0] < len(lines))
+    if found:
+        raise Damaged(path, *found)
+    return history
 
 
 def completed(text, clock):

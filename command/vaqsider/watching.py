@@ -51,11 +51,18 @@ class Watcher:
         try:
             self.look()
             for roll in filter(self.rolls.get, self.ready()) if self.args.call else ():
-                line = self.line(roll)
-                self.made[roll] = calling.call(self.args.SCRIPT, line, self.clock)
+                self.call(roll)
         except Locked as error:
             return error
         return None
+
+    def call(self, roll: str) -> None:
+        """Makes the call that a roll can make now, if the script is as it was at the look."""
+        line = self.line(roll)
+        made = calling.call(self.args.SCRIPT, line, self.clock, known=self.lines)
+        self.made[roll] = made
+        if made.kept:
+            self.lines = [*self.lines, line]
 
     def look(self) -> None:
         """Reads the script again, asks the servers, and notes which sets are everywhere."""
