@@ -232,6 +232,21 @@ def held():
             yield f"an act beside another one ends with {status}: {said}"
 
 
+def beside_a_watch():
+    """An act waits for a watch that is writing the notes."""
+    from keyset import locked
+
+    with folder(), patient(60):
+        prepare(ROWS[0])
+        Path("double.notes").write_text("before 60 60 60\n")
+        with locked("double.notes"):
+            child = fork()
+            time.sleep(2)
+        status = os.waitstatus_to_exitcode(os.waitpid(child, 0)[1])
+        if status or "published zone 10" not in Path("double.notes").read_text() or is_old():
+            yield f"an act beside a watch ends with {status}"
+
+
 def synced():
     """The signed file is on disk before it is in its place, and its folder after that; and notes
     are written before."""
@@ -316,7 +331,9 @@ def is_old():
     return Path("signed").read_text() == Path("old").read_text()
 
 
-CHECKS = rows, serials, at_once, held, synced, in_order, set_back, of_others, of_group
+CHECKS = (
+    rows, serials, at_once, held, beside_a_watch, synced, in_order, set_back, of_others, of_group,
+)
 COUNT = len(ROWS) + len(SERIALS) + len(CHECKS) - 2
 
 

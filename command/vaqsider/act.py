@@ -200,7 +200,7 @@ def perform(args: Namespace, clock: Callable[[], float]) -> tuple[Act, Plan]:
             plan = act.plan(folder)
             ready = make(plan, args.signer, folder)
             place.ready(ready, act.signed, act.zone_file)
-            publish(act, ready, kept, clock())
+            publish(act, ready, kept, clock)
         if args.reload:
             reload(args.reload, args.reload_within)
         return act, plan
@@ -230,11 +230,12 @@ def sign(plan: Plan, signer: str, folder: Path) -> None:
     zonefile.write(folder / "ready", chain(signed, plan.kept.values()))
 
 
-def publish(act: Act, ready: Path, kept: Lines, now: float) -> None:
+def publish(act: Act, ready: Path, kept: Lines, clock: Callable[[], float]) -> None:
     """Notes what is published, with its TTLs, before servers can give it: before the signed file is
-    in its place. Then puts it there. Something may have been noted since the act began."""
+    in its place. Then puts it there. A watch may have noted something since the act began."""
     ttls = {**dict.fromkeys(["ds"] * act.changes_ds), **zonefile.ttls(zonefile.rows(ready))}
-    Notes(act.args.SCRIPT).publish(len(act.lines) - 1, ttls, now)
+    call, notes = len(act.lines) - 1, Notes(act.args.SCRIPT)
+    place.patiently(lambda: notes.publish(call, ttls, clock()))
     for line in act.says(kept.lines):
         kept.append(line)
     place.put(ready, act.signed)

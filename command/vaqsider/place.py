@@ -10,13 +10,14 @@ import stat
 import tempfile
 import time
 from pathlib import Path
-from typing import Iterator
+from typing import Callable, Iterator, TypeVar
 
 from keyset import Lines, Locked, locked
 from keyset.notes import path_of
 
-# How long an act waits for another one, in seconds, and how it ends the name of its folder.
+# How long an act waits for another program, in seconds, and how it ends the name of its folder.
 PATIENCE, SUFFIX = 5, ".act"
+Made = TypeVar("Made")
 # What a zone file may allow: it is no program.
 MODES = 0o666
 
@@ -32,14 +33,15 @@ def alone(script: str | Path) -> Iterator[Lines]:
     path = beside(script)
     os.close(os.open(path, os.O_RDWR | os.O_CREAT | os.O_NOFOLLOW | os.O_CLOEXEC, 0o644))
     with contextlib.ExitStack() as stack:
-        yield _locked(stack, path)
+        yield patiently(lambda: stack.enter_context(locked(path)))
 
 
-def _locked(stack: contextlib.ExitStack, path: Path) -> Lines:
+def patiently(part: Callable[[], Made]) -> Made:
+    """What a part gives that locks a file. If another program has it, that soon lets it go."""
     until = time.monotonic() + PATIENCE
     while True:
         try:
-            return stack.enter_context(locked(path))
+            return part()
         except Locked:
             if time.monotonic() >= until:
                 raise
