@@ -7,7 +7,7 @@ from __future__ import annotations
 import json
 import socket
 from contextlib import ExitStack
-from dataclasses import dataclass
+from dataclasses import dataclass, replace
 from pathlib import Path
 
 import dns.flags
@@ -298,6 +298,24 @@ def of_meanwhile(servers, port: int):
     said, status = typed(["watch", "meanwhile.script", *asked, "--ttl", 60, "--call"], NOW)
     if status != 75 or "report1 zsk-roll" in Path("meanwhile.script").read_text():
         yield f"liars: a line that was written meanwhile: {status}: {said}"
+    yield from of_notes_meanwhile(servers, asked)
+
+
+def of_notes_meanwhile(servers, asked):
+    """Nor is anything noted of the parent's TTL, if something is noted meanwhile."""
+    notes = "before 60 60 60\npublished ds 5 60 71\n"
+    Path("dnskey.notes").write_text(notes)
+    above = honest({**ABOVE, "DS": replace(ABOVE["DS"], ttl=600)})
+
+    def answer(query, is_tcp):
+        Path("dnskey.notes").write_text(f"{notes}published ds 5 70 {NOW + 5}\n")
+        return above(query, is_tcp)
+
+    servers[FIRST].answer, servers[PARENT].answer = honest(), answer
+    said, status = typed(["watch", "dnskey.script", "--state", *asked], NOW)
+    if status != 75 or " 600 " in Path("dnskey.notes").read_text():
+        yield f"liars: a line that was noted meanwhile: {status}: {said}"
+    Path("dnskey.notes").unlink()
 
 
 def free_port() -> int:

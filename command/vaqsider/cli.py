@@ -41,7 +41,7 @@ def on_init(args):
     seen = _agreed(path, lines, files, args) if args.signed else None
     calling.begin(path, lines, args.before)
     if seen:
-        seen.keep(path, lines)
+        seen.keep(path, lines, Notes(path))
     keys = ",".join(file.path.name for file in files) or "KEYS"
     call = f"vaqsider call {shlex.quote(str(path))} 'start algorithm-roll - {keys} now'"
     text = [f"{path}: {len(lines)} lines", *([] if args.signed else [f"next: {call}"])]
@@ -152,11 +152,13 @@ def on_watch(args):
 
 
 def _state(args):
+    from keyset import Notes
+
     from . import comparing, state, status
 
-    lines, told = status.read(args.SCRIPT, clock())
+    (lines, told), notes = status.read(args.SCRIPT, clock()), Notes(args.SCRIPT)
     seen = state.of(told, comparing.folders_of(args), args, clock())
-    seen.keep(args.SCRIPT, lines)
+    seen.keep(args.SCRIPT, lines, notes)
     return seen.status, seen.text(), seen.as_json()
 
 

@@ -66,9 +66,9 @@ class State:
         return {"rows": list(map(asdict, self.rows)), "lacking": list(map(asdict, self.lacking)),
                 "broken": self.broken}
 
-    def keep(self, script: str | Path, lines: list[str]) -> None:
-        """Notes what it saw of the parent's TTLs, and keeps it beside the script."""
-        notes = Notes(script)
+    def keep(self, script: str | Path, lines: list[str], notes: Notes) -> None:
+        """Notes what it saw of the parent's TTLs, and keeps it beside the script. These are the
+        notes as they were before."""
         if notes.lines:
             parents.note(notes, lines, self.told, self.look)
         looks.keep(script, self.kept(len(lines)))
