@@ -18,6 +18,7 @@ from pathlib import Path
 from typing import Callable
 
 from keyset import Damaged, Lines, Notes
+from keyset.file import Writer
 from keyset.notes import Seen
 
 from . import place, serial, signing, status, words, zonefile
@@ -120,8 +121,8 @@ class Act:
         self.expect_two_files()
         unsigned, last = self.in_full(self.zone_file, folder), self.last(folder)
         kept = self.keys.kept(last, self.now)
-        number = last and last.serial
-        number = serial.following(self.args.serial, unsigned.serial, number, self.now)
+        before = last.serial if last else None
+        number = serial.following(self.args.serial, unsigned.serial, before, self.now)
         due = Due(self.keys.origin, number, self.sets(unsigned, kept), self.signers())
         return Plan(unsigned.path, due, self.task(unsigned, last), kept)
 
@@ -132,7 +133,8 @@ class Act:
         signed = {parsed("RRSIG", row.data).original_ttl for row in kept.values()}
         if signed and given is not None and signed != {ttl}:
             raise Failure(f"the DNSKEY set is signed with the TTL {min(signed)}: it has to stay")
-        sets = {"DNSKEY": self.keys.dnskey(min(signed, default=ttl)), "CDS": [], "CDNSKEY": []}
+        sets: dict[str, list[Row]] = {"DNSKEY": [], "CDS": [], "CDNSKEY": []}
+        sets["DNSKEY"] = self.keys.dnskey(min(signed, default=ttl))
         if self.has_cds and self.keys.cds_signer():
             sets.update(self.keys.cds(unsigned.soa.ttl, self.digests))
         return sets
@@ -230,7 +232,7 @@ def sign(plan: Plan, signer: str, folder: Path) -> None:
     zonefile.write(folder / "ready", chain(signed, plan.kept.values()))
 
 
-def publish(act: Act, ready: Path, kept: Lines, clock: Callable[[], float]) -> None:
+def publish(act: Act, ready: Path, kept: Writer, clock: Callable[[], float]) -> None:
     """Notes what is published, with its TTLs, before servers can give it: before the signed file is
     in its place. Then puts it there. A watch may have noted something since the act began."""
     ttls = {**dict.fromkeys(["ds"] * act.changes_ds), **zonefile.ttls(zonefile.rows(ready))}
@@ -246,11 +248,11 @@ def reload(command: str, seconds: float) -> None:
     done = subprocess.Popen(["sh", "-c", command], stdout=2, start_new_session=True)
     try:
         ended = done.wait(seconds)
+        why = f"status {ended}" if ended else ""
     except subprocess.TimeoutExpired:
         os.killpg(done.pid, signal.SIGKILL)
         done.wait()
-        ended = f"it has not ended within {words.duration(int(seconds))}"
-    if ended:
-        why = ended if isinstance(ended, str) else f"status {ended}"
+        why = f"it has not ended within {words.duration(int(seconds))}"
+    if why:
         text = f"the signed zone is in place, and isn't loaded: {why}: {command}"
         raise Failure(text, UNAVAILABLE)

@@ -12,7 +12,8 @@ import time
 from pathlib import Path
 from typing import Callable, Iterator, TypeVar
 
-from keyset import Lines, Locked, locked
+from keyset import Locked, locked
+from keyset.file import Writer
 from keyset.notes import path_of
 
 # How long an act waits for another program, in seconds, and how it ends the name of its folder.
@@ -28,7 +29,7 @@ def beside(script: str | Path) -> Path:
 
 
 @contextlib.contextmanager
-def alone(script: str | Path) -> Iterator[Lines]:
+def alone(script: str | Path) -> Iterator[Writer]:
     """The lines that earlier acts have left, while no other act runs on this script."""
     path = beside(script)
     os.close(os.open(path, os.O_RDWR | os.O_CREAT | os.O_NOFOLLOW | os.O_CLOEXEC, 0o644))
