@@ -116,10 +116,23 @@ class Act:
         if self.signed.exists() and self.signed.samefile(self.zone_file):
             raise Failure(f"{self.signed} is the unsigned zone: choose another --out")
 
+    def expect_own(self, last: Zone | None) -> None:
+        """The last version has a key that is due, or one that this script took out. Else nobody has
+        told the script that the zone is signed."""
+        keys, has_begun = self.keys.in_last(last), any(it.startswith("start ") for it in self.lines)
+        is_due = keys & self.keys.by(self.keys.published["dnskey"])
+        if not keys or is_due or has_begun and keys & self.keys.known or self.args.although:
+            return
+        tags = ",".join(str(by.tag) for by in sorted(keys))
+        text = f"{self.signed} has keys that this script has not published: {tags}"
+        how = "'vaqsider init --signed' brings them in, --although publishes without them"
+        raise Failure(f"{text}. {how}", UNAVAILABLE)
+
     def plan(self, folder: Path) -> Plan:
         """Reads the zone and its last version, and says what comes next."""
         self.expect_two_files()
         unsigned, last = self.in_full(self.zone_file, folder), self.last(folder)
+        self.expect_own(last)
         kept = self.keys.kept(last, self.now)
         before = last.serial if last else None
         number = serial.following(self.args.serial, unsigned.serial, before, self.now)

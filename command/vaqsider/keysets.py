@@ -28,6 +28,7 @@ class KeySets:
         names = {name for names in self.published.values() for name in names}
         keys = [key for key in told["keys"] if key["reference"] in names]
         self.files = {key["reference"]: keyfiles.find(key, folders) for key in keys}
+        self.known = {By(key["algorithm"], key["tag"]) for key in told["keys"]}
         self.has_ds = {key["reference"] for key in keys if key["ds_visible"] is not None}
 
     def of(self, kind: str) -> list[keyfiles.KeyFile]:
@@ -60,6 +61,11 @@ class KeySets:
 
     def _rows(self, kind: str, ttl: int, data: list[str]) -> list[Row]:
         return [Row(self.origin, ttl, kind, text) for text in data]
+
+    def in_last(self, last: Zone | None) -> set[By]:
+        """The keys of the last version."""
+        keys = last.data("DNSKEY") if last else ()
+        return {By(key.algorithm, dns.dnssec.key_id(key)) for key in keys}
 
     def is_away(self, name: str) -> bool:
         """Whether the private half of a key isn't here."""
