@@ -119,7 +119,8 @@ class Act:
     def expect_own(self, last: Zone | None) -> None:
         """The last version has a key that is due, or one that this script took out. Else nobody has
         told the script that the zone is signed."""
-        keys, has_begun = self.keys.in_last(last), any(it.startswith("start ") for it in self.lines)
+        keys = self.keys.in_last(last)
+        has_begun = any(it.startswith(("start ", "set-")) for it in self.lines)
         is_due = keys & self.keys.by(self.keys.published["dnskey"])
         if not keys or is_due or has_begun and keys & self.keys.known or self.args.although:
             return
