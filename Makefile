@@ -66,14 +66,22 @@ made: python
 noted:
 	@packaging/built.py --keep
 
-arm: made has-aarch64-linux-gnu-gcc ## builds the library for ARM: library/out-aarch64
+# The toolchain makes no programs for ARM: those in C over the library have their names.
+arm: made has-aarch64-linux-gnu-gcc ## builds the library and programs for ARM: library/out-aarch64
 	@tests/archive.py library/out-aarch64 aarch64
+	@for name in keyset keyset_status keyset_notes; do \
+		mkdir -p library/out-aarch64/programs/$$name/out && \
+		aarch64-linux-gnu-gcc -std=c99 -O2 -Wall -Wextra -Ilibrary/out-aarch64/include \
+			-o library/out-aarch64/programs/$$name/out/$$name library/programs/$$name.c \
+			library/out-aarch64/lib/libkeyset.a || exit 1; \
+	done
 
 # CONTRIBUTING says how a release is made, and what it wants.
 dist: made arm has-dpkg-deb has-cargo ## makes a release in dist; DIST=--untagged of any clean tree
 	@packaging/dist.py dist $(DIST)
 
-try-dist: python has-debootstrap ## installs each artefact of dist in a bare Debian, and uses it
+try-dist: python has-debootstrap ## makes dist twice, installs each artefact in a bare Debian, uses it
+	@packaging/twice.py $(DIST)
 	@packaging/try_dist.py dist
 
 check: ## proves every crate, and tries no edits and runs no tests

@@ -10,6 +10,7 @@ it. Each file has the same bytes wherever it is made.
 
 import argparse
 import hashlib
+import os
 import shutil
 import sys
 from pathlib import Path
@@ -57,6 +58,7 @@ def artefacts(folder):
 
 def make(folder, untagged):
     check(untagged)
+    os.umask(0o022)
     shutil.rmtree(folder, ignore_errors=True)
     folder.mkdir(parents=True)
     rows = []

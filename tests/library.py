@@ -26,6 +26,7 @@ import install
 import long
 import malformed
 import noted
+import programs
 import release
 import rust
 import sessions
@@ -102,8 +103,8 @@ def under_valgrind(folder, room):
     before += ["--errors-for-leak-kinds=all"]
     library = build_in_c(folder, room / "library", "-g")
     names = "sessions", "accepted"
-    programs = library, *(build_sessions(folder, room / name, "-g") for name in names)
-    told = [run(*before, program, STORED, STEP) for program in programs]
+    tests = library, *(build_sessions(folder, room / name, "-g") for name in names)
+    told = [run(*before, test_of, STORED, STEP) for test_of in tests]
     told.append(run(*before, noted.build(folder, room / "notes", "-g"), *noted.EXAMPLE, STEP))
     return "".join(told).strip()
 
@@ -113,12 +114,12 @@ def under_asan(folder, room):
     try:
         library = build_in_c(folder, room / "library", *flags)
         names = "sessions", "accepted"
-        programs = library, *(build_sessions(folder, room / name, *flags) for name in names)
+        tests = library, *(build_sessions(folder, room / name, *flags) for name in names)
         notes = noted.build(folder, room / "notes", *flags)
     except Wrong as wrong:
         text = f"{wrong}\nthe C compiler wants its runtime libraries of {flags[1]} here"
         raise Wrong(text) from None
-    told = [run(program, STORED, STEP) for program in programs]
+    told = [run(test_of, STORED, STEP) for test_of in tests]
     return "".join([*told, run(notes, *noted.EXAMPLE, STEP)]).strip()
 
 
@@ -126,13 +127,14 @@ def elsewhere(folder, room):
     """The tests and the callers in C, for the architecture of `CC`. Scripts are answered there as
     by the program here."""
     names = "sessions", "accepted"
-    programs = [build_in_c(folder, room / "library"),
-                *(build_sessions(folder, room / name) for name in names)]
-    told = [run(*RUNNER, program, STORED, STEP) for program in programs]
+    tests = [build_in_c(folder, room / "library"),
+             *(build_sessions(folder, room / name) for name in names)]
+    told = [run(*RUNNER, test_of, STORED, STEP) for test_of in tests]
     notes = noted.build(folder, room / "notes")
     told.append(run(*RUNNER, notes, *noted.EXAMPLE, STEP))
     for caller, flags in (("C", c_flags(folder)), ("C by the shared object", shared_flags(folder))):
         told.append(test_c_caller(room, caller, flags) + "\n")
+    told.append(programs.test(folder, room, stored_scripts(), STEP // 6))
     return "".join(told).strip()
 
 
@@ -430,6 +432,7 @@ def short_tests(folder, room):
     yield "library", test_notes(folder, room)
     yield "library", test_c_caller(room, "C", c_flags(folder))
     yield "library", test_c_caller(room, "C over the shared object", shared_flags(folder))
+    yield "library", programs.test(folder, room, stored_scripts())
     yield "library", test_rust_caller(folder, room)
     yield "library", rust.test_project(folder, room)
     yield "library", rust.test_package(folder, room)

@@ -1,0 +1,86 @@
+#!/usr/bin/env python3
+"""Makes a release twice, and compares the sums: in two folders, by two users if it may, at two
+times, under two masks, in two zones of time and two locales.
+
+    packaging/twice.py [--untagged]
+
+What `make dist` takes has to be there: the copies take what is built here.
+"""
+
+import os
+import pwd
+import shutil
+import subprocess
+import sys
+import tempfile
+from dataclasses import dataclass
+from pathlib import Path
+
+sys.dont_write_bytecode = True
+
+from artefact import Fault, run  # noqa: E402
+from layout import TOP  # noqa: E402
+
+
+@dataclass(frozen=True)
+class Maker:
+    """Who makes a release, and how the machine is set up for it."""
+
+    folder: str
+    user: str
+    mask: int
+    environment: "dict[str, str]"
+
+
+MAKERS = (
+    Maker("one", "root", 0o022, {"TZ": "UTC", "LC_ALL": "C", "LANG": "C"}),
+    Maker("a longer name", "nobody", 0o077,
+          {"TZ": "Pacific/Chatham", "LC_ALL": "C.UTF-8", "LANGUAGE": "tr"}),
+)
+
+
+def copy(place):
+    """A copy of the repository and of what is built in it."""
+    run("git", "clone", "--quiet", TOP, place)
+    for built in ("crates", "library"):
+        for folder in (TOP / built).glob("**/out*"):
+            if folder.is_dir() and "target" not in folder.parts:
+                shutil.copytree(folder, place / folder.relative_to(TOP), dirs_exist_ok=True)
+
+
+def make(room, maker, words):
+    """Makes a release, and gives its sums by the names of its files."""
+    place = room / maker.folder
+    copy(place)
+    environment = {"PATH": os.environ["PATH"], "HOME": str(place), **maker.environment}
+    who = {}
+    if os.geteuid() == 0:
+        record = pwd.getpwnam(maker.user)
+        who = {"user": record.pw_uid, "group": record.pw_gid, "extra_groups": []}
+        run("chown", "-R", f"{record.pw_uid}:{record.pw_gid}", place)
+    made = subprocess.run([sys.executable, "-B", place / "packaging" / "dist.py", place / "dist",
+                           *words], env=environment, umask=maker.mask, text=True,
+                          capture_output=True, check=False, **who)
+    if made.returncode:
+        raise Fault(f"a release by {maker.user} isn't made: {made.stderr}")
+    rows = (row.split() for row in (place / "dist" / "SHA256SUMS").read_text().splitlines())
+    return {name: digest for digest, name in rows}
+
+
+def main():
+    with tempfile.TemporaryDirectory() as room:
+        os.chmod(room, 0o755)
+        try:
+            first, second = (make(Path(room), maker, sys.argv[1:]) for maker in MAKERS)
+        except (Fault, OSError) as fault:
+            print(f"twice: {fault}", file=sys.stderr)
+            return 1
+    differing = sorted(name for name in first | second if first.get(name) != second.get(name))
+    for name in differing:
+        print(f"twice: {name} has other bytes")
+    print(f"twice: {len(first) - len(differing)} of {len(first)} files have the same bytes")
+    return min(len(differing), 1)
+
+
+if __name__ == "__main__":
+    sys.exit(main())
