@@ -13,6 +13,7 @@ from unittest import mock
 import drawn
 import testkeys
 from drawn import answers, examples
+from lengths import lengths
 from typed import TOP, folder, typed
 
 # The calls of a roll, by the kinds of sets that its start and its two waits ask to watch.
@@ -330,5 +331,5 @@ def faults():
     """What the command says otherwise than it should."""
     with folder():
         checks = (screens, refusals, plans, drawn.pictures, by_the_command, emergencies, metrics,
-                  helps, clocks)
+                  helps, clocks, lengths)
         return [fault for check in checks for fault in check()]
