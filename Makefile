@@ -76,12 +76,13 @@ arm: made has-aarch64-linux-gnu-gcc ## builds the library and programs for ARM: 
 			library/out-aarch64/lib/libkeyset.a || exit 1; \
 	done
 
-# CONTRIBUTING says how a release is made, and what it wants.
+# CONTRIBUTING says how a release is made, and what it wants. PROOFS has what `rt ci --anew` printed.
+PROOFS ?= $(CURDIR)/library/out/proofs.log
 dist: made arm has-dpkg-deb has-cargo ## makes a release in dist; DIST=--untagged of any clean tree
-	@packaging/dist.py dist $(DIST)
+	@packaging/dist.py dist --proofs $(PROOFS) $(DIST)
 
 try-dist: python has-debootstrap ## makes dist twice, installs each artefact in a bare Debian, uses it
-	@packaging/twice.py $(DIST)
+	@packaging/twice.py --proofs $(PROOFS) $(DIST)
 	@packaging/try_dist.py dist
 
 check: ## proves every crate, and tries no edits and runs no tests

@@ -5,14 +5,13 @@ sums of this page."""
 
 import hashlib
 import re
-import subprocess
 
 from artefact import Built, Fault, run, version
 from built import sources
 from layout import PROGRAMS, TOP
 
-# How a check ends, if all is proved.
-PROVED = re.compile(r"^logic=proved functions=\d+ sum=\w+.*$", re.MULTILINE)
+# What `rt ci` says of a crate after the last line of its proof.
+PROVED = re.compile(r"rt: (\w+) proved")
 HEAD = """\
 What was proved of Vaqsider {version}, and with what.
 
@@ -33,14 +32,18 @@ def digest(path):
     return hashlib.sha256(path.read_bytes()).hexdigest()
 
 
-def last_line(crate):
-    """What the check of a proved crate ends with: nothing is proved anew if nothing has changed."""
-    checked = subprocess.run(["rt", "check"], cwd=TOP / "crates" / crate, capture_output=True,
-                             text=True, check=False)
-    lines = PROVED.findall(checked.stdout + checked.stderr)
-    if checked.returncode or not lines:
-        raise Fault(f"{crate} isn't proved: rt check ended with {checked.returncode}")
-    return lines[-1]
+def last_lines(log):
+    """How the proof of each crate ended, by what `rt ci --anew` has printed."""
+    lines, last = {}, ""
+    for line in log.read_text(encoding="utf-8").splitlines():
+        if line.startswith("logic=proved"):
+            last = line
+        elif done := PROVED.fullmatch(line):
+            lines[done[1]], last = last, ""
+    lacking = [crate for crate in crates() if not lines.get(crate)]
+    if lacking:
+        raise Fault(f"{log} has no proof of {', '.join(lacking)}")
+    return lines
 
 
 def crates():
@@ -50,8 +53,8 @@ def crates():
     return names[: names.index("keyset_c") + 1]
 
 
-def write(folder, builds: "list[Built]"):
-    """Writes PROOF, and gives its path."""
+def write(folder, builds: "list[Built]", log):
+    """Writes PROOF by the log of the proofs, and gives its path."""
     files = list(sources())
     sums = "".join(f"{digest(path)}  {path.relative_to(TOP)}\n" for path in files)
     text = HEAD.format(
@@ -59,7 +62,8 @@ def write(folder, builds: "list[Built]"):
         commit=run("git", "-C", TOP, "rev-parse", "HEAD").strip(), count=len(files),
         digest=hashlib.sha256(sums.encode()).hexdigest(),
     )
-    text += "".join(f"  {crate}: {last_line(crate)}\n" for crate in crates())
+    lines = last_lines(log)
+    text += "".join(f"  {crate}: {lines[crate]}\n" for crate in crates())
     text += "\nWhat was built from them:\n"
     for built in builds:
         places = [built.library / "lib" / "libkeyset.a", built.library / "lib" / "libkeyset.so.2"]

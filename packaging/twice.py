@@ -2,7 +2,7 @@
 """Makes a release twice, and compares the sums: in two folders, by two users if it may, at two
 times, under two masks, in two zones of time and two locales.
 
-    packaging/twice.py [--untagged]
+    packaging/twice.py --proofs LOG [--untagged]
 
 What `make dist` takes has to be there: the copies take what is built here.
 """
