@@ -52,7 +52,10 @@ def make(room, maker, words):
     """Makes a release, and gives its sums by the names of its files."""
     place = room / maker.folder
     copy(place)
-    environment = {"PATH": os.environ["PATH"], "HOME": str(place), **maker.environment}
+    # (Rust's tools look for themselves at home, and this home is another.)
+    rust = os.environ.get("RUSTUP_HOME", str(Path.home() / ".rustup"))
+    environment = {"PATH": os.environ["PATH"], "HOME": str(place), "RUSTUP_HOME": rust,
+                   **maker.environment}
     who = {}
     if os.geteuid() == 0:
         record = pwd.getpwnam(maker.user)
