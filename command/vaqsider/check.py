@@ -57,6 +57,7 @@ def _findings(file, path, now):
             if not lost or number < lost[0]:
                 yield Finding(WARNING, f"was refused ({reason}): take it out", number)
         yield from false_claims(history, path, now)
+        yield from _of_clock(Notes(path), now)
     status.whole(path, file)
     told = status.at(history.status, now)
     yield from _due(told)
@@ -152,6 +153,15 @@ def _of_notes(history, notes, since):
             yield call.number, "by the notes not all servers had yet what it reports"
         elif call.line.ttl < due:
             yield call.number, f"its TTL is {call.line.ttl}, and {due} was due by the notes"
+
+
+def _of_clock(notes, now):
+    """Notes whose moment lies ahead of the clock. Until then no act or watch can note anything."""
+    for number, line in enumerate(notes.lines[1:], start=2):
+        ahead = int(line.rpartition(" ")[2]) - int(now)
+        if ahead > 0:
+            text = f"its moment lies {words.duration(ahead)} ahead of the clock"
+            yield Finding(WARNING, f"{notes.path}: line {number}: {text}")
 
 
 def _mixed(history):
