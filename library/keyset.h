@@ -9,8 +9,8 @@
    called, and keeps no pointer. What it allocates it frees before it returns, except what a session
    keeps until `keyset_close`.
 
-   Where it runs: on Linux with an x86-64 processor. It links against the C library, and nothing
-   else: `cc caller.c -lkeyset`.
+   Where it runs: on Linux, with an x86-64 or a 64-bit ARM processor. It links against the C library,
+   and nothing else: `cc caller.c -lkeyset`.
 
    Threads: the library has no data of its own, takes no lock, opens no file and reads no clock. So
    threads may call it side by side, each with sessions and an `out` of its own. A session may go

@@ -38,6 +38,10 @@ vaqsider ({release}-{revision}) unstable; urgency=medium
 """
 
 
+# What lintian doesn't have to say: these packages are no upload to Debian.
+OVERRIDES = "initial-upload-closes-no-bugs"
+
+
 @dataclass(frozen=True)
 class Package:
     """A package: which parts of an install it has, which of their files, and what it says."""
@@ -115,6 +119,9 @@ def documents(folder, name):
         for release, date in releases()
     )
     compress(place / "changelog.Debian.gz", said.encode())
+    overrides = folder / "usr/share/lintian/overrides" / name
+    overrides.parent.mkdir(parents=True)
+    overrides.write_text(f"{name}: {OVERRIDES}\n")
 
 
 def take(whole, folder, package, built: Built):
