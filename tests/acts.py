@@ -5,6 +5,7 @@ import contextlib
 import os
 import resource
 import shlex
+import shutil
 import stat
 import subprocess
 import time
@@ -327,14 +328,52 @@ def of_group():
             yield f"an operator's act gives {given}, and ends with {status}: {said}"
 
 
+# What is on the path, how the act is typed, its end, and what it says.
+BIND, LDNS = "dnssec-signzone named-compilezone", "ldns-verify-zone"
+TOOLS = (
+    (BIND, "", 69, "no signed zone is put in place unseen: install dnssec-verify or ldns-"),
+    (f"{BIND} {LDNS}", "", 0, "signed: written"),
+    (f"{BIND} {LDNS}", "--nsec3 '1 1 0 -'", 69, "unseen: install dnssec-verify"),
+    (f"{BIND} {LDNS} bad", "", 69, "ldns-verify-zone: it is false"),
+    ("named-compilezone dnssec-verify", "", 69, "dnssec-signzone is missing: install it"),
+    ("dnssec-signzone dnssec-verify", "", 69, "named-compilezone is missing: install it"),
+)
+
+
+def only(names):
+    """A folder that has only these tools, and what stubs need."""
+    (made := Path("few").resolve()).mkdir()
+    for name in ("sh", "awk", "sed"):
+        (made / name).symlink_to(shutil.which(name))
+    for name in set(names.split()) - {LDNS, "bad"}:
+        (made / name).symlink_to(STORED / "bin" / name)
+    if LDNS in names:
+        ends = "echo it is false >&2; exit 1" if "bad" in names else ""
+        (made / LDNS).write_text(f"#!/bin/sh\n{ends}\n")
+        (made / LDNS).chmod(0o755)
+    return str(made)
+
+
+def tools():
+    """If a tool isn't there, or the verifier doesn't find the zone right, the old one stays."""
+    for names, words, wanted, says in TOOLS:
+        with folder():
+            prepare(ROWS[0])
+            with mock.patch.dict(os.environ, PATH=only(names)):
+                said, status = typed(shlex.split(f"{ACT} {words}"))
+            if status != wanted or says not in said or is_old() != bool(wanted):
+                yield f"with {names}: {words} ends with {status}: {said}"
+
+
 def is_old():
     return Path("signed").read_text() == Path("old").read_text()
 
 
 CHECKS = (
     rows, serials, at_once, held, beside_a_watch, synced, in_order, set_back, of_others, of_group,
+    tools,
 )
-COUNT = len(ROWS) + len(SERIALS) + len(CHECKS) - 2
+COUNT = len(ROWS) + len(SERIALS) + len(TOOLS) + len(CHECKS) - 3
 
 
 def faults():
