@@ -5,6 +5,7 @@ import fcntl
 import multiprocessing
 import os
 import signal
+import subprocess
 import threading
 import time
 import unittest
@@ -172,6 +173,16 @@ class Together(Kept):
         os.close(writing)
         os.close(reading)
         os.waitpid(pid, 0)
+
+    def test_a_program_that_has_the_open_file_keeps_no_lock(self):
+        keys = self.begin()
+        opened = [keys._file._lock.descriptor]
+        with subprocess.Popen(["sleep", "60"], pass_fds=opened) as program:
+            try:
+                keys.close()
+                KeySet.open(self.path).close()
+            finally:
+                program.kill()
 
     def test_a_child_is_refused_while_a_thread_holds_the_lock(self):
         keys = self.begin()
