@@ -6,7 +6,8 @@ those of each call.)
 
 It runs the program `callers`, which `rt ci` has made by then, once for each request of each of
 these works, with `tests/memory.c` in place of the C library's allocator. The requests of the
-programs `keyset_status` and `keyset_notes` fail in the same way.
+programs `keyset_status` and `keyset_notes` fail in the same way. Of `keyset_notes` it checks by the
+number of requests that a further question doesn't run the script again.
 """
 
 import os
@@ -55,6 +56,7 @@ published dnskey 3 5 9
 everywhere dnskey 10
 due 90
 """
+ADDS = "".join(f"add-zsk A{tag} - 13 {tag} 0 yes\n" for tag in range(3, 99))
 # The programs, and what they are asked.
 ASKED = {"keyset_status": BEGUN, "keyset_notes": BEGUN + NOTED}
 # What they say of a request that fails.
@@ -146,6 +148,19 @@ def in_turn_of_program(allocator, name):
     return ample.made
 
 
+def run_once(allocator):
+    """A further question makes as many requests for memory after a long script as after a short
+    one."""
+    program = CRATES / "keyset_notes" / "out" / "keyset_notes"
+    made = [
+        [outcome_of(allocator, program, script + NOTED + more, 0).made for more in ("", "due 91\n")]
+        for script in (BEGUN, BEGUN + ADDS)
+    ]
+    (short, short_more), (long, long_more) = made
+    if short_more - short != long_more - long:
+        raise Wrong(f"keyset_notes: a further question runs the script again: {made} requests")
+
+
 def stored_script(name):
     """The lines of a stored script."""
     part = STORED.read_text().split(f"\n== {name}\n")[1]
@@ -162,6 +177,7 @@ def main():
                 for letter in [*WORKS][1:]:
                     total += in_turn(allocator, letter, stored_script(name))
             programs = sum(in_turn_of_program(allocator, name) for name in ASKED)
+            run_once(allocator)
     except Wrong as wrong:
         print(wrong)
         return 1

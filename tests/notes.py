@@ -7,6 +7,7 @@ docs/NOTES.md says, for which `tests/game/notes.py` has code of its own. It may 
 report what their notes say, and no zone breaks by it. With one second less zones break."""
 
 import random
+import resource
 import subprocess
 import sys
 import time
@@ -54,6 +55,7 @@ INPUTS = {
     "": "script: line 1: malformed",
     "zone\n\nbefore 1 1 1\ndue 9": "script: line 1: malformed",
     f"\n{NOTED}\ndue 9": "script: line 1: malformed",
+    "\n" * 9: "script: line 1: malformed",
     f"{NOTED}\ndue 9\n\n\nbefore 1 1 1\ndue 9": "script: line 1: malformed",
     f"{SCRIPT}\nrubbish\n\nbefore 1 1 1\ndue 9": "script: line 5: malformed",
     f"{SCRIPT}\nrubbish": "script: line 5: malformed",
@@ -73,8 +75,18 @@ INPUTS = {
         "notes: line 4: moment before the last one",
     f"{NOTED}\ndue 9\neverywhere ds 9": NOT_YET,
     f"{NOTED}\ndue 9\n\n": NOT_YET,
+    # An answer without a line stands before the next one too.
+    f"zone example.com\n\nbefore 1 1 1\ndue 9\n\n{NOTED}\ndue 9": f"\n{NOT_YET}",
+    # Each question is answered by the notes above it.
+    f"{NOTED}\ndue 9\npublished ds 3 1 9\npublished dnskey 3 1 9\npublished zone 3 1 9"
+    "\neverywhere ds 9\neverywhere dnskey 9\neverywhere zone 9\ndue 9":
+        f"{NOT_YET}\n\nreport1 algorithm-roll 2 9",
     f"{NOTED}\ndue 18446744073709551615": NOT_YET,
 }
+
+# A thousand calls beside a reference of 1 MB, and the memory in which they are answered: less than
+# the sets after each call take.
+CALLS, LONG, ROOM = 1000, "L" * 1_000_000, 64 << 20
 
 
 def some_orders():
@@ -135,6 +147,18 @@ def refuse(wrong):
         check(text, wanted, wrong)
 
 
+def answer_in_little_room(wrong):
+    """An answer takes memory for its input, and not for what was published after each call."""
+    keys = [f"add-zsk {LONG} - 13 3 9 yes", f"set-present {LONG} yes 9"]
+    script = "\n".join([SCRIPT, *keys, *["wait1 zsk-roll 9"] * CALLS])
+    done = subprocess.run(
+        [PROGRAM], input=f"{script}\n\nbefore 1 1 1\ndue 9\n", capture_output=True, text=True,
+        preexec_fn=lambda: resource.setrlimit(resource.RLIMIT_AS, (ROOM, ROOM)),
+    )
+    if (done.returncode, done.stdout) != (0, f"{NOT_YET}\n"):
+        wrong.append(f"notes: {CALLS} calls in {ROOM >> 20} MB: {done.returncode} {done.stderr}")
+
+
 def text_of(questions):
     """The questions, as the program reads them."""
     return "\n\n".join(f"{each.script}\n\n{each.notes}\ndue {each.moment}" for each in questions)
@@ -169,6 +193,7 @@ def main():
     questions, back = played(orders, wrong)
     zones = broken_by_less(orders, wrong)
     refuse(wrong)
+    answer_in_little_room(wrong)
     done = asked(text_of(questions))
     if done.returncode:
         wrong.append(f"notes: status {done.returncode}: {done.stderr}")
@@ -182,7 +207,8 @@ def main():
         f"notes: {len(orders)} zones, {len(questions)} answers, of which {waits} say not yet, are"
         f" those of the rule, and {sharp} of them no more than rule 1; {back} times a parent went"
         f" back, over no step; with one second less 3 of {zones} zones break; {len(ANSWERS)} notes"
-        f" and {len(INPUTS)} inputs with and without faults;"
+        f" and {len(INPUTS)} inputs with and without faults; {CALLS} calls beside a reference of"
+        f" {len(LONG):,} bytes in {ROOM >> 20} MB;"
         f" {time.monotonic() - began:.0f} s"
     )
     return 0

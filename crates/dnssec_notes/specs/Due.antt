@@ -57,11 +57,11 @@ due_text rolls step before facts seconds =
 -- ---- of a script
 
 -- the text has the lines of the reports that are due at this second, after a run of the script that
--- these lines are, by the notes that the others are
-pub record IsDueAfter (lines notes : List (List ℕ)) (seconds : ℕ) (text : List ℕ) : Type 0 where
+-- these lines are, with this record, by the notes that the others are
+pub record IsDueAfter (lines notes : List (List ℕ)) (entries : List Entry) (seconds : ℕ)
+    (text : List ℕ) : Type 0 where
   pub name : List ℕ
   pub calls : List Call
-  pub entries : List Entry
   pub before : Before
   pub facts : List Fact
   pub is_script : AreScript lines name calls
@@ -70,10 +70,21 @@ pub record IsDueAfter (lines notes : List (List ℕ)) (seconds : ℕ) (text : Li
   pub is_text : text ≡ due_text (world_at name calls entries (length entries)).set.rolls
       (λ roll. base_below entries roll (suc (length entries))) before facts seconds
 
--- the same of two texts, and each of the calls had memory
-pub record IsDueAnswer (script notes : List ℕ) (seconds : ℕ) (text : List ℕ) : Type 0 where
-  pub is_due : IsDueAfter (lines_of script) (lines_of notes) seconds text
-  pub had_memory : HadMemory is_due.entries
+-- a question: the second that it asks about, and the lines of the notes above it
+pub record Question : Type 0 where
+  pub notes : List (List ℕ)
+  pub seconds : ℕ
+
+-- the text answers a question beside a script, and each of the calls had memory
+pub record IsAnswerTo (script : List ℕ) (question : Question) (text : List ℕ) : Type 0 where
+  pub entries : List Entry
+  pub is_due : IsDueAfter (lines_of script) question.notes entries question.seconds text
+  pub had_memory : HadMemory entries
+
+-- the same of notes that are a text
+abbrev pub IsDueAnswer : List ℕ → List ℕ → ℕ → List ℕ → Type 0
+IsDueAnswer script notes seconds text =
+    IsAnswerTo script (record { notes = lines_of notes; seconds = seconds }) text
 
 -- ---- of a session with its notes
 
@@ -83,4 +94,4 @@ abbrev pub AnswersDue : Session → Option NotesParts → ℕ → Option (List �
 AnswersDue session noted seconds None = noted ≡ None
 AnswersDue session noted seconds (Some text) =
     (lines notes : List (List ℕ)) (entries : List Entry) → Stands lines entries session →
-    HasTaken (length entries) notes noted → IsDueAfter lines notes seconds text
+    HasTaken (length entries) notes noted → IsDueAfter lines notes entries seconds text

@@ -1,4 +1,5 @@
 pub mod Lines
 pub mod Reading
 pub mod Due
+pub mod Questions
 pub mod Texts

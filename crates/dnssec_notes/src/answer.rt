@@ -1,14 +1,13 @@
 //! Which reports are due after a script, by its notes.
-ghost use Rattle.std.specs.Prelude.{◌≡◌, IfOk, string_bytes, true};
-ghost use Rattle.dnssec_record.specs.Session.{HadMemory};
+ghost use Rattle.std.specs.Prelude.{◌<◌, IfOk, map, string_bytes, vec_len};
 ghost use Rattle.dnssec_notes.specs.Due.{IsDueAnswer};
+ghost use Rattle.dnssec_notes.specs.Questions.{AreAnswers};
 
-use crate::fault::DueFault;
+use crate::fault::{DueFault, NotesFault};
+use crate::questions::answer_lines;
 use crate::reading::read_notes;
 use crate::reports::due_lines;
-use dnssec_keyset::Error;
-use dnssec_network::Steps;
-use dnssec_record::{Entry, Reply, ScriptFault, record_script};
+use dnssec_record::{Session, all_lines};
 use std::alloc::Global;
 
 /// Runs a script, reads the notes beside it, and answers which reports are due at this second since
@@ -31,21 +30,33 @@ pub fn answer_due(
     ensures { IfOk result (λ text.
         IsDueAnswer script.now notes.now seconds (string_bytes text)) }
 {
-    let ran = record_script(alloc, script)?;
-    if !had_memory(&ran.entries) {
-        return Err(DueFault::Script(ScriptFault::OutOfMemory));
-    }
-    let noted = read_notes(alloc, ran.entries.len(), notes)?;
-    let steps = Steps::of_record(&ran.entries);
-    let lines = due_lines(alloc, &ran.keyset, steps, &noted, seconds)?;
+    let ran = Session::resume(alloc, script)?;
+    let noted = read_notes(alloc, ran.calls(), notes)?;
+    let lines = due_lines(alloc, ran.keyset(), ran.steps(), &noted, seconds)?;
     Ok(lines)
 }
 
-/// Whether no call was refused for lack of memory.
-fn had_memory(entries: &[Entry]) -> bool
-    ensures { result ≡ true → HadMemory entries.now }
+/// Runs a script once, and answers the questions among the notes beside it, as `answer_lines` does:
+/// each as `answer_due` would by the notes above it.
+///
+/// # Errors
+///
+/// - `Script` with the fault of the script, or if memory runs out, for one of its calls too.
+/// - `Notes` with the fault of the notes or of a question, or if memory runs out.
+///
+/// ```rust
+/// let notes = b"before 3600 3600 3600\npublished dnskey 12 3600 100\ndue 120\n";
+/// let answers = answer_questions(alloc, script.as_bytes(), notes)?;
+/// ```
+pub fn answer_questions(alloc: Global, script: &[u8], notes: &[u8]) -> Result<Vec<String>, DueFault>
+    ensures ok { IfOk result (λ texts.
+        AreAnswers script.now notes.now (map string_bytes texts.items)) }
+    ensures asked { IfOk result (λ texts. 0 < vec_len texts) }
 {
-    !entries
-        .iter()
-        .any(|entry| entry.reply == Reply::Refused(Error::OutOfMemory))
+    let session = Session::resume(alloc, script)?;
+    let Ok(lines) = all_lines(alloc, notes) else {
+        return Err(DueFault::Notes(NotesFault::OutOfMemory));
+    };
+    let answers = answer_lines(alloc, &session, &lines)?;
+    Ok(answers)
 }

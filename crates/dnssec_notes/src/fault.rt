@@ -1,5 +1,6 @@
 //! Why notes were not read, or a question about reports not answered.
 ghost use Rattle.std.specs.Prelude.{◌≡◌, Some};
+ghost use Rattle.dnssec_notes.specs.Questions.{fault_at};
 ghost use Rattle.dnssec_notes.specs.Texts.{due_fault_text, line_fault_text, notes_fault_text};
 ghost use Rattle.dnssec_notes.specs.declared.fault.DueFault.TheVariants as due;
 ghost use Rattle.dnssec_notes.specs.declared.fault.NotesFault.TheVariants.{OutOfMemory};
@@ -18,6 +19,19 @@ pub enum LineFault {
     Refused(NoteFault),
     /// Memory has run out.
     OutOfMemory,
+}
+
+impl LineFault {
+    /// The same fault of notes, on the line of this number.
+    pub(crate) fn at(self, number: usize) -> NotesFault
+        ensures { result ≡ fault_at self number }
+    {
+        match self {
+            LineFault::Malformed => NotesFault::Malformed(number),
+            LineFault::Refused(fault) => NotesFault::Refused(number, fault),
+            LineFault::OutOfMemory => NotesFault::OutOfMemory,
+        }
+    }
 }
 
 impl fmt::Display for LineFault {

@@ -4,13 +4,15 @@
 mod answer;
 mod fault;
 mod line;
+mod questions;
 mod reading;
 mod reports;
 mod session;
 
-pub use answer::answer_due;
+pub use answer::{answer_due, answer_questions};
 pub use dnssec_network::{Before, DueReport, Fact, News, NoteFault, Notes, SetKind, Steps};
 pub use fault::{DueFault, LineFault, NotesFault};
+pub use questions::answer_lines;
 pub use reading::read_notes;
 pub use reports::due_lines;
 pub use session::{SessionNotes, notes_outlast_calls};

@@ -133,7 +133,7 @@ pub record RefusesNote (old : Option Kept) (line : List ℕ) (status : ℕ) : Ty
 abbrev pub IsDueOf : ℕ → Kept → List ℕ → Type 0
 IsDueOf seconds kept text = (lines notes : List (List ℕ)) (entries : List Entry) →
     Stands lines entries kept.session → HasTaken (length entries) notes kept.notes →
-    IsDueAfter lines notes seconds text
+    IsDueAfter lines notes entries seconds text
 
 pub record ShowsDue (seconds : ℕ) (old : Option Kept) (text : List ℕ) : Type 0 where
   pub kept : Kept

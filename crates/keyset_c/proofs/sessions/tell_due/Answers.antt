@@ -8,7 +8,7 @@ use Rattle.keyset_c.proofs.sessions.tell_due.Goals as goal
 pub returns-in-Ok-Some-clause-told : goal.returns-in-Ok-Some-clause-told
 returns-in-Ok-Some-clause-told c = λ written lines notes entries stands taken.
     let kept = c.args.kept.now in
-    subst (IsDueAfter lines notes c.args.seconds)
+    subst (IsDueAfter lines notes entries c.args.seconds)
     (sym (c.hand_out.ensures.written written ∙ c.as_bytes.ensures.value))
     (subst (λ (o : Option (String Global)).
     AnswersDue kept.session kept.notes c.args.seconds (option_map string_bytes o))
