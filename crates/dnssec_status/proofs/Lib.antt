@@ -1,3 +1,4 @@
 -- The status of a zone: its texts, and the order of its keys.
 pub mod Chains
 pub mod Order
+pub mod Listing

@@ -6,7 +6,6 @@ ghost use denote.Bor.{now};
 ghost use Rattle.dnssec_key.specs.declared.kind.KeyType.TheVariants as KeyType;
 ghost use Rattle.dnssec_key.specs.State.{is_active_ksk, is_active_zsk, is_future, is_leaving};
 ghost use Rattle.dnssec_key.specs.State.{is_used};
-ghost use Rattle.dnssec_record.specs.Courses.{as_listed};
 ghost use Rattle.dnssec_status.specs.Inner.Entries.{entry_json, entry_of};
 ghost use Rattle.dnssec_status.specs.Json.{array_json, further_json, option_json, text_json};
 ghost use Rattle.dnssec_status.specs.Keys.{end_json, flags_json, front_json, key_json};
@@ -16,10 +15,10 @@ ghost use Rattle.dnssec_status.specs.Names.{roll_json};
 ghost use Rattle.dnssec_zone.specs.Keys.{keys_in_map};
 
 use crate::json::{push_bytes, push_flag, push_null, push_number, push_text};
-use crate::listed::rolls_of;
+use crate::listed::{Listings, rolls_of};
 use crate::names::push_roll_names;
 use dnssec_keyset::{Key, KeyState, KeyTimestamps, KeyType, UnixTime};
-use dnssec_record::{Listed, Part};
+use dnssec_record::Part;
 use std::alloc::{AllocError, Global};
 use std::collections::HashMap;
 use std::time::Duration;
@@ -42,18 +41,18 @@ pub(crate) fn in_order(
 pub(crate) fn push_keys(
     alloc: Global,
     out: &mut Vec<u8>,
-    listed: &[Listed],
+    listings: &Listings<'_>,
     entries: &[(&String, &Key)],
 ) -> Result<(), AllocError>
     ensures { OnOk result (out.new.items ≡ out.old.items
-        ++ array_json (entry_json (map as_listed listed.now)) entries.now) }
+        ++ array_json (entry_json listings.now) entries.now) }
 {
     match entries.split_first() {
         None => push_bytes(out, b"[]"),
         Some((first, rest)) => {
             push_bytes(out, b"[")?;
-            push_key(alloc, out, listed, first.0, first.1)?;
-            push_further(alloc, out, listed, rest)?;
+            push_key(alloc, out, listings, first.0, first.1)?;
+            push_further(alloc, out, listings, rest)?;
             push_bytes(out, b"]")
         }
     }
@@ -64,15 +63,15 @@ pub(crate) fn push_keys(
 fn push_further(
     alloc: Global,
     out: &mut Vec<u8>,
-    listed: &[Listed],
+    listings: &Listings<'_>,
     entries: &[(&String, &Key)],
 ) -> Result<(), AllocError>
     ensures { OnOk result (out.new.items ≡ out.old.items
-        ++ further_json (entry_json (map as_listed listed.now)) entries.now) }
+        ++ further_json (entry_json listings.now) entries.now) }
 {
     for entry in entries {
         push_bytes(out, b",")?;
-        push_key(alloc, out, listed, entry.0, entry.1)?;
+        push_key(alloc, out, listings, entry.0, entry.1)?;
     }
     Ok(())
 }
@@ -81,15 +80,15 @@ fn push_further(
 fn push_key(
     alloc: Global,
     out: &mut Vec<u8>,
-    listed: &[Listed],
+    listings: &Listings<'_>,
     reference: &String,
     key: &Key,
 ) -> Result<(), AllocError>
     ensures { OnOk result (out.new.items ≡ out.old.items
-        ++ key_json (map as_listed listed.now) (string_bytes reference.now, key.now)) }
+        ++ key_json listings.now (string_bytes reference.now, key.now)) }
 {
     push_front(alloc, out, reference, key)?;
-    push_end(alloc, out, listed, reference, key)
+    push_end(alloc, out, listings, reference, key)
 }
 
 /// Writes what the key itself says.
@@ -114,19 +113,19 @@ fn push_front(
 fn push_end(
     alloc: Global,
     out: &mut Vec<u8>,
-    listed: &[Listed],
+    listings: &Listings<'_>,
     reference: &String,
     key: &Key,
 ) -> Result<(), AllocError>
     ensures { OnOk result (out.new.items ≡ out.old.items ++ end_json
-        (map as_listed listed.now) (string_bytes reference.now) key.now.keytype) }
+        listings.now (string_bytes reference.now) key.now.keytype) }
 {
     push_flag(out, b",\"may_come_in\":", may_come_in(key))?;
     push_flag(out, b",\"may_be_deleted\":", key.is_stale())?;
     push_bytes(out, b",\"old_in\":")?;
-    push_rolls_of(alloc, out, listed, Part::Old, reference)?;
+    push_rolls_of(alloc, out, listings, Part::Old, reference)?;
     push_bytes(out, b",\"new_in\":")?;
-    push_rolls_of(alloc, out, listed, Part::New, reference)?;
+    push_rolls_of(alloc, out, listings, Part::New, reference)?;
     push_bytes(out, b"}")?;
     Ok(())
 }
@@ -152,14 +151,14 @@ fn is_listed_by_some(keytype: KeyType) -> bool
 fn push_rolls_of(
     alloc: Global,
     out: &mut Vec<u8>,
-    listed: &[Listed],
+    listings: &Listings<'_>,
     part: Part,
     reference: &String,
 ) -> Result<(), AllocError>
     ensures { OnOk result (out.new.items ≡ out.old.items ++ array_json roll_json
-        (rolls_of part (string_bytes reference.now) (map as_listed listed.now))) }
+        (rolls_of part (string_bytes reference.now) listings.now)) }
 {
-    let rolls = rolls_of(alloc, listed, part, reference)?;
+    let rolls = rolls_of(alloc, listings, part, reference)?;
     push_roll_names(out, &rolls)
 }
 

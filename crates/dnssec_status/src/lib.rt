@@ -1,8 +1,7 @@
 //! The status of a zone, as JSON: where each key is, what is due, what comes next, and when.
 #![tactic(auto)]
 
-ghost use Rattle.std.specs.Prelude.{◌≡◌, ◌++◌, ℕ, List, IfOk, OnOk, codes, map, string_bytes};
-ghost use Rattle.dnssec_record.specs.Courses.{as_listed};
+ghost use Rattle.std.specs.Prelude.{◌≡◌, ◌++◌, ℕ, List, IfOk, OnOk, codes, string_bytes};
 ghost use Rattle.dnssec_record.specs.Session.{StandsAfter};
 ghost use Rattle.dnssec_run.specs.declared.call.Call.{Call};
 ghost use Rattle.dnssec_run.specs.declared.record.Entry.{Entry};
@@ -21,10 +20,11 @@ mod sets;
 
 use crate::json::{push_bytes, push_text};
 use crate::keys::{in_order, push_keys};
+use crate::listed::Listings;
 use crate::rolls::{Going, in_progress, push_ended, push_rolls};
 use crate::sets::{push_chain, push_sets};
 use dnssec_keyset::{Key, RollType};
-use dnssec_record::{Broken, Listed, Published, Session};
+use dnssec_record::{Broken, Published, Session};
 use std::alloc::{AllocError, Global};
 
 /// The status of a zone after the calls of a session, as one line of JSON with its line feed.
@@ -64,12 +64,13 @@ pub fn status(alloc: Global, session: &Session) -> Result<Vec<u8>, AllocError>
         session.verdict(),
         session.published(),
     )?;
+    let listings = Listings::of(alloc, session.listed())?;
     let keys = in_order(alloc, keyset.keys())?;
     let rolls = in_progress(alloc, keyset)?;
     push_rest(
         alloc,
         &mut out,
-        session.listed(),
+        &listings,
         &keys,
         &rolls,
         session.ended_early(),
@@ -102,18 +103,18 @@ fn push_zone(
 fn push_rest(
     alloc: Global,
     out: &mut Vec<u8>,
-    listed: &[Listed],
+    listings: &Listings<'_>,
     keys: &[(&String, &Key)],
     rolls: &[Going],
     ended: &[RollType],
 ) -> Result<(), AllocError>
     ensures { OnOk result (out.new.items ≡ out.old.items
-        ++ (codes ",\"keys\":" ++ array_json (entry_json (map as_listed listed.now)) keys.now
+        ++ (codes ",\"keys\":" ++ array_json (entry_json listings.now) keys.now
         ++ codes ",\"rolls\":" ++ array_json going_json rolls.now
         ++ codes ",\"ended\":" ++ array_json ended_json ended.now ++ codes "}\n")) }
 {
     push_bytes(out, b",\"keys\":")?;
-    push_keys(alloc, out, listed, keys)?;
+    push_keys(alloc, out, listings, keys)?;
     push_bytes(out, b",\"rolls\":")?;
     push_rolls(alloc, out, rolls)?;
     push_bytes(out, b",\"ended\":")?;

@@ -1,25 +1,85 @@
 //! Which rolls in progress have listed a key, as old or as new.
-ghost use Rattle.std.specs.Prelude.{◌≡◌, ◌++◌, OnOk, IfOk, map, string_bytes};
+ghost use Rattle.std.specs.Prelude.{◌≡◌, ◌++◌, OnOk, IfOk, IsPermutation, map, string_bytes};
 ghost use Rattle.std.specs.List.{list_any};
+ghost use denote.Bor.{now};
+ghost use Rattle.dnssec_key.specs.declared.roll.RollType.{RollType as AnyRoll};
 ghost use Rattle.dnssec_record.specs.Courses.{as_listed};
+ghost use Rattle.dnssec_record.specs.declared.courses.Part.{Part as AnyPart};
 ghost use Rattle.dnssec_status.specs.Inner.Entries.{lists, roll_if_listed};
-ghost use Rattle.dnssec_status.specs.Keys.{rolls_of, same_part};
+ghost use Rattle.dnssec_status.specs.Keys.{has_listed, rolls_of, same_part};
 
 use dnssec_keyset::RollType;
 use dnssec_record::{Listed, Part};
 use dnssec_zone::all_rolls;
 use std::alloc::{AllocError, Global};
+use std::marker::Model;
+
+/// What the starts of the rolls in progress listed, in the order of the references: the listings of
+/// a key are found without a walk over all.
+#[derive(Drop)]
+pub(crate) struct Listings<'a> {
+    ordered: Vec<&'a Listed>,
+}
+
+impl<'a> Model for Listings<'a> {
+    ghost use Rattle.std.specs.Prelude.{List, map};
+    ghost use Rattle.std.specs.Prelude.{IsSortedByKey};
+    ghost use Rattle.std.specs.Cmp.Lexicographic.{slice_cmp};
+    ghost use Rattle.std.specs.Ordering.{nat_cmp};
+    ghost use Rattle.dnssec_record.specs.Courses.{Listed as AnyListed};
+    ghost use Rattle.dnssec_status.specs.Inner.Entries.{listing_of, reference_of};
+
+    ghost Value = { List AnyListed };
+
+    ghost view = { λ listings. map listing_of listings.ordered.items };
+
+    ghost invariant = { λ listings.
+        IsSortedByKey reference_of (slice_cmp nat_cmp) listings.ordered.items };
+}
+
+impl<'a> Listings<'a> {
+    /// The listings in order.
+    pub(crate) fn of(alloc: Global, listed: &'a [Listed]) -> Result<Self, AllocError>
+        ensures { IfOk result (λ listings. IsPermutation (map as_listed listed.now) listings) }
+    {
+        let mut ordered = lent(alloc, listed)?;
+        ordered.sort_unstable_by(|one, other| one.reference.cmp(&other.reference));
+        Ok(Listings { ordered })
+    }
+
+    /// Those of the key at a reference.
+    fn of_key(&self, reference: &String) -> &[&'a Listed]
+        ensures { (roll : AnyRoll) (part : AnyPart) →
+            list_any (lists roll part (string_bytes reference.now)) result.now
+            ≡ list_any (has_listed roll part (string_bytes reference.now)) self.now }
+    {
+        let end = self
+            .ordered
+            .partition_point(|listed| listed.reference.cmp(reference).is_le());
+        let up_to = &self.ordered[..end];
+        let begin = up_to.partition_point(|listed| listed.reference.cmp(reference).is_lt());
+        &up_to[begin..]
+    }
+}
+
+/// The listings, as they are lent.
+fn lent(alloc: Global, listed: &[Listed]) -> Result<Vec<&Listed>, AllocError>
+    ensures { IfOk result (λ lent. map now lent.items ≡ listed.now) }
+{
+    listed.iter().collect(alloc)
+}
 
 /// The rolls that listed a key as this, in the order of their kinds.
 pub(crate) fn rolls_of(
     alloc: Global,
-    listed: &[Listed],
+    listings: &Listings<'_>,
     part: Part,
     reference: &String,
 ) -> Result<Vec<RollType>, AllocError>
     ensures { IfOk result (λ rolls. rolls.items
-        ≡ rolls_of part (string_bytes reference.now) (map as_listed listed.now)) }
+        ≡ rolls_of part (string_bytes reference.now) listings.now) }
 {
+    let listed = listings.of_key(reference);
     let mut rolls = Vec::new(alloc);
     for roll in all_rolls() {
         note(&mut rolls, listed, *roll, part, reference)?;
@@ -30,7 +90,7 @@ pub(crate) fn rolls_of(
 /// Notes the roll, if it listed a key as this.
 fn note(
     rolls: &mut Vec<RollType>,
-    listed: &[Listed],
+    listed: &[&Listed],
     roll: RollType,
     part: Part,
     reference: &String,
@@ -45,7 +105,7 @@ fn note(
 }
 
 /// Whether the roll listed a key as this.
-fn is_listed(listed: &[Listed], roll: RollType, part: Part, reference: &String) -> bool
+fn is_listed(listed: &[&Listed], roll: RollType, part: Part, reference: &String) -> bool
     ensures { result ≡ list_any (lists roll part (string_bytes reference.now)) listed.now }
 {
     for key in listed {
@@ -58,7 +118,7 @@ fn is_listed(listed: &[Listed], roll: RollType, part: Part, reference: &String) 
 
 /// Whether this is a listing of the key for the roll and as this part.
 fn lists(listed: &Listed, roll: RollType, part: Part, reference: &String) -> bool
-    ensures { result ≡ lists roll part (string_bytes reference.now) listed.now }
+    ensures { result ≡ has_listed roll part (string_bytes reference.now) (as_listed listed.now) }
 {
     roll == listed.roll && same_part(part, listed.part) && *reference == listed.reference
 }

@@ -3,11 +3,12 @@ use Rattle.std.proofs.Common.{◌≡◌, ◌∙◌, ap, List, map, subst, sym, s
 use Rattle.dnssec_base.specs.NameText.{name_text}
 use Rattle.dnssec_keyset.specs.KeySet.{KeySetParts}
 use Rattle.dnssec_run.specs.Record.{world_at}
-use Rattle.dnssec_record.specs.Courses.{Listed, as_listed, listed_by}
+use Rattle.std.specs.Prelude.{IsPermutation}
+use Rattle.dnssec_record.specs.Courses.{Listed, listed_by}
 use Rattle.dnssec_status.specs.Status.{state_json, status_text, zone_json}
 use Rattle.dnssec_status.specs.{Inner.Entries.entry_json, Inner.Entries.entry_of, Json.array_json}
 use Rattle.dnssec_status.specs.{Keys.key_json, Rolls.AreGoing, declared.rolls.Going.Going}
-use Rattle.dnssec_status.proofs.Chains.{array_read}
+use Rattle.dnssec_status.proofs.{Chains.array_read, Listing.same_entries}
 use Rattle.std.specs.FinMap as fin
 use Rattle.dnssec_status.proofs.status.Goals as goal
 
@@ -21,10 +22,12 @@ returns c name calls entries stands =
     let named : string_bytes c.in_ok-zone.zone ≡ name_text s.recorder.keyset.name =
     c.in_ok-zone.ensures.ok
     ∙ ap name_text (c.name.ensures ∙ ap (λ (k : KeySetParts). k.name) set) in
-    let keys : array_json (entry_json (map as_listed c.listed.result.now)) c.deref.result.now
+    let listed : entry_json c.in_ok-listings.listings ≡ entry_json (listed_by calls entries) =
+    same_entries _ _ (subst (λ (ls : List Listed). IsPermutation ls c.in_ok-listings.listings)
+    (c.listed.ensures name calls entries stands) c.in_ok-listings.ensures) in
+    let keys : array_json (entry_json c.in_ok-listings.listings) c.deref.result.now
     ≡ array_json (key_json (listed_by calls entries)) (fin.entries s.recorder.keyset.keys) =
-    ap (λ (ls : List Listed). array_json (entry_json ls) c.deref.result.now)
-    (c.listed.ensures name calls entries stands)
+    ap (λ json. array_json json c.deref.result.now) listed
     ∙ array_read entry_of (key_json (listed_by calls entries)) c.deref.result.now
     ∙ ap (array_json (key_json (listed_by calls entries)))
     (ap (map entry_of) c.deref.ensures.value ∙ c.in_ok-keys.ensures

@@ -18,11 +18,18 @@ entry_of e = (string_bytes e.0.now, e.1.now)
 abbrev pub entry_json : {Y : Type 0} → List Listed → Bor (String Y) × Bor KeyParts → List ℕ
 entry_json listed e = key_json listed (entry_of e)
 
--- a listing, as code has it, is of the key at a reference for the roll and as this part
-abbrev pub lists : RollType → Part → List ℕ → code.Listed → Bool
-lists roll part reference l = has_listed roll part reference (as_listed l)
+-- a listing as it is lent, and its reference
+abbrev pub listing_of : Bor code.Listed → Listed
+listing_of l = as_listed l.now
+
+abbrev pub reference_of : Bor code.Listed → List ℕ
+reference_of l = (listing_of l).reference
+
+-- it is of the key at a reference for the roll and as this part
+abbrev pub lists : RollType → Part → List ℕ → Bor code.Listed → Bool
+lists roll part reference l = has_listed roll part reference (listing_of l)
 
 -- the roll, if one of the listings is so
-abbrev pub roll_if_listed : RollType → Part → List ℕ → List code.Listed → List RollType
+abbrev pub roll_if_listed : RollType → Part → List ℕ → List (Bor code.Listed) → List RollType
 roll_if_listed roll part reference ls =
     if list_any (lists roll part reference) ls then roll ∷ [] else []

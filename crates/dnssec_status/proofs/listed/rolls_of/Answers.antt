@@ -1,11 +1,10 @@
 -- Each turn notes one kind, if it has listed the key.
-use Rattle.std.proofs.Common.{◌∙◌, ap, string_bytes, sym}
+use Rattle.std.proofs.Common.{◌∙◌, ap}
 use Rattle.std.proofs.lemmas.List.{take_all}
 use Rattle.std.specs.List.{filter}
-use Rattle.dnssec_record.specs.Courses.{as_listed}
-use Rattle.dnssec_status.specs.Keys.{has_listed, rolls_of}
+use Rattle.dnssec_status.specs.Keys.{rolls_of}
 use Rattle.dnssec_status.proofs.Chains.{filter_one_more}
-use Rattle.dnssec_zone.{proofs.Quantified.list_any-map, specs.Rolls.all_rolls}
+use Rattle.dnssec_zone.specs.Rolls.{all_rolls}
 use Rattle.dnssec_status.proofs.listed.rolls_of.Goals as goal
 
 pub loop-roll-init : goal.loop-roll-init
@@ -18,9 +17,6 @@ loop-roll-preserved c =
 pub returns : goal.returns
 unfolding rolls_of
 returns c =
-    let part = c.args.part in
-    let reference = string_bytes c.args.reference.now in
     c.loop-roll.invariant
     ∙ ap (filter _) (take_all _ _ c.loop-roll-test.false ∙ c.all_rolls-roll-items.ensures)
-    ∙ (λ i. filter (λ roll. sym (list_any-map (has_listed roll part reference) as_listed
-    c.args.listed.now) i) all_rolls)
+    ∙ (λ i. filter (λ roll. c.of_key-listed.ensures roll c.args.part i) all_rolls)

@@ -1,0 +1,285 @@
+"""What answers cost by length: those of `keyset_notes`, of `keyset_status`, and a session's lines.
+
+    python3 bench/answers.py [--only WORD]
+
+It takes the programs of `make build notes` and the library of `make lib`. Each script has a length
+that a user controls, and is measured at three of them, each twice the one before. A row prints, of
+the longest: its lines, how many calls are accepted, the least processor seconds of some runs, and
+the greatest memory in MB. A growth is that of the instructions, as valgrind counts them, or of the
+memory: from the first length to the second, and from that to the third. 1 means that twice the
+length takes twice as much.
+
+The second table has lines of sessions, one after the other by `keyset_call` or by `keyset_accept`:
+the microseconds of a line among the first thousand, of one among the last thousand, and of the
+slowest of these. Each is the least of some runs.
+"""
+
+import argparse
+import math
+import subprocess
+from dataclasses import dataclass
+from pathlib import Path
+from typing import Callable
+
+from programs import Bench
+from successive_rolls import FIRST, ROLL, script as rolls
+
+TOP = Path(__file__).resolve().parent.parent
+LIBRARY = TOP / "library" / "out"
+RUNS = 3
+LONG = "L" * 1_000_000
+BEFORE = "before 3600 3600 3600"
+
+
+@dataclass
+class Row:
+    """A script by its length, for a program, and the longest of three lengths."""
+
+    name: str
+    program: str
+    longest: int
+    make: Callable[[int], str]
+
+
+def joined(*parts):
+    return "".join(f"{line}\n" for part in parts for line in part)
+
+
+def zone(*parts):
+    return FIRST + joined(*parts)
+
+
+def adds(kind, count, name="A", tag=2):
+    """Keys, with tags from this one on."""
+    private = "" if kind == "public" else " -"
+    return [f"add-{kind} {name}{i}{private} 13 {tag + i} 150 yes" for i in range(count)]
+
+
+def noted(script, *notes):
+    """A script with notes beside it."""
+    return script + "\n" + joined([BEFORE], *notes)
+
+
+def refused(count):
+    return ["wait1 zsk-roll 150"] * count
+
+
+def published(count):
+    """Keys of another signer, each published."""
+    shown = [f"set-present A{i} yes 160" for i in range(count)]
+    return [line for pair in zip(adds("public", count), shown) for line in pair]
+
+
+def seen(count):
+    """Versions of DNSKEY sets, each seen on all servers."""
+    return [line for i in range(count // 2) for line in
+            (f"published dnskey 1 3600 {i}", f"everywhere dnskey {i}")]
+
+
+# ---- notes and questions
+
+
+def rolls_with_questions(count):
+    """As many questions as calls."""
+    made = rolls(count // 16 * 8)
+    return noted(made, [f"due {10_000_000 + i}" for i in range(count // 2)])
+
+
+def long_reference_noted(count):
+    keys = [f"add-zsk {LONG} - 13 65000 150 yes", f"set-present {LONG} yes 160"]
+    return noted(zone(keys, refused(count)), ["due 200"])
+
+
+def published_noted(count):
+    return noted(zone(published(count // 4), refused(count // 2)), ["due 200"])
+
+
+def notes_of_one_kind(count):
+    return noted(zone(["add-ksk K1 - 13 2 150 yes", "start ksk-roll K0 K1 200"]), seen(count),
+                 [f"due {count}"])
+
+
+def notes_and_questions(count):
+    """After each pair of notes a question."""
+    start = zone(["add-ksk K1 - 13 2 150 yes", "start ksk-roll K0 K1 200"])
+    turns = seen(count // 2)
+    return noted(start, (line for i in range(0, len(turns), 2)
+                         for line in (*turns[i : i + 2], f"due {i}", f"due {i}")))
+
+
+def zones(count):
+    """Many scripts of ten lines, each with a question."""
+    one = noted(zone(["add-ksk K1 - 13 2 150 yes", "start ksk-roll K0 K1 200"]), ["due 9"])
+    return "\n".join([one] * (count // 14))
+
+
+# ---- statuses
+
+
+def listed(count):
+    """The roll in progress lists all keys: a half goes out, and a half comes in."""
+    half = count // 2
+    old, new = ",".join(f"A{i}" for i in range(half)), ",".join(f"B{i}" for i in range(half))
+    return zone(
+        adds("zsk", half), adds("zsk", half, "B", half + 2),
+        [f"start zsk-roll Z0 {old} 200", "report1 zsk-roll 60 200", "wait1 zsk-roll 260",
+         "report2 zsk-roll 60 260", "wait2 zsk-roll 320", "done zsk-roll",
+         f"start zsk-roll {old} {new} 400"],
+    )
+
+
+def one_listed_often(count):
+    """A start lists one key many times as old, beside as many keys."""
+    return zone(adds("zsk", count), [f"start zsk-roll {','.join(['Z0'] * count)} A0 200"])
+
+
+def rolls_beside_listed(count):
+    """KSK rolls go on beside a ZSK roll that lists all keys."""
+    half = count // 4
+    turns = []
+    for i in range(half // 8):
+        t = 1000 * i + 1000
+        turns += [
+            f"add-ksk K{i + 1} - 13 {50000 + i} {t} yes", f"start ksk-roll K{i} K{i + 1} {t}",
+            f"report1 ksk-roll 60 {t}", f"wait1 ksk-roll {t + 60}", f"report2 ksk-roll 60 {t + 60}",
+            f"wait2 ksk-roll {t + 120}", "done ksk-roll", f"delete K{i}",
+        ]
+    return listed(count // 2) + joined(turns)
+
+
+def deletes_beside_listed(count):
+    """Stale keys are deleted beside a ZSK roll that lists all others."""
+    half = count // 4
+    stale = [line for i in range(half)
+             for line in (f"add-public P{i} 13 {i + 40000} 150 yes", f"set-stale P{i}")]
+    return listed(count // 4) + joined(stale, (f"delete P{i}" for i in range(half)))
+
+
+def long_reference_listed(count):
+    return zone([f"add-zsk {LONG} - 13 65000 150 yes", f"start zsk-roll Z0 {LONG} 200"],
+                adds("zsk", count))
+
+
+# ---- sessions
+
+
+def toggled(count):
+    """Another signer's key comes and goes."""
+    return zone(["add-public P 13 2 150 yes"],
+                (f"set-present P {'no' if i % 2 else 'yes'} 160" for i in range(count)))
+
+
+def toggled_then_ended(count):
+    """The same, and then rolls that are started and ended early."""
+    turns = ["start zsk-roll Z0 Z1 200", "abort zsk-roll"] * (count // 6)
+    return toggled(count * 2 // 3) + joined(["add-zsk Z1 - 13 3 150 yes"], turns)
+
+
+NOTES, STATUS = "keyset_notes", "keyset_status"
+ROWS = [
+    Row("rolls, and as many questions", NOTES, 8_000, rolls_with_questions),
+    Row("a reference of 1 MB, refused calls, one question", NOTES, 4_000, long_reference_noted),
+    Row("published keys, refused calls, one question", NOTES, 16_000, published_noted),
+    Row("notes of one kind, one question", NOTES, 32_000, notes_of_one_kind),
+    Row("notes of one kind, and as many questions", NOTES, 8_000, notes_and_questions),
+    Row("scripts of ten lines, each with a question", NOTES, 32_000, zones),
+    Row("rolls", STATUS, 32_000, rolls),
+    Row("keys", STATUS, 32_000, lambda count: zone(adds("zsk", count))),
+    Row("a roll in progress that lists all keys", STATUS, 32_000, listed),
+    Row("a start that lists one key often", STATUS, 16_000, one_listed_often),
+    Row("KSK rolls beside a ZSK roll that lists all keys", STATUS, 16_000, rolls_beside_listed),
+    Row("keys deleted beside a roll that lists all others", STATUS, 16_000, deletes_beside_listed),
+    Row("a listed reference of 1 MB, and other keys", STATUS, 16_000, long_reference_listed),
+]
+
+
+def zsk_rolls_beside_long(count):
+    """Rolls of a ZSK, in a zone whose KSK has a reference of 100 KB."""
+    one = ROLL.format
+    turns = (one(kind="zsk", old=f"Z{i}", new=f"Z{i + 1}", tag=i % 60000 + 2, t=1000 * i + 1000,
+                 t1=1000 * i + 1060, t2=1000 * i + 1120) for i in range(count // 8 - 1))
+    return FIRST.replace("K0", LONG[:100_000]) + "".join(turns)
+
+
+# Scripts of sessions, by how many lines they have.
+SESSIONS = {
+    "rolls": rolls,
+    "refused waits": lambda count: zone(refused(count)),
+    "another signer's key toggled": toggled,
+    "the same, then rolls ended early": toggled_then_ended,
+    "rolls of a ZSK, the KSK's reference has 100 KB": zsk_rolls_beside_long,
+}
+LINES = (1_000, 10_000, 100_000)
+
+
+def growths(figures):
+    """How the figures grow from one length to the next."""
+    return ", ".join(f"{math.log2(more / less):.2f}" for less, more in zip(figures, figures[1:]))
+
+
+def accepted(bench, text):
+    """How many calls of the first script the program `keyset` accepts."""
+    script = text.partition("\n\n")[0].rstrip("\n")
+    given = bench.script("script", f"{script}\n")
+    bench.run(str(TOP / "crates" / "keyset" / "out" / "keyset"), given)
+    return sum(line.startswith("ok") for line in Path(bench.answers).read_text().splitlines())
+
+
+def cells(bench, row):
+    program = str(TOP / "crates" / row.program / "out" / row.program)
+    instructions, memory = [], []
+    for count in (row.longest // 4, row.longest // 2, row.longest):
+        text = row.make(count)
+        given = bench.script("input", text)
+        seconds, most = bench.least(program, given, RUNS)
+        instructions.append(bench.instructions(program, given))
+        memory.append(most)
+    yield row.name
+    yield f"{text.count(chr(10)):,}"
+    yield f"{accepted(bench, text):,}"
+    yield f"{seconds:.3f}"
+    yield growths(instructions)
+    yield f"{memory[-1]:.1f}"
+    yield growths(memory)
+
+
+def table(heads, rows):
+    print(f"| {' | '.join(heads)} |\n|{'---|' * len(heads)}", flush=True)
+    for row in rows:
+        print(f"| {' | '.join(row)} |", flush=True)
+    print()
+
+
+def session_rows(bench, only):
+    """The rows of sessions, by a program that `cc` makes."""
+    program = bench.path("session_lines")
+    flags = [f"-I{LIBRARY}/include", f"-L{LIBRARY}/lib", "-l:libkeyset.a"]
+    source = TOP / "bench" / "session_lines.c"
+    subprocess.run(["cc", "-O2", "-o", program, source, *flags], check=True)
+    for call in ("call", "accept"):
+        for name, make in SESSIONS.items():
+            for count in LINES if only in name else ():
+                text = make(count)
+                told = subprocess.run([program, call], input=text.encode(), capture_output=True,
+                                      check=True).stdout.split()
+                times = [f"{float(each) / 1000:.1f}" for each in told[1:]]
+                lines = f"{text.count(chr(10)) - 1:,}"
+                yield [f"`keyset_{call}`: {name}", lines, f"{int(told[0]):,}", *times]
+
+
+def main():
+    parser = argparse.ArgumentParser()
+    parser.add_argument("--only", default="", help="the rows whose names have this word")
+    only = parser.parse_args().only
+    with Bench() as bench:
+        for program in (NOTES, STATUS):
+            print(f"`{program}`:\n")
+            chosen = [row for row in ROWS if row.program == program and only in row.name]
+            table(["Script", "Lines", "Accepted", "Seconds", "Growth", "MB", "Growth"],
+                  (list(cells(bench, row)) for row in chosen))
+        table(["Lines of a session", "Lines", "Accepted", "First", "Last", "Slowest"],
+              session_rows(bench, only))
+
+
+if __name__ == "__main__":
+    main()
