@@ -87,6 +87,9 @@ ROWS = (
         0, "signed: written", NEW, "[ $(stat -c %a signed) = 664 ]"),
     Row("a reload without end", "true", "--reload 'sleep 100' --reload-within 0.2",
         69, "isn't loaded: it has not ended within 0 s: sleep 100", NEW),
+    Row("a reload whose child goes on", "true",
+        "--reload 'sleep 100 & echo $! >pid; wait' --reload-within 0.2", 69, "isn't loaded", NEW,
+        "sleep 0.2; ! grep -q '(sleep) S' /proc/$(cat pid)/stat"),
     Row("a reload that fails", "true", "--reload 'exit 3'", 69, "isn't loaded: status 3", NEW),
     Row("shell text in names", "cp zone 'z; touch P'; for key in K*13+10133.*; do mv $key"
         " ${key%.*}; mv ${key%.*} $key; done", "--zone-file 'z; touch P'",

@@ -125,11 +125,15 @@ ROWS += (
         ("the signature of SOA by 10133 has expired at 274",), 3),
     Row("the zone by both", "beside", changed(SOA={"by": (OLD, NEW)}),
         ("signed by 10133,46350, not 10133",)),
+    Row("wrong digest", "above", changed(DS={"records": (WRONG_DS,)}),
+        ("DS 64103 13 2 isn't that of Kexample.com.+013+64103.key: another digest",), 3),
     Row("all is empty", "state", honest({}), (
         "DNSKEY none, not 10133,46350,64103", "no signature by 64103",
         "signed by none, not 46350", "no SOA record", "NS signed by none, not 46350",
         "no NS record"), 3),
 )
+# Steps in which a set is wrong that nothing waits for: of the zone, or of its parent.
+BESIDE = ("beside", "above")
 REPORT = {"dnskey": "report1 zsk-roll", "zone": "report2 zsk-roll", "ds": "report2 algorithm-roll"}
 
 
@@ -147,9 +151,9 @@ def of_rows(servers, port: int):
     for row in ROWS:
         for server in servers.values():
             server.answer = honest()
-        liar = PARENT if row.step == "ds" else SECOND
+        liar = PARENT if row.step in ("ds", "above") else SECOND
         servers[liar].answer = row.answer
-        if row.step != "beside":
+        if row.step not in BESIDE:
             yield from of_state(row, liar, asked)
         if row.step != "state":
             yield from of_watch(row, liar, asked)
@@ -157,7 +161,7 @@ def of_rows(servers, port: int):
 
 def of_watch(row: Row, liar: str, asked: list):
     """What `watch` says otherwise than it has to: of the kind that is awaited, or of others."""
-    step, is_beside = ("dnskey", True) if row.step == "beside" else (row.step, False)
+    step, is_beside = ("dnskey", True) if row.step in BESIDE else (row.step, False)
     NOW_RIGHT.update(world(step))
     text, status = typed(["watch", f"{step}.script", *asked, "--json"], NOW)
     told = json.loads(text) if text.startswith("{") else {"lacking": [], "beside": [], "next": []}
@@ -318,6 +322,59 @@ def of_notes_meanwhile(servers, asked):
     Path("dnskey.notes").unlink()
 
 
+def negative(response, is_tcp):
+    """That there is no such set, for 90 seconds; beside it something that lasts longer."""
+    response.authority = [*Set(("SOA ns. h. 1 1 1 1 700",), ttl=90).rrsets(),
+                          *Set(("NSEC a.example.com. NS",), ttl=3600).rrsets()]
+
+
+def two_ttls(response, is_tcp):
+    """One record of the set has a higher TTL; and a signature of another set is there too."""
+    response.answer = [*Set(KEYS[:1], (KSK,), ttl=300).rrsets(), *Set(KEYS[1:], ttl=60).rrsets(),
+                       list(RIGHT["SOA"].rrsets())[1]]
+
+
+def only_the_second():
+    """A server that answers only the second question."""
+    asked = []
+    return lambda query, is_tcp: honest()(query, is_tcp) if asked else asked.append(1) or []
+
+
+def of_answers(servers, port: int):
+    """What is read of answers: TTLs, signatures, and a question that was lost."""
+    from vaqsider import asking
+
+    NOW_RIGHT.update(world("zone"))
+    rows = ((honest({}, negative), "DS", lambda it: (it.ttl, it.records), (90, ())),
+            (honest(extra=two_ttls), "DNSKEY", lambda it: (it.ttl, len(it.signatures)), (300, 1)),
+            (only_the_second(), "SOA", lambda it: it.fault, ""))
+    for answer, kind, part, wanted in rows:
+        servers[FIRST].answer = answer
+        given = part(asking.ask(asking.Server(FIRST, FIRST), port, ZONE, kind))
+        if given != wanted:
+            yield f"liars: of an answer for {kind} is read {given}, not {wanted}"
+
+
+def twice_signed(response, is_tcp):
+    """A second signature of the SOA record, which ends sooner."""
+    if response.question[0].rdtype == dns.rdatatype.SOA:
+        response.answer.append(list(replace(RIGHT["SOA"], end=900).rrsets())[1])
+
+
+def of_ends(servers, port: int):
+    """A look keeps when the first signature expires; of two by one key the later one counts."""
+    asked = ["--server", FIRST, "--server", SECOND, "--parent-server", PARENT, "--port", port]
+    NOW_RIGHT.update(world("state"))
+    for answer, wanted in ((changed(SOA={"end": 900}), 900), (honest(extra=twice_signed), 2592000)):
+        for server in servers.values():
+            server.answer = honest()
+        servers[SECOND].answer = answer
+        said, status = typed(["watch", "zone.script", "--state", *asked], NOW)
+        kept = json.loads(Path("zone.look").read_text())["until"]
+        if (status, kept) != (0, wanted):
+            yield f"liars: signatures end at {kept}, not {wanted}: {status}: {said}"
+
+
 def free_port() -> int:
     """A port that is free on all these addresses, as far as one can know."""
     with socket.socket() as one:
@@ -332,5 +389,5 @@ def faults():
         port = free_port()
         servers = {address: stack.enter_context(Server(address, port))
                    for address in (FIRST, SECOND, PARENT, RESOLVER)}
-        found = [*of_rows(servers, port), *of_meanwhile(servers, port)]
-        return [*found, *of_found(servers, port)]
+        checks = of_rows, of_answers, of_ends, of_meanwhile, of_found
+        return [fault for check in checks for fault in check(servers, port)]

@@ -89,7 +89,7 @@ def before_step(args, lines: list[str], told: dict, clock) -> None:
     """Before a change of the DS set is published for the first time: notes the TTL of the set that
     is there. After that caches may keep it for so long, and nobody could see it any more."""
     notes = Notes(args.SCRIPT)
-    if not notes.lines or not status.is_asked(told, ASKED):
+    if not notes.lines:
         return
     if Noted.of(notes).last(math.inf).call >= _step(lines):
         return

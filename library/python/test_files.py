@@ -209,6 +209,8 @@ class Files(Kept):
             notes.publish(3, {"dnskey": 70}, 9.9)
         with self.assertRaises(WrongArgument):
             notes.everywhere({"dnskey": 60}, 8.5)
+        notes.everywhere({"zone": 60}, 20)
+        self.assertEqual(Notes(self.path).lines[2:], [])
         notes.publish(3, {"zone": 60}, 9)
         Notes(self.path).append("published dnskey 3 60 10")
         self.assertEqual(len(Notes(self.path).lines), 4)
