@@ -62,7 +62,9 @@ enum {
     KEYSET_NO_SUCH_CALL = 7,  /* a line of notes has the sets of a call that wasn't made yet */
     KEYSET_SEEN_EARLY = 8,    /* a line of notes: seen everywhere before it was published */
     KEYSET_MOMENT_FALLS = 9,  /* a line of notes: its moment lies before the last one */
-    KEYSET_REFUSED = 10       /* the key set refuses the call */
+    KEYSET_REFUSED = 10,      /* the key set refuses the call */
+    KEYSET_PUBLISHED_EARLY = 11 /* a line of notes: published before a moment of its call, or of one
+                                   before that */
 };
 
 struct keyset_answered {

@@ -269,7 +269,8 @@ static void expect_texts(void)
     static const char *const texts[] = {
         "answered", "malformed", "no such status", "out of memory", "short of room",
         "the session is closed", "the session is open", "no such call yet",
-        "seen before it was published", "moment before the last one", "refused", "no such status",
+        "seen before it was published", "moment before the last one", "refused",
+        "published before its call", "no such status",
     };
     for (uint32_t status = 0; status < sizeof texts / sizeof *texts; status++) {
         uint8_t *out = filled(KEYSET_TEXT_ROOM);

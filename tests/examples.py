@@ -42,13 +42,13 @@ GIVEN = {
     "recorder": "recorder: &mut Recorder",
     "judge": "mut judge: Judge",
     "steps": "mut steps: Steps",
+    "moments": "moments: Moments",
     "at": "mut at: usize",
 }
 # The same name for something else, by the file.
 GIVEN_IN = {
     ("dnssec_base/src/name.rt", "rt"): "rt: &impl Abort",
     ("dnssec_notes/src/answer.rt", "notes"): "notes: &str",
-    ("dnssec_notes/src/reading.rt", "calls"): "calls: usize",
 }
 # What an example calls that is the caller's own.
 OWN = {

@@ -30,6 +30,7 @@ static const struct {
     {"everywhere ds 50000\n", KEYSET_MALFORMED},
     {"published ds 5 4294967296 50000", KEYSET_MALFORMED},
     {"published ds 11 86400 50000", KEYSET_NO_SUCH_CALL},
+    {"published dnskey 10 7200 46999", KEYSET_PUBLISHED_EARLY},
     {"everywhere ds 43269", KEYSET_SEEN_EARLY},
     {"everywhere ds 43299", KEYSET_MOMENT_FALLS},
     {"published ds 5 86400 43269", KEYSET_MOMENT_FALLS},

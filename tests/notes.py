@@ -4,7 +4,9 @@
 The program `keyset_notes` is asked for each report. Its answer has to be what the rule of
 docs/NOTES.md says, for which `tests/game/notes.py` has code of its own. It may be no more than rule
 1 of docs/OPERATORS.md, as it is played, except for the difference of clocks. Half of the operators
-report what their notes say, and no zone breaks by it. With one second less zones break."""
+report what their notes say, and no zone breaks by it. With one second less zones break. At
+some reports each digit of the notes is lost in turn, and at all of them a moment before the
+report's step is asked about (`tests/mistyped.py`)."""
 
 import random
 import resource
@@ -13,6 +15,7 @@ import sys
 import time
 from itertools import permutations
 
+import mistyped
 import runbooks
 
 from game.book import left_out, runbooks as book
@@ -39,6 +42,11 @@ ANSWERS = {
     "before 1 1 1\neverywhere ds 9\nbefore 1 1 1": "notes: line 3: malformed",
     "before 1 1 1\npublished ds 4 5 9": "notes: line 2: no such call yet",
     "before 1 1 1\npublished ds 0 5 9": "notes: line 2: no such call yet",
+    "before 1 1 1\npublished ds 3 5 6": "notes: line 2: published before its call",
+    "before 1 1 1\npublished ds 3 5 7\npublished ds 3 5 6":
+        "notes: line 3: published before its call",
+    # A call without a moment has that of the last one that has one.
+    "before 1 1 1\npublished ds 2 5 0\npublished ds 3 5 7": NOT_YET,
     "before 1 1 1\npublished ds 1 5 9\neverywhere ds 8":
         "notes: line 3: seen before it was published",
     "before 1 1 1\npublished ds 1 5 9\npublished ds 1 5 8":
@@ -49,8 +57,11 @@ ANSWERS = {
     "before 1 1 1\neverywhere ds 9\neverywhere zone 8\npublished ds 3 5 8\npublished ds 1 5 8":
         NOT_YET,
 }
+UNTIL = "not yet: report1 algorithm-roll waits until {}"
 # What is answered to whole inputs that aren't a script, an empty line, notes and a question.
 NOTED = f"{SCRIPT}\n\nbefore 1 1 1"
+SEEN = "\n".join(f"published {kind} 3 5 7\neverywhere {kind} 8" for kind in ("dnskey", "zone"))
+LATE = SCRIPT.removesuffix("7") + "18446744073709551615"
 INPUTS = {
     "": "script: line 1: malformed",
     "zone\n\nbefore 1 1 1\ndue 9": "script: line 1: malformed",
@@ -82,7 +93,27 @@ INPUTS = {
     "\neverywhere ds 9\neverywhere dnskey 9\neverywhere zone 9\ndue 9":
         f"{NOT_YET}\n\nreport1 algorithm-roll 2 9",
     f"{NOTED}\ndue 18446744073709551615": NOT_YET,
+    # No report is before its step, whatever the notes say.
+    f"{NOTED}\ndue 7": NOT_YET,
+    f"{NOTED}\ndue 6": UNTIL.format(7),
+    f"{SCRIPT}\n\nbefore 1 1 1\n{SEEN}\ndue 0": UNTIL.format(7),
+    f"{SCRIPT}\n\nbefore 1 1 1\n{SEEN}\ndue 8": "report1 algorithm-roll 2 8",
+    # The greatest moment counts: that of a later call, also of a refused one, and not that of a
+    # stamp; up to the last second of all.
+    f"{SCRIPT}\nset-present K1 yes 9\n\nbefore 1 1 1\npublished ds 4 5 8\ndue 9":
+        "notes: line 2: published before its call",
+    f"{SCRIPT}\nset-visible K1 9\n\nbefore 1 1 1\npublished ds 4 5 8\ndue 9": NOT_YET,
+    f"{SCRIPT}\nwait1 ksk-roll 9\n\nbefore 1 1 1\npublished ds 4 5 8\ndue 9":
+        "notes: line 2: published before its call",
+    f"{SCRIPT}\nset-present K1 yes 5\n\nbefore 1 1 1\npublished ds 4 5 6\ndue 9":
+        "notes: line 2: published before its call",
+    f"{LATE}\n\nbefore 1 1 1\npublished ds 3 5 18446744073709551614\ndue 9":
+        "notes: line 2: published before its call",
+    f"{LATE}\n\nbefore 1 1 1\npublished ds 3 5 18446744073709551615\ndue 9":
+        UNTIL.format(18446744073709551615),
 }
+# At how many reports each digit of the notes is lost.
+MISTYPED = 3
 
 # A thousand calls beside a reference of 1 MB, and the memory in which they are answered: less than
 # the sets after each call take.
@@ -187,6 +218,40 @@ def compare(question, lines, wrong):
         wrong.append(f"notes: {told[0]}, and rule 1 says {most}")
 
 
+def mistype(questions, wrong):
+    """At some reports each digit of the notes is lost in turn. Gives how often, and how often a
+    version was then published before its call."""
+    tried = early = 0
+    for question in random.Random(0).sample(questions, MISTYPED):
+        for notes, refused in mistyped.mistakes(question.script, question.notes):
+            done = asked(f"{question.script}\n\n{notes}\ndue {question.moment}\n")
+            if (done.returncode, done.stderr.rstrip()) != (int(refused is not None), refused or ""):
+                wrong.append(f"notes: {refused} is to be said of {notes!r}, and {done.stderr} was")
+            tried += 1
+            early += str(refused).endswith("its call")
+    return tried, early
+
+
+def ask_early(questions, wrong):
+    """At each report a second before its step is asked about, and the step's."""
+    times = [mistyped.step_time(each.script, each.call, each.roll) for each in questions]
+    asks = zip(questions, times)
+    text = "\n\n".join(
+        f"{each.script}\n\n{each.notes}\ndue {time - 1}\ndue {time}" for each, time in asks
+    )
+    told = asked(text).stdout.split("\n\n")
+    if len(told) != 2 * len(questions):
+        wrong.append(f"notes: {2 * len(questions)} early questions have {len(told)} answers")
+    for question, time, *answers in zip(questions, times, told[::2], told[1::2]):
+        before, then = (
+            [line for line in told.splitlines() if question.roll in line.split()]
+            for told in answers
+        )
+        wanted = f"not yet: {question.call} {question.roll} waits until {time}"
+        if before != [wanted] or len(then) != 1 or "waits until" in then[0]:
+            wrong.append(f"notes: {before} and {then} are answered around {wanted!r}")
+
+
 def main():
     began, wrong = time.monotonic(), []
     orders = some_orders()
@@ -198,6 +263,8 @@ def main():
     if done.returncode:
         wrong.append(f"notes: status {done.returncode}: {done.stderr}")
     compare_all(questions, done.stdout, wrong)
+    ask_early(questions, wrong)
+    tried, early = mistype(questions, wrong)
     if wrong:
         print(*wrong[:20], sep="\n")
         return 1
@@ -208,7 +275,8 @@ def main():
         f" those of the rule, and {sharp} of them no more than rule 1; {back} times a parent went"
         f" back, over no step; with one second less 3 of {zones} zones break; {len(ANSWERS)} notes"
         f" and {len(INPUTS)} inputs with and without faults; {CALLS} calls beside a reference of"
-        f" {len(LONG):,} bytes in {ROOM >> 20} MB;"
+        f" {len(LONG):,} bytes in {ROOM >> 20} MB; {tried} notes lack a digit, {early} publish"
+        " before a call; no report before its step;"
         f" {time.monotonic() - began:.0f} s"
     )
     return 0

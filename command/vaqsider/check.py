@@ -8,10 +8,11 @@ import re
 from dataclasses import dataclass
 
 from keyset import Lines, Notes
+from keyset.lines import OF_CLOCK
 
 from . import looks, status, words
 from .errors import BROKEN, DUE, OK, WARNING, failure_of
-from .history import OF_CLOCK, SAFE, History
+from .history import SAFE, History
 
 KSK_ROLLS = ("ksk-roll", "ksk-double-ds-roll", "csk-roll")
 # After this time a look is of the past: with it nobody says that all is well.

@@ -3,14 +3,12 @@
 from functools import cached_property
 
 import keyset
-from keyset.lines import Line
+from keyset.lines import OF_CLOCK, Line
 
 from . import words
 
 REPORTED_FROM = {"report1": "start", "report2": "wait1"}
 REFUSED, SAFE = "refused: ", "chain safe"
-# The lines with the moment of the call. In others it is a stamp of a key.
-OF_CLOCK = ("start", "report1", "wait1", "report2", "wait2", "set-present")
 
 
 class Call:

@@ -216,6 +216,14 @@ class Files(Kept):
         self.assertEqual(len(Notes(self.path).lines), 4)
         Notes(self.path).check(["zone example.com", *COURSE[:3]])
 
+    def test_notes_take_no_moment_before_that_of_a_call(self):
+        self.begin(COURSE[:5]).note("before 60 60 60")
+        for call, moment in ((4, 100), (5, 3700)):
+            with self.assertRaises(WrongArgument):
+                Notes(self.path).publish(call, {"ds": 60}, moment - 0.5)
+            Notes(self.path).publish(call, {"ds": 60}, moment)
+        Notes(self.path).check(["zone example.com", *COURSE[:5]])
+
     def test_notes_have_no_place_beside_a_script_of_another_name(self):
         self.path = self.path.with_name("example.com")
         keys = self.begin(COURSE[:3])

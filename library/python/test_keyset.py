@@ -185,6 +185,11 @@ class Calls(unittest.TestCase):
             self.assertEqual(keys.due(40), [due or Due("report1", ROLL, 7191)])
         keys.call("report1 algorithm-roll 7190 40")
         self.assertEqual(keys.due(40), [])
+        with self.assertRaises(Malformed) as early:
+            keys.note("published ds 4 3600 39")
+        self.assertEqual(early.exception.reason, "published before its call")
+        keys.call("wait1 algorithm-roll 7230")
+        self.assertEqual(keys.due(7229), [Due("report2", ROLL, None, waits_until=7230)])
 
     def test_a_closed_key_set_is_told_as_such(self):
         keys = after(FIRST[:4])

@@ -4,7 +4,7 @@ The rule for it is that of the page, written again here."""
 from itertools import combinations
 from typing import NamedTuple, Optional
 
-from judge import SPEAKS_OF
+from judge import SPEAKS_OF, time
 
 from game.zone import SECOND
 
@@ -91,7 +91,9 @@ class Notes:
         ttl, sets = self.ttl(kind, number), self.sets(kind, number)
         self.versions[kind].append(Version(at, ttl, sets))
         self.waits[kind] = number
-        self.lines.append(f"published {kind} {at} {ttl} {self.down()}")
+        # (The call may have been given a later moment, by the clock of another machine.)
+        moment = max(self.down(), time(self.operator.keyset.record, at))
+        self.lines.append(f"published {kind} {at} {ttl} {moment}")
 
     def seen(self, kind):
         self.waits[kind], moment = None, self.up()

@@ -1,13 +1,20 @@
 //! A caller of `dnssec_network`.
 use anyhow::{Result, bail};
 use dnssec_keyset::{RollType, UnixTime};
-use dnssec_network::{Before, News, Notes, SetKind};
+use dnssec_network::{Before, Moments, News, Notes, SetKind};
 use std::alloc::Global;
 use std::time::Duration;
 
 /// Notes what is seen of a zone's DNSKEY sets while call 12 starts a KSK roll, and answers the TTL
 /// of its first report.
 pub fn first_report(alloc: Global) -> Result<String> {
+    // Of the twelve calls only the last was given a moment. A session keeps them: see its
+    // `moments`.
+    let mut moments = Moments::new(alloc);
+    for _ in 1..12 {
+        moments.take(None)?;
+    }
+    moments.take(Some(at(90)))?;
     let mut notes = Notes::new(
         alloc,
         Before {
@@ -22,10 +29,10 @@ pub fn first_report(alloc: Global) -> Result<String> {
         ttl: 7_200,
         moment: at(100),
     };
-    notes.note(12, SetKind::Dnskey, published)?;
+    notes.note(&moments, SetKind::Dnskey, published)?;
     // Once all servers were seen to give it.
     let everywhere = News::Everywhere { moment: at(130) };
-    notes.note(12, SetKind::Dnskey, everywhere)?;
+    notes.note(&moments, SetKind::Dnskey, everywhere)?;
     match notes.ttl_due(RollType::KskRoll, false, 12, at(150)) {
         Ok(ttl) => Ok(format!(in alloc; "report at 150 with a TTL of {ttl}")?),
         Err(kind) => bail!("{kind:?} isn't on all servers yet"),

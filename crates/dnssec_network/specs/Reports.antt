@@ -1,10 +1,11 @@
 -- The TTL with which a report is due, by what is noted; and that the report is then true.
 use Rattle.std.specs.Prelude.{◌≡◌, ℕ, ◌≤◌, Bool, max, List, Option, None, Some, Result, Ok, Err}
-use Rattle.std.specs.Prelude.{if◌then◌else◌, false, true, option_and_then}
+use Rattle.std.specs.Prelude.{if◌then◌else◌, false, true, nat_lt, option_and_then, unwrap_or}
 use Rattle.std.specs.Option.{option_map}
 use Rattle.dnssec_key.specs.declared.roll.RollState.{RollState}
 use Rattle.dnssec_key.specs.declared.roll.RollState.TheVariants.{Propagation1, Propagation2}
 use Rattle.dnssec_key.specs.declared.roll.RollType.{RollType}
+use Rattle.dnssec_run.specs.Moments.{moment_of_call}
 use Rattle.dnssec_run.specs.declared.call.Call.{Call}
 use Rattle.dnssec_run.specs.declared.record.Entry.{Entry}
 use Rattle.dnssec_run.specs.Plain.{IsPlain}
@@ -13,6 +14,8 @@ use Rattle.dnssec_run.specs.declared.caches.SetKind.{SetKind as Kind}
 use Rattle.dnssec_run.specs.declared.caches.SetKind.TheVariants.{Ds, Dnskey, ZoneSigners}
 use Rattle.dnssec_run.specs.Safe.{SetKind, kind_of, retires}
 use Rattle.dnssec_network.specs.declared.due.DueReport.{DueReport}
+use Rattle.dnssec_network.specs.declared.due.NotYet.{NotYet}
+use Rattle.dnssec_network.specs.declared.due.NotYet.TheVariants.{WaitsFor, WaitsUntil}
 use Rattle.dnssec_network.specs.declared.fact.Before.{Before}
 use Rattle.dnssec_network.specs.declared.fact.Fact.{Fact}
 use Rattle.dnssec_network.specs.Facts.{AreTrue, news_of, ttl_before}
@@ -56,14 +59,24 @@ waited_for (Some Propagation1) = Some false
 waited_for (Some Propagation2) = Some true
 waited_for _ = None
 
--- the report that a roll waits for in its phase, with its last step
-abbrev pub due_report : Before → List Fact → Option RollState → Option ℕ → RollType → ℕ
+-- a TTL, or the kind that its report waits for
+abbrev pub ttl_or_kind : Result ℕ Kind → Result ℕ NotYet
+ttl_or_kind (Ok ttl) = Ok ttl
+ttl_or_kind (Err kind) = Err (WaitsFor kind)
+
+-- the same of a report that is never made before the time at its step
+abbrev pub due_from : ℕ → ℕ → Result ℕ Kind → Result ℕ NotYet
+due_from begun now ttl = if nat_lt now begun then Err (WaitsUntil begun) else ttl_or_kind ttl
+
+-- the report that a roll waits for in its phase, with its last step, given the times at the calls
+abbrev pub due_report : Before → List Fact → List ℕ → Option RollState → Option ℕ → RollType → ℕ
     → Option DueReport
-due_report before facts phase step roll now =
+due_report before facts moments phase step roll now =
     option_and_then (λ second. option_map (λ base. record {
       roll = roll;
       second = second;
-      ttl = due before facts roll second base now;
+      ttl = due_from (unwrap_or (moment_of_call moments base) 0) now
+          (due before facts roll second base now);
     }) step) (waited_for phase)
 
 -- ---- reports by notes

@@ -2,12 +2,14 @@
 use Rattle.std.specs.Prelude.{ℕ, List, codes}
 use Rattle.dnssec_network.specs.declared.fact.NoteFault.{NoteFault}
 use Rattle.dnssec_network.specs.declared.fact.NoteFault.TheVariants.{CallNotMade}
+use Rattle.dnssec_network.specs.declared.fact.NoteFault.TheVariants.{PublishedBeforeCall}
 use Rattle.dnssec_network.specs.declared.fact.NoteFault.TheVariants.{SeenBeforePublished}
 use Rattle.dnssec_network.specs.declared.fact.NoteFault.TheVariants.{MomentFalls, OutOfMemory}
 
 -- the text of each cause
 abbrev pub fault_text : NoteFault → List ℕ
 fault_text CallNotMade = codes "no such call yet"
+fault_text PublishedBeforeCall = codes "published before its call"
 fault_text SeenBeforePublished = codes "seen before it was published"
 fault_text MomentFalls = codes "moment before the last one"
 fault_text OutOfMemory = codes "out of memory"

@@ -1,12 +1,13 @@
 //! Reports that are due: what a roll waits for, and with which TTL.
-ghost use Rattle.std.specs.Prelude.{◌≡◌};
+ghost use Rattle.std.specs.Prelude.{◌≡◌, unwrap_or};
+ghost use Rattle.dnssec_run.specs.Moments.{moment_of_call};
 ghost use Rattle.dnssec_run.specs.Steps.{step_of};
-ghost use Rattle.dnssec_network.specs.Reports.{due_report, waited_for};
+ghost use Rattle.dnssec_network.specs.Reports.{due, due_from, due_report, ttl_or_kind, waited_for};
 ghost use Rattle.dnssec_zone.specs.Rolls.{phase_of};
 
 use crate::notes::Notes;
 use dnssec_keyset::{KeySet, RollState, RollType, UnixTime};
-use dnssec_run::{SetKind, Steps};
+use dnssec_run::{Moments, SetKind, Steps};
 
 /// A report that a roll waits for.
 #[derive(Clone, Copy, Debug)]
@@ -14,19 +15,29 @@ pub struct DueReport {
     pub roll: RollType,
     /// Whether it is the second report of the roll.
     pub second: bool,
-    /// The TTL, in seconds, with which it is due. If it isn't due yet, the first kind that it
-    /// speaks of whose older sets servers may still give.
-    pub ttl: Result<u32, SetKind>,
+    /// The TTL, in seconds, with which it is due; or why it isn't due yet.
+    pub ttl: Result<u32, NotYet>,
+}
+
+/// What a report waits for that isn't due yet.
+#[derive(Clone, Copy, Debug)]
+pub enum NotYet {
+    /// Servers may still give older sets of this kind: the first of those that it speaks of.
+    WaitsFor(SetKind),
+    /// Its step, or a call before that, was made at this moment. No earlier report is true.
+    WaitsUntil(UnixTime),
 }
 
 impl Notes {
     /// The report that a roll waits for, as it would be made at `now`; none if it waits for none.
-    /// `steps` are the last steps of the record of this key set.
+    /// `steps` are the last steps of the record of this key set, and `moments` those of its calls.
     ///
     /// ```rust
     /// let steps = Steps::of_record(&run.entries);
-    /// if let Some(report) = notes.due_report(&run.keyset, steps, RollType::KskRoll, now) {
-    ///     // The TTL, or the kind of sets to watch.
+    /// let moments = Moments::of_record(alloc, &run.entries)?;
+    /// let roll = RollType::KskRoll;
+    /// if let Some(report) = notes.due_report(&run.keyset, steps, &moments, roll, now) {
+    ///     // The TTL, or what to wait for.
     ///     let ttl = report.ttl;
     /// }
     /// ```
@@ -34,10 +45,11 @@ impl Notes {
         &self,
         keyset: &KeySet,
         steps: Steps,
+        moments: &Moments,
         roll: RollType,
         now: UnixTime,
     ) -> Option<DueReport>
-        ensures { result ≡ due_report self.now.before self.now.facts
+        ensures { result ≡ due_report self.now.before self.now.facts moments.now
             (phase_of keyset.now.rolls roll) (step_of steps roll) roll now }
     {
         let second = waited_for(keyset, roll)?;
@@ -45,8 +57,36 @@ impl Notes {
         Some(DueReport {
             roll,
             second,
-            ttl: self.ttl_due(roll, second, base, now),
+            ttl: self.due_from(moments, roll, second, base, now),
         })
+    }
+
+    /// The TTL of a report that is never made before the greatest moment of the calls up to its
+    /// step.
+    fn due_from(
+        &self,
+        moments: &Moments,
+        roll: RollType,
+        second: bool,
+        base: usize,
+        now: UnixTime,
+    ) -> Result<u32, NotYet>
+        ensures { result ≡ due_from (unwrap_or (moment_of_call moments.now base) 0) now
+            (due self.now.before self.now.facts roll second base now) }
+    {
+        match moments.of_call(base) {
+            Some(begun) if now < begun => Err(NotYet::WaitsUntil(begun)),
+            _ => ttl_or_kind(self.ttl_due(roll, second, base, now)),
+        }
+    }
+}
+
+fn ttl_or_kind(ttl: Result<u32, SetKind>) -> Result<u32, NotYet>
+    ensures { result ≡ ttl_or_kind ttl }
+{
+    match ttl {
+        Ok(ttl) => Ok(ttl),
+        Err(kind) => Err(NotYet::WaitsFor(kind)),
     }
 }
 

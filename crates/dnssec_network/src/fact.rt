@@ -48,6 +48,9 @@ pub struct Before {
 pub enum NoteFault {
     /// A version has the sets of a call that wasn't made yet, or of none: calls count from 1.
     CallNotMade,
+    /// A version is said to be published before a moment of its call, or of one before that. A
+    /// digit was lost, or there are two clocks.
+    PublishedBeforeCall,
     /// All servers are said to have given a version before it was published.
     SeenBeforePublished,
     /// The moment lies before the last one: that of a publication before the last publication of
@@ -90,6 +93,7 @@ impl fmt::Display for NoteFault {
     fn fmt<W: fmt::Write>(&self, f: &mut fmt::Formatter<W>) -> fmt::Result {
         f.write_str(match self {
             NoteFault::CallNotMade => "no such call yet",
+            NoteFault::PublishedBeforeCall => "published before its call",
             NoteFault::SeenBeforePublished => "seen before it was published",
             NoteFault::MomentFalls => "moment before the last one",
             NoteFault::OutOfMemory => "out of memory",

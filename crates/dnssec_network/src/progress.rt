@@ -1,12 +1,13 @@
 //! How far notes have come: the newest version of each kind.
 ghost use Rattle.std.specs.Prelude.{◌≡◌};
-ghost use Rattle.dnssec_network.specs.Notes.{fall, first_newest, first_progress, is_call};
-ghost use Rattle.dnssec_network.specs.Notes.{newest_after};
+ghost use Rattle.dnssec_run.specs.Moments.{moment_of_call};
+ghost use Rattle.dnssec_network.specs.Notes.{fall, first_newest, first_progress, newest_after};
 ghost use Rattle.dnssec_network.specs.Notes.{newest_of, news_refusal, progress_after};
+ghost use Rattle.dnssec_network.specs.Notes.{version_refusal};
 
 use crate::fact::{News, NoteFault};
 use dnssec_keyset::UnixTime;
-use dnssec_run::SetKind;
+use dnssec_run::{Moments, SetKind};
 use std::time::Duration;
 
 /// The newest version of a kind.
@@ -59,22 +60,16 @@ impl Newest {
         }
     }
 
-    /// Why news of this kind are refused, if they are, given the number of calls made.
-    fn refusal(self, calls: usize, news: News) -> Option<NoteFault>
-        ensures { result ≡ news_refusal calls self news }
+    /// Why news of this kind are refused, if they are, after calls with these moments.
+    fn refusal(self, moments: &Moments, news: News) -> Option<NoteFault>
+        ensures { result ≡ news_refusal moments.now self news }
     {
         match news {
             News::Published {
                 position,
                 moment,
                 ..
-            } => {
-                if is_call(calls, position) {
-                    fall(self.published, moment)
-                } else {
-                    Some(NoteFault::CallNotMade)
-                }
-            }
+            } => self.version_refusal(moments.of_call(position), moment),
             News::Everywhere { moment } => {
                 if moment < self.published {
                     Some(NoteFault::SeenBeforePublished)
@@ -84,13 +79,23 @@ impl Newest {
             }
         }
     }
-}
 
-/// Whether a call at this position was made. Calls count from 1.
-fn is_call(calls: usize, position: usize) -> bool
-    ensures { result ≡ is_call calls position }
-{
-    0 < position && position <= calls
+    /// Why a version is refused that is published at the moment. `made` is the greatest moment of
+    /// the calls up to its own, if that was made.
+    fn version_refusal(self, made: Option<UnixTime>, moment: UnixTime) -> Option<NoteFault>
+        ensures { result ≡ version_refusal made self moment }
+    {
+        match made {
+            None => Some(NoteFault::CallNotMade),
+            Some(made) => {
+                if moment < made {
+                    Some(NoteFault::PublishedBeforeCall)
+                } else {
+                    fall(self.published, moment)
+                }
+            }
+        }
+    }
 }
 
 /// A moment must not lie before the last one.
@@ -149,10 +154,10 @@ impl Progress {
         }
     }
 
-    /// Why a fact is refused, if it is, given the number of calls made.
-    pub(crate) fn refusal(&self, calls: usize, kind: SetKind, news: &News) -> Option<NoteFault>
-        ensures { result ≡ news_refusal calls (newest_of self.now kind) news.now }
+    /// Why a fact is refused, if it is, after calls with these moments.
+    pub(crate) fn refusal(&self, moments: &Moments, kind: SetKind, news: &News) -> Option<NoteFault>
+        ensures { result ≡ news_refusal moments.now (newest_of self.now kind) news.now }
     {
-        self.newest(kind).refusal(calls, *news)
+        self.newest(kind).refusal(moments, *news)
     }
 }

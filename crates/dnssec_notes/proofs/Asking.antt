@@ -71,10 +71,10 @@ module _ (script : List (List ℕ)) (entries : List Entry) (lines : List (List �
       }
 
 -- memory may run out for an answer
-pub memory_ended : (calls : ℕ) (noted : Option NotesParts) (asked : Option (List Value))
-    (line : List ℕ) → true ≡ is_some asked → IsAnswerFault calls noted asked line OutOfMemory
-memory_ended calls noted (Some said) line asks = tt
-memory_ended calls noted None line asks = absurd (true≢false asks)
+pub memory_ended : (moments : List ℕ) (noted : Option NotesParts) (asked : Option (List Value))
+    (line : List ℕ) → true ≡ is_some asked → IsAnswerFault moments noted asked line OutOfMemory
+memory_ended moments noted (Some said) line asks = tt
+memory_ended moments noted None line asks = absurd (true≢false asks)
 
 -- the same of all answers
 pub zip_weaker : {A B : Type 0} (R S : A → B → Type 0) (xs : List A) (ys : List B)

@@ -13,55 +13,55 @@ use Rattle.dnssec_notes.specs.declared.fault.NotesFault.{NotesFault, TheVariants
 use Rattle.dnssec_notes.specs.declared.fault.NotesFault.TheVariants.{OutOfMemory, Refused}
 
 -- one fact more is taken
-taken-more : (calls : ℕ) (old facts : List Fact) (fact : Fact) → AreTaken calls old facts
-    → refusal calls (old ++ facts) fact ≡ None → AreTaken calls old (facts ++ fact ∷ [])
-taken-more calls old [] fact taken here = (rw (append-nil old) at here, tt)
-taken-more calls old (f ∷ facts) fact taken here = (
+taken-more : (moments : List ℕ) (old facts : List Fact) (fact : Fact) → AreTaken moments old facts
+    → refusal moments (old ++ facts) fact ≡ None → AreTaken moments old (facts ++ fact ∷ [])
+taken-more moments old [] fact taken here = (rw (append-nil old) at here, tt)
+taken-more moments old (f ∷ facts) fact taken here = (
   taken.0,
-  taken-more calls (old ++ f ∷ []) facts fact taken.1 (rw (append_assoc old (f ∷ []) facts) here),
+  taken-more moments (old ++ f ∷ []) facts fact taken.1 (rw (append_assoc old (f ∷ []) facts) here),
 )
 
 -- one line more
-pub facts-more : (calls : ℕ) (lines : List (List ℕ)) (line : List ℕ) (old new : NotesParts)
-    → HasLine calls old line new → AreFacts calls lines old.facts
-    → AreFacts calls (lines ++ line ∷ []) new.facts
-facts-more calls lines line old new has are = rw has.notes (record {
+pub facts-more : (moments : List ℕ) (lines : List (List ℕ)) (line : List ℕ) (old new : NotesParts)
+    → HasLine moments old line new → AreFacts moments lines old.facts
+    → AreFacts moments (lines ++ line ∷ []) new.facts
+facts-more moments lines line old new has are = rw has.notes (record {
   said = simp (map-append, has.said, are.said);
-  taken = taken-more calls [] old.facts has.fact are.taken has.taken;
+  taken = taken-more moments [] old.facts has.fact are.taken has.taken;
 })
 
 -- ---- all lines
 
 -- the first line, and the others
-pub notes-all : (calls : ℕ) (lines rest : List (List ℕ)) (first : List ℕ) (before : Before)
+pub notes-all : (moments : List ℕ) (lines rest : List (List ℕ)) (first : List ℕ) (before : Before)
     (r : Result NotesParts NotesFault)
     → lines ≡ first ∷ rest → as_before first ≡ Some (before_says before)
     → IfOk r (λ (n : NotesParts). n.before ≡ before)
-    → IfOk r (λ (n : NotesParts). AreFacts calls rest n.facts)
-    → IfOk r (λ (n : NotesParts). AreNotes calls lines n.before n.facts)
-notes-all calls lines rest first before (Ok n) split said same are = rw (split, same) (said, are)
-notes-all calls lines rest first before (Err e) split said same are = tt
+    → IfOk r (λ (n : NotesParts). AreFacts moments rest n.facts)
+    → IfOk r (λ (n : NotesParts). AreNotes moments lines n.before n.facts)
+notes-all moments lines rest first before (Ok n) split said same are = rw (split, same) (said, are)
+notes-all moments lines rest first before (Err e) split said same are = tt
 
 -- the fault of the lines is that of the text
-pub fault-of : (calls : ℕ) (text : List ℕ) (fault : NotesFault)
-    → IsFaultOf calls (lines_of text) fault → IsNotesFault calls text fault
-fault-of calls text (Malformed n) here = here
-fault-of calls text (Refused n cause) here = here
-fault-of calls text OutOfMemory here = tt
+pub fault-of : (moments : List ℕ) (text : List ℕ) (fault : NotesFault)
+    → IsFaultOf moments (lines_of text) fault → IsNotesFault moments text fault
+fault-of moments text (Malformed n) here = here
+fault-of moments text (Refused n cause) here = here
+fault-of moments text OutOfMemory here = tt
 
 -- ---- beside a session
 
 -- what is taken are the notes
-pub are-notes : (n : ℕ) (lines : List (List ℕ)) (noted : NotesParts)
+pub are-notes : (n : List ℕ) (lines : List (List ℕ)) (noted : NotesParts)
     → HasTaken n lines (Some noted) → AreNotes n lines noted.before noted.facts
 are-notes n [] noted taken = absurd (none-some noted (sym taken))
 are-notes n (first ∷ lines) noted taken = rw (same_Some noted taken.0 taken.1) taken.2
 
-pub taken-line : (calls n : ℕ) (lines : List (List ℕ)) (line : List ℕ) (old new : NotesParts)
-    → calls ≡ n → HasLine calls old line new → HasTaken n lines (Some old)
+pub taken-line : (moments n : List ℕ) (lines : List (List ℕ)) (line : List ℕ) (old new : NotesParts)
+    → moments ≡ n → HasLine moments old line new → HasTaken n lines (Some old)
     → HasTaken n (lines ++ line ∷ []) (Some new)
-taken-line calls n [] line old new same has taken = absurd (none-some old (sym taken))
-taken-line calls n (first ∷ lines) line old new same has taken =
+taken-line moments n [] line old new same has taken = absurd (none-some old (sym taken))
+taken-line moments n (first ∷ lines) line old new same has taken =
     let are = are-notes n (first ∷ lines) old taken in (
       new,
       refl,

@@ -1,16 +1,18 @@
 -- The reports that are due, as lines.
-use Rattle.std.specs.Prelude.{◌≡◌, ℕ, ◌*◌, ◌++◌, suc, Bool, true, false, List, [], length, codes}
-use Rattle.std.specs.Prelude.{decimal, Option, None, Some, Result, Ok, Err}
+use Rattle.std.specs.Prelude.{◌≡◌, ℕ, ◌+◌, ◌*◌, ◌/◌, ◌++◌, suc, Bool, true, false, List, []}
+use Rattle.std.specs.Prelude.{length, codes, decimal, Option, None, Some, Result, Ok, Err}
 use Rattle.std.specs.List.{flat_map}
 use Rattle.dnssec_key.specs.declared.roll.RollType.{RollType}
 use Rattle.dnssec_key.specs.Texts.{roll_name}
 use Rattle.dnssec_zone.specs.Rolls.{Rolls, all_rolls, phase_of}
 use Rattle.dnssec_run.specs.declared.call.Call.{Call}
 use Rattle.dnssec_run.specs.declared.record.Entry.{Entry}
-use Rattle.dnssec_run.specs.declared.caches.SetKind.{SetKind}
+use Rattle.dnssec_run.specs.Moments.{moments_of}
 use Rattle.dnssec_run.specs.Record.{IsRun, world_at}
 use Rattle.dnssec_run.specs.Safe.{base_below}
 use Rattle.dnssec_network.specs.declared.due.DueReport.{DueReport}
+use Rattle.dnssec_network.specs.declared.due.NotYet.{NotYet}
+use Rattle.dnssec_network.specs.declared.due.NotYet.TheVariants.{WaitsFor, WaitsUntil}
 use Rattle.dnssec_network.specs.declared.fact.Before.{Before}
 use Rattle.dnssec_network.specs.declared.fact.Fact.{Fact}
 use Rattle.dnssec_network.specs.Notes.{NotesParts}
@@ -30,13 +32,21 @@ report_word true = codes "report2"
 abbrev pub report_of : Bool → RollType → List ℕ
 report_of second roll = report_word second ++ codes " " ++ roll_name roll
 
--- the line that makes the report at this second, or says which sets it waits for
-abbrev pub ttl_line : Bool → RollType → Result ℕ SetKind → ℕ → List ℕ
+-- the first second that isn't before a moment
+abbrev pub first_second : ℕ → ℕ
+first_second moment = (moment + 999_999_999) / 1_000_000_000
+
+-- what a report waits for: sets of a kind, or a second
+abbrev pub why_text : NotYet → List ℕ
+why_text (WaitsFor kind) = codes " waits for " ++ kind_name kind
+why_text (WaitsUntil moment) = codes " waits until " ++ decimal (first_second moment)
+
+-- the line that makes the report at this second, or says what it waits for
+abbrev pub ttl_line : Bool → RollType → Result ℕ NotYet → ℕ → List ℕ
 ttl_line second roll (Ok ttl) seconds =
     report_of second roll ++ codes " " ++ decimal ttl ++ codes " " ++ decimal seconds ++ codes "\n"
-ttl_line second roll (Err kind) seconds =
-    codes "not yet: " ++ report_of second roll ++ codes " waits for " ++ kind_name kind
-    ++ codes "\n"
+ttl_line second roll (Err why) seconds =
+    codes "not yet: " ++ report_of second roll ++ why_text why ++ codes "\n"
 
 -- no line for a roll that waits for no report
 abbrev pub due_line : Option DueReport → ℕ → List ℕ
@@ -44,15 +54,16 @@ due_line None seconds = []
 due_line (Some report) seconds = ttl_line report.second report.roll report.ttl seconds
 
 -- the line of a roll in its phase, with its last step
-abbrev pub line_for : Rolls → (RollType → Option ℕ) → Before → List Fact → ℕ → RollType → List ℕ
-line_for rolls step before facts seconds roll = due_line
-    (due_report before facts (phase_of rolls roll) (step roll) roll (seconds * 1_000_000_000))
-    seconds
+abbrev pub line_for : Rolls → (RollType → Option ℕ) → List ℕ → Before → List Fact → ℕ → RollType
+    → List ℕ
+line_for rolls step moments before facts seconds roll = due_line
+    (due_report before facts moments (phase_of rolls roll) (step roll) roll
+    (seconds * 1_000_000_000)) seconds
 
 -- the lines of all rolls in progress
-abbrev pub due_text : Rolls → (RollType → Option ℕ) → Before → List Fact → ℕ → List ℕ
-due_text rolls step before facts seconds =
-    flat_map (line_for rolls step before facts seconds) all_rolls
+abbrev pub due_text : Rolls → (RollType → Option ℕ) → List ℕ → Before → List Fact → ℕ → List ℕ
+due_text rolls step moments before facts seconds =
+    flat_map (line_for rolls step moments before facts seconds) all_rolls
 
 -- ---- of a script
 
@@ -66,9 +77,10 @@ pub record IsDueAfter (lines notes : List (List ℕ)) (entries : List Entry) (se
   pub facts : List Fact
   pub is_script : AreScript lines name calls
   pub is_run : IsRun name calls entries
-  pub are_notes : AreNotes (length entries) notes before facts
+  pub are_notes : AreNotes (moments_of entries) notes before facts
   pub is_text : text ≡ due_text (world_at name calls entries (length entries)).set.rolls
-      (λ roll. base_below entries roll (suc (length entries))) before facts seconds
+      (λ roll. base_below entries roll (suc (length entries))) (moments_of entries) before facts
+      seconds
 
 -- a question: the second that it asks about, and the lines of the notes above it
 pub record Question : Type 0 where
@@ -94,4 +106,4 @@ abbrev pub AnswersDue : Session → Option NotesParts → ℕ → Option (List �
 AnswersDue session noted seconds None = noted ≡ None
 AnswersDue session noted seconds (Some text) =
     (lines notes : List (List ℕ)) (entries : List Entry) → Stands lines entries session →
-    HasTaken (length entries) notes noted → IsDueAfter lines notes entries seconds text
+    HasTaken (moments_of entries) notes noted → IsDueAfter lines notes entries seconds text

@@ -4,6 +4,7 @@ use Rattle.std.specs.Prelude.{Option, None, Some, option_and_then, is_none, if�
 use Rattle.std.specs.Prelude.{slice_index_or}
 use Rattle.std.specs.List.{AllZip, filter}
 use Rattle.std.specs.Str.{bytes_eq}
+use Rattle.dnssec_run.specs.Moments.{moments_of}
 use Rattle.dnssec_run.specs.declared.record.Entry.{Entry}
 use Rattle.dnssec_network.specs.Notes.{NotesParts}
 use Rattle.dnssec_script.specs.Script.{Form, Value, Number, as_number, fields_of, first_field}
@@ -55,7 +56,7 @@ questions_among lines = questions_after [] lines
 -- among them, one each, in their order
 pub record HasAnswered (script : List (List ℕ)) (entries : List Entry) (lines : List (List ℕ))
     (noted : Option NotesParts) (texts : List (List ℕ)) : Type 0 where
-  pub taken : HasTaken (length entries) (notes_among lines) noted
+  pub taken : HasTaken (moments_of entries) (notes_among lines) noted
   pub answers : AllZip (λ question text.
       IsDueAfter script question.notes entries question.seconds text) (questions_among lines) texts
 
@@ -76,10 +77,10 @@ AreAnswers script notes texts =
 abbrev pub ComesOf : List (List ℕ) → List Entry → List (List ℕ) → List ℕ → Option (List ℕ)
     → Option NotesParts → Type 0
 ComesOf script entries notes line None noted =
-    (as_question line ≡ None) × HasTaken (length entries) (notes ++ line ∷ []) noted
+    (as_question line ≡ None) × HasTaken (moments_of entries) (notes ++ line ∷ []) noted
 ComesOf script entries notes line (Some text) noted =
     (seconds : ℕ) × (as_question line ≡ Some (Number seconds ∷ []))
-    × HasTaken (length entries) notes noted
+    × HasTaken (moments_of entries) notes noted
     × IsDueAfter script notes entries seconds text
 
 -- ---- faults
@@ -91,10 +92,10 @@ IsQuestionFault noted (why.Refused cause) = ⊥
 IsQuestionFault noted why.OutOfMemory = Unit {0}
 
 -- why a line is neither taken nor answered, given what it asks
-abbrev pub IsAnswerFault : ℕ → Option NotesParts → Option (List Value) → List ℕ → LineFault
+abbrev pub IsAnswerFault : List ℕ → Option NotesParts → Option (List Value) → List ℕ → LineFault
     → Type 0
-IsAnswerFault calls noted None line fault = IsTakeFault calls noted line fault
-IsAnswerFault calls noted (Some said) line fault = IsQuestionFault noted fault
+IsAnswerFault moments noted None line fault = IsTakeFault moments noted line fault
+IsAnswerFault moments noted (Some said) line fault = IsQuestionFault noted fault
 
 -- the same with the number of the line
 abbrev pub fault_at : LineFault → ℕ → NotesFault
@@ -111,7 +112,7 @@ pub record IsFirstFaulty (script : List (List ℕ)) (entries : List Entry) (line
   pub texts : List (List ℕ)
   pub above : HasAnswered script entries (take i lines) noted texts
   pub why : LineFault
-  pub here : IsAnswerFault (length entries) noted (as_question (slice_index_or lines i []))
+  pub here : IsAnswerFault (moments_of entries) noted (as_question (slice_index_or lines i []))
       (slice_index_or lines i []) why
   pub is : fault ≡ fault_at why (i + 1)
 

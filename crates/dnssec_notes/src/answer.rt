@@ -31,8 +31,9 @@ pub fn answer_due(
         IsDueAnswer script.now notes.now seconds (string_bytes text)) }
 {
     let ran = Session::resume(alloc, script)?;
-    let noted = read_notes(alloc, ran.calls(), notes)?;
-    let lines = due_lines(alloc, ran.keyset(), ran.steps(), &noted, seconds)?;
+    let noted = read_notes(alloc, ran.moments(), notes)?;
+    let (keyset, steps) = (ran.keyset(), ran.steps());
+    let lines = due_lines(alloc, keyset, steps, ran.moments(), &noted, seconds)?;
     Ok(lines)
 }
 

@@ -10,7 +10,9 @@ mod reports;
 mod session;
 
 pub use answer::{answer_due, answer_questions};
-pub use dnssec_network::{Before, DueReport, Fact, News, NoteFault, Notes, SetKind, Steps};
+pub use dnssec_network::{
+    Before, DueReport, Fact, Moments, News, NotYet, NoteFault, Notes, SetKind, Steps,
+};
 pub use fault::{DueFault, LineFault, NotesFault};
 pub use questions::answer_lines;
 pub use reading::read_notes;

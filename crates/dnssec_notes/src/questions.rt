@@ -1,10 +1,11 @@
 //! Questions among the lines of notes, and their answers.
-ghost use Rattle.std.specs.Prelude.{◌≡◌, ◌∷◌, ◌++◌, ℕ, List, [], Some, IfOk, IfErr, OnOk, length};
+ghost use Rattle.std.specs.Prelude.{◌≡◌, ◌∷◌, ◌++◌, ℕ, List, [], Some, IfOk, IfErr, OnOk};
 ghost use Rattle.std.specs.Prelude.{◌<◌, is_some, map, string_bytes, vec_len};
 ghost use Rattle.std.specs.Option.{option_map};
 ghost use denote.Bor.{now};
 ghost use Rattle.dnssec_script.specs.Script.{Number, values_of};
 ghost use Rattle.dnssec_record.specs.Session.{Stands};
+ghost use Rattle.dnssec_run.specs.Moments.{moments_of};
 ghost use Rattle.dnssec_run.specs.declared.record.Entry.{Entry};
 ghost use Rattle.dnssec_notes.specs.Due.{AnswersDue};
 ghost use Rattle.dnssec_notes.specs.Questions.{AnswersAll, ComesOf, HasAnswered, IsAnswerFault};
@@ -73,7 +74,7 @@ fn read_on(
         (map string_bytes answers.new.items)) }
     ensures err { IfErr result (λ fault. (script : List (List ℕ)) (entries : List Entry) →
         Stands script entries session.now →
-        IsAnswerFault (length entries) notes.old (as_question line.now) line.now fault) }
+        IsAnswerFault (moments_of entries) notes.old (as_question line.now) line.now fault) }
 {
     match notes.answer_line(alloc, session, line)? {
         None => Ok(()),
@@ -99,12 +100,12 @@ impl SessionNotes {
         line: &[u8],
     ) -> Result<Option<String>, LineFault>
         ensures told { IfOk result (λ told. (script notes : List (List ℕ)) (entries : List Entry) →
-            Stands script entries session.now → HasTaken (length entries) notes self.old →
+            Stands script entries session.now → HasTaken (moments_of entries) notes self.old →
             ComesOf script entries notes line.now (option_map string_bytes told) self.new) }
         ensures question { IfOk result (λ told. is_some told ≡ is_some (as_question line.now)) }
         ensures err { IfErr result (λ fault. (script : List (List ℕ)) (entries : List Entry) →
             Stands script entries session.now →
-            IsAnswerFault (length entries) self.old (as_question line.now) line.now fault) }
+            IsAnswerFault (moments_of entries) self.old (as_question line.now) line.now fault) }
         ensures kept { IfErr result (λ _. self.new ≡ self.old) }
     {
         match read_question(line) {

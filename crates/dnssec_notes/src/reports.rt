@@ -3,40 +3,52 @@ ghost use Rattle.std.specs.Prelude.{◌≡◌, ◌++◌, ◌*◌, ℕ, IfOk, OnO
 ghost use Rattle.std.specs.List.{flat_map};
 ghost use Rattle.dnssec_run.specs.Steps.{step_of};
 ghost use Rattle.dnssec_notes.specs.Due.{due_line, due_text, line_for, report_of, report_word};
-ghost use Rattle.dnssec_notes.specs.Due.{ttl_line};
+ghost use Rattle.dnssec_notes.specs.Due.{first_second, ttl_line, why_text};
 
 use crate::line::kind_name;
 use dnssec_key::roll_name;
 use dnssec_keyset::{KeySet, RollType, UnixTime};
-use dnssec_network::{DueReport, Notes, Steps};
+use dnssec_network::{DueReport, Moments, NotYet, Notes, Steps};
 use dnssec_zone::all_rolls;
 use std::alloc::{AllocError, Global};
 use std::time::Duration;
 
 /// The reports that rolls wait for, as they would be made at this second since 1970. Each has a
 /// line of a script, as `report1 ksk-roll 3600 130`. If it isn't due yet, its line says which sets
-/// it waits for, as `not yet: report1 ksk-roll waits for dnskey`. `steps` are the last steps of the
-/// record of this key set.
+/// it waits for, as `not yet: report1 ksk-roll waits for dnskey`, or up to which second, as `not
+/// yet: report1 ksk-roll waits until 100`. `steps` are the last steps of the record of this key
+/// set, and `moments` those of its calls.
 ///
 /// # Errors
 ///
 /// `AllocError` if memory runs out.
 ///
 /// ```rust
-/// let lines = due_lines(alloc, &run.keyset, Steps::of_record(&run.entries), &notes, seconds)?;
+/// let steps = Steps::of_record(&run.entries);
+/// let moments = Moments::of_record(alloc, &run.entries)?;
+/// let lines = due_lines(alloc, &run.keyset, steps, &moments, &notes, seconds)?;
 /// ```
 pub fn due_lines(
     alloc: Global,
     keyset: &KeySet,
     steps: Steps,
+    moments: &Moments,
     notes: &Notes,
     seconds: u64,
 ) -> Result<String, AllocError>
     ensures { IfOk result (λ text. string_bytes text ≡ due_text keyset.now.rolls (step_of steps)
-        notes.now.before notes.now.facts seconds) }
+        moments.now notes.now.before notes.now.facts seconds) }
 {
     let mut text = String::new(alloc);
-    push_lines(&mut text, all_rolls(), keyset, steps, notes, seconds)?;
+    push_lines(
+        &mut text,
+        all_rolls(),
+        keyset,
+        steps,
+        moments,
+        notes,
+        seconds,
+    )?;
     Ok(text)
 }
 
@@ -46,16 +58,17 @@ fn push_lines(
     rolls: &[RollType],
     keyset: &KeySet,
     steps: Steps,
+    moments: &Moments,
     notes: &Notes,
     seconds: u64,
 ) -> Result<(), AllocError>
     ensures { OnOk result (string_bytes text.new ≡ string_bytes text.old
-        ++ flat_map (line_for keyset.now.rolls (step_of steps) notes.now.before notes.now.facts
-        seconds) rolls.now) }
+        ++ flat_map (line_for keyset.now.rolls (step_of steps) moments.now notes.now.before
+        notes.now.facts seconds) rolls.now) }
 {
     for roll in rolls {
         let now = UnixTime::from(Duration::from_secs(seconds));
-        let report = notes.due_report(keyset, steps, *roll, now);
+        let report = notes.due_report(keyset, steps, moments, *roll, now);
         push_line(text, &report, seconds)?;
     }
     Ok(())
@@ -86,14 +99,37 @@ fn push_report(text: &mut String, report: &DueReport, seconds: u64) -> Result<()
             push_number(text, seconds)?;
             text.push_str("\n")
         }
-        Err(kind) => {
+        Err(why) => {
             text.push_str("not yet: ")?;
             push_call(text, report.second, report.roll)?;
-            text.push_str(" waits for ")?;
-            text.push_str(kind_name(kind))?;
+            push_why(text, why)?;
             text.push_str("\n")
         }
     }
+}
+
+/// Writes what a report waits for.
+fn push_why(text: &mut String, why: NotYet) -> Result<(), AllocError>
+    ensures { OnOk result (string_bytes text.new ≡ string_bytes text.old ++ why_text why) }
+{
+    match why {
+        NotYet::WaitsFor(kind) => {
+            text.push_str(" waits for ")?;
+            text.push_str(kind_name(kind))
+        }
+        NotYet::WaitsUntil(moment) => {
+            text.push_str(" waits until ")?;
+            let second = first_second(moment);
+            write!(text, "{second}")
+        }
+    }
+}
+
+/// The first second since 1970 that isn't before the moment.
+fn first_second(moment: UnixTime) -> u128
+    ensures { result ≡ first_second moment }
+{
+    (Duration::from(moment).as_nanos() + 999_999_999) / 1_000_000_000
 }
 
 /// Writes the word of a report and its roll.

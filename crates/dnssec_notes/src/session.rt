@@ -1,7 +1,8 @@
 //! Notes beside a session.
 ghost use Rattle.std.specs.Prelude.{◌≡◌, ◌∷◌, ◌++◌, ℕ, List, [], None, Some, IfOk, IfErr, Ok, OnOk};
 ghost use Rattle.std.specs.Option.{option_map};
-ghost use Rattle.std.specs.Prelude.{length, string_bytes};
+ghost use Rattle.std.specs.Prelude.{string_bytes};
+ghost use Rattle.dnssec_run.specs.Moments.{moments_of};
 ghost use Rattle.dnssec_record.specs.Session.{Stands, StandsAfter};
 ghost use Rattle.dnssec_run.specs.declared.call.Call.{Call};
 ghost use Rattle.dnssec_run.specs.declared.record.Entry.{Entry};
@@ -80,7 +81,7 @@ impl SessionNotes {
     /// # Errors
     ///
     /// - `Malformed` if it isn't a line of notes.
-    /// - `Refused` if its fact can't follow those before it, with the cause.
+    /// - `Refused` if its fact can't follow the calls or the facts before it, with the cause.
     /// - `OutOfMemory` if memory runs out.
     ///
     /// The notes are then as they were.
@@ -92,16 +93,16 @@ impl SessionNotes {
     ) -> Result<(), LineFault>
         ensures ok { OnOk result ((name : List ℕ) (calls : List Call) (entries : List Entry)
             (lines : List (List ℕ)) → StandsAfter name calls entries session.now →
-            HasTaken (length entries) lines self.old →
-            HasTaken (length entries) (lines ++ line.now ∷ []) self.new) }
+            HasTaken (moments_of entries) lines self.old →
+            HasTaken (moments_of entries) (lines ++ line.now ∷ []) self.new) }
         ensures err { IfErr result (λ fault.
             (name : List ℕ) (calls : List Call) (entries : List Entry) →
             StandsAfter name calls entries session.now →
-            IsTakeFault (length entries) self.old line.now fault) }
+            IsTakeFault (moments_of entries) self.old line.now fault) }
         ensures kept { IfErr result (λ _. self.new ≡ self.old) }
     {
         match &mut self.notes {
-            Some(notes) => take_fact(&mut **notes, session.calls(), line),
+            Some(notes) => take_fact(&mut **notes, session.moments(), line),
             None => {
                 *self = SessionNotes::begin(alloc, line)?;
                 Ok(())
@@ -145,7 +146,8 @@ impl SessionNotes {
             None => Ok(None),
             Some(notes) => {
                 let (keyset, steps) = (session.keyset(), session.steps());
-                Ok(Some(due_lines(alloc, keyset, steps, &**notes, seconds)?))
+                let moments = session.moments();
+                Ok(Some(due_lines(alloc, keyset, steps, moments, &**notes, seconds)?))
             }
         }
     }

@@ -2,6 +2,7 @@
 use Rattle.std.proofs.Common.{◌≡◌, ℕ, List, [], ◌∷◌, ◌++◌, Option, None, Some, refl, sym, ◌∙◌, ap}
 use Rattle.std.proofs.Common.{length, map, fold, arith}
 use Rattle.std.{proofs.lemmas.List.Sums.fold-append, specs.Prelude.if◌then◌else◌}
+use Rattle.dnssec_run.specs.Moments.{moments_of}
 use Rattle.dnssec_run.specs.declared.call.Call.{Call}
 use Rattle.dnssec_run.specs.declared.record.{Entry.Entry, Outcome.Outcome, Published.Published}
 use Rattle.dnssec_run.specs.declared.record.Reply.{Reply}
@@ -53,8 +54,10 @@ pub advances : (name : List ℕ) (calls : List Call) (entries : List Entry) {say
     → map as_listed new.courses.listed.items
     ≡ listed_after (map as_listed old.courses.listed.items) turn
     → new.courses.ended.items ≡ ended_after old.courses.ended.items turn
+    → ((entries : List Entry) (e : Entry) → old.moments ≡ moments_of entries
+    → e.moment ≡ outcome.moment → new.moments ≡ moments_of (entries ++ e ∷ []))
     → Advances name calls entries m.call new outcome.reply
-advances name calls entries old new outcome news so m handed judged turn is listed ended =
+advances name calls entries old new outcome news so m handed judged turn is listed ended taken =
     let e = entry_of outcome new.recorder.published in
     let was : Follows name calls entries old.recorder old.judge =
     record { records = so.records; knows = so.knows; shown = so.shown } in
@@ -72,6 +75,7 @@ advances name calls entries old new outcome news so m handed judged turn is list
         ended = ended ∙ ap (λ (rs : List RollType). ended_after rs turn) so.ended
             ∙ ap (ended_after (ended_by calls entries)) is
             ∙ sym (folded_more ended_after [] calls entries m.call e so.records.run.count);
+        moments = taken entries e so.moments refl;
       };
       is_reply = refl;
     }

@@ -6,6 +6,7 @@ use Rattle.dnssec_run.specs.declared.call.Call.{Call}
 use Rattle.dnssec_run.specs.declared.record.Entry.{Entry}
 use Rattle.dnssec_run.specs.declared.record.Reply.{Reply}
 use Rattle.dnssec_run.specs.declared.record.Reply.TheVariants.{Refused}
+use Rattle.dnssec_run.specs.Moments.{moments_of}
 use Rattle.dnssec_run.specs.Record.{is_accepted}
 use Rattle.dnssec_run.specs.Recorder.{Records}
 use Rattle.dnssec_judge.specs.declared.verdict.Broken.{Broken}
@@ -34,6 +35,7 @@ pub record StandsAfter (name : List ℕ) (calls : List Call) (entries : List Ent
   pub shown : published_text s.recorder.published ≡ set_line entries
   pub listed : map as_listed s.courses.listed.items ≡ listed_by calls entries
   pub ended : s.courses.ended.items ≡ ended_by calls entries
+  pub moments : s.moments ≡ moments_of entries
 
 -- one more call of the same run got this reply, and the session stands after it
 pub record Advances (name : List ℕ) (calls : List Call) (entries : List Entry) (call : Call)

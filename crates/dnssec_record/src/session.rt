@@ -8,6 +8,7 @@ ghost use Rattle.dnssec_record.specs.Inner.Statement.{TakesOn};
 ghost use Rattle.dnssec_record.specs.Courses.{as_listed, ended_by, listed_by};
 ghost use Rattle.dnssec_record.specs.Session.{Advances, Closes, FaultOfZone, Stands, StandsAfter};
 ghost use Rattle.dnssec_record.specs.Session.{Resumes, Takes, Tries};
+ghost use Rattle.dnssec_run.specs.Moments.{moments_of};
 ghost use Rattle.dnssec_run.specs.Recorder.{HasSameKeys, Records};
 ghost use Rattle.dnssec_run.specs.Steps.{AreStepsOf};
 ghost use Rattle.dnssec_run.specs.declared.call.Call.{Call};
@@ -21,7 +22,7 @@ use crate::script::statements_of;
 use dnssec_base::Name;
 use dnssec_judge::{Broken, Judge};
 use dnssec_keyset::{Error, KeySet, RollType};
-use dnssec_run::{Call, Published, Recorder, Reply, Steps};
+use dnssec_run::{Call, Moments, Published, Recorder, Reply, Steps};
 use dnssec_script::{Statement, read_line, read_zone};
 use std::alloc::{AllocError, Global};
 
@@ -51,7 +52,8 @@ pub enum Tried {
 }
 
 /// A zone whose calls come one at a time, as a daemon makes them. It keeps the key set, what is
-/// published and what the judge needs. So a call costs the same however many came before it.
+/// published, what the judge needs, and how late it was at each call: 16 bytes. So a call costs the
+/// same however many came before it.
 ///
 /// The lines so far are a script. The answers to the lines, and after them `closing`, are together
 /// what `run_script` writes for that script.
@@ -71,6 +73,7 @@ pub struct Session {
     recorder: Recorder,
     judge: Judge,
     courses: Courses,
+    moments: Moments,
 }
 
 impl Session {
@@ -125,6 +128,7 @@ impl Session {
                 recorder: Recorder::new(alloc, name),
                 judge,
                 courses: Courses::new(alloc),
+                moments: Moments::new(alloc),
             }),
             Err(_) => Err(AllocError),
         }
@@ -148,10 +152,12 @@ impl Session {
             return Err(AllocError);
         };
         let courses = self.courses.try_clone(alloc)?;
+        let moments = self.moments.try_clone()?;
         Ok(Session {
             recorder,
             judge,
             courses,
+            moments,
         })
     }
 
@@ -228,6 +234,7 @@ impl Session {
             mut recorder,
             mut judge,
             mut courses,
+            mut moments,
         } = self;
         let turn = Turn::of(&call);
         let Ok(outcome) = recorder.advance(alloc, call) else {
@@ -238,10 +245,12 @@ impl Session {
             return Err(AllocError);
         };
         courses.take(alloc, turn.after(&outcome.reply))?;
+        moments.take(outcome.moment)?;
         let session = Session {
             recorder,
             judge,
             courses,
+            moments,
         };
         Ok((session.fitted(alloc), outcome.reply))
     }
@@ -260,11 +269,13 @@ impl Session {
             recorder,
             judge,
             courses,
+            moments,
         } = self;
         Session {
             recorder: fitted(alloc, recorder),
             judge,
             courses,
+            moments,
         }
     }
 
@@ -346,6 +357,15 @@ impl Session {
             StandsAfter name calls entries self.now → AreStepsOf entries result }
     {
         self.judge.steps()
+    }
+
+    /// The greatest moment of the calls up to each one so far.
+    #[tactic(auto, using(std::proofs::lemmas::Grind::common_steps))]
+    pub fn moments(&self) -> &Moments
+        ensures { (name : List ℕ) (calls : List Call) (entries : List Entry) →
+            StandsAfter name calls entries self.now → result.now ≡ moments_of entries }
+    {
+        &self.moments
     }
 
     /// The verdict on the record so far: what `audit` answers of it.

@@ -17,6 +17,7 @@
 -- | the premise of plain lists| `plain-by-sets`               | Premise                      |
 -- | all laws of runs          | `came`, `goes`, `by-phase`    | Effects                      |
 -- | for callers of `Recorder` | `last-ds` and the like        | Recorded                     |
+-- | `Moments`                 | `moments-more`, `latest-is`   | Latest                       |
 pub mod Positions
 pub mod OneKey
 pub mod Next
@@ -30,3 +31,4 @@ pub mod EarlyEnds
 pub mod Premise
 pub mod Starts
 pub mod Recorded
+pub mod Latest

@@ -6,6 +6,7 @@
 
 mod caches;
 mod call;
+mod moments;
 mod places;
 mod plain;
 mod record;
@@ -14,6 +15,7 @@ mod sets;
 
 pub use caches::{SetKind, retires};
 pub use call::Call;
+pub use moments::Moments;
 pub use plain::{each_chain_is_one, starts_suffice, whole_runs_stay_safe};
 pub use record::{Entry, Mark, Outcome, Published, PublishedKey, Reply, Run, Steps};
 pub use running::{Recorder, run};

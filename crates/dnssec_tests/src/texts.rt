@@ -76,6 +76,7 @@ const FAULTS_OF_SCRIPTS: &[(ScriptFault, &str, u8)] = &[
 /// Faults of notes, and what they print.
 const FAULTS_OF_NOTES: &[(NoteFault, &str)] = &[
     (NoteFault::CallNotMade, "no such call yet"),
+    (NoteFault::PublishedBeforeCall, "published before its call"),
     (
         NoteFault::SeenBeforePublished,
         "seen before it was published",

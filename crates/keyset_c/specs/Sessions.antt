@@ -2,11 +2,13 @@
 use Rattle.std.specs.Prelude.{◌≡◌, ℕ, List, [], ◌∷◌, ◌++◌, Option, None, Some, length, string_bytes}
 use Rattle.dnssec_network.specs.declared.fact.NoteFault.TheVariants as note
 use Rattle.dnssec_network.specs.declared.fact.NoteFault.TheVariants.{CallNotMade, MomentFalls}
+use Rattle.dnssec_network.specs.declared.fact.NoteFault.TheVariants.{PublishedBeforeCall}
 use Rattle.dnssec_network.specs.declared.fact.NoteFault.TheVariants.{SeenBeforePublished}
 use Rattle.dnssec_notes.specs.Due.{IsDueAfter}
 use Rattle.dnssec_notes.specs.Reading.{HasTaken, IsTakeFault}
 use Rattle.dnssec_notes.specs.declared.fault.LineFault.{LineFault}
 use Rattle.dnssec_notes.specs.declared.fault.LineFault.TheVariants.{Malformed, Refused, OutOfMemory}
+use Rattle.dnssec_run.specs.Moments.{moments_of}
 use Rattle.dnssec_run.specs.declared.call.Call.{Call}
 use Rattle.dnssec_run.specs.declared.record.Entry.{Entry}
 use Rattle.dnssec_record.specs.Session.{Accepts, Closes, GoesOn, Refuses}
@@ -103,8 +105,8 @@ pub record NotesLine (before : Kept) (line : List ℕ) (after : Kept) : Type 0 w
   pub session : after.session ≡ before.session
   pub answer : after.answer ≡ before.answer
   pub takes : (lines notes : List (List ℕ)) (entries : List Entry) →
-      Stands lines entries before.session → HasTaken (length entries) notes before.notes →
-      HasTaken (length entries) (notes ++ line ∷ []) after.notes
+      Stands lines entries before.session → HasTaken (moments_of entries) notes before.notes →
+      HasTaken (moments_of entries) (notes ++ line ∷ []) after.notes
 
 -- the status for a line that notes don't take
 abbrev pub status_of : LineFault → ℕ
@@ -112,6 +114,7 @@ status_of Malformed = 1
 status_of (Refused CallNotMade) = 7
 status_of (Refused SeenBeforePublished) = 8
 status_of (Refused MomentFalls) = 9
+status_of (Refused PublishedBeforeCall) = 11
 status_of (Refused note.OutOfMemory) = 3
 status_of OutOfMemory = 3
 
@@ -121,7 +124,7 @@ pub record RefusesLine (kept : Kept) (line : List ℕ) (status : ℕ) : Type 0 w
   pub says : status ≡ status_of fault
   pub is_fault : (name : List ℕ) (calls : List Call) (entries : List Entry) →
       StandsAfter name calls entries kept.session →
-      IsTakeFault (length entries) kept.notes line fault
+      IsTakeFault (moments_of entries) kept.notes line fault
 
 pub record RefusesNote (old : Option Kept) (line : List ℕ) (status : ℕ) : Type 0 where
   pub kept : Kept
@@ -132,7 +135,7 @@ pub record RefusesNote (old : Option Kept) (line : List ℕ) (status : ℕ) : Ty
 -- session's lines and of its notes
 abbrev pub IsDueOf : ℕ → Kept → List ℕ → Type 0
 IsDueOf seconds kept text = (lines notes : List (List ℕ)) (entries : List Entry) →
-    Stands lines entries kept.session → HasTaken (length entries) notes kept.notes →
+    Stands lines entries kept.session → HasTaken (moments_of entries) notes kept.notes →
     IsDueAfter lines notes entries seconds text
 
 pub record ShowsDue (seconds : ℕ) (old : Option Kept) (text : List ℕ) : Type 0 where

@@ -13,4 +13,5 @@ status_text status =
     if status == 8 then codes "seen before it was published" else (
     if status == 9 then codes "moment before the last one" else (
     if status == 10 then codes "refused" else (
-    codes "no such status"))))))))))
+    if status == 11 then codes "published before its call" else (
+    codes "no such status")))))))))))

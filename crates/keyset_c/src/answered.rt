@@ -22,9 +22,10 @@ pub(crate) const NO_SUCH_CALL: u32 = 7;
 pub(crate) const SEEN_EARLY: u32 = 8;
 /// A line of notes has a moment before the last one.
 pub(crate) const MOMENT_FALLS: u32 = 9;
-
 /// The key set refuses the call.
 pub(crate) const REFUSED: u32 = 10;
+/// By a line of notes a version was published before its call.
+pub(crate) const PUBLISHED_EARLY: u32 = 11;
 
 /// How a call of the library was answered.
 #[repr(C)]
@@ -51,6 +52,7 @@ pub(crate) fn refused(fault: LineFault) -> u32
         LineFault::Refused(NoteFault::CallNotMade) => NO_SUCH_CALL,
         LineFault::Refused(NoteFault::SeenBeforePublished) => SEEN_EARLY,
         LineFault::Refused(NoteFault::MomentFalls) => MOMENT_FALLS,
+        LineFault::Refused(NoteFault::PublishedBeforeCall) => PUBLISHED_EARLY,
         LineFault::Refused(NoteFault::OutOfMemory) | LineFault::OutOfMemory => OUT_OF_MEMORY,
     }
 }

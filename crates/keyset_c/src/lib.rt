@@ -239,7 +239,8 @@ pub extern "C" fn keyset_accept(alloc: Global, session: &mut Handle, line: &[u8]
 ///
 /// 0 if it is taken. Else the session is as it was: 1 for a malformed line, 3 for lack of memory, 5
 /// if the session is closed; 7 if no such call was made yet, 8 if a version was seen everywhere
-/// before it was published, 9 for a moment before the last one.
+/// before it was published, 9 for a moment before the last one, 11 if a version was published
+/// before its call.
 #[unsafe(no_mangle)]
 pub extern "C" fn keyset_note(alloc: Global, session: &mut Handle, line: &[u8]) -> u32
     requires { IsWhole session.old }

@@ -5,7 +5,7 @@ ghost use Rattle.keyset_c.specs.Texts.{status_text};
 
 use crate::answered::{
     ANSWERED, Answered, CLOSED, IS_OPEN, MALFORMED, MOMENT_FALLS, NO_SUCH_CALL, OUT_OF_MEMORY,
-    REFUSED, SEEN_EARLY, SHORT, hand_out,
+    PUBLISHED_EARLY, REFUSED, SEEN_EARLY, SHORT, hand_out,
 };
 
 /// The release that this library is of.
@@ -51,6 +51,7 @@ fn text_of(status: u32) -> &'static str
         SEEN_EARLY => "seen before it was published",
         MOMENT_FALLS => "moment before the last one",
         REFUSED => "refused",
+        PUBLISHED_EARLY => "published before its call",
         _ => "no such status",
     }
 }

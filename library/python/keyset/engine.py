@@ -75,7 +75,7 @@ def status(lines: Sequence[str]) -> Status:
 
 def due(lines: Sequence[str], notes: Sequence[str], moment: int) -> Dict[str, Optional[int]]:
     """The reports that are due at a moment, by the notes: for each roll that waits for one its TTL,
-    or None if a set isn't everywhere yet."""
+    or None if a set isn't everywhere yet, or the moment lies before the roll's step."""
     return next(dues(lines, notes, [(len(lines), len(notes), moment)]))
 
 

@@ -31,6 +31,8 @@ FORMS = {
     "set-ds-visible": "REF TIME",
     "set-rrsig-visible": "REF TIME",
 }
+# The lines with the moment of the call. In others it is a stamp of a key.
+OF_CLOCK = ("start", "report1", "wait1", "report2", "wait2", "set-present")
 
 
 class RollType(Enum):

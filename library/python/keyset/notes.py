@@ -13,6 +13,7 @@ from typing import Callable, Dict, Iterable, Iterator, List, Mapping, Sequence
 
 from . import engine, file
 from .errors import Damaged, Locked, Malformed, Misnamed, Torn, WrongArgument
+from .lines import OF_CLOCK, Line
 
 KINDS = ("ds", "dnskey", "zone")
 FORM = re.compile(
@@ -61,8 +62,8 @@ class Notes:
 
     def append(self, line: str) -> None:
         """Adds a line. Returns once it is on disk. `WrongArgument`: its moment is before that of
-        another one, so the clock was set back."""
-        _expect_later(self.lines, line)
+        another one, or of its call, so the clock was set back."""
+        self._expect_later(self.lines, line)
         if self.path is not None and not self.path.is_file():
             file.create(self.path, [line])
         elif self.path is not None:
@@ -118,7 +119,7 @@ class Notes:
     def publish(self, call: int, ttls: Mapping[str, int | None], now: float) -> None:
         """Notes versions of these kinds, with the sets after this call, before servers give them.
         Without a TTL they have the present one. New signatures need no line. `WrongArgument`: `now`
-        is before the last moment of a kind, so the clock was set back."""
+        is before the last moment of a kind or of the calls, so the clock was set back."""
 
         def lines(seen: Seen) -> Iterator[str]:
             for kind, ttl in ttls.items():
@@ -147,8 +148,27 @@ class Notes:
         if self.path is not None and self.path.is_file():
             with file.locked(self.path) as notes:
                 for line in list(lines(Seen(_checked(notes), now))):
-                    _expect_later(notes.lines, line)
+                    self._expect_later(notes.lines, line)
                     notes.append(line)
+
+    def _expect_later(self, lines: Sequence[str], line: str) -> None:
+        """A line that can't follow these, or the calls of the script, would damage the notes."""
+        word, kind, *_ = line.split(" ")
+        if word == "before":
+            return
+        last = max((_moment(it) for it in lines if it.split(" ")[1] == kind), default=0)
+        made = self._made(_call(line)) if word == "published" else 0
+        for least, says in ((last, f"the notes of {kind} say"), (made, "the script says")):
+            if _moment(line) < least:
+                raise WrongArgument("now", _moment(line), f"{least} or later: {says} so")
+
+    def _made(self, call: int) -> int:
+        """The greatest moment of the calls up to this one, as far as the script is there."""
+        script = self.path and self.path.with_suffix(".script")
+        if script is None or not script.is_file():
+            return 0
+        made = map(Line, file.Lines(script).lines[1 : call + 1])
+        return max((it.moment or 0 for it in made if it.word in OF_CLOCK), default=0)
 
 
 class Seen:
@@ -200,14 +220,6 @@ def path_of(script: file.Place) -> Path:
 
 def _moment(line: str) -> int:
     return int(line.rpartition(" ")[2])
-
-
-def _expect_later(lines: Sequence[str], line: str) -> None:
-    """A moment before the last one of its kind would damage the notes."""
-    word, kind, *_ = line.split(" ")
-    last = max((_moment(it) for it in lines if it.split(" ")[1] == kind), default=0)
-    if word != "before" and _moment(line) < last:
-        raise WrongArgument("now", _moment(line), f"{last} or later: the notes of {kind} say so")
 
 
 def _call(published: str) -> int:

@@ -18,6 +18,7 @@ NOT_TAKEN = {
     7: "no such call yet",
     8: "seen before it was published",
     9: "moment before the last one",
+    11: "published before its call",
 }
 NO_NOTES = "there are no notes yet: the first line is 'before TTL TTL TTL'"
 

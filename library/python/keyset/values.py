@@ -83,18 +83,22 @@ class Published:
 class Due:
     """A report that a roll waits for: `report1` or `report2`, and the TTL to report. If it isn't
     due yet, it has no TTL, but the first kind whose older sets servers may still give: `ds`,
-    `dnskey` or `zone`."""
+    `dnskey` or `zone`; or the second since 1970 before which no report is true, that of the roll's
+    last step or of a call before this."""
 
     call: ReportWord
     roll: RollType
     ttl: int | None
     waits_for: SetKind | None = None
+    waits_until: int | None = None
 
     @classmethod
     def of(cls, line: str) -> Due:
         """Reads a line of what is due."""
         word, roll, *rest = line.removeprefix(NOT_YET).split(" ")
         call = cast(ReportWord, word)
+        if rest[:2] == ["waits", "until"]:
+            return cls(call, RollType(roll), None, waits_until=int(rest[2]))
         if line.startswith(NOT_YET):
             return cls(call, RollType(roll), None, cast(SetKind, rest[-1]))
         return cls(call, RollType(roll), int(rest[0]))

@@ -38,6 +38,7 @@ pub(crate) const NO_SUCH_CALL: u32 = 7;
 pub(crate) const SEEN_EARLY: u32 = 8;
 pub(crate) const MOMENT_FALLS: u32 = 9;
 pub(crate) const REFUSED: u32 = 10;
+pub(crate) const PUBLISHED_EARLY: u32 = 11;
 
 extern "C" {
     pub(crate) fn keyset_answer(

@@ -88,12 +88,14 @@ impl FromStr for Refusal {
 
 impl error::Error for Refusal {}
 
-/// Why a fact can't follow those before it.
+/// Why a fact can't follow the calls or the facts before it.
 #[derive(Clone, Copy, Debug, PartialEq, Eq, Hash)]
 #[non_exhaustive]
 pub enum NoteRefusal {
     /// It has the sets of a call that wasn't made yet.
     NoSuchCall,
+    /// A version is said to be published before a moment of its call, or of one before that.
+    PublishedEarly,
     /// All servers are said to have given a version before it was published.
     SeenEarly,
     /// Its moment lies before the last one: a clock was set back, or there are two.
@@ -104,6 +106,7 @@ impl fmt::Display for NoteRefusal {
     fn fmt(&self, f: &mut fmt::Formatter<'_>) -> fmt::Result {
         f.write_str(match self {
             NoteRefusal::NoSuchCall => "no such call yet",
+            NoteRefusal::PublishedEarly => "published before its call",
             NoteRefusal::SeenEarly => "seen before it was published",
             NoteRefusal::MomentFalls => "moment before the last one",
         })

@@ -116,11 +116,16 @@ pub enum Report {
         /// The first kind whose older sets servers may still give.
         waits_for: SetKind,
     },
+    /// Its moment lies before that of the roll's step, or of a call before this.
+    TooEarly {
+        /// The first second since 1970 that doesn't.
+        waits_until: u64,
+    },
 }
 
 impl Due {
-    /// Reads a line of what is due, as `report1 ksk-roll 3600 130`, or
-    /// `not yet: report1 ksk-roll waits for ds`.
+    /// Reads a line of what is due, as `report1 ksk-roll 3600 130`,
+    /// `not yet: report1 ksk-roll waits for ds`, or `not yet: report1 ksk-roll waits until 100`.
     pub(crate) fn read(line: &str) -> Option<Due> {
         let (waiting, line) = match line.strip_prefix("not yet: ") {
             Some(line) => (true, line),
@@ -130,8 +135,15 @@ impl Due {
         let call = words.next()?.parse().ok()?;
         let roll = words.next()?.parse().ok()?;
         let report = if waiting {
-            let waits_for = words.next_back()?.parse().ok()?;
-            Report::NotYet { waits_for }
+            let last = words.next_back()?;
+            match words.next_back()? {
+                "until" => Report::TooEarly {
+                    waits_until: last.parse().ok()?,
+                },
+                _ => Report::NotYet {
+                    waits_for: last.parse().ok()?,
+                },
+            }
         } else {
             let ttl = words.next()?.parse().ok()?;
             Report::Now { ttl }

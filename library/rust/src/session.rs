@@ -120,8 +120,8 @@ impl Session {
     ///
     /// # Errors
     ///
-    /// [`Error::MalformedNote`]; [`Error::RefusedNote`] if its fact can't follow those before it;
-    /// [`Error::OutOfMemory`]. The notes are then as they were.
+    /// [`Error::MalformedNote`]; [`Error::RefusedNote`] if its fact can't follow the calls or the
+    /// facts before it; [`Error::OutOfMemory`]. The notes are then as they were.
     pub fn note(&mut self, line: &str) -> Result<(), Error> {
         let number = self.notes + 1;
         // SAFETY: the pointer is that of the text with its length; only we use the handle.
@@ -134,6 +134,7 @@ impl Session {
             c::NO_SUCH_CALL => NoteRefusal::NoSuchCall,
             c::SEEN_EARLY => NoteRefusal::SeenEarly,
             c::MOMENT_FALLS => NoteRefusal::MomentFalls,
+            c::PUBLISHED_EARLY => NoteRefusal::PublishedEarly,
             _ => return Err(Error::OutOfMemory),
         };
         Err(Error::RefusedNote {

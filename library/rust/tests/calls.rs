@@ -227,6 +227,13 @@ fn notes_say_which_reports_are_due() -> Result<(), Error> {
     }
     keys.call("report1 algorithm-roll 7190 40")?;
     assert_eq!(keys.due(40)?, []);
+    let early = keys.note("published ds 4 3600 39".parse().expect("a note"));
+    let refusal = NoteRefusal::PublishedEarly;
+    assert!(matches!(early, Err(Error::RefusedNote { refusal: it, .. }) if it == refusal));
+    keys.call("wait1 algorithm-roll 7230")?;
+    let (roll, call) = (ROLL, Next::Report2);
+    let report = Report::TooEarly { waits_until: 7230 };
+    assert_eq!(keys.due(7229)?, [Due { roll, call, report }]);
     Ok(())
 }
 

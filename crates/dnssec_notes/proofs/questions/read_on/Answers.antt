@@ -1,9 +1,10 @@
 -- The line is taken, or answered.
-use Rattle.std.proofs.Common.{Option, ap, length, string_bytes, subst, sym}
+use Rattle.std.proofs.Common.{Option, ap, string_bytes, subst, sym}
 use Rattle.std.proofs.Common.{◌∙◌}
 use Rattle.std.proofs.lemmas.{List.map-append}
 use Rattle.std.specs.Option.{is_some, option_map}
 use Rattle.std.specs.declared.{alloc.Global.Global, string.String.String}
+use Rattle.dnssec_run.specs.Moments.{moments_of}
 use Rattle.dnssec_notes.proofs.Asking.{memory_ended, note_answered, question_answered}
 use Rattle.dnssec_notes.specs.Questions.{ComesOf, notes_among}
 use Rattle.dnssec_notes.proofs.questions.read_on.Goals as goal
@@ -33,6 +34,6 @@ pub returns-after-push-clause-err : goal.returns-after-push-clause-err
 returns-after-push-clause-err c = elim c.match-push.branch [
   | in-Ok w ↦ rw w.result-is tt
   | in-Err w ↦ rw w.result-is (λ script entries so.
-      memory_ended (length entries) c.args.notes.now _ c.args.line.now
+      memory_ended (moments_of entries) c.args.notes.now _ c.args.line.now
       (sym (ap is_some c.in-Some.is) ∙ c.in_ok-answer_line.ensures.question))
 ]

@@ -7,4 +7,4 @@ use Rattle.dnssec_notes.proofs.reading.read_facts.Given as goal
 abbrev pub invariant-loop-index : goal.invariant-loop-index
 invariant-loop-index l =
     (l.notes.before ≡ l.fn.before)
-    × AreFacts l.calls (take l.index (map now l.lines)) l.notes.facts
+    × AreFacts l.moments (take l.index (map now l.lines)) l.notes.facts

@@ -27,8 +27,8 @@ returns-clause-ok c =
     ∙ ap (map now) (sym c.deref.ensures.value ∙ c.in-Some.ensures.cases.0) in
     let said = sym c.read_before.ensures
     ∙ ap (option_map before_says) c.in-Some-read_before.is in
-    notes-all c.args.calls (lines_of c.args.text.now) _ _ c.in-Some-read_before.before _ split said
-    c.read_facts.ensures.before c.read_facts.ensures.ok
+    notes-all c.args.moments.now (lines_of c.args.text.now) _ _ c.in-Some-read_before.before _ split
+    said c.read_facts.ensures.before c.read_facts.ensures.ok
 
 pub returns-clause-err : goal.returns-clause-err
 returns-clause-err c =
@@ -36,5 +36,5 @@ returns-clause-err c =
     ∙ ap (map now) (sym c.deref.ensures.value ∙ c.in-Some.ensures.cases.0) in
     let said = sym c.read_before.ensures
     ∙ ap (option_map before_says) c.in-Some-read_before.is in
-    IfErr-weaker _ _ _ (λ fault here. fault-of c.args.calls c.args.text.now fault
+    IfErr-weaker _ _ _ (λ fault here. fault-of c.args.moments.now c.args.text.now fault
     (rw split (inr ((c.in-Some-read_before.before, said), here)))) c.read_facts.ensures.err

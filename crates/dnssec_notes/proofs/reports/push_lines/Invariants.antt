@@ -8,5 +8,5 @@ use Rattle.dnssec_notes.proofs.reports.push_lines.Given as goal
 abbrev pub invariant-loop-roll : goal.invariant-loop-roll
 invariant-loop-roll l =
     string_bytes l.text ≡ string_bytes l.initial.text
-    ++ flat_map (line_for l.keyset.rolls (step_of l.steps) l.notes.before l.notes.facts l.seconds)
-    (take l.roll-index l.rolls)
+    ++ flat_map (line_for l.keyset.rolls (step_of l.steps) l.moments l.notes.before l.notes.facts
+    l.seconds) (take l.roll-index l.rolls)

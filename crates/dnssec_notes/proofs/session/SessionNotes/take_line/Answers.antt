@@ -1,5 +1,6 @@
 -- A further line says a fact.
-use Rattle.std.proofs.{Common.length, Common.subst, lemmas.Result.on_ok_weaker}
+use Rattle.std.proofs.{Common.subst, lemmas.Result.on_ok_weaker}
+use Rattle.dnssec_run.specs.Moments.{moments_of}
 use Rattle.dnssec_notes.{proofs.Noting.shown, proofs.Noting.taken-line, specs.Reading.HasTaken}
 use Rattle.dnssec_notes.proofs.session.SessionNotes.take_line.Goals as goal
 
@@ -8,9 +9,9 @@ returns-in-Some-clause-ok c =
     let old = c.deref_mut.result.now in
     on_ok_weaker c.take_fact.result
     (λ has name calls entries lines stands taken.
-    taken-line c.calls.result (length entries) lines c.args.line.now old c.take_fact.new.notes
-    (c.calls.ensures name calls entries stands) has
-    (subst (HasTaken (length entries) lines)
+    taken-line c.moments.result.now (moments_of entries) lines c.args.line.now old
+    c.take_fact.new.notes (c.moments.ensures name calls entries stands) has
+    (subst (HasTaken (moments_of entries) lines)
     (shown _ c.self.inside.notes c.in-Some.notes c.args.self.now old c.self.view_is c.in-Some.is
     c.deref_mut.ensures.value) taken))
     c.take_fact.ensures.ok

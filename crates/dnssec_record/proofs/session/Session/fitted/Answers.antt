@@ -10,4 +10,5 @@ returns c name calls entries stands = record {
   shown = same_sets _ _ c.fitted.ensures.published ∙ stands.shown;
   listed = stands.listed;
   ended = stands.ended;
+  moments = stands.moments;
 }

@@ -10,6 +10,7 @@ returns c name calls entries stands =
       recorder = c.advance.new.self;
       judge = c.note.new.self;
       courses = c.take.new.self;
+      moments = c.take-2.new.self;
     } in
     let next = advances name calls entries c.args.self new c.in-Ok.outcome _ stands (record {
       call = c.args.call;
@@ -18,7 +19,7 @@ returns c name calls entries stands =
       kept = c.in-Ok.ensures.kept;
     }) c.news-news.ensures c.in-Ok-note.ensures.ok _
     (c.after.ensures ∙ ap (λ t. turn_after t c.in-Ok.outcome.reply) c.of-turn.ensures)
-    c.in_ok-take.ensures.listed c.in_ok-take.ensures.ended in
+    c.in_ok-take.ensures.listed c.in_ok-take.ensures.ended c.in_ok-take-2.ensures.ok in
     record {
       entry = next.entry;
       stands = c.fitted.ensures _ _ _ next.stands;

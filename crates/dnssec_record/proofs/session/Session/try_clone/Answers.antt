@@ -10,4 +10,5 @@ returns c name calls entries stands = record {
   shown = same_sets _ _ c.in-Ok.ensures.same.published ∙ stands.shown;
   listed = c.in_ok-courses.ensures.listed ∙ stands.listed;
   ended = c.in_ok-courses.ensures.ended ∙ stands.ended;
+  moments = c.in_ok-moments.ensures ∙ stands.moments;
 }
