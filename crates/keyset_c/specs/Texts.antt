@@ -13,4 +13,5 @@ status_text status =
     if status == 8 then codes "seen before it was published" else (
     if status == 9 then codes "moment before the last one" else (
     if status == 10 then codes "refused" else (
-    codes "no such status"))))))))))
+    if status == 12 then codes "out of memory in a call: the session is closed" else (
+    codes "no such status")))))))))))
