@@ -63,8 +63,9 @@ enum {
     KEYSET_SEEN_EARLY = 8,    /* a line of notes: seen everywhere before it was published */
     KEYSET_MOMENT_FALLS = 9,  /* a line of notes: its moment lies before the last one */
     KEYSET_REFUSED = 10,      /* the key set refuses the call */
-    KEYSET_PUBLISHED_EARLY = 11 /* a line of notes: published before a moment of its call, or of one
-                                   before that */
+    KEYSET_PUBLISHED_EARLY = 11, /* a line of notes: published before a moment of its call, or of one
+                                    before that */
+    KEYSET_LOST = 12          /* the library got no memory in a call, and has closed the session */
 };
 
 struct keyset_answered {
@@ -105,9 +106,9 @@ struct keyset_session {
    no line feed.
 
    answered       it is open, and has made no call (opened)
-   malformed      the line names no zone (malformed)
+   malformed      the line names no zone (malformed, unnamed)
    is open        it was open (is_open)
-   out of memory  asking again may help
+   out of memory  asking again may help: the line names a zone (memory)
 
    Unless it is answered, the session is as it was (unchanged). */
 uint32_t keyset_open(const uint8_t *line, size_t line_length, struct keyset_session *session);
@@ -118,7 +119,7 @@ uint32_t keyset_open(const uint8_t *line, size_t line_length, struct keyset_sess
    answered       the call is made (accepted), and `keyset_calls` is its number
    refused        the call isn't made, and has no number (refused)
    malformed      the line doesn't have the form of a script's line (malformed)
-   out of memory  asking again may help
+   out of memory  asking again may help: the line has that form (memory)
    closed         the session is closed (closed)
 
    Unless it was answered, the calls and the notes are as they were (refused, unchanged). A session
@@ -133,7 +134,9 @@ uint32_t keyset_accept(struct keyset_session *session, const uint8_t *line, size
    malformed      no call is made, and the session is as it was (malformed, kept)
    short          the call is made, and its answer has `length` bytes (short, needed). Don't make it
                   again: `keyset_told` writes its answer
-   out of memory  the session is closed (lost): open it again with its lines
+   out of memory  no call is made, and the session is as it was (memory, kept): asking again may help
+   lost           memory ran out after a part of the call was made, so the session is closed (lost):
+                  open it again with its lines
    closed         it was closed (closed)
 
    Unless it was answered, `out` is as it was (silent). `line` is 0 (no_line), and so is `length`

@@ -86,11 +86,14 @@ static size_t length_of_line(const char *line)
 
 static void expect_malformed(struct keyset_session *session)
 {
-    static const char *const lines[] = {"", "rubbish", "abort ksk-roll ", "delete K1\n"};
+    static const char *const lines[] = {"", "rubbish", "abort ksk-roll ", "delete K1\n",
+                                        "add-ksk K1 P1 13 1 0 maybe", "start ksk-roll K1 K2 now"};
     struct said before = said_by(session);
     for (size_t i = 0; i < sizeof lines / sizeof *lines; i++) {
+        size_t made = requests.made;
         uint32_t status = accept_line(session, lines[i], strlen(lines[i]));
         expect(status == KEYSET_MALFORMED, "malformed", lines[i]);
+        expect(requests.made == made, "no request for memory", lines[i]);
         expect_same(session, &before, before.told, lines[i]);
     }
     forget(&before);
@@ -270,7 +273,8 @@ static void expect_texts(void)
         "answered", "malformed", "no such status", "out of memory", "short of room",
         "the session is closed", "the session is open", "no such call yet",
         "seen before it was published", "moment before the last one", "refused",
-        "published before its call", "no such status",
+        "published before its call", "out of memory in a call: the session is closed",
+        "no such status",
     };
     for (uint32_t status = 0; status < sizeof texts / sizeof *texts; status++) {
         uint8_t *out = filled(KEYSET_TEXT_ROOM);

@@ -6,10 +6,11 @@
    same goes for a buffer of each length (only every STEP lengths, as a checker of memory makes it
    slow), between malformed lines that change nothing, and side by side in threads, each with its
    sessions in an order of its own. Copies of one session go to threads, too. Each request for
-   memory fails in turn: a session that it closes says so, and goes on from its lines; a call that
-   it refuses changes nothing, and is answered as stored when it is made again. Each call says that
-   a closed handle is closed; such a handle may be opened again. The linker has malloc, realloc and
-   free of the library come here: -Wl,--wrap=malloc,--wrap=realloc,--wrap=free */
+   memory fails in turn: the session is as it was, and answers the line as stored when it is made
+   again; a call that is refused for it changes nothing; a session that is lost says so, and goes on
+   from its lines. A malformed line, and one that names no zone, makes no request. Each call says
+   that a closed handle is closed; such a handle may be opened again. The linker has malloc, realloc
+   and free of the library come here: -Wl,--wrap=malloc,--wrap=realloc,--wrap=free */
 
 #define _GNU_SOURCE
 #include "stored.h"
@@ -33,6 +34,8 @@ static const char *const MALFORMED[] = {
     "", " ", "\n", "zone example.com", "abort", "abort ksk-roll ", "delete K1\n",
     "delete K1\ndelete K2",
     "report1 ksk-roll 4294967296 0", "wait1 ksk-roll 18446744073709551616", "delete \xFF",
+    "add-ksk K1 P1 13 1 0 maybe", "add-public K1 13 65536 0 yes", "start ksk-roll K1,K2 K3,K4",
+    "start ksk-roll K1,K2 K3,K4 now", "start ksk-roll K1,K2 K3, 0", "start ksk-roll K1 K2 0 ",
 };
 #define MALFORMED_LINES (sizeof MALFORMED / sizeof *MALFORMED)
 
@@ -176,10 +179,11 @@ static void expect_malformed(struct keyset_session *session)
     for (size_t i = 0; i < MALFORMED_LINES; i++) {
         uint8_t out[64];
         memset(out, FILLER, sizeof out);
-        size_t length = strlen(MALFORMED[i]);
+        size_t length = strlen(MALFORMED[i]), made = requests.made;
         struct keyset_answered told =
             call(session, length > 0 ? MALFORMED[i] : NULL, length, out, sizeof out);
         expect(is_answer(told, KEYSET_MALFORMED, 0), "malformed", MALFORMED[i]);
+        expect(requests.made == made, "no request for memory", MALFORMED[i]);
         expect(is_filled(out, sizeof out), "nothing is written", MALFORMED[i]);
     }
     expect_told(keyset_closing, session, closing, "after malformed lines");
@@ -308,23 +312,40 @@ static void open_anew(struct play *play)
     play->session = played_again(play);
 }
 
-/* A call that is refused for lack of memory takes some, and has changed nothing. */
-static void expect_unchanged(struct play *play)
+/* A session without memory for a line says what one says that has the lines before it: all of it,
+   or of a call that was refused for that, which has an answer and a number, only the status. */
+static void expect_unchanged(struct play *play, bool is_refused)
+{
+    struct keyset_session before = played_again(play);
+    for (size_t i = 0; i < 3; i++) {
+        if (is_refused && QUESTIONS[i] != keyset_status)
+            continue;
+        char *wanted = answer_of(QUESTIONS[i], &before);
+        expect_told(QUESTIONS[i], &play->session, wanted, "without memory for a line");
+        free(wanted);
+    }
+    expect(keyset_calls(&play->session) == keyset_calls(&before) + is_refused, "its calls",
+           play->it->name);
+    close_session(&before);
+}
+
+/* A call that is refused for lack of memory takes some. */
+static void expect_to_take_memory(const struct play *play)
 {
     const char *line = play->line;
     bool asks = strncmp(play->wanted, "ok ", 3) == 0, adds = strncmp(line, "add-", 4) == 0;
     expect(asks || adds || strncmp(line, "start ", 6) == 0, "a call that takes memory",
            play->it->name);
-    struct keyset_session before = played_again(play);
-    char *wanted = answer_of(keyset_status, &before);
-    expect_told(keyset_status, &play->session, wanted, "after a refusal for lack of memory");
-    free(wanted);
-    close_session(&before);
 }
+
+/* How many requests that failed left the session as it was, and how many lost it. */
+static struct {
+    size_t kept, lost;
+} after_failures;
 
 /* Plays a script in which the request of this number fails, and says whether there was one. The
    session answers as stored, after at most one refusal for lack of memory. */
-static bool play_failing(const struct stored *it, size_t failing, size_t *closed)
+static bool play_failing(const struct stored *it, size_t failing)
 {
     struct play play;
     bool has_failed = false, was_refused = false;
@@ -343,19 +364,26 @@ static bool play_failing(const struct stored *it, size_t failing, size_t *closed
         has_failed = has_failed || fails_now;
         if (fails_now)
             requests.failing = 0;
-        if (told.status == KEYSET_OUT_OF_MEMORY) {
+        if (told.status == KEYSET_OUT_OF_MEMORY || told.status == KEYSET_LOST) {
             expect(fails_now, "a request failed", it->name);
-            expect(is_answer(told, KEYSET_OUT_OF_MEMORY, 0), "out of memory", it->name);
+            expect(is_answer(told, told.status, 0), "out of memory", it->name);
             expect(is_filled(out, LINE_ROOM), "nothing is written", it->name);
-            open_anew(&play);
-            (*closed)++;
+            if (told.status == KEYSET_LOST) {
+                open_anew(&play);
+                after_failures.lost++;
+            } else {
+                expect_unchanged(&play, false);
+                after_failures.kept++;
+            }
         } else if (told.length == strlen(REFUSED) && memcmp(out, REFUSED, told.length) == 0) {
             expect(fails_now, "refused for memory", it->name);
-            expect_unchanged(&play);
+            expect(is_answer(told, KEYSET_ANSWERED, told.length), "a refusal", it->name);
+            expect_to_take_memory(&play);
+            expect_unchanged(&play, true);
             was_refused = true;
         } else {
-            expect(told.length == needed && memcmp(out, play.wanted, needed) == 0, "as stored",
-                   it->name);
+            expect(is_answer(told, KEYSET_ANSWERED, needed), "as stored", it->name);
+            expect(memcmp(out, play.wanted, needed) == 0, "as stored", it->name);
             play.line += length + (play.line[length] == '\n');
             play.wanted += needed;
         }
@@ -397,7 +425,8 @@ static bool fail_one(size_t kind, struct keyset_session *session, size_t failing
         expect(is_filled(out, ROOM) && !other.is_open, "nothing is done", "a question");
     } else {
         expect(status == KEYSET_ANSWERED, "answered, or out of memory", "a question");
-        expect(kind == 3 || memcmp(out, wanted, strlen(wanted)) == 0, "the answer", "a question");
+        expect(kind == 3 || is_answer(told, status, strlen(wanted)), "its members", "a question");
+        expect(kind == 3 || memcmp(out, wanted, told.length) == 0, "the answer", "a question");
         *without += has_failed;
     }
     close_session(&other);
@@ -495,7 +524,7 @@ static void play_copies_beside(const struct stored *it)
 
 int main(int argc, char **argv)
 {
-    size_t lines = 0, failed = 0, closed = 0, asked = 0;
+    size_t lines = 0, failed = 0, asked = 0;
     expect(argc > 1, "sessions STORED [STEP]", argv[0]);
     expect(keyset_version() == KEYSET_VERSION, "the version", argv[0]);
     step = argc > 2 ? strtoul(argv[2], NULL, 10) : 1;
@@ -503,16 +532,19 @@ int main(int argc, char **argv)
 
     struct keyset_session never = {0};
     expect_closed(&never);
+    requests.failing = 1;
     expect(open_line(&never, NULL, 0) == KEYSET_MALFORMED, "an empty line", argv[0]);
     expect(open_line(&never, "zone ..", 7) == KEYSET_MALFORMED, "a name that is none", argv[0]);
     expect(open_line(&never, "zone .\n", 7) == KEYSET_MALFORMED, "a line feed", argv[0]);
+    expect(requests.made == 0, "no request for memory", argv[0]);
+    requests.failing = 0;
     expect_closed(&never);
 
     for (size_t i = 0; i < scripts; i++) {
         lines += play_alone(&stored[i]);
         if (i % step != 0)
             continue;
-        for (size_t failing = 1; play_failing(&stored[i], failing, &closed); failing++)
+        for (size_t failing = 1; play_failing(&stored[i], failing); failing++)
             failed++;
         struct play play;
         requests.failing = 0;
@@ -533,9 +565,9 @@ int main(int argc, char **argv)
     for (size_t i = 0; i < scripts; i += scripts / THREADS)
         play_copies_beside(&stored[i]);
 
-    printf("%zu scripts in sessions, %zu lines, %zu requests failed in turn, %zu close a session,"
-           " %zu more of questions and copies, %d threads\n",
-           scripts, lines, failed, closed, asked, THREADS);
+    printf("%zu scripts in sessions, %zu lines, %zu requests failed in turn, %zu leave a session as"
+           " it was, %zu lose it, %zu more of questions and copies, %d threads\n",
+           scripts, lines, failed, after_failures.kept, after_failures.lost, asked, THREADS);
     free(stored);
     return EXIT_SUCCESS;
 }

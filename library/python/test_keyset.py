@@ -30,6 +30,7 @@ from keyset import (
 )
 from keyset import members
 from keyset.notes import Seen
+from keyset.session import fault
 
 FIRST = [
     "add-ksk K1 - 13 0 0 yes",
@@ -131,6 +132,9 @@ class Calls(unittest.TestCase):
         self.assertEqual([it for it in errors if not issubclass(it, keyset.Error)], [])
         self.assertGreater(len(errors), 10)
         self.assertTrue(issubclass(keyset.OutOfMemory, MemoryError))
+        kinds = {3: keyset.OutOfMemory, 5: keyset.Closed, 12: keyset.Lost, 99: keyset.Unavailable}
+        for status, kind in kinds.items():
+            self.assertIs(type(fault(status)), kind)
 
     def test_a_refused_line_counts_only_if_it_is_kept(self):
         session = open_session("zone example.com")

@@ -1,8 +1,9 @@
 -- A session whose calls are handed in one by one.
 use Rattle.std.proofs.Common.{◌≡◌, ℕ, List, [], ◌∷◌, ◌++◌, Option, None, Some, refl, sym, ◌∙◌, ap}
-use Rattle.std.proofs.Common.{length, map, fold, arith}
+use Rattle.std.proofs.Common.{IfSome, IsSome, arith, fold, is_some, length, map, subst}
 use Rattle.std.{proofs.lemmas.List.Sums.fold-append, specs.Prelude.if◌then◌else◌}
 use Rattle.dnssec_run.specs.Moments.{moments_of}
+use Rattle.std.specs.Option.{option_map}
 use Rattle.dnssec_run.specs.declared.call.Call.{Call}
 use Rattle.dnssec_run.specs.declared.record.{Entry.Entry, Outcome.Outcome, Published.Published}
 use Rattle.dnssec_run.specs.declared.record.Reply.{Reply}
@@ -15,7 +16,7 @@ use Rattle.dnssec_record.specs.Output.{reply_text}
 use Rattle.dnssec_record.specs.Session.{Advances, GoesOn, Stands, StandsAfter}
 use Rattle.dnssec_record.specs.declared.{courses.Turn.Turn, session.Session.Session}
 use Rattle.dnssec_record.proofs.Running.{Follows, entry_of, one_follows}
-use Rattle.dnssec_script.specs.Script.{AreLinesOf, AreScript, IsLineOf, says}
+use Rattle.dnssec_script.specs.Script.{AreLinesOf, AreScript, IsLineOf, IsZoneLine, NamesZone, says}
 use Rattle.dnssec_script.specs.Inner.Statement.{Makes, statement_says}
 use Rattle.dnssec_script.specs.declared.statement.Statement.{Statement}
 use Rattle.dnssec_key.specs.declared.roll.RollType.{RollType}
@@ -124,6 +125,17 @@ answered lines entries line s next reply statement text so said made is =
       };
       is_reply = after.is_reply;
     }
+
+-- a line whose zone was read names one
+pub names : (line : List ℕ) (found : Option (List ℕ)) (name : List ℕ)
+    → IfSome found (IsZoneLine line) → found ≡ Some name → NamesZone line
+names line found name zone is = (name, subst (λ o. IfSome o (IsZoneLine line)) is zone)
+
+-- a line that was read says something
+pub speaks : (line : List ℕ) (found : Option Statement) (statement : Statement)
+    → option_map statement_says found ≡ says line → found ≡ Some statement → IsSome (says line)
+speaks line found statement said is =
+    ap is_some (sym said ∙ ap (option_map statement_says) is)
 
 -- a copy stands after the same lines
 pub copied : (lines : List (List ℕ)) (entries : List Entry) (s copy : Session)

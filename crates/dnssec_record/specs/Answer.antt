@@ -9,7 +9,7 @@ use Rattle.dnssec_run.specs.Record.{IsRun, world_at}
 use Rattle.dnssec_judge.specs.declared.verdict.Broken.{Broken}
 use Rattle.dnssec_judge.specs.Verdict.{IsVerdict}
 use Rattle.dnssec_record.specs.Output.{output}
-use Rattle.dnssec_script.specs.Script.{IsScript, IsFirstMalformed}
+use Rattle.dnssec_script.specs.Script.{BeginsWithZone, IsScript, IsFirstMalformed}
 use Rattle.dnssec_record.specs.declared.fault.ScriptFault.{ScriptFault}
 use Rattle.dnssec_record.specs.declared.fault.ScriptFault.TheVariants.{Malformed, Device}
 use Rattle.dnssec_record.specs.declared.fault.ScriptFault.TheVariants.{OutOfMemory}
@@ -59,8 +59,9 @@ abbrev pub TakesAtMost : Option (List ℕ) → Option (List ℕ) → Option (Lis
 TakesAtMost left old new =
     Keeps old new ⊎ IfSome left (λ script. TakesBeginning script old new)
 
--- the fault of these bytes, before anything is written
+-- the fault of these bytes, before anything is written: memory isn't missing if the first line names
+-- no zone
 abbrev pub AnswerFault : List ℕ → ScriptFault → Type 0
 AnswerFault script (Malformed n) = IsFirstMalformed script n
 AnswerFault script Device = ⊥
-AnswerFault script OutOfMemory = Unit {0}
+AnswerFault script OutOfMemory = BeginsWithZone script

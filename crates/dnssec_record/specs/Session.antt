@@ -14,7 +14,7 @@ use Rattle.dnssec_judge.specs.Judge.{Knows}
 use Rattle.dnssec_judge.specs.Verdict.{IsVerdict}
 use Rattle.dnssec_record.specs.Courses.{as_listed, ended_by, listed_by}
 use Rattle.dnssec_record.specs.Output.{chain_line, published_text, reply_text, set_line}
-use Rattle.dnssec_script.specs.Script.{AreScript, IsZoneLine, lines_of, says}
+use Rattle.dnssec_script.specs.Script.{AreScript, IsZoneLine, NamesZone, lines_of, says}
 use Rattle.dnssec_record.specs.declared.fault.ScriptFault.{ScriptFault}
 use Rattle.dnssec_record.specs.declared.fault.ScriptFault.TheVariants.{Malformed, Device}
 use Rattle.dnssec_record.specs.declared.fault.ScriptFault.TheVariants.{OutOfMemory}
@@ -84,18 +84,18 @@ pub record Refuses (lines : List (List ℕ)) (entries : List Entry) (line text :
   pub goes_on : GoesOn lines entries line next text
   pub refused : is_accepted goes_on.entry.reply ≡ false
 
--- the fault of a first line
+-- the fault of a first line: memory isn't missing if it names no zone
 abbrev pub FaultOfZone : List ℕ → ScriptFault → Type 0
 FaultOfZone line (Malformed n) = (n ≡ 1) × ((name : List ℕ) → ¬ IsZoneLine line name)
 FaultOfZone line Device = ⊥
-FaultOfZone line OutOfMemory = Unit {0}
+FaultOfZone line OutOfMemory = NamesZone line
 
 -- what comes of a line: an answer, or nothing if it makes no call
-abbrev pub Takes : Session → List ℕ → Told → Type 0
-Takes s line (told.Answered next text) =
-    (lines : List (List ℕ)) (entries : List Entry) → Stands lines entries s →
-    GoesOn lines entries line next (string_bytes text)
-Takes s line (told.Malformed same) = (same ≡ s) × (says line ≡ None)
+abbrev pub Takes : Session → List ℕ → Session → Told → Type 0
+Takes old line new (told.Answered text) =
+    (lines : List (List ℕ)) (entries : List Entry) → Stands lines entries old →
+    GoesOn lines entries line new (string_bytes text)
+Takes old line new told.Malformed = (new ≡ old) × (says line ≡ None)
 
 -- what comes of a line whose call is made only if it is accepted
 abbrev pub Tries : Session → List ℕ → Session → Tried → Type 0

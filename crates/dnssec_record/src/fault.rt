@@ -49,6 +49,16 @@ impl fmt::Display for ScriptFault {
 
 impl std::error::Error for ScriptFault {}
 
+/// Why a session didn't answer a line that makes a call.
+#[derive(Clone, Copy, Debug, PartialEq)]
+pub enum CallFault {
+    /// There was no memory. The session is as it was, so the call may be made again.
+    OutOfMemory,
+    /// Memory ran out after a part of the call was made. The session is of no more use: open one
+    /// anew, and hand in the lines that it answered.
+    Lost,
+}
+
 impl From<DeviceFault> for ScriptFault {
     ghost from_gives = { λ _ fault. fault ≡ Device };
 

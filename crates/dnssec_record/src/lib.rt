@@ -20,6 +20,6 @@ pub use dnssec_run::{
     each_chain_is_one, run, starts_suffice, whole_runs_stay_safe,
 };
 pub use dnssec_script::{Fields, all_lines};
-pub use fault::ScriptFault;
+pub use fault::{CallFault, ScriptFault};
 pub use script::{record_script, run_script};
 pub use session::{Session, Told, Tried};

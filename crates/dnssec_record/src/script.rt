@@ -7,7 +7,7 @@ ghost use Rattle.dnssec_record.specs.Answer.{IsSafeAnswer, TakesAnswer, TakesAtM
 ghost use Rattle.dnssec_record.specs.Device.{Counts};
 ghost use Rattle.dnssec_record.specs.Inner.Devices.{FaultOfInput, TakesFront};
 ghost use Rattle.dnssec_script.specs.Inner.Reading.{IsOfStatements};
-ghost use Rattle.dnssec_script.specs.Script.{IsFirstMalformed, IsScript};
+ghost use Rattle.dnssec_script.specs.Script.{BeginsWithZone, IsFirstMalformed, IsScript};
 ghost use Rattle.dnssec_run.specs.declared.call.Call.{Call};
 ghost use Rattle.dnssec_record.specs.declared.fault.ScriptFault.TheVariants.{Device, OutOfMemory};
 
@@ -188,6 +188,7 @@ pub(crate) fn statements_of(
     script: &[u8],
 ) -> Result<(Name<Vec<u8>>, Vec<Statement<'_>>), ScriptFault>
     ensures ok { IfOk result (λ read. IsOfStatements script.now read.0 read.1.items) }
+    ensures zone { IfOk result (λ _. BeginsWithZone script.now) }
     ensures err { IfErr result (AnswerFault script.now) }
 {
     match read_script(alloc, script)? {

@@ -1,6 +1,7 @@
 //! A zone's calls as they come: one at a time, each answered at once.
 ghost use Rattle.std.specs.Prelude.{◌≡◌, ◌∷◌, ℕ, List, [], length, map, IfOk, IfErr};
-ghost use Rattle.std.specs.Prelude.{string_bytes, ◌≢◌};
+ghost use Rattle.std.specs.Prelude.{string_bytes, ◌≢◌, IsSome};
+ghost use Rattle.dnssec_script.specs.Script.{says};
 ghost use Rattle.dnssec_base.specs.declared.error.Error.TheVariants.{OutOfMemory};
 ghost use Rattle.dnssec_judge.specs.Verdict.{IsVerdict};
 ghost use Rattle.dnssec_record.specs.Answer.{AnswerFault};
@@ -9,15 +10,14 @@ ghost use Rattle.dnssec_record.specs.Courses.{as_listed, ended_by, listed_by};
 ghost use Rattle.dnssec_record.specs.Session.{Advances, Closes, FaultOfZone, Stands, StandsAfter};
 ghost use Rattle.dnssec_record.specs.Session.{Resumes, Takes, Tries};
 ghost use Rattle.dnssec_run.specs.Moments.{moments_of};
-ghost use Rattle.dnssec_run.specs.Recorder.{HasSameKeys, Records};
 ghost use Rattle.dnssec_run.specs.Steps.{AreStepsOf};
 ghost use Rattle.dnssec_run.specs.declared.call.Call.{Call};
 ghost use Rattle.dnssec_run.specs.declared.record.Entry.{Entry};
 ghost use Rattle.dnssec_run.specs.declared.record.Reply.TheVariants.{Refused};
 
-use crate::answers::{answer_line, is_accepted, push_chain_line, push_published};
+use crate::answers::{answer_line, is_accepted, push_answer, push_chain_line, push_published};
 use crate::courses::{Courses, Listed, Turn};
-use crate::fault::ScriptFault;
+use crate::fault::{CallFault, ScriptFault};
 use crate::script::statements_of;
 use dnssec_base::Name;
 use dnssec_judge::{Broken, Judge};
@@ -30,13 +30,16 @@ use std::alloc::{AllocError, Global};
 /// another.
 const FITTED_KEYS: usize = 4;
 
+/// Room for the line of an answer, so that it grows only if it is longer.
+const ANSWER: usize = 96;
+
 /// What came of a line that was handed to a session.
 #[derive(Drop)]
 pub enum Told {
-    /// Its call was made: the session after it, and the line of its answer with its line feed.
-    Answered(Session, String),
+    /// Its call was made: the line of its answer with its line feed.
+    Answered(String),
     /// It makes no call. The session is as it was.
-    Malformed(Session),
+    Malformed,
 }
 
 /// What came of a line whose call is made only if it is accepted. A text is the line of the answer
@@ -60,12 +63,13 @@ pub enum Tried {
 ///
 /// ```rust
 /// let mut session = Session::open(alloc, b"zone example.com")?;
-/// match session.call(alloc, b"start zsk-roll Z1 Z2 1700000000")? {
-///     Told::Answered(next, answer) => {
-///         session = next;
-///         perform(&answer);
-///     }
-///     Told::Malformed(same) => session = same,
+/// match session.call(alloc, b"start zsk-roll Z1 Z2 1700000000") {
+///     Ok(Told::Answered(answer)) => perform(&answer),
+///     Ok(Told::Malformed) => {}
+///     // It may be made again.
+///     Err(CallFault::OutOfMemory) => {}
+///     // The session is of no more use.
+///     Err(CallFault::Lost) => return Err(AllocError),
 /// }
 /// ```
 #[derive(Drop)]
@@ -82,7 +86,8 @@ impl Session {
     /// # Errors
     ///
     /// - `Malformed(1)` if the line names no zone.
-    /// - `OutOfMemory` if there is no memory.
+    /// - `OutOfMemory` if there is no memory, of a line that names one.
+    #[tactic(auto, using(crate::proofs::Sessions::names))]
     pub fn open(alloc: Global, line: &[u8]) -> Result<Self, ScriptFault>
         ensures ok { IfOk result (λ session. Stands (line.now ∷ []) [] session) }
         ensures err { IfErr result (FaultOfZone line.now) }
@@ -99,7 +104,7 @@ impl Session {
     /// # Errors
     ///
     /// - `Malformed` with the number of the first malformed line.
-    /// - `OutOfMemory` if there is no memory, for a call too.
+    /// - `OutOfMemory` if there is no memory, for a call too, of a script that begins with a zone.
     pub fn resume(alloc: Global, script: &[u8]) -> Result<Self, ScriptFault>
         ensures ok { IfOk result (Resumes script.now) }
         ensures err { IfErr result (AnswerFault script.now) }
@@ -107,9 +112,8 @@ impl Session {
         let (name, statements) = statements_of(alloc, script)?;
         let mut session = Session::new(alloc, name)?;
         for statement in statements {
-            let (next, reply) = session.take(alloc, statement)?;
+            let reply = session.take(alloc, statement)?;
             check_memory(reply)?;
-            session = next;
         }
         Ok(session)
     }
@@ -165,17 +169,34 @@ impl Session {
     ///
     /// # Errors
     ///
-    /// `AllocError` if there is no memory. The session is then gone: open one anew, and hand in the
-    /// lines that were accepted.
-    pub fn call(self, alloc: Global, line: &[u8]) -> Result<Told, AllocError>
-        ensures { IfOk result (Takes self line.now) }
+    /// Only of a line that makes a call:
+    ///
+    /// - `OutOfMemory` if there is no memory for the line or for its answer. The session is as it
+    ///   was.
+    /// - `Lost` if memory runs out while the call is made. The session is then of no more use.
+    #[tactic(auto, using(crate::proofs::Sessions::speaks))]
+    pub fn call(&mut self, alloc: Global, line: &[u8]) -> Result<Told, CallFault>
+        ensures ok { IfOk result (Takes self.old line.now self.new) }
+        ensures kept { IfErr result (λ fault. fault ≡ CallFault.OutOfMemory →
+            self.new ≡ self.old) }
+        ensures memory { IfErr result (λ _. IsSome (says line.now)) }
     {
-        let Some(statement) = read_line(alloc, line)? else {
-            return Ok(Told::Malformed(self));
+        let Ok(read) = read_line(alloc, line) else {
+            return Err(CallFault::OutOfMemory);
         };
-        let (session, reply) = self.take(alloc, statement)?;
-        let answer = answer_line(alloc, &reply)?;
-        Ok(Told::Answered(session, answer))
+        let Some(statement) = read else {
+            return Ok(Told::Malformed);
+        };
+        let Ok(mut answer) = String::with_capacity(alloc, ANSWER) else {
+            return Err(CallFault::OutOfMemory);
+        };
+        let Ok(reply) = self.take(alloc, statement) else {
+            return Err(CallFault::Lost);
+        };
+        let Ok(()) = push_answer(&mut answer, &reply) else {
+            return Err(CallFault::Lost);
+        };
+        Ok(Told::Answered(answer))
     }
 
     /// Makes the call of the line if it is accepted, and answers it with a line. So the calls that
@@ -184,16 +205,19 @@ impl Session {
     ///
     /// # Errors
     ///
-    /// `AllocError` if there is no memory, for the call too. The session is then as it was.
+    /// `AllocError` if there is no memory, for the call too. The session is then as it was, and the
+    /// line is one that makes a call.
+    #[tactic(auto, using(crate::proofs::Sessions::speaks))]
     pub fn accept(&mut self, alloc: Global, line: &[u8]) -> Result<Tried, AllocError>
         ensures ok { IfOk result (Tries self.old line.now self.new) }
         ensures kept { IfErr result (λ _. self.new ≡ self.old) }
+        ensures memory { IfErr result (λ _. IsSome (says line.now)) }
     {
         let Some(statement) = read_line(alloc, line)? else {
             return Ok(Tried::Malformed);
         };
-        let copy = self.try_clone(alloc)?;
-        let (next, reply) = copy.take(alloc, statement)?;
+        let mut next = self.try_clone(alloc)?;
+        let reply = next.take(alloc, statement)?;
         if let Reply::Refused(Error::OutOfMemory) = &reply {
             return Err(AllocError);
         }
@@ -209,9 +233,8 @@ impl Session {
     }
 
     /// Makes the call of a statement.
-    fn take(self, alloc: Global, statement: Statement<'_>) -> Result<(Session, Reply), AllocError>
-        ensures { IfOk result (λ made.
-            TakesOn statement.entry self made.0 made.1) }
+    fn take(&mut self, alloc: Global, statement: Statement<'_>) -> Result<Reply, AllocError>
+        ensures { IfOk result (TakesOn statement.entry self.old self.new) }
     {
         match statement {
             Statement::Call(call) => self.make(alloc, call),
@@ -219,63 +242,44 @@ impl Session {
         }
     }
 
-    /// Makes the call, and answers its reply and the session after it. A refused call counts in the
-    /// record too, also one that ran out of memory.
+    /// Makes the call, and answers its reply. A refused call counts in the record too, also one
+    /// that ran out of memory.
     ///
     /// # Errors
     ///
-    /// If there is no memory to note the call. The session is then gone.
-    pub fn make(self, alloc: Global, call: Call<'_>) -> Result<(Session, Reply), AllocError>
-        ensures { IfOk result (λ made. (name : List ℕ) (calls : List Call) (entries : List Entry) →
-            StandsAfter name calls entries self →
-            Advances name calls entries call.entry made.0 made.1) }
+    /// If there is no memory to note the call. The session is then of no more use.
+    pub fn make(&mut self, alloc: Global, call: Call<'_>) -> Result<Reply, AllocError>
+        ensures { IfOk result (λ reply.
+            (name : List ℕ) (calls : List Call) (entries : List Entry) →
+            StandsAfter name calls entries self.old →
+            Advances name calls entries call.entry self.new reply) }
     {
-        let Session {
-            mut recorder,
-            mut judge,
-            mut courses,
-            mut moments,
-        } = self;
         let turn = Turn::of(&call);
-        let Ok(outcome) = recorder.advance(alloc, call) else {
+        let Ok(outcome) = self.recorder.advance(alloc, call) else {
             return Err(AllocError);
         };
-        let news = recorder.news(&outcome);
-        let Ok(()) = judge.note(alloc, outcome.mark, outcome.moment, news) else {
+        let news = self.recorder.news(&outcome);
+        let Ok(()) = self.judge.note(alloc, outcome.mark, outcome.moment, news) else {
             return Err(AllocError);
         };
-        courses.take(alloc, turn.after(&outcome.reply))?;
-        moments.take(outcome.moment)?;
-        let session = Session {
-            recorder,
-            judge,
-            courses,
-            moments,
-        };
-        Ok((session.fitted(alloc), outcome.reply))
+        self.courses.take(alloc, turn.after(&outcome.reply))?;
+        self.moments.take(outcome.moment)?;
+        self.fit(alloc);
+        Ok(outcome.reply)
     }
 
-    /// The same session, which lets go of room to spare: a map takes its first room for nine keys,
-    /// a roll leaves room, and most zones at rest have two keys or three. What the judge keeps may
-    /// be much, and stays in its place.
-    fn fitted(self, alloc: Global) -> Self
+    /// Lets go of room to spare, if there is memory for a copy without it: a map takes its first
+    /// room for nine keys, a roll leaves room, and most zones at rest have two keys or three. What
+    /// the judge keeps may be much, and stays in its place.
+    fn fit(&mut self, alloc: Global)
         ensures { (name : List ℕ) (calls : List Call) (entries : List Entry) →
-            StandsAfter name calls entries self → StandsAfter name calls entries result }
+            StandsAfter name calls entries self.old → StandsAfter name calls entries self.new }
     {
         if !self.has_room_to_spare() {
-            return self;
+            return;
         }
-        let Session {
-            recorder,
-            judge,
-            courses,
-            moments,
-        } = self;
-        Session {
-            recorder: fitted(alloc, recorder),
-            judge,
-            courses,
-            moments,
+        if let Ok(fitted) = self.recorder.try_clone(alloc) {
+            self.recorder = fitted;
         }
     }
 
@@ -375,18 +379,6 @@ impl Session {
             StandsAfter name calls entries self.now → IsVerdict entries result }
     {
         self.judge.verdict()
-    }
-}
-
-/// A copy of the recorder in place of it, if there is memory for one.
-fn fitted(alloc: Global, recorder: Recorder) -> Recorder
-    ensures records { (name : List ℕ) (calls : List Call) (entries : List Entry) →
-        Records name calls entries recorder → Records name calls entries result }
-    ensures published { HasSameKeys result.published recorder.published }
-{
-    match recorder.try_clone(alloc) {
-        Ok(fitted) => fitted,
-        Err(_) => recorder,
     }
 }
 

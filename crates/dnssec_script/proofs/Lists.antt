@@ -1,19 +1,18 @@
--- What a field says that has to be a list.
-use Rattle.std.proofs.Common.{◌≡◌, ℕ, ◌==◌, Bool, false, Some, None, List, [], codes, ap, ◌∙◌}
+-- The references of a list that is not `-`.
+use Rattle.std.proofs.Common.{◌≡◌, ℕ, ◌==◌, ◌||◌, false, true, List, [], codes, ap, ◌∙◌, sym}
 use Rattle.std.specs.List.{list_all, slice_split}
-use Rattle.std.specs.Option.{option_map}
 use Rattle.std.specs.{Str.bytes_eq, Prelude.if◌then◌else◌}
-use Rattle.dnssec_script.specs.Script.{References, as_list, first_field, is_reference, value_at}
-use Rattle.dnssec_script.proofs.Cuts.{whole}
+use Rattle.dnssec_script.specs.Script.{is_list, is_reference, references_of}
 
--- a text that is not `-`
-pub list_first : (fields rest : List (List ℕ)) (text : List ℕ) (b : Bool)
-    → Some (text, rest) ≡ first_field fields → bytes_eq text (codes "-") ≡ false
-    → list_all is_reference (slice_split (λ b. b == 44) text) ≡ b → value_at as_list fields
-    ≡ option_map (λ v. (v, rest))
-    (if b then Some (References (slice_split (λ b. b == 44) text)) else None)
-unfolding as_list
-list_first fields rest text b first other is =
-    ap (value_at as_list) (whole fields rest text first)
-    ∙ (λ i. option_map (λ v. (v, rest)) (if other i then Some (References [])
-    else (if is i then Some (References (slice_split (λ b. b == 44) text)) else None)))
+-- each part is one
+pub each_reference : (text : List ℕ) → bytes_eq text (codes "-") ≡ false → is_list text ≡ true
+    → list_all is_reference (slice_split (λ b. b == 44) text) ≡ true
+unfolding is_list
+each_reference text other is =
+    sym (ap (λ b. b || list_all is_reference (slice_split (λ b. b == 44) text)) other) ∙ is
+
+-- they are the parts
+pub parts_of : (text : List ℕ) → bytes_eq text (codes "-") ≡ false
+    → references_of text ≡ slice_split (λ b. b == 44) text
+unfolding references_of
+parts_of text other = ap (λ b. if b then [] else slice_split (λ b. b == 44) text) other

@@ -1,7 +1,7 @@
 -- The script format: what a line says, which bytes are a script, and which line of other bytes is
 -- the first malformed one.
 use Rattle.std.specs.Prelude.{◌≡◌, ℕ, ◌+◌, ◌-◌, ◌*◌, ◌<◌, ◌≤◌, ◌==◌, nat_le}
-use Rattle.std.specs.Prelude.{Bool, true, false, not, ◌&&◌, if◌then◌else◌, MatchBool}
+use Rattle.std.specs.Prelude.{Bool, true, false, not, ◌&&◌, ◌||◌, if◌then◌else◌, MatchBool}
 use Rattle.std.specs.Prelude.{List, [], ◌∷◌, ◌++◌, length, map, fold, find, slice_index_or, codes}
 use Rattle.std.specs.Prelude.{Option, Some, None, IsSome, option_and_then, string_bytes}
 use denote.Bor.{now}
@@ -71,11 +71,17 @@ as_private text =
     else (if is_reference text then Some (Private (Some text)) else None)
 
 -- references with single commas between them, or `-` for none
+unfoldable pub is_list : List ℕ → Bool
+is_list text =
+    bytes_eq text (codes "-") || list_all is_reference (slice_split (λ b. b == 44) text)
+
+-- the references of a list
+unfoldable pub references_of : List ℕ → List (List ℕ)
+references_of text = if bytes_eq text (codes "-") then [] else slice_split (λ b. b == 44) text
+
+-- a list of references
 unfoldable pub as_list : Form
-as_list text =
-    if bytes_eq text (codes "-") then Some (References [])
-    else (if list_all is_reference (slice_split (λ b. b == 44) text)
-    then Some (References (slice_split (λ b. b == 44) text)) else None)
+as_list text = if is_list text then Some (References (references_of text)) else None
 
 -- `yes` or `no`
 unfoldable pub as_yes_no : Form
@@ -313,6 +319,10 @@ IsLineOf line call = says line ≡ Some (call_says call)
 abbrev pub IsZoneLine : List ℕ → List ℕ → Type 0
 IsZoneLine line name = (text : List ℕ) × (line ≡ codes "zone " ++ text) × names.Spells text name
 
+-- the line names a zone
+abbrev pub NamesZone : List ℕ → Type 0
+NamesZone line = (name : List ℕ) × IsZoneLine line name
+
 -- each line makes its call
 abbrev pub AreLinesOf : List (List ℕ) → List Call → Type 0
 AreLinesOf [] [] = Unit {0}
@@ -332,11 +342,15 @@ IsScript script name calls = AreScript (lines_of script) name calls
 
 -- line n, counted from 1, has its form: the first names a zone, every other makes a call
 abbrev pub HasForm : ℕ → List ℕ → Type 0
-HasForm n line = MatchBool (n == 1) ((name : List ℕ) × IsZoneLine line name) (IsSome (says line))
+HasForm n line = MatchBool (n == 1) (NamesZone line) (IsSome (says line))
 
 -- line n, counted from 1
 abbrev pub line_of : List (List ℕ) → ℕ → List ℕ
 line_of lines n = slice_index_or lines (n - 1) []
+
+-- the first line names a zone
+abbrev pub BeginsWithZone : List ℕ → Type 0
+BeginsWithZone script = NamesZone (line_of (lines_of script) 1)
 
 -- line n is the first malformed one
 pub record IsFirstOf (lines : List (List ℕ)) (n : ℕ) : Type 0 where

@@ -7,7 +7,7 @@ ghost use Rattle.dnssec_script.specs.Script.{Value, Reference, Private, Referenc
 ghost use Rattle.dnssec_script.specs.Script.{Number, Moment, is_reference, as_reference};
 ghost use Rattle.dnssec_script.specs.Script.{as_private, as_list, as_yes_no, as_roll, as_number};
 ghost use Rattle.dnssec_script.specs.Script.{as_algorithm, as_tag, as_ttl, as_time};
-ghost use Rattle.dnssec_script.specs.Script.{is_number, number_of};
+ghost use Rattle.dnssec_script.specs.Script.{is_list, is_number, number_of, references_of};
 ghost use Rattle.dnssec_script.specs.Script.{value_at, values_of, first_field, fields_of};
 
 use dnssec_base::SecurityAlgorithm;
@@ -96,6 +96,17 @@ fn algorithm(text: &[u8]) -> Option<SecurityAlgorithm>
         Some(number) => Some(SecurityAlgorithm::from_int(number as u8)),
         None => SecurityAlgorithm::from_name(str::from_utf8(text).ok()?),
     }
+}
+
+/// Whether the text is references with single commas between them, or `-` for none.
+#[tactic(auto, unfolding(crate::specs::Script::is_list))]
+fn is_list(text: &[u8]) -> bool
+    ensures { result ≡ is_list text.now }
+{
+    text == b"-".as_slice()
+        || text
+            .split(|byte| *byte == b',')
+            .all(|part| is_reference(part))
 }
 
 /// The fields of a line that haven't been read yet, each between single spaces.
@@ -232,27 +243,57 @@ impl<'a> Fields<'a> {
 
     /// The next field as a list of references.
     #[tactic(auto, unfolding(crate::specs::Script::as_list))]
-    pub(crate) fn list(
-        self,
-        alloc: Global,
-    ) -> Result<Option<(Vec<&'a str>, Fields<'a>)>, AllocError>
-        ensures { IfOk result (λ found.
-            option_map (λ x. (References (map now x.0.items), x.1)) found
-            ≡ value_at as_list self.entry) }
+    pub(crate) fn list(self) -> Option<(KeyList<'a>, Fields<'a>)>
+        ensures { option_map (λ x. (References x.0, x.1)) result ≡ value_at as_list self.entry }
     {
-        let Some((text, fields)) = self.next() else {
-            return Ok(None);
-        };
+        let (text, fields) = self.next()?;
+        Some((KeyList::of(text)?, fields))
+    }
+}
+
+/// A list of references that is still a part of its line, and takes no memory.
+#[derive(Drop)]
+pub(crate) struct KeyList<'a> {
+    text: &'a [u8],
+}
+
+impl<'a> Model for KeyList<'a> {
+    ghost use Rattle.std.specs.Prelude.{◌≡◌, ℕ, List, true};
+    ghost use Rattle.dnssec_script.specs.Script.{is_list, references_of};
+
+    ghost Value = { List (List ℕ) };
+
+    ghost view = { λ list. references_of list.text.now };
+
+    ghost invariant = { λ list. is_list list.text.now ≡ true };
+}
+
+impl<'a> KeyList<'a> {
+    /// The list that the text is.
+    fn of(text: &'a [u8]) -> Option<Self>
+        ensures { result ≡ if is_list text.now then Some (references_of text.now) else None }
+    {
+        if is_list(text) {
+            Some(KeyList { text })
+        } else {
+            None
+        }
+    }
+
+    /// Its references.
+    #[tactic(auto, unfolding(crate::specs::Script::references_of))]
+    pub(crate) fn references(self, alloc: Global) -> Result<Vec<&'a str>, AllocError>
+        ensures { IfOk result (λ references. map now references.items ≡ self.entry) }
+    {
         let mut references = Vec::new(alloc);
-        if text == b"-".as_slice() {
-            return Ok(Some((references, fields)));
+        if self.text == b"-".as_slice() {
+            return Ok(references);
         }
-        for part in text.split(|byte| *byte == b',') {
-            let Some(reference) = reference(part) else {
-                return Ok(None);
-            };
-            references.push(reference)?;
+        for part in self.text.split(|byte| *byte == b',') {
+            if let Some(reference) = reference(part) {
+                references.push(reference)?;
+            }
         }
-        Ok(Some((references, fields)))
+        Ok(references)
     }
 }

@@ -1,15 +1,16 @@
 //! The fields after a word of a script, by their forms.
-ghost use Rattle.std.specs.Prelude.{◌≡◌, [], ◌∷◌, IfOk, Option, string_bytes};
+ghost use Rattle.std.specs.Prelude.{◌≡◌, [], ◌∷◌, IfOk, IfErr, IsSome, Option, string_bytes};
 ghost use denote.Bor.{now};
 ghost use Rattle.std.specs.Option.{option_map};
-ghost use Rattle.dnssec_script.specs.Script.{Reference, Private, Flag, Roll, Number, Moment};
+ghost use Rattle.dnssec_script.specs.Script.{Reference, Private, References, Flag, Roll, Number};
+ghost use Rattle.dnssec_script.specs.Script.{Moment, start_forms};
 ghost use Rattle.dnssec_script.specs.Script.{as_time, flag_forms, key_forms, public_key_forms};
 ghost use Rattle.dnssec_script.specs.Script.{report_forms, roll_forms, signing_key_forms};
 ghost use Rattle.dnssec_script.specs.Script.{stamp_forms, timed_flag_forms, trait_forms, values_of};
 ghost use Rattle.dnssec_script.specs.Script.{wait_forms};
 ghost use Rattle.dnssec_script.specs.Inner.Statement.{traits_say};
 
-use crate::fields::Fields;
+use crate::fields::{Fields, KeyList};
 use dnssec_base::SecurityAlgorithm;
 use dnssec_keyset::{RollType, UnixTime};
 use std::alloc::{AllocError, Global};
@@ -28,9 +29,10 @@ pub(crate) fn signing_key(
     alloc: Global,
     fields: Fields<'_>,
 ) -> Result<Option<(String, Option<String>, KeyTraits)>, AllocError>
-    ensures { IfOk result (λ key. option_map (λ x. Reference (string_bytes x.0)
+    ensures read { IfOk result (λ key. option_map (λ x. Reference (string_bytes x.0)
         ∷ Private (option_map string_bytes x.1) ∷ traits_say x.2) key
         ≡ values_of signing_key_forms fields.entry) }
+    ensures memory { IfErr result (λ _. IsSome (values_of signing_key_forms fields.entry)) }
 {
     match signing_key_texts(fields) {
         None => Ok(None),
@@ -68,9 +70,10 @@ pub(crate) fn public_key(
     alloc: Global,
     fields: Fields<'_>,
 ) -> Result<Option<(String, KeyTraits)>, AllocError>
-    ensures { IfOk result (λ key.
+    ensures read { IfOk result (λ key.
         option_map (λ x. Reference (string_bytes x.0) ∷ traits_say x.1) key
         ≡ values_of public_key_forms fields.entry) }
+    ensures memory { IfErr result (λ _. IsSome (values_of public_key_forms fields.entry)) }
 {
     match public_key_texts(fields) {
         None => Ok(None),
@@ -143,6 +146,19 @@ pub(crate) fn key<'a>(fields: Fields<'a>) -> Option<&'a str>
     let (pubref, fields) = fields.reference()?;
     fields.end()?;
     Some(pubref)
+}
+
+/// The fields of a start, with lists that are parts of the line.
+pub(crate) fn start<'a>(
+    fields: Fields<'a>,
+) -> Option<(RollType, KeyList<'a>, KeyList<'a>, UnixTime)>
+    ensures { option_map (λ x. Roll x.0 ∷ References x.1 ∷ References x.2 ∷ Moment x.3 ∷ []) result
+        ≡ values_of start_forms fields.entry }
+{
+    let (rolltype, fields) = fields.roll()?;
+    let (old, fields) = fields.list()?;
+    let (new, fields) = fields.list()?;
+    Some((rolltype, old, new, time(fields)?))
 }
 
 /// The fields of a report, with the TTL in seconds.

@@ -1,8 +1,9 @@
 //! The lines of a script.
-ghost use Rattle.std.specs.Prelude.{◌≡◌, ℕ, List, map, IfOk, IfSome, IfNone};
+ghost use Rattle.std.specs.Prelude.{◌≡◌, ℕ, List, map, IfOk, IfErr, IfSome, IfNone};
 ghost use denote.Bor.{now};
 ghost use Rattle.dnssec_base.specs.NameText as names;
-ghost use Rattle.dnssec_script.specs.Script.{IsZoneLine, lines_of, without_end};
+ghost use Rattle.dnssec_script.specs.Script.{BeginsWithZone, IsZoneLine, NamesZone};
+ghost use Rattle.dnssec_script.specs.Script.{lines_of, without_end};
 ghost use Rattle.dnssec_script.specs.Inner.Reading.{IsReadingOf};
 
 use crate::statement::{Statement, read_line};
@@ -47,11 +48,12 @@ fn without_end(script: &[u8]) -> &[u8]
 ///
 /// # Errors
 ///
-/// `AllocError` if memory runs out.
+/// `AllocError` if there is no memory for the name. A line that names no zone takes none.
 pub fn read_zone(alloc: Global, line: &[u8]) -> Result<Option<Name<Vec<u8>>>, AllocError>
     ensures found { IfOk result (λ found. IfSome found (IsZoneLine line.now)) }
     ensures none { IfOk result (λ found.
         IfNone found ((name : List ℕ) → ¬ IsZoneLine line.now name)) }
+    ensures memory { IfErr result (λ _. NamesZone line.now) }
 {
     match line.strip_prefix(b"zone ".as_slice()) {
         Some(text) => zone_name(alloc, text),
@@ -64,6 +66,7 @@ fn zone_name(alloc: Global, text: &[u8]) -> Result<Option<Name<Vec<u8>>>, AllocE
     ensures found { IfOk result (λ found. IfSome found (names.Spells text.now)) }
     ensures none { IfOk result (λ found.
         IfNone found ((name : List ℕ) → ¬ names.Spells text.now name)) }
+    ensures memory { IfErr result (λ _. (name : List ℕ) × names.Spells text.now name) }
 {
     let Ok(text) = str::from_utf8(text) else {
         return Ok(None);
@@ -80,9 +83,10 @@ fn zone_name(alloc: Global, text: &[u8]) -> Result<Option<Name<Vec<u8>>>, AllocE
 ///
 /// # Errors
 ///
-/// `AllocError` if memory runs out.
+/// `AllocError` if memory runs out. A script whose first line names no zone takes none.
 pub fn read_script<'a>(alloc: Global, script: &'a [u8]) -> Result<Reading<'a>, AllocError>
-    ensures { IfOk result (IsReadingOf script.now) }
+    ensures read { IfOk result (IsReadingOf script.now) }
+    ensures memory { IfErr result (λ _. BeginsWithZone script.now) }
 {
     let mut lines = without_end(script).split(|byte| *byte == b'\n');
     let Some(first) = lines.next() else {

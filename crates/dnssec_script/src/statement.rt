@@ -1,5 +1,5 @@
 //! What a line of a script says: the call of its word, made from its fields.
-ghost use Rattle.std.specs.Prelude.{◌≡◌, if◌then◌else◌, IfOk, None};
+ghost use Rattle.std.specs.Prelude.{◌≡◌, if◌then◌else◌, IfOk, IfErr, IsSome, None, true};
 ghost use Rattle.std.specs.Option.{option_map};
 ghost use Rattle.dnssec_key.specs.Key.{is_available};
 ghost use Rattle.dnssec_script.specs.Script.{call_says, said_after_word, says};
@@ -8,7 +8,7 @@ ghost use Rattle.dnssec_script.specs.Inner.Statement.{adds, is_on_key, is_on_rol
 
 use crate::fields::Fields;
 use crate::forms::{
-    KeyTraits, flag, key, public_key, report, roll, signing_key, stamp, timed_flag, wait,
+    KeyTraits, flag, key, public_key, report, roll, signing_key, stamp, start, timed_flag, wait,
 };
 use dnssec_keyset::{Available, Error, RollType, UnixTime};
 use dnssec_run::{Call, Entry, Outcome, Recorder};
@@ -116,9 +116,15 @@ impl<'a> Statement<'a> {
 }
 
 /// What a line says, if it has the form of a script's line.
+///
+/// # Errors
+///
+/// `AllocError` if there is no memory for the call of the line. A line that makes no call takes
+/// none.
 #[tactic(auto, unfolding(crate::specs::Script::says))]
 pub fn read_line<'a>(alloc: Global, line: &'a [u8]) -> Result<Option<Statement<'a>>, AllocError>
-    ensures { IfOk result (λ found. option_map statement_says found ≡ says line.now) }
+    ensures read { IfOk result (λ found. option_map statement_says found ≡ says line.now) }
+    ensures memory { IfErr result (λ _. IsSome (says line.now)) }
 {
     let Some((name, fields)) = Fields::of(line).next() else {
         return Ok(None);
@@ -135,8 +141,9 @@ fn call_of_word<'a>(
     word: Word,
     fields: Fields<'a>,
 ) -> Result<Option<Statement<'a>>, AllocError>
-    ensures { IfOk result (λ found.
+    ensures read { IfOk result (λ found.
         option_map statement_says found ≡ said_after_word word fields.entry) }
+    ensures memory { IfErr result (λ _. IsSome (said_after_word word fields.entry)) }
 {
     match word {
         Word::AddKsk | Word::AddZsk | Word::AddCsk | Word::AddPublic => {
@@ -159,8 +166,10 @@ fn call_that_adds<'a>(
     word: Word,
     fields: Fields<'_>,
 ) -> Result<Option<Statement<'a>>, AllocError>
-    ensures { IfOk result (λ found. option_map statement_says found
+    ensures read { IfOk result (λ found. option_map statement_says found
         ≡ if adds word then said_after_word word fields.entry else None) }
+    ensures memory { adds word ≡ true →
+        IfErr result (λ _. IsSome (said_after_word word fields.entry)) }
 {
     if let Word::AddPublic = word {
         let Some((pubref, traits)) = public_key(alloc, fields)? else {
@@ -312,28 +321,17 @@ fn availability(may_come_in: bool) -> Available
 
 /// The start of a roll, made from the fields after its word.
 fn read_start<'a>(alloc: Global, fields: Fields<'a>) -> Result<Option<Start<'a>>, AllocError>
-    ensures { IfOk result (λ found.
+    ensures read { IfOk result (λ found.
         option_map start_says found ≡ said_after_word Word.Start fields.entry) }
+    ensures memory { IfErr result (λ _. IsSome (said_after_word Word.Start fields.entry)) }
 {
-    let Some((rolltype, fields)) = fields.roll() else {
-        return Ok(None);
-    };
-    let Some((old, fields)) = fields.list(alloc)? else {
-        return Ok(None);
-    };
-    let Some((new, fields)) = fields.list(alloc)? else {
-        return Ok(None);
-    };
-    let Some((moment, fields)) = fields.time() else {
-        return Ok(None);
-    };
-    let Some(()) = fields.end() else {
+    let Some((rolltype, old, new, moment)) = start(fields) else {
         return Ok(None);
     };
     Ok(Some(Start {
         rolltype,
-        old,
-        new,
+        old: old.references(alloc)?,
+        new: new.references(alloc)?,
         moment,
     }))
 }

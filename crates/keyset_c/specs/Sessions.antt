@@ -24,18 +24,28 @@ pub record Opens (new : Option Kept) (line : List ℕ) : Type 0 where
   pub stands : Stands (line ∷ []) [] kept.session
   pub notes : kept.notes ≡ None
 
--- whatever lines it had, and whatever record their run has, it has one line more, and this text is
--- what a run of them answers to it; the text is given again when it is asked for, and the notes
--- stay
-pub record Calls (old new : Option Kept) (line text : List ℕ) : Type 0 where
+-- ---- a call
+
+-- what comes of a line, of a session that is open
+pub record IfOpen (Comes : Kept → List ℕ → Kept → Type 0) (old : Option Kept) (line : List ℕ)
+    (new : Option Kept) : Type 0 where
   pub before : Kept
   pub is_before : old ≡ Some before
   pub after : Kept
   pub is_after : new ≡ Some after
-  pub tells : string_bytes after.answer ≡ text
-  pub goes_on : (lines : List (List ℕ)) (entries : List Entry) →
-      Stands lines entries before.session → GoesOn lines entries line after.session text
+  pub comes : Comes before line after
+
+-- whatever lines it had, and whatever record their run has, it has one line more, and the text that
+-- is given when it is asked for is what a run of them answers to it; the notes stay
+pub record CallsLine (before : Kept) (line : List ℕ) (after : Kept) : Type 0 where
+  pub goes_on : (lines : List (List ℕ)) (entries : List Entry) → Stands lines entries before.session
+      → GoesOn lines entries line after.session (string_bytes after.answer)
   pub notes : after.notes ≡ before.notes
+
+-- so it is, and this text is the answer
+pub record Calls (old new : Option Kept) (line text : List ℕ) : Type 0 where
+  pub called : IfOpen CallsLine old line new
+  pub tells : string_bytes called.after.answer ≡ text
 
 -- ---- a call that is made only if it is accepted
 
@@ -53,15 +63,6 @@ pub record RefusesCall (before : Kept) (line : List ℕ) (after : Kept) : Type 0
   pub refuses : (lines : List (List ℕ)) (entries : List Entry) → Stands lines entries before.session
       → Refuses lines entries line (string_bytes after.answer)
   pub notes : after.notes ≡ before.notes
-
--- what comes of a line, of a session that is open
-pub record IfOpen (Comes : Kept → List ℕ → Kept → Type 0) (old : Option Kept) (line : List ℕ)
-    (new : Option Kept) : Type 0 where
-  pub before : Kept
-  pub is_before : old ≡ Some before
-  pub after : Kept
-  pub is_after : new ≡ Some after
-  pub comes : Comes before line after
 
 -- ---- questions
 

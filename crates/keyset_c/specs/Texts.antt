@@ -14,4 +14,5 @@ status_text status =
     if status == 9 then codes "moment before the last one" else (
     if status == 10 then codes "refused" else (
     if status == 11 then codes "published before its call" else (
-    codes "no such status")))))))))))
+    if status == 12 then codes "out of memory in a call: the session is closed" else (
+    codes "no such status"))))))))))))

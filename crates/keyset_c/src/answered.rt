@@ -27,12 +27,16 @@ pub(crate) const REFUSED: u32 = 10;
 /// By a line of notes a version was published before its call.
 pub(crate) const PUBLISHED_EARLY: u32 = 11;
 
+/// Memory ran out after a part of a call was made. The session is closed.
+pub(crate) const LOST: u32 = 12;
+
 /// How a call of the library was answered.
 #[repr(C)]
 #[derive(Drop)]
 pub struct Answered {
     /// 0 answered, 1 malformed, 3 out of memory: as the program `keyset` ends. 4 short of room, 5
-    /// for a closed session. It is never 2, the program's status if a device has failed.
+    /// for a closed session, 12 for a lost one. It is never 2, the program's status if a device has
+    /// failed.
     pub status: u32,
     /// Answered: how many bytes were written. Short of room: how many bytes the answer needs. Else
     /// 0.

@@ -7,7 +7,7 @@
 ghost use Rattle.std.specs.Prelude.{◌≡◌, ◌≢◌, ◌⊎◌, ◌↔◌, ℕ, ◌<◌, ◌≤◌, List, length, take, drop};
 ghost use Rattle.std.specs.Prelude.{None, IsSome};
 ghost use Rattle.dnssec_record.specs.Answer.{IsAnswerOf};
-ghost use Rattle.dnssec_script.specs.Script.{IsFirstMalformed, IsScript, IsZoneLine, says};
+ghost use Rattle.dnssec_script.specs.Script.{IsFirstMalformed, IsScript, NamesZone, says};
 ghost use Rattle.dnssec_run.specs.declared.call.Call.{Call};
 ghost use Rattle.keyset_c.specs.Answered.{AtLength, StaysSafeIfPlain, TextEndsSafe};
 ghost use Rattle.keyset_c.specs.Handles.{IsWhole, kept_by};
@@ -24,16 +24,16 @@ mod sessions;
 mod texts;
 
 pub use crate::answered::Answered;
-use crate::answered::{ANSWERED, CLOSED, IS_OPEN, MALFORMED, OUT_OF_MEMORY, fault, hand_out};
+use crate::answered::{ANSWERED, CLOSED, IS_OPEN, LOST, MALFORMED, OUT_OF_MEMORY, fault, hand_out};
 pub use crate::handle::Handle;
 use crate::kept::Kept;
 pub use crate::questions::{
     keyset_calls, keyset_closing, keyset_copy, keyset_due, keyset_status, keyset_told,
 };
-use crate::sessions::{accept, note, put_back, put_next};
+use crate::sessions::{accept, call, note};
 pub use crate::texts::{keyset_status_text, keyset_version_text};
 use dnssec_notes::SessionNotes;
-use dnssec_record::{ScriptFault, Session, Std, Told, run_script};
+use dnssec_record::{ScriptFault, Session, Std, run_script};
 use std::alloc::Global;
 
 /// The version of what is exported here: of the calls, of their structs and of the statuses.
@@ -106,7 +106,11 @@ pub extern "C" fn keyset_open(alloc: Global, line: &[u8], session: &mut Handle) 
     requires { IsWhole session.old }
     ensures whole { IsWhole session.new }
     ensures opened { result ≡ 0 → Opens (kept_by session.new) line.now }
-    ensures malformed { result ≡ 1 → (name : List ℕ) → ¬ IsZoneLine line.now name }
+    ensures malformed { result ≡ 1 → ¬ NamesZone line.now }
+
+    // A line that names no zone is malformed, and never lacks memory.
+    ensures unnamed { kept_by session.old ≡ None → ¬ NamesZone line.now → result ≡ 1 }
+    ensures memory { result ≡ 3 → NamesZone line.now }
     ensures is_open { (result ≡ 6) ↔ IsSome (kept_by session.old) }
     ensures unchanged { result ≢ 0 → kept_by session.new ≡ kept_by session.old }
     ensures status { (result ≡ 0) ⊎ (result ≡ 1) ⊎ (result ≡ 3) ⊎ (result ≡ 6) }
@@ -136,8 +140,9 @@ pub extern "C" fn keyset_open(alloc: Global, line: &[u8], session: &mut Handle) 
 
 /// Makes the call of the line, and writes its answer into the front of `out`.
 ///
-/// After a status of 0 or 4 the call is made, and `keyset_told` writes the answer again. A session
-/// without memory for its call is closed: its lines open it anew.
+/// After a status of 0 or 4 the call is made, and `keyset_told` writes the answer again. After 1 or
+/// 3 the session is as it was. Only after 12 it is lost: memory ran out after a part of the call was
+/// made, so it is closed, and its lines open it anew.
 #[unsafe(no_mangle)]
 pub extern "C" fn keyset_call(
     alloc: Global,
@@ -161,49 +166,38 @@ pub extern "C" fn keyset_call(
     ensures needed { result.status ≡ 4 →
         AtLength (Calls (kept_by session.old) (kept_by session.new) line.now) result.length }
 
-    // A malformed line makes no call.
+    // A malformed line makes no call, and never lacks memory.
     ensures malformed { result.status ≡ 1 → says line.now ≡ None }
-    ensures kept { result.status ≡ 1 → kept_by session.new ≡ kept_by session.old }
+    ensures memory { result.status ≡ 3 → IsSome (says line.now) }
+    ensures lost_line { result.status ≡ 12 → IsSome (says line.now) }
 
-    // Out of memory: it is then closed, and a closed session makes no call.
-    ensures lost { result.status ≡ 3 → kept_by session.new ≡ None }
+    // Malformed, out of memory, or closed before: it is as it was. Lost: it is closed.
+    ensures kept { result.status ≢ 0 → result.status ≢ 4 → result.status ≢ 12 →
+        kept_by session.new ≡ kept_by session.old }
+    ensures lost { result.status ≡ 12 → kept_by session.new ≡ None }
     ensures closed { (result.status ≡ 5) ↔ (kept_by session.old ≡ None) }
-    ensures stays_closed { result.status ≡ 5 → kept_by session.new ≡ None }
 
     // Without an answer nothing is written, and there is no other status.
     ensures silent { result.status ≢ 0 → out.new ≡ out.old }
     ensures status { (result.status ≡ 0) ⊎ (result.status ≡ 1) ⊎ (result.status ≡ 3)
-        ⊎ (result.status ≡ 4) ⊎ (result.status ≡ 5) }
+        ⊎ (result.status ≡ 4) ⊎ (result.status ≡ 5) ⊎ (result.status ≡ 12) }
     ensures no_length { result.status ≢ 0 → result.status ≢ 4 → result.length ≡ 0 }
     ensures no_line { result.line ≡ 0 }
 {
-    let Some(kept) = session.take(alloc) else {
+    let Some(mut kept) = session.take(alloc) else {
         return fault(CLOSED);
     };
-    let Kept {
-        session: before,
-        answer,
-        notes,
-    } = Box::into_inner(kept);
-    match before.call(alloc, line) {
-        Ok(Told::Answered(after, text)) => {
-            let kept = Kept {
-                session: after,
-                answer: text,
-                notes,
-            };
-            put_next(alloc, session, kept, out)
-        }
-        Ok(Told::Malformed(same)) => {
-            let kept = Kept {
-                session: same,
-                answer,
-                notes,
-            };
-            put_back(alloc, session, kept)
-        }
-        Err(_) => fault(OUT_OF_MEMORY),
+    let status = call(alloc, &mut *kept, line);
+    if status == LOST {
+        return fault(LOST);
     }
+    if status != ANSWERED {
+        session.put(kept);
+        return fault(status);
+    }
+    let answered = hand_out(kept.answer.as_bytes(), out);
+    session.put(kept);
+    answered
 }
 
 /// Makes the call of the line if the key set accepts it. `keyset_told` writes the answer, of a
@@ -223,6 +217,7 @@ pub extern "C" fn keyset_accept(alloc: Global, session: &mut Handle, line: &[u8]
     ensures refused { result ≡ 10 →
         IfOpen RefusesCall (kept_by session.old) line.now (kept_by session.new) }
     ensures malformed { result ≡ 1 → says line.now ≡ None }
+    ensures memory { result ≡ 3 → IsSome (says line.now) }
     ensures closed { (result ≡ 5) ↔ (kept_by session.old ≡ None) }
     ensures unchanged { result ≢ 0 → result ≢ 10 → kept_by session.new ≡ kept_by session.old }
     ensures status { (result ≡ 0) ⊎ (result ≡ 1) ⊎ (result ≡ 3) ⊎ (result ≡ 5) ⊎ (result ≡ 10) }

@@ -1,63 +1,41 @@
 //! The parts of the calls of a session.
-ghost use Rattle.std.specs.Prelude.{◌≡◌, ◌≢◌, ◌⊎◌, ◌↔◌, ℕ, List, length, take, None, Some, IfOk};
+ghost use Rattle.std.specs.Prelude.{◌≡◌, ◌≢◌, ◌⊎◌, ◌↔◌, ℕ, List, take, None, IsSome, IfOk};
 ghost use Rattle.std.specs.Prelude.{string_bytes};
 ghost use Rattle.dnssec_script.specs.Script.{says};
 ghost use Rattle.dnssec_record.specs.Session.{StandsAfter};
 ghost use Rattle.dnssec_run.specs.declared.call.Call.{Call};
 ghost use Rattle.dnssec_run.specs.declared.record.Entry.{Entry};
 ghost use Rattle.keyset_c.specs.Answered.{AtLength, Hands};
-ghost use Rattle.keyset_c.specs.Handles.{IsWhole, kept_by};
-ghost use Rattle.keyset_c.specs.Sessions.{AcceptsLine, IsClosingOf, IsDueOf, IsStatusOf, NotesLine};
-ghost use Rattle.keyset_c.specs.Sessions.{RefusesCall, RefusesLine};
+ghost use Rattle.keyset_c.specs.Sessions.{AcceptsLine, CallsLine, IsClosingOf, IsDueOf, IsStatusOf};
+ghost use Rattle.keyset_c.specs.Sessions.{NotesLine, RefusesCall, RefusesLine};
 
 use crate::answered::{
-    ANSWERED, Answered, MALFORMED, OUT_OF_MEMORY, REFUSED, fault, hand_out, refused,
+    ANSWERED, Answered, LOST, MALFORMED, OUT_OF_MEMORY, REFUSED, fault, hand_out, refused,
 };
-use crate::handle::Handle;
 use crate::kept::Kept;
-use dnssec_record::{Session, Tried};
+use dnssec_record::{CallFault, Session, Told, Tried};
 use dnssec_status::status;
 use std::alloc::{AllocError, Global};
 
-/// Lets a session keep this after a call, and writes the answer.
-pub(crate) fn put_next(alloc: Global, session: &mut Handle, kept: Kept, out: &mut [u8]) -> Answered
-    requires whole { IsWhole session.old }
-    requires closed { kept_by session.old ≡ None }
-    ensures whole { IsWhole session.new }
-    ensures status { (result.status ≡ 0) ⊎ (result.status ≡ 3) ⊎ (result.status ≡ 4) }
-    ensures kept { result.status ≢ 3 → kept_by session.new ≡ Some kept }
-    ensures lost { result.status ≡ 3 → kept_by session.new ≡ None }
-    ensures written { result.status ≡ 0 → take result.length out.new ≡ string_bytes kept.answer }
-    ensures handed { Hands result.status result.length result.line out.old out.new }
-    ensures needed { result.status ≡ 4 → result.length ≡ length (string_bytes kept.answer) }
+/// Makes the call of a line: its status.
+pub(crate) fn call(alloc: Global, kept: &mut Kept, line: &[u8]) -> u32
+    ensures called { result ≡ 0 → CallsLine kept.old line.now kept.new }
+    ensures malformed { result ≡ 1 → says line.now ≡ None }
+    ensures memory { result ≡ 3 → IsSome (says line.now) }
+    ensures lost { result ≡ 12 → IsSome (says line.now) }
+    ensures kept { result ≢ 0 → result ≢ 12 → kept.new ≡ kept.old }
+    ensures status { (result ≡ 0) ⊎ (result ≡ 1) ⊎ (result ≡ 3) ⊎ (result ≡ 12) }
+    ensures room { result ≢ 4 }
+    ensures open { result ≢ 5 }
 {
-    match Box::new(alloc, kept) {
-        Ok(kept) => {
-            let answered = hand_out(kept.answer.as_bytes(), out);
-            session.put(kept);
-            answered
+    match kept.session.call(alloc, line) {
+        Ok(Told::Answered(answer)) => {
+            kept.answer = answer;
+            ANSWERED
         }
-        Err(_) => fault(OUT_OF_MEMORY),
-    }
-}
-
-/// Lets a session keep this after a malformed line.
-pub(crate) fn put_back(alloc: Global, session: &mut Handle, kept: Kept) -> Answered
-    requires whole { IsWhole session.old }
-    requires closed { kept_by session.old ≡ None }
-    ensures whole { IsWhole session.new }
-    ensures status { (result.status ≡ 1) ⊎ (result.status ≡ 3) }
-    ensures kept { result.status ≡ 1 → kept_by session.new ≡ Some kept }
-    ensures lost { result.status ≡ 3 → kept_by session.new ≡ None }
-    ensures no_length { result.length ≡ 0 }
-    ensures no_line { result.line ≡ 0 }
-{
-    match Box::new(alloc, kept) {
-        Ok(kept) => {
-            session.put(kept);
-            fault(MALFORMED)
-        }
-        Err(_) => fault(OUT_OF_MEMORY),
+        Ok(Told::Malformed) => MALFORMED,
+        Err(CallFault::OutOfMemory) => OUT_OF_MEMORY,
+        Err(CallFault::Lost) => LOST,
     }
 }
 
@@ -109,6 +87,7 @@ pub(crate) fn accept(alloc: Global, kept: &mut Kept, line: &[u8]) -> u32
     ensures accepted { result ≡ 0 → AcceptsLine kept.old line.now kept.new }
     ensures refused { result ≡ 10 → RefusesCall kept.old line.now kept.new }
     ensures malformed { result ≡ 1 → says line.now ≡ None }
+    ensures memory { result ≡ 3 → IsSome (says line.now) }
     ensures unchanged { result ≢ 0 → result ≢ 10 → kept.new ≡ kept.old }
     ensures status { (result ≡ 0) ⊎ (result ≡ 1) ⊎ (result ≡ 3) ⊎ (result ≡ 10) }
     ensures open { result ≢ 5 }

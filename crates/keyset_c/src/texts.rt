@@ -4,8 +4,8 @@ ghost use Rattle.keyset_c.specs.Answered.{AtLength, Hands};
 ghost use Rattle.keyset_c.specs.Texts.{status_text};
 
 use crate::answered::{
-    ANSWERED, Answered, CLOSED, IS_OPEN, MALFORMED, MOMENT_FALLS, NO_SUCH_CALL, OUT_OF_MEMORY,
-    PUBLISHED_EARLY, REFUSED, SEEN_EARLY, SHORT, hand_out,
+    ANSWERED, Answered, CLOSED, IS_OPEN, LOST, MALFORMED, MOMENT_FALLS, NO_SUCH_CALL,
+    OUT_OF_MEMORY, PUBLISHED_EARLY, REFUSED, SEEN_EARLY, SHORT, hand_out,
 };
 
 /// The release that this library is of.
@@ -52,6 +52,7 @@ fn text_of(status: u32) -> &'static str
         MOMENT_FALLS => "moment before the last one",
         REFUSED => "refused",
         PUBLISHED_EARLY => "published before its call",
+        LOST => "out of memory in a call: the session is closed",
         _ => "no such status",
     }
 }

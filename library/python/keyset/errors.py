@@ -53,6 +53,14 @@ class OutOfMemory(Error, MemoryError):
     """There was no memory, and nothing has changed: make the same call again."""
 
 
+class Lost(Error, MemoryError):
+    """Memory ran out after a part of a call was made by `Session.call`, so the session is closed:
+    open it anew with its lines. A `KeySet` never raises it."""
+
+    def __init__(self) -> None:
+        super().__init__("out of memory in a call: the session is closed")
+
+
 class Malformed(Error, ValueError):
     """This line of a script or of notes, counted from 1, doesn't have the form of a line, or its
     fact can't follow those before it."""

@@ -9,7 +9,7 @@ from typing import Iterator, Sequence
 
 from . import engine, file
 from .calls import Calls, up
-from .errors import Damaged, Locked, Malformed, OutOfMemory, Torn, WrongArgument, refusal_of
+from .errors import Damaged, Locked, Lost, Malformed, OutOfMemory, Torn, WrongArgument, refusal_of
 from .file import Place, Writer
 from .lines import RollType
 from .members import Status, WaitEnd
@@ -275,7 +275,7 @@ def _replayed(lines: Sequence[str]) -> tuple[Session, list[tuple[int, str]]]:
         raise Malformed(1, "the file is empty")
     session, refused = engine.open_session(lines[0]), []
     for number, line in enumerate(lines[1:], start=2):
-        error = refusal_of(session.call(line))
+        error = refusal_of(_told(session, line))
         if isinstance(error, OutOfMemory):
             raise error
         if error:
@@ -283,9 +283,17 @@ def _replayed(lines: Sequence[str]) -> tuple[Session, list[tuple[int, str]]]:
     return session, refused
 
 
+def _told(session: Session, line: str) -> str:
+    """The answer of a session that only this module has: so if it is lost, nothing else is."""
+    try:
+        return session.call(line)
+    except Lost:
+        raise OutOfMemory("out of memory") from None
+
+
 def _accepted(session: Session, line: str) -> Accepted:
     """Has the session make the call, or raises why it is refused."""
-    reply = session.call(line)
+    reply = _told(session, line)
     if error := refusal_of(reply):
         raise error
     return Accepted.of(reply, session.calls)

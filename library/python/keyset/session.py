@@ -8,10 +8,10 @@ import threading
 from abc import ABC, abstractmethod
 from typing import Iterator, List
 
-from .errors import Closed, Error, Forked, OutOfMemory, Unavailable
+from .errors import Closed, Error, Forked, Lost, OutOfMemory, Unavailable
 from .members import Status
 
-ANSWERED, MALFORMED, OUT_OF_MEMORY, SHORT, CLOSED, REFUSED = 0, 1, 3, 4, 5, 10
+ANSWERED, MALFORMED, OUT_OF_MEMORY, SHORT, CLOSED, REFUSED, LOST = 0, 1, 3, 4, 5, 10, 12
 # Why a line of notes isn't taken.
 NOT_TAKEN = {
     MALFORMED: "malformed",
@@ -29,6 +29,8 @@ def fault(status: int) -> Error:
         return Closed()
     if status == OUT_OF_MEMORY:
         return OutOfMemory("out of memory")
+    if status == LOST:
+        return Lost()
     return Unavailable(f"the library says status {status}, which this package doesn't know")
 
 
@@ -59,7 +61,7 @@ class Session(ABC):
     @abstractmethod
     def call(self, line: str) -> str:
         """Makes the call of the next line of a script, and gives its answer. A refused call counts
-        as one too. If there is no memory, the library's session is closed."""
+        as one too. After `OutOfMemory` it is as it was, and after `Lost` it is closed."""
 
     @abstractmethod
     def accept(self, line: str) -> str:

@@ -34,11 +34,13 @@ pub(crate) struct Answered {
 pub(crate) const ANSWERED: u32 = 0;
 pub(crate) const MALFORMED: u32 = 1;
 pub(crate) const SHORT: u32 = 4;
+pub(crate) const CLOSED: u32 = 5;
 pub(crate) const NO_SUCH_CALL: u32 = 7;
 pub(crate) const SEEN_EARLY: u32 = 8;
 pub(crate) const MOMENT_FALLS: u32 = 9;
 pub(crate) const REFUSED: u32 = 10;
 pub(crate) const PUBLISHED_EARLY: u32 = 11;
+pub(crate) const LOST: u32 = 12;
 
 extern "C" {
     pub(crate) fn keyset_answer(

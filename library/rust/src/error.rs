@@ -1,3 +1,4 @@
+use crate::c;
 use crate::names::UnknownName;
 use std::collections::TryReserveError;
 use std::str::FromStr;
@@ -115,7 +116,7 @@ impl fmt::Display for NoteRefusal {
 
 impl error::Error for NoteRefusal {}
 
-/// Why a call or a question has no answer. The key set is as it was.
+/// Why a call or a question has no answer. The key set is as it was, except after [`Error::Lost`].
 #[derive(Debug)]
 #[non_exhaustive]
 pub enum Error {
@@ -160,6 +161,10 @@ pub enum Error {
     },
     /// There is no memory. The call may be made again.
     OutOfMemory,
+    /// Memory ran out after a part of a call was made by [`Session::call`](crate::Session::call).
+    /// The session is of no more use: open a new one with its lines. A [`KeySet`](crate::KeySet)
+    /// never gives it.
+    Lost,
     /// Another program, or another value of this one, has the file.
     Locked,
     /// Another program has changed the file, or put another one in its place, although it is
@@ -176,6 +181,14 @@ pub enum Error {
 }
 
 impl Error {
+    /// The error for a status that a question or a call has no other use for.
+    pub(crate) fn of_status(status: u32) -> Error {
+        match status {
+            c::CLOSED | c::LOST => Error::Lost,
+            _ => Error::OutOfMemory,
+        }
+    }
+
     /// The error for a refused answer.
     pub(crate) fn of_reason(reason: &str) -> Error {
         match reason.parse() {
@@ -199,6 +212,7 @@ impl fmt::Display for Error {
             Error::MalformedNote { line } => write!(f, "notes: line {line}: malformed"),
             Error::RefusedNote { line, refusal } => write!(f, "notes: line {line}: {refusal}"),
             Error::OutOfMemory => f.write_str("out of memory"),
+            Error::Lost => f.write_str("out of memory in a call: the session is closed"),
             Error::Locked => f.write_str("another program has the file"),
             Error::Changed => f.write_str("another program has changed or replaced the file"),
             Error::Io(_) => f.write_str("the file can't be read or written"),

@@ -326,7 +326,11 @@ impl OpenOptions {
         let mut session = Session::open(lines.next().ok_or(Error::Malformed { line: 1 })?)?;
         let mut refused = Vec::new();
         for (line, call) in (2..).zip(lines) {
-            let answer = session.call(call)?;
+            let answer = match session.call(call) {
+                // The session was made here, so nobody loses it.
+                Err(Error::Lost) => return Err(Error::OutOfMemory),
+                told => told?,
+            };
             let refusal = match answer.strip_prefix("refused: ").map(Error::of_reason) {
                 None => continue,
                 Some(Error::Refused(refusal)) => refusal,

@@ -41,8 +41,9 @@ impl Session {
     ///
     /// # Errors
     ///
-    /// [`Error::Malformed`] if the line doesn't have the form of a line; then no call is made.
-    /// After [`Error::OutOfMemory`] the session is of no more use: open a new one with its lines.
+    /// [`Error::Malformed`] if the line doesn't have the form of a line; [`Error::OutOfMemory`]. The
+    /// session is then as it was. After [`Error::Lost`] it is of no more use: open a new one with its
+    /// lines.
     pub fn call(&mut self, line: &str) -> Result<String, Error> {
         let mut out = room(ROOM)?;
         // SAFETY: each pointer is that of a slice with its length; only we use the handle.
@@ -53,7 +54,7 @@ impl Session {
         match told.status {
             c::ANSWERED | c::SHORT => self.told(out),
             c::MALFORMED => Err(self.malformed()),
-            _ => Err(Error::OutOfMemory),
+            status => Err(Error::of_status(status)),
         }
     }
 
@@ -74,7 +75,7 @@ impl Session {
                 None => Err(Error::OtherRelease),
             },
             c::MALFORMED => Err(self.malformed()),
-            _ => Err(Error::OutOfMemory),
+            status => Err(Error::of_status(status)),
         }
     }
 
@@ -135,7 +136,7 @@ impl Session {
             c::SEEN_EARLY => NoteRefusal::SeenEarly,
             c::MOMENT_FALLS => NoteRefusal::MomentFalls,
             c::PUBLISHED_EARLY => NoteRefusal::PublishedEarly,
-            _ => return Err(Error::OutOfMemory),
+            status => return Err(Error::of_status(status)),
         };
         Err(Error::RefusedNote {
             line: number,
@@ -169,7 +170,7 @@ impl Session {
                 handle,
                 notes: self.notes,
             }),
-            _ => Err(Error::OutOfMemory),
+            status => Err(Error::of_status(status)),
         }
     }
 
@@ -186,7 +187,7 @@ impl Session {
             match told.status {
                 c::ANSWERED => return text(out, told.length),
                 c::SHORT => out = room(told.length)?,
-                _ => return Err(Error::OutOfMemory),
+                status => return Err(Error::of_status(status)),
             }
         }
     }

@@ -1,7 +1,14 @@
--- What is kept has been opened with the line.
-use Rattle.std.proofs.Common.{ap, ◌∙◌}
+-- What is kept has been opened with the line, which names a zone.
+use Rattle.std.proofs.Common.{[], ap, subst, ◌∙◌, ◌∷◌}
+use Rattle.dnssec_record.specs.Session.{FaultOfZone, Stands}
+use Rattle.dnssec_record.specs.declared.session.Session.{Session}
+use Rattle.dnssec_script.specs.Script.{NamesZone}
 use Rattle.keyset_c.specs.declared.kept.Kept.{Kept}
 use Rattle.keyset_c.proofs.keyset_open.Goals as goal
+
+-- what stands after a line alone has it as its zone
+named : {line : _} {session : Session} → Stands (line ∷ []) [] session → NamesZone line
+named stands = (stands.name, stands.is_script.0)
 
 pub returns-in-Ok-new-clause-opened : goal.returns-in-Ok-new-clause-opened
 returns-in-Ok-new-clause-opened c = λ opened. record {
@@ -10,3 +17,11 @@ returns-in-Ok-new-clause-opened c = λ opened. record {
   stands = rw c.in-Ok-new.ensures.ok c.in-Ok.ensures.ok;
   notes = ap (λ (k : Kept). k.notes) c.in-Ok-new.ensures.ok ∙ c.new-in-Ok.ensures;
 }
+
+pub returns-in-Ok-new-clause-unnamed : goal.returns-in-Ok-new-clause-unnamed
+returns-in-Ok-new-clause-unnamed c = λ closed unnamed. absurd (unnamed (named c.in-Ok.ensures.ok))
+
+pub returns-in-Err-Malformed-clause-malformed : goal.returns-in-Err-Malformed-clause-malformed
+returns-in-Err-Malformed-clause-malformed c = λ malformed is.
+    (subst (FaultOfZone c.args.line.now) c.in-Err-Malformed.field-0-is
+    c.in-Err-Malformed.ensures.err).1 is.0 is.1

@@ -1,8 +1,9 @@
 -- A line says what its fields say after the word of the first row with its name.
 use Rattle.std.proofs.Common.{◌≡◌, ℕ, List, [], ◌∷◌, map, Option, None, ap, ◌∙◌, Bor, rules}
-use Rattle.std.proofs.Common.{sym}
+use Rattle.std.proofs.Common.{is_some, sym}
 use Rattle.std.proofs.lemmas.Iterator.{YieldsList, YieldsList-from_slice}
-use Rattle.std.proofs.lemmas.{Iterator.Search.find_from_yields_List, Result.IfOk-weaker}
+use Rattle.std.proofs.lemmas.Iterator.Search.{find_from_yields_List}
+use Rattle.std.proofs.lemmas.Result.{IfErr-weaker, IfOk-weaker}
 use Rattle.std.specs.{Option.option_and_then, Option.option_map, Str.bytes_eq}
 use Rattle.dnssec_script.specs.declared.statement.Word.{Word}
 use Rattle.dnssec_script.specs.Script.{Value, fields_of, first_field, said_after_word, says}
@@ -54,9 +55,14 @@ says_after c row is =
     (c.in-Some.ensures ∙ ap first_field c.of.ensures)))
 
 pub returns-in-Some-find : goal.returns-in-Some-find
-returns-in-Some-find c = IfOk-weaker c.call_of_word.result _ _ (λ found same. same
-    ∙ says_after (goal.at.returns-in-Some-find c).After-find _ c.in-Some-find.is)
-    c.call_of_word.ensures
+returns-in-Some-find c =
+    let says = says_after (goal.at.returns-in-Some-find c).After-find _ c.in-Some-find.is in record {
+      read = IfOk-weaker c.call_of_word.result _ _ (λ found same. same ∙ says)
+          c.call_of_word.ensures.read;
+      memory = IfErr-weaker c.call_of_word.result _ _ (λ e some. ap is_some (sym says) ∙ some)
+          c.call_of_word.ensures.memory;
+    }
 
-pub returns-in-None : goal.returns-in-None
-returns-in-None c = says_after (goal.at.returns-in-None c).After-find None c.in-None.is
+pub returns-in-None-clause-read : goal.returns-in-None-clause-read
+returns-in-None-clause-read c =
+    says_after (goal.at.returns-in-None-clause-read c).After-find None c.in-None.is

@@ -9,13 +9,13 @@ pub returns-then-not-is_accepted-clause-ok : goal.returns-then-not-is_accepted-c
 returns-then-not-is_accepted-clause-ok c = (
   refl,
   λ lines entries so.
-      let said = rw c.in-Some.is at c.in_ok-statement.ensures in
-      let refused : is_accepted c.in_ok-next.reply ≡ false = search rules in
-      let here = copied lines entries c.args.self.now c.in_ok-copy.copy c.in_ok-copy.ensures so in
+      let said = rw c.in-Some.is at c.in_ok-statement.ensures.read in
+      let refused : is_accepted c.in_ok-reply.reply ≡ false = search rules in
+      let here = copied lines entries c.args.self.now c.in_ok-next.next c.in_ok-next.ensures so in
       let told = answered lines entries c.args.line.now _ _ _ _ _ here (sym said)
-      c.in_ok-next.ensures c.in_ok-answer.ensures in
+      c.in_ok-reply.ensures c.in_ok-answer.ensures in
       record {
-        next = c.in_ok-next.next;
+        next = c.take.new.self;
         goes_on = told.goes_on;
         refused = ap is_accepted told.is_reply ∙ refused;
       },
@@ -23,11 +23,11 @@ returns-then-not-is_accepted-clause-ok c = (
 
 pub returns-clause-ok : goal.returns-clause-ok
 returns-clause-ok c = λ lines entries so.
-    let said = rw c.in-Some.is at c.in_ok-statement.ensures in
-    let accepted : is_accepted c.in_ok-next.reply ≡ true = search rules in
-    let here = copied lines entries c.args.self.now c.in_ok-copy.copy c.in_ok-copy.ensures so in
+    let said = rw c.in-Some.is at c.in_ok-statement.ensures.read in
+    let accepted : is_accepted c.in_ok-reply.reply ≡ true = search rules in
+    let here = copied lines entries c.args.self.now c.in_ok-next.next c.in_ok-next.ensures so in
     let told = answered lines entries c.args.line.now _ _ _ _ _ here (sym said)
-    c.in_ok-next.ensures c.in_ok-answer.ensures in
+    c.in_ok-reply.ensures c.in_ok-answer.ensures in
     let after = told.goes_on.stands in
     let entry = told.goes_on.entry in
     let number = c.calls.ensures after.name after.calls (entries ++ entry ∷ []) after.stands in (

@@ -1,10 +1,13 @@
 -- One more line makes one more call.
-use Rattle.std.proofs.Common.{sym}
-use Rattle.dnssec_record.proofs.Sessions.{answered}
+use Rattle.std.proofs.Common.{ap, sym, ◌++◌, ◌∙◌}
+use Rattle.std.specs.Prelude.{codes}
+use Rattle.dnssec_record.{specs.Output.reply_text, proofs.Sessions.answered}
 use Rattle.dnssec_record.proofs.session.Session.call.Goals as goal
 
-pub returns : goal.returns
-returns c lines entries so =
-    let said = rw c.in-Some.is at c.in_ok-statement.ensures in
-    (answered lines entries c.args.line.now c.args.self _ _ _ _ so (sym said)
-    c.in_ok-session.ensures c.in_ok-answer.ensures).goes_on
+pub returns-clause-ok : goal.returns-clause-ok
+returns-clause-ok c lines entries so =
+    let said = rw c.in-Some.is at c.in-Ok.ensures.read in
+    (answered lines entries c.args.line.now c.args.self.now _ _ _ _ so (sym said)
+    c.in-Ok-take.ensures (c.in-Ok-push_answer.ensures
+    ∙ ap (λ t. t ++ reply_text c.in-Ok-take.reply ++ codes "\n")
+    c.in-Ok-with_capacity.ensures.bytes)).goes_on

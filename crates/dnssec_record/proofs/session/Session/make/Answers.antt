@@ -1,4 +1,4 @@
--- The recorder, the judge and the rolls go on, and a copy may stand in the place of the three.
+-- The recorder, the judge and the rolls go on, and lose at most room to spare.
 use Rattle.std.proofs.Common.{ap, refl, ◌∙◌}
 use Rattle.dnssec_record.specs.{Courses.turn_after, declared.session.Session.Session}
 use Rattle.dnssec_record.proofs.Sessions.{advances}
@@ -12,7 +12,7 @@ returns c name calls entries stands =
       courses = c.take.new.self;
       moments = c.take-2.new.self;
     } in
-    let next = advances name calls entries c.args.self new c.in-Ok.outcome _ stands (record {
+    let next = advances name calls entries c.args.self.now new c.in-Ok.outcome _ stands (record {
       call = c.args.call;
       is_call = refl;
       records = c.in-Ok.ensures.ok;
@@ -22,6 +22,6 @@ returns c name calls entries stands =
     c.in_ok-take.ensures.listed c.in_ok-take.ensures.ended c.in_ok-take-2.ensures.ok in
     record {
       entry = next.entry;
-      stands = c.fitted.ensures _ _ _ next.stands;
+      stands = c.fit.ensures _ _ _ next.stands;
       is_reply = next.is_reply;
     }

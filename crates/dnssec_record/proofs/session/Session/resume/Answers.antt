@@ -14,7 +14,7 @@ loop-statement-init c =
 
 pub loop-statement-preserved : goal.loop-statement-preserved
 loop-statement-preserved c =
-    let h = c.loop-statement.invariant in let made = c.in_ok-next.ensures in
+    let h = c.loop-statement.invariant in let made = c.in_ok-reply.ensures in
     let next = made.advances h.name h.calls h.entries h.so.0 in
     one_made _ _ h made.call _ c.in-Some.ensures.steps.0 c.in-Some.ensures.steps.1 made.is_call (
       next.stands,
